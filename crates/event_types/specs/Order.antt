@@ -1,0 +1,39 @@
+-- The order of values and of tuples, and tuples in that order.
+use Rattle.std.specs.Prelude.{if◌then◌else◌, List, [], ◌∷◌}
+use Rattle.std.specs.Ordering.{nat_cmp, int_cmp, is_gt, then_cmp, on}
+use Rattle.std.specs.declared.cmp.Ordering.{Ordering}
+use Rattle.std.specs.declared.cmp.Ordering.TheVariants.{Less, Greater, Equal}
+use Rattle.std.specs.Cmp.Lexicographic.{slice_cmp}
+use Rattle.event_types.specs.declared.value.Value.{Value}
+use Rattle.event_types.specs.declared.value.Value.TheVariants.{Int, Over, Text}
+use Rattle.event_types.specs.Tuple.{Row}
+
+-- numbers by size, then OVER, then texts by bytes
+abbrev pub value_cmp : Value → Value → Ordering
+value_cmp (Int x) (Int y) = int_cmp x y
+value_cmp (Int x) Over = Less
+value_cmp (Int x) (Text y) = Less
+value_cmp Over (Int y) = Greater
+value_cmp Over Over = Equal
+value_cmp Over (Text y) = Less
+value_cmp (Text x) (Int y) = Greater
+value_cmp (Text x) Over = Greater
+value_cmp (Text x) (Text y) = slice_cmp nat_cmp x y
+
+-- by start, then by the values from left to right with the shorter list first, then by detection
+abbrev pub tuple_cmp : Row → Row → Ordering
+tuple_cmp = then_cmp (on (λ t. t.from) nat_cmp) (then_cmp (on (λ t. t.vals) (slice_cmp value_cmp)) (on (λ t. t.at) nat_cmp))
+
+-- the list with one more item, which stands before the first that it isn't greater than
+abbrev pub put : {X : Type 0} → (X → X → Ordering) → X → List X → List X
+put cmp x [] = x ∷ []
+put cmp x (y ∷ ys) = if is_gt (cmp x y) then y ∷ put cmp x ys else x ∷ y ∷ ys
+
+-- the items in order, each as often as it stands
+abbrev pub sort_by : {X : Type 0} → (X → X → Ordering) → List X → List X
+sort_by cmp [] = []
+sort_by cmp (x ∷ xs) = put cmp x (sort_by cmp xs)
+
+-- the tuples in order
+abbrev pub sorted : List Row → List Row
+sorted tuples = sort_by tuple_cmp tuples

@@ -1,0 +1,145 @@
+//! A list of items.
+ghost use Rattle.std.specs.Prelude.{◌≡◌, ◌<◌, [], ◌∷◌, ◌++◌, length, slice_get, IsPermutation, IsSorted, IfOk, IfErr, OnOk, OnErr};
+ghost use Rattle.std.specs.Cmp.Lexicographic.{slice_cmp, slice_partial_cmp, pointwise, lists_equiv, lists_agrees, lists_total, lists_ties, lists_po, lists_per};
+
+use crate::memory::Memory;
+use std::alloc::Global;
+use std::cmp::Ordering;
+use std::marker::Model;
+
+/// A list of items, in the order in which they were put.
+#[derive(Drop)]
+pub struct List<T> {
+    held: Vec<T>,
+}
+
+impl<T> Model for List<T> {
+    ghost use Rattle.std.specs.Prelude.{List};
+
+    ghost Value = { List T };
+
+    ghost view = { λ s. s.held.items };
+}
+
+/// Numbers of queries, states or streams, each counted from 0.
+pub type Numbers = List<usize>;
+
+impl<T> List<T> {
+    /// Takes no memory.
+    pub fn new(alloc: Global) -> List<T>
+        ensures { result ≡ [] }
+    {
+        List {
+            held: Vec::new(alloc),
+        }
+    }
+
+    pub fn len(&self) -> usize
+        ensures { result ≡ length self.now }
+    {
+        self.held.len()
+    }
+
+    /// The item at a place, counted from 0.
+    pub fn get(&self, place: usize) -> &T
+        requires { place < length self.now }
+        ensures { slice_get self.now place ≡ Some result.now }
+    {
+        &self.held[place]
+    }
+
+    pub fn as_slice(&self) -> &[T]
+        ensures { result.now ≡ self.now }
+    {
+        self.held.as_slice()
+    }
+
+    /// Puts the item at the end. Want of memory hands it back.
+    pub fn push(&mut self, item: T) -> Result<(), T>
+        ensures ok { OnOk result (self.new ≡ self.old ++ item ∷ []) }
+        ensures handed_back { IfErr result (λ back. back ≡ item) }
+        ensures kept { OnErr result (self.new ≡ self.old) }
+    {
+        match self.held.push(item) {
+            Ok(()) => Ok(()),
+            Err(refused) => Err(refused.value),
+        }
+    }
+
+    /// Drops all items and keeps their room. Takes no memory.
+    pub fn clear(&mut self)
+    where
+        T: Drop,
+        ensures { self.new ≡ [] }
+    {
+        self.held.clear();
+    }
+
+    /// Takes no memory.
+    pub fn sort(&mut self)
+    where
+        T: Ord,
+        ensures permutation { IsPermutation self.old self.new }
+        ensures sorted { IsSorted T.cmp self.new }
+    {
+        self.held.sort_unstable();
+    }
+}
+
+impl<T: PartialEq> PartialEq for List<T> {
+    ghost eq = { λ x y. pointwise T.eq x y };
+
+    ghost laws = { lists_per T.laws };
+
+    fn eq(&self, other: &Self) -> bool {
+        self.held == other.held
+    }
+}
+
+impl<T: Eq> Eq for List<T> {
+    ghost laws = { lists_equiv T.Eq.laws };
+}
+
+impl<T: PartialOrd> PartialOrd for List<T> {
+    ghost partial_cmp = { λ x y. slice_partial_cmp T.partial_cmp x y };
+
+    ghost laws = { lists_po T.PartialOrd.laws };
+
+    fn partial_cmp(&self, other: &Self) -> Option<Ordering> {
+        self.held.partial_cmp(&other.held)
+    }
+}
+
+impl<T: Ord> Ord for List<T> {
+    ghost cmp = { λ x y. slice_cmp T.cmp x y };
+
+    ghost total = { lists_total T.total };
+
+    ghost matches_partial_cmp = { λ x y. lists_agrees T.matches_partial_cmp x y };
+
+    ghost matches_eq = { λ x y. lists_ties T.cmp T.matches_eq x y };
+
+    fn cmp(&self, other: &Self) -> Ordering {
+        self.held.cmp(&other.held)
+    }
+}
+
+/// A type whose values can be copied where there is memory.
+pub trait Copied {
+    /// An equal value.
+    fn copied(&self, alloc: Global) -> Result<Self, Memory>
+        ensures { IfOk result (λ copy. copy ≡ self.now) };
+}
+
+impl<T: Copied + Drop> Copied for List<T> {
+    fn copied(&self, alloc: Global) -> Result<Self, Memory> {
+        let mut held = Vec::new(alloc);
+        'items: for item in &self.held {
+            let copy = item.copied(alloc)?;
+            if held.push(copy).is_err() {
+                return Err(Memory);
+            }
+        }
+        Ok(List { held })
+    }
+}
