@@ -1,0 +1,44 @@
+//! The calls by which a run reads its files and writes its output.
+ghost use Rattle.std.specs.Prelude.{◌≡◌, ◌<◌, true, false, length, IfOk, OnOk, OnErr};
+ghost use Rattle.cay_host.specs.Told.{Told};
+ghost use Rattle.cay_host.specs.Faults.{Rose};
+ghost use Rattle.cay_host.specs.Attaching.{Attaches, AttachFails, SameButSides};
+ghost use Rattle.cay_host.specs.Input.{Took, SameButRead};
+ghost use Rattle.cay_host.specs.Output.{WroteSome, KeepsOutput, SameButOutput};
+
+use crate::side::Side;
+
+/// A call of the host failed.
+#[derive(Clone, Copy, Debug, PartialEq, Eq, Drop)]
+pub struct Failed;
+
+/// Two files to read and one output to append to.
+pub trait Host {
+    /// What the host tells of itself.
+    ghost told: { Self → Told };
+
+    /// Attaches the file of that name to a side, which is then read from its first byte.
+    fn attach(&mut self, side: Side, name: &str) -> Result<(), Failed>
+        requires { (told self.old).attached side ≡ false }
+        ensures ok { OnOk result (Attaches side name.now (told self.old) (told self.new)) }
+        ensures failed { OnErr result (AttachFails name.now (told self.old) (told self.new)) }
+        ensures same { SameButSides (told self.old) (told self.new) };
+
+    /// Reads the next bytes of a side to the front of the buffer: as many as the host likes, and
+    /// none only at the end.
+    fn read(&mut self, side: Side, buf: &mut [u8]) -> Result<usize, Failed>
+        requires attached { (told self.old).attached side ≡ true }
+        requires room { 0 < length buf.old }
+        ensures took { IfOk result (λ n. Took n buf.new ((told self.old).left side) ((told self.new).left side)) }
+        ensures kept { OnErr result ((told self.new).left ≡ (told self.old).left) }
+        ensures cause { OnErr result (Rose (told self.old).read_faults (told self.new).read_faults) }
+        ensures same { SameButRead side (told self.old) (told self.new) };
+
+    /// Appends the first bytes to the output: as many as the host likes, and at least one.
+    fn write(&mut self, bytes: &[u8]) -> Result<usize, Failed>
+        requires { 0 < length bytes.now }
+        ensures wrote { IfOk result (λ n. WroteSome n bytes.now (told self.old) (told self.new)) }
+        ensures kept { OnErr result (KeepsOutput (told self.old) (told self.new)) }
+        ensures cause { OnErr result (Rose (told self.old).write_faults (told self.new).write_faults) }
+        ensures same { SameButOutput (told self.old) (told self.new) };
+}
