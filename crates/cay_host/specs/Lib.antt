@@ -3,6 +3,7 @@ pub mod Faults
 pub mod Files
 pub mod HostLaws
 pub mod Input
+pub mod MemHost
 pub mod Output
 pub mod Sides
 pub mod Told

@@ -29,7 +29,8 @@ pub trait Host {
     fn read(&mut self, side: Side, buf: &mut [u8]) -> Result<usize, Failed>
         requires attached { (told self.old).attached side ≡ true }
         requires room { 0 < length buf.old }
-        ensures took { IfOk result (λ n. Took n buf.new ((told self.old).left side) ((told self.new).left side)) }
+        ensures took { let left = (told self.old).left side in
+            IfOk result (λ n. Took n buf.new left ((told self.new).left side)) }
         ensures kept { OnErr result ((told self.new).left ≡ (told self.old).left) }
         ensures cause { OnErr result (Rose (told self.old).read_faults (told self.new).read_faults) }
         ensures same { SameButRead side (told self.old) (told self.new) };

@@ -1,16 +1,23 @@
 //! The outside of a run: a host with two files to read and one output, and a count of steps.
 //!
 //! Contracts see a host as what it tells of itself: its counts of faults, which sides are attached,
-//! and, where it tells them, its files, the bytes left to read and the bytes written. They see
-//! `Steps` as a number.
+//! and, where it tells them, its files, the bytes left to read and the bytes written. They see a
+//! `MemHost` as what it tells and as its setting: its room, its pieces, the numbers of the calls that
+//! fail, and the calls so far. They see `Steps` as a number.
 #![tactic(auto)]
 
+mod files;
 mod host;
+mod mem_host;
 mod side;
 mod steps;
 mod writing;
 
 pub use host::{Failed, Host};
+pub use mem_host::MemHost;
 pub use side::Side;
 pub use steps::{Ledger, Quiet, Steps};
 pub use writing::write_whole;
+
+#[cfg(test)]
+mod tests;
