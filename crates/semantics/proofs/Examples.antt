@@ -1,0 +1,202 @@
+-- Examples of the definitions, each worked out by hand. No contract cites them.
+use Rattle.std.proofs.Common.{◌≡◌, refl, lit<, ℕ, ◌-◌, ◌^◌, pos, negsuc, true, false, List, [], ◌∷◌, ◌++◌}
+use Rattle.std.specs.Prelude.{Some, None, codes}
+use Rattle.std.specs.List.{join_with_byte}
+use Rattle.std.proofs.lemmas.Fmt.{decimal_digit}
+use Rattle.event_types.specs.declared.comparison.Cmp.TheVariants as cmp
+use Rattle.event_types.specs.declared.value.Value.{Value}
+use Rattle.event_types.specs.declared.value.Value.TheVariants as value
+use Rattle.event_types.specs.Tuple.{Row}
+use Rattle.semantics.specs.Scalars.{Sc, Lit, Event, Binding, Dur, Two, Add, Sub, Mul, Min, Max, Pr, Test, Not}
+use Rattle.semantics.specs.Values.{val}
+use Rattle.semantics.specs.Truth.{truth}
+use Rattle.semantics.specs.Nexts.{is_eligible, nexts}
+use Rattle.semantics.specs.Runs.{runs}
+use Rattle.semantics.specs.Expressions.{Read, Filter, Select, Union, Next, Fold}
+use Rattle.semantics.specs.Denotation.{Streams, denote}
+use Rattle.semantics.specs.Histories.{Heard, times}
+use Rattle.semantics.specs.Programs.{Program, Query}
+use Rattle.semantics.specs.Results.{results}
+use Rattle.semantics.specs.Report.{quoted, line, report}
+
+-- a literal number
+abbrev number : ℕ → Sc
+number n = Lit (value.Int (pos n))
+
+-- the tuple of one number with these times
+abbrev tuple : ℕ → ℕ → ℕ → Row
+tuple n from at = record { vals = value.Int (pos n) ∷ []; from = from; at = at }
+
+-- the tuple of two numbers with these times
+abbrev pair : ℕ → ℕ → ℕ → ℕ → Row
+pair m n from at = record { vals = value.Int (pos m) ∷ value.Int (pos n) ∷ []; from = from; at = at }
+
+-- the largest and the least number of 128 bits
+abbrev largest : Value
+largest = value.Int (pos (2 ^ 127 - 1))
+
+abbrev least : Value
+least = value.Int (negsuc (2 ^ 127 - 1))
+
+-- a scalar that is OVER
+abbrev over : Sc
+over = Two Add (Lit largest) (number 1)
+
+-- the ends of the range are numbers
+largest_is_a_number : val (Two Add (Lit largest) (number 0)) (tuple 0 1 1) None ≡ largest
+largest_is_a_number = refl
+
+least_is_a_number : val (Two Sub (Lit least) (number 0)) (tuple 0 1 1) None ≡ least
+least_is_a_number = refl
+
+-- one past either end is OVER
+past_the_largest_is_over : val over (tuple 0 1 1) None ≡ value.Over
+past_the_largest_is_over = refl
+
+past_the_least_is_over : val (Two Sub (Lit least) (number 1)) (tuple 0 1 1) None ≡ value.Over
+past_the_least_is_over = refl
+
+-- an operation with an operand OVER is OVER, also where the other is 0 or less
+over_stays : val (Two Mul over (number 0)) (tuple 0 1 1) None ≡ value.Over
+over_stays = refl
+
+least_of_over_is_over : val (Two Min over (number 0)) (tuple 0 1 1) None ≡ value.Over
+least_of_over_is_over = refl
+
+greatest_of_two : val (Two Max (number 3) (Lit (value.Int (negsuc 6)))) (tuple 0 1 1) None ≡ value.Int (pos 3)
+greatest_of_two = refl
+
+-- each comparison with OVER is false
+over_is_not_other_than_one : truth (Test over cmp.Ne (number 1)) (tuple 0 1 1) None ≡ false
+over_is_not_other_than_one = refl
+
+over_does_not_equal_over : truth (Test over cmp.Eq over) (tuple 0 1 1) None ≡ false
+over_does_not_equal_over = refl
+
+-- and its NOT is true
+not_over_equals_one : truth (Not (Test over cmp.Eq (number 1))) (tuple 0 1 1) None ≡ true
+not_over_equals_one = refl
+
+-- texts compare by bytes: `Zoo` stands before `ab`
+capitals_come_first : truth (Test (Lit (value.Text (codes "Zoo"))) cmp.Lt (Lit (value.Text (codes "ab")))) (tuple 0 1 1) None ≡ true
+capitals_come_first = refl
+
+-- an event from 5 to 9 lasts 4, and spans 7 from the start of a binding from 2 to 3
+span_of_an_event : val Dur (tuple 0 5 9) None ≡ value.Int (pos 4)
+span_of_an_event = refl
+
+span_from_a_binding : val Dur (tuple 0 5 9) (Some (tuple 0 2 3)) ≡ value.Int (pos 7)
+span_from_a_binding = refl
+
+-- an event that starts at the binding's detection is not eligible, and one that starts after it is
+starts_at_the_detection : is_eligible [] (tuple 0 1 3) (tuple 0 3 4) ≡ false
+starts_at_the_detection = refl
+
+starts_after_the_detection : is_eligible [] (tuple 0 1 3) (tuple 0 4 4) ≡ true
+starts_after_the_detection = refl
+
+-- simultaneous nexts all count, equal ones as often as they stand; later ones and one that starts too early don't
+all_simultaneous_nexts : nexts [] (tuple 0 1 1) (tuple 8 3 4 ∷ tuple 5 1 2 ∷ tuple 7 2 3 ∷ tuple 6 3 3 ∷ tuple 7 2 3 ∷ []) ≡ tuple 7 2 3 ∷ tuple 6 3 3 ∷ tuple 7 2 3 ∷ []
+all_simultaneous_nexts = refl
+
+-- the least detection time is sought among the eligible tuples alone
+next_is_sought_among_the_eligible : nexts (Test (Event 0) cmp.Gt (Binding 0) ∷ []) (tuple 5 1 1) (tuple 4 2 2 ∷ tuple 6 3 3 ∷ tuple 9 4 4 ∷ []) ≡ tuple 6 3 3 ∷ []
+next_is_sought_among_the_eligible = refl
+
+-- $2.a > $.a
+abbrev rises : List Pr
+rises = Test (Event 0) cmp.Gt (Binding 0) ∷ []
+
+-- $.a + $2.a AS a
+abbrev sums : List Sc
+sums = Two Add (Binding 0) (Event 0) ∷ []
+
+-- two simultaneous nexts make two branches, of which each goes on by itself: 1 + 2, then 3 + 9; 1 + 4, then 5 + 9
+branching_runs : runs [] [] sums (tuple 2 2 2 ∷ tuple 4 2 2 ∷ tuple 9 3 3 ∷ []) (tuple 1 1 1) ≡ tuple 3 1 2 ∷ tuple 12 1 3 ∷ tuple 5 1 2 ∷ tuple 14 1 3 ∷ []
+branching_runs = refl
+
+-- the next event decides: 3 isn't above the binding's 4, so the run ends there, although 9 comes later
+stopped_run : runs [] rises (Event 0 ∷ []) (tuple 4 2 2 ∷ tuple 3 3 3 ∷ tuple 9 4 4 ∷ []) (tuple 1 1 1) ≡ tuple 4 1 2 ∷ []
+stopped_run = refl
+
+-- while a condition on the choice itself passes over 3
+passed_over : runs rises [] (Event 0 ∷ []) (tuple 4 2 2 ∷ tuple 3 3 3 ∷ tuple 9 4 4 ∷ []) (tuple 1 1 1) ≡ tuple 4 1 2 ∷ tuple 9 1 4 ∷ []
+passed_over = refl
+
+-- the one stream of the examples below
+abbrev prices : Streams
+prices stream = tuple 5 1 1 ∷ tuple 7 2 2 ∷ tuple 6 3 3 ∷ tuple 9 3 3 ∷ []
+
+-- FILTER {a > 6} S
+filtered : denote (Filter (Test (Event 0) cmp.Gt (number 6) ∷ []) (Read 0)) prices ≡ tuple 7 2 2 ∷ tuple 9 3 3 ∷ []
+filtered = refl
+
+-- SELECT a, a + a AS b FROM FILTER {a = 6} S
+projected : denote (Select (record { width = 1; parts = Event 0 ∷ Two Add (Event 0) (Event 0) ∷ [] }) (Filter (Test (Event 0) cmp.Eq (number 6) ∷ []) (Read 0))) prices ≡ pair 6 12 3 3 ∷ []
+projected = refl
+
+-- FILTER {a = 5} S UNION FILTER {a = 5} S has its tuple twice
+united : denote (Union (Filter (Test (Event 0) cmp.Eq (number 5) ∷ []) (Read 0)) (Filter (Test (Event 0) cmp.Eq (number 5) ∷ []) (Read 0))) prices ≡ tuple 5 1 1 ∷ tuple 5 1 1 ∷ []
+united = refl
+
+-- S NEXT {$2.a > $1.a} S: 5 is followed by 7, and 7 by 9
+followed : denote (Next rises (Read 0) (Read 0)) prices ≡ pair 5 7 1 2 ∷ pair 7 9 2 3 ∷ []
+followed = refl
+
+-- S FOLD {$2.a > $.a, TRUE, $.a + $2.a AS a} S: from 5 to 5 + 7, which no price exceeds; from 7 to 7 + 9
+iterated : denote (Fold rises [] (record { width = 1; parts = sums }) (Read 0) (Read 0)) prices ≡ tuple 12 1 2 ∷ tuple 16 2 3 ∷ []
+iterated = refl
+
+-- STREAM S (a INT);
+-- SELECT * FROM FILTER {a_2 > 8} Up PUBLISH High;
+-- SELECT * FROM S NEXT {$2.a > $1.a} S PUBLISH Up;
+-- in which Up is worked out first, since High reads it
+abbrev high : Query
+high = record { name = codes "High"; stream = 2; expr = Filter (Test (Event 1) cmp.Gt (number 8) ∷ []) (Read 1) }
+
+abbrev up : Query
+up = record { name = codes "Up"; stream = 1; expr = Next rises (Read 0) (Read 0) }
+
+abbrev program : Program
+program = record { declared = 1; queries = high ∷ up ∷ []; order = up ∷ high ∷ [] }
+
+abbrev heard : ℕ → ℕ → ℕ → Heard
+heard n from at = record { stream = 0; tuple = tuple n from at }
+
+abbrev history : List Heard
+history = heard 5 1 1 ∷ heard 7 2 2 ∷ heard 9 3 3 ∷ heard 8 3 3 ∷ heard 9 4 4 ∷ []
+
+-- each detection time once
+epochs : times history ≡ 1 ∷ 2 ∷ 3 ∷ 4 ∷ []
+epochs = refl
+
+-- at 3 the binding of 7 meets two simultaneous events, whose pairs are sorted by their values
+pairs_at_three : results program history 1 3 ≡ pair 7 8 2 3 ∷ pair 7 9 2 3 ∷ []
+pairs_at_three = refl
+
+-- a query that reads another sees its tuples in the same epoch
+high_at_three : results program history 2 3 ≡ pair 7 9 2 3 ∷ []
+high_at_three = refl
+
+-- OVER is written by its name, a text with a comma stands in quotes, and a quote in it is doubled
+line_of_texts : line (codes "Q") (record { vals = value.Over ∷ value.Text (codes "a,b") ∷ value.Text (codes "say \"x\"") ∷ value.Text (codes "plain one") ∷ []; from = 2; at = 3 }) ≡ codes "Q,2,3,OVER,\"a,b\",\"say \"\"x\"\"\",plain one\n"
+line_of_texts =
+    let two = decimal_digit 2 (lit< tt) in
+    let three = decimal_digit 3 (lit< tt) in
+    let values = quoted (codes "a,b") ∷ quoted (codes "say \"x\"") ∷ quoted (codes "plain one") ∷ [] in
+    λ i. join_with_byte 44 (codes "Q" ∷ two i ∷ three i ∷ codes "OVER" ∷ values) ++ 10 ∷ []
+
+line_of_pair : (name : List ℕ) → quoted name ≡ name → line name (pair 7 9 2 3) ≡ (name ++ codes ",2,3,7,9") ++ codes "\n"
+line_of_pair name plain =
+    let two = decimal_digit 2 (lit< tt) in
+    let three = decimal_digit 3 (lit< tt) in
+    let seven = decimal_digit 7 (lit< tt) in
+    let nine = decimal_digit 9 (lit< tt) in
+    λ i. join_with_byte 44 (plain i ∷ two i ∷ three i ∷ seven i ∷ nine i ∷ []) ++ 10 ∷ []
+
+-- the lines of an epoch stand in the order of the file, whatever the order of work; the epoch of 2 has none
+two_epochs : report program (heard 7 2 2 ∷ heard 9 3 3 ∷ []) ≡ codes "High,2,3,7,9\nUp,2,3,7,9\n"
+two_epochs =
+    let high_line = line_of_pair (codes "High") refl in
+    let up_line = line_of_pair (codes "Up") refl in
+    λ i. ((high_line i ++ []) ++ ((up_line i ++ []) ++ [])) ++ []

@@ -1,0 +1,12 @@
+pub mod Codes
+pub mod Denotation
+pub mod Expressions
+pub mod Histories
+pub mod Nexts
+pub mod Programs
+pub mod Report
+pub mod Results
+pub mod Runs
+pub mod Scalars
+pub mod Truth
+pub mod Values

@@ -1,0 +1,44 @@
+-- The text of the results.
+use Rattle.std.specs.Prelude.{ℕ, Bool, ◌||◌, ◌==◌, if◌then◌else◌, List, [], ◌∷◌, ◌++◌, map, codes}
+use Rattle.std.specs.List.{flat_map, list_any, join_with_byte}
+use Rattle.std.specs.Fmt.{decimal, signed_decimal}
+use Rattle.event_types.specs.declared.value.Value.{Value}
+use Rattle.event_types.specs.declared.value.Value.TheVariants as value
+use Rattle.event_types.specs.Tuple.{Row}
+use Rattle.semantics.specs.Histories.{Heard, times}
+use Rattle.semantics.specs.Programs.{Program, Query}
+use Rattle.semantics.specs.Results.{results}
+
+-- a comma, a quote, a CR or an LF
+abbrev pub is_special : ℕ → Bool
+is_special byte = (byte == 44) || (byte == 34) || (byte == 13) || (byte == 10)
+
+-- the text with each quote doubled
+abbrev pub doubled : List ℕ → List ℕ
+doubled text = flat_map (λ byte. if byte == 34 then 34 ∷ 34 ∷ [] else byte ∷ []) text
+
+-- the text as a field: in quotes exactly where it holds a comma, a quote, a CR or an LF (RFC 4180, quotes)
+abbrev pub quoted : List ℕ → List ℕ
+quoted text = if list_any is_special text then 34 ∷ (doubled text ++ 34 ∷ []) else text
+
+-- a value as a field: a number in decimal, OVER as its name, a text in quotes where it has to be
+abbrev pub value_text : Value → List ℕ
+value_text (value.Int number) = signed_decimal number
+value_text value.Over = codes "OVER"
+value_text (value.Text text) = quoted text
+
+-- a result line: the query's name, the start, the detection and the values, joined by commas, and an LF
+abbrev pub line : List ℕ → Row → List ℕ
+line name tuple = join_with_byte 44 (quoted name ∷ decimal tuple.from ∷ decimal tuple.at ∷ map value_text tuple.vals) ++ 10 ∷ []
+
+-- the lines of a query's results at a time
+abbrev pub lines_at : Program → List Heard → ℕ → Query → List ℕ
+lines_at program history time query = flat_map (line query.name) (results program history query.stream time)
+
+-- the lines of an epoch: those of each query in the order of the file
+abbrev pub epoch : Program → List Heard → ℕ → List ℕ
+epoch program history time = flat_map (lines_at program history time) program.queries
+
+-- the report: the lines of each epoch of the history
+abbrev pub report : Program → List Heard → List ℕ
+report program history = flat_map (epoch program history) (times history)
