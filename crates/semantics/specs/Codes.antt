@@ -1,10 +1,11 @@
 -- The codes by which a proof tells terms apart. No contract is about them.
 use Rattle.std.specs.Prelude.{◌≡◌, ℕ, List, refl}
 use Rattle.std.proofs.Common.{ap}
-use base.Stored.{Gv, gnil, gnum, gcons, Coded, coded_list}
+use base.Stored.{Gv, gnil, gnum, gcons}
+use Rattle.std.specs.Coded.{Coded, code_by, coded×, coded_ℕ, coded_list}
 use Rattle.event_types.specs.contracts.value.Value as value
 use Rattle.event_types.specs.contracts.comparison.Cmp as cmp
-use Rattle.semantics.specs.Scalars.{Op, Add, Sub, Mul, Min, Max, Sc, Lit, Event, Binding, Dur, Two, Pr, True, Test, And, Or, Not}
+use Rattle.semantics.specs.Scalars.{Op, Add, Sub, Mul, Min, Max, Sc, Lit, Event, Binding, Dur, Two, Pr, True, Test, And, Or, Not, Projection}
 
 -- the parts of a pair of codes
 abbrev head : Gv → Gv
@@ -69,3 +70,6 @@ scs_code = coded_list (record { code = sc_gv; inj = sc_one })
 
 abbrev pub conj_code : Coded (List Pr)
 conj_code = coded_list (record { code = pr_gv; inj = pr_one })
+
+abbrev pub projection_code : Coded Projection
+projection_code = code_by (ℕ × List Sc) (coded× coded_ℕ scs_code) (λ m. (m.width, m.parts)) (λ p. record { width = p.0; parts = p.1 }) (λ _. refl)

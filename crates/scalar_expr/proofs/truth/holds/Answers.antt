@@ -1,0 +1,18 @@
+use Rattle.std.proofs.Common.{◌∙◌, sym, ap}
+use Rattle.std.proofs.lemmas.List.Folds.{list_all-map}
+use Rattle.std.specs.List.{list_all}
+use Rattle.std.specs.Option.{option_copied}
+use Rattle.scalar_expr.specs.Fits.{PredFits}
+use Rattle.semantics.specs.Truth.{truth}
+use Rattle.semantics.specs.Scalars.{Pr}
+use Rattle.scalar_expr.specs.Views.{pr_of}
+use Rattle.scalar_expr.proofs.SeenLemmas.{All-seen}
+use Rattle.scalar_expr.proofs.truth.holds.Goals as goal
+
+pub all_hold-requires : goal.all_hold-requires
+all_hold-requires g c = All-seen (λ q. PredFits q c.args.e.now (option_copied c.args.b)) pr_of _ _ c.parts.ensures c.requires
+
+pub returns-clause-value : goal.returns-clause-value
+returns-clause-value g c =
+    let test = λ (q : Pr). truth q c.args.e.now (option_copied c.args.b) in
+    c.all_hold.ensures ∙ sym (list_all-map test pr_of c.parts.result.now) ∙ ap (list_all test) c.parts.ensures

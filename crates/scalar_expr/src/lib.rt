@@ -1,0 +1,20 @@
+//! Scalars, predicates and projections over an event and a binding, and what they mean there.
+//!
+//! Contracts see a `Scalar` and a `Pred` as terms (`sc_of`, `pr_of`), a `Conj` as the list of its parts,
+//! and a `Map` as its width and its scalars.
+#![tactic(auto)]
+
+mod conjunction;
+mod predicate;
+mod projection;
+mod scalar;
+mod truth;
+mod valuation;
+
+pub use conjunction::Conj;
+pub use event_types::Cmp;
+pub use predicate::Pred;
+pub use projection::Map;
+pub use scalar::{Scalar, Scalars};
+pub use truth::holds;
+pub use valuation::value_of;
