@@ -1,2 +1,5 @@
+pub mod Canonical
 pub mod Fits
+pub mod TermOrder
+pub mod TermOrderLaws
 pub mod Views

@@ -4,13 +4,16 @@
 //! and a `Map` as its width and its scalars.
 #![tactic(auto)]
 
+mod canonical;
 mod conjunction;
+mod ordering;
 mod predicate;
 mod projection;
 mod scalar;
 mod truth;
 mod valuation;
 
+pub use canonical::normal;
 pub use conjunction::Conj;
 pub use event_types::Cmp;
 pub use predicate::Pred;
