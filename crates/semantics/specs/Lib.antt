@@ -2,6 +2,7 @@ pub mod Codes
 pub mod Denotation
 pub mod Expressions
 pub mod Histories
+pub mod Laws
 pub mod Nexts
 pub mod Programs
 pub mod Report
