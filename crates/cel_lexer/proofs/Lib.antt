@@ -1,0 +1,7 @@
+pub mod Lines
+pub mod NumberLemmas
+pub mod LiteralLemmas
+pub mod PieceLemmas
+pub mod WalkLemmas
+pub mod SpanLemmas
+pub mod FaultLemmas

@@ -1,0 +1,179 @@
+-- What is known of the piece at the front of a text.
+use Rattle.std.proofs.Common.{◌≡◌, ◌∙◌, ℕ, zero, suc, Bool, true, false, List, [], ◌∷◌, length, take, drop, ◌+◌, ◌-◌, ◌<◌, ◌≤◌, refl, sym, ap, arith, add-zero, add-one, zero-add, get_or, drop-cons, sub-one, inl, inr, Option, Some, None, pos, nat_lt, nat_le, ◌^◌}
+use Rattle.std.specs.Prelude.{take_while, if◌then◌else◌, ◌==◌, ◌||◌, ◌&&◌}
+use Rattle.std.specs.Char.{is_ascii_digit}
+use Rattle.std.proofs.lemmas.Bool.{cases_Bool, eqb-true}
+use Rattle.std.proofs.lemmas.Bool.Decides.{nat_tests}
+use Rattle.std.proofs.lemmas.List.Sums.{take_while-cons}
+use Rattle.cel_lexer.proofs.Lines.{first_line, lines_in}
+use Rattle.cel_lexer.proofs.LiteralLemmas.{literal-end}
+use Rattle.cel_lexer.specs.Bytes.{is_blank, is_comment_byte, is_first, is_letter, is_line_feed, is_word_byte}
+use Rattle.std.specs.Str.Parse.{digits_value}
+use Rattle.cel_lexer.specs.Words.{is_keyword, word_piece}
+use Rattle.cel_lexer.specs.Numbers.{number_piece}
+use Rattle.cel_lexer.specs.Literals.{literal_piece, literal_rest}
+use Rattle.cel_lexer.specs.Signs.{is_long_sign, is_side, is_sign, mark_piece, sign_piece}
+use Rattle.cel_lexer.specs.Pieces.{piece_of}
+use Rattle.cel_lexer.specs.declared.token.What.{What}
+use Rattle.cel_lexer.specs.declared.token.What.TheVariants as what
+use Rattle.cel_lexer.specs.declared.pieces.Piece.{Piece}
+use Rattle.cel_lexer.specs.declared.pieces.Piece.TheVariants as piece
+
+-- the run of bytes at the front that pass a test
+abbrev pub run : (ℕ → Bool) → List ℕ → ℕ
+run p s = length (take_while p s)
+
+-- the piece has bytes of the text, and a line feed only as the one byte that it is
+abbrev pub PieceFits : Piece → List ℕ → Type 0
+PieceFits (piece.Gap n) s = (0 < n) × (n ≤ length s) × (lines_in (take n s) ≡ first_line s)
+PieceFits (piece.Lexeme w n) s = (0 < n) × (n ≤ length s) × (lines_in (take n s) ≡ 0) × (get_or s 0 0 < 128) × (get_or s (n - 1) 0 < 128)
+PieceFits piece.BadToken s = Unit {0}
+PieceFits piece.NumberPast128 s = Unit {0}
+
+if-both : {X : Type 0} (P : X → Type 0) (c : Bool) (x y : X) → (c ≡ true → P x) → (c ≡ false → P y) → P (if c then x else y)
+if-both P true x y h k = h refl
+if-both P false x y h k = k refl
+
+run_yes : (p : ℕ → Bool) (b : ℕ) (s : List ℕ) → p b ≡ true → run p (b ∷ s) ≡ suc (run p s)
+run_yes p b s h = ap length (take_while-cons p b s) ∙ rw h refl
+
+run_no : (p : ℕ → Bool) (b : ℕ) (s : List ℕ) → p b ≡ false → run p (b ∷ s) ≡ 0
+run_no p b s h = ap length (take_while-cons p b s) ∙ rw h refl
+
+run_le : (p : ℕ → Bool) (s : List ℕ) → run p s ≤ length s
+run_le p [] = omega arith
+run_le p (b ∷ s) = elim (cases_Bool (p b)) [
+  | inl here ↦ omega (arith, run_yes p b s here, run_le p s)
+  | inr past ↦ omega (arith, run_no p b s past)
+]
+
+run_pos : (p : ℕ → Bool) (b : ℕ) (s : List ℕ) → p b ≡ true → 0 < run p (b ∷ s)
+run_pos p b s h = omega (arith, run_yes p b s h)
+
+-- the bytes of a run are the run
+pub take_run : (p : ℕ → Bool) (s : List ℕ) → take (run p s) s ≡ take_while p s
+take_run p [] = refl
+take_run p (b ∷ s) = elim (cases_Bool (p b)) [
+  | inl here ↦ rw (run_yes p b s here, take_while-cons p b s, here) (ap (λ t. b ∷ t) (take_run p s))
+  | inr past ↦ rw (run_no p b s past, take_while-cons p b s, past) refl
+]
+
+-- a run of bytes of which none is a line feed has none
+run_lines : (p : ℕ → Bool) (s : List ℕ) → p 10 ≡ false → lines_in (take (run p s) s) ≡ 0
+run_lines p [] ends = refl
+run_lines p (b ∷ s) ends = elim (cases_Bool (p b)) [
+  | inl here ↦ elim (cases_Bool (b == 10)) [
+    | inl lf ↦ absurd (let e = eqb-true b 10 lf in let h = rw e at here in let k = sym h ∙ ends in cc)
+    | inr other ↦ let n = run_yes p b s here in rw (n, other) (zero-add _ ∙ run_lines p s ends)
+  ]
+  | inr past ↦ let n = run_no p b s past in rw n refl
+]
+
+-- the last byte of a run passes its test
+run_last : (p : ℕ → Bool) (s : List ℕ) → 0 < run p s → p (get_or s (run p s - 1) 0) ≡ true
+run_last p [] some = absurd (omega arith)
+run_last p (b ∷ s) some = elim (cases_Bool (p b)) [
+  | inl here ↦ rw (run_yes p b s here, sub-one) (last (run p s) refl here (run_last p s))
+  | inr past ↦ absurd (omega (arith, run_no p b s past))
+]
+  where
+    last : (n : ℕ) → run p s ≡ n → p b ≡ true → (0 < run p s → p (get_or s (run p s - 1) 0) ≡ true) → p (get_or (b ∷ s) n 0) ≡ true
+    last zero e here more = here
+    last (suc n) e here more = let h = more (omega arith) in rw (e, sub-one) at h
+
+run_fits : (w : What) (p : ℕ → Bool) (b : ℕ) (rest : List ℕ) → p b ≡ true → p 10 ≡ false → ((c : ℕ) → p c ≡ true → c < 128) → PieceFits (piece.Lexeme w (run p (b ∷ rest))) (b ∷ rest)
+run_fits w p b rest here ends ascii = (run_pos p b rest here, run_le p (b ∷ rest), run_lines p (b ∷ rest) ends, ascii b here, ascii _ (run_last p (b ∷ rest) (run_pos p b rest here)))
+
+word_ascii : (c : ℕ) → is_word_byte c ≡ true → c < 128
+word_ascii c h = grind (arith, nat_tests)
+
+digit_ascii : (c : ℕ) → is_ascii_digit c ≡ true → c < 128
+digit_ascii c h = grind (arith, nat_tests)
+
+sign_ascii : (c : ℕ) → is_sign c ≡ true → c < 128
+sign_ascii c h = grind (arith, nat_tests)
+
+and_true : (a b : Bool) → (a && b) ≡ true → (a ≡ true) × (b ≡ true)
+and_true true b h = (refl, h)
+and_true false b h = cc
+
+-- a byte that passes a test which no line feed passes is none
+not_line : (p : ℕ → Bool) (b : ℕ) → p b ≡ true → p 10 ≡ false → (b == 10) ≡ false
+not_line p b here ends = elim (cases_Bool (b == 10)) [
+  | inl lf ↦ absurd (let e = eqb-true b 10 lf in let h = rw e at here in let k = sym h ∙ ends in cc)
+  | inr other ↦ other
+]
+
+dash_fits : (b : ℕ) (rest : List ℕ) → b ≡ 45 → PieceFits (piece.Gap (run is_comment_byte (b ∷ rest))) (b ∷ rest)
+dash_fits b rest e = rw e (run_pos is_comment_byte 45 rest refl, run_le is_comment_byte (45 ∷ rest), run_lines is_comment_byte (45 ∷ rest) refl)
+
+-- a token of one byte, or of two where the next byte passes a test of ASCII bytes that no line feed passes
+short_fits : (w : What) (p : ℕ → Bool) (b : ℕ) (rest : List ℕ) → (b == 10) ≡ false → b < 128 → p 10 ≡ false
+    → ((c : ℕ) → p c ≡ true → c < 128) → PieceFits (piece.Lexeme w (if is_first p rest then 2 else 1)) (b ∷ rest)
+short_fits w p b [] here low ends ascii = (omega arith, omega arith, rw here refl, low, low)
+short_fits w p b (c ∷ rest) here low ends ascii = elim (cases_Bool (p c)) [
+  | inl two ↦ rw two (omega arith, omega arith, rw (here, not_line p c two ends) refl, low, ascii c two)
+  | inr one ↦ rw one (omega arith, omega arith, rw here refl, low, low)
+]
+
+side_ascii : (c : ℕ) → is_side c ≡ true → c < 128
+side_ascii c h = grind (arith, nat_tests)
+
+mark_fits : (b : ℕ) (rest : List ℕ) → b ≡ 36 → PieceFits (mark_piece rest) (b ∷ rest)
+mark_fits b rest e = rw e (short_fits what.Mark is_side 36 rest refl (omega arith) refl side_ascii)
+
+long_sign_ascii : (b c : ℕ) → is_long_sign b c ≡ true → c < 128
+long_sign_ascii b c h = grind (arith, nat_tests)
+
+no_long_line : (b : ℕ) → is_long_sign b 10 ≡ false
+no_long_line b = grind (arith, nat_tests)
+
+sign_fits : (b : ℕ) (rest : List ℕ) → PieceFits (sign_piece b rest) (b ∷ rest)
+sign_fits b rest =
+    if-both (λ p. PieceFits p (b ∷ rest)) (is_sign b) _ _
+    (λ sign. short_fits what.Sign (is_long_sign b) b rest (not_line is_sign b sign refl) (sign_ascii b sign) (no_long_line b) (long_sign_ascii b))
+    (λ _. tt)
+
+literal_fits : (b : ℕ) (rest : List ℕ) → b ≡ 39 → PieceFits (literal_piece (literal_rest false rest)) (b ∷ rest)
+literal_fits b rest e = rw e (whole (literal_rest false rest) refl)
+  where
+    whole : (o : Option ℕ) → literal_rest false rest ≡ o → PieceFits (literal_piece o) (39 ∷ rest)
+    whole None is = tt
+    whole (Some n) is =
+        let (le, lines, last) = literal-end false 39 rest n (λ h. refl) is in
+        let place : n + 1 - 1 ≡ n = omega arith in
+        (omega arith, omega arith, rw add-one (zero-add _ ∙ lines), omega arith, rw place (rw last (omega arith)))
+
+word_fits : (b : ℕ) (rest : List ℕ) → is_letter b ≡ true → PieceFits (word_piece (take_while is_word_byte (b ∷ rest))) (b ∷ rest)
+word_fits b rest letter =
+    if-both (λ p. PieceFits p (b ∷ rest)) (nat_le (run is_word_byte (b ∷ rest)) 64)
+    (piece.Lexeme (if is_keyword (take_while is_word_byte (b ∷ rest)) then what.Keyword else what.Name) (run is_word_byte (b ∷ rest))) piece.BadToken
+    (λ _. run_fits (if is_keyword (take_while is_word_byte (b ∷ rest)) then what.Keyword else what.Name) is_word_byte b rest (rw letter refl) refl word_ascii)
+    (λ _. tt)
+
+number_fits : (b : ℕ) (rest : List ℕ) → is_ascii_digit b ≡ true → PieceFits (number_piece (take_while is_ascii_digit (b ∷ rest))) (b ∷ rest)
+number_fits b rest digit =
+    let value : ℕ = digits_value 10 (take_while is_ascii_digit (b ∷ rest)) in
+    if-both (λ p. PieceFits p (b ∷ rest)) (nat_lt value (2 ^ 127))
+    (piece.Lexeme (what.Number (pos value)) (run is_ascii_digit (b ∷ rest))) piece.NumberPast128
+    (λ _. run_fits (what.Number (pos value)) is_ascii_digit b rest digit refl digit_ascii)
+    (λ _. tt)
+
+pub piece-fits : (b : ℕ) (rest : List ℕ) → PieceFits (piece_of (b ∷ rest)) (b ∷ rest)
+piece-fits b rest =
+    if-both P (is_blank b) _ _ (λ blank. (omega arith, omega arith, add-zero _)) (λ _.
+    if-both P ((b == 45) && is_first (λ next. next == 45) rest) _ _ (λ dashes. dash_fits b rest (eqb-true b 45 (and_true (b == 45) (is_first (λ next. next == 45) rest) dashes).0)) (λ _.
+    if-both P (is_letter b) _ _ (word_fits b rest) (λ _.
+    if-both P (is_ascii_digit b) _ _ (number_fits b rest) (λ _.
+    if-both P (b == 39) _ _ (λ quote. literal_fits b rest (eqb-true b 39 quote)) (λ _.
+    if-both P (b == 36) _ _ (λ dollar. mark_fits b rest (eqb-true b 36 dollar)) (λ _. sign_fits b rest))))))
+  where
+    P : Piece → Type 0
+    P p = PieceFits p (b ∷ rest)
+
+pub fits-at : (s : List ℕ) → 0 < length s → PieceFits (piece_of s) s
+fits-at [] h = absurd (omega arith)
+fits-at (b ∷ rest) h = piece-fits b rest
+
+pub first_line-at : (s : List ℕ) (i : ℕ) → i < length s → first_line (drop i s) ≡ (if is_line_feed (get_or s i 0) then 1 else 0)
+first_line-at s i h = rw (drop-cons s i 0) refl

@@ -1,0 +1,21 @@
+use Rattle.std.proofs.Common.{◌≡◌, ◌∙◌, ◌+◌, Err, Ok, ap, sym}
+use Rattle.std.specs.Str.Lossy.{utf8_valid_len}
+use Rattle.cel_lexer.proofs.FaultLemmas.{tokens_of-broken, tokens_of-utf8}
+use Rattle.cel_lexer.specs.declared.fault.LexFault.TheVariants.{NotUtf8}
+use Rattle.cel_lexer.proofs.scanner.lex.Goals as goal
+
+pub returns-in-Err-clause-err : goal.returns-in-Err-clause-err
+returns-in-Err-clause-err c _ =
+    let place : c.valid_up_to.result ≡ utf8_valid_len c.args.text.now = c.valid_up_to.ensures ∙ c.in-Err.ensures.valid_len in
+    let count = rw place at c.line_feeds-line.ensures in
+    tokens_of-broken c.args.text.now c.in-Err.ensures.cases.0 ∙ ap (λ n. Err (NotUtf8 (n + 1))) (sym count)
+
+pub returns-in-Ok-cut-clause-items : goal.returns-in-Ok-cut-clause-items
+returns-in-Ok-cut-clause-items c =
+    let found = rw (c.as_bytes.ensures.value, c.in-Ok.ensures.cases.0) at c.in-Ok-cut.ensures.items in
+    tokens_of-utf8 c.args.text.now c.in-Ok.ensures.cases.1 ∙ found ∙ ap Ok (sym c.over.ensures.items)
+
+pub returns-in-Err-cut-clause-err : goal.returns-in-Err-cut-clause-err
+returns-in-Err-cut-clause-err c other =
+    let fault = rw (c.as_bytes.ensures.value, c.in-Ok.ensures.cases.0) at c.in-Err-cut.ensures.err other in
+    tokens_of-utf8 c.args.text.now c.in-Ok.ensures.cases.1 ∙ fault

@@ -1,0 +1,9 @@
+pub mod Bytes
+pub mod Words
+pub mod Numbers
+pub mod Literals
+pub mod Signs
+pub mod Pieces
+pub mod Tokens
+pub mod Listing
+pub mod Faults

@@ -1,0 +1,19 @@
+//! Cuts a query text into tokens.
+//!
+//! Contracts see `Tokens` as the bytes of the source and the list of the tokens over it, in order.
+#![tactic(auto)]
+
+mod fault;
+mod literals;
+mod numbers;
+mod pieces;
+mod scanner;
+mod signs;
+mod token;
+mod tokens;
+mod words;
+
+pub use fault::LexFault;
+pub use scanner::lex;
+pub use token::{Token, What};
+pub use tokens::Tokens;
