@@ -1,5 +1,5 @@
 -- What a text reads as, by whether it is UTF-8.
-use Rattle.std.proofs.Common.{◌≡◌, ℕ, Bool, true, false, List, ap, inl, inr}
+use Rattle.std.proofs.Common.{◌≡◌, ℕ, Bool, false, List, ap, inl, inr}
 use Rattle.std.specs.Prelude.{Err, IsUtf8, if◌then◌else◌}
 use Rattle.std.specs.Str.{is_utf8}
 use Rattle.std.proofs.lemmas.Bool.{cases_Bool}

@@ -1,4 +1,5 @@
 pub mod Lines
+pub mod Places
 pub mod NumberLemmas
 pub mod LiteralLemmas
 pub mod PieceLemmas

@@ -1,75 +1,129 @@
 -- Text literals, a byte at a time.
-use Rattle.std.proofs.Common.{◌≡◌, ◌≢◌, ◌∙◌, ℕ, suc, ◌+◌, ◌≤◌, ◌<◌, Bool, true, false, List, [], ◌∷◌, length, take, drop, get_or, refl, sym, ap, arith, drop-cons, add-one, zero-add, inl, inr, Option, Some, None}
-use Rattle.std.specs.Prelude.{option_map, ◌==◌, if◌then◌else◌}
+use Rattle.std.proofs.Common.{◌≡◌, ◌≢◌, ◌∙◌, ℕ, zero, suc, ◌+◌, ◌-◌, ◌≤◌, ◌<◌, true, false, List, [], ◌∷◌, length, take, drop, get_or, refl, ap, arith, add-one, drop-cons, length-drop, zero-add, inl, inr, Option, Some, None}
+use Rattle.std.specs.Prelude.{◌==◌, if◌then◌else◌}
 use Rattle.std.proofs.lemmas.Bool.{cases_Bool, eqb-true}
 use Rattle.std.proofs.lemmas.Bool.Decides.{nat_tests}
+use Rattle.std.proofs.lemmas.List.{drop-drop}
 use Rattle.cel_lexer.proofs.Lines.{lines_in}
-use Rattle.cel_lexer.specs.Literals.{literal_rest}
+use Rattle.cel_lexer.specs.Bytes.{is_first}
+use Rattle.cel_lexer.specs.Literals.{literal_rest, more}
 
--- so many bytes more
-abbrev pub shifted : ℕ → Option ℕ → Option ℕ
-shifted i None = None
-shifted i (Some n) = Some (i + n)
+pub more-more : (i k : ℕ) (o : Option ℕ) → more i (more k o) ≡ more (i + k) o
+more-more i k None = refl
+more-more i k (Some n) = ap Some (omega arith)
 
-shifted-suc : (i : ℕ) (o : Option ℕ) → shifted i (option_map suc o) ≡ shifted (i + 1) o
-shifted-suc i None = refl
-shifted-suc i (Some n) = ap Some (omega arith)
+pub more-zero : (o : Option ℕ) → more 0 o ≡ o
+more-zero None = refl
+more-zero (Some n) = ap Some (zero-add n)
 
-pub shifted-zero : (o : Option ℕ) → shifted 0 o ≡ o
-shifted-zero None = refl
-shifted-zero (Some n) = ap Some (zero-add n)
+-- what a literal does at a byte, by the byte behind it
+abbrev pub rest_at : ℕ → List ℕ → Option ℕ
+rest_at b rest =
+    if b == 10 then None
+    else if b == 39 then if is_first (λ first. first == 39) rest then more 2 (literal_rest (drop 1 rest)) else Some 1
+    else more 1 (literal_rest rest)
 
--- a quote right behind a quote doubles it
-pub past-doubled : (s : List ℕ) (i : ℕ) → i < length s → get_or s i 0 ≡ 39
-    → shifted i (literal_rest true (drop i s)) ≡ shifted (i + 1) (literal_rest false (drop (i + 1) s))
-past-doubled s i h quote = rw (drop-cons s i 0, add-one, quote) (shifted-suc i _ ∙ rw add-one refl)
-
--- any other byte shows that the quote before it closed the literal
-pub past-closed : (s : List ℕ) (i : ℕ) → i < length s → get_or s i 0 ≢ 39
-    → shifted i (literal_rest true (drop i s)) ≡ Some i
-past-closed s i h other =
-    let no : (get_or s i 0 == 39) ≡ false = grind (arith, nat_tests) in
-    rw (drop-cons s i 0, no) (ap Some (omega arith))
-
--- a line feed leaves the literal open
-pub past-line : (s : List ℕ) (i : ℕ) → i < length s → get_or s i 0 ≡ 10
-    → shifted i (literal_rest false (drop i s)) ≡ None
-past-line s i h lf = rw (drop-cons s i 0, lf) refl
-
--- any other byte goes on with the literal
-pub past-byte : (s : List ℕ) (i : ℕ) → i < length s → get_or s i 0 ≢ 10
-    → shifted i (literal_rest false (drop i s)) ≡ shifted (i + 1) (literal_rest (get_or s i 0 == 39) (drop (i + 1) s))
-past-byte s i h other =
-    let no : (get_or s i 0 == 10) ≡ false = grind (arith, nat_tests) in
-    rw (drop-cons s i 0, no, add-one) (shifted-suc i _ ∙ rw add-one refl)
-
-suc_some : (o : Option ℕ) (n : ℕ) → option_map suc o ≡ Some n → (m : ℕ) × (o ≡ Some m) × (n ≡ suc m)
-suc_some None n e = absurd cc
-suc_some (Some m) n e = (m, refl, cc)
-
-not_line : (b c : ℕ) → b ≡ c → c ≢ 10 → (b == 10) ≡ false
-not_line b c e h = grind (arith, nat_tests)
-
--- a literal ends on its line, with a quote
-pub literal-end : (closed : Bool) (before : ℕ) (s : List ℕ) (n : ℕ) → (closed ≡ true → before ≡ 39)
-    → literal_rest closed s ≡ Some n
-    → (n ≤ length s) × (lines_in (take n s) ≡ 0) × (get_or (before ∷ s) n 0 ≡ 39)
-literal-end true before [] n quote e = let z : n ≡ 0 = cc in rw z (omega arith, refl, quote refl)
-literal-end false before [] n quote e = absurd cc
-literal-end true before (b ∷ rest) n quote e = elim (cases_Bool (b == 39)) [
-  | inl doubled ↦
-      let q = eqb-true b 39 doubled in
-      let (m, more, next) = suc_some (literal_rest false rest) n (rw doubled at e) in
-      let (le, lines, last) = literal-end false b rest m (λ h. absurd cc) more in
-      rw next (omega arith, rw (not_line b 39 q (λ h. absurd (omega arith))) (zero-add _ ∙ lines), last)
-  | inr other ↦
-      let f = rw other at e in
-      let z : n ≡ 0 = cc in rw z (omega arith, refl, quote refl)
+literal_rest-cons : (b : ℕ) (rest : List ℕ) → literal_rest (b ∷ rest) ≡ rest_at b rest
+literal_rest-cons b [] = elim (cases_Bool (b == 10)) [
+  | inl line ↦ rw (eqb-true b 10 line) refl
+  | inr here ↦ elim (cases_Bool (b == 39)) [ inl quote ↦ rw (here, quote) refl | inr other ↦ rw (here, other) refl ]
 ]
-literal-end false before (b ∷ rest) n quote e = elim (cases_Bool (b == 10)) [
-  | inl lf ↦ let f = rw lf at e in absurd cc
-  | inr other ↦
-      let (m, more, next) = suc_some (literal_rest (b == 39) rest) n (rw other at e) in
-      let (le, lines, last) = literal-end (b == 39) b rest m (λ h. eqb-true b 39 h) more in
-      rw next (omega arith, rw other (zero-add _ ∙ lines), last)
+literal_rest-cons b (next ∷ rest) = refl
+
+at-place : (s : List ℕ) (i : ℕ) → i < length s → literal_rest s ≡ more i (literal_rest (drop i s))
+    → literal_rest s ≡ more i (rest_at (get_or s i 0) (drop (i + 1) s))
+at-place s i h whole = whole ∙ ap (more i) (rw (drop-cons s i 0, add-one) (literal_rest-cons (get_or s i 0) (drop (suc i) s)))
+
+-- a line feed at a place leaves the literal open
+pub open-at : (s : List ℕ) (i : ℕ) → i < length s → get_or s i 0 ≡ 10
+    → literal_rest s ≡ more i (literal_rest (drop i s)) → literal_rest s ≡ None
+open-at s i h line whole = let here = at-place s i h whole in rw line at here
+
+-- a byte that is neither a line feed nor a quote goes on with it
+pub byte-at : (s : List ℕ) (i : ℕ) → i < length s → get_or s i 0 ≢ 10 → get_or s i 0 ≢ 39
+    → literal_rest s ≡ more i (literal_rest (drop i s)) → literal_rest s ≡ more (i + 1) (literal_rest (drop (i + 1) s))
+byte-at s i h line quote whole =
+    let no_line : (get_or s i 0 == 10) ≡ false = grind (arith, nat_tests) in
+    let no_quote : (get_or s i 0 == 39) ≡ false = grind (arith, nat_tests) in
+    let here = at-place s i h whole in
+    (rw (no_line, no_quote) at here) ∙ more-more i 1 _
+
+-- so do two quotes
+pub doubled-at : (s : List ℕ) (i : ℕ) → i < length s → get_or s i 0 ≡ 39
+    → is_first (λ first. first == 39) (drop (i + 1) s) ≡ true
+    → literal_rest s ≡ more i (literal_rest (drop i s))
+    → (i + 2 ≤ length s) × (literal_rest s ≡ more (i + 2) (literal_rest (drop (i + 2) s)))
+doubled-at s i h quote same whole =
+    let place : i + 1 + 1 ≡ i + 2 = omega arith in
+    let here = at-place s i h whole in
+    let there = not_empty (drop (i + 1) s) same in (
+      omega (arith, there, length-drop (i + 1) s),
+      (rw (quote, same, drop-drop 1 (i + 1) s, place) at here) ∙ more-more i 2 _,
+    )
+  where
+    not_empty : (t : List ℕ) → is_first (λ first. first == 39) t ≡ true → 0 < length t
+    not_empty [] e = absurd cc
+    not_empty (b ∷ t) e = omega arith
+
+-- and one quote ends it
+pub closed-at : (s : List ℕ) (i : ℕ) → i < length s → get_or s i 0 ≡ 39
+    → is_first (λ first. first == 39) (drop (i + 1) s) ≡ false
+    → literal_rest s ≡ more i (literal_rest (drop i s)) → literal_rest s ≡ Some (i + 1)
+closed-at s i h quote other whole = let here = at-place s i h whole in rw (quote, other) at here
+
+-- a literal's bytes behind the opening quote stand on one line and end with a quote
+pub record Closes (s : List ℕ) (n : ℕ) : Type 0 where
+  pub some : 0 < n
+  pub in_text : n ≤ length s
+  pub one_line : lines_in (take n s) ≡ 0
+  pub quote : get_or s (n - 1) 0 ≡ 39
+
+AllClose : List ℕ → Option ℕ → Type 0
+AllClose s None = Unit {0}
+AllClose s (Some n) = Closes s n
+
+one-closes : (b : ℕ) (rest : List ℕ) → b ≡ 39 → Closes (b ∷ rest) 1
+one-closes b rest quote = rw quote (record { some = omega arith; in_text = omega arith; one_line = refl; quote = refl })
+
+one-more : (b : ℕ) (rest : List ℕ) (n : ℕ) → (b == 10) ≡ false → Closes rest n → Closes (b ∷ rest) (1 + n)
+one-more b rest zero here closes = absurd (omega (arith, closes.some))
+one-more b rest (suc n) here closes =
+    let next : 1 + suc n ≡ suc (suc n) = omega arith in
+    let last : suc (suc n) - 1 ≡ suc n = omega arith in
+    let before : suc n - 1 ≡ n = omega arith in
+    rw next (record {
+      some = omega arith;
+      in_text = omega (arith, closes.in_text);
+      one_line = rw here (zero-add _ ∙ closes.one_line);
+      quote = rw last (rw before at closes.quote);
+    })
+
+all-more : (b : ℕ) (rest : List ℕ) (o : Option ℕ) → (b == 10) ≡ false → AllClose rest o → AllClose (b ∷ rest) (more 1 o)
+unfolding AllClose
+all-more b rest None here closes = closes
+all-more b rest (Some n) here closes = one-more b rest n here closes
+
+all-close : (s : List ℕ) → AllClose s (literal_rest s)
+unfolding AllClose
+all-close [] = tt
+all-close (b ∷ []) = elim (cases_Bool (b == 39)) [
+  | inl quote ↦ rw quote (one-closes b [] (eqb-true b 39 quote))
+  | inr other ↦ rw other tt
 ]
+all-close (b ∷ next ∷ rest) = elim (cases_Bool (b == 10)) [
+  | inl line ↦ rw line tt
+  | inr here ↦ elim (cases_Bool (b == 39)) [
+    | inl quote ↦ elim (cases_Bool (next == 39)) [
+      | inl same ↦
+          let next_line : (next == 10) ≡ false = rw (eqb-true next 39 same) refl in
+          let two = all-more b (next ∷ rest) _ here (all-more next rest _ next_line (all-close rest)) in
+          rw (here, quote, same) (rw more-more at two)
+      | inr other ↦ rw (here, quote, other) (one-closes b (next ∷ rest) (eqb-true b 39 quote))
+    ]
+    | inr other ↦ rw (here, other) (all-more b (next ∷ rest) _ here (all-close (next ∷ rest)))
+  ]
+]
+
+pub literal-closes : (s : List ℕ) (n : ℕ) → literal_rest s ≡ Some n → Closes s n
+unfolding AllClose
+literal-closes s n e = let closes = all-close s in rw e at closes

@@ -1,6 +1,6 @@
 -- Numbers from their digits, a digit at a time.
-use Rattle.std.proofs.Common.{◌≡◌, ◌∙◌, ℕ, suc, ◌+◌, ◌*◌, ◌-◌, ◌^◌, ◌≤◌, ◌<◌, Bool, true, false, pos, List, [], ◌∷◌, length, drop, get_or, refl, sym, ap, arith, drop-cons, add-one, leb-true, nat_lt}
-use Rattle.std.specs.Prelude.{take_while, if◌then◌else◌}
+use Rattle.std.proofs.Common.{◌≡◌, ◌∙◌, ℕ, suc, ◌+◌, ◌*◌, ◌-◌, ◌^◌, ◌≤◌, ◌<◌, true, false, pos, List, [], ◌∷◌, length, drop, get_or, refl, ap, arith, drop-cons, add-one, nat_lt}
+use Rattle.std.specs.Prelude.{take_while}
 use Rattle.std.specs.Char.{digit_value, is_ascii_digit}
 use Rattle.std.specs.Str.Parse.{digits_value, digits_value_after}
 use Rattle.std.proofs.lemmas.Str.{digit_value_digit}
@@ -8,7 +8,6 @@ use Rattle.std.proofs.lemmas.Bool.Decides.{nat_tests}
 use Rattle.std.proofs.lemmas.List.Sums.{take_while-cons}
 use Rattle.cel_lexer.specs.Numbers.{number_piece}
 use Rattle.cel_lexer.specs.declared.token.What.TheVariants as what
-use Rattle.cel_lexer.specs.declared.pieces.Piece.{Piece}
 use Rattle.cel_lexer.specs.declared.pieces.Piece.TheVariants as piece
 
 -- more digits make no number smaller

@@ -1,12 +1,12 @@
 -- What is known of the piece at the front of a text.
-use Rattle.std.proofs.Common.{◌≡◌, ◌∙◌, ℕ, zero, suc, Bool, true, false, List, [], ◌∷◌, length, take, drop, ◌+◌, ◌-◌, ◌<◌, ◌≤◌, refl, sym, ap, arith, add-zero, add-one, zero-add, get_or, drop-cons, sub-one, inl, inr, Option, Some, None, pos, nat_lt, nat_le, ◌^◌}
-use Rattle.std.specs.Prelude.{take_while, if◌then◌else◌, ◌==◌, ◌||◌, ◌&&◌}
+use Rattle.std.proofs.Common.{◌≡◌, ◌∙◌, ℕ, zero, suc, Bool, true, false, List, [], ◌∷◌, length, take, drop, ◌+◌, ◌-◌, ◌<◌, ◌≤◌, refl, sym, ap, arith, add-zero, zero-add, get_or, drop-cons, sub-one, inl, inr, Option, Some, None, pos, nat_lt, nat_le, ◌^◌}
+use Rattle.std.specs.Prelude.{take_while, if◌then◌else◌, ◌==◌, ◌&&◌}
 use Rattle.std.specs.Char.{is_ascii_digit}
 use Rattle.std.proofs.lemmas.Bool.{cases_Bool, eqb-true}
 use Rattle.std.proofs.lemmas.Bool.Decides.{nat_tests}
 use Rattle.std.proofs.lemmas.List.Sums.{take_while-cons}
 use Rattle.cel_lexer.proofs.Lines.{first_line, lines_in}
-use Rattle.cel_lexer.proofs.LiteralLemmas.{literal-end}
+use Rattle.cel_lexer.proofs.LiteralLemmas.{literal-closes}
 use Rattle.cel_lexer.specs.Bytes.{is_blank, is_comment_byte, is_first, is_letter, is_line_feed, is_word_byte}
 use Rattle.std.specs.Str.Parse.{digits_value}
 use Rattle.cel_lexer.specs.Words.{is_keyword, word_piece}
@@ -91,6 +91,7 @@ digit_ascii : (c : ℕ) → is_ascii_digit c ≡ true → c < 128
 digit_ascii c h = grind (arith, nat_tests)
 
 sign_ascii : (c : ℕ) → is_sign c ≡ true → c < 128
+unfolding is_sign
 sign_ascii c h = grind (arith, nat_tests)
 
 and_true : (a b : Bool) → (a && b) ≡ true → (a ≡ true) × (b ≡ true)
@@ -129,20 +130,22 @@ no_long_line : (b : ℕ) → is_long_sign b 10 ≡ false
 no_long_line b = grind (arith, nat_tests)
 
 sign_fits : (b : ℕ) (rest : List ℕ) → PieceFits (sign_piece b rest) (b ∷ rest)
+unfolding is_sign
 sign_fits b rest =
     if-both (λ p. PieceFits p (b ∷ rest)) (is_sign b) _ _
     (λ sign. short_fits what.Sign (is_long_sign b) b rest (not_line is_sign b sign refl) (sign_ascii b sign) (no_long_line b) (long_sign_ascii b))
     (λ _. tt)
 
-literal_fits : (b : ℕ) (rest : List ℕ) → b ≡ 39 → PieceFits (literal_piece (literal_rest false rest)) (b ∷ rest)
-literal_fits b rest e = rw e (whole (literal_rest false rest) refl)
+literal_fits : (b : ℕ) (rest : List ℕ) → b ≡ 39 → PieceFits (literal_piece (literal_rest rest)) (b ∷ rest)
+literal_fits b rest e = rw e (whole (literal_rest rest) refl)
   where
-    whole : (o : Option ℕ) → literal_rest false rest ≡ o → PieceFits (literal_piece o) (39 ∷ rest)
+    whole : (o : Option ℕ) → literal_rest rest ≡ o → PieceFits (literal_piece o) (39 ∷ rest)
     whole None is = tt
-    whole (Some n) is =
-        let (le, lines, last) = literal-end false 39 rest n (λ h. refl) is in
-        let place : n + 1 - 1 ≡ n = omega arith in
-        (omega arith, omega arith, rw add-one (zero-add _ ∙ lines), omega arith, rw place (rw last (omega arith)))
+    whole (Some zero) is = absurd (omega (arith, (literal-closes rest zero is).some))
+    whole (Some (suc n)) is =
+        let closes = literal-closes rest (suc n) is in
+        let place : suc n + 1 ≡ suc (suc n) = omega arith in
+        rw (place, sub-one) (omega arith, omega (arith, closes.in_text), zero-add _ ∙ closes.one_line, omega arith, omega (arith, rw sub-one at closes.quote))
 
 word_fits : (b : ℕ) (rest : List ℕ) → is_letter b ≡ true → PieceFits (word_piece (take_while is_word_byte (b ∷ rest))) (b ∷ rest)
 word_fits b rest letter =

@@ -1,15 +1,16 @@
 -- A walk over a text, a piece at a time.
-use Rattle.std.proofs.Common.{◌≡◌, ◌∙◌, ℕ, zero, suc, Bool, true, false, List, [], ◌∷◌, ◌++◌, length, take, drop, get_or, ◌+◌, ◌-◌, ◌<◌, ◌≤◌, refl, sym, ap, arith, add-zero, zero-add, sub-one, inl, inr, drop-cons, length-drop, nat_eq}
+use Rattle.std.proofs.Common.{◌≡◌, ◌∙◌, ℕ, zero, suc, List, [], ◌∷◌, ◌++◌, length, take, drop, get_or, ◌+◌, ◌-◌, ◌<◌, ◌≤◌, refl, sym, ap, arith, add-zero, zero-add, sub-one, inl, inr, length-drop, nat_eq}
 use Rattle.std.specs.Prelude.{Ok, Err, if◌then◌else◌, ◌==◌}
 use Rattle.std.specs.List.{starts_with}
 use Rattle.std.proofs.lemmas.Bool.{cases_Bool}
 use Rattle.std.proofs.lemmas.Slice.Eq.{bytes_eq-Decides}
-use Rattle.std.proofs.lemmas.List.{drop-drop, drop_all, length-take, take_all}
+use Rattle.std.proofs.lemmas.List.{drop-drop, drop_all, length-take}
 use Rattle.cel_lexer.proofs.Lines.{first_line, lines_in}
+use Rattle.cel_lexer.proofs.Places.{tail-is}
 use Rattle.cel_lexer.proofs.PieceLemmas.{PieceFits, first_line-at, fits-at}
 use Rattle.cel_lexer.specs.Bytes.{is_line_feed}
 use Rattle.cel_lexer.specs.Pieces.{piece_of}
-use Rattle.cel_lexer.specs.Tokens.{Lexed, before, byte_order_mark, line_after, mark_len, tokens_behind_mark, tokens_from, with_piece}
+use Rattle.cel_lexer.specs.Tokens.{Lexed, before, byte_order_mark, line_after, mark_len, tokens_behind_mark, tokens_from}
 use Rattle.cel_lexer.specs.declared.fault.LexFault.{LexFault}
 use Rattle.cel_lexer.specs.declared.fault.LexFault.TheVariants as fault
 use Rattle.cel_lexer.specs.declared.token.What.{What}
@@ -74,9 +75,6 @@ past : (line at : ℕ) (s : List ℕ) → 0 < length s → piece_of s ≡ piece.
 unfolding tokens_from
 past line at [] some e = absurd (omega arith)
 past line at (b ∷ s) some e = rw e refl
-
-tail-is : (s : List ℕ) (i : ℕ) → take (length s - i) (drop i s) ≡ drop i s
-tail-is s i = rw (← length-drop i s) (take_all _ _ (omega arith))
 
 -- what is known of a piece that stands at a place of a text
 place-fits : (s : List ℕ) (i : ℕ) (p : Piece) → i < length s → p ≡ piece_of (take (length s - i) (drop i s)) → (p ≡ piece_of (drop i s)) × PieceFits p (drop i s)

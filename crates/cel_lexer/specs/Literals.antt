@@ -1,15 +1,22 @@
 -- Text literals.
-use Rattle.std.specs.Prelude.{ℕ, ◌+◌, suc, Bool, true, false, ◌==◌, List, [], ◌∷◌, Option, Some, None, option_map, if◌then◌else◌}
+use Rattle.std.specs.Prelude.{ℕ, ◌+◌, ◌==◌, List, [], ◌∷◌, Option, Some, None, if◌then◌else◌}
 use Rattle.cel_lexer.specs.declared.token.What.TheVariants as what
 use Rattle.cel_lexer.specs.declared.pieces.Piece.{Piece}
 use Rattle.cel_lexer.specs.declared.pieces.Piece.TheVariants as piece
 
--- how many more bytes a text literal has on its line, where a quote right before closes it unless it is doubled
-abbrev pub literal_rest : Bool → List ℕ → Option ℕ
-literal_rest true [] = Some 0
-literal_rest false [] = None
-literal_rest true (b ∷ rest) = if b == 39 then option_map suc (literal_rest false rest) else Some 0
-literal_rest false (b ∷ rest) = if b == 10 then None else option_map suc (literal_rest (b == 39) rest)
+-- k and the number that may be there
+abbrev pub more : ℕ → Option ℕ → Option ℕ
+more k None = None
+more k (Some n) = Some (k + n)
+
+-- how many bytes a text literal has behind its opening quote: up to a quote that is not doubled, on the same line
+abbrev pub literal_rest : List ℕ → Option ℕ
+literal_rest [] = None
+literal_rest (b ∷ []) = if b == 39 then Some 1 else None
+literal_rest (b ∷ next ∷ rest) =
+    if b == 10 then None
+    else if b == 39 then if next == 39 then more 2 (literal_rest rest) else Some 1
+    else more 1 (literal_rest (next ∷ rest))
 
 -- a literal of its opening quote and so many more bytes, and no token where it is not closed
 abbrev pub literal_piece : Option ℕ → Piece

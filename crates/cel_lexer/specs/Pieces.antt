@@ -1,5 +1,5 @@
 -- The piece at the front of a text: what separates tokens, or a token.
-use Rattle.std.specs.Prelude.{ℕ, ◌==◌, ◌&&◌, List, [], ◌∷◌, length, take_while, if◌then◌else◌, false}
+use Rattle.std.specs.Prelude.{ℕ, ◌==◌, ◌&&◌, List, [], ◌∷◌, length, take_while, if◌then◌else◌}
 use Rattle.std.specs.Char.{is_ascii_digit}
 use Rattle.cel_lexer.specs.Bytes.{is_blank, is_comment_byte, is_first, is_letter, is_word_byte}
 use Rattle.cel_lexer.specs.Words.{word_piece}
@@ -18,6 +18,6 @@ piece_of (b ∷ rest) =
     else if (b == 45) && is_first (λ next. next == 45) rest then piece.Gap (length (take_while is_comment_byte (b ∷ rest)))
     else if is_letter b then word_piece (take_while is_word_byte (b ∷ rest))
     else if is_ascii_digit b then number_piece (take_while is_ascii_digit (b ∷ rest))
-    else if b == 39 then literal_piece (literal_rest false rest)
+    else if b == 39 then literal_piece (literal_rest rest)
     else if b == 36 then mark_piece rest
     else sign_piece b rest

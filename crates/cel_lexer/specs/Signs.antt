@@ -1,5 +1,5 @@
 -- Marks and signs.
-use Rattle.std.specs.Prelude.{ℕ, Bool, false, ◌==◌, ◌||◌, ◌&&◌, List, [], ◌∷◌, codes, if◌then◌else◌}
+use Rattle.std.specs.Prelude.{ℕ, Bool, ◌==◌, ◌||◌, ◌&&◌, List, codes, if◌then◌else◌}
 use Rattle.std.specs.List.{list_any}
 use Rattle.cel_lexer.specs.Bytes.{is_first}
 use Rattle.cel_lexer.specs.declared.token.What.TheVariants as what
@@ -15,7 +15,7 @@ abbrev pub mark_piece : List ℕ → Piece
 mark_piece rest = piece.Lexeme what.Mark (if is_first is_side rest then 2 else 1)
 
 -- the byte alone is a sign
-abbrev pub is_sign : ℕ → Bool
+unfoldable pub is_sign : ℕ → Bool
 is_sign b = list_any (λ sign. sign == b) (codes "(){},;.*+-=<>")
 
 -- the two bytes are one sign: <>, <= or >=

@@ -2,7 +2,6 @@
 use Rattle.std.specs.Prelude.{ℕ, Bool, List, [], ◌∷◌, length, nat_le, codes, if◌then◌else◌}
 use Rattle.std.specs.List.{list_any}
 use Rattle.std.specs.Str.{bytes_eq}
-use Rattle.cel_lexer.specs.declared.token.What.{What}
 use Rattle.cel_lexer.specs.declared.token.What.TheVariants as what
 use Rattle.cel_lexer.specs.declared.pieces.Piece.{Piece}
 use Rattle.cel_lexer.specs.declared.pieces.Piece.TheVariants as piece

@@ -3,6 +3,7 @@
 //! Contracts see `Tokens` as the bytes of the source and the list of the tokens over it, in order.
 #![tactic(auto)]
 
+mod bytes;
 mod fault;
 mod literals;
 mod numbers;
@@ -17,3 +18,6 @@ pub use fault::LexFault;
 pub use scanner::lex;
 pub use token::{Token, What};
 pub use tokens::Tokens;
+
+#[cfg(test)]
+mod tests;

@@ -1,13 +1,14 @@
 //! Text literals.
-ghost use Rattle.std.specs.Prelude.{◌≡◌, ◌≤◌, IfSome, false, length};
+ghost use Rattle.std.specs.Prelude.{◌≡◌, ◌≤◌, IfSome, length};
 ghost use Rattle.cel_lexer.specs.Literals.{literal_piece, literal_rest};
 
+use crate::bytes::begins_with;
 use crate::pieces::Piece;
 use crate::token::What;
 
 /// The text literal whose opening quote stands right before a text.
 pub(crate) fn literal_before(text: &[u8]) -> Piece
-    ensures { result ≡ literal_piece (literal_rest false text.now) }
+    ensures { result ≡ literal_piece (literal_rest text.now) }
 {
     match literal_rest(text) {
         Some(len) => Piece::Lexeme(What::Quoted, len + 1),
@@ -17,21 +18,21 @@ pub(crate) fn literal_before(text: &[u8]) -> Piece
 
 // How many bytes a text literal has behind its opening quote, where it is closed on its line.
 fn literal_rest(text: &[u8]) -> Option<usize>
-    ensures value { result ≡ literal_rest false text.now }
+    ensures value { result ≡ literal_rest text.now }
     ensures within { IfSome result (λ len. len ≤ length text.now) }
 {
-    let mut closed = false;
-    for (i, b) in text.iter().enumerate() {
-        if closed {
-            if *b != b'\'' {
-                return Some(i);
-            }
-            closed = false;
-        } else if *b == b'\n' {
+    let mut len = 0;
+    while len < text.len() {
+        if text[len] == b'\n' {
             return None;
+        }
+        if text[len] != b'\'' {
+            len += 1;
+        } else if begins_with(&text[len + 1..], b'\'') {
+            len += 2;
         } else {
-            closed = *b == b'\'';
+            return Some(len + 1);
         }
     }
-    if closed { Some(text.len()) } else { None }
+    None
 }

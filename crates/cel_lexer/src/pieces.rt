@@ -1,13 +1,14 @@
 //! The piece at the front of a text.
-ghost use Rattle.std.specs.Prelude.{◌≡◌, ◌==◌, length, take_while};
-ghost use Rattle.cel_lexer.specs.Bytes.{is_blank, is_comment_byte, is_first};
+ghost use Rattle.std.specs.Prelude.{◌≡◌, length, take_while};
+ghost use Rattle.cel_lexer.specs.Bytes.{is_comment_byte};
 ghost use Rattle.cel_lexer.specs.Pieces.{piece_of};
 
+use crate::bytes::{begins_with, is_blank, is_letter};
 use crate::literals::literal_before;
 use crate::numbers::number_at;
 use crate::signs::{mark_before, sign_before};
 use crate::token::What;
-use crate::words::{is_letter, word_at};
+use crate::words::word_at;
 
 /// What stands at the front of a text.
 #[derive(Clone, Copy, Debug)]
@@ -31,7 +32,7 @@ pub(crate) fn piece_at(text: &[u8]) -> Piece
         [b, rest @ ..] => {
             if is_blank(*b) {
                 Piece::Gap(1)
-            } else if *b == b'-' && begins_with_dash(rest) {
+            } else if *b == b'-' && begins_with(rest, b'-') {
                 Piece::Gap(comment_len(text))
             } else if is_letter(*b) {
                 word_at(text)
@@ -45,21 +46,6 @@ pub(crate) fn piece_at(text: &[u8]) -> Piece
                 sign_before(*b, rest)
             }
         }
-    }
-}
-
-fn is_blank(b: u8) -> bool
-    ensures { result ≡ is_blank b }
-{
-    b == b' ' || b == b'\t' || b == b'\r' || b == b'\n'
-}
-
-fn begins_with_dash(text: &[u8]) -> bool
-    ensures { result ≡ is_first (λ b. b == 45) text.now }
-{
-    match text {
-        [] => false,
-        [b, ..] => *b == b'-',
     }
 }
 

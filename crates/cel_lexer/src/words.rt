@@ -1,9 +1,9 @@
 //! Words: keywords and names.
 ghost use Rattle.std.specs.Prelude.{◌≡◌, length, take_while, if◌then◌else◌};
-ghost use Rattle.std.specs.Char.{is_ascii_digit};
-ghost use Rattle.cel_lexer.specs.Bytes.{is_letter, is_word_byte};
+ghost use Rattle.cel_lexer.specs.Bytes.{is_word_byte};
 ghost use Rattle.cel_lexer.specs.Words.{is_keyword, word_piece};
 
+use crate::bytes::is_word_byte;
 use crate::pieces::Piece;
 use crate::token::What;
 
@@ -22,18 +22,6 @@ pub(crate) fn word_at(text: &[u8]) -> Piece
     } else {
         Piece::Lexeme(word_kind(&text[..len]), len)
     }
-}
-
-pub(crate) fn is_letter(b: u8) -> bool
-    ensures { result ≡ is_letter b }
-{
-    b.is_ascii_alphabetic() || b == b'_'
-}
-
-fn is_word_byte(b: u8) -> bool
-    ensures { result ≡ is_word_byte b }
-{
-    is_letter(b) || b.is_ascii_digit()
 }
 
 // How many bytes the word at the front has.

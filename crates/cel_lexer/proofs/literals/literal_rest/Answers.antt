@@ -1,19 +1,25 @@
-use Rattle.std.proofs.Common.{◌∙◌, ◌+◌, ap, sym, drop, Bool}
-use Rattle.cel_lexer.proofs.LiteralLemmas.{past-byte, past-doubled, shifted}
-use Rattle.cel_lexer.specs.Literals.{literal_rest}
+use Rattle.std.proofs.Common.{arith, sym}
+use Rattle.cel_lexer.proofs.Places.{tail-is}
+use Rattle.cel_lexer.proofs.LiteralLemmas.{byte-at, closed-at, doubled-at, open-at}
 use Rattle.cel_lexer.proofs.literals.literal_rest.Goals as goal
-use Rattle.cel_lexer.proofs.literals.literal_rest.Goals.{then-closed+else-b-ne39, else-closed+else-b-eq10}
 
-pub loop-i-preserved : goal.loop-i-preserved
-loop-i-preserved c =
-    let s = c.args.text.now in
-    let i = c.loop-i.i in
-    let rest_from = λ (closed : Bool). shifted (i + 1) (literal_rest closed (drop (i + 1) s)) in
-    elim c.if-closed.branch [
-      | then-closed+else-b-ne39 w ↦
-          (rw w.if-closed.true at c.loop-i.invariant) ∙ past-doubled s i c.loop-i-test.true w.if-b-ne39.false
-          ∙ ap rest_from (sym w.closed-is)
-      | else-closed+else-b-eq10 w ↦
-          (rw w.if-closed.false at c.loop-i.invariant) ∙ past-byte s i c.loop-i-test.true w.if-b-eq10.false
-          ∙ ap rest_from (sym w.closed-is)
-    ]
+pub returns-then-text-len-eq10-clause-value : goal.returns-then-text-len-eq10-clause-value
+returns-then-text-len-eq10-clause-value c =
+    sym (open-at c.args.text.now c.loop-len.len c.loop-len-test.true c.if-text-len-eq10.true c.loop-len.invariant.whole)
+
+pub loop-len-preserved-then-text-len-ne39 : goal.loop-len-preserved-then-text-len-ne39
+loop-len-preserved-then-text-len-ne39 c = record {
+  in_text = omega (arith, c.loop-len-test.true);
+  whole = byte-at c.args.text.now c.loop-len.len c.loop-len-test.true c.if-text-len-eq10.false c.if-text-len-ne39.true c.loop-len.invariant.whole;
+}
+
+pub loop-len-preserved : goal.loop-len-preserved
+loop-len-preserved c =
+    let same = rw tail-is at c.if-begins_with.ensures in
+    let next = doubled-at c.args.text.now c.loop-len.len c.loop-len-test.true c.if-text-len-ne39.false (sym same) c.loop-len.invariant.whole in
+    record { in_text = next.0; whole = next.1 }
+
+pub returns-else-begins_with-clause-value : goal.returns-else-begins_with-clause-value
+returns-else-begins_with-clause-value c =
+    let other = rw tail-is at c.if-begins_with.ensures in
+    sym (closed-at c.args.text.now c.loop-len.len c.loop-len-test.true c.if-text-len-ne39.false (sym other) c.loop-len.invariant.whole)
