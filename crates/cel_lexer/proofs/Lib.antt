@@ -6,3 +6,4 @@ pub mod PieceLemmas
 pub mod WalkLemmas
 pub mod SpanLemmas
 pub mod FaultLemmas
+pub mod AscentLemmas

@@ -1,5 +1,5 @@
 -- What contracts see of `Tokens`.
-use Rattle.std.specs.Prelude.{ℕ, ◌≤◌, ◌<◌, List, length, slice_index_or, slice_range}
+use Rattle.std.specs.Prelude.{ℕ, ◌≤◌, ◌<◌, List, [], ◌∷◌, length, slice_index_or, slice_range}
 use Rattle.std.specs.Str.{IsCharBoundary}
 use Rattle.cel_lexer.specs.declared.token.Token.{Token}
 
@@ -17,6 +17,12 @@ pub record IsSpan (source : List ℕ) (token : Token) : Type 0 where
   pub ordered : token.begin ≤ token.end
   pub begins : IsCharBoundary source token.begin
   pub ends : IsCharBoundary source token.end
+
+-- the tokens stand one behind another between two places, each with a byte at least
+abbrev pub Ascend : ℕ → ℕ → List Token → Type 0
+Ascend low high [] = Unit {0}
+Ascend low high (token ∷ tokens) =
+    (low ≤ token.begin) × (token.begin < token.end) × (token.end ≤ high) × Ascend token.end high tokens
 
 -- each of the tokens has whole characters of the source
 abbrev pub AreSpans : List ℕ → List Token → Type 0

@@ -1,8 +1,8 @@
 //! From a text to its tokens.
-ghost use Rattle.std.specs.Prelude.{◌≡◌, ◌≢◌, ◌+◌, Ok, Err, IfErr, IfOk, IsUtf8, count_by};
+ghost use Rattle.std.specs.Prelude.{◌≡◌, ◌≢◌, ◌+◌, Ok, Err, IfErr, IfOk, IsUtf8, count_by, length};
 ghost use Rattle.cel_lexer.specs.Bytes.{is_line_feed};
 ghost use Rattle.cel_lexer.specs.Faults.{tokens_of};
-ghost use Rattle.cel_lexer.specs.Listing.{AreSpans};
+ghost use Rattle.cel_lexer.specs.Listing.{AreSpans, Ascend};
 ghost use Rattle.cel_lexer.specs.Tokens.{mark_len, tokens_behind_mark};
 
 use crate::fault::LexFault;
@@ -15,6 +15,7 @@ use std::alloc::Global;
 pub fn lex(alloc: Global, text: &[u8]) -> Result<Tokens<'_>, LexFault>
     ensures source { IfOk result (λ found. found.source ≡ text.now) }
     ensures items { IfOk result (λ found. tokens_of text.now ≡ Ok found.items) }
+    ensures spans { IfOk result (λ found. Ascend 0 (length text.now) found.items) }
     ensures err { IfErr result (λ fault. fault ≢ LexFault.Memory → tokens_of text.now ≡ Err fault) }
 {
     let source = match std::str::from_utf8(text) {

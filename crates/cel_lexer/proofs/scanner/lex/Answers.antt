@@ -1,5 +1,6 @@
 use Rattle.std.proofs.Common.{◌≡◌, ◌∙◌, ◌+◌, Err, Ok, ap, sym}
 use Rattle.std.specs.Str.Lossy.{utf8_valid_len}
+use Rattle.cel_lexer.proofs.AscentLemmas.{tokens-ascend}
 use Rattle.cel_lexer.proofs.FaultLemmas.{tokens_of-broken, tokens_of-utf8}
 use Rattle.cel_lexer.specs.declared.fault.LexFault.TheVariants.{NotUtf8}
 use Rattle.cel_lexer.proofs.scanner.lex.Goals as goal
@@ -19,3 +20,8 @@ pub returns-in-Err-cut-clause-err : goal.returns-in-Err-cut-clause-err
 returns-in-Err-cut-clause-err c other =
     let fault = rw (c.as_bytes.ensures.value, c.in-Ok.ensures.cases.0) at c.in-Err-cut.ensures.err other in
     tokens_of-utf8 c.args.text.now c.in-Ok.ensures.cases.1 ∙ fault
+
+pub returns-in-Ok-cut-clause-spans : goal.returns-in-Ok-cut-clause-spans
+returns-in-Ok-cut-clause-spans c =
+    let found = rw (c.as_bytes.ensures.value, c.in-Ok.ensures.cases.0) at c.in-Ok-cut.ensures.items in
+    rw c.over.ensures.items (tokens-ascend c.args.text.now c.in-Ok-cut.items.items found)
