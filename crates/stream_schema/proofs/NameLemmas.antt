@@ -1,0 +1,42 @@
+-- Where an item of a name stands in a list, and when none has the name.
+use Rattle.std.proofs.Common.{◌≡◌, ◌∙◌, ℕ, List, [], ◌∷◌, refl, sym, ap, map, inl, inr}
+use Rattle.std.specs.Prelude.{Option, Some, None, IfSome, Contains, slice_get, is_some, option_map, position}
+use Rattle.std.specs.List.{list_any}
+use Rattle.std.specs.Str.{bytes_eq}
+use Rattle.std.specs.Cmp.Lexicographic.{nat_list_eq_equiv}
+use Rattle.std.proofs.lemmas.Bool.{cases_Bool}
+use Rattle.std.proofs.lemmas.Map.Views.{list_any-from_Contains, Contains-from_any}
+use Rattle.std.proofs.lemmas.Option.{slice_get-map}
+use Rattle.std.proofs.lemmas.Slice.Eq.{bytes_eq-Decides}
+use Rattle.stream_schema.proofs.PlaceLemmas.{is_some-position, missing, position-found}
+
+module _ {X : Type 0} (name_of : X → List ℕ) (name : List ℕ) where
+  -- the item at the place has the name
+  pub named-at : (xs : List X) (r : Option ℕ) → r ≡ position (λ x. bytes_eq name (name_of x)) xs → IfSome r (λ i. slice_get (map name_of xs) i ≡ Some name)
+  named-at xs None e = tt
+  named-at xs (Some i) e =
+      let (x, at, same) = position-found (λ x. bytes_eq name (name_of x)) xs i (sym e) in
+      slice_get-map name_of xs i ∙ ap (option_map name_of) at ∙ ap Some (sym ((bytes_eq-Decides name (name_of x)).0 same))
+
+  -- some item has the name just where the names contain it
+  any-named : (xs : List X) → list_any (λ x. bytes_eq name (name_of x)) xs ≡ list_any (bytes_eq name) (map name_of xs)
+  any-named [] = refl
+  any-named (x ∷ xs) = rw (any-named xs) refl
+
+  place-any : (xs : List X) → is_some (position (λ x. bytes_eq name (name_of x)) xs) ≡ list_any (bytes_eq name) (map name_of xs)
+  place-any xs = is_some-position (λ x. bytes_eq name (name_of x)) xs ∙ any-named xs
+
+  -- where there is no place, the names don't contain it
+  pub absent-from_none : (xs : List X) → position (λ x. bytes_eq name (name_of x)) xs ≡ None → Contains (map name_of xs) name → ⊥
+  absent-from_none xs none there =
+      let has = place-any xs ∙ list_any-from_Contains nat_list_eq_equiv name (map name_of xs) there in
+      let has_not = ap is_some none in
+      cc
+
+  -- and the other way round
+  pub none-from_absent : (xs : List X) → (Contains (map name_of xs) name → ⊥) → position (λ x. bytes_eq name (name_of x)) xs ≡ None
+  none-from_absent xs absent =
+      elim (cases_Bool (list_any (bytes_eq name) (map name_of xs))) [
+        | inl has ↦ absurd (absent (Contains-from_any (λ x y. (bytes_eq-Decides x y).0) name (map name_of xs) has))
+        | inr has_not ↦ missing (position (λ x. bytes_eq name (name_of x)) xs) (place-any xs ∙ has_not)
+      ]

@@ -1,0 +1,4 @@
+pub mod Faults
+pub mod Schema
+pub mod Streams
+pub mod Table
