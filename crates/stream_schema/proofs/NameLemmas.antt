@@ -23,7 +23,8 @@ module _ {X : Type 0} (name_of : X → List ℕ) (name : List ℕ) where
   any-named [] = refl
   any-named (x ∷ xs) = rw (any-named xs) refl
 
-  place-any : (xs : List X) → is_some (position (λ x. bytes_eq name (name_of x)) xs) ≡ list_any (bytes_eq name) (map name_of xs)
+  -- there is a place just where the names contain it
+  pub place-any : (xs : List X) → is_some (position (λ x. bytes_eq name (name_of x)) xs) ≡ list_any (bytes_eq name) (map name_of xs)
   place-any xs = is_some-position (λ x. bytes_eq name (name_of x)) xs ∙ any-named xs
 
   -- where there is no place, the names don't contain it

@@ -6,9 +6,14 @@
 #![tactic(auto)]
 
 mod fault;
+mod joining;
 mod schema;
 mod streams;
 
 pub use fault::SchemaFault;
+pub use joining::join;
 pub use schema::Schema;
 pub use streams::Streams;
+
+#[cfg(test)]
+mod tests;
