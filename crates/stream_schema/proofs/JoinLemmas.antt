@@ -1,10 +1,10 @@
 -- The joined schema, one right attribute after the other.
-use Rattle.std.proofs.Common.{◌≡◌, ◌∙◌, ◌+◌, ◌<◌, ◌≤◌, ℕ, zero, suc, List, [], ◌∷◌, ◌++◌, take, length, get_or, refl, sym, ap, arith, length-append, cond}
-use Rattle.std.specs.Prelude.{Some, slice_get, fold, is_some}
+use Rattle.std.proofs.Common.{◌≡◌, ◌∙◌, ◌+◌, ℕ, zero, suc, List, [], ◌∷◌, take, length, ap, length-append}
+use Rattle.std.specs.Prelude.{Some, slice_get}
 use Rattle.std.proofs.lemmas.List.Sums.{fold_more}
 use Rattle.std.proofs.lemmas.Option.{get_or_from_slice_get, slice_get_within}
 use Rattle.event_types.specs.declared.kind.Kind.{Kind}
-use Rattle.stream_schema.specs.Joining.{free_name, joined, with_free}
+use Rattle.stream_schema.specs.Joining.{joined, with_free}
 use Rattle.stream_schema.specs.Schema.{Attr, kinds_of, names_of}
 
 -- a name and a kind at one place are an attribute there, by induction on the list

@@ -1,12 +1,12 @@
 -- Where an item of a name stands in a list, and when none has the name.
-use Rattle.std.proofs.Common.{◌≡◌, ◌∙◌, ℕ, List, [], ◌∷◌, refl, sym, ap, map, inl, inr}
+use Rattle.std.proofs.Common.{◌≡◌, ◌∙◌, ◌<◌, ℕ, length, List, [], ◌∷◌, refl, sym, ap, map, inl, inr}
 use Rattle.std.specs.Prelude.{Option, Some, None, IfSome, Contains, slice_get, is_some, option_map, position}
 use Rattle.std.specs.List.{list_any}
 use Rattle.std.specs.Str.{bytes_eq}
 use Rattle.std.specs.Cmp.Lexicographic.{nat_list_eq_equiv}
 use Rattle.std.proofs.lemmas.Bool.{cases_Bool}
 use Rattle.std.proofs.lemmas.Map.Views.{list_any-from_Contains, Contains-from_any}
-use Rattle.std.proofs.lemmas.Option.{slice_get-map}
+use Rattle.std.proofs.lemmas.Option.{slice_get-map, slice_get_within}
 use Rattle.std.proofs.lemmas.Slice.Eq.{bytes_eq-Decides}
 use Rattle.stream_schema.proofs.PlaceLemmas.{is_some-position, missing, position-found}
 
@@ -17,6 +17,12 @@ module _ {X : Type 0} (name_of : X → List ℕ) (name : List ℕ) where
   named-at xs (Some i) e =
       let (x, at, same) = position-found (λ x. bytes_eq name (name_of x)) xs i (sym e) in
       slice_get-map name_of xs i ∙ ap (option_map name_of) at ∙ ap Some (sym ((bytes_eq-Decides name (name_of x)).0 same))
+
+  -- the place is in the list
+  pub within-at : (xs : List X) (r : Option ℕ) → r ≡ position (λ x. bytes_eq name (name_of x)) xs → IfSome r (λ i. i < length xs)
+  within-at xs None e = tt
+  within-at xs (Some i) e =
+      let there = position-found (λ x. bytes_eq name (name_of x)) xs i (sym e) in slice_get_within xs i there.0 there.1
 
   -- some item has the name just where the names contain it
   any-named : (xs : List X) → list_any (λ x. bytes_eq name (name_of x)) xs ≡ list_any (bytes_eq name) (map name_of xs)

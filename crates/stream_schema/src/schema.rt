@@ -79,6 +79,7 @@ impl Schema {
     pub fn find(&self, name: &str) -> Option<usize>
         ensures value { result ≡ place_of name.now self.now }
         ensures found { IfSome result (λ place. slice_get (names_of self.now) place ≡ Some name.now) }
+        ensures within { IfSome result (λ place. place < length self.now) }
         ensures absent { (result ≡ None) ↔ ¬ Contains (names_of self.now) name.now }
     {
         first_place(self.attributes.as_slice(), name)

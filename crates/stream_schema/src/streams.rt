@@ -55,6 +55,7 @@ impl Streams {
     pub fn find(&self, name: &str) -> Option<StreamId>
         ensures value { result ≡ number_of name.now self.now }
         ensures found { IfSome result (λ number. slice_get (stream_names self.now) number ≡ Some name.now) }
+        ensures within { IfSome result (λ number. number < length self.now) }
         ensures absent { (result ≡ None) ↔ ¬ Contains (stream_names self.now) name.now }
         ensures distinct { AllPairs (λ x y. x ≢ y) (stream_names self.now) }
     {

@@ -1,5 +1,5 @@
-use Rattle.std.proofs.Common.{◌≡◌, ◌∙◌, ap, sym, length, arith}
-use Rattle.stream_schema.specs.Joining.{joined, with_free}
+use Rattle.std.proofs.Common.{◌∙◌, ap, sym, length, arith}
+use Rattle.stream_schema.specs.Joining.{with_free}
 use Rattle.stream_schema.specs.Schema.{Attr}
 use Rattle.stream_schema.proofs.JoinLemmas.{attr-at, joined-more, length-with_free}
 use Rattle.stream_schema.proofs.joining.join.Goals as goal

@@ -1,4 +1,4 @@
-use Rattle.std.proofs.Common.{◌≡◌, ◌∙◌, sym, false, not, arith}
+use Rattle.std.proofs.Common.{◌≡◌, ◌∙◌, false, not, arith}
 use Rattle.std.proofs.lemmas.Grind.{common_steps}
 use Rattle.stream_schema.specs.Joining.{is_taken, suffixed}
 use Rattle.stream_schema.proofs.SuffixLemmas.{least_from-next}

@@ -1,4 +1,4 @@
-use Rattle.std.proofs.Common.{◌≡◌, ◌≤◌, ◌-◌, not, length}
+use Rattle.std.proofs.Common.{◌≡◌, ◌-◌, not}
 use Rattle.stream_schema.specs.Joining.{is_taken, least_from, suffix_of, suffixed}
 use Rattle.stream_schema.proofs.joining.lengthened.Given as goal
 

@@ -1,6 +1,6 @@
 use Rattle.std.proofs.Common.{◌≡◌, ◌∙◌, sym}
 use Rattle.stream_schema.specs.Streams.{Entry, number_of}
-use Rattle.stream_schema.proofs.NameLemmas.{absent-from_none, named-at, none-from_absent}
+use Rattle.stream_schema.proofs.NameLemmas.{absent-from_none, named-at, none-from_absent, within-at}
 use Rattle.stream_schema.proofs.TableLemmas.{distinct-names, number_of-keys}
 use Rattle.stream_schema.proofs.streams.Streams.find.Goals as goal
 
@@ -11,6 +11,7 @@ returns c =
     record {
       value = value;
       found = named-at (λ (s : Entry). s.name) c.args.name.now c.args.self.now c.get_index_of.result value;
+      within = within-at (λ (s : Entry). s.name) c.args.name.now c.args.self.now c.get_index_of.result value;
       absent = (
         λ none. absent-from_none (λ (s : Entry). s.name) c.args.name.now c.args.self.now (sym value ∙ none),
         λ absent. value ∙ none-from_absent (λ (s : Entry). s.name) c.args.name.now c.args.self.now absent,
