@@ -1,4 +1,5 @@
 pub mod Canonical
+pub mod Classes
 pub mod Fits
 pub mod TermOrder
 pub mod TermOrderLaws

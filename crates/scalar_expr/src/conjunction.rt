@@ -1,9 +1,15 @@
 //! Conjunctions.
-ghost use Rattle.std.specs.Prelude.{◌≡◌, map};
+ghost use Rattle.std.specs.Prelude.{◌≡◌, ◌<◌, ◌++◌, length, map, slice_get, IfOk, OnOk};
+ghost use Rattle.std.specs.Option.{option_map};
 ghost use Rattle.scalar_expr.specs.Canonical.{distinct_parts};
+ghost use Rattle.scalar_expr.specs.Classes.{class_of, class_seen};
 ghost use Rattle.scalar_expr.specs.Views.{pr_of};
 
+use crate::copying::copy_pred;
+use crate::part::{Part, classed};
 use crate::predicate::Pred;
+use event_types::Memory;
+use std::alloc::Global;
 use std::marker::Model;
 
 /// Predicates that all have to hold, in their canonical order and without doubles.
@@ -36,9 +42,54 @@ impl Conj {
         Conj { parts }
     }
 
+    // The predicates as they stand.
     pub(crate) fn parts(&self) -> &[Pred]
         ensures { map pr_of result.now ≡ self.now }
     {
         self.parts.as_slice()
     }
+
+    pub fn size(&self) -> usize
+        ensures { result ≡ length self.now }
+    {
+        self.parts.len()
+    }
+
+    /// The class of the part at a place, counted from 0. Takes no memory.
+    pub fn part(&self, place: usize) -> Part<'_>
+        requires { place < length self.now }
+        ensures { option_map class_of (slice_get self.now place) ≡ Some (class_seen result) }
+    {
+        classed(&self.parts[place])
+    }
+
+    /// The conjunction of the parts of both.
+    pub fn both(&self, alloc: Global, other: &Conj) -> Result<Conj, Memory>
+        ensures { IfOk result (λ c. c ≡ distinct_parts (self.now ++ other.now)) }
+    {
+        let mut parts = Vec::new(alloc);
+        add_copies(alloc, &mut parts, &self.parts)?;
+        add_copies(alloc, &mut parts, &other.parts)?;
+        Ok(Conj::of(parts))
+    }
+
+    /// An equal conjunction.
+    pub fn copy(&self, alloc: Global) -> Result<Conj, Memory>
+        ensures { IfOk result (λ c. c ≡ self.now) }
+    {
+        let mut parts = Vec::new(alloc);
+        add_copies(alloc, &mut parts, &self.parts)?;
+        Ok(Conj { parts })
+    }
+}
+
+// Puts equal predicates behind those that are there.
+fn add_copies(alloc: Global, parts: &mut Vec<Pred>, more: &[Pred]) -> Result<(), Memory>
+    ensures { OnOk result (map pr_of parts.new.items ≡ map pr_of parts.old.items ++ map pr_of more.now) }
+{
+    'more: for p in more {
+        let copy = copy_pred(alloc, p)?;
+        parts.push(copy)?;
+    }
+    Ok(())
 }

@@ -6,7 +6,9 @@
 
 mod canonical;
 mod conjunction;
+mod copying;
 mod ordering;
+mod part;
 mod predicate;
 mod projection;
 mod scalar;
@@ -16,6 +18,7 @@ mod valuation;
 pub use canonical::normal;
 pub use conjunction::Conj;
 pub use event_types::Cmp;
+pub use part::Part;
 pub use predicate::Pred;
 pub use projection::Map;
 pub use scalar::{Scalar, Scalars};

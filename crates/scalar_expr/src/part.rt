@@ -1,0 +1,126 @@
+//! The classes of a conjunction's parts.
+ghost use Rattle.std.specs.Prelude.{◌≡◌};
+ghost use Rattle.semantics.specs.Scalars.{Dur, Lit, Test};
+ghost use Rattle.scalar_expr.specs.Classes.{bounded, class_of, class_seen, exchanged, fixed, keyed};
+ghost use Rattle.scalar_expr.specs.Views.{pr_of, sc_of};
+
+use crate::predicate::Pred;
+use crate::scalar::Scalar;
+use event_types::{Cmp, Value};
+
+/// What a part of a conjunction asks, as far as instances and steps are looked up by it.
+#[derive(Clone, Copy)]
+pub enum Part<'a> {
+    /// The attribute of the event at the place `attr` against a literal: `$2.Price > 5`. Never `<>`.
+    Fixed {
+        attr: usize,
+        cmp: Cmp,
+        lit: &'a Value,
+    },
+    /// An attribute of the event equals one of the binding: `$2.Name = $1.Name`.
+    Key {
+        event: usize,
+        binding: usize,
+    },
+    /// `DUR < most` where `strict`, else `DUR <= most`.
+    Bound {
+        strict: bool,
+        most: i128,
+    },
+    /// All else.
+    Rest,
+}
+
+// The class of a predicate.
+pub(crate) fn classed(p: &Pred) -> Part<'_>
+    ensures { class_seen result ≡ class_of (pr_of p.now) }
+{
+    match p {
+        Pred::Test(x, c, y) => test_class(x, *c, y),
+        _ => Part::Rest,
+    }
+}
+
+// The class of a comparison.
+fn test_class<'a>(x: &'a Scalar, c: Cmp, y: &'a Scalar) -> Part<'a>
+    ensures { class_seen result ≡ class_of (Test (sc_of x.entry.now) c (sc_of y.entry.now)) }
+{
+    match x {
+        Scalar::Event(place) => match y {
+            Scalar::Lit(lit) => fixed_part(*place, c, lit),
+            Scalar::Binding(bound) => key_part(*place, c, *bound),
+            _ => Part::Rest,
+        },
+        Scalar::Lit(lit) => match y {
+            Scalar::Event(place) => fixed_part(*place, exchange(c), lit),
+            _ => Part::Rest,
+        },
+        Scalar::Binding(bound) => match y {
+            Scalar::Event(place) => key_part(*place, c, *bound),
+            _ => Part::Rest,
+        },
+        Scalar::Dur => match y {
+            Scalar::Lit(lit) => bound_part(c, lit),
+            _ => Part::Rest,
+        },
+        _ => Part::Rest,
+    }
+}
+
+// The comparison that says the same with its operands exchanged.
+fn exchange(c: Cmp) -> Cmp
+    ensures { result ≡ exchanged c }
+{
+    match c {
+        Cmp::Eq => Cmp::Eq,
+        Cmp::Ne => Cmp::Ne,
+        Cmp::Lt => Cmp::Gt,
+        Cmp::Le => Cmp::Ge,
+        Cmp::Gt => Cmp::Lt,
+        Cmp::Ge => Cmp::Le,
+    }
+}
+
+// An attribute of the event against a literal.
+fn fixed_part<'a>(attr: usize, cmp: Cmp, lit: &'a Value) -> Part<'a>
+    ensures { class_seen result ≡ fixed attr cmp lit.entry.now }
+{
+    match cmp {
+        Cmp::Ne => Part::Rest,
+        _ => Part::Fixed { attr, cmp, lit },
+    }
+}
+
+// An attribute of the event against one of the binding.
+fn key_part<'a>(event: usize, cmp: Cmp, binding: usize) -> Part<'a>
+    ensures { class_seen result ≡ keyed event cmp binding }
+{
+    match cmp {
+        Cmp::Eq => Part::Key { event, binding },
+        _ => Part::Rest,
+    }
+}
+
+// DUR against a literal.
+fn bound_part<'a>(cmp: Cmp, lit: &'a Value) -> Part<'a>
+    ensures { class_seen result ≡ class_of (Test Dur cmp (Lit lit.entry.now)) }
+{
+    match lit {
+        Value::Int(most) => limit(cmp, *most),
+        _ => Part::Rest,
+    }
+}
+
+// DUR against a number.
+fn limit<'a>(cmp: Cmp, most: i128) -> Part<'a>
+    ensures { class_seen result ≡ bounded cmp most }
+{
+    match cmp {
+        Cmp::Lt => Part::Bound { strict: true, most },
+        Cmp::Le => Part::Bound {
+            strict: false,
+            most,
+        },
+        _ => Part::Rest,
+    }
+}
