@@ -1,6 +1,7 @@
 pub mod Canonical
 pub mod Classes
 pub mod Fits
+pub mod Kinds
 pub mod TermOrder
 pub mod TermOrderLaws
 pub mod Views

@@ -1,5 +1,16 @@
 //! Projections.
-use crate::scalar::Scalars;
+ghost use Rattle.std.specs.Prelude.{◌≡◌, ◌≤◌, map, IfOk};
+ghost use Rattle.std.specs.List.{All};
+ghost use Rattle.std.specs.Option.{option_copied};
+ghost use Rattle.semantics.specs.Values.{applied, val};
+ghost use Rattle.scalar_expr.specs.Fits.{Fits};
+ghost use Rattle.scalar_expr.specs.Views.{sc_of};
+
+use crate::copying::copy_scalar;
+use crate::scalar::{Scalar, Scalars};
+use crate::valuation::value_of;
+use event_types::{List, Memory, Tuple, Vals};
+use std::alloc::Global;
 use std::marker::Model;
 
 /// A projection: the width of the tuples that its scalars read, and one scalar for each value of the
@@ -21,4 +32,86 @@ impl Model for Map {
     ghost coded = { projection_code };
 
     ghost view = { λ m. record { width = m.width; parts = map sc_of m.parts } };
+}
+
+impl Map {
+    // The scalars as they stand.
+    fn scalars(&self) -> &[Scalar]
+        ensures { map sc_of result.now ≡ self.now.parts }
+    {
+        self.parts.as_slice()
+    }
+
+    /// An equal projection.
+    pub fn copy(&self, alloc: Global) -> Result<Map, Memory>
+        ensures { IfOk result (λ m. m ≡ self.now) }
+    {
+        let parts = copy_scalars(alloc, self.parts.as_slice())?;
+        Ok(Map {
+            width: self.width,
+            parts,
+        })
+    }
+}
+
+// Equal scalars.
+fn copy_scalars(alloc: Global, scalars: &[Scalar]) -> Result<Scalars, Memory>
+    ensures { IfOk result (λ copies. map sc_of copies ≡ map sc_of scalars.now) }
+{
+    let mut copies = List::new(alloc);
+    'scalars: for s in scalars {
+        let copy = copy_scalar(alloc, s)?;
+        if copies.push(copy).is_err() {
+            return Err(Memory);
+        }
+    }
+    Ok(copies)
+}
+
+/// The tuple of a projection's values over an event and a binding, with these times.
+pub fn apply(
+    alloc: Global,
+    m: &Map,
+    e: &Tuple,
+    b: Option<&Tuple>,
+    from: u64,
+    at: u64,
+) -> Result<Tuple, Memory>
+    requires in_order { from ≤ at }
+    requires fits { All (λ s. Fits s e.now (option_copied b)) m.now.parts }
+    ensures { IfOk result (λ t. t ≡ applied m.now.parts e.now (option_copied b.entry) from at) }
+{
+    let vals = values_of(alloc, m.scalars(), e, b)?;
+    Ok(spanning(vals, from, at))
+}
+
+// The values of scalars.
+fn values_of(
+    alloc: Global,
+    scalars: &[Scalar],
+    e: &Tuple,
+    b: Option<&Tuple>,
+) -> Result<Vals, Memory>
+    requires { All (λ s. Fits (sc_of s) e.now (option_copied b)) scalars.now }
+    ensures { IfOk result (λ vals. vals ≡ map (λ s. val (sc_of s) e.now (option_copied b.entry)) scalars.now) }
+{
+    let mut vals = List::new(alloc);
+    'scalars: for s in scalars {
+        let value = value_of(s, e, b).to_value(alloc)?;
+        if vals.push(value).is_err() {
+            return Err(Memory);
+        }
+    }
+    Ok(vals)
+}
+
+// The tuple of these values and times, which are in order.
+fn spanning(vals: Vals, from: u64, at: u64) -> Tuple
+    requires { from ≤ at }
+    ensures { result ≡ record { vals = vals; from = from; at = at } }
+{
+    match Tuple::make(vals, from, at) {
+        Ok(tuple) => tuple,
+        Err(_) => unreachable!(),
+    }
 }

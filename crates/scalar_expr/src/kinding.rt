@@ -1,0 +1,36 @@
+//! The kinds of scalars.
+ghost use Rattle.std.specs.Prelude.{◌≡◌};
+ghost use Rattle.std.specs.Option.{option_copied};
+ghost use Rattle.scalar_expr.specs.Kinds.{HasPlace, sc_kind, value_kind};
+ghost use Rattle.scalar_expr.specs.Views.{sc_of};
+
+use crate::scalar::Scalar;
+use event_types::{Kind, Kinds, Value};
+
+/// The kind of a scalar over an event and a binding of these kinds.
+///
+/// DUR and each operation are numbers, whatever their operands. Takes no memory.
+pub fn kind_of(s: &Scalar, event: &Kinds, binding: Option<&Kinds>) -> Kind
+    requires { HasPlace (sc_of s.now) event.now (option_copied binding) }
+    ensures { result ≡ sc_kind (sc_of s.now) event.now (option_copied binding.entry) }
+{
+    match s {
+        Scalar::Lit(value) => literal_kind(value),
+        Scalar::Event(place) => *event.get(*place),
+        Scalar::Binding(place) => match binding {
+            Some(kinds) => *kinds.get(*place),
+            None => unreachable!(),
+        },
+        _ => Kind::Int,
+    }
+}
+
+// The kind of a literal.
+fn literal_kind(value: &Value) -> Kind
+    ensures { result ≡ value_kind value.now }
+{
+    match value {
+        Value::Text(_) => Kind::Text,
+        _ => Kind::Int,
+    }
+}
