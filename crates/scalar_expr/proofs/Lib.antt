@@ -1,2 +1,3 @@
-pub mod SeenLemmas
+pub mod CanonicalLaws
 pub mod CanonicalLemmas
+pub mod SeenLemmas

@@ -1,4 +1,5 @@
 pub mod Canonical
+pub mod CanonicalLaws
 pub mod Classes
 pub mod Fits
 pub mod Kinds
