@@ -1,3 +1,6 @@
+pub mod Bags
 pub mod CanonicalLaws
 pub mod CanonicalLemmas
+pub mod NextsLemmas
+pub mod RunsLemmas
 pub mod SeenLemmas

@@ -3,6 +3,7 @@ pub mod CanonicalLaws
 pub mod Classes
 pub mod Fits
 pub mod Kinds
+pub mod NextsLaws
 pub mod TermOrder
 pub mod TermOrderLaws
 pub mod Views

@@ -1,6 +1,7 @@
-//! Laws over canonical forms. The functions do nothing: their contracts say what follows from the
+//! Laws over canonical forms, nexts and runs. The functions do nothing: their contracts say what follows from the
 //! definitions.
 ghost use Rattle.scalar_expr.specs.CanonicalLaws.{KeepsTruth, PartsKeepTruth};
+ghost use Rattle.scalar_expr.specs.NextsLaws.{NextsOfABag, NextsStartLater, RunsEnd};
 
 /// A predicate may be tested by its canonical form, so `normal` keeps the truth.
 pub fn canonical_form_keeps_truth()
@@ -10,4 +11,19 @@ pub fn canonical_form_keeps_truth()
 /// A conjunction of the parts of two is true where both are.
 pub fn parts_keep_truth()
     ensures { PartsKeepTruth }
+{}
+
+/// A tuple that starts at or before the binding's detection is never among its nexts.
+pub fn nexts_start_later()
+    ensures { NextsStartLater }
+{}
+
+/// The nexts of a binding may be sought in any order.
+pub fn nexts_of_a_bag()
+    ensures { NextsOfABag }
+{}
+
+/// The runs from a binding end of themselves, since each event of a run starts after the one before.
+pub fn runs_end()
+    ensures { RunsEnd }
 {}

@@ -21,7 +21,9 @@ pub use canonical::normal;
 pub use conjunction::Conj;
 pub use event_types::Cmp;
 pub use kinding::kind_of;
-pub use laws::{canonical_form_keeps_truth, parts_keep_truth};
+pub use laws::{
+    canonical_form_keeps_truth, nexts_of_a_bag, nexts_start_later, parts_keep_truth, runs_end,
+};
 pub use part::Part;
 pub use predicate::Pred;
 pub use projection::{Map, apply};
