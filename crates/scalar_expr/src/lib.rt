@@ -30,3 +30,6 @@ pub use projection::{Map, apply};
 pub use scalar::{Scalar, Scalars};
 pub use truth::holds;
 pub use valuation::value_of;
+
+#[cfg(test)]
+mod tests;
