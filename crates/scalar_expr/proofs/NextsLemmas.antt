@@ -1,5 +1,5 @@
 -- What is known of the nexts of a binding.
-use Rattle.std.proofs.Common.{◌≡◌, refl, ℕ, ◌<◌, Bool, true, false, ◌&&◌, nat_le, nat_lt, List, arith}
+use Rattle.std.proofs.Common.{◌≡◌, refl, ◌<◌, Bool, true, false, ◌&&◌, nat_le, nat_lt, List, arith}
 use Rattle.std.proofs.lemmas.Bool.Decides.{nat_tests}
 use Rattle.std.proofs.lemmas.List.Elements.{All-filter, All-weaker, filter_agree, filter_passes}
 use Rattle.std.specs.List.{All, filter}

@@ -8,6 +8,7 @@ use event_types::{Copied, Memory};
 use std::alloc::Global;
 
 // An equal scalar.
+#[cycle(copies)]
 pub(crate) fn copy_scalar(alloc: Global, s: &Scalar) -> Result<Scalar, Memory>
     ensures { IfOk result (λ copy. sc_of copy ≡ sc_of s.now) }
 {
@@ -16,45 +17,21 @@ pub(crate) fn copy_scalar(alloc: Global, s: &Scalar) -> Result<Scalar, Memory>
         Scalar::Event(place) => Ok(Scalar::Event(*place)),
         Scalar::Binding(place) => Ok(Scalar::Binding(*place)),
         Scalar::Dur => Ok(Scalar::Dur),
-        Scalar::Add(x, y) => {
-            let x = copy_scalar(alloc, x)?;
-            let y = copy_scalar(alloc, y)?;
-            let (x, y) = boxed(alloc, x, y)?;
-            Ok(Scalar::Add(x, y))
-        }
-        Scalar::Sub(x, y) => {
-            let x = copy_scalar(alloc, x)?;
-            let y = copy_scalar(alloc, y)?;
-            let (x, y) = boxed(alloc, x, y)?;
-            Ok(Scalar::Sub(x, y))
-        }
-        Scalar::Mul(x, y) => {
-            let x = copy_scalar(alloc, x)?;
-            let y = copy_scalar(alloc, y)?;
-            let (x, y) = boxed(alloc, x, y)?;
-            Ok(Scalar::Mul(x, y))
-        }
-        Scalar::Min(x, y) => {
-            let x = copy_scalar(alloc, x)?;
-            let y = copy_scalar(alloc, y)?;
-            let (x, y) = boxed(alloc, x, y)?;
-            Ok(Scalar::Min(x, y))
-        }
-        Scalar::Max(x, y) => {
-            let x = copy_scalar(alloc, x)?;
-            let y = copy_scalar(alloc, y)?;
-            let (x, y) = boxed(alloc, x, y)?;
-            Ok(Scalar::Max(x, y))
-        }
+        Scalar::Add(x, y) => Ok(Scalar::Add(boxed(alloc, x)?, boxed(alloc, y)?)),
+        Scalar::Sub(x, y) => Ok(Scalar::Sub(boxed(alloc, x)?, boxed(alloc, y)?)),
+        Scalar::Mul(x, y) => Ok(Scalar::Mul(boxed(alloc, x)?, boxed(alloc, y)?)),
+        Scalar::Min(x, y) => Ok(Scalar::Min(boxed(alloc, x)?, boxed(alloc, y)?)),
+        Scalar::Max(x, y) => Ok(Scalar::Max(boxed(alloc, x)?, boxed(alloc, y)?)),
     }
 }
 
-// Two scalars in boxes.
-fn boxed(alloc: Global, x: Scalar, y: Scalar) -> Result<(Box<Scalar>, Box<Scalar>), Memory>
-    ensures first { IfOk result (λ boxes. boxes.0.value ≡ x) }
-    ensures second { IfOk result (λ boxes. boxes.1.value ≡ y) }
+// An equal scalar in a box.
+#[cycle(copies)]
+fn boxed(alloc: Global, s: &Scalar) -> Result<Box<Scalar>, Memory>
+    ensures { IfOk result (λ copy. sc_of copy.value ≡ sc_of s.now) }
 {
-    Ok((Box::new(alloc, x)?, Box::new(alloc, y)?))
+    let copy = copy_scalar(alloc, s)?;
+    Ok(Box::new(alloc, copy)?)
 }
 
 // An equal predicate.

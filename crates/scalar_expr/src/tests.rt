@@ -43,7 +43,10 @@ fn one_comparison_written_twice_is_one_part(rt: HostRuntime) -> Result<(), Fail>
 fn parts_of_two_conjunctions_stand_once_each(rt: HostRuntime) -> Result<(), Fail> {
     let alloc = rt.alloc();
     let above = twice_above_five(alloc)?;
-    let other = normal(alloc, both_hold(alloc, bound(9, Cmp::Ne, false), bound(5, Cmp::Gt, false))?)?;
+    let other = normal(
+        alloc,
+        both_hold(alloc, bound(9, Cmp::Ne, false), bound(5, Cmp::Gt, false))?,
+    )?;
     assert_eq!(rt; above.both(alloc, &other)?.size(), 2);
     assert_eq!(rt; other.copy(alloc)?.size(), 2);
     Ok(())

@@ -1,4 +1,4 @@
-use Rattle.std.proofs.Common.{◌≡◌, ◌∙◌, ap, map}
+use Rattle.std.proofs.Common.{◌∙◌, ap, map}
 use Rattle.std.specs.Option.{option_copied}
 use Rattle.semantics.specs.Scalars.{Sc}
 use Rattle.semantics.specs.Values.{val}
