@@ -5,8 +5,7 @@ ghost use Rattle.cay_host.specs.Output.{Wrote, WrotePart, SameButOutput};
 
 use crate::host::{Failed, Host};
 
-/// Writes all the bytes, or a proper prefix of them where the host fails. Takes no memory, and calls
-/// the host for no empty slice.
+/// Writes all the bytes, or a proper prefix of them where the host fails. Takes no memory.
 pub fn write_whole<H: Host>(host: &mut H, bytes: &[u8]) -> Result<(), Failed>
     ensures ok { OnOk result (Wrote bytes.now (H.told host.old) (H.told host.new)) }
     ensures part { OnErr result (WrotePart bytes.now (H.told host.old) (H.told host.new)) }
