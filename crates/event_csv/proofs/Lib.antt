@@ -1,0 +1,3 @@
+pub mod LastFacts
+pub mod LineFacts
+pub mod PlaceFacts

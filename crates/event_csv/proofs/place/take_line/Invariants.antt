@@ -1,0 +1,15 @@
+use Rattle.std.proofs.Common.{◌≡◌, ◌-◌, [], length}
+use Rattle.event_csv.specs.Fed.{Gives, feeds_so_far}
+use Rattle.event_csv.specs.Place.{BegunOrShort, IsPlace, fed_at}
+use Rattle.event_csv.proofs.place.take_line.Given as goal
+
+abbrev pub invariant-lines : goal.invariant-lines
+invariant-lines l = record {
+  place : IsPlace l.bytes l.place;
+  begun : BegunOrShort l.bytes l.place;
+  given : Gives [] (fed_at l.bytes l.fn.place) (fed_at l.bytes l.place);
+  feeds : feeds_so_far (fed_at l.bytes l.place) ≡ feeds_so_far (fed_at l.bytes l.fn.place);
+}
+
+abbrev pub decreases-lines : goal.decreases-lines
+decreases-lines l = length l.bytes - l.place.start

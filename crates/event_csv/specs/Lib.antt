@@ -1,0 +1,3 @@
+pub mod Fed
+pub mod Lines
+pub mod Place
