@@ -40,7 +40,7 @@ nil-first lines line none first =
 pub none-taken : (old new : Fed) (g : Got) → lines_left old false ≡ [] → Takes old new g → (g ≡ got.NotYet → ⊥) → ⊥
 none-taken old new (got.Line number bytes) none taken other =
     nil-cons (lines_left old false) (record { number = number; bytes = bytes.now }) (lines_left (fed_more new []) false) none
-    (ap (λ (f : Fed). lines_left f false) (sym (fed_more-nil old)) ∙ taken.0 [] false)
+    (ap (λ (f : Fed). lines_left f false) (sym (fed_more-nil old)) ∙ taken.given [] false)
 none-taken old new (got.Long number) none taken other =
     nil-first (lines_left (fed_more new []) false) (record { number = number; bytes = taken.1.bytes })
     (sym (taken.0 [] false) ∙ ap (λ (f : Fed). lines_left f false) (fed_more-nil old) ∙ none) (taken.1.next [] false)

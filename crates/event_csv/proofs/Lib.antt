@@ -1,3 +1,4 @@
+pub mod GoOnFacts
 pub mod LastFacts
 pub mod LineFacts
 pub mod PlaceFacts

@@ -1,7 +1,7 @@
 -- What a feed holds of an event text, and the lines that are left in it.
 use Rattle.std.specs.Prelude.{◌≡◌, ℕ, ◌+◌, ◌<◌, ◌≤◌, Bool, true, false, List, [], ◌∷◌, ◌++◌, length, count_by, slice_get, Some, if◌then◌else◌}
 use Rattle.csv.specs.Reading.{strip_bom}
-use Rattle.event_csv.specs.Lines.{Line, is_feed, is_long, line_limit, lines_from}
+use Rattle.event_csv.specs.Lines.{GoOn, Line, is_feed, is_long, line_limit, lines_from}
 use Rattle.event_csv.specs.declared.got.Got.{Got}
 use Rattle.event_csv.specs.declared.got.Got.TheVariants as got
 
@@ -68,8 +68,18 @@ LeavesLast fed (got.Line number bytes) = (lines_left fed true ≡ record { numbe
 LeavesLast fed (got.Long number) = ⊥
 LeavesLast fed got.NotYet = lines_left fed true ≡ []
 
+-- the next line is taken, and is gone
+pub record TakesLine (line : Line) (old new : Fed) : Type 0 where
+  pub given : Gives (line ∷ []) old new
+  pub is_line : IsLine line.bytes
+  pub shorter : length new.rest < length old.rest
+
 -- what is taken from a feed: its next line, which is then gone; or none, where the next line is too long, or no line is there yet
 abbrev pub Takes : Fed → Fed → Got → Type 0
-Takes old new (got.Line number bytes) = Gives (record { number = number; bytes = bytes.now } ∷ []) old new × IsLine bytes.now
+Takes old new (got.Line number bytes) = TakesLine (record { number = number; bytes = bytes.now }) old new
 Takes old new (got.Long number) = Gives [] old new × IsLongNext number new
 Takes old new got.NotYet = Gives [] old new × IsPart new
+
+-- whatever bytes come, the lines that were left before the end of the text are left, and come first
+abbrev pub LinesStay : Type 0
+LinesStay = (fed : Fed) (more : List ℕ) (ended : Bool) → GoOn (lines_left fed false) (lines_left (fed_more fed more) ended)

@@ -1,5 +1,5 @@
 -- The lines of an event text.
-use Rattle.std.specs.Prelude.{ℕ, ◌+◌, Bool, true, false, not, ◌&&◌, ◌||◌, ◌==◌, nat_lt, List, [], ◌∷◌, length, take, slice_index, filter, if◌then◌else◌}
+use Rattle.std.specs.Prelude.{ℕ, ◌+◌, Bool, true, false, not, ◌&&◌, ◌||◌, ◌==◌, nat_lt, List, [], ◌∷◌, ◌++◌, ◌≡◌, length, take, slice_index, filter, if◌then◌else◌}
 use Rattle.std.specs.List.{slice_split}
 use Rattle.std.specs.Str.{bytes_eq}
 use Rattle.std.specs.Str.Lines.{strip_carriage_return}
@@ -78,3 +78,8 @@ lines_from gone met text ended =
 -- the lines of an event text, or of its front where it hasn't ended: without a mark at the front, cut at each line feed
 abbrev pub lines : List ℕ → Bool → List Line
 lines text ended = lines_from 0 false (strip_bom text) ended
+
+-- the later lines are the earlier ones, and maybe more behind them
+pub record GoOn (earlier later : List Line) : Type 0 where
+  pub more : List Line
+  pub is : later ≡ earlier ++ more

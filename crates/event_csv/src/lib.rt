@@ -6,7 +6,9 @@
 
 mod feed;
 mod got;
+mod laws;
 mod place;
 
 pub use feed::Feed;
 pub use got::Got;
+pub use laws::lines_stay;

@@ -60,6 +60,7 @@ fn pass_mark(bytes: &[u8], place: &mut Place)
     ensures given { Gives [] (fed_at bytes.now place.old) (fed_at bytes.now place.new) }
     ensures feeds { feeds_so_far (fed_at bytes.now place.new) ≡ feeds_so_far (fed_at bytes.now place.old) }
     ensures begun { BegunOrShort bytes.now place.new }
+    ensures forward { place.old.start ≤ place.new.start }
 {
     if place.begun || bytes.len() - place.start < 3 {
         return;

@@ -31,3 +31,8 @@ returns-clause-taken c =
       c.lines.invariant.given,
       part-left c.args.bytes.now c.lines.place (omega (arith, here.in_order, here.within)) (omega (arith, c.if-bytes-place-gt-LINE_LIMIT.false)) none c.lines.invariant.begun,
     )
+
+pub overflow_add-result : goal.overflow_add-result
+overflow_add-result c =
+    let feed = feed-left c.args.bytes.now c.lines.place c.in-Some.end c.lines.invariant.place c.in-Some.ensures in
+    omega (arith, number-fits c.args.bytes.now c.lines.place c.lines.invariant.place (omega (arith, feed.after, feed.within)))

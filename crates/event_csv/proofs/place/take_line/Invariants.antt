@@ -1,4 +1,4 @@
-use Rattle.std.proofs.Common.{◌≡◌, ◌-◌, [], length}
+use Rattle.std.proofs.Common.{◌≡◌, ◌-◌, ◌≤◌, [], length}
 use Rattle.event_csv.specs.Fed.{Gives, feeds_so_far}
 use Rattle.event_csv.specs.Place.{BegunOrShort, IsPlace, fed_at}
 use Rattle.event_csv.proofs.place.take_line.Given as goal
@@ -6,6 +6,7 @@ use Rattle.event_csv.proofs.place.take_line.Given as goal
 abbrev pub invariant-lines : goal.invariant-lines
 invariant-lines l = record {
   place : IsPlace l.bytes l.place;
+  forward : l.fn.place.start ≤ l.place.start;
   begun : BegunOrShort l.bytes l.place;
   given : Gives [] (fed_at l.bytes l.fn.place) (fed_at l.bytes l.place);
   feeds : feeds_so_far (fed_at l.bytes l.place) ≡ feeds_so_far (fed_at l.bytes l.fn.place);
