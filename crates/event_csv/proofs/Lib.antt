@@ -1,4 +1,11 @@
+pub mod CutFacts
+pub mod DigitFacts
+pub mod EventFacts
 pub mod GoOnFacts
 pub mod LastFacts
 pub mod LineFacts
+pub mod NumberFacts
 pub mod PlaceFacts
+pub mod PlainLines
+pub mod RecordFacts
+pub mod ValueFacts

@@ -1,3 +1,6 @@
+pub mod Event
 pub mod Fed
+pub mod Fields
 pub mod Lines
+pub mod Numbers
 pub mod Place

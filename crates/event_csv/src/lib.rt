@@ -4,11 +4,17 @@
 //! whether a line that isn't empty was met, and the bytes that are left.
 #![tactic(auto)]
 
+mod event;
+mod fault;
 mod feed;
+mod fields;
 mod got;
 mod laws;
+mod numbers;
 mod place;
 
+pub use event::{Seen, read_event};
+pub use fault::{LineFault, ReadFail};
 pub use feed::Feed;
 pub use got::Got;
 pub use laws::lines_stay;
