@@ -1,0 +1,15 @@
+-- A result line, field by field.
+use Rattle.std.proofs.Common.{◌≡◌, ℕ, List, [], ◌∷◌, ◌++◌, refl, sym, map, append-nil, append_assoc}
+use Rattle.std.specs.List.{flat_map, join_with_byte}
+use Rattle.event_types.specs.declared.value.Value.{Value}
+use Rattle.semantics.specs.Report.{value_text}
+
+-- each value behind a comma, by induction on the values
+join-values : (first : List ℕ) (vals : List Value) → join_with_byte 44 (first ∷ map value_text vals) ≡ first ++ flat_map (λ value. 44 ∷ value_text value) vals
+join-values first [] = sym (append-nil first)
+join-values first (value ∷ vals) = rw (join-values (value_text value) vals) refl
+
+-- the name, the times and the values, and then the LF
+pub line-fields : (name from at : List ℕ) (vals : List Value)
+    → name ++ 44 ∷ from ++ 44 ∷ at ++ flat_map (λ value. 44 ∷ value_text value) vals ++ 10 ∷ [] ≡ join_with_byte 44 (name ∷ from ∷ at ∷ map value_text vals) ++ 10 ∷ []
+line-fields name from at vals = rw (join-values at vals) (simp append_assoc)
