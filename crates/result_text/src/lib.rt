@@ -5,3 +5,6 @@ mod fields;
 mod rows;
 
 pub use rows::{append_rows, row};
+
+#[cfg(test)]
+mod tests;
