@@ -37,6 +37,15 @@ and-true : (x : Bool) → (x && true) ≡ x
 and-true true = refl
 and-true false = refl
 
+-- items that tie are one
+pub tied : {X : Type 0} (R : X → X → Ordering) → CmpEqualImpliesEq R → (x y : X) → eq_by_cmp R x y ≡ true → x ≡ y
+tied R exact x y e = exact x y (equal (R x y) e)
+  where
+    equal : (o : Ordering) → is_eq o ≡ true → o ≡ Equal
+    equal Less h = cc
+    equal Equal h = refl
+    equal Greater h = cc
+
 -- whether a test holds of all items is the same of the sorted items, each once
 module _ {X : Type 0} (R : X → X → Ordering) (exact : CmpEqualImpliesEq R) (test : X → Bool) where
   all_put : (x : X) (xs : List X) → list_all test (put R x xs) ≡ (test x && list_all test xs)
@@ -51,22 +60,13 @@ module _ {X : Type 0} (R : X → X → Ordering) (exact : CmpEqualImpliesEq R) (
   all_sort [] = refl
   all_sort (x ∷ xs) = all_put x (sort_by R xs) ∙ ap (λ b. test x && b) (all_sort xs)
 
-  -- items that tie are one
-  tied : (x y : X) → eq_by_cmp R x y ≡ true → x ≡ y
-  tied x y e = exact x y (equal (R x y) e)
-    where
-      equal : (o : Ordering) → is_eq o ≡ true → o ≡ Equal
-      equal Less h = cc
-      equal Equal h = refl
-      equal Greater h = cc
-
   all_dedup_from : (k : X) (xs : List X) → list_all test (dedup_from (eq_by_cmp R) k xs) ≡ (test k && list_all test xs)
   all_dedup_from k [] = refl
   all_dedup_from k (x ∷ xs) = go (all_dedup_from k xs) (all_dedup_from x xs) (eq_by_cmp R x k) refl
     where
       go : list_all test (dedup_from (eq_by_cmp R) k xs) ≡ (test k && list_all test xs) → list_all test (dedup_from (eq_by_cmp R) x xs) ≡ (test x && list_all test xs) → (b : Bool) → eq_by_cmp R x k ≡ b
           → list_all test (cond b (dedup_from (eq_by_cmp R) k xs) (k ∷ dedup_from (eq_by_cmp R) x xs)) ≡ (test k && (test x && list_all test xs))
-      go same other true e = same ∙ and_twice (test k) (list_all test xs) ∙ ap (λ y. test k && (test y && list_all test xs)) (sym (tied x k e))
+      go same other true e = same ∙ and_twice (test k) (list_all test xs) ∙ ap (λ y. test k && (test y && list_all test xs)) (sym (tied R exact x k e))
       go same other false e = ap (λ b. test k && b) other
 
   all_dedup : (xs : List X) → list_all test (dedup (eq_by_cmp R) xs) ≡ list_all test xs

@@ -1,6 +1,6 @@
 //! Laws over canonical forms, nexts and runs. The functions do nothing: their contracts say what follows from the
 //! definitions.
-ghost use Rattle.scalar_expr.specs.CanonicalLaws.{KeepsTruth, PartsKeepTruth};
+ghost use Rattle.scalar_expr.specs.CanonicalLaws.{HasOneForm, KeepsTruth, PartsKeepTruth};
 ghost use Rattle.scalar_expr.specs.NextsLaws.{NextsOfABag, NextsStartLater, RunsEnd};
 
 /// A predicate may be tested by its canonical form, so `normal` keeps the truth.
@@ -11,6 +11,11 @@ pub fn canonical_form_keeps_truth()
 /// A conjunction of the parts of two is true where both are.
 pub fn parts_keep_truth()
     ensures { PartsKeepTruth }
+{}
+
+/// Predicates with the same parts have one canonical form, so states may be shared by it.
+pub fn same_parts_have_one_form()
+    ensures { HasOneForm }
 {}
 
 /// A tuple that starts at or before the binding's detection is never among its nexts.
