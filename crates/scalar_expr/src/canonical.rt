@@ -15,47 +15,47 @@ use std::alloc::Global;
 /// `5 < $2.Price`.
 ///
 /// Want of memory drops the predicate.
-pub fn normal(alloc: Global, p: Pred) -> Result<Conj, Memory>
-    ensures { IfOk result (λ c. c ≡ canonical (pr_of p)) }
+pub fn normal(alloc: Global, predicate: Pred) -> Result<Conj, Memory>
+    ensures { IfOk result (λ condition. condition ≡ canonical (pr_of predicate)) }
 {
     let mut parts = Vec::new(alloc);
-    let mut p = p;
-    turn(&mut p);
-    cut(p, &mut parts)?;
+    let mut predicate = predicate;
+    turn(&mut predicate);
+    cut(predicate, &mut parts)?;
     Ok(Conj::of(parts))
 }
 
 // Turns every comparison round.
-fn turn(p: &mut Pred)
-    ensures { pr_of p.new ≡ turned (pr_of p.old) }
+fn turn(predicate: &mut Pred)
+    ensures { pr_of predicate.new ≡ turned (pr_of predicate.old) }
 {
-    match p {
+    match predicate {
         Pred::True => {}
-        Pred::Test(x, c, y) => turn_test(x, c, y),
-        Pred::And(p, q) => {
-            turn(p);
-            turn(q);
+        Pred::Test(x, cmp, y) => turn_test(x, cmp, y),
+        Pred::And(left, right) => {
+            turn(left);
+            turn(right);
         }
-        Pred::Or(p, q) => {
-            turn(p);
-            turn(q);
+        Pred::Or(left, right) => {
+            turn(left);
+            turn(right);
         }
-        Pred::Not(p) => turn(p),
+        Pred::Not(denied) => turn(denied),
     }
 }
 
 // Turns one comparison round.
-fn turn_test(x: &mut Scalar, c: &mut Cmp, y: &mut Scalar)
-    ensures { Test (sc_of x.new) c.new (sc_of y.new) ≡ turned_test (sc_of x.old) c.old (sc_of y.old) }
+fn turn_test(x: &mut Scalar, cmp: &mut Cmp, y: &mut Scalar)
+    ensures { Test (sc_of x.new) cmp.new (sc_of y.new) ≡ turned_test (sc_of x.old) cmp.old (sc_of y.old) }
 {
-    match *c {
+    match *cmp {
         Cmp::Lt | Cmp::Le => {}
         Cmp::Gt => {
-            *c = Cmp::Lt;
+            *cmp = Cmp::Lt;
             std::mem::swap(x, y);
         }
         Cmp::Ge => {
-            *c = Cmp::Le;
+            *cmp = Cmp::Le;
             std::mem::swap(x, y);
         }
         Cmp::Eq | Cmp::Ne => {
@@ -67,14 +67,14 @@ fn turn_test(x: &mut Scalar, c: &mut Cmp, y: &mut Scalar)
 }
 
 // Puts the parts between the outer ANDs behind those that are there, without TRUE.
-fn cut(p: Pred, parts: &mut Vec<Pred>) -> Result<(), Memory>
-    ensures { OnOk result (map pr_of parts.new.items ≡ map pr_of parts.old.items ++ conjuncts (pr_of p)) }
+fn cut(predicate: Pred, parts: &mut Vec<Pred>) -> Result<(), Memory>
+    ensures { OnOk result (map pr_of parts.new.items ≡ map pr_of parts.old.items ++ conjuncts (pr_of predicate)) }
 {
-    match p {
+    match predicate {
         Pred::True => {}
-        Pred::And(p, q) => {
-            cut(Box::into_inner(p), parts)?;
-            cut(Box::into_inner(q), parts)?;
+        Pred::And(left, right) => {
+            cut(Box::into_inner(left), parts)?;
+            cut(Box::into_inner(right), parts)?;
         }
         part => parts.push(part)?,
     }

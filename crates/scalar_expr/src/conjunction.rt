@@ -65,7 +65,7 @@ impl Conj {
 
     /// The conjunction of the parts of both.
     pub fn both(&self, alloc: Global, other: &Conj) -> Result<Conj, Memory>
-        ensures { IfOk result (λ c. c ≡ distinct_parts (self.now ++ other.now)) }
+        ensures { IfOk result (λ condition. condition ≡ distinct_parts (self.now ++ other.now)) }
     {
         let mut parts = Vec::new(alloc);
         add_copies(alloc, &mut parts, &self.parts)?;
@@ -75,7 +75,7 @@ impl Conj {
 
     /// An equal conjunction.
     pub fn copy(&self, alloc: Global) -> Result<Conj, Memory>
-        ensures { IfOk result (λ c. c ≡ self.now) }
+        ensures { IfOk result (λ copy. copy ≡ self.now) }
     {
         let mut parts = Vec::new(alloc);
         add_copies(alloc, &mut parts, &self.parts)?;
@@ -87,8 +87,8 @@ impl Conj {
 fn add_copies(alloc: Global, parts: &mut Vec<Pred>, more: &[Pred]) -> Result<(), Memory>
     ensures { OnOk result (map pr_of parts.new.items ≡ map pr_of parts.old.items ++ map pr_of more.now) }
 {
-    'more: for p in more {
-        let copy = copy_pred(alloc, p)?;
+    'more: for part in more {
+        let copy = copy_pred(alloc, part)?;
         parts.push(copy)?;
     }
     Ok(())

@@ -9,10 +9,10 @@ use std::alloc::Global;
 
 // An equal scalar.
 #[cycle(copies)]
-pub(crate) fn copy_scalar(alloc: Global, s: &Scalar) -> Result<Scalar, Memory>
-    ensures { IfOk result (λ copy. sc_of copy ≡ sc_of s.now) }
+pub(crate) fn copy_scalar(alloc: Global, scalar: &Scalar) -> Result<Scalar, Memory>
+    ensures { IfOk result (λ copy. sc_of copy ≡ sc_of scalar.now) }
 {
-    match s {
+    match scalar {
         Scalar::Lit(value) => Ok(Scalar::Lit(value.copied(alloc)?)),
         Scalar::Event(place) => Ok(Scalar::Event(*place)),
         Scalar::Binding(place) => Ok(Scalar::Binding(*place)),
@@ -27,37 +27,37 @@ pub(crate) fn copy_scalar(alloc: Global, s: &Scalar) -> Result<Scalar, Memory>
 
 // An equal scalar in a box.
 #[cycle(copies)]
-fn boxed(alloc: Global, s: &Scalar) -> Result<Box<Scalar>, Memory>
-    ensures { IfOk result (λ copy. sc_of copy.value ≡ sc_of s.now) }
+fn boxed(alloc: Global, scalar: &Scalar) -> Result<Box<Scalar>, Memory>
+    ensures { IfOk result (λ copy. sc_of copy.value ≡ sc_of scalar.now) }
 {
-    let copy = copy_scalar(alloc, s)?;
+    let copy = copy_scalar(alloc, scalar)?;
     Ok(Box::new(alloc, copy)?)
 }
 
 // An equal predicate.
-pub(crate) fn copy_pred(alloc: Global, p: &Pred) -> Result<Pred, Memory>
-    ensures { IfOk result (λ copy. pr_of copy ≡ pr_of p.now) }
+pub(crate) fn copy_pred(alloc: Global, predicate: &Pred) -> Result<Pred, Memory>
+    ensures { IfOk result (λ copy. pr_of copy ≡ pr_of predicate.now) }
 {
-    match p {
+    match predicate {
         Pred::True => Ok(Pred::True),
-        Pred::Test(x, c, y) => {
+        Pred::Test(x, cmp, y) => {
             let x = copy_scalar(alloc, x)?;
             let y = copy_scalar(alloc, y)?;
-            Ok(Pred::Test(x, *c, y))
+            Ok(Pred::Test(x, *cmp, y))
         }
-        Pred::And(p, q) => {
-            let p = copy_pred(alloc, p)?;
-            let q = copy_pred(alloc, q)?;
-            Ok(Pred::And(Box::new(alloc, p)?, Box::new(alloc, q)?))
+        Pred::And(left, right) => {
+            let left = copy_pred(alloc, left)?;
+            let right = copy_pred(alloc, right)?;
+            Ok(Pred::And(Box::new(alloc, left)?, Box::new(alloc, right)?))
         }
-        Pred::Or(p, q) => {
-            let p = copy_pred(alloc, p)?;
-            let q = copy_pred(alloc, q)?;
-            Ok(Pred::Or(Box::new(alloc, p)?, Box::new(alloc, q)?))
+        Pred::Or(left, right) => {
+            let left = copy_pred(alloc, left)?;
+            let right = copy_pred(alloc, right)?;
+            Ok(Pred::Or(Box::new(alloc, left)?, Box::new(alloc, right)?))
         }
-        Pred::Not(p) => {
-            let p = copy_pred(alloc, p)?;
-            Ok(Pred::Not(Box::new(alloc, p)?))
+        Pred::Not(denied) => {
+            let denied = copy_pred(alloc, denied)?;
+            Ok(Pred::Not(Box::new(alloc, denied)?))
         }
     }
 }

@@ -10,11 +10,11 @@ use event_types::{Kind, Kinds, Value};
 /// The kind of a scalar over an event and a binding of these kinds.
 ///
 /// DUR and each operation are numbers, whatever their operands. Takes no memory.
-pub fn kind_of(s: &Scalar, event: &Kinds, binding: Option<&Kinds>) -> Kind
-    requires { HasPlace (sc_of s.now) event.now (option_copied binding) }
-    ensures { result ≡ sc_kind (sc_of s.now) event.now (option_copied binding.entry) }
+pub fn kind_of(scalar: &Scalar, event: &Kinds, binding: Option<&Kinds>) -> Kind
+    requires { HasPlace (sc_of scalar.now) event.now (option_copied binding) }
+    ensures { result ≡ sc_kind (sc_of scalar.now) event.now (option_copied binding.entry) }
 {
-    match s {
+    match scalar {
         Scalar::Lit(value) => literal_kind(value),
         Scalar::Event(place) => *event.get(*place),
         Scalar::Binding(place) => match binding {

@@ -52,8 +52,8 @@ fn compare_preds(p: &Pred, q: &Pred) -> Ordering
     ensures { result ≡ pr_cmp (pr_of p.now) (pr_of q.now) }
 {
     match (p, q) {
-        (Pred::Test(x, c, y), Pred::Test(v, d, w)) => compare_scalars(x, v)
-            .then(c.cmp(d))
+        (Pred::Test(x, cmp, y), Pred::Test(v, other, w)) => compare_scalars(x, v)
+            .then(cmp.cmp(other))
             .then(compare_scalars(y, w)),
         (Pred::And(p, q), Pred::And(r, s)) => compare_preds(p, r).then(compare_preds(q, s)),
         (Pred::Or(p, q), Pred::Or(r, s)) => compare_preds(p, r).then(compare_preds(q, s)),

@@ -32,35 +32,35 @@ pub enum Part<'a> {
 }
 
 // The class of a predicate.
-pub(crate) fn classed(p: &Pred) -> Part<'_>
-    ensures { class_seen result ≡ class_of (pr_of p.now) }
+pub(crate) fn classed(predicate: &Pred) -> Part<'_>
+    ensures { class_seen result ≡ class_of (pr_of predicate.now) }
 {
-    match p {
-        Pred::Test(x, c, y) => test_class(x, *c, y),
+    match predicate {
+        Pred::Test(x, cmp, y) => test_class(x, *cmp, y),
         _ => Part::Rest,
     }
 }
 
 // The class of a comparison.
-fn test_class<'a>(x: &'a Scalar, c: Cmp, y: &'a Scalar) -> Part<'a>
-    ensures { class_seen result ≡ class_of (Test (sc_of x.entry.now) c (sc_of y.entry.now)) }
+fn test_class<'a>(x: &'a Scalar, cmp: Cmp, y: &'a Scalar) -> Part<'a>
+    ensures { class_seen result ≡ class_of (Test (sc_of x.entry.now) cmp (sc_of y.entry.now)) }
 {
     match x {
         Scalar::Event(place) => match y {
-            Scalar::Lit(lit) => fixed_part(*place, c, lit),
-            Scalar::Binding(bound) => key_part(*place, c, *bound),
+            Scalar::Lit(lit) => fixed_part(*place, cmp, lit),
+            Scalar::Binding(bound) => key_part(*place, cmp, *bound),
             _ => Part::Rest,
         },
         Scalar::Lit(lit) => match y {
-            Scalar::Event(place) => fixed_part(*place, exchange(c), lit),
+            Scalar::Event(place) => fixed_part(*place, exchange(cmp), lit),
             _ => Part::Rest,
         },
         Scalar::Binding(bound) => match y {
-            Scalar::Event(place) => key_part(*place, c, *bound),
+            Scalar::Event(place) => key_part(*place, cmp, *bound),
             _ => Part::Rest,
         },
         Scalar::Dur => match y {
-            Scalar::Lit(lit) => bound_part(c, lit),
+            Scalar::Lit(lit) => bound_part(cmp, lit),
             _ => Part::Rest,
         },
         _ => Part::Rest,
@@ -68,10 +68,10 @@ fn test_class<'a>(x: &'a Scalar, c: Cmp, y: &'a Scalar) -> Part<'a>
 }
 
 // The comparison that says the same with its operands exchanged.
-fn exchange(c: Cmp) -> Cmp
-    ensures { result ≡ exchanged c }
+fn exchange(cmp: Cmp) -> Cmp
+    ensures { result ≡ exchanged cmp }
 {
-    match c {
+    match cmp {
         Cmp::Eq => Cmp::Eq,
         Cmp::Ne => Cmp::Ne,
         Cmp::Lt => Cmp::Gt,

@@ -59,8 +59,8 @@ fn copy_scalars(alloc: Global, scalars: &[Scalar]) -> Result<Scalars, Memory>
     ensures { IfOk result (λ copies. map sc_of copies ≡ map sc_of scalars.now) }
 {
     let mut copies = List::new(alloc);
-    'scalars: for s in scalars {
-        let copy = copy_scalar(alloc, s)?;
+    'scalars: for scalar in scalars {
+        let copy = copy_scalar(alloc, scalar)?;
         if copies.push(copy).is_err() {
             return Err(Memory);
         }
@@ -71,17 +71,17 @@ fn copy_scalars(alloc: Global, scalars: &[Scalar]) -> Result<Scalars, Memory>
 /// The tuple of a projection's values over an event and a binding, with these times.
 pub fn apply(
     alloc: Global,
-    m: &Map,
-    e: &Tuple,
-    b: Option<&Tuple>,
+    projection: &Map,
+    event: &Tuple,
+    binding: Option<&Tuple>,
     from: u64,
     at: u64,
 ) -> Result<Tuple, Memory>
     requires in_order { from ≤ at }
-    requires fits { All (λ s. Fits s e.now (option_copied b)) m.now.parts }
-    ensures { IfOk result (λ t. t ≡ applied m.now.parts e.now (option_copied b.entry) from at) }
+    requires fits { All (λ s. Fits s event.now (option_copied binding)) projection.now.parts }
+    ensures { IfOk result (λ tuple. tuple ≡ applied projection.now.parts event.now (option_copied binding.entry) from at) }
 {
-    let vals = values_of(alloc, m.scalars(), e, b)?;
+    let vals = values_of(alloc, projection.scalars(), event, binding)?;
     Ok(spanning(vals, from, at))
 }
 
@@ -89,15 +89,15 @@ pub fn apply(
 fn values_of(
     alloc: Global,
     scalars: &[Scalar],
-    e: &Tuple,
-    b: Option<&Tuple>,
+    event: &Tuple,
+    binding: Option<&Tuple>,
 ) -> Result<Vals, Memory>
-    requires { All (λ s. Fits (sc_of s) e.now (option_copied b)) scalars.now }
-    ensures { IfOk result (λ vals. vals ≡ map (λ s. val (sc_of s) e.now (option_copied b.entry)) scalars.now) }
+    requires { All (λ s. Fits (sc_of s) event.now (option_copied binding)) scalars.now }
+    ensures { IfOk result (λ vals. vals ≡ map (λ s. val (sc_of s) event.now (option_copied binding.entry)) scalars.now) }
 {
     let mut vals = List::new(alloc);
-    'scalars: for s in scalars {
-        let value = value_of(s, e, b).to_value(alloc)?;
+    'scalars: for scalar in scalars {
+        let value = value_of(scalar, event, binding).to_value(alloc)?;
         if vals.push(value).is_err() {
             return Err(Memory);
         }

@@ -17,34 +17,44 @@ use std::cmp::Ordering;
 /// Whether all parts hold over an event and a binding.
 ///
 /// Takes no memory.
-pub fn holds<L: Ledger>(c: &Conj, e: &Tuple, b: Option<&Tuple>, steps: &mut Steps<L>) -> bool
-    requires { AllFit c.now e.now (option_copied b) }
-    ensures value { result ≡ all_true c.now e.now (option_copied b.entry) }
+pub fn holds<L: Ledger>(
+    condition: &Conj,
+    event: &Tuple,
+    binding: Option<&Tuple>,
+    steps: &mut Steps<L>,
+) -> bool
+    requires { AllFit condition.now event.now (option_copied binding) }
+    ensures value { result ≡ all_true condition.now event.now (option_copied binding.entry) }
     ensures ticks { steps.new ≡ steps.old + 1 }
 {
     steps.tick();
-    all_hold(c.parts(), e, b)
+    all_hold(condition.parts(), event, binding)
 }
 
 // Whether each of the predicates holds.
-fn all_hold(parts: &[Pred], e: &Tuple, b: Option<&Tuple>) -> bool
-    requires { All (λ p. PredFits (pr_of p) e.now (option_copied b)) parts.now }
-    ensures { result ≡ list_all (λ p. truth (pr_of p) e.now (option_copied b.entry)) parts.now }
+fn all_hold(parts: &[Pred], event: &Tuple, binding: Option<&Tuple>) -> bool
+    requires { All (λ p. PredFits (pr_of p) event.now (option_copied binding)) parts.now }
+    ensures { result ≡ list_all (λ p. truth (pr_of p) event.now (option_copied binding.entry)) parts.now }
 {
-    parts.iter().all(|p| is_true(p, e, b))
+    parts.iter().all(|part| is_true(part, event, binding))
 }
 
 // Whether a predicate holds.
-fn is_true(p: &Pred, e: &Tuple, b: Option<&Tuple>) -> bool
-    requires { PredFits (pr_of p.now) e.now (option_copied b) }
-    ensures { result ≡ truth (pr_of p.now) e.now (option_copied b.entry) }
+fn is_true(predicate: &Pred, event: &Tuple, binding: Option<&Tuple>) -> bool
+    requires { PredFits (pr_of predicate.now) event.now (option_copied binding) }
+    ensures { result ≡ truth (pr_of predicate.now) event.now (option_copied binding.entry) }
 {
-    match p {
+    match predicate {
         Pred::True => true,
-        Pred::Test(x, c, y) => is_accepted(*c, order(value_of(x, e, b), value_of(y, e, b))),
-        Pred::And(p, q) => is_true(p, e, b) && is_true(q, e, b),
-        Pred::Or(p, q) => is_true(p, e, b) || is_true(q, e, b),
-        Pred::Not(p) => !is_true(p, e, b),
+        Pred::Test(x, cmp, y) => {
+            is_accepted(
+                *cmp,
+                order(value_of(x, event, binding), value_of(y, event, binding)),
+            )
+        }
+        Pred::And(left, right) => is_true(left, event, binding) && is_true(right, event, binding),
+        Pred::Or(left, right) => is_true(left, event, binding) || is_true(right, event, binding),
+        Pred::Not(denied) => !is_true(denied, event, binding),
     }
 }
 
@@ -60,12 +70,12 @@ fn order(x: ValueRef<'_>, y: ValueRef<'_>) -> Option<Ordering>
 }
 
 // Whether a comparison accepts the order of its operands.
-fn is_accepted(c: Cmp, order: Option<Ordering>) -> bool
-    ensures { result ≡ is_met c order }
+fn is_accepted(cmp: Cmp, order: Option<Ordering>) -> bool
+    ensures { result ≡ is_met cmp order }
 {
     match order {
         None => false,
-        Some(order) => match c {
+        Some(order) => match cmp {
             Cmp::Eq => order.is_eq(),
             Cmp::Ne => order.is_ne(),
             Cmp::Lt => order.is_lt(),

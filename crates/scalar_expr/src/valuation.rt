@@ -13,35 +13,39 @@ use event_types::{Tuple, ValueRef};
 /// The value of a scalar over an event and a binding.
 ///
 /// Takes no memory.
-pub fn value_of<'a>(s: &'a Scalar, e: &'a Tuple, b: Option<&'a Tuple>) -> ValueRef<'a>
-    requires { Fits (sc_of s.now) e.now (option_copied b) }
-    ensures { seen result ≡ val (sc_of s.now) e.now (option_copied b.entry) }
+pub fn value_of<'a>(
+    scalar: &'a Scalar,
+    event: &'a Tuple,
+    binding: Option<&'a Tuple>,
+) -> ValueRef<'a>
+    requires { Fits (sc_of scalar.now) event.now (option_copied binding) }
+    ensures { seen result ≡ val (sc_of scalar.now) event.now (option_copied binding.entry) }
 {
-    match s {
+    match scalar {
         Scalar::Lit(value) => value.look(),
-        Scalar::Event(place) => e.vals().get(*place).look(),
-        Scalar::Binding(place) => match b {
+        Scalar::Event(place) => event.vals().get(*place).look(),
+        Scalar::Binding(place) => match binding {
             Some(binding) => binding.vals().get(*place).look(),
             None => unreachable!(),
         },
-        Scalar::Dur => ValueRef::Int(span(e, b)),
-        Scalar::Add(x, y) => sum(value_of(x, e, b), value_of(y, e, b)),
-        Scalar::Sub(x, y) => difference(value_of(x, e, b), value_of(y, e, b)),
-        Scalar::Mul(x, y) => product(value_of(x, e, b), value_of(y, e, b)),
-        Scalar::Min(x, y) => smaller(value_of(x, e, b), value_of(y, e, b)),
-        Scalar::Max(x, y) => larger(value_of(x, e, b), value_of(y, e, b)),
+        Scalar::Dur => ValueRef::Int(span(event, binding)),
+        Scalar::Add(x, y) => sum(value_of(x, event, binding), value_of(y, event, binding)),
+        Scalar::Sub(x, y) => difference(value_of(x, event, binding), value_of(y, event, binding)),
+        Scalar::Mul(x, y) => product(value_of(x, event, binding), value_of(y, event, binding)),
+        Scalar::Min(x, y) => smaller(value_of(x, event, binding), value_of(y, event, binding)),
+        Scalar::Max(x, y) => larger(value_of(x, event, binding), value_of(y, event, binding)),
     }
 }
 
 // How long an event lasts, or how long it comes after the start of its binding.
-fn span(e: &Tuple, b: Option<&Tuple>) -> i128
-    ensures { result ≡ pos e.now.at -ℤ pos (span_start e.now (option_copied b.entry)) }
+fn span(event: &Tuple, binding: Option<&Tuple>) -> i128
+    ensures { result ≡ pos event.now.at -ℤ pos (span_start event.now (option_copied binding.entry)) }
 {
-    let start = match b {
+    let start = match binding {
         Some(binding) => binding.from(),
-        None => e.from(),
+        None => event.from(),
     };
-    e.at() as i128 - start as i128
+    event.at() as i128 - start as i128
 }
 
 // The sum, or OVER.

@@ -4,4 +4,4 @@ use Rattle.scalar_expr.proofs.projection.copy_scalars.Given as goal
 
 -- the copies are those of the scalars so far
 abbrev pub invariant-scalars : goal.invariant-scalars
-invariant-scalars l = map sc_of l.copies ≡ map sc_of (take l.s-index l.scalars)
+invariant-scalars l = map sc_of l.copies ≡ map sc_of (take l.scalar-index l.scalars)

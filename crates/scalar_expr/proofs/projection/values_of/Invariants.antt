@@ -7,4 +7,4 @@ use Rattle.scalar_expr.proofs.projection.values_of.Given as goal
 
 -- the values are those of the scalars so far
 abbrev pub invariant-scalars : goal.invariant-scalars
-invariant-scalars l = l.vals ≡ map (λ (s : Scalar). val (sc_of s) l.e (option_copied l.b)) (take l.s-index l.scalars)
+invariant-scalars l = l.vals ≡ map (λ (s : Scalar). val (sc_of s) l.event (option_copied l.binding)) (take l.scalar-index l.scalars)

@@ -10,9 +10,9 @@ use Rattle.scalar_expr.proofs.SeenLemmas.{All-seen}
 use Rattle.scalar_expr.proofs.truth.holds.Goals as goal
 
 pub all_hold-requires : goal.all_hold-requires
-all_hold-requires g c = All-seen (λ q. PredFits q c.args.e.now (option_copied c.args.b)) pr_of _ _ c.parts.ensures c.requires
+all_hold-requires g c = All-seen (λ q. PredFits q c.args.event.now (option_copied c.args.binding)) pr_of _ _ c.parts.ensures c.requires
 
 pub returns-clause-value : goal.returns-clause-value
 returns-clause-value g c =
-    let test = λ (q : Pr). truth q c.args.e.now (option_copied c.args.b) in
+    let test = λ (q : Pr). truth q c.args.event.now (option_copied c.args.binding) in
     c.all_hold.ensures ∙ sym (list_all-map test pr_of c.parts.result.now) ∙ ap (list_all test) c.parts.ensures
