@@ -19,7 +19,7 @@ use Rattle.semantics.specs.Scalars.{Sc, Pr, True, Test, And, Or, Not}
 use Rattle.semantics.specs.Values.{val}
 use Rattle.semantics.specs.Truth.{truth, all_true, order_of, is_accepted, is_met}
 use Rattle.scalar_expr.specs.TermOrder.{sc_cmp, pr_cmp}
-use Rattle.scalar_expr.specs.TermOrderLaws.{pr_exact}
+use Rattle.scalar_expr.proofs.TermOrderLemmas.{pr_exact}
 use Rattle.scalar_expr.specs.Canonical.{canonical, conjuncts, distinct_parts, test_in_order, turned, turned_test}
 use Rattle.scalar_expr.specs.Classes.{exchanged}
 

@@ -6,3 +6,4 @@ pub mod OneForm
 pub mod RunsLemmas
 pub mod SeenLemmas
 pub mod SortedLemmas
+pub mod TermOrderLemmas

@@ -10,7 +10,8 @@ use Rattle.std.proofs.lemmas.Map.Lookups.{CmpEqualImpliesEq, btree_set_from_cont
 use Rattle.event_types.specs.Order.{put, sort_by}
 use Rattle.semantics.specs.Scalars.{Pr}
 use Rattle.scalar_expr.specs.TermOrder.{pr_cmp}
-use Rattle.scalar_expr.specs.TermOrderLaws.{pr_total, pr_exact}
+use Rattle.scalar_expr.specs.TermOrderLaws.{pr_total}
+use Rattle.scalar_expr.proofs.TermOrderLemmas.{pr_exact}
 use Rattle.scalar_expr.specs.Canonical.{distinct_parts}
 use Rattle.scalar_expr.specs.CanonicalLaws.{is_part}
 use Rattle.scalar_expr.proofs.CanonicalLaws.{tied}

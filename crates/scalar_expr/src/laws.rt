@@ -1,5 +1,5 @@
-//! Laws over canonical forms, nexts and runs. The functions do nothing: their contracts say what follows from the
-//! definitions.
+//! Laws over canonical forms, nexts and runs. The functions do nothing: their contracts say what
+//! follows from the definitions.
 ghost use Rattle.scalar_expr.specs.CanonicalLaws.{HasOneForm, KeepsTruth, PartsKeepTruth};
 ghost use Rattle.scalar_expr.specs.NextsLaws.{NextsOfABag, NextsStartLater, RunsEnd};
 

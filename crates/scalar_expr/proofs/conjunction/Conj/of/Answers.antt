@@ -5,7 +5,8 @@ use Rattle.std.proofs.lemmas.List.Filters.{dedup_is}
 use Rattle.std.proofs.lemmas.List.Sorted.{IsPermutation-map}
 use Rattle.event_types.proofs.SortLemmas.{sorted_is}
 use Rattle.scalar_expr.specs.TermOrder.{pr_cmp, pred_cmp}
-use Rattle.scalar_expr.specs.TermOrderLaws.{pr_exact, pr_total}
+use Rattle.scalar_expr.specs.TermOrderLaws.{pr_total}
+use Rattle.scalar_expr.proofs.TermOrderLemmas.{pr_exact}
 use Rattle.scalar_expr.specs.Views.{pr_of}
 use Rattle.scalar_expr.proofs.CanonicalLemmas.{map-dedup_all, IsSorted-map}
 use Rattle.scalar_expr.proofs.conjunction.Conj.of.Goals as goal
