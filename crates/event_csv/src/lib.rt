@@ -18,3 +18,6 @@ pub use fault::{LineFault, ReadFail};
 pub use feed::Feed;
 pub use got::Got;
 pub use laws::lines_stay;
+
+#[cfg(test)]
+mod tests;
