@@ -6,6 +6,7 @@ ghost use Rattle.cel_lexer.specs.Numbers.{number_piece};
 use crate::pieces::Piece;
 use crate::token::What;
 
+// 2^127 - 1.
 const GREATEST: u128 = 0x7FFF_FFFF_FFFF_FFFF_FFFF_FFFF_FFFF_FFFF;
 
 /// The number at the front of a text that begins with a digit.

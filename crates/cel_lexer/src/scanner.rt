@@ -11,7 +11,7 @@ use crate::token::Token;
 use crate::tokens::Tokens;
 use std::alloc::Global;
 
-/// The tokens of a text, or its first fault.
+/// The tokens of a query text, or its first fault. A mark EF BB BF at the front is skipped.
 pub fn lex(alloc: Global, text: &[u8]) -> Result<Tokens<'_>, LexFault>
     ensures source { IfOk result (λ found. found.source ≡ text.now) }
     ensures items { IfOk result (λ found. tokens_of text.now ≡ Ok found.items) }
@@ -79,6 +79,7 @@ fn mark_len(text: &[u8]) -> usize
     }
 }
 
+// How many line feeds a text has.
 fn line_feeds(text: &[u8]) -> u64
     ensures { result ≡ count_by is_line_feed text.now }
 {

@@ -36,6 +36,7 @@ fn begins_with_side(text: &[u8]) -> bool
     }
 }
 
+// Whether a byte alone is a sign.
 #[tactic(auto, unfolding(crate::specs::Signs::is_sign))]
 fn is_sign(b: u8) -> bool
     ensures { result ≡ is_sign b }

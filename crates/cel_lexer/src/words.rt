@@ -7,6 +7,7 @@ use crate::bytes::is_word_byte;
 use crate::pieces::Piece;
 use crate::token::What;
 
+// The words that are no names.
 const KEYWORDS: [&[u8]; 18] = [
     b"STREAM", b"INT", b"TEXT", b"SELECT", b"AS", b"FROM", b"PUBLISH", b"FILTER", b"NEXT", b"FOLD",
     b"UNION", b"AND", b"OR", b"NOT", b"TRUE", b"DUR", b"MIN", b"MAX",
@@ -31,6 +32,7 @@ fn word_len(text: &[u8]) -> usize
     text.iter().take_while(|b| is_word_byte(**b)).count()
 }
 
+// Whether a word is a keyword or a name.
 fn word_kind(word: &[u8]) -> What
     ensures { result ≡ (if is_keyword word.now then What.Keyword else What.Name) }
 {
@@ -41,6 +43,7 @@ fn word_kind(word: &[u8]) -> What
     }
 }
 
+// Whether a word is one of the keywords.
 #[tactic(auto, unfolding(crate::specs::Words::is_keyword))]
 fn is_keyword(word: &[u8]) -> bool
     ensures { result ≡ is_keyword word.now }

@@ -1,0 +1,12 @@
+pub mod ScalarKeeps
+pub mod ScalarSound
+pub mod ScalarComplete
+pub mod PredicateKeeps
+pub mod PredicateSound
+pub mod PredicateComplete
+pub mod SourceKeeps
+pub mod SourceSound
+pub mod SourceComplete
+pub mod StatementComplete
+pub mod Whole
+pub mod StatementSound

@@ -1,0 +1,5 @@
+pub mod ScalarReader
+pub mod PredicateReader
+pub mod SourceReader
+pub mod StatementReader
+pub mod Laws

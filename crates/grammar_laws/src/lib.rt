@@ -1,0 +1,23 @@
+//! Laws of the grammar: no symbols have two readings, and what a parenthesis holds tells what it is.
+//!
+//! The functions here do nothing, and their contracts say what follows from the definitions. Readers
+//! over symbols stand in `specs/`; that they read what is in the grammar, and nothing else, stands in
+//! `proofs/`, for the parser.
+#![tactic(auto)]
+
+ghost use Rattle.grammar_laws.specs.Laws.{OneFile, OnePred, OneScalar, OneSource, OneStatement, ParenLaw};
+
+/// Symbols have at most one reading.
+pub fn one_reading()
+    ensures scalar { OneScalar }
+    ensures predicate { OnePred }
+    ensures source { OneSource }
+    ensures statement { OneStatement }
+    ensures file { OneFile }
+{}
+
+/// A parenthesis that holds a comparison, TRUE, NOT, AND or OR is a predicate's, any other one is a
+/// scalar's.
+pub fn parentheses_tell()
+    ensures { ParenLaw }
+{}
