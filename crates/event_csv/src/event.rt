@@ -1,8 +1,8 @@
 //! The event of a line.
-ghost use Rattle.std.specs.Prelude.{◌≡◌, ◌+◌, ◌<◌, ◌≤◌, ◌∷◌, [], Ok, Err, Some, None, length, map, option_map, slice_get, IfOk, IfErr, IfSome, OnOk};
+ghost use Rattle.std.specs.Prelude.{◌≡◌, ◌+◌, ◌<◌, ◌≤◌, length, IfOk, IfErr, IfSome};
 ghost use Rattle.stream_schema.specs.Schema.{kinds_of};
 ghost use Rattle.stream_schema.specs.Streams.{number_of, schemas_of};
-ghost use Rattle.event_csv.specs.Event.{Tells, ValuesTell, counted_event, declared_stream, event, fields_event, known_event, span_of, stream_with, value_of, values_of};
+ghost use Rattle.event_csv.specs.Event.{Tells, ValuesTell, counted_event, declared_stream, event, fields_event, span_of, stream_with, value_of, values_of};
 ghost use Rattle.event_csv.specs.Fed.{IsLine};
 ghost use Rattle.event_csv.specs.Fields.{fields_left};
 
@@ -49,14 +49,14 @@ fn read_fields(alloc: Global, streams: &Streams, fields: Fields<'_>) -> Result<S
     let Some(name) = fields.next() else {
         return Err(ReadFail::Bad(LineFault::UnknownStream));
     };
-    let Some(stream) = declared(streams, name) else {
+    let Some(stream) = find_declared(streams, name) else {
         return Err(ReadFail::Bad(LineFault::UnknownStream));
     };
     read_tuple(alloc, stream, streams.schema(stream), got, fields)
 }
 
 // The number of the declared stream of a name.
-fn declared(streams: &Streams, name: &str) -> Option<StreamId>
+fn find_declared(streams: &Streams, name: &str) -> Option<StreamId>
     ensures within { IfSome result (λ stream. stream < length streams.now) }
     ensures value { declared_stream streams.now (number_of name.now streams.now) ≡ stream_with (schemas_of streams.now) result }
 {

@@ -1,5 +1,4 @@
 //! Why an event line isn't read.
-use event_types::Memory;
 
 /// What is wrong with an event line: the first of these, in this order. Fields are counted from 1.
 #[derive(Clone, Copy, PartialEq, Eq, Debug, Drop)]
@@ -21,10 +20,4 @@ pub enum LineFault {
 pub enum ReadFail {
     Bad(LineFault),
     Memory,
-}
-
-impl From<Memory> for ReadFail {
-    fn from(_error: Memory) -> ReadFail {
-        ReadFail::Memory
-    }
 }

@@ -1,5 +1,5 @@
 //! The fields of an event line, one after another.
-ghost use Rattle.std.specs.Prelude.{◌≡◌, ◌==◌, ◌+◌, ◌∷◌, [], Some, None, length, count_by, IfOk, MatchOption, option_map, false, true, ◌<◌};
+ghost use Rattle.std.specs.Prelude.{◌≡◌, ◌==◌, ◌∷◌, [], Some, length, count_by, IfOk, MatchOption, option_map, false, true, ◌<◌};
 ghost use Rattle.std.specs.List.{list_all, position_or_len};
 ghost use Rattle.csv.specs.Reading.{strip_bom};
 ghost use Rattle.csv.specs.Records.{fields_of};

@@ -1,8 +1,8 @@
 //! The place in a feed's bytes up to which lines were taken, and the search for the next line.
-ghost use Rattle.std.specs.Prelude.{◌≡◌, ◌+◌, ◌-◌, ◌<◌, ◌≤◌, true, false, Some, None, [], ◌∷◌, length, drop, slice_index, take, MatchOption};
+ghost use Rattle.std.specs.Prelude.{◌≡◌, ◌+◌, ◌-◌, ◌≤◌, true, [], ◌∷◌, length, drop, slice_index, MatchOption};
 ghost use Rattle.std.specs.Str.Lines.{strip_carriage_return};
 ghost use Rattle.csv.specs.Reading.{is_bom, strip_bom};
-ghost use Rattle.event_csv.specs.Lines.{begins_with_field, is_empty, is_feed, is_header as header_test, line_limit};
+ghost use Rattle.event_csv.specs.Lines.{begins_with_field, is_header as header_test, line_limit};
 ghost use Rattle.event_csv.specs.Fed.{Gives, IsLine, Takes, feeds_in, feeds_so_far};
 ghost use Rattle.event_csv.specs.Place.{BegunOrShort, IsFeedAt, IsPlace, NoFeed, fed_at, is_skipped as skip_test, met_after};
 
