@@ -12,7 +12,7 @@ pub record Attaches (side : Side) (name : List ℕ) (old new : Told) : Type 0 wh
   pub attached : new.attached ≡ with_side side true old.attached
   pub left : new.left ≡ with_side side (file_of name old.files) old.left
 
--- no side is attached: the count of faults rose, or the host tells that it has no such file
+-- the sides stay as they were: the count of faults rose, or the host tells that it has no such file
 pub record AttachFails (name : List ℕ) (old new : Told) : Type 0 where
   pub cause : lacks name old.files ≡ false → Rose old.attach_faults new.attach_faults
   pub absent : lacks name old.files ≡ true → new.attach_faults ≡ old.attach_faults

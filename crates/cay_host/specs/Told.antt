@@ -1,5 +1,5 @@
 -- What a host tells of itself.
-use Rattle.std.specs.Prelude.{◌≡◌, ℕ, List, Bool, false, Option}
+use Rattle.std.specs.Prelude.{◌≡◌, ◌≤◌, ◌-◌, ◌^◌, ℕ, List, Bool, false, Option}
 use Rattle.cay_host.specs.declared.side.Side.{Side}
 use Rattle.cay_host.specs.declared.side.Side.TheVariants.{Queries, Events}
 use Rattle.cay_host.specs.Files.{Files}
@@ -20,6 +20,12 @@ pub record Told : Type 0 where
   pub written : Option (List ℕ)
   -- the number of LF bytes written, where it is told; it stays at 2^64-1 once it is there
   pub lines : Option ℕ
+
+-- each count of faults is at most 2^64-1
+pub record IsBounded (told : Told) : Type 0 where
+  pub attach_faults : told.attach_faults ≤ 2 ^ 64 - 1
+  pub read_faults : told.read_faults ≤ 2 ^ 64 - 1
+  pub write_faults : told.write_faults ≤ 2 ^ 64 - 1
 
 -- no side is attached
 pub record IsFree (told : Told) : Type 0 where

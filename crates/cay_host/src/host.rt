@@ -1,6 +1,6 @@
 //! The calls by which a run reads its files and writes its output.
 ghost use Rattle.std.specs.Prelude.{◌≡◌, ◌<◌, true, false, length, IfOk, OnOk, OnErr};
-ghost use Rattle.cay_host.specs.Told.{Told};
+ghost use Rattle.cay_host.specs.Told.{Told, IsBounded};
 ghost use Rattle.cay_host.specs.Faults.{Rose};
 ghost use Rattle.cay_host.specs.Attaching.{Attaches, AttachFails, SameButSides};
 ghost use Rattle.cay_host.specs.Input.{Took, SameButRead};
@@ -21,8 +21,10 @@ pub trait Host {
     fn attach(&mut self, side: Side, name: &str) -> Result<(), Failed>
         requires { (told self.old).attached side ≡ false }
         ensures ok { OnOk result (Attaches side name.now (told self.old) (told self.new)) }
+        ensures quiet { OnOk result ((told self.new).attach_faults ≡ (told self.old).attach_faults) }
         ensures failed { OnErr result (AttachFails name.now (told self.old) (told self.new)) }
-        ensures same { SameButSides (told self.old) (told self.new) };
+        ensures same { SameButSides (told self.old) (told self.new) }
+        ensures bounded { IsBounded (told self.new) };
 
     /// Reads the next bytes of a side to the front of the buffer: as many as the host likes, and
     /// none only at the end.
@@ -31,15 +33,19 @@ pub trait Host {
         requires room { 0 < length buf.old }
         ensures took { let left = (told self.old).left side in
             IfOk result (λ n. Took n buf.new left ((told self.new).left side)) }
+        ensures quiet { OnOk result ((told self.new).read_faults ≡ (told self.old).read_faults) }
         ensures kept { OnErr result ((told self.new).left ≡ (told self.old).left) }
         ensures cause { OnErr result (Rose (told self.old).read_faults (told self.new).read_faults) }
-        ensures same { SameButRead side (told self.old) (told self.new) };
+        ensures same { SameButRead side (told self.old) (told self.new) }
+        ensures bounded { IsBounded (told self.new) };
 
     /// Appends the first bytes to the output: as many as the host likes, and at least one.
     fn write(&mut self, bytes: &[u8]) -> Result<usize, Failed>
         requires { 0 < length bytes.now }
         ensures wrote { IfOk result (λ n. WroteSome n bytes.now (told self.old) (told self.new)) }
+        ensures quiet { OnOk result ((told self.new).write_faults ≡ (told self.old).write_faults) }
         ensures kept { OnErr result (KeepsOutput (told self.old) (told self.new)) }
         ensures cause { OnErr result (Rose (told self.old).write_faults (told self.new).write_faults) }
-        ensures same { SameButOutput (told self.old) (told self.new) };
+        ensures same { SameButOutput (told self.old) (told self.new) }
+        ensures bounded { IsBounded (told self.new) };
 }

@@ -1,5 +1,5 @@
 //! A host in memory, which tells all its content.
-ghost use Rattle.std.specs.Prelude.{◌≡◌, ◌<◌, ◌≤◌, ◌++◌, ◌∷◌, [], ◌&&◌, not, nat_lt, length, Some, false, true, IfOk, OnOk, OnErr, is_ok, is_err, vec_capacity};
+ghost use Rattle.std.specs.Prelude.{◌≡◌, ◌<◌, ◌≤◌, ◌-◌, ◌^◌, ◌++◌, ◌∷◌, [], ◌&&◌, not, nat_lt, length, Some, false, true, IfOk, OnOk, OnErr, is_ok, is_err, vec_capacity};
 
 use crate::files::{self, File, Place};
 use crate::host::{Failed, Host};
@@ -24,6 +24,7 @@ pub struct MemHost {
     write_faults: u64,
     ghost pieces: { (0 < read_piece) × (0 < write_piece) },
     ghost reserved: { room ≤ vec_capacity written },
+    ghost bounded: { (attach_faults ≤ 2 ^ 64 - 1) × (read_faults ≤ 2 ^ 64 - 1) × (write_faults ≤ 2 ^ 64 - 1) },
 }
 
 #[tactic(auto, unfolding(crate::specs::MemHost::mem_told, crate::specs::MemHost::mem_setting))]
@@ -119,6 +120,7 @@ impl Host for MemHost {
     ghost use Rattle.cay_host.specs.Input.{Took, SameButRead};
     ghost use Rattle.cay_host.specs.MemHost.{mem_told, mem_setting, is_listed, after_call, raised_if, room_left, read_size, write_size};
     ghost use Rattle.cay_host.specs.Output.{WroteSome, KeepsOutput, SameButOutput};
+    ghost use Rattle.cay_host.specs.Told.{IsBounded};
     ghost use Rattle.std.specs.Option.{option_map};
 
     ghost told = { mem_told };
@@ -127,8 +129,10 @@ impl Host for MemHost {
     fn attach(&mut self, side: Side, name: &str) -> Result<(), Failed>
         requires { (mem_told self.old).attached side ≡ false }
         ensures ok { OnOk result (Attaches side name.now (mem_told self.old) (mem_told self.new)) }
+        ensures quiet { OnOk result ((mem_told self.new).attach_faults ≡ (mem_told self.old).attach_faults) }
         ensures failed { OnErr result (AttachFails name.now (mem_told self.old) (mem_told self.new)) }
         ensures same { SameButSides (mem_told self.old) (mem_told self.new) }
+        ensures bounded { IsBounded (mem_told self.new) }
         ensures succeeds { let is_there = not (lacks name.now (mem_told self.old).files) in
             is_ok result ≡ (not (is_listed (mem_setting self.old)) && is_there) }
         ensures raised { let rises = is_err result && not (lacks name.now (mem_told self.old).files) in
@@ -159,9 +163,11 @@ impl Host for MemHost {
         requires room { 0 < length buf.old }
         ensures took { let left = (mem_told self.old).left side in
             IfOk result (λ n. Took n buf.new left ((mem_told self.new).left side)) }
+        ensures quiet { OnOk result ((mem_told self.new).read_faults ≡ (mem_told self.old).read_faults) }
         ensures kept { OnErr result ((mem_told self.new).left ≡ (mem_told self.old).left) }
         ensures cause { OnErr result (Rose (mem_told self.old).read_faults (mem_told self.new).read_faults) }
         ensures same { SameButRead side (mem_told self.old) (mem_told self.new) }
+        ensures bounded { IsBounded (mem_told self.new) }
         ensures succeeds { is_ok result ≡ not (is_listed (mem_setting self.old)) }
         ensures size { let size = read_size (mem_setting self.old) (length buf.old) in
             IfOk result (λ n. Some n ≡ option_map size ((mem_told self.old).left side)) }
@@ -189,9 +195,11 @@ impl Host for MemHost {
     fn write(&mut self, bytes: &[u8]) -> Result<usize, Failed>
         requires { 0 < length bytes.now }
         ensures wrote { IfOk result (λ n. WroteSome n bytes.now (mem_told self.old) (mem_told self.new)) }
+        ensures quiet { OnOk result ((mem_told self.new).write_faults ≡ (mem_told self.old).write_faults) }
         ensures kept { OnErr result (KeepsOutput (mem_told self.old) (mem_told self.new)) }
         ensures cause { OnErr result (Rose (mem_told self.old).write_faults (mem_told self.new).write_faults) }
         ensures same { SameButOutput (mem_told self.old) (mem_told self.new) }
+        ensures bounded { IsBounded (mem_told self.new) }
         ensures succeeds { let has_room = nat_lt 0 (room_left (mem_setting self.old) (mem_told self.old)) in
             is_ok result ≡ (not (is_listed (mem_setting self.old)) && has_room) }
         ensures size { let size = write_size (mem_setting self.old) (mem_told self.old) (length bytes.now) in

@@ -2,15 +2,18 @@
 ghost use Rattle.std.specs.Prelude.{◌≡◌, [], OnOk, OnErr};
 ghost use Rattle.cay_host.specs.Faults.{Rose};
 ghost use Rattle.cay_host.specs.Output.{Wrote, WrotePart, SameButOutput};
+ghost use Rattle.cay_host.specs.Told.{IsBounded};
 
 use crate::host::{Failed, Host};
 
 /// Writes all the bytes, or a proper prefix of them where the host fails. Takes no memory.
 pub fn write_whole<H: Host>(host: &mut H, bytes: &[u8]) -> Result<(), Failed>
     ensures ok { OnOk result (Wrote bytes.now (H.told host.old) (H.told host.new)) }
+    ensures quiet { OnOk result ((H.told host.new).write_faults ≡ (H.told host.old).write_faults) }
     ensures part { OnErr result (WrotePart bytes.now (H.told host.old) (H.told host.new)) }
     ensures cause { OnErr result (Rose (H.told host.old).write_faults (H.told host.new).write_faults) }
     ensures same { SameButOutput (H.told host.old) (H.told host.new) }
+    ensures bounded { OnErr result (IsBounded (H.told host.new)) }
     ensures empty { bytes.now ≡ [] → host.new ≡ host.old }
 {
     let mut at = 0;

@@ -1,4 +1,4 @@
-use Rattle.std.proofs.Common.{rules, arith, refl, ap, length}
+use Rattle.std.proofs.Common.{rules, arith, refl, ap, ◌∙◌, length}
 use Rattle.cay_host.proofs.OutputLemmas.{Wrote-nil, Wrote-next, SameButOutput-refl, SameButOutput-trans}
 use Rattle.cay_host.proofs.writing.write_whole.Goals as goal
 
@@ -7,6 +7,7 @@ loop-at-init g c = record {
   within = omega arith;
   wrote = Wrote-nil _;
   same = SameButOutput-refl _;
+  quiet = refl;
   untouched = λ _. refl;
 }
 
@@ -18,5 +19,6 @@ loop-at-preserved g c =
       within = search rules;
       wrote = Wrote-next _ _ _ i.wrote e.wrote.wrote;
       same = SameButOutput-trans i.same e.same;
+      quiet = e.quiet ∙ i.quiet;
       untouched = λ none. absurd (omega (arith, ap length none));
     }

@@ -7,6 +7,7 @@ invariant-loop-at g l = record {
   within : l.at ≤ length l.bytes;
   wrote : Wrote (take l.at l.bytes) (g.H.Host.told l.initial.host) (g.H.Host.told l.host);
   same : SameButOutput (g.H.Host.told l.initial.host) (g.H.Host.told l.host);
+  quiet : (g.H.Host.told l.host).write_faults ≡ (g.H.Host.told l.initial.host).write_faults;
   untouched : l.bytes ≡ [] → l.host ≡ l.initial.host;
 }
 
