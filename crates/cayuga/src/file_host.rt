@@ -1,5 +1,5 @@
 //! A host over real files and standard output.
-ghost use Rattle.std.specs.Prelude.{◌≡◌, None, false, true, is_some};
+ghost use Rattle.std.specs.Prelude.{◌≡◌, ◌≤◌, ◌-◌, ◌^◌, None, false, true, is_some};
 ghost use Rattle.std.specs.Io.{ReadsAtMost};
 
 use cay_host::{Failed, Host, Side};
@@ -16,6 +16,7 @@ pub struct FileHost {
     attach_faults: u64,
     read_faults: u64,
     write_faults: u64,
+    ghost bounded: { (attach_faults ≤ 2 ^ 64 - 1) × (read_faults ≤ 2 ^ 64 - 1) × (write_faults ≤ 2 ^ 64 - 1) },
 }
 
 impl FileHost {
