@@ -19,3 +19,6 @@ pub use memory::Memory;
 pub use text::{Names, Text};
 pub use tuple::{BadSpan, StreamId, Tuple, Tuples, put_in_order};
 pub use value::{Vals, Value, ValueRef};
+
+#[cfg(test)]
+mod tests;
