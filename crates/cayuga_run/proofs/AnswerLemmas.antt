@@ -1,0 +1,135 @@
+-- From the table of the statuses to what each answer says.
+use Rattle.std.proofs.Common.{◌≡◌, ◌∙◌, sym, ap, refl, subst, ℕ, ◌+◌, ◌-◌, ◌^◌, ◌<◌, ◌≤◌, ◌↔◌, List, Bool, true, false, nat_le, Option, Some, None, IfSome, length, take, arith}
+use Rattle.std.proofs.lemmas.List.{take_all}
+use Rattle.std.proofs.lemmas.Bool.{le-leb}
+use Rattle.std.proofs.lemmas.Bool.Decides.{nat_tests}
+use Rattle.cay_host.specs.declared.side.Side.{Side}
+use Rattle.cay_host.specs.declared.side.Side.TheVariants.{Queries, Events}
+use Rattle.cay_host.specs.Faults.{Rose}
+use Rattle.cay_host.specs.Files.{file_of}
+use Rattle.cay_host.specs.Told.{Told}
+use Rattle.cayuga_run.specs.declared.refusal.Refusal.{Refusal}
+use Rattle.cayuga_run.specs.declared.refusal.Refusal.TheVariants.{HasFault, IsOutOfOrder}
+use Rattle.cayuga_run.specs.declared.status.Status.{Status}
+use Rattle.cayuga_run.specs.declared.status.Status.TheVariants.{Done, Usage, BadQuery, BadEvent, OutOfOrder, AttachFault, ReadFault, WriteFault, TooMuch, Memory}
+use Rattle.cayuga_run.specs.Answers.{Answers}
+use Rattle.cayuga_run.specs.Catalogue.{Catalogue}
+use Rattle.cayuga_run.specs.Expected.{expected, expected_after, expected_of, IsExpectedOrFault, IsExpectedOrMemory, IsSteady}
+use Rattle.cayuga_run.specs.Judgement.{Verdict, Accepts, Refuses, judge}
+use Rattle.cayuga_run.specs.Outcome.{AreThere, ForJob, IsAccepted, OfFiles, Outcome, is_whole}
+use Rattle.cayuga_run.specs.Reports.{refused_in}
+use Rattle.cayuga_run.specs.Words.{Job}
+
+-- a claim on both files from another
+of_files : (a b : Option (List ℕ)) (P Q : List ℕ → List ℕ → Type 0) → ((q e : List ℕ) → P q e → Q q e) → IfSome a (λ q. IfSome b (P q)) → IfSome a (λ q. IfSome b (Q q))
+of_files None b P Q f h = tt
+of_files (Some q) None P Q f h = tt
+of_files (Some q) (Some e) P Q f h = f q e h
+
+of_queries : (a b : Option (List ℕ)) (P : List ℕ → Type 0) (Q : List ℕ → List ℕ → Type 0) → ((q e : List ℕ) → P q → Q q e) → IfSome a P → IfSome a (λ q. IfSome b (Q q))
+of_queries None b P Q f h = tt
+of_queries (Some q) None P Q f h = tt
+of_queries (Some q) (Some e) P Q f h = f q e h
+
+of_none : (a b : Option (List ℕ)) (Q : List ℕ → List ℕ → Type 0) → ((q e : List ℕ) → Q q e) → IfSome a (λ q. IfSome b (Q q))
+of_none None b Q f = tt
+of_none (Some q) None Q f = tt
+of_none (Some q) (Some e) Q f = f q e
+
+-- a status that an accepted text asks for
+asked : (status : Status) (v : Verdict) (limit : ℕ) (events : List ℕ) (P : Catalogue → Type 0)
+    → ((c : Catalogue) → P c → status ≡ expected_after limit (refused_in c (take limit events) (is_whole limit events)) (is_whole limit events)) → IsAccepted v P → status ≡ expected_of v limit events
+asked status (Accepts c) limit events P f h = f c h
+asked status (Refuses line why) limit events P f h = absurd h
+
+whole_is : (limit : ℕ) (events : List ℕ) → length events ≤ limit → is_whole limit events ≡ true
+whole_is limit events few = le-leb (length events) limit few
+
+long_is : (limit : ℕ) (events : List ℕ) → limit < length events → is_whole limit events ≡ false
+long_is limit events long = grind (arith, nat_tests, long)
+
+-- the status, where the texts decide it
+decided : (job : Job) (limit : ℕ) (old new : Told) (status : Status) → Outcome (Some job) limit old new status → OfFiles job old (λ queries events. IsExpectedOrFault (expected limit queries events) status)
+decided job limit old new Done o =
+    of_files _ _ _ _ (λ q e. asked Done (judge q) limit e _
+    (λ c h. sym (ap (λ b. expected_after limit (refused_in c (take limit e) b) b) (whole_is limit e h.0) ∙ ap (λ t. expected_after limit (refused_in c t true) true) (take_all limit e h.0) ∙ ap (λ r. expected_after limit r true) h.1))) o.text
+decided job limit old new Usage o = absurd o
+decided job limit old new (BadQuery line why) o =
+    of_queries (file_of job.queries old.files) (file_of job.events old.files) (λ q. judge q ≡ Refuses line why) (λ q e. BadQuery line why ≡ expected limit q e)
+    (λ q e h. let same : judge q ≡ Refuses line why = h in sym (ap (λ v. expected_of v limit e) same)) o.refused
+decided job limit old new (BadEvent line why) o =
+    of_files _ _ _ _ (λ q e. asked (BadEvent line why) (judge q) limit e _ (λ c h. sym (ap (λ r. expected_after limit r (is_whole limit e)) h.0))) o.text
+decided job limit old new (OutOfOrder line at seen) o =
+    of_files _ _ _ _ (λ q e. asked (OutOfOrder line at seen) (judge q) limit e _ (λ c h. sym (ap (λ r. expected_after limit r (is_whole limit e)) h.0))) o.text
+decided job limit old new (AttachFault side) o = of_none _ _ _ (λ q e. tt)
+decided job limit old new (ReadFault side) o = of_none _ _ _ (λ q e. tt)
+decided job limit old new WriteFault o = of_none _ _ _ (λ q e. tt)
+decided job limit old new (TooMuch most) o =
+    of_files _ _ _ _ (λ q e. asked (TooMuch most) (judge q) limit e _
+    (λ c h. ap TooMuch o.0 ∙ sym (ap (λ b. expected_after limit (refused_in c (take limit e) b) b) (long_is limit e h.0) ∙ ap (λ r. expected_after limit r false) h.1))) o.1.text
+decided job limit old new Memory o = of_none _ _ _ (λ q e. tt)
+
+-- a count that didn't rise and is below its end
+no_rise : (before now : ℕ) → Rose before now → now ≡ before → before < 2 ^ 64 - 1 → ⊥
+no_rise before now r e b = omega (arith, r, e, b)
+
+-- the status, where no call of the host failed
+complete_by : (job : Job) (limit : ℕ) (old new : Told) (status : Status) → Outcome (Some job) limit old new status → IsSteady old new → AreThere job old
+    → OfFiles job old (λ queries events. IsExpectedOrMemory (expected limit queries events) status)
+complete_by job limit old new Done o st there = decided job limit old new Done o
+complete_by job limit old new Usage o st there = absurd o
+complete_by job limit old new (BadQuery line why) o st there = decided job limit old new (BadQuery line why) o
+complete_by job limit old new (BadEvent line why) o st there = decided job limit old new (BadEvent line why) o
+complete_by job limit old new (OutOfOrder line at seen) o st there = decided job limit old new (OutOfOrder line at seen) o
+complete_by job limit old new (AttachFault Queries) o st there = absurd (no_rise _ _ (o.cause there.queries) st.attach st.attach_below)
+complete_by job limit old new (AttachFault Events) o st there = absurd (no_rise _ _ (o.cause there.events) st.attach st.attach_below)
+complete_by job limit old new (ReadFault side) o st there = absurd (no_rise _ _ o.cause st.read st.read_below)
+complete_by job limit old new WriteFault o st there = absurd (no_rise _ _ o.cause st.write st.write_below)
+complete_by job limit old new (TooMuch most) o st there = decided job limit old new (TooMuch most) o
+complete_by job limit old new Memory o st there = of_none _ _ _ (λ q e. tt)
+
+-- words that ask for no job
+without_job : (limit : ℕ) (old new : Told) (status : Status) → Outcome None limit old new status → Answers None limit old new status
+without_job limit old new Usage o = record {
+  usage = (λ e. refl, λ e. refl);
+  usage_does = λ e. o;
+  done = λ e. cc;
+  bad_query = λ line why e. cc;
+  bad_event = λ line why e. cc;
+  out_of_order = λ line at seen e. cc;
+  too_much = λ most e. cc;
+  attach_fault = λ side e. cc;
+  read_fault = λ side e. cc;
+  write_fault = λ e. cc;
+  memory = λ e. cc;
+  determined = tt;
+  complete = tt;
+}
+without_job limit old new Done o = absurd o
+without_job limit old new (BadQuery line why) o = absurd o
+without_job limit old new (BadEvent line why) o = absurd o
+without_job limit old new (OutOfOrder line at seen) o = absurd o
+without_job limit old new (AttachFault side) o = absurd o
+without_job limit old new (ReadFault side) o = absurd o
+without_job limit old new WriteFault o = absurd o
+without_job limit old new (TooMuch most) o = absurd o
+without_job limit old new Memory o = absurd o
+
+-- the answers, by whether the words ask for a job
+pub answers : (job : Option Job) (limit : ℕ) (old new : Told) (status : Status) → Outcome job limit old new status → Answers job limit old new status
+answers None limit old new status o = without_job limit old new status o
+answers (Some job) limit old new status o = record {
+  usage = (λ e. absurd (subst (Outcome (Some job) limit old new) e o), λ e. cc);
+  usage_does = λ e. absurd (subst (Outcome (Some job) limit old new) e o);
+  done = λ e. subst (Outcome (Some job) limit old new) e o;
+  bad_query = λ line why e. subst (Outcome (Some job) limit old new) e o;
+  bad_event = λ line why e. subst (Outcome (Some job) limit old new) e o;
+  out_of_order = λ line at seen e. subst (Outcome (Some job) limit old new) e o;
+  too_much = λ most e. subst (Outcome (Some job) limit old new) e o;
+  attach_fault = λ side e. subst (Outcome (Some job) limit old new) e o;
+  read_fault = λ side e. subst (Outcome (Some job) limit old new) e o;
+  write_fault = λ e. subst (Outcome (Some job) limit old new) e o;
+  memory = λ e. subst (Outcome (Some job) limit old new) e o;
+  determined = decided job limit old new status o;
+  complete = complete_by job limit old new status o;
+}

@@ -1,0 +1,5 @@
+use Rattle.cayuga_run.proofs.AnswerLemmas.{answers}
+use Rattle.cayuga_run.proofs.top.cayuga_within.Goals as goal
+
+pub returns : goal.returns
+returns g c = answers _ _ _ _ _ c.do_job.ensures

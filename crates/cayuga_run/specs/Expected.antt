@@ -1,0 +1,48 @@
+-- The status that the texts of both files ask for.
+use Rattle.std.specs.Prelude.{◌≡◌, ⊤, ℕ, ◌-◌, ◌^◌, ◌<◌, List, Bool, true, false, take, Option, Some, None}
+use Rattle.cay_host.specs.Told.{Told}
+use Rattle.cayuga_run.specs.declared.refusal.Refusal.{Refusal}
+use Rattle.cayuga_run.specs.declared.refusal.Refusal.TheVariants.{HasFault, IsOutOfOrder}
+use Rattle.cayuga_run.specs.declared.status.Status.{Status}
+use Rattle.cayuga_run.specs.declared.status.Status.TheVariants.{Done, Usage, BadQuery, BadEvent, OutOfOrder, AttachFault, ReadFault, WriteFault, TooMuch, Memory}
+use Rattle.cayuga_run.specs.Judgement.{Verdict, Accepts, Refuses, judge}
+use Rattle.cayuga_run.specs.Outcome.{is_whole}
+use Rattle.cayuga_run.specs.Reports.{refused_in}
+
+-- a refused line decides; else whether the event text is within the limit
+abbrev pub expected_after : ℕ → Option Refusal → Bool → Status
+expected_after limit (Some (HasFault line why)) whole = BadEvent line why
+expected_after limit (Some (IsOutOfOrder line at seen)) whole = OutOfOrder line at seen
+expected_after limit None true = Done
+expected_after limit None false = TooMuch limit
+
+-- a refused query text decides before all events
+abbrev pub expected_of : Verdict → ℕ → List ℕ → Status
+expected_of (Refuses line why) limit events = BadQuery line why
+expected_of (Accepts catalogue) limit events = expected_after limit (refused_in catalogue (take limit events) (is_whole limit events)) (is_whole limit events)
+
+-- the status that these texts ask for
+abbrev pub expected : ℕ → List ℕ → List ℕ → Status
+expected limit queries events = expected_of (judge queries) limit events
+
+-- the status is that one, unless the host failed or there was no memory
+abbrev pub IsExpectedOrFault : Status → Status → Type 0
+IsExpectedOrFault want (AttachFault side) = ⊤
+IsExpectedOrFault want (ReadFault side) = ⊤
+IsExpectedOrFault want WriteFault = ⊤
+IsExpectedOrFault want Memory = ⊤
+IsExpectedOrFault want status = status ≡ want
+
+-- the status is that one, unless there was no memory
+abbrev pub IsExpectedOrMemory : Status → Status → Type 0
+IsExpectedOrMemory want Memory = ⊤
+IsExpectedOrMemory want status = status ≡ want
+
+-- no count of faults rose, and each is below its end
+pub record IsSteady (old new : Told) : Type 0 where
+  pub attach : new.attach_faults ≡ old.attach_faults
+  pub read : new.read_faults ≡ old.read_faults
+  pub write : new.write_faults ≡ old.write_faults
+  pub attach_below : old.attach_faults < 2 ^ 64 - 1
+  pub read_below : old.read_faults < 2 ^ 64 - 1
+  pub write_below : old.write_faults < 2 ^ 64 - 1

@@ -1,0 +1,22 @@
+-- Why the queries weren't accepted. No public clause cites this module.
+use Rattle.std.specs.Prelude.{◌≡◌, ⊤, IfSome}
+use Rattle.cay_host.specs.declared.side.Side.{Side}
+use Rattle.cay_host.specs.declared.side.Side.TheVariants.{Queries, Events}
+use Rattle.cay_host.specs.Faults.{Rose}
+use Rattle.cay_host.specs.Told.{Told}
+use Rattle.cayuga_run.specs.declared.status.Status.{Status}
+use Rattle.cayuga_run.specs.declared.status.Status.TheVariants.{BadQuery, ReadFault, Memory}
+use Rattle.cayuga_run.specs.Judgement.{Verdict, Refuses, judge}
+
+-- a text with this verdict is refused, or there was no memory
+abbrev pub TextFails : Verdict → Status → Type 0
+TextFails verdict (BadQuery line why) = verdict ≡ Refuses line why
+TextFails verdict Memory = ⊤
+TextFails verdict other = ⊥
+
+-- the queries are refused, or couldn't be read, or there was no memory
+abbrev pub QueriesFail : Told → Told → Status → Type 0
+QueriesFail before after (BadQuery line why) = IfSome (before.left Queries) (λ text. judge text ≡ Refuses line why)
+QueriesFail before after (ReadFault side) = (side ≡ Queries) × Rose before.read_faults after.read_faults
+QueriesFail before after Memory = ⊤
+QueriesFail before after other = ⊥

@@ -1,0 +1,13 @@
+-- How the reading of a side ended.
+use Rattle.std.specs.Prelude.{◌≡◌, ℕ, ◌+◌, ◌≤◌, List, [], length, IfSome}
+use Rattle.cay_host.specs.declared.side.Side.{Side}
+use Rattle.cay_host.specs.Faults.{Rose}
+use Rattle.cay_host.specs.Told.{Told}
+use Rattle.cayuga_run.specs.declared.taking.End.{End}
+use Rattle.cayuga_run.specs.declared.taking.End.TheVariants.{Whole, More, Failed}
+
+-- the bytes are all, or one more than the limit, or those before a failed read
+abbrev pub EndsAs : End → ℕ → List ℕ → Side → Told → Told → Type 0
+EndsAs Whole limit bytes side old new = (length bytes ≤ limit) × IfSome (new.left side) (λ rest. rest ≡ [])
+EndsAs More limit bytes side old new = length bytes ≡ limit + 1
+EndsAs Failed limit bytes side old new = (length bytes ≤ limit) × Rose old.read_faults new.read_faults
