@@ -1,5 +1,5 @@
 -- Every built file is accepted.
-use Rattle.std.proofs.Common.{◌≡◌, ◌≢◌, ◌∙◌, inl, inr, sym, ap, subst, refl, ℕ, ℤ, ◌<◌, Bool, true, false, ◌&&◌, cond, List, [], ◌∷◌, ◌++◌, append_assoc, length, map, get_or, Option, Some, None, arith}
+use Rattle.std.proofs.Common.{◌≡◌, ◌≢◌, ◌∙◌, inl, inr, sym, ap, subst, refl, ℕ, ℤ, ◌<◌, true, false, ◌&&◌, cond, List, [], ◌∷◌, ◌++◌, append_assoc, length, get_or, Some, None, arith}
 use Rattle.std.specs.Prelude.{codes, nat_lt, AllPairs, Contains}
 use Rattle.std.specs.Option.{is_none, option_map, option_and_then}
 use Rattle.std.specs.Str.{bytes_eq}
@@ -16,9 +16,8 @@ use Rattle.cel_lexer.specs.declared.token.What.TheVariants as what
 use Rattle.semantics.specs.Scalars.{Pr}
 use Rattle.stream_schema.specs.Schema.{Attr, IsSchema, names_of, place_of}
 use Rattle.stream_schema.proofs.NameLemmas.{none-from_absent}
-use Rattle.cayuga_run.specs.Built.{attributes_from, built_of, catalogue_with, comparison_of, ending_from, int_place, kind_of, query_from, test_from, test_of, test_with, with_attribute}
+use Rattle.cayuga_run.specs.Built.{attributes_from, built_of, catalogue_with, comparison_of, ending_from, int_place, kind_of, query_from, test_of, test_with, with_attribute}
 use Rattle.cayuga_run.specs.BuiltFiles.{BuiltFile, IsBuiltFile, attribute_words, comparison_sign, ending_words, keyword, kind_word, meaning_of, name, query_words, sign, token, words_of}
-use Rattle.cayuga_run.specs.Catalogue.{Catalogue}
 use Rattle.cayuga_run.specs.Spelled.{Spelled}
 
 -- the test of texts that differ

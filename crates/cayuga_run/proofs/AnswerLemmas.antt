@@ -1,22 +1,19 @@
 -- From the table of the statuses to what each answer says.
-use Rattle.std.proofs.Common.{◌≡◌, ◌∙◌, sym, ap, refl, subst, ℕ, ◌+◌, ◌-◌, ◌^◌, ◌<◌, ◌≤◌, ◌↔◌, List, Bool, true, false, nat_le, Option, Some, None, IfSome, length, take, arith}
+use Rattle.std.proofs.Common.{◌≡◌, ◌∙◌, sym, ap, refl, subst, ℕ, ◌-◌, ◌^◌, ◌<◌, ◌≤◌, List, true, false, Option, Some, None, IfSome, length, take, arith}
 use Rattle.std.proofs.lemmas.List.{take_all}
 use Rattle.std.proofs.lemmas.Bool.{le-leb}
 use Rattle.std.proofs.lemmas.Bool.Decides.{nat_tests}
-use Rattle.cay_host.specs.declared.side.Side.{Side}
 use Rattle.cay_host.specs.declared.side.Side.TheVariants.{Queries, Events}
 use Rattle.cay_host.specs.Faults.{Rose}
 use Rattle.cay_host.specs.Files.{file_of}
 use Rattle.cay_host.specs.Told.{Told}
-use Rattle.cayuga_run.specs.declared.refusal.Refusal.{Refusal}
-use Rattle.cayuga_run.specs.declared.refusal.Refusal.TheVariants.{HasFault, IsOutOfOrder}
 use Rattle.cayuga_run.specs.declared.status.Status.{Status}
 use Rattle.cayuga_run.specs.declared.status.Status.TheVariants.{Done, Usage, BadQuery, BadEvent, OutOfOrder, AttachFault, ReadFault, WriteFault, TooMuch, Memory}
 use Rattle.cayuga_run.specs.Answers.{Answers}
 use Rattle.cayuga_run.specs.Catalogue.{Catalogue}
 use Rattle.cayuga_run.specs.Expected.{expected, expected_after, expected_of, IsExpectedOrFault, IsExpectedOrMemory, IsSteady}
 use Rattle.cayuga_run.specs.Judgement.{Verdict, Accepts, Refuses, judge}
-use Rattle.cayuga_run.specs.Outcome.{AreThere, ForJob, IsAccepted, OfFiles, Outcome, is_whole}
+use Rattle.cayuga_run.specs.Outcome.{AreThere, IsAccepted, OfFiles, Outcome, is_whole}
 use Rattle.cayuga_run.specs.Reports.{refused_in}
 use Rattle.cayuga_run.specs.Words.{Job}
 

@@ -1,5 +1,5 @@
 -- Whatever is accepted has the tokens of a built file.
-use Rattle.std.proofs.Common.{◌≡◌, ◌≢◌, ◌∙◌, ◌⊎◌, inl, inr, sym, ap, subst, refl, ℕ, ℤ, ◌<◌, Bool, true, false, ◌&&◌, cond, List, [], ◌∷◌, ◌++◌, append_assoc, length, Option, Some, None, arith}
+use Rattle.std.proofs.Common.{◌≡◌, ◌≢◌, ◌∙◌, ◌⊎◌, inl, inr, sym, ap, subst, refl, ℕ, ℤ, Bool, true, false, ◌&&◌, cond, List, [], ◌∷◌, ◌++◌, append_assoc, length, Option, Some, None, arith}
 use Rattle.std.specs.Prelude.{codes, nat_lt}
 use Rattle.std.specs.Option.{is_none, option_map, option_and_then}
 use Rattle.std.specs.Str.{bytes_eq}
@@ -16,7 +16,7 @@ use Rattle.semantics.specs.Scalars.{Pr}
 use Rattle.stream_schema.specs.Schema.{Attr, IsSchema, place_of}
 use Rattle.stream_schema.proofs.SchemaLemmas.{IsSchema-append}
 use Rattle.cayuga_run.specs.Built.{attributes_from, built_of, catalogue_with, comparison_of, ending_from, int_place, is_beginning, is_ending, is_free, is_opening, is_stream_name, kind_of, literal_of, query_from, test_from, test_of, test_with, with_attribute}
-use Rattle.cayuga_run.specs.BuiltFiles.{AcceptedAreBuilt, BuiltFile, IsBuiltFile, ReadsAs, attribute_words, comparison_sign, ending_words, keyword, kind_word, name, query_words, sign, token, words_of}
+use Rattle.cayuga_run.specs.BuiltFiles.{ReadsAs, attribute_words, comparison_sign, ending_words, keyword, kind_word, name, query_words, sign, token}
 use Rattle.cayuga_run.specs.Catalogue.{Catalogue}
 use Rattle.cayuga_run.specs.Spelled.{Spelled}
 use Rattle.cayuga_run.specs.Spelling.{is_keyword, is_name, is_sign}

@@ -1,5 +1,5 @@
 -- The report of the closed epochs, written epoch after epoch.
-use Rattle.std.proofs.Common.{◌≡◌, ◌∙◌, sym, ap, refl, subst, ℕ, ◌<◌, Bool, true, false, cond, ◌&&◌, nat_lt, is_some, is_none, List, [], ◌∷◌, ◌++◌, Option, Some, None, Result, Ok, Err, length, length-append, arith, ◌≤◌,  append-nil, append_assoc}
+use Rattle.std.proofs.Common.{◌≡◌, ◌∙◌, sym, ap, refl, ℕ, ◌<◌, Bool, true, false, cond, ◌&&◌, nat_lt, is_some, is_none, List, [], ◌∷◌, ◌++◌, Option, Some, None, Result, Ok, Err, length, length-append, arith, ◌≤◌, append-nil, append_assoc}
 use Rattle.std.specs.List.{All, filter, last_or}
 use Rattle.std.specs.Option.{option_or, option_map_or}
 use Rattle.std.proofs.lemmas.List.Elements.{filter-append, All-nil, All-cons, All-head, All-tail, All-append, All-weaker}
@@ -8,10 +8,9 @@ use Rattle.semantics.specs.Histories.{Heard}
 use Rattle.semantics.specs.Programs.{Program}
 use Rattle.semantics.specs.Report.{epoch, report}
 use Rattle.event_csv.specs.declared.fault.LineFault.{LineFault}
-use Rattle.cayuga_run.specs.declared.refusal.Refusal.{Refusal}
-use Rattle.cayuga_run.specs.declared.refusal.Refusal.TheVariants.{HasFault, IsOutOfOrder}
+use Rattle.cayuga_run.specs.declared.refusal.Refusal.TheVariants.{IsOutOfOrder}
 use Rattle.cayuga_run.specs.Working.{opens_later}
-use Rattle.cayuga_run.specs.Hearing.{Reading, disorder, refusal_of, seen_after, events_in, refused_from, heard_from, last_time, before_last, refused, heard, closed}
+use Rattle.cayuga_run.specs.Hearing.{Reading, refusal_of, events_in, refused_from, heard_from, last_time, before_last, closed}
 
 -- an event of an earlier time; an event of this time
 abbrev pub IsEarlier : ℕ → Heard → Type 0
@@ -107,8 +106,8 @@ later_stands before now time event s m =
     let up : time < event.tuple.at = ltb-true _ _ m in
     record {
       early = All-append (IsEarlier event.tuple.at) before now
-      (All-weaker (IsEarlier time) (IsEarlier event.tuple.at) (λ x h. omega (arith, h, up)) before s.early)
-      (All-weaker (IsOf time) (IsEarlier event.tuple.at) (λ x h. omega (arith, h, up)) now s.same);
+          (All-weaker (IsEarlier time) (IsEarlier event.tuple.at) (λ x h. omega (arith, h, up)) before s.early)
+          (All-weaker (IsOf time) (IsEarlier event.tuple.at) (λ x h. omega (arith, h, up)) now s.same);
       same = All-cons (IsOf event.tuple.at) event [] refl (All-nil _);
       some = omega arith;
     }

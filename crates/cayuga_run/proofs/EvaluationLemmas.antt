@@ -1,11 +1,10 @@
 -- From the work on the lines to the report.
-use Rattle.std.proofs.Common.{◌≡◌, ◌∙◌, sym, ap, refl, subst, ℕ, Bool, true, false, cond, ◌&&◌, is_none, List, [], ◌++◌, Option, Some, None}
+use Rattle.std.proofs.Common.{◌≡◌, ◌∙◌, sym, ap, subst, ℕ, Bool, true, cond, ◌&&◌, is_none, List, [], ◌++◌, Some, None}
 use Rattle.semantics.specs.Programs.{Program}
 use Rattle.semantics.specs.Report.{report}
 use Rattle.semantics.proofs.ReportLemmas.{report_grows_by_epochs}
 use Rattle.cay_host.specs.Output.{Wrote, WrotePart}
 use Rattle.cay_host.specs.Told.{Told}
-use Rattle.stream_schema.specs.Streams.{Entry}
 use Rattle.cayuga_run.specs.declared.refusal.Refusal.{Refusal}
 use Rattle.cayuga_run.specs.declared.work.Work.{Work}
 use Rattle.cayuga_run.specs.declared.work.Ended.{Ended}
@@ -42,10 +41,13 @@ evaluates catalogue text ended work a b end fresh ends = cases end ends
   where
     lines : List Reading
     lines = readings catalogue.streams text ended
+
     rows : left_of catalogue.filtering ended work lines ≡ report_of_closed catalogue text ended
     rows = left_is_report catalogue.filtering ended lines work fresh
+
     first : refused_from work.seen lines ≡ refused_in catalogue text ended
     first = ap (λ seen. refused_from seen lines) fresh.seen
+
     cases : (end : Ended) → Ends catalogue.filtering ended lines work a b end → Evaluates catalogue text ended a b end
     cases how.Whole ends = (sym first ∙ ends.0, subst (λ t. Wrote t a b) rows ends.1)
     cases (how.Refused refusal) ends = (sym first ∙ ends.0, subst (λ t. Wrote t a b) rows ends.1)

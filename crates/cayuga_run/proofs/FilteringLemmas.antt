@@ -1,7 +1,7 @@
 -- The epochs of a program with one filter, from the tuples that pass.
-use Rattle.std.proofs.Common.{◌≡◌, ◌∙◌, sym, ap, refl, ℕ, ◌<◌, ◌≤◌, ◌==◌, Bool, true, false, cond, ◌&&◌, nat_le, nat_lt, is_some, List, [], ◌∷◌, ◌++◌, map, Option, Some, None, Result, Ok, Err, length, arith, append-nil}
+use Rattle.std.proofs.Common.{◌≡◌, ◌∙◌, sym, ap, refl, ℕ, ◌<◌, ◌==◌, Bool, true, false, cond, ◌&&◌, nat_le, nat_lt, is_some, List, [], ◌∷◌, ◌++◌, map, Some, None, Result, Ok, Err, arith, append-nil}
 use Rattle.std.specs.List.{All, filter, flat_map}
-use Rattle.std.proofs.lemmas.List.Elements.{filter-append, All-nil, All-cons, All-head, All-tail}
+use Rattle.std.proofs.lemmas.List.Elements.{filter-append, All-head, All-tail}
 use Rattle.std.proofs.lemmas.Bool.Decides.{nat_tests}
 use Rattle.std.proofs.Math.Bool.{and-true}
 use Rattle.std.proofs.lemmas.List.{map-append}
@@ -12,12 +12,11 @@ use Rattle.semantics.specs.Histories.{Heard, upto, heard_on}
 use Rattle.semantics.specs.Report.{line, epoch, report}
 use Rattle.semantics.specs.Programs.{Program}
 use Rattle.event_csv.specs.declared.fault.LineFault.{LineFault}
-use Rattle.cayuga_run.specs.declared.refusal.Refusal.{Refusal}
-use Rattle.cayuga_run.specs.declared.refusal.Refusal.TheVariants.{HasFault, IsOutOfOrder}
-use Rattle.cayuga_run.specs.Hearing.{Reading, refusal_of, seen_after, events_in, closed}
+use Rattle.cayuga_run.specs.declared.refusal.Refusal.TheVariants.{IsOutOfOrder}
+use Rattle.cayuga_run.specs.Hearing.{Reading, closed}
 use Rattle.cayuga_run.specs.Filtering.{Filtering, program_of, passes, passed, batch}
-use Rattle.cayuga_run.specs.Working.{closes, opens_later, rows_left}
-use Rattle.cayuga_run.proofs.ClosingLemmas.{IsEarlier, IsOf, Standing, EpochLaw, rows_after, rows_of, time_after, later_stands, same_time, same_stands, first_stands, rows_are_report}
+use Rattle.cayuga_run.specs.Working.{rows_left}
+use Rattle.cayuga_run.proofs.ClosingLemmas.{IsEarlier, IsOf, Standing, EpochLaw, rows_after, rows_of, later_stands, same_time, same_stands, first_stands, rows_are_report}
 
 module _ (filtering : Filtering) (time : ℕ) where
   abbrev meets : Row → Bool

@@ -1,5 +1,5 @@
 -- What is written one after the other.
-use Rattle.std.proofs.Common.{◌≡◌, ◌∙◌, sym, ap, refl, subst, ℕ, ◌+◌, ◌<◌, ◌≤◌, List, [], ◌++◌, length, take, length-append, append_assoc, append-nil, arith}
+use Rattle.std.proofs.Common.{◌≡◌, ◌∙◌, sym, ap, refl, subst, ℕ, ◌+◌, List, [], ◌++◌, length, take, length-append, append_assoc, append-nil, arith}
 use Rattle.std.proofs.Math.Seq.{take-append-add}
 use Rattle.cay_host.specs.Output.{Wrote, WrotePart}
 use Rattle.cay_host.specs.Told.{Told}

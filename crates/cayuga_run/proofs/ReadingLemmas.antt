@@ -1,17 +1,16 @@
 -- Lines that are left, as they are read.
-use Rattle.std.proofs.Common.{◌≡◌, ◌∙◌, sym, ap, refl, subst, ℕ, ◌+◌, ◌==◌, Bool, true, false, cond, List, [], ◌∷◌, ◌++◌, Option, Some, None, IfSome, Result, Ok, Err, map, length, unwrap_or, slice_get, option_map, arith, append-nil}
+use Rattle.std.proofs.Common.{◌≡◌, ◌∙◌, sym, ap, refl, subst, ℕ, ◌+◌, ◌==◌, Bool, true, false, cond, List, [], ◌∷◌, ◌++◌, Option, Some, None, IfSome, Result, Ok, Err, map, length, unwrap_or, slice_get, arith, append-nil}
 use Rattle.std.specs.Str.{is_utf8}
 use Rattle.event_types.specs.declared.kind.Kind.{Kind}
 use Rattle.event_types.specs.declared.value.Value.{Value}
-use Rattle.stream_schema.specs.Schema.{Attr, kinds_of}
+use Rattle.stream_schema.specs.Schema.{kinds_of}
 use Rattle.stream_schema.specs.Streams.{Entry, number_of}
 use Rattle.event_csv.specs.declared.event.Seen.{Seen}
 use Rattle.event_csv.specs.declared.fault.LineFault.{LineFault}
-use Rattle.event_csv.specs.Event.{Span, event, value_of, value_before, values_of, event_with, event_of, span_of, counted_event, if_declared, declared_stream, known_event, fields_event, record_event}
-use Rattle.event_csv.specs.Fed.{Fed, Gives, IsNext, TakesLine, IsLongNext, IsPart, fed_more, lines_left}
+use Rattle.event_csv.specs.Event.{Span, event, value_of, value_before, values_of, event_with, event_of, span_of, counted_event, if_declared, declared_stream, known_event, record_event}
+use Rattle.event_csv.specs.Fed.{Fed, Gives, TakesLine, IsLongNext, IsPart, fed_more, lines_left}
 use Rattle.event_csv.specs.Fields.{line_fields}
 use Rattle.event_csv.specs.Lines.{Line, is_long}
-use Rattle.cayuga_run.specs.Hearing.{Reading}
 use Rattle.event_csv.specs.declared.fault.LineFault.TheVariants as fault
 use Rattle.std.proofs.lemmas.Bool.{eqb-true}
 use Rattle.std.proofs.lemmas.List.{length-map}
@@ -101,13 +100,16 @@ event_width streams line seen e = by_length (is_long line) e
         let wide = declared_is streams place stream.0 stream.1 d in
         subst (λ n. IfSome (slice_get streams n) (λ entry. length seen.tuple.vals ≡ length entry.schema)) (sym width.0)
         (IfSome-map (slice_get streams stream.0) (λ entry. length stream.1 ≡ length entry.schema) (λ entry. length seen.tuple.vals ≡ length entry.schema) (λ entry h. width.1 ∙ h) wide)
+
     by_fields : (o : Option (List (List ℕ))) → record_event streams o ≡ Ok seen → IfSome (slice_get streams seen.stream) (λ entry. length seen.tuple.vals ≡ length entry.schema)
     by_fields None e = cc
     by_fields (Some []) e = cc
     by_fields (Some (name ∷ fields)) e = by_stream (declared_stream streams (number_of name streams)) (number_of name streams) fields refl e
+
     by_text : (b : Bool) → cond b (record_event streams (line_fields line)) (Err fault.NotUtf8) ≡ Ok seen → IfSome (slice_get streams seen.stream) (λ entry. length seen.tuple.vals ≡ length entry.schema)
     by_text false e = cc
     by_text true e = by_fields (line_fields line) e
+
     by_length : (b : Bool) → cond b (Err fault.LineTooLong) (cond (is_utf8 line) (record_event streams (line_fields line)) (Err fault.NotUtf8)) ≡ Ok seen → IfSome (slice_get streams seen.stream) (λ entry. length seen.tuple.vals ≡ length entry.schema)
     by_length true e = cc
     by_length false e = by_text (is_utf8 line) e
@@ -134,10 +136,10 @@ shows_line streams old new number bytes (next.Event m seen) takes reading = λ e
     ap (map (reading_of streams)) (gives_now (record { number = number; bytes = bytes } ∷ []) old new ended takes.given)
     ∙ ap (λ r. r ∷ readings_left streams new ended) (reading_is streams number bytes (Ok seen) reading.1 ∙ ap (λ k. record { number = k; found = Ok (heard_of seen) }) (sym reading.0))
 shows_line streams old new number bytes (next.Fault m why) takes reading = λ ended. (
-    readings_left streams new ended,
-    ap (map (reading_of streams)) (gives_now (record { number = number; bytes = bytes } ∷ []) old new ended takes.given)
-    ∙ ap (λ r. r ∷ readings_left streams new ended) (reading_is streams number bytes (Err why) reading.1 ∙ ap (λ k. record { number = k; found = Err why }) (sym reading.0)),
-  )
+  readings_left streams new ended,
+  ap (map (reading_of streams)) (gives_now (record { number = number; bytes = bytes } ∷ []) old new ended takes.given)
+      ∙ ap (λ r. r ∷ readings_left streams new ended) (reading_is streams number bytes (Err why) reading.1 ∙ ap (λ k. record { number = k; found = Err why }) (sym reading.0)),
+)
 shows_line streams old new number bytes next.NotYet takes reading = absurd reading
 
 -- the head of a list that begins so
@@ -149,17 +151,16 @@ pub shows_long : (streams : List Entry) (old new : Fed) (number : ℕ) → Gives
 shows_long streams old new number gives long = λ ended.
     let line : Line = record { number = number; bytes = long.bytes } in
     let first = first_is (lines_left new ended) line (ap (λ l. slice_get l 0) (sym (same_left new ended)) ∙ long.next [] ended) in
-    let too_long : event streams long.bytes ≡ Err fault.LineTooLong = ap (λ b. cond b (Err fault.LineTooLong) (cond (is_utf8 long.bytes) (record_event streams (line_fields long.bytes)) (Err fault.NotUtf8))) long.long in
-    (
+    let too_long : event streams long.bytes ≡ Err fault.LineTooLong = ap (λ b. cond b (Err fault.LineTooLong) (cond (is_utf8 long.bytes) (record_event streams (line_fields long.bytes)) (Err fault.NotUtf8))) long.long in (
       map (reading_of streams) first.0,
       ap (map (reading_of streams)) (gives_now [] old new ended gives ∙ first.1) ∙ ap (λ r. r ∷ map (reading_of streams) first.0) (reading_is streams number long.bytes (Err fault.LineTooLong) too_long),
     )
 
 pub shows_none : (streams : List Entry) (old new : Fed) → Gives [] old new → IsPart new → Shows streams old new next.NotYet
 shows_none streams old new gives part = (
-    part.none,
-    λ ended. ap (map (reading_of streams)) (gives_now [] old new ended gives),
-  )
+  part.none,
+  λ ended. ap (map (reading_of streams)) (gives_now [] old new ended gives),
+)
 
 pub shows_last : (streams : List Entry) (fed : Fed) (number : ℕ) (bytes : List ℕ) (n : Next) → lines_left fed true ≡ record { number = number; bytes = bytes } ∷ [] → IsReading streams number bytes n → ShowsLast streams fed n
 shows_last streams fed number bytes (next.Event m seen) left reading =

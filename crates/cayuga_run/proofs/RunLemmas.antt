@@ -1,21 +1,18 @@
 -- From what was read and what was written to the outcome of the run.
-use Rattle.std.proofs.Common.{◌≡◌, ◌∙◌, sym, ap, refl, subst, ℕ, ◌+◌, ◌-◌, ◌<◌, ◌≤◌, List, [], ◌∷◌, ◌++◌, Bool, true, false, cond, ◌&&◌, nat_le, nat_lt, is_some, is_none, Option, Some, None, IfSome, Result, Ok, Err, map, arith, length, take, drop, length-append, append-nil, append_assoc, take-append-drop}
+use Rattle.std.proofs.Common.{◌≡◌, ◌∙◌, sym, ap, refl, subst, ℕ, ◌+◌, ◌-◌, ◌<◌, ◌≤◌, List, [], ◌∷◌, ◌++◌, Bool, true, false, cond, ◌&&◌, is_some, is_none, Option, Some, None, IfSome, map, arith, length, take, length-append, append-nil, append_assoc}
 use Rattle.std.specs.Option.{option_or}
 use Rattle.std.proofs.lemmas.List.{take_all, take-append-le, map-append}
 use Rattle.std.proofs.lemmas.Bool.{lt-ltb, le-leb}
 use Rattle.std.proofs.lemmas.Bool.Decides.{nat_tests}
 use Rattle.std.proofs.Math.Seq.{take-append-add}
-use Rattle.std.proofs.Math.ListN.{drop_of_length-le}
 use Rattle.std.specs.Io.KnownBytes.{prepend_known, append_known}
 use Rattle.cay_host.specs.Files.{file_of, lacks}
 use Rattle.cay_host.specs.Input.{SameButRead}
-use Rattle.cay_host.specs.declared.side.Side.{Side}
 use Rattle.cay_host.specs.declared.side.Side.TheVariants.{Queries, Events}
 use Rattle.cay_host.specs.Output.{Wrote, WrotePart, KeepsOutput, SameButOutput, add_lines, count_lf}
 use Rattle.cay_host.specs.Told.{Told}
 use Rattle.cay_host.specs.Faults.{Rose}
 use Rattle.cay_host.proofs.OutputLemmas.{Wrote-nil}
-use Rattle.stream_schema.specs.Streams.{Entry}
 use Rattle.event_csv.specs.Fed.{fed_more, unfed}
 use Rattle.event_csv.specs.Lines.{lines}
 use Rattle.event_csv.proofs.GoOnFacts.{go_on-left}
@@ -73,6 +70,7 @@ memory_silent job limit old new keeps =
     by_verdict : (v : Verdict) (events : List ℕ) → MemoryText v limit events old new
     by_verdict (Accepts catalogue) events = record { size = 0; within = omega arith; wrote = Wrote-after keeps (Wrote-nil new) }
     by_verdict (Judged.Refuses line why) events = keeps
+
     by_files : (a b : Option (List ℕ)) → IfSome a (λ queries. IfSome b (λ events. MemoryText (judge queries) limit events old new))
     by_files None b = tt
     by_files (Some q) None = tt
@@ -218,7 +216,7 @@ more_bytes catalogue x y ended refusal e =
     let all : readings catalogue.streams (x ++ y) ended ≡ first ++ more = ap (map (reading_of catalogue.streams)) go_on.is ∙ map-append (reading_of catalogue.streams) (lines x false) go_on.more in
     let later : refused (first ++ more) ≡ Some refusal = stays_refused None first more refusal e in
     let same : closed (first ++ more) ended ≡ closed first false =
-        closed_refused (first ++ more) ended refusal later ∙ ap before_last (stays_heard None first more refusal e) ∙ sym (closed_refused first false refusal e) in
+    closed_refused (first ++ more) ended refusal later ∙ ap before_last (stays_heard None first more refusal e) ∙ sym (closed_refused first false refusal e) in
     (ap refused all ∙ later, sym (ap (λ l. report (program_of catalogue.filtering) (closed l ended)) all ∙ ap (report (program_of catalogue.filtering)) same))
 
 -- the rows of more lines begin with those of the first
@@ -232,6 +230,7 @@ rows_grow filtering ended (line ∷ first) more seen kept =
   where
     now : List Row
     now = passed filtering (events_in line.found)
+
     by_line : (late later : Bool)
         → (rest : List ℕ) × (rows_left filtering ended (first ++ more) (seen_after line.found) now ≡ rows_left filtering false first (seen_after line.found) now ++ rest)
         → (rest : List ℕ) × (rows_left filtering ended (first ++ more) (seen_after line.found) (kept ++ now) ≡ rows_left filtering false first (seen_after line.found) (kept ++ now) ++ rest)
@@ -250,11 +249,10 @@ report_grows_with_bytes catalogue x y ended =
     let more = map (reading_of catalogue.streams) go_on.more in
     let all : readings catalogue.streams (x ++ y) ended ≡ first ++ more = ap (map (reading_of catalogue.streams)) go_on.is ∙ map-append (reading_of catalogue.streams) (lines x false) go_on.more in
     let grown = rows_grow filtering ended first more None [] in
-    let law = epoch_law (program_of filtering) in
-    (
+    let law = epoch_law (program_of filtering) in (
       grown.0,
       ap (λ l. report (program_of filtering) (closed l ended)) all ∙ sym (rows_left_are_report filtering ended law (first ++ more)) ∙ grown.1
-      ∙ ap (λ rows. rows ++ grown.0) (rows_left_are_report filtering false law first),
+          ∙ ap (λ rows. rows ++ grown.0) (rows_left_are_report filtering false law first),
     )
 
 -- how the bytes that were taken stand to the file
@@ -355,7 +353,7 @@ done_after {job} {limit} {catalogue} {bytes} {old} {mid} {new} r none w same = r
       let few = take_all limit bytes r.ends.0 in
       let clean : refused_in catalogue bytes true ≡ None = ap (λ t. refused_in catalogue t true) (sym few) ∙ none in
       let text : report_of_closed catalogue (take limit bytes) true ≡ report_of_heard catalogue bytes true =
-          ap (λ t. report_of_closed catalogue t true) few ∙ ap (report (program_of catalogue.filtering)) (closed_is_heard (readings catalogue.streams bytes true) clean) in
+      ap (λ t. report_of_closed catalogue t true) few ∙ ap (report (program_of catalogue.filtering)) (closed_is_heard (readings catalogue.streams bytes true) clean) in
       subst (λ t. (length t ≤ limit) × (refused_in catalogue t true ≡ None) × Wrote (report_of_heard catalogue t true) old new) (sym all)
       (r.ends.0, clean, Wrote-after r.silent (subst (λ t. Wrote t mid new) text w)));
   ended = subst (λ f. IfSome (f Events) (λ rest. rest ≡ [])) (sym same.left) r.ends.1;

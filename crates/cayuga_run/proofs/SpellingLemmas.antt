@@ -1,10 +1,9 @@
 -- One more token with its bytes.
-use Rattle.std.proofs.Common.{◌≡◌, ◌∙◌, sym, ap, refl, ℕ, ◌+◌, ◌<◌, List, [], ◌∷◌, ◌++◌, Option, Some, None, map, take, length, get_or, slice_get, option_map, unwrap_or, arith}
+use Rattle.std.proofs.Common.{◌≡◌, ◌∙◌, sym, ap, ℕ, ◌+◌, List, [], ◌∷◌, ◌++◌, Some, take, get_or, slice_get, option_map, unwrap_or}
 use Rattle.std.proofs.lemmas.List.{take_more, map-append}
 use Rattle.std.proofs.lemmas.Option.{slice_get_within, get_or_from_slice_get}
 use Rattle.cel_lexer.specs.declared.token.Token.{Token}
 use Rattle.cel_lexer.specs.Listing.{spelling}
-use Rattle.cayuga_run.specs.Spelled.{Spelled}
 use Rattle.cayuga_run.specs.Spelling.{spelled_tokens}
 
 -- one more token is one more word

@@ -1,5 +1,5 @@
 -- What one more line leaves of the work.
-use Rattle.std.proofs.Common.{◌≡◌, ◌∙◌, sym, ap, refl, subst, ℕ, ◌+◌, ◌<◌, ◌≤◌, Bool, true, false, cond, nat_lt, is_some, List, [], ◌∷◌, ◌++◌, Option, Some, None, Result, Ok, Err, length, take, length-append, append_assoc, append-nil, arith}
+use Rattle.std.proofs.Common.{◌≡◌, ◌∙◌, sym, ap, refl, subst, ℕ, ◌<◌, ◌≤◌, Bool, true, false, cond, is_some, List, [], ◌∷◌, ◌++◌, Option, Some, None, length-append, append_assoc, append-nil, arith}
 use Rattle.std.specs.Option.{option_or}
 use Rattle.std.proofs.lemmas.Bool.{lt-ltb}
 use Rattle.std.proofs.lemmas.List.{take-append-le}
@@ -8,8 +8,7 @@ use Rattle.cay_host.specs.Faults.{Rose}
 use Rattle.cay_host.specs.Output.{Wrote, WrotePart}
 use Rattle.cay_host.specs.Told.{Told}
 use Rattle.cayuga_run.specs.declared.refusal.Refusal.{Refusal}
-use Rattle.cayuga_run.specs.declared.refusal.Refusal.TheVariants.{HasFault, IsOutOfOrder}
-use Rattle.event_csv.specs.declared.fault.LineFault.{LineFault}
+use Rattle.cayuga_run.specs.declared.refusal.Refusal.TheVariants.{IsOutOfOrder}
 use Rattle.event_csv.specs.declared.event.Seen.{Seen}
 use Rattle.cayuga_run.specs.declared.work.Work.{Work}
 use Rattle.cayuga_run.specs.declared.work.Ended.{Ended}
@@ -87,7 +86,7 @@ module _ (filtering : Filtering) (ended : Bool) (lines : List Reading) where
   goes_on number event old new a b e owes kept seen =
       let rest = rows_left filtering ended lines (Some event.tuple.at) (staying old event.tuple.at ++ passed filtering (heard_of event ∷ [])) in
       let to : new.rows.items ++ rest ≡ left_of filtering ended new lines =
-          ap (λ k. new.rows.items ++ rows_left filtering ended lines (Some event.tuple.at) k) (sym kept) ∙ ap (λ s. new.rows.items ++ rows_left filtering ended lines s new.kept) (sym seen) in
+      ap (λ k. new.rows.items ++ rows_left filtering ended lines (Some event.tuple.at) k) (sym kept) ∙ ap (λ s. new.rows.items ++ rows_left filtering ended lines s new.kept) (sym seen) in
       record {
         owes = subst (λ t. Owes (left_of filtering ended old (line_of number event ∷ lines)) t a b) to (subst (λ t. Owes t (new.rows.items ++ rest) a b) (timely_left number event old e) (owes rest));
         refused = ap (λ o. option_or o (refused_from (Some event.tuple.at) lines)) e ∙ ap (λ s. refused_from s lines) (sym seen);
@@ -100,8 +99,10 @@ module _ (filtering : Filtering) (ended : Bool) (lines : List Reading) where
     where
       rest : List ℕ
       rest = rows_left filtering ended lines (Some event.tuple.at) (staying work event.tuple.at ++ passed filtering (heard_of event ∷ []))
+
       same : (work.rows.items ++ closing filtering work event.tuple.at) ++ rest ≡ left_of filtering ended work (line_of number event ∷ lines)
       same = append_assoc work.rows.items (closing filtering work event.tuple.at) rest ∙ timely_left number event work e
+
       cases : (end : Ended) → FailsBy (work.rows.items ++ closing filtering work event.tuple.at) a b end → Ends filtering ended (line_of number event ∷ lines) work a b end
       cases how.Whole by = absurd by
       cases (how.Refused other) by = absurd by

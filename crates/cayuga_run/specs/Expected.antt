@@ -4,7 +4,7 @@ use Rattle.cay_host.specs.Told.{Told}
 use Rattle.cayuga_run.specs.declared.refusal.Refusal.{Refusal}
 use Rattle.cayuga_run.specs.declared.refusal.Refusal.TheVariants.{HasFault, IsOutOfOrder}
 use Rattle.cayuga_run.specs.declared.status.Status.{Status}
-use Rattle.cayuga_run.specs.declared.status.Status.TheVariants.{Done, Usage, BadQuery, BadEvent, OutOfOrder, AttachFault, ReadFault, WriteFault, TooMuch, Memory}
+use Rattle.cayuga_run.specs.declared.status.Status.TheVariants.{Done, BadQuery, BadEvent, OutOfOrder, AttachFault, ReadFault, WriteFault, TooMuch, Memory}
 use Rattle.cayuga_run.specs.Judgement.{Verdict, Accepts, Refuses, judge}
 use Rattle.cayuga_run.specs.Outcome.{is_whole}
 use Rattle.cayuga_run.specs.Reports.{refused_in}

@@ -1,16 +1,14 @@
 -- A query that filters the declared stream, and the rows that it gives line after line.
-use Rattle.std.specs.Prelude.{ℕ, Bool, true, false, ◌&&◌, ◌==◌, nat_lt, if◌then◌else◌, is_some, List, [], ◌∷◌, ◌++◌, Option, Some, None, map, Result, Ok, Err}
+use Rattle.std.specs.Prelude.{ℕ, Bool, ◌&&◌, ◌==◌, List, [], ◌∷◌, None, map}
 use Rattle.std.specs.List.{filter, flat_map}
 use Rattle.event_types.specs.Tuple.{Row}
 use Rattle.event_types.specs.Order.{sorted}
 use Rattle.semantics.specs.Scalars.{Pr}
 use Rattle.semantics.specs.Truth.{all_true}
-use Rattle.semantics.specs.Expressions.{Ex, Read, Filter}
+use Rattle.semantics.specs.Expressions.{Read, Filter}
 use Rattle.semantics.specs.Histories.{Heard}
 use Rattle.semantics.specs.Programs.{Program, Query}
 use Rattle.semantics.specs.Report.{line}
-use Rattle.event_csv.specs.declared.fault.LineFault.{LineFault}
-use Rattle.cayuga_run.specs.Hearing.{Reading, refusal_of, seen_after}
 
 -- a query that filters the only declared stream: its name, and the parts of its condition
 pub record Filtering : Type 0 where

@@ -1,14 +1,13 @@
 -- The last part of a run: the report of what was taken of the events is written. No public clause cites this module.
 use Rattle.std.specs.Prelude.{◌≡◌, ℕ, List, Bool, true, false, take, None, Some}
-use Rattle.cay_host.specs.declared.side.Side.{Side}
-use Rattle.cay_host.specs.declared.side.Side.TheVariants.{Queries, Events}
+use Rattle.cay_host.specs.declared.side.Side.TheVariants.{Events}
 use Rattle.cay_host.specs.Faults.{Rose}
 use Rattle.cay_host.specs.Output.{Wrote, WrotePart}
 use Rattle.cay_host.specs.Told.{Told}
 use Rattle.cayuga_run.specs.declared.refusal.Refusal.{Refusal}
 use Rattle.cayuga_run.specs.declared.refusal.Refusal.TheVariants.{HasFault, IsOutOfOrder}
 use Rattle.cayuga_run.specs.declared.status.Status.{Status}
-use Rattle.cayuga_run.specs.declared.status.Status.TheVariants.{Done, Usage, BadQuery, BadEvent, OutOfOrder, AttachFault, ReadFault, WriteFault, TooMuch, Memory}
+use Rattle.cayuga_run.specs.declared.status.Status.TheVariants.{Done, BadEvent, OutOfOrder, ReadFault, WriteFault, TooMuch, Memory}
 use Rattle.cayuga_run.specs.declared.taking.End.{End}
 use Rattle.cayuga_run.specs.declared.taking.End.TheVariants.{Whole, More, Failed}
 use Rattle.cayuga_run.specs.Catalogue.{Catalogue}

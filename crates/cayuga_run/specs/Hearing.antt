@@ -1,5 +1,5 @@
 -- What is heard of the lines of an event text, which line is refused, and which epochs are closed.
-use Rattle.std.specs.Prelude.{ℕ, Bool, true, false, ◌&&◌, nat_lt, if◌then◌else◌, is_some, is_none, List, [], ◌∷◌, ◌++◌, Option, Some, None, Result, Ok, Err}
+use Rattle.std.specs.Prelude.{ℕ, Bool, ◌&&◌, nat_lt, if◌then◌else◌, is_some, is_none, List, [], ◌∷◌, ◌++◌, Option, Some, None, Result, Ok, Err}
 use Rattle.std.specs.List.{filter, last_or}
 use Rattle.std.specs.Option.{option_or, option_map_or}
 use Rattle.semantics.specs.Histories.{Heard}

@@ -1,5 +1,5 @@
 -- What a run has done, by its status.
-use Rattle.std.specs.Prelude.{◌≡◌, ℕ, ◌<◌, ◌≤◌, List, [], ◌++◌, Bool, true, false, nat_le, length, take, Option, Some, None, IfSome}
+use Rattle.std.specs.Prelude.{◌≡◌, ℕ, ◌<◌, ◌≤◌, List, [], Bool, true, false, nat_le, length, take, Option, Some, None, IfSome}
 use Rattle.std.specs.Io.KnownBytes.{prepend_known}
 use Rattle.cay_host.specs.declared.side.Side.{Side}
 use Rattle.cay_host.specs.declared.side.Side.TheVariants.{Queries, Events}
@@ -7,7 +7,6 @@ use Rattle.cay_host.specs.Faults.{Rose}
 use Rattle.cay_host.specs.Files.{file_of, lacks}
 use Rattle.cay_host.specs.Output.{Wrote, WrotePart, KeepsOutput}
 use Rattle.cay_host.specs.Told.{Told}
-use Rattle.event_csv.specs.declared.fault.LineFault.{LineFault}
 use Rattle.cayuga_run.specs.declared.fault.QueryFault.{QueryFault}
 use Rattle.cayuga_run.specs.declared.refusal.Refusal.{Refusal}
 use Rattle.cayuga_run.specs.declared.refusal.Refusal.TheVariants.{HasFault, IsOutOfOrder}

@@ -1,7 +1,6 @@
 -- Why the queries weren't accepted. No public clause cites this module.
 use Rattle.std.specs.Prelude.{◌≡◌, ⊤, IfSome}
-use Rattle.cay_host.specs.declared.side.Side.{Side}
-use Rattle.cay_host.specs.declared.side.Side.TheVariants.{Queries, Events}
+use Rattle.cay_host.specs.declared.side.Side.TheVariants.{Queries}
 use Rattle.cay_host.specs.Faults.{Rose}
 use Rattle.cay_host.specs.Told.{Told}
 use Rattle.cayuga_run.specs.declared.status.Status.{Status}

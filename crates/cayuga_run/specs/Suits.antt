@@ -2,7 +2,6 @@
 use Rattle.std.specs.Prelude.{◌≡◌, length, IfSome, None, slice_get}
 use Rattle.event_types.specs.Tuple.{Row}
 use Rattle.scalar_expr.specs.Fits.{AllFit}
-use Rattle.stream_schema.specs.Streams.{Entry}
 use Rattle.event_csv.specs.declared.event.Seen.{Seen}
 use Rattle.cayuga_run.specs.declared.filter.Filter.{Filter}
 use Rattle.cayuga_run.specs.declared.reading.Next.{Next}

@@ -1,5 +1,5 @@
 //! Built files, read from their tokens.
-ghost use Rattle.std.specs.Prelude.{◌≡◌, ◌<◌, ◌++◌, ◌∷◌, [], length, IfOk, IfSome, Some, None};
+ghost use Rattle.std.specs.Prelude.{◌≡◌, ◌<◌, [], length, IfOk, IfSome, Some, None};
 ghost use Rattle.std.specs.Option.{option_map};
 ghost use Rattle.event_types.specs.Tuple.{Row};
 ghost use Rattle.scalar_expr.specs.Canonical.{canonical};
@@ -37,7 +37,11 @@ pub fn read_built(alloc: Global, words: &[SpelledToken<'_>]) -> Result<Option<Fi
 }
 
 // Whether the tokens are `STREAM S (`.
-fn is_beginning(word: &SpelledToken<'_>, stream: &SpelledToken<'_>, parenthesis: &SpelledToken<'_>) -> bool
+fn is_beginning(
+    word: &SpelledToken<'_>,
+    stream: &SpelledToken<'_>,
+    parenthesis: &SpelledToken<'_>,
+) -> bool
     ensures { result ≡ is_beginning word.now stream.now parenthesis.now }
 {
     word.is_keyword("STREAM") && is_stream_name(stream) && parenthesis.is_sign("(")
@@ -189,7 +193,12 @@ fn read_test(
 }
 
 // The test that three tokens write.
-fn test_of(schema: &Schema, name: &SpelledToken<'_>, sign: &SpelledToken<'_>, number: &SpelledToken<'_>) -> Option<Pred>
+fn test_of(
+    schema: &Schema,
+    name: &SpelledToken<'_>,
+    sign: &SpelledToken<'_>,
+    number: &SpelledToken<'_>,
+) -> Option<Pred>
     ensures value { option_map pr_of result ≡ test_of schema.now name.now sign.now number.now }
     ensures fits { IfSome result (λ test. (tuple : Row) → length tuple.vals ≡ length schema.now → AllFit (canonical (pr_of test)) tuple None) }
 {

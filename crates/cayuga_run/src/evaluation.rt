@@ -1,17 +1,17 @@
 //! The report of a filter over an event text.
-ghost use Rattle.std.specs.Prelude.{◌≡◌, false,  ◌++◌, ◌∷◌, [], ℕ, Bool, List, true, None, Some, Ok, IfOk, IfErr, OnOk, OnErr, IfSome};
+ghost use Rattle.std.specs.Prelude.{◌≡◌, false, ◌++◌, ◌∷◌, [], ℕ, Bool, List, true, None, Some, Ok, IfErr, OnOk, OnErr};
 ghost use Rattle.cay_host.specs.Faults.{Rose};
-ghost use Rattle.cay_host.specs.Output.{Wrote, WrotePart, SameButOutput};
+ghost use Rattle.cay_host.specs.Output.{WrotePart, SameButOutput};
 ghost use Rattle.cayuga_run.specs.declared.work.Ended.{Ended};
 ghost use Rattle.cayuga_run.specs.Filtering.{Filtering, passed};
 ghost use Rattle.cayuga_run.specs.Hearing.{Reading, disorder};
-ghost use Rattle.cayuga_run.specs.Owing.{Owes, WroteFront};
+ghost use Rattle.cayuga_run.specs.Owing.{Owes};
 ghost use Rattle.cayuga_run.specs.Readings.{heard_of, readings_left};
 ghost use Rattle.cayuga_run.specs.Catalogue.{catalogue_of};
 ghost use Rattle.cayuga_run.specs.Reports.{Evaluates};
 ghost use Rattle.cayuga_run.specs.Suits.{Suits, SuitsEvent};
 ghost use Rattle.event_csv.specs.Fed.{lines_left};
-ghost use Rattle.cayuga_run.specs.Working.{Advances, Ends, FailsBy, RefusesBy, Progresses, closing, staying, filtering_of, left_of, line_of};
+ghost use Rattle.cayuga_run.specs.Working.{Advances, Ends, FailsBy, RefusesBy, Progresses, closing, staying, filtering_of, line_of};
 
 use crate::filter::Filter;
 use crate::reading::{Next, last_reading, next_reading};

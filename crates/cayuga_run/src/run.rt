@@ -105,7 +105,11 @@ fn finish<H: Host, L: Ledger>(
             End::Failed => Status::ReadFault(Side::Events),
         },
         Ended::Refused(Refusal::HasFault { line, why }) => Status::BadEvent { line, why },
-        Ended::Refused(Refusal::IsOutOfOrder { line, at, seen }) => Status::OutOfOrder { line, at, seen },
+        Ended::Refused(Refusal::IsOutOfOrder { line, at, seen }) => Status::OutOfOrder {
+            line,
+            at,
+            seen,
+        },
         Ended::WriteFault => Status::WriteFault,
         Ended::Memory => Status::Memory,
     }

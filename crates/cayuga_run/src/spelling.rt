@@ -1,6 +1,5 @@
 //! The tokens of a query text with their bytes.
-ghost use Rattle.std.specs.Prelude.{◌≡◌, map, IfOk};
-ghost use Rattle.std.specs.Str.{bytes_eq};
+ghost use Rattle.std.specs.Prelude.{◌≡◌, IfOk};
 ghost use Rattle.cayuga_run.specs.Spelling.{is_keyword, is_name, is_sign, spelled_tokens};
 
 use cel_lexer::{Tokens, What};

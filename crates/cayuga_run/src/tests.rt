@@ -11,7 +11,8 @@ use std::sync::ledger::Blank;
 use std::test::Fail;
 
 /// Trades above 100.
-const HIGH: &[u8] = b"STREAM Stock (Name TEXT, Price INT, Volume INT);\nSELECT * FROM FILTER {Price > 100} Stock PUBLISH Q;\n";
+const HIGH: &[u8] =
+    b"STREAM Stock (Name TEXT, Price INT, Volume INT);\nSELECT * FROM FILTER {Price > 100} Stock PUBLISH Q;\n";
 
 const TRADE: &[u8] = b"Stock,10,10,IBM,101,5\n";
 
@@ -68,7 +69,10 @@ fn expect(
     rows: &[u8],
 ) -> Result<(), AllocError> {
     let mut host = host_with(alloc, queries, events)?;
-    assert_eq!(rt; run_within(alloc, &mut host, &["run", "q", "e"], 1 << 40), status);
+    assert_eq!(rt;
+        run_within(alloc, &mut host, &["run", "q", "e"], 1 << 40),
+        status
+    );
     assert_eq!(rt; host.written(), rows);
     Ok(())
 }
@@ -90,11 +94,19 @@ fn rows_of_the_passing_events_are_written(rt: HostRuntime) -> Result<(), Fail> {
 #[test]
 fn rows_of_an_epoch_stand_in_the_order_of_tuples(rt: HostRuntime) -> Result<(), Fail> {
     let alloc = rt.alloc();
-    let events = b"Stock,3,9,IBM,300,1\nStock,2,9,IBM,400,1\nStock,2,9,ACME,500,1\nStock,1,10,IBM,200,1\n";
+    let events =
+        b"Stock,3,9,IBM,300,1\nStock,2,9,IBM,400,1\nStock,2,9,ACME,500,1\nStock,1,10,IBM,200,1\n";
     let rows = b"Q,2,9,ACME,500,1\nQ,2,9,IBM,400,1\nQ,3,9,IBM,300,1\nQ,1,10,IBM,200,1\n";
     expect(&rt, alloc, HIGH, events, Status::Done, rows)?;
     let header = b"stream,start,detection,name,price,volume\r\nStock,7,7,\"a,\"\"b\"\"\",101,2\r\n";
-    expect(&rt, alloc, HIGH, header, Status::Done, b"Q,7,7,\"a,\"\"b\"\"\",101,2\n")?;
+    expect(
+        &rt,
+        alloc,
+        HIGH,
+        header,
+        Status::Done,
+        b"Q,7,7,\"a,\"\"b\"\"\",101,2\n",
+    )?;
     Ok(())
 }
 
@@ -108,7 +120,8 @@ fn a_refused_line_closes_nothing(rt: HostRuntime) -> Result<(), Fail> {
         seen: 5,
     };
     expect(&rt, alloc, HIGH, early, status, b"")?;
-    let bad = b"Stock,1,1,IBM,101,5\nStock,2,2,IBM,102,6\nStock,3,3,IBM,170141183460469231731687303715884105728,7\n";
+    let bad =
+        b"Stock,1,1,IBM,101,5\nStock,2,2,IBM,102,6\nStock,3,3,IBM,170141183460469231731687303715884105728,7\n";
     let status = Status::BadEvent {
         line: 3,
         why: LineFault::BadInt { field: 5 },
@@ -129,13 +142,35 @@ fn a_refused_query_text_names_its_line(rt: HostRuntime) -> Result<(), Fail> {
     expect(&rt, alloc, b"", TRADE, bad(1, QueryFault::Unbuilt), b"")?;
     let open = b"STREAM Stock (Name TEXT);\nSELECT * FROM FILTER {Name = 'IBM} Stock PUBLISH Q;\n";
     expect(&rt, alloc, open, TRADE, bad(2, QueryFault::BadToken), b"")?;
-    expect(&rt, alloc, b"\n\n\xFF", TRADE, bad(3, QueryFault::NotUtf8), b"")?;
+    expect(
+        &rt,
+        alloc,
+        b"\n\n\xFF",
+        TRADE,
+        bad(3, QueryFault::NotUtf8),
+        b"",
+    )?;
     let wide = b"170141183460469231731687303715884105728";
-    expect(&rt, alloc, wide, TRADE, bad(1, QueryFault::NumberPast128), b"")?;
-    let text = b"STREAM Stock (Name TEXT, Price INT);\nSELECT * FROM FILTER {Name > 100} Stock PUBLISH Q;\n";
+    expect(
+        &rt,
+        alloc,
+        wide,
+        TRADE,
+        bad(1, QueryFault::NumberPast128),
+        b"",
+    )?;
+    let text =
+        b"STREAM Stock (Name TEXT, Price INT);\nSELECT * FROM FILTER {Name > 100} Stock PUBLISH Q;\n";
     expect(&rt, alloc, text, TRADE, bad(1, QueryFault::Unbuilt), b"")?;
     let long = vec![in alloc; b'\n'; 1_048_577]?;
-    expect(&rt, alloc, &long, TRADE, bad(1_048_577, QueryFault::TooLong), b"")?;
+    expect(
+        &rt,
+        alloc,
+        &long,
+        TRADE,
+        bad(1_048_577, QueryFault::TooLong),
+        b"",
+    )?;
     Ok(())
 }
 
@@ -145,11 +180,20 @@ fn words_that_are_no_run_are_usage(rt: HostRuntime) -> Result<(), Fail> {
     let mut host = host_with(alloc, HIGH, TRADE)?;
     assert_eq!(rt; run_within(alloc, &mut host, &[], 9), Status::Usage);
     let mut host = host_with(alloc, HIGH, TRADE)?;
-    assert_eq!(rt; run_within(alloc, &mut host, &["run", "q"], 9), Status::Usage);
+    assert_eq!(rt;
+        run_within(alloc, &mut host, &["run", "q"], 9),
+        Status::Usage
+    );
     let mut host = host_with(alloc, HIGH, TRADE)?;
-    assert_eq!(rt; run_within(alloc, &mut host, &["walk", "q", "e"], 9), Status::Usage);
+    assert_eq!(rt;
+        run_within(alloc, &mut host, &["walk", "q", "e"], 9),
+        Status::Usage
+    );
     let mut host = host_with(alloc, HIGH, TRADE)?;
-    assert_eq!(rt; count::<Quiet>(alloc, &mut host, &["run", "q", "e"], Blank::new(1)), Status::Done);
+    assert_eq!(rt;
+        count::<Quiet>(alloc, &mut host, &["run", "q", "e"], Blank::new(1)),
+        Status::Done
+    );
     Ok(())
 }
 
@@ -170,7 +214,10 @@ fn an_absent_file_is_named(rt: HostRuntime) -> Result<(), Fail> {
 fn one_byte_more_than_the_limit_is_too_much(rt: HostRuntime) -> Result<(), Fail> {
     let alloc = rt.alloc();
     let mut host = host_with(alloc, HIGH, TRADE)?;
-    assert_eq!(rt; run_within(alloc, &mut host, &["run", "q", "e"], 22), Status::Done);
+    assert_eq!(rt;
+        run_within(alloc, &mut host, &["run", "q", "e"], 22),
+        Status::Done
+    );
     assert_eq!(rt; host.written(), ROW);
     let mut host = host_with(alloc, HIGH, TRADE)?;
     let status = run_within(alloc, &mut host, &["run", "q", "e"], 21);
@@ -206,13 +253,12 @@ fn each_call_that_fails_is_named(rt: HostRuntime) -> Result<(), Fail> {
         Status::ReadFault(Side::Events),
         Status::WriteFault,
     ];
-    let mut call = 0;
-    for status in statuses {
-        call += 1;
+    for place in 0..7 {
+        let call = place as u64 + 1;
         let mut host = host_with(alloc, HIGH, TRADE)?;
         host.fail(call)?;
         let found = run_within(alloc, &mut host, &["run", "q", "e"], 99);
-        assert_eq!(rt; found, status, "call {call}");
+        assert_eq!(rt; found, statuses[place], "call {call}");
         assert_eq!(rt; host.written(), b"".as_slice(), "call {call}");
     }
     let mut host = host_with(alloc, HIGH, TRADE)?;

@@ -1,5 +1,5 @@
 //! The top call.
-ghost use Rattle.std.specs.Prelude.{◌≡◌, ◌^◌, ℕ};
+ghost use Rattle.std.specs.Prelude.{◌^◌};
 ghost use Rattle.cay_host.specs.Told.{IsFree};
 ghost use Rattle.cayuga_run.specs.Answers.{Answers};
 ghost use Rattle.cayuga_run.specs.Outcome.{Outcome};

@@ -4,9 +4,9 @@ ghost use Rattle.cay_host.specs.Faults.{Rose};
 ghost use Rattle.cay_host.specs.Output.{Wrote, WrotePart, SameButOutput};
 ghost use Rattle.cayuga_run.specs.Filtering.{batch_of};
 
-use result_text::append_rows;
 use cay_host::{Failed, Host, write_whole};
 use event_types::{Memory, Tuples, put_in_order};
+use result_text::append_rows;
 use std::alloc::Global;
 
 /// Appends the result lines of an epoch's tuples, in their order, and takes the tuples away.

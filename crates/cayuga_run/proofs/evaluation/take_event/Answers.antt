@@ -1,4 +1,4 @@
-use Rattle.std.proofs.Common.{◌≡◌, ◌∙◌, ap, sym, Some, arith}
+use Rattle.std.proofs.Common.{◌∙◌, ap, sym, Some}
 use Rattle.cayuga_run.specs.Hearing.{disorder}
 use Rattle.cayuga_run.specs.Working.{filtering_of, line_of}
 use Rattle.cayuga_run.proofs.WorkingLemmas.{late_is, refuses}

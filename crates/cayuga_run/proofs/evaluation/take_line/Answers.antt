@@ -1,4 +1,4 @@
-use Rattle.std.proofs.Common.{◌≡◌, ◌<◌, ap, refl, length, true, arith, Err}
+use Rattle.std.proofs.Common.{ap, refl, length, true, arith, Err}
 use Rattle.cayuga_run.specs.Working.{filtering_of}
 use Rattle.cayuga_run.proofs.WorkingLemmas.{advances_same, ends_same, refuses}
 use Rattle.cayuga_run.proofs.evaluation.take_line.Goals as goal

@@ -1,4 +1,4 @@
-use Rattle.std.proofs.Common.{rules, ◌≡◌, ◌∙◌, sym, ap, IfSome}
+use Rattle.std.proofs.Common.{◌≡◌, IfSome}
 use Rattle.std.proofs.lemmas.Result.{IfOk-weaker, IfErr-weaker}
 use Rattle.cay_host.specs.declared.side.Side.TheVariants.{Queries}
 use Rattle.cayuga_run.specs.Catalogue.{catalogue_of}
@@ -36,5 +36,5 @@ returns-clause-fails g c =
     let bytes = c.deref-in-More.result.now in
     let ends = rw c.in-More.is at c.in-Ok.ensures.end in
     let same : IfSome (before.left Queries) (λ t. judge t ≡ judge bytes) =
-        judged_past (before.left Queries) (after.left Queries) bytes (rw c.deref-in-More.ensures.value c.in-Ok.ensures.front) (rw c.deref-in-More.ensures.value ends) in
+    judged_past (before.left Queries) (after.left Queries) bytes (rw c.deref-in-More.ensures.value c.in-Ok.ensures.front) (rw c.deref-in-More.ensures.value ends) in
     IfErr-weaker c.judge_text-in-More.result (TextFails (judge bytes)) (QueriesFail before after) (λ status f. text_fails before after bytes status same f) c.judge_text-in-More.ensures.fails
