@@ -1,19 +1,20 @@
 -- From the table of the statuses to what each answer says.
-use Rattle.std.proofs.Common.{◌≡◌, ◌∙◌, sym, ap, refl, subst, ℕ, ◌-◌, ◌^◌, ◌<◌, ◌≤◌, List, true, false, Option, Some, None, IfSome, length, take, arith}
+use Rattle.std.proofs.Common.{◌≡◌, ◌∙◌, sym, ap, refl, subst, ℕ, ◌-◌, ◌^◌, ◌<◌, ◌≤◌, List, true, false, Option, Some, None, IfSome, is_none, length, take, arith}
 use Rattle.std.proofs.lemmas.List.{take_all}
 use Rattle.std.proofs.lemmas.Bool.{le-leb}
 use Rattle.std.proofs.lemmas.Bool.Decides.{nat_tests}
 use Rattle.cay_host.specs.declared.side.Side.TheVariants.{Queries, Events}
 use Rattle.cay_host.specs.Faults.{Rose}
-use Rattle.cay_host.specs.Files.{file_of}
+use Rattle.cay_host.specs.Files.{Files, file_of, find_file, lacks}
+use Rattle.cayuga_run.specs.declared.fault.QueryFault.{QueryFault}
 use Rattle.cay_host.specs.Told.{Told}
 use Rattle.cayuga_run.specs.declared.status.Status.{Status}
 use Rattle.cayuga_run.specs.declared.status.Status.TheVariants.{Done, Usage, BadQuery, BadEvent, OutOfOrder, AttachFault, ReadFault, WriteFault, TooMuch, Memory}
 use Rattle.cayuga_run.specs.Answers.{Answers}
 use Rattle.cayuga_run.specs.Catalogue.{Catalogue}
-use Rattle.cayuga_run.specs.Expected.{expected, expected_after, expected_of, IsExpectedOrFault, IsExpectedOrMemory, IsSteady}
+use Rattle.cayuga_run.specs.Expected.{AnswersRefused, expected, expected_after, expected_of, IsExpectedOrFault, IsExpectedOrMemory, IsSteady}
 use Rattle.cayuga_run.specs.Judgement.{Verdict, Accepts, Refuses, judge}
-use Rattle.cayuga_run.specs.Outcome.{AreThere, IsAccepted, OfFiles, Outcome, is_whole}
+use Rattle.cayuga_run.specs.Outcome.{AreThere, IsAccepted, OfFiles, OfQueries, Outcome, is_whole}
 use Rattle.cayuga_run.specs.Reports.{refused_in}
 use Rattle.cayuga_run.specs.Words.{Job}
 
@@ -66,6 +67,60 @@ decided job limit old new (TooMuch most) o =
     (λ c h. ap TooMuch o.0 ∙ sym (ap (λ b. expected_after limit (refused_in c (take limit e) b) b) (long_is limit e h.0) ∙ ap (λ r. expected_after limit r false) h.1))) o.1.text
 decided job limit old new Memory o = of_none _ _ _ (λ q e. tt)
 
+-- where the query file is told and both files are there, both are told
+both_told : (job : Job) (files : Option Files) (P : List ℕ → List ℕ → Type 0) → lacks job.events files ≡ false → IfSome (file_of job.queries files) (λ q. IfSome (file_of job.events files) (P q))
+    → IfSome (file_of job.queries files) (λ q. (e : List ℕ) × P q e)
+both_told job None P there h = tt
+both_told job (Some files) P there h = cases (find_file job.queries files) (find_file job.events files) there h
+  where
+    cases : (a b : Option (List ℕ)) → is_none b ≡ false → IfSome a (λ q. IfSome b (P q)) → IfSome a (λ q. (e : List ℕ) × P q e)
+    cases None b there h = tt
+    cases (Some q) None there h = cc
+    cases (Some q) (Some e) there h = (e, h)
+
+for_some : {X : Type 0} (o : Option X) (P Q : X → Type 0) → ((x : X) → P x → Q x) → IfSome o P → IfSome o Q
+for_some None P Q f h = tt
+for_some (Some x) P Q f h = f x h
+
+-- an accepted text has any answer
+accepted_answers : (v : Verdict) (status : Status) (P : Catalogue → Type 0) → IsAccepted v P → AnswersRefused v status
+accepted_answers (Accepts c) status P h = tt
+accepted_answers (Refuses line why) status P h = absurd h
+
+free_answers : (o : Option (List ℕ)) (status : Status) → ((line : ℕ) (why : QueryFault) → AnswersRefused (Refuses line why) status) → IfSome o (λ q. AnswersRefused (judge q) status)
+free_answers None status f = tt
+free_answers (Some q) status f = by_verdict (judge q)
+  where
+    by_verdict : (v : Verdict) → AnswersRefused v status
+    by_verdict (Accepts c) = tt
+    by_verdict (Refuses line why) = f line why
+
+-- both files are there and the query text is accepted
+accepted_files : (job : Job) (old : Told) (status : Status) (P : List ℕ → Catalogue → Type 0) → AreThere job old
+    → OfFiles job old (λ q e. IsAccepted (judge q) (P e)) → OfQueries job old (λ q. AnswersRefused (judge q) status)
+accepted_files job old status P there h =
+    for_some (file_of job.queries old.files) (λ q. (e : List ℕ) × IsAccepted (judge q) (P e)) (λ q. AnswersRefused (judge q) status)
+    (λ q p. accepted_answers (judge q) status (P p.0) p.1) (both_told job old.files (λ q e. IsAccepted (judge q) (P e)) there.events h)
+
+-- the answer where the query text is refused
+refused_by : (job : Job) (limit : ℕ) (old new : Told) (status : Status) → Outcome (Some job) limit old new status → OfQueries job old (λ q. AnswersRefused (judge q) status)
+refused_by job limit old new Done o = accepted_files job old Done _ o.there o.text
+refused_by job limit old new Usage o = absurd o
+refused_by job limit old new (BadQuery line why) o =
+    for_some (file_of job.queries old.files) (λ q. judge q ≡ Refuses line why) (λ q. AnswersRefused (judge q) (BadQuery line why))
+    (λ q e. subst (λ v. AnswersRefused v (BadQuery line why)) (sym e) refl) o.refused
+refused_by job limit old new (BadEvent line why) o = accepted_files job old (BadEvent line why) _ o.there o.text
+refused_by job limit old new (OutOfOrder line at seen) o = accepted_files job old (OutOfOrder line at seen) _ o.there o.text
+refused_by job limit old new (AttachFault Queries) o = free_answers (file_of job.queries old.files) (AttachFault Queries) (λ line why. tt)
+refused_by job limit old new (AttachFault Events) o =
+    for_some (file_of job.queries old.files) (λ q. IsAccepted (judge q) (λ c. Unit {0})) (λ q. AnswersRefused (judge q) (AttachFault Events))
+    (λ q h. accepted_answers (judge q) (AttachFault Events) (λ c. Unit {0}) h) (o.accepted refl).1
+refused_by job limit old new (ReadFault Queries) o = free_answers (file_of job.queries old.files) (ReadFault Queries) (λ line why. tt)
+refused_by job limit old new (ReadFault Events) o = let stopped = o.events refl in accepted_files job old (ReadFault Events) _ stopped.there stopped.text
+refused_by job limit old new WriteFault o = accepted_files job old WriteFault _ o.there o.text
+refused_by job limit old new (TooMuch most) o = accepted_files job old (TooMuch most) _ o.1.there o.1.text
+refused_by job limit old new Memory o = free_answers (file_of job.queries old.files) Memory (λ line why. tt)
+
 -- a count that didn't rise and is below its end
 no_rise : (before now : ℕ) → Rose before now → now ≡ before → before < 2 ^ 64 - 1 → ⊥
 no_rise before now r e b = omega (arith, r, e, b)
@@ -99,6 +154,7 @@ without_job limit old new Usage o = record {
   read_fault = λ side e. cc;
   write_fault = λ e. cc;
   memory = λ e. cc;
+  refused = tt;
   determined = tt;
   complete = tt;
 }
@@ -127,6 +183,7 @@ answers (Some job) limit old new status o = record {
   read_fault = λ side e. subst (Outcome (Some job) limit old new) e o;
   write_fault = λ e. subst (Outcome (Some job) limit old new) e o;
   memory = λ e. subst (Outcome (Some job) limit old new) e o;
+  refused = refused_by job limit old new status o;
   determined = decided job limit old new status o;
   complete = complete_by job limit old new status o;
 }

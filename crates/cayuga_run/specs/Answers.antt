@@ -7,8 +7,9 @@ use Rattle.cayuga_run.specs.declared.fault.QueryFault.{QueryFault}
 use Rattle.cayuga_run.specs.declared.refusal.Refusal.TheVariants.{HasFault, IsOutOfOrder}
 use Rattle.cayuga_run.specs.declared.status.Status.{Status}
 use Rattle.cayuga_run.specs.declared.status.Status.TheVariants.{Done, Usage, BadQuery, BadEvent, OutOfOrder, AttachFault, ReadFault, WriteFault, TooMuch, Memory}
-use Rattle.cayuga_run.specs.Expected.{expected, IsExpectedOrFault, IsExpectedOrMemory, IsSteady}
-use Rattle.cayuga_run.specs.Outcome.{AreThere, ForJob, IsAttachFault, IsBadQuery, IsDone, IsMemory, IsReadFault, IsRefused, IsTooMuch, IsWriteFault, OfFiles}
+use Rattle.cayuga_run.specs.Judgement.{judge}
+use Rattle.cayuga_run.specs.Expected.{AnswersRefused, expected, IsExpectedOrFault, IsExpectedOrMemory, IsSteady}
+use Rattle.cayuga_run.specs.Outcome.{AreThere, ForJob, IsAttachFault, IsBadQuery, IsDone, IsMemory, IsReadFault, IsRefused, IsTooMuch, IsWriteFault, OfFiles, OfQueries}
 use Rattle.cayuga_run.specs.Words.{Job}
 
 -- the answers of a call with these words and this limit, over what the host told before and after it
@@ -26,6 +27,8 @@ pub record Answers (job : Option Job) (limit : ℕ) (old new : Told) (status : S
   pub read_fault : (side : Side) → status ≡ ReadFault side → ForJob job (λ j. IsReadFault side j limit old new)
   pub write_fault : status ≡ WriteFault → ForJob job (λ j. IsWriteFault j limit old new)
   pub memory : status ≡ Memory → ForJob job (λ j. IsMemory j limit old new)
+  -- a refused query text decides the answer whatever the events, unless the queries couldn't be attached or read or there was no memory
+  pub refused : IfSome job (λ j. OfQueries j old (λ queries. AnswersRefused (judge queries) status))
   -- the texts decide the answer, unless the host failed or there was no memory
   pub determined : IfSome job (λ j. OfFiles j old (λ queries events. IsExpectedOrFault (expected limit queries events) status))
   -- where no call of the host failed and both files are there, the texts decide the answer, unless there was no memory

@@ -1,5 +1,6 @@
 -- The status that the texts of both files ask for.
 use Rattle.std.specs.Prelude.{◌≡◌, ⊤, ℕ, ◌-◌, ◌^◌, ◌<◌, List, Bool, true, false, take, Option, Some, None}
+use Rattle.cay_host.specs.declared.side.Side.TheVariants.{Queries}
 use Rattle.cay_host.specs.Told.{Told}
 use Rattle.cayuga_run.specs.declared.refusal.Refusal.{Refusal}
 use Rattle.cayuga_run.specs.declared.refusal.Refusal.TheVariants.{HasFault, IsOutOfOrder}
@@ -37,6 +38,14 @@ IsExpectedOrFault want status = status ≡ want
 abbrev pub IsExpectedOrMemory : Status → Status → Type 0
 IsExpectedOrMemory want Memory = ⊤
 IsExpectedOrMemory want status = status ≡ want
+
+-- a refused query text is the answer, unless the queries couldn't be attached or read or there was no memory
+abbrev pub AnswersRefused : Verdict → Status → Type 0
+AnswersRefused (Accepts catalogue) status = ⊤
+AnswersRefused (Refuses line why) (AttachFault Queries) = ⊤
+AnswersRefused (Refuses line why) (ReadFault Queries) = ⊤
+AnswersRefused (Refuses line why) Memory = ⊤
+AnswersRefused (Refuses line why) status = status ≡ BadQuery line why
 
 -- no count of faults rose, and each is below its end
 pub record IsSteady (old new : Told) : Type 0 where

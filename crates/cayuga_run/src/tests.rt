@@ -14,6 +14,10 @@ use std::test::Fail;
 const HIGH: &[u8] =
     b"STREAM Stock (Name TEXT, Price INT, Volume INT);\nSELECT * FROM FILTER {Price > 100} Stock PUBLISH Q;\n";
 
+/// Trades above 0.
+const ALL: &[u8] =
+    b"STREAM Stock (Name TEXT, Price INT, Volume INT);\nSELECT * FROM FILTER {Price > 0} Stock PUBLISH All;\n";
+
 const TRADE: &[u8] = b"Stock,10,10,IBM,101,5\n";
 
 const ROW: &[u8] = b"Q,10,10,IBM,101,5\n";
@@ -98,14 +102,14 @@ fn rows_of_an_epoch_stand_in_the_order_of_tuples(rt: HostRuntime) -> Result<(), 
         b"Stock,3,9,IBM,300,1\nStock,2,9,IBM,400,1\nStock,2,9,ACME,500,1\nStock,1,10,IBM,200,1\n";
     let rows = b"Q,2,9,ACME,500,1\nQ,2,9,IBM,400,1\nQ,3,9,IBM,300,1\nQ,1,10,IBM,200,1\n";
     expect(&rt, alloc, HIGH, events, Status::Done, rows)?;
-    let header = b"stream,start,detection,name,price,volume\r\nStock,7,7,\"a,\"\"b\"\"\",101,2\r\n";
+    let header = b"stream,start,detection,name,price,volume\r\nStock,7,7,\"a,\"\"b\"\"\",1,2\r\n";
     expect(
         &rt,
         alloc,
-        HIGH,
+        ALL,
         header,
         Status::Done,
-        b"Q,7,7,\"a,\"\"b\"\"\",101,2\n",
+        b"All,7,7,\"a,\"\"b\"\"\",1,2\n",
     )?;
     Ok(())
 }
@@ -113,25 +117,51 @@ fn rows_of_an_epoch_stand_in_the_order_of_tuples(rt: HostRuntime) -> Result<(), 
 #[test]
 fn a_refused_line_closes_nothing(rt: HostRuntime) -> Result<(), Fail> {
     let alloc = rt.alloc();
-    let early = b"Stock,5,5,IBM,101,5\nStock,5,5,IBM,101,5\nStock,4,4,IBM,101,5\n";
+    let early = b"Stock,5,5,IBM,10,5\nStock,5,5,IBM,10,5\nStock,4,4,IBM,10,5\n";
     let status = Status::OutOfOrder {
         line: 3,
         at: 4,
         seen: 5,
     };
-    expect(&rt, alloc, HIGH, early, status, b"")?;
+    expect(&rt, alloc, ALL, early, status, b"")?;
     let bad =
-        b"Stock,1,1,IBM,101,5\nStock,2,2,IBM,102,6\nStock,3,3,IBM,170141183460469231731687303715884105728,7\n";
+        b"Stock,1,1,IBM,10,5\nStock,2,2,IBM,11,6\nStock,3,3,IBM,170141183460469231731687303715884105728,7\n";
     let status = Status::BadEvent {
         line: 3,
         why: LineFault::BadInt { field: 5 },
     };
-    expect(&rt, alloc, HIGH, bad, status, b"Q,1,1,IBM,101,5\n")?;
-    let status = Status::BadEvent {
-        line: 1,
-        why: LineFault::BadInt { field: 5 },
-    };
-    expect(&rt, alloc, HIGH, b"Stock,1,1,IBM,ten,5\n", status, b"")?;
+    expect(&rt, alloc, ALL, bad, status, b"All,1,1,IBM,10,5\n")?;
+    Ok(())
+}
+
+#[test]
+fn the_first_fault_of_an_event_line_is_the_answer(rt: HostRuntime) -> Result<(), Fail> {
+    let alloc = rt.alloc();
+    let bad = |why| Status::BadEvent { line: 1, why };
+    let time = LineFault::BadTime { field: 3 };
+    let few = LineFault::FieldCount { want: 6, got: 5 };
+    let early = LineFault::StartAfterDetection;
+    expect(
+        &rt,
+        alloc,
+        ALL,
+        b"Bond,1,1,x\n",
+        bad(LineFault::UnknownStream),
+        b"",
+    )?;
+    expect(&rt, alloc, ALL, b"Stock,1,1,IBM,10\n", bad(few), b"")?;
+    expect(&rt, alloc, ALL, b"Stock,1,,IBM,10,5\n", bad(time), b"")?;
+    expect(
+        &rt,
+        alloc,
+        ALL,
+        b"Stock,1,18446744073709551616,IBM,10,5\n",
+        bad(time),
+        b"",
+    )?;
+    expect(&rt, alloc, ALL, b"Stock,2,1,IBM,10,5\n", bad(early), b"")?;
+    let number = LineFault::BadInt { field: 5 };
+    expect(&rt, alloc, ALL, b"Stock,1,1,IBM,ten,5\n", bad(number), b"")?;
     Ok(())
 }
 

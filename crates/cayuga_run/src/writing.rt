@@ -19,6 +19,9 @@ pub fn put_batch(
     ensures rows { OnOk result (rows.new.items ≡ rows.old.items ++ batch_of name.now tuples.old) }
     ensures taken { OnOk result (tuples.new ≡ []) }
 {
+    if tuples.len() == 0 {
+        return Ok(());
+    }
     put_in_order(tuples);
     let buffer = std::mem::replace(rows, Vec::new(alloc));
     *rows = append_rows(buffer, name, tuples.as_slice())?;
