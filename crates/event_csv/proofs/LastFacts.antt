@@ -14,7 +14,7 @@ use Rattle.event_csv.proofs.PlaceFacts.{Lacks-from, line-kept}
 use Rattle.event_csv.proofs.LineFacts.{Lacks, is_long-no, lines_from-ended, lines_from-kept, lines_from-nil, lines_from-skipped, strip_bom-short}
 
 -- no bytes more
-fed_more-nil : (fed : Fed) → fed_more fed [] ≡ fed
+pub fed_more-nil : (fed : Fed) → fed_more fed [] ≡ fed
 fed_more-nil fed = λ i. record fed { rest = append-nil fed.rest i }
 
 -- where lines are as they were

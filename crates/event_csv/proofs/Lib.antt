@@ -8,4 +8,5 @@ pub mod NumberFacts
 pub mod PlaceFacts
 pub mod PlainLines
 pub mod RecordFacts
+pub mod RoundFacts
 pub mod ValueFacts

@@ -4,3 +4,4 @@ pub mod Fields
 pub mod Lines
 pub mod Numbers
 pub mod Place
+pub mod Rounds

@@ -1,7 +1,14 @@
-//! A law of the lines of a text.
+//! Laws of the lines of a text.
 ghost use Rattle.event_csv.specs.Fed.{LinesStay};
+ghost use Rattle.event_csv.specs.Rounds.{PiecesGiveTheLines, RoundsGiveTheLines};
 
 /// The lines that are left stay as more bytes come, and where the text ends: no byte takes a line back.
 pub fn lines_stay()
     ensures { LinesStay }
+{}
+
+/// The lines are those of the whole text, wherever it is cut into pieces and whenever lines are taken.
+pub fn pieces_give_the_lines_of_the_text()
+    ensures pushed { PiecesGiveTheLines }
+    ensures taken { RoundsGiveTheLines }
 {}
