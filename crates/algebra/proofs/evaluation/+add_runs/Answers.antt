@@ -1,0 +1,28 @@
+use Rattle.std.proofs.Common.{◌∙◌, ◌<◌, ◌-◌, arith, subst, sym}
+use Rattle.event_types.specs.Tuple.{Row}
+use Rattle.algebra.specs.Suits.{SuitsRuns}
+use Rattle.algebra.proofs.FoldLemmas.{All_read, SuitsBranch, goers_start_later, suits_branches}
+use Rattle.algebra.proofs.evaluation.+add_runs.Goals as goal
+
+-- the event is a goer, which starts after the binding was detected
+pub rebind-requires-clause-later : goal.rebind-requires-clause-later
+rebind-requires-clause-later g t c =
+    All_read (λ (r : Row). c.args.binding.now.at < r.from) _ _ (c.as_slice-event-items.ensures ∙ c.in_ok-found.ensures)
+    (goers_start_later c.args.choose.now c.args.on.now c.args.tuples.now c.args.binding.now) c.loop-event.event-index c.event-item.result (omega arith) c.event-item.is
+
+-- the scalars fit each goer
+pub rebind-requires-clause-fits : goal.rebind-requires-clause-fits
+rebind-requires-clause-fits g t c =
+    let some : 0 < c.args.most = omega arith in
+    let suits = suits_branches c.args.most c.args.choose.now c.args.on.now c.args.projection.now.parts c.args.tuples.now c.args.binding.now some c.requires in
+    (All_read (SuitsBranch (c.args.most - 1) c.args.choose.now c.args.on.now c.args.projection.now.parts c.args.tuples.now c.args.binding.now) _ _
+    (c.as_slice-event-items.ensures ∙ c.in_ok-found.ensures) suits.2 c.loop-event.event-index c.event-item.result (omega arith) c.event-item.is).0
+
+-- one event less may follow, and what is needed holds at the new binding
+pub add_runs-requires : goal.add_runs-requires
+add_runs-requires g t c κs within =
+    let some : 0 < c.args.most = omega arith in
+    let suits = suits_branches c.args.most c.args.choose.now c.args.on.now c.args.projection.now.parts c.args.tuples.now c.args.binding.now some c.requires in
+    let one = All_read (SuitsBranch (c.args.most - 1) c.args.choose.now c.args.on.now c.args.projection.now.parts c.args.tuples.now c.args.binding.now) _ _
+    (c.as_slice-event-items.ensures ∙ c.in_ok-found.ensures) suits.2 c.loop-event.event-index c.event-item.result (omega arith) c.event-item.is in
+    (omega arith, (within, subst (λ (b : Row). SuitsRuns (c.args.most - 1) c.args.choose.now c.args.on.now c.args.projection.now.parts c.args.tuples.now b) (sym c.in_ok-new_binding.ensures) one.1))

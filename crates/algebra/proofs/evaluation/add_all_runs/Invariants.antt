@@ -1,0 +1,8 @@
+use Rattle.std.proofs.Common.{◌≡◌, ◌++◌, take}
+use Rattle.std.specs.List.{flat_map}
+use Rattle.semantics.specs.Runs.{runs}
+use Rattle.algebra.proofs.evaluation.add_all_runs.Given as goal
+
+-- the runs from the bindings so far were added
+abbrev pub invariant-loop-binding : goal.invariant-loop-binding
+invariant-loop-binding g l = l.out ≡ l.initial.out ++ flat_map (runs l.choose l.on l.projection.parts l.tuples) (take l.binding-index l.bindings)

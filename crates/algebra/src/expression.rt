@@ -1,0 +1,21 @@
+//! Expressions over streams.
+use event_types::{List, StreamId, Tuples};
+use scalar_expr::{Conj, Map};
+
+/// An expression of the algebra: `a NEXT {c} b` is `Next` of the condition `c`, with the streams `a` and
+/// `b` as `Read`.
+///
+/// The first condition of `Fold` chooses the next events, the second says whether the iteration goes
+/// on, and the projection gives the new binding.
+#[derive(Drop)]
+pub enum Expr {
+    Read(StreamId),
+    Filter(Conj, Box<Expr>),
+    Select(Map, Box<Expr>),
+    Union(Box<Expr>, Box<Expr>),
+    Next(Conj, Box<Expr>, Box<Expr>),
+    Fold(Conj, Conj, Map, Box<Expr>, Box<Expr>),
+}
+
+/// The tuples of each stream, by its number.
+pub type Env = List<Tuples>;
