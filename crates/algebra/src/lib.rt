@@ -8,3 +8,6 @@ mod expression;
 
 pub use evaluation::evaluate;
 pub use expression::{Env, Expr};
+
+#[cfg(test)]
+mod tests;
