@@ -6,3 +6,4 @@ pub mod Predicates
 pub mod Sources
 pub mod Statements
 pub mod Spellings
+pub mod Views

@@ -1,0 +1,19 @@
+//! Scalars as they are written.
+use crate::mark::Mark;
+use event_types::Text;
+
+/// A scalar as it is written: `$2.Price + 1` is `Add` of an attribute `Price` with its mark and the number 1.
+#[derive(Drop)]
+pub enum Raw {
+    /// From -(2^127-1) to 2^127-1.
+    Number(i128),
+    /// What stands between the quotes, each doubled quote once.
+    Quoted(Text),
+    Attr(Mark, Text),
+    Dur,
+    Add(Box<Raw>, Box<Raw>),
+    Sub(Box<Raw>, Box<Raw>),
+    Mul(Box<Raw>, Box<Raw>),
+    Min(Box<Raw>, Box<Raw>),
+    Max(Box<Raw>, Box<Raw>),
+}
