@@ -6,4 +6,5 @@ pub mod Predicates
 pub mod Sources
 pub mod Statements
 pub mod Spellings
+pub mod Sentences
 pub mod Views

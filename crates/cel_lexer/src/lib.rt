@@ -1,6 +1,7 @@
 //! Cuts a query text into tokens.
 //!
-//! Contracts see `Tokens` as the bytes of the source and the list of the tokens over it, in order.
+//! Contracts see `Tokens` as the bytes of the source and the list of the tokens over it, in order, which
+//! are all that the source has.
 #![tactic(auto)]
 
 mod bytes;

@@ -1,11 +1,12 @@
 //! Tokens over their source.
-ghost use Rattle.std.specs.Prelude.{◌≡◌, ◌<◌, length, slice_get, option_map, Some};
-ghost use Rattle.cel_lexer.specs.Listing.{AreSpans, spelling};
+ghost use Rattle.std.specs.Prelude.{◌≡◌, ◌<◌, length, slice_get, option_map, Ok, Some};
+ghost use Rattle.cel_lexer.specs.Faults.{AreTokens, tokens_of};
+ghost use Rattle.cel_lexer.specs.Listing.{spelling};
 
 use crate::token::Token;
 use std::marker::Model;
 
-/// The tokens of a source, in order.
+/// The tokens of a source, in order: all that it has.
 #[derive(Drop)]
 pub struct Tokens<'a> {
     source: &'a str,
@@ -13,19 +14,20 @@ pub struct Tokens<'a> {
 }
 
 impl<'a> Model for Tokens<'a> {
-    ghost use Rattle.cel_lexer.specs.Listing.{AreSpans, Listing};
+    ghost use Rattle.cel_lexer.specs.Faults.{AreTokens};
+    ghost use Rattle.cel_lexer.specs.Listing.{Listing};
 
     ghost Value = { Listing };
 
     ghost view = { λ t. record { source = t.source.now; items = t.items.items } };
 
-    ghost invariant = { λ t. AreSpans t.source.now t.items.items };
+    ghost invariant = { λ t. AreTokens t.source.now t.items.items };
 }
 
 impl<'a> Tokens<'a> {
     /// These tokens over a source.
     pub(crate) fn over(source: &'a str, items: Vec<Token>) -> Tokens<'a>
-        requires { AreSpans source.now items.items }
+        requires { AreTokens source.now items.items }
         ensures source { result.source ≡ source.now }
         ensures items { result.items ≡ items.items }
     {
@@ -34,7 +36,8 @@ impl<'a> Tokens<'a> {
 
     /// How many tokens there are.
     pub fn size(&self) -> usize
-        ensures { result ≡ length self.now.items }
+        ensures value { result ≡ length self.now.items }
+        ensures all { tokens_of self.now.source ≡ Ok self.now.items }
     {
         self.items.len()
     }

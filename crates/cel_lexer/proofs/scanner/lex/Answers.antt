@@ -11,6 +11,14 @@ returns-in-Err-clause-err c _ =
     let count = rw place at c.line_feeds-line.ensures in
     tokens_of-broken c.args.text.now c.in-Err.ensures.cases.0 ∙ ap (λ n. Err (NotUtf8 (n + 1))) (sym count)
 
+pub over-requires : goal.over-requires
+over-requires c =
+    let source : c.as_bytes.result.now ≡ c.in-Ok.source.now = c.as_bytes.ensures.value in
+    let same : c.in-Ok.source.now ≡ c.args.text.now = c.in-Ok.ensures.cases.0 in
+    let found = rw (source, same) at c.in-Ok-cut.ensures.items in
+    let spans = rw source at c.in-Ok-cut.ensures.spans in
+    record { all = rw same (tokens_of-utf8 c.args.text.now c.in-Ok.ensures.cases.1 ∙ found); spans = spans }
+
 pub returns-in-Ok-cut-clause-items : goal.returns-in-Ok-cut-clause-items
 returns-in-Ok-cut-clause-items c =
     let found = rw (c.as_bytes.ensures.value, c.in-Ok.ensures.cases.0) at c.in-Ok-cut.ensures.items in
