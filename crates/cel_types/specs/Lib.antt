@@ -1,0 +1,10 @@
+pub mod Scopes
+pub mod Scalars
+pub mod Predicates
+pub mod Declarations
+pub mod Items
+pub mod Aggregates
+pub mod Unions
+pub mod Sources
+pub mod Statements
+pub mod Views

@@ -1,0 +1,9 @@
+//! Types of statements: the schema of a declaration, and the schema and the expression of a query.
+#![tactic(auto)]
+
+mod conditions;
+mod fault;
+mod scalars;
+mod scope;
+
+pub use fault::TypeFault;
