@@ -1,8 +1,17 @@
 //! Reads query texts: statements from tokens.
+//!
+//! Contracts see a `File` as the list of its statements and the list of their lines, which some text
+//! reads as.
 #![tactic(auto)]
 
+mod fault;
+mod file;
+mod parsing;
 mod statements;
 mod symbol;
 mod unread;
 
 pub use cel_grammar::{Agg, Aggs, Attr, Attrs, Item, Items, Mark, Raw, RawPred, Source, Statement};
+pub use fault::SyntaxFault;
+pub use file::File;
+pub use parsing::parse;
