@@ -9,6 +9,7 @@ mod file;
 mod parsing;
 mod statements;
 mod symbol;
+mod symbols;
 mod unread;
 
 pub use cel_grammar::{Agg, Aggs, Attr, Attrs, Item, Items, Mark, Raw, RawPred, Source, Statement};
