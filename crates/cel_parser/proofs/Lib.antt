@@ -1,1 +1,3 @@
 pub mod SentenceLemmas
+pub mod CutLemmas
+pub mod PassedLemmas

@@ -1,3 +1,4 @@
 pub mod Seen
 pub mod Filed
 pub mod Faults
+pub mod Cutting

@@ -7,6 +7,7 @@
 mod fault;
 mod file;
 mod parsing;
+mod sentences;
 mod statements;
 mod symbol;
 mod symbols;

@@ -1,11 +1,13 @@
 //! From tokens to a file.
-ghost use Rattle.std.specs.Prelude.{◌≡◌, ◌≢◌, IfErr, IfOk};
+ghost use Rattle.std.specs.Prelude.{◌≡◌, ◌≢◌, [], ◌∷◌, ◌++◌, IfErr, IfOk, OnOk};
 ghost use Rattle.cel_parser.specs.Faults.{IsRefused};
 ghost use Rattle.cel_parser.specs.Filed.{Reads};
 
 use crate::fault::SyntaxFault;
 use crate::file::File;
+use crate::sentences::{cut, read};
 use cel_lexer::Tokens;
+use event_types::List;
 use std::alloc::Global;
 
 /// The statements of a text, or its first fault.
@@ -13,5 +15,28 @@ pub fn parse(alloc: Global, tokens: &Tokens<'_>) -> Result<File, SyntaxFault>
     ensures ok { IfOk result (λ file. Reads tokens.now.source file) }
     ensures err { IfErr result (λ fault. fault ≢ SyntaxFault.Memory → IsRefused tokens.now.source fault) }
 {
-    Err(SyntaxFault::Memory)
+    let mut symbols = Vec::new(alloc);
+    let mut statements = List::new(alloc);
+    let mut lines = List::new(alloc);
+    let mut at = 0;
+    while at < tokens.size() {
+        let number = statements.len() as u64 + 1;
+        let line = tokens.get(at).line;
+        at = cut(tokens, at, number, line, &mut symbols)?;
+        let statement = read(alloc, &symbols, number, line)?;
+        put(&mut statements, statement)?;
+        put(&mut lines, line)?;
+    }
+    Ok(File::of(statements, lines))
+}
+
+// Puts an item at the end of a list.
+fn put<T: Drop>(list: &mut List<T>, item: T) -> Result<(), SyntaxFault>
+    ensures ok { OnOk result (list.new ≡ list.old ++ item ∷ []) }
+    ensures err { IfErr result (λ fault. fault ≡ SyntaxFault.Memory) }
+{
+    match list.push(item) {
+        Ok(()) => Ok(()),
+        Err(_) => Err(SyntaxFault::Memory),
+    }
 }
