@@ -1,3 +1,4 @@
 pub mod SentenceLemmas
 pub mod CutLemmas
 pub mod PassedLemmas
+pub mod FaultLemmas

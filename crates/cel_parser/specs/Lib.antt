@@ -2,3 +2,4 @@ pub mod Seen
 pub mod Filed
 pub mod Faults
 pub mod Cutting
+pub mod Laws

@@ -6,6 +6,7 @@
 
 mod fault;
 mod file;
+mod laws;
 mod parsing;
 mod sentences;
 mod statements;
@@ -16,4 +17,5 @@ mod unread;
 pub use cel_grammar::{Agg, Aggs, Attr, Attrs, Item, Items, Mark, Raw, RawPred, Source, Statement};
 pub use fault::SyntaxFault;
 pub use file::File;
+pub use laws::one_answer;
 pub use parsing::parse;
