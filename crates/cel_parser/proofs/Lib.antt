@@ -2,3 +2,4 @@ pub mod SentenceLemmas
 pub mod CutLemmas
 pub mod PassedLemmas
 pub mod FaultLemmas
+pub mod ScalarNext

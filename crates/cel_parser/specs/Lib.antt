@@ -1,3 +1,6 @@
+pub mod Gives
+pub mod Numbers
+pub mod Operations
 pub mod Seen
 pub mod Filed
 pub mod Faults

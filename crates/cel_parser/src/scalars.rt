@@ -1,0 +1,224 @@
+//! Scalars from symbols.
+ghost use Rattle.std.specs.Prelude.{◌≡◌, ℕ, ◌<◌, ◌≤◌, IfOk, IfErr, map, pos, Some, None};
+ghost use Rattle.cel_grammar.specs.Scalars.{negative};
+ghost use Rattle.cel_grammar.specs.Trees.{Two};
+ghost use Rattle.cel_grammar.specs.Views.{scalar_of};
+ghost use Rattle.cel_parser.specs.Gives.{Gives};
+ghost use Rattle.cel_parser.specs.Numbers.{counted};
+ghost use Rattle.cel_parser.specs.Operations.{op_of};
+ghost use Rattle.cel_parser.specs.Seen.{seen};
+ghost use Rattle.grammar_laws.specs.ScalarReader.{both_at, factor_at, name_at, number_at, product_at, product_more, scalar_at, scalar_more};
+
+use crate::literals::{literal_text, name_text};
+use crate::signs::{after_close, after_comma, after_open};
+use crate::symbol::Symbol;
+use crate::unread::Unread;
+use cel_grammar::{Mark, Raw};
+use std::alloc::Global;
+
+/// A scalar at the front, and the symbols behind it.
+#[cycle(scalar)]
+#[tactic(auto, using(crate::proofs::ScalarNext::scalar_next), unfolding(grammar_laws::specs::ScalarReader::scalar_at))]
+pub(crate) fn read_scalar<'a>(
+    alloc: Global,
+    steps: usize,
+    symbols: &'a [Symbol<'a>],
+) -> Result<(Raw, &'a [Symbol<'a>]), Unread>
+    ensures { Gives (λ p. (scalar_of p.0, map seen p.1.now)) result (scalar_at steps (map seen symbols.now)) }
+{
+    if steps == 0 {
+        return Err(Unread::Bad);
+    }
+    let (x, rest) = read_product(alloc, steps - 1, symbols)?;
+    go_on_scalar(alloc, steps - 1, x, rest)
+}
+
+// A scalar that begins with x.
+#[cycle(scalar)]
+#[tactic(auto, using(crate::proofs::ScalarNext::scalar_more_next), unfolding(grammar_laws::specs::ScalarReader::scalar_at))]
+fn go_on_scalar<'a>(
+    alloc: Global,
+    steps: usize,
+    x: Raw,
+    symbols: &'a [Symbol<'a>],
+) -> Result<(Raw, &'a [Symbol<'a>]), Unread>
+    ensures { Gives (λ p. (scalar_of p.0, map seen p.1.now)) result (scalar_more steps (scalar_of x) (map seen symbols.now)) }
+{
+    if steps == 0 {
+        return Err(Unread::Bad);
+    }
+    match symbols {
+        [Symbol::Plus, rest @ ..] => {
+            let (y, rest) = read_product(alloc, steps - 1, rest)?;
+            let sum = joined(alloc, Operation::Add, x, y)?;
+            go_on_scalar(alloc, steps - 1, sum, rest)
+        }
+        [Symbol::Minus, rest @ ..] => {
+            let (y, rest) = read_product(alloc, steps - 1, rest)?;
+            let difference = joined(alloc, Operation::Sub, x, y)?;
+            go_on_scalar(alloc, steps - 1, difference, rest)
+        }
+        _ => Ok((x, symbols)),
+    }
+}
+
+// A product at the front.
+#[cycle(scalar)]
+#[tactic(auto, using(crate::proofs::ScalarNext::product_next), unfolding(grammar_laws::specs::ScalarReader::scalar_at))]
+fn read_product<'a>(
+    alloc: Global,
+    steps: usize,
+    symbols: &'a [Symbol<'a>],
+) -> Result<(Raw, &'a [Symbol<'a>]), Unread>
+    ensures { Gives (λ p. (scalar_of p.0, map seen p.1.now)) result (product_at steps (map seen symbols.now)) }
+{
+    if steps == 0 {
+        return Err(Unread::Bad);
+    }
+    let (x, rest) = read_factor(alloc, steps - 1, symbols)?;
+    go_on_product(alloc, steps - 1, x, rest)
+}
+
+// A product that begins with x.
+#[cycle(scalar)]
+#[tactic(auto, using(crate::proofs::ScalarNext::product_more_next), unfolding(grammar_laws::specs::ScalarReader::scalar_at))]
+fn go_on_product<'a>(
+    alloc: Global,
+    steps: usize,
+    x: Raw,
+    symbols: &'a [Symbol<'a>],
+) -> Result<(Raw, &'a [Symbol<'a>]), Unread>
+    ensures { Gives (λ p. (scalar_of p.0, map seen p.1.now)) result (product_more steps (scalar_of x) (map seen symbols.now)) }
+{
+    if steps == 0 {
+        return Err(Unread::Bad);
+    }
+    match symbols {
+        [Symbol::Star, rest @ ..] => {
+            let (y, rest) = read_factor(alloc, steps - 1, rest)?;
+            let product = joined(alloc, Operation::Mul, x, y)?;
+            go_on_product(alloc, steps - 1, product, rest)
+        }
+        _ => Ok((x, symbols)),
+    }
+}
+
+// A factor at the front.
+#[cycle(scalar)]
+#[tactic(auto, using(crate::proofs::ScalarNext::factor_next), unfolding(grammar_laws::specs::ScalarReader::scalar_at))]
+fn read_factor<'a>(
+    alloc: Global,
+    steps: usize,
+    symbols: &'a [Symbol<'a>],
+) -> Result<(Raw, &'a [Symbol<'a>]), Unread>
+    ensures { Gives (λ p. (scalar_of p.0, map seen p.1.now)) result (factor_at steps (map seen symbols.now)) }
+{
+    if steps == 0 {
+        return Err(Unread::Bad);
+    }
+    match symbols {
+        [Symbol::Number(n), rest @ ..] => Ok((Raw::Number(plain(*n)), rest)),
+        [Symbol::Minus, rest @ ..] => read_negative(rest),
+        [Symbol::Quoted(literal), rest @ ..] => Ok((
+            Raw::Quoted(literal_text(alloc, literal)?),
+            rest,
+        )),
+        [Symbol::Name(name), rest @ ..] => Ok((
+            Raw::Attr(Mark::Bare, name_text(alloc, name)?),
+            rest,
+        )),
+        [Symbol::Dollar1, rest @ ..] => read_marked(alloc, Mark::First, rest),
+        [Symbol::Dollar2, rest @ ..] => read_marked(alloc, Mark::Second, rest),
+        [Symbol::Dollar, rest @ ..] => read_marked(alloc, Mark::So, rest),
+        [Symbol::Dur, rest @ ..] => Ok((Raw::Dur, rest)),
+        [Symbol::Min, rest @ ..] => read_two(alloc, steps - 1, Operation::Min, rest),
+        [Symbol::Max, rest @ ..] => read_two(alloc, steps - 1, Operation::Max, rest),
+        [Symbol::Open, rest @ ..] => {
+            let (x, rest) = read_scalar(alloc, steps - 1, rest)?;
+            let rest = after_close(rest)?;
+            Ok((x, rest))
+        }
+        _ => Err(Unread::Bad),
+    }
+}
+
+// Two scalars in parentheses.
+#[cycle(scalar)]
+#[tactic(auto, using(crate::proofs::ScalarNext::both_next), unfolding(grammar_laws::specs::ScalarReader::scalar_at))]
+fn read_two<'a>(
+    alloc: Global,
+    steps: usize,
+    operation: Operation,
+    symbols: &'a [Symbol<'a>],
+) -> Result<(Raw, &'a [Symbol<'a>]), Unread>
+    ensures { Gives (λ p. (scalar_of p.0, map seen p.1.now)) result (both_at steps (op_of operation) (map seen symbols.now)) }
+{
+    if steps == 0 {
+        return Err(Unread::Bad);
+    }
+    let rest = after_open(symbols)?;
+    let (x, rest) = read_scalar(alloc, steps - 1, rest)?;
+    let rest = after_comma(rest)?;
+    let (y, rest) = read_scalar(alloc, steps - 1, rest)?;
+    let rest = after_close(rest)?;
+    Ok((joined(alloc, operation, x, y)?, rest))
+}
+
+// What is done with two scalars.
+#[derive(Clone, Copy)]
+enum Operation {
+    Add,
+    Sub,
+    Mul,
+    Min,
+    Max,
+}
+
+fn joined(alloc: Global, operation: Operation, x: Raw, y: Raw) -> Result<Raw, Unread>
+    ensures ok { IfOk result (λ z. scalar_of z ≡ Two (op_of operation) (scalar_of x) (scalar_of y)) }
+    ensures memory { IfErr result (λ fault. fault ≡ Unread.Memory) }
+{
+    let x = Box::new(alloc, x)?;
+    let y = Box::new(alloc, y)?;
+    Ok(match operation {
+        Operation::Add => Raw::Add(x, y),
+        Operation::Sub => Raw::Sub(x, y),
+        Operation::Mul => Raw::Mul(x, y),
+        Operation::Min => Raw::Min(x, y),
+        Operation::Max => Raw::Max(x, y),
+    })
+}
+
+// A number behind a minus.
+fn read_negative<'a>(symbols: &'a [Symbol<'a>]) -> Result<(Raw, &'a [Symbol<'a>]), Unread>
+    ensures { Gives (λ p. (scalar_of p.0, map seen p.1.now)) result (number_at (map seen symbols.now)) }
+{
+    match symbols {
+        [Symbol::Number(n), rest @ ..] => Ok((Raw::Number(0 - plain(*n)), rest)),
+        _ => Err(Unread::Bad),
+    }
+}
+
+// A point and a name behind a mark.
+fn read_marked<'a>(
+    alloc: Global,
+    mark: Mark,
+    symbols: &'a [Symbol<'a>],
+) -> Result<(Raw, &'a [Symbol<'a>]), Unread>
+    ensures { Gives (λ p. (scalar_of p.0, map seen p.1.now)) result (name_at mark (map seen symbols.now)) }
+{
+    match symbols {
+        [Symbol::Dot, Symbol::Name(name), rest @ ..] => Ok((
+            Raw::Attr(mark, name_text(alloc, name)?),
+            rest,
+        )),
+        _ => Err(Unread::Bad),
+    }
+}
+
+// A number, or 0 for one below it, which no token has.
+fn plain(n: i128) -> i128
+    ensures { result ≡ pos (counted n) }
+{
+    if n < 0 { 0 } else { n }
+}

@@ -1,0 +1,38 @@
+//! Signs between the parts of a tree.
+ghost use Rattle.std.specs.Prelude.{◌≡◌, map};
+ghost use Rattle.cel_parser.specs.Gives.{Gives};
+ghost use Rattle.cel_parser.specs.Seen.{seen};
+ghost use Rattle.grammar_laws.specs.ScalarReader.{close_at, comma_at, open_at};
+
+use crate::symbol::Symbol;
+use crate::unread::Unread;
+
+/// The symbols behind an opening parenthesis.
+pub(crate) fn after_open<'a>(symbols: &'a [Symbol<'a>]) -> Result<&'a [Symbol<'a>], Unread>
+    ensures { Gives (λ rest. map seen rest.now) result (open_at (map seen symbols.now)) }
+{
+    match symbols {
+        [Symbol::Open, rest @ ..] => Ok(rest),
+        _ => Err(Unread::Bad),
+    }
+}
+
+/// The symbols behind a comma.
+pub(crate) fn after_comma<'a>(symbols: &'a [Symbol<'a>]) -> Result<&'a [Symbol<'a>], Unread>
+    ensures { Gives (λ rest. map seen rest.now) result (comma_at (map seen symbols.now)) }
+{
+    match symbols {
+        [Symbol::Comma, rest @ ..] => Ok(rest),
+        _ => Err(Unread::Bad),
+    }
+}
+
+/// The symbols behind a closing parenthesis.
+pub(crate) fn after_close<'a>(symbols: &'a [Symbol<'a>]) -> Result<&'a [Symbol<'a>], Unread>
+    ensures { Gives (λ rest. map seen rest.now) result (close_at (map seen symbols.now)) }
+{
+    match symbols {
+        [Symbol::Close, rest @ ..] => Ok(rest),
+        _ => Err(Unread::Bad),
+    }
+}
