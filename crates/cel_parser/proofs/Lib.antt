@@ -2,4 +2,5 @@ pub mod SentenceLemmas
 pub mod CutLemmas
 pub mod PassedLemmas
 pub mod FaultLemmas
+pub mod PredicateNext
 pub mod ScalarNext

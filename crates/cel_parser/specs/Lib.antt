@@ -1,4 +1,5 @@
 pub mod Gives
+pub mod Grouping
 pub mod Numbers
 pub mod Operations
 pub mod Seen

@@ -10,6 +10,8 @@ mod laws;
 mod parsing;
 mod sentences;
 mod literals;
+mod predicates;
+mod reading;
 mod scalars;
 mod signs;
 mod statements;

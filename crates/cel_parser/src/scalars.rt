@@ -1,6 +1,5 @@
 //! Scalars from symbols.
-ghost use Rattle.std.specs.Prelude.{◌≡◌, ℕ, ◌<◌, ◌≤◌, IfOk, IfErr, map, pos, Some, None};
-ghost use Rattle.cel_grammar.specs.Scalars.{negative};
+ghost use Rattle.std.specs.Prelude.{◌≡◌, ◌<◌, IfOk, IfErr, map, pos};
 ghost use Rattle.cel_grammar.specs.Trees.{Two};
 ghost use Rattle.cel_grammar.specs.Views.{scalar_of};
 ghost use Rattle.cel_parser.specs.Gives.{Gives};
@@ -10,6 +9,7 @@ ghost use Rattle.cel_parser.specs.Seen.{seen};
 ghost use Rattle.grammar_laws.specs.ScalarReader.{both_at, factor_at, name_at, number_at, product_at, product_more, scalar_at, scalar_more};
 
 use crate::literals::{literal_text, name_text};
+use crate::reading::{Reading, Symbols};
 use crate::signs::{after_close, after_comma, after_open};
 use crate::symbol::Symbol;
 use crate::unread::Unread;
@@ -19,11 +19,7 @@ use std::alloc::Global;
 /// A scalar at the front, and the symbols behind it.
 #[cycle(scalar)]
 #[tactic(auto, using(crate::proofs::ScalarNext::scalar_next), unfolding(grammar_laws::specs::ScalarReader::scalar_at))]
-pub(crate) fn read_scalar<'a>(
-    alloc: Global,
-    steps: usize,
-    symbols: &'a [Symbol<'a>],
-) -> Result<(Raw, &'a [Symbol<'a>]), Unread>
+pub(crate) fn read_scalar<'a>(alloc: Global, steps: usize, symbols: Symbols<'a>) -> Reading<'a, Raw>
     ensures { Gives (λ p. (scalar_of p.0, map seen p.1.now)) result (scalar_at steps (map seen symbols.now)) }
 {
     if steps == 0 {
@@ -36,12 +32,7 @@ pub(crate) fn read_scalar<'a>(
 // A scalar that begins with x.
 #[cycle(scalar)]
 #[tactic(auto, using(crate::proofs::ScalarNext::scalar_more_next), unfolding(grammar_laws::specs::ScalarReader::scalar_at))]
-fn go_on_scalar<'a>(
-    alloc: Global,
-    steps: usize,
-    x: Raw,
-    symbols: &'a [Symbol<'a>],
-) -> Result<(Raw, &'a [Symbol<'a>]), Unread>
+fn go_on_scalar<'a>(alloc: Global, steps: usize, x: Raw, symbols: Symbols<'a>) -> Reading<'a, Raw>
     ensures { Gives (λ p. (scalar_of p.0, map seen p.1.now)) result (scalar_more steps (scalar_of x) (map seen symbols.now)) }
 {
     if steps == 0 {
@@ -65,11 +56,7 @@ fn go_on_scalar<'a>(
 // A product at the front.
 #[cycle(scalar)]
 #[tactic(auto, using(crate::proofs::ScalarNext::product_next), unfolding(grammar_laws::specs::ScalarReader::scalar_at))]
-fn read_product<'a>(
-    alloc: Global,
-    steps: usize,
-    symbols: &'a [Symbol<'a>],
-) -> Result<(Raw, &'a [Symbol<'a>]), Unread>
+fn read_product<'a>(alloc: Global, steps: usize, symbols: Symbols<'a>) -> Reading<'a, Raw>
     ensures { Gives (λ p. (scalar_of p.0, map seen p.1.now)) result (product_at steps (map seen symbols.now)) }
 {
     if steps == 0 {
@@ -82,12 +69,7 @@ fn read_product<'a>(
 // A product that begins with x.
 #[cycle(scalar)]
 #[tactic(auto, using(crate::proofs::ScalarNext::product_more_next), unfolding(grammar_laws::specs::ScalarReader::scalar_at))]
-fn go_on_product<'a>(
-    alloc: Global,
-    steps: usize,
-    x: Raw,
-    symbols: &'a [Symbol<'a>],
-) -> Result<(Raw, &'a [Symbol<'a>]), Unread>
+fn go_on_product<'a>(alloc: Global, steps: usize, x: Raw, symbols: Symbols<'a>) -> Reading<'a, Raw>
     ensures { Gives (λ p. (scalar_of p.0, map seen p.1.now)) result (product_more steps (scalar_of x) (map seen symbols.now)) }
 {
     if steps == 0 {
@@ -106,11 +88,7 @@ fn go_on_product<'a>(
 // A factor at the front.
 #[cycle(scalar)]
 #[tactic(auto, using(crate::proofs::ScalarNext::factor_next), unfolding(grammar_laws::specs::ScalarReader::scalar_at))]
-fn read_factor<'a>(
-    alloc: Global,
-    steps: usize,
-    symbols: &'a [Symbol<'a>],
-) -> Result<(Raw, &'a [Symbol<'a>]), Unread>
+fn read_factor<'a>(alloc: Global, steps: usize, symbols: Symbols<'a>) -> Reading<'a, Raw>
     ensures { Gives (λ p. (scalar_of p.0, map seen p.1.now)) result (factor_at steps (map seen symbols.now)) }
 {
     if steps == 0 {
@@ -149,8 +127,8 @@ fn read_two<'a>(
     alloc: Global,
     steps: usize,
     operation: Operation,
-    symbols: &'a [Symbol<'a>],
-) -> Result<(Raw, &'a [Symbol<'a>]), Unread>
+    symbols: Symbols<'a>,
+) -> Reading<'a, Raw>
     ensures { Gives (λ p. (scalar_of p.0, map seen p.1.now)) result (both_at steps (op_of operation) (map seen symbols.now)) }
 {
     if steps == 0 {
@@ -190,7 +168,7 @@ fn joined(alloc: Global, operation: Operation, x: Raw, y: Raw) -> Result<Raw, Un
 }
 
 // A number behind a minus.
-fn read_negative<'a>(symbols: &'a [Symbol<'a>]) -> Result<(Raw, &'a [Symbol<'a>]), Unread>
+fn read_negative<'a>(symbols: Symbols<'a>) -> Reading<'a, Raw>
     ensures { Gives (λ p. (scalar_of p.0, map seen p.1.now)) result (number_at (map seen symbols.now)) }
 {
     match symbols {
@@ -200,11 +178,7 @@ fn read_negative<'a>(symbols: &'a [Symbol<'a>]) -> Result<(Raw, &'a [Symbol<'a>]
 }
 
 // A point and a name behind a mark.
-fn read_marked<'a>(
-    alloc: Global,
-    mark: Mark,
-    symbols: &'a [Symbol<'a>],
-) -> Result<(Raw, &'a [Symbol<'a>]), Unread>
+fn read_marked<'a>(alloc: Global, mark: Mark, symbols: Symbols<'a>) -> Reading<'a, Raw>
     ensures { Gives (λ p. (scalar_of p.0, map seen p.1.now)) result (name_at mark (map seen symbols.now)) }
 {
     match symbols {

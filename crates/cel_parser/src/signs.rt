@@ -4,11 +4,12 @@ ghost use Rattle.cel_parser.specs.Gives.{Gives};
 ghost use Rattle.cel_parser.specs.Seen.{seen};
 ghost use Rattle.grammar_laws.specs.ScalarReader.{close_at, comma_at, open_at};
 
+use crate::reading::Symbols;
 use crate::symbol::Symbol;
 use crate::unread::Unread;
 
 /// The symbols behind an opening parenthesis.
-pub(crate) fn after_open<'a>(symbols: &'a [Symbol<'a>]) -> Result<&'a [Symbol<'a>], Unread>
+pub(crate) fn after_open<'a>(symbols: Symbols<'a>) -> Result<Symbols<'a>, Unread>
     ensures { Gives (λ rest. map seen rest.now) result (open_at (map seen symbols.now)) }
 {
     match symbols {
@@ -18,7 +19,7 @@ pub(crate) fn after_open<'a>(symbols: &'a [Symbol<'a>]) -> Result<&'a [Symbol<'a
 }
 
 /// The symbols behind a comma.
-pub(crate) fn after_comma<'a>(symbols: &'a [Symbol<'a>]) -> Result<&'a [Symbol<'a>], Unread>
+pub(crate) fn after_comma<'a>(symbols: Symbols<'a>) -> Result<Symbols<'a>, Unread>
     ensures { Gives (λ rest. map seen rest.now) result (comma_at (map seen symbols.now)) }
 {
     match symbols {
@@ -28,7 +29,7 @@ pub(crate) fn after_comma<'a>(symbols: &'a [Symbol<'a>]) -> Result<&'a [Symbol<'
 }
 
 /// The symbols behind a closing parenthesis.
-pub(crate) fn after_close<'a>(symbols: &'a [Symbol<'a>]) -> Result<&'a [Symbol<'a>], Unread>
+pub(crate) fn after_close<'a>(symbols: Symbols<'a>) -> Result<Symbols<'a>, Unread>
     ensures { Gives (λ rest. map seen rest.now) result (close_at (map seen symbols.now)) }
 {
     match symbols {
