@@ -1,0 +1,10 @@
+pub mod Names
+pub mod ReadScalars
+pub mod ReadPredicates
+pub mod ReadSources
+pub mod ReadStatements
+pub mod Bounds
+pub mod BoundScalars
+pub mod BoundPredicates
+pub mod BoundSources
+pub mod BoundStatements

@@ -1,0 +1,7 @@
+pub mod Words
+pub mod ScalarWords
+pub mod PredicateWords
+pub mod SourceWords
+pub mod StatementWords
+pub mod Spelled
+pub mod Laws

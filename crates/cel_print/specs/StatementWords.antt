@@ -1,0 +1,25 @@
+-- The canonical words of statements.
+use Rattle.std.specs.Prelude.{List, [], ◌∷◌}
+use Rattle.event_types.specs.declared.kind.Kind.{Kind}
+use Rattle.event_types.specs.declared.kind.Kind.TheVariants as kind
+use Rattle.cel_grammar.specs.Symbols.{Symbol}
+use Rattle.cel_grammar.specs.Symbols as the
+use Rattle.cel_grammar.specs.Trees.{Column, Col, Statement, Stream, Query}
+use Rattle.cel_print.specs.Words.{Word, Of}
+use Rattle.cel_print.specs.SourceWords.{ASource, items_words, source_words}
+
+-- the keyword of a kind
+abbrev pub kind_symbol : Kind → Symbol
+kind_symbol kind.Int = the.Int
+kind_symbol kind.Text = the.Text
+
+-- names with their kinds between commas, and then rest
+abbrev pub columns_words : List Column → List Word → List Word
+columns_words [] rest = rest
+columns_words (Col name k ∷ []) rest = Of (the.Name name) ∷ Of (kind_symbol k) ∷ rest
+columns_words (Col name k ∷ next ∷ columns) rest = Of (the.Name name) ∷ Of (kind_symbol k) ∷ Of the.Comma ∷ columns_words (next ∷ columns) rest
+
+-- a statement, and then rest
+abbrev pub statement_words : Statement → List Word → List Word
+statement_words (Stream name columns) rest = Of the.Stream ∷ Of (the.Name name) ∷ Of the.Open ∷ columns_words columns (Of the.Close ∷ rest)
+statement_words (Query items source name) rest = Of the.Select ∷ items_words items (Of the.From ∷ source_words ASource source (Of the.Publish ∷ Of (the.Name name) ∷ rest))
