@@ -4,11 +4,11 @@ use Rattle.std.specs.List.{list_any, range_with_len}
 use Rattle.std.specs.Str.{bytes_eq}
 use Rattle.event_types.specs.declared.kind.Kind.{Kind}
 use Rattle.semantics.specs.Scalars.{Sc, Binding}
-use Rattle.stream_schema.specs.Schema.{Attr, place_of, kinds_of}
+use Rattle.stream_schema.specs.Schema.{Attr, place_of}
 use Rattle.cel_grammar.specs.Trees.{Scalar, Agg, Set}
 use Rattle.cel_types.specs.declared.fault.TypeFault.{TypeFault}
 use Rattle.cel_types.specs.declared.fault.TypeFault.TheVariants.{NotAssignable, DuplicateAttr, KindMismatch}
-use Rattle.cel_types.specs.Scopes.{Scope, Typed, Iteration, named}
+use Rattle.cel_types.specs.Scopes.{Iteration, named}
 use Rattle.cel_types.specs.Scalars.{IsOf, HasFault}
 
 -- an assignment: the place of an attribute of the binding, and the term that it takes

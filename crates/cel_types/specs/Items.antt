@@ -8,7 +8,7 @@ use Rattle.stream_schema.specs.Schema.{Attr, names_of}
 use Rattle.cel_grammar.specs.Trees.{Scalar, Item, All, Named}
 use Rattle.cel_types.specs.declared.fault.TypeFault.{TypeFault}
 use Rattle.cel_types.specs.declared.fault.TypeFault.TheVariants.{DuplicateAttr}
-use Rattle.cel_types.specs.Scopes.{Scope, Alone}
+use Rattle.cel_types.specs.Scopes.{Alone}
 use Rattle.cel_types.specs.Scalars.{IsOf, HasFault}
 
 -- an attribute

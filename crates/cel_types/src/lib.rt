@@ -5,5 +5,6 @@ mod conditions;
 mod fault;
 mod scalars;
 mod scope;
+mod unions;
 
 pub use fault::TypeFault;

@@ -1,0 +1,55 @@
+//! Where the schemas of a UNION differ.
+ghost use Rattle.std.specs.Prelude.{◌≡◌, ◌<◌, ◌≤◌, ◌+◌, ℕ, if◌then◌else◌, length, drop, slice_get, Some, IsTrue, ◌⊎◌};
+ghost use Rattle.cel_types.specs.Unions.{difference_from, is_kind, is_same};
+ghost use Rattle.stream_schema.specs.Schema.{Attr};
+
+use event_types::Kind;
+use stream_schema::Schema;
+
+/// The first place, counted from 1, at which a name or a kind differs or one schema has ended. Takes no
+/// memory.
+pub fn difference(left: &Schema, right: &Schema) -> Option<usize>
+    ensures { result ≡ difference_from 1 left.now right.now }
+{
+    for place in 0..left.size() {
+        if differs_at(left, right, place) {
+            return Some(place + 1);
+        }
+    }
+    if left.size() < right.size() {
+        return Some(left.size() + 1);
+    }
+    None
+}
+
+// Whether the schemas differ at a place of the left one, or the right one has ended there.
+fn differs_at(left: &Schema, right: &Schema, place: usize) -> bool
+    requires left { place < length left.now }
+    requires right { place ≤ length right.now }
+    ensures value { (n : ℕ) → difference_from n (drop place left.now) (drop place right.now) ≡ (if result then Some n else difference_from (n + 1) (drop (place + 1) left.now) (drop (place + 1) right.now)) }
+    ensures within { IsTrue result ⊎ (place < length right.now) }
+{
+    if place == right.size() {
+        return true;
+    }
+    !is_same_at(left, right, place)
+}
+
+// Whether both schemas have one name and one kind at the place.
+fn is_same_at(left: &Schema, right: &Schema, place: usize) -> bool
+    requires left { place < length left.now }
+    requires right { place < length right.now }
+    ensures { (a b : Attr) → slice_get left.now place ≡ Some a → slice_get right.now place ≡ Some b → result ≡ is_same a b }
+{
+    left.name(place) == right.name(place) && is_one_kind(left.kind(place), right.kind(place))
+}
+
+// Whether both kinds are one.
+fn is_one_kind(left: Kind, right: Kind) -> bool
+    ensures { result ≡ is_kind left right }
+{
+    match left {
+        Kind::Int => matches!(right, Kind::Int),
+        Kind::Text => matches!(right, Kind::Text),
+    }
+}
