@@ -2,15 +2,8 @@
 use Rattle.std.specs.Prelude.{ℕ, ◌<◌, ⊤, length, List, Option, Some, None, slice_index_or}
 use Rattle.event_types.specs.declared.kind.Kind.{Kind}
 use Rattle.event_types.specs.declared.kind.Kind.TheVariants as kind
-use Rattle.event_types.specs.declared.value.Value.{Value}
-use Rattle.event_types.specs.declared.value.Value.TheVariants as value
 use Rattle.semantics.specs.Scalars.{Sc, Lit, Event, Binding, Dur, Two}
-
--- the kind of a value; OVER counts as a number
-abbrev pub value_kind : Value → Kind
-value_kind (value.Int number) = kind.Int
-value_kind value.Over = kind.Int
-value_kind (value.Text text) = kind.Text
+use Rattle.semantics.specs.Kinds.{value_kind}
 
 -- the kind at a place of a schema
 abbrev pub kind_at : List Kind → ℕ → Kind

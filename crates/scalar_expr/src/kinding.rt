@@ -1,7 +1,8 @@
 //! The kinds of scalars.
 ghost use Rattle.std.specs.Prelude.{◌≡◌};
 ghost use Rattle.std.specs.Option.{option_copied};
-ghost use Rattle.scalar_expr.specs.Kinds.{HasPlace, sc_kind, value_kind};
+ghost use Rattle.semantics.specs.Kinds.{value_kind};
+ghost use Rattle.scalar_expr.specs.Kinds.{HasPlace, sc_kind};
 ghost use Rattle.scalar_expr.specs.Views.{sc_of};
 
 use crate::scalar::Scalar;

@@ -2,6 +2,7 @@ pub mod Codes
 pub mod Denotation
 pub mod Expressions
 pub mod Histories
+pub mod Kinds
 pub mod Laws
 pub mod Nexts
 pub mod Programs
@@ -10,4 +11,5 @@ pub mod Results
 pub mod Runs
 pub mod Scalars
 pub mod Truth
+pub mod Typing
 pub mod Values
