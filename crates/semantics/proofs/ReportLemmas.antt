@@ -16,7 +16,7 @@ abbrev differs : ℕ → ℕ → Bool
 differs time other = not (other == time)
 
 -- a filter whose test holds of all keeps all
-filter_all : {X : Type 0} (test : X → Bool) (xs : List X) → All (λ x. test x ≡ true) xs → filter test xs ≡ xs
+pub filter_all : {X : Type 0} (test : X → Bool) (xs : List X) → All (λ x. test x ≡ true) xs → filter test xs ≡ xs
 filter_all test [] all = refl
 filter_all test (x ∷ xs) all =
     let first = All-head (λ x. test x ≡ true) x xs all in

@@ -11,5 +11,6 @@ pub mod Results
 pub mod Runs
 pub mod Scalars
 pub mod Truth
+pub mod TypedPrograms
 pub mod Typing
 pub mod Values
