@@ -1,2 +1,6 @@
 pub mod FoldLemmas
+pub mod ListLemmas
+pub mod ProgramLemmas
+pub mod SoundLemmas
 pub mod SpanLemmas
+pub mod TypingLemmas

@@ -1,2 +1,4 @@
+pub mod Laws
+pub mod SuitedQueries
 pub mod Suits
 pub mod Views

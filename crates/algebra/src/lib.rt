@@ -5,9 +5,11 @@
 
 mod evaluation;
 mod expression;
+mod laws;
 
 pub use evaluation::evaluate;
 pub use expression::{Env, Expr};
+pub use laws::{sound_streams_give_sound_tuples, typed_programs_suit, typed_suits};
 
 #[cfg(test)]
 mod tests;

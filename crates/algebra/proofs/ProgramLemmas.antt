@@ -1,0 +1,59 @@
+-- The queries of a typed program may be evaluated in turn.
+use Rattle.std.proofs.Common.{◌≡◌, sym, subst, ℕ, ◌+◌, ◌==◌, nat_lt, Bool, true, false, cond, List, [], ◌∷◌, map, arith}
+use Rattle.std.specs.List.{All, filter}
+use Rattle.std.proofs.lemmas.Bool.Decides.{nat_tests}
+use Rattle.std.proofs.lemmas.List.Elements.{All-nil, All-cons, All-head, All-tail}
+use Rattle.event_types.specs.declared.kind.Kind.{Kind}
+use Rattle.event_types.specs.Tuple.{Row}
+use Rattle.semantics.specs.Denotation.{Streams, denote}
+use Rattle.semantics.specs.Histories.{Heard, heard_on}
+use Rattle.semantics.specs.Kinds.{HasKinds}
+use Rattle.semantics.specs.Programs.{Query, declared_streams, published, with_stream}
+use Rattle.semantics.specs.TypedPrograms.{PublishInTurn, HaveTheirKinds}
+use Rattle.algebra.specs.SuitedQueries.{SuitInTurn}
+use Rattle.algebra.proofs.TypingLemmas.{typed}
+
+-- each tuple of each stream has the kinds of the stream
+abbrev AllHaveKinds : (ℕ → List Kind) → Streams → Type 0
+AllHaveKinds kinds streams = (stream : ℕ) → All (HasKinds (kinds stream)) (streams stream)
+
+same_number : (m n : ℕ) → (m == n) ≡ true → m ≡ n
+same_number m n e = grind (arith, nat_tests)
+
+-- what was heard on a stream has its kinds
+heard_kinds : (kinds : ℕ → List Kind) (stream : ℕ) (history : List Heard) → HaveTheirKinds kinds history → All (HasKinds (kinds stream)) (heard_on history stream)
+heard_kinds kinds stream [] all = All-nil (HasKinds (kinds stream))
+heard_kinds kinds stream (event ∷ history) all =
+    go (heard_kinds kinds stream history (All-tail (λ e. HasKinds (kinds e.stream) e.tuple) event history all)) (event.stream == stream) (same_number event.stream stream)
+  where
+    go : All (HasKinds (kinds stream)) (heard_on history stream) → (b : Bool) → (b ≡ true → event.stream ≡ stream)
+        → All (HasKinds (kinds stream)) (map (λ e. e.tuple) (cond b (event ∷ filter (λ e. e.stream == stream) history) (filter (λ e. e.stream == stream) history)))
+    go rest true same =
+        let first = subst (λ (n : ℕ). HasKinds (kinds n) event.tuple) (same (λ i. true)) (All-head (λ e. HasKinds (kinds e.stream) e.tuple) event history all) in
+        All-cons (HasKinds (kinds stream)) event.tuple (heard_on history stream) first rest
+    go rest false same = rest
+
+-- so have the declared streams
+pub declared_kinds : (kinds : ℕ → List Kind) (declared : ℕ) (history : List Heard) → HaveTheirKinds kinds history → AllHaveKinds kinds (declared_streams declared history)
+declared_kinds kinds declared history all stream =
+    elim (nat_lt stream declared) as (λ b. All (HasKinds (kinds stream)) (cond b (heard_on history stream) [])) [
+      | true ↦ heard_kinds kinds stream history all
+      | false ↦ All-nil (HasKinds (kinds stream))
+    ]
+
+-- a stream more that has its kinds
+with_kinds : (kinds : ℕ → List Kind) (streams : Streams) (number : ℕ) (tuples : List Row) → AllHaveKinds kinds streams → All (HasKinds (kinds number)) tuples → AllHaveKinds kinds (with_stream streams number tuples)
+with_kinds kinds streams number tuples all new stream = go (stream == number) (same_number stream number)
+  where
+    go : (b : Bool) → (b ≡ true → stream ≡ number) → All (HasKinds (kinds stream)) (cond b tuples (streams stream))
+    go true same = subst (λ (n : ℕ). All (HasKinds (kinds n)) tuples) (sym (same (λ i. true))) new
+    go false same = all stream
+
+-- queries that are typed in turn suit in turn, and each stream has its kinds: by induction on the queries
+pub typed_in_turn : (kinds : ℕ → List Kind) (number : ℕ) (streams : Streams) (order : List Query) → AllHaveKinds kinds streams → PublishInTurn kinds number order → SuitInTurn number streams order × AllHaveKinds kinds (published streams order)
+typed_in_turn kinds number streams [] all h = (tt, all)
+typed_in_turn kinds number streams (query ∷ order) all h =
+    let one = typed query.expr number kinds (kinds number) streams (λ s lt. all s) h.1 in
+    let tuples = denote query.expr streams in
+    let new = subst (λ (n : ℕ). All (HasKinds (kinds n)) tuples) (sym h.0) one.1 in
+    let more = typed_in_turn kinds (number + 1) (with_stream streams query.stream tuples) order (with_kinds kinds streams query.stream tuples all new) h.2 in ((h.0, one.0, more.0), more.1)
