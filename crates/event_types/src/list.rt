@@ -1,5 +1,6 @@
 //! A list of items.
-ghost use Rattle.std.specs.Prelude.{◌≡◌, ◌<◌, [], ◌∷◌, ◌++◌, length, slice_get, IsPermutation, IsSorted, IfOk, IfErr, OnOk, OnErr};
+ghost use Rattle.std.specs.Prelude.{◌≡◌, ◌<◌, [], ◌∷◌, ◌++◌, length, take, slice_get, IsPermutation, IsSorted, IfOk, IfErr, OnOk, OnErr};
+ghost use Rattle.std.specs.Borrow.{sem};
 ghost use Rattle.std.specs.Cmp.Lexicographic.{slice_cmp, slice_partial_cmp, pointwise, lists_equiv, lists_agrees, lists_total, lists_ties, lists_po, lists_per};
 
 use crate::memory::Memory;
@@ -66,6 +67,15 @@ impl<T> List<T> {
         }
     }
 
+    /// Drops the items behind the first so many, and keeps their room. Takes no memory.
+    pub fn truncate(&mut self, len: usize)
+    where
+        T: Drop,
+        ensures { self.new ≡ take len self.old }
+    {
+        self.held.truncate(len);
+    }
+
     /// Drops all items and keeps their room. Takes no memory.
     pub fn clear(&mut self)
     where
@@ -83,6 +93,19 @@ impl<T> List<T> {
         ensures sorted { IsSorted T.cmp self.new }
     {
         self.held.sort_unstable();
+    }
+}
+
+impl<T> List<T> {
+    ghost use Rattle.event_types.specs.Lending.{lends_item};
+
+    /// The item at a place, counted from 0, to be changed.
+    pub fn get_mut(&mut self, place: usize) -> &mut T
+        requires { place < length self.old }
+        ensures* writes_back { sem 𝓛 (lends_item T.row self.entry place result) }
+        ensures value { slice_get self.old place ≡ Some result.now }
+    {
+        &mut self.held[place]
     }
 }
 
