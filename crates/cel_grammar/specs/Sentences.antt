@@ -19,13 +19,13 @@ pub record Placed : Type 0 where
 unfoldable pub placed_of : Listing → List Placed
 placed_of listing = map (λ token. record { line = token.line; symbol = symbol_of token.what (spelling listing.source token) }) listing.items
 
--- what stands up to a semicolon: its symbols without it, the line of the first one, the semicolon included, and whether the semicolon is there
+-- what stands up to a semicolon: its symbols without it, the line of the first one, or of the semicolon where it has no other, and whether the semicolon is there
 pub record Sentence : Type 0 where
   pub line : ℕ
   pub symbols : List Symbol
   pub ended : Bool
 
--- the sentences with one more symbol, which is no semicolon, before them
+-- the sentences with one more symbol, which is no semicolon, before them: it belongs to the first one, and where there are none, it begins one without a semicolon
 abbrev pub with_front : Placed → List Sentence → List Sentence
 with_front word [] = record { line = word.line; symbols = word.symbol ∷ []; ended = false } ∷ []
 with_front word (s ∷ ss) = record { line = word.line; symbols = word.symbol ∷ s.symbols; ended = s.ended } ∷ ss

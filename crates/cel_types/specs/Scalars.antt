@@ -1,4 +1,4 @@
--- The types of scalars and predicates, and their first fault: operands from left to right.
+-- The types of scalars, and their first fault: operands from left to right.
 use Rattle.std.specs.Prelude.{◌≡◌, ◌≢◌, ℕ, ℤ, Some, None, List}
 use Rattle.event_types.specs.declared.comparison.Cmp.{Cmp}
 use Rattle.event_types.specs.declared.kind.Kind.{Kind}

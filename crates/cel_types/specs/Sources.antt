@@ -17,7 +17,7 @@ use Rattle.cel_types.specs.Items.{Make, FailToMake}
 use Rattle.cel_types.specs.Aggregates.{Assignment, Assign, FailToAssign, rebinding}
 use Rattle.cel_types.specs.Unions.{difference_from}
 
--- a projection of tuples of a schema
+-- a projection of tuples of a schema; for FOLD these are the events
 abbrev pub over : List Attr → List Sc → Projection
 over schema terms = record { width = length schema; parts = terms }
 
@@ -32,7 +32,7 @@ pub data Gives (streams : List Entry) : Source → List Attr → Ex → Type 0 w
       → Gives streams e left x → Gives streams f right y → Means (Iteration left right) p u → Means (Iteration left right) q v → Assign left right [] aggs assignments
       → Gives streams (tree.Fold p q aggs e f) left (ex.Fold (canonical u) (canonical v) (over right (rebinding left assignments)) x y)
 
--- the first fault of a source: its sources' from left to right, then that of their schemas, then those of its conditions, items and aggregates as they are written
+-- the first fault of a source: its sources' from left to right; of UNION then that they differ, of NEXT that they are too wide together; then those of its conditions, items and aggregates as they are written; of SELECT last that its schema is too wide
 pub data FailsToGive (streams : List Entry) : Source → TypeFault → Type 0 where
   filter_source : {p : Pred} {e : Source} {f : TypeFault} → FailsToGive streams e f → FailsToGive streams (tree.Filter p e) f
   filter_condition : {p : Pred} {e : Source} {schema : List Attr} {x : Ex} {f : TypeFault} → Gives streams e schema x → Fails (Alone schema) p f → FailsToGive streams (tree.Filter p e) f

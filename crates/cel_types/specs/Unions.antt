@@ -15,7 +15,7 @@ is_kind k l = false
 abbrev pub is_same : Attr → Attr → Bool
 is_same a b = bytes_eq a.name b.name && is_kind a.kind b.kind
 
--- the first place, counted on from this one, at which a name or a kind differs or one schema has ended
+-- the first place, counted on from this one, at which a name or a kind differs or one schema has ended, if there is one
 abbrev pub difference_from : ℕ → List Attr → List Attr → Option ℕ
 difference_from place [] [] = None
 difference_from place (a ∷ left) (b ∷ right) = if is_same a b then difference_from (place + 1) left right else Some place

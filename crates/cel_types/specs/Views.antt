@@ -3,7 +3,7 @@ use Rattle.cel_types.specs.declared.scope.Scope.{Scope}
 use Rattle.cel_types.specs.declared.scope.Scope.TheVariants as code
 use Rattle.cel_types.specs.Scopes as the
 
--- the scope, with schemas for references to them
+-- the scope, with schemas in place of references
 abbrev pub scope_of : Scope → the.Scope
 scope_of (code.Alone schema) = the.Alone schema.now
 scope_of (code.Sequence left right) = the.Sequence left.now right.now
