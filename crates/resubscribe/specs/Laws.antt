@@ -1,0 +1,36 @@
+-- What follows of the order and of the cycle.
+use Rattle.std.specs.Prelude.{◌≡◌, ◌≢◌, ◌<◌, ◌↔◌, ℕ, ⊤, List, [], ◌∷◌, length, take, slice_index, AllPairs, Contains}
+use Rattle.std.specs.List.{All}
+use Rattle.resubscribe.specs.Order.{IsOrder, reads_of}
+use Rattle.resubscribe.specs.Cycle.{IsCycle}
+
+-- each query stands in the order exactly once
+pub record HasEachOnce (reads : List (List ℕ)) (order : List ℕ) : Type 0 where
+  pub distinct : AllPairs (λ x y. x ≢ y) order
+  pub all : (query : ℕ) → Contains order query ↔ (query < length reads)
+
+-- each query stands after all that it reads
+abbrev pub StandsAfterReads : List (List ℕ) → List ℕ → Type 0
+StandsAfterReads reads order = (place : ℕ) → place < length order → All (Contains (take place order)) (reads_of reads (slice_index order place))
+
+-- each query reads the next one, and the last one reads this one
+abbrev pub EachReadsNext : List (List ℕ) → List ℕ → ℕ → Type 0
+EachReadsNext reads [] first = ⊤
+EachReadsNext reads (query ∷ []) first = Contains (reads_of reads query) first
+EachReadsNext reads (query ∷ next ∷ later) first = Contains (reads_of reads query) next × EachReadsNext reads (next ∷ later) first
+
+-- there is a query, each reads the next one, and the last one reads the first
+abbrev pub ReadsInCircle : List (List ℕ) → List ℕ → Type 0
+ReadsInCircle reads cycle = (0 < length cycle) × EachReadsNext reads cycle (slice_index cycle 0)
+
+-- queries have at most one order
+abbrev pub OneOrder : Type 0
+OneOrder = (reads : List (List ℕ)) (order other : List ℕ) → IsOrder reads order → IsOrder reads other → order ≡ other
+
+-- queries have at most one cycle
+abbrev pub OneCycle : Type 0
+OneCycle = (reads : List (List ℕ)) (cycle other : List ℕ) → IsCycle reads cycle → IsCycle reads other → cycle ≡ other
+
+-- queries that have an order have no cycle
+abbrev pub NotBoth : Type 0
+NotBoth = (reads : List (List ℕ)) (order cycle : List ℕ) → IsOrder reads order → ¬ IsCycle reads cycle

@@ -1,0 +1,6 @@
+pub mod Cycle
+pub mod Laws
+pub mod Marks
+pub mod Order
+pub mod Outcome
+pub mod Readers

@@ -1,0 +1,9 @@
+//! Laws of the order: queries have one order or one cycle.
+ghost use Rattle.resubscribe.specs.Laws.{NotBoth, OneCycle, OneOrder};
+
+/// Queries have at most one order and at most one cycle, and never both. This does nothing.
+pub fn one_outcome()
+    ensures order { OneOrder }
+    ensures cycle { OneCycle }
+    ensures not_both { NotBoth }
+{}

@@ -1,0 +1,71 @@
+//! Distinct numbers below a size, with a table that tells whether a number is there.
+ghost use Rattle.std.specs.Prelude.{◌≡◌, ◌≢◌, ◌<◌, ◌++◌, ◌∷◌, [], false, length, IfOk, OnOk, AllPairs};
+ghost use Rattle.resubscribe.specs.Order.{is_among};
+
+use event_types::{List, Memory, Numbers};
+use std::alloc::Global;
+use std::marker::Model;
+
+// Numbers in the order in which they were put, each with a mark.
+#[derive(Drop)]
+pub struct Marked {
+    numbers: Numbers,
+    marks: Vec<bool>,
+}
+
+impl Model for Marked {
+    ghost use Rattle.std.specs.Prelude.{length};
+    ghost use Rattle.resubscribe.specs.Marks.{Few, IsMarked};
+
+    ghost Value = { Few };
+
+    ghost view = { λ s. record { numbers = s.numbers; size = length s.marks.items } };
+
+    ghost invariant = { λ s. IsMarked s.marks.items s.numbers };
+}
+
+impl Marked {
+    pub fn new(alloc: Global, size: usize) -> Result<Marked, Memory>
+        ensures { IfOk result (λ marked. marked ≡ record { numbers = []; size = size }) }
+    {
+        Ok(Marked {
+            numbers: List::new(alloc),
+            marks: vec![in alloc; false; size]?,
+        })
+    }
+
+    pub fn has(&self, number: usize) -> bool
+        requires { number < self.now.size }
+        ensures { result ≡ is_among self.now.numbers number }
+    {
+        self.marks[number]
+    }
+
+    // Puts a number at the end. Want of memory leaves them as they were.
+    pub fn put(&mut self, number: usize) -> Result<(), Memory>
+        requires small { number < self.old.size }
+        requires new { is_among self.old.numbers number ≡ false }
+        ensures ok { OnOk result (self.new ≡ record { numbers = self.old.numbers ++ number ∷ []; size = self.old.size }) }
+        ensures room { length self.old.numbers < self.old.size }
+    {
+        if self.numbers.push(number).is_err() {
+            return Err(Memory);
+        }
+        self.marks[number] = true;
+        Ok(())
+    }
+
+    pub fn numbers(&self) -> &Numbers
+        ensures value { result.now ≡ self.now.numbers }
+        ensures distinct { AllPairs (λ x y. x ≢ y) self.now.numbers }
+    {
+        &self.numbers
+    }
+
+    pub fn into_numbers(self) -> Numbers
+        ensures value { result ≡ self.numbers }
+        ensures distinct { AllPairs (λ x y. x ≢ y) self.numbers }
+    {
+        self.numbers
+    }
+}
