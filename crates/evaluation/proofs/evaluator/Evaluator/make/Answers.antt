@@ -1,0 +1,11 @@
+use Rattle.std.proofs.Common.{◌∙◌, ◌+◌, [], ◌∷◌, ◌++◌, ap, subst, sym}
+use Rattle.evaluation.specs.Hearing.{HasHeard}
+use Rattle.evaluation.proofs.HearingLemmas.{one_more_stream}
+use Rattle.evaluation.proofs.ResultLemmas.{when_ok}
+use Rattle.evaluation.proofs.evaluator.Evaluator.make.Goals as goal
+
+-- one more empty list was put
+pub loop-preserved : goal.loop-preserved
+loop-preserved c =
+    let put = when_ok c.push.result (sym c.is_err.ensures.value ∙ c.if-is_err.false) c.push.ensures.ok in
+    subst (HasHeard (c.loop.counter + 1) []) (sym (put ∙ ap (λ list. c.loop.lists ++ list ∷ []) c.new.ensures)) (one_more_stream c.loop.counter c.loop.lists c.loop.invariant)

@@ -1,0 +1,10 @@
+//! Queries as they are evaluated.
+use algebra::Expr;
+use event_types::StreamId;
+
+/// A query: its name, the number of the stream that it publishes, and the expression that says what.
+pub struct Query<'a> {
+    pub name: &'a str,
+    pub stream: StreamId,
+    pub expr: &'a Expr,
+}
