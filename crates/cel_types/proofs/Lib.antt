@@ -1,1 +1,3 @@
 pub mod UnionLemmas
+pub mod ScalarSteps
+pub mod TypingRules

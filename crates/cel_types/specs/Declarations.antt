@@ -1,6 +1,5 @@
 -- The schema of a declaration, and its first fault.
-use Rattle.std.specs.Prelude.{◌≡◌, ◌≢◌, ◌<◌, ◌≤◌, ℕ, List, ◌∷◌, ◌++◌, length, map, AllPairs, Contains}
-use Rattle.event_types.specs.declared.kind.Kind.{Kind}
+use Rattle.std.specs.Prelude.{◌≡◌, ◌≢◌, ◌<◌, List, ◌∷◌, ◌++◌, length, map, AllPairs, Contains}
 use Rattle.stream_schema.specs.Schema.{Attr, IsSchema, names_of}
 use Rattle.cel_grammar.specs.Trees.{Column, Col}
 use Rattle.cel_types.specs.declared.fault.TypeFault.{TypeFault}

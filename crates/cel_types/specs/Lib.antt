@@ -1,5 +1,6 @@
 pub mod Scopes
 pub mod Scalars
+pub mod Operands
 pub mod Predicates
 pub mod Declarations
 pub mod Items

@@ -28,4 +28,4 @@ pub data Fails (scope : Scope) : Pred → TypeFault → Type 0 where
   and_right : {p q : Pred} {u : Pr} {f : TypeFault} → Means scope p u → Fails scope q f → Fails scope (tree.And p q) f
   or_left : {p q : Pred} {f : TypeFault} → Fails scope p f → Fails scope (tree.Or p q) f
   or_right : {p q : Pred} {u : Pr} {f : TypeFault} → Means scope p u → Fails scope q f → Fails scope (tree.Or p q) f
-  not : {p : Pred} {f : TypeFault} → Fails scope p f → Fails scope (tree.Not p) f
+  denied : {p : Pred} {f : TypeFault} → Fails scope p f → Fails scope (tree.Not p) f

@@ -1,13 +1,12 @@
 -- The types of scalars, and their first fault: operands from left to right.
 use Rattle.std.specs.Prelude.{◌≡◌, ◌≢◌, ℕ, ℤ, Some, None, List}
-use Rattle.event_types.specs.declared.comparison.Cmp.{Cmp}
 use Rattle.event_types.specs.declared.kind.Kind.{Kind}
 use Rattle.event_types.specs.declared.kind.Kind.TheVariants as kind
 use Rattle.event_types.specs.declared.value.Value.TheVariants as value
-use Rattle.semantics.specs.Scalars.{Sc, Pr}
+use Rattle.semantics.specs.Scalars.{Sc}
 use Rattle.semantics.specs.Scalars as term
 use Rattle.cel_grammar.specs.declared.mark.Mark.{Mark}
-use Rattle.cel_grammar.specs.Trees.{Op, Scalar, Pred}
+use Rattle.cel_grammar.specs.Trees.{Op, Scalar}
 use Rattle.cel_grammar.specs.Trees as tree
 use Rattle.cel_types.specs.declared.fault.TypeFault.{TypeFault}
 use Rattle.cel_types.specs.declared.fault.TypeFault.TheVariants.{UnknownAttr, KindMismatch}

@@ -1,5 +1,6 @@
 //! Why a statement has no type.
 use event_types::{Kind, Memory, Text};
+use std::alloc::AllocFailed;
 
 /// Why a statement has no type: the first fault that is met on the way from the sources inwards out.
 #[derive(Drop)]
@@ -27,6 +28,17 @@ impl From<Memory> for TypeFault {
     ghost from_gives = { λ _ made. made ≡ fault.Memory };
 
     fn from(_error: Memory) -> TypeFault {
+        TypeFault::Memory
+    }
+}
+
+impl<T: Drop> From<AllocFailed<T>> for TypeFault {
+    ghost use Rattle.std.specs.Prelude.{◌≡◌};
+    ghost use Rattle.cel_types.specs.declared.fault.TypeFault.TheVariants as fault;
+
+    ghost from_gives = { λ _ made. made ≡ fault.Memory };
+
+    fn from(_error: AllocFailed<T>) -> TypeFault {
         TypeFault::Memory
     }
 }

@@ -1,0 +1,14 @@
+-- The rules of the types, named by what they are the rules of, for searches.
+use Rattle.cel_types.specs.Scalars as scalar
+use Rattle.cel_types.specs.Operands as operand
+use Rattle.cel_types.specs.Predicates as predicate
+use Rattle.cel_types.proofs.ScalarSteps.{left_fails, right_fails}
+
+pub ruleset operand_rules = (operand.own, operand.not_int)
+
+pub ruleset scalar_rules = (scalar.number, scalar.quoted, scalar.dur, scalar.two, left_fails, right_fails)
+
+pub ruleset test_rules = (predicate.test, predicate.test_left, predicate.test_right, predicate.test_kinds)
+
+pub ruleset predicate_rules =
+    (predicate.true, predicate.and, predicate.or, predicate.not, predicate.and_left, predicate.and_right, predicate.or_left, predicate.or_right, predicate.denied)
