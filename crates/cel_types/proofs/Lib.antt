@@ -1,3 +1,5 @@
 pub mod UnionLemmas
 pub mod ScalarSteps
 pub mod TypingRules
+pub mod ScalarLaws
+pub mod PredicateLaws
