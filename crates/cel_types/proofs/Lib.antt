@@ -3,3 +3,4 @@ pub mod ScalarSteps
 pub mod TypingRules
 pub mod ScalarLaws
 pub mod PredicateLaws
+pub mod DeclarationLemmas

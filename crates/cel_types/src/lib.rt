@@ -2,9 +2,11 @@
 #![tactic(auto)]
 
 mod conditions;
+mod declaring;
 mod fault;
 mod scalars;
 mod scope;
 mod unions;
 
+pub use declaring::declare;
 pub use fault::TypeFault;
