@@ -4,3 +4,4 @@ pub mod TypingRules
 pub mod ScalarLaws
 pub mod PredicateLaws
 pub mod DeclarationLemmas
+pub mod DeclarationLaws

@@ -9,3 +9,4 @@ pub mod Unions
 pub mod Sources
 pub mod Statements
 pub mod Views
+pub mod Laws

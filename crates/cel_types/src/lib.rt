@@ -4,9 +4,11 @@
 mod conditions;
 mod declaring;
 mod fault;
+mod laws;
 mod scalars;
 mod scope;
 mod unions;
 
 pub use declaring::declare;
 pub use fault::TypeFault;
+pub use laws::{declaration_has_one_schema, predicate_has_one_type, scalar_has_one_type};
