@@ -1,3 +1,7 @@
+pub mod MakeLemmas
+pub mod MakeRules
+pub mod NewLemmas
+pub mod SplitLemmas
 pub mod UnionLemmas
 pub mod ScalarSteps
 pub mod TypingRules

@@ -10,3 +10,4 @@ pub mod Sources
 pub mod Statements
 pub mod Views
 pub mod Laws
+pub mod Making

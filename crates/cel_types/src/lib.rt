@@ -1,10 +1,12 @@
 //! Types of statements: the schema of a declaration, and the schema and the expression of a query.
 #![tactic(auto)]
 
+mod attributes;
 mod conditions;
 mod declaring;
 mod fault;
 mod laws;
+mod items;
 mod scalars;
 mod scope;
 mod unions;
