@@ -4,19 +4,20 @@ use Rattle.cel_grammar.specs.Symbols.{Symbol}
 use Rattle.cel_grammar.specs.Symbols as the
 use Rattle.cel_grammar.specs.Trees.{Scalar, Two, Min, Max}
 use Rattle.cel_grammar.specs.Scalars.{negative, IsAttribute, bare, of_first, of_second, of_so, IsScalar, product, sum, difference, IsProduct, factor, times, IsFactor, number, less, text, attribute, dur, least, greatest, group}
+use Rattle.cel_print.specs.declared.places.ScalarPlace.TheVariants as scalar_place
 use Rattle.cel_print.specs.Words.{Of}
-use Rattle.cel_print.specs.ScalarWords.{AScalar, AProduct, AFactor, number_words, scalar_words}
+use Rattle.cel_print.specs.ScalarWords.{number_words, scalar_words}
 use Rattle.cel_print.proofs.ReadScalars.{negative_suc}
 use Rattle.cel_print.proofs.Bounds.{Bound, Plain, idle, leaf, loosened, joined, prefixed, wrapped, unwrapped, enclosed, parens}
 
 -- so many pairs more are needed at each place
 pub record Bounds (p f : ℕ) (x : Scalar) (ts rest : List Symbol) : Type 0 where
-  pub scalar : Bound 0 (scalar_words AScalar x) ts rest
-  pub product : Bound p (scalar_words AProduct x) ts rest
-  pub factor : Bound f (scalar_words AFactor x) ts rest
+  pub scalar : Bound 0 (scalar_words scalar_place.Scalar x) ts rest
+  pub product : Bound p (scalar_words scalar_place.Product x) ts rest
+  pub factor : Bound f (scalar_words scalar_place.Factor x) ts rest
 
 -- the same words at each place
-same : (x : Scalar) (ts rest : List Symbol) → Bound 0 (scalar_words AScalar x) ts rest → Bound 0 (scalar_words AProduct x) ts rest → Bound 0 (scalar_words AFactor x) ts rest → Bounds 0 0 x ts rest
+same : (x : Scalar) (ts rest : List Symbol) → Bound 0 (scalar_words scalar_place.Scalar x) ts rest → Bound 0 (scalar_words scalar_place.Product x) ts rest → Bound 0 (scalar_words scalar_place.Factor x) ts rest → Bounds 0 0 x ts rest
 same x ts rest a b c = record { scalar = a; product = b; factor = c }
 
 -- a number behind a minus, which it loses if it is 0
@@ -32,27 +33,27 @@ attribute_bound {rest = rest} (of_second {a = a}) = let it = prefixed the.Dollar
 attribute_bound {rest = rest} (of_so {a = a}) = let it = prefixed the.Dollar _ _ rest (λ d ts. refl) (prefixed the.Dot _ _ rest (λ d ts. refl) (leaf (the.Name a) rest (λ d ts. refl))) in same _ _ rest it it it
 
 -- two scalars in parentheses behind MIN or MAX
-both_bound : (t : Symbol) (x y : Scalar) (ts us rest : List Symbol) → Plain t → Bound 0 (scalar_words AScalar x) ts (the.Comma ∷ us) → Bound 0 (scalar_words AScalar y) us (the.Close ∷ rest) → Bound 0 (λ r. Of t ∷ Of the.Open ∷ scalar_words AScalar x (Of the.Comma ∷ scalar_words AScalar y (Of the.Close ∷ r))) (t ∷ the.Open ∷ ts) rest
+both_bound : (t : Symbol) (x y : Scalar) (ts us rest : List Symbol) → Plain t → Bound 0 (scalar_words scalar_place.Scalar x) ts (the.Comma ∷ us) → Bound 0 (scalar_words scalar_place.Scalar y) us (the.Close ∷ rest) → Bound 0 (λ r. Of t ∷ Of the.Open ∷ scalar_words scalar_place.Scalar x (Of the.Comma ∷ scalar_words scalar_place.Scalar y (Of the.Close ∷ r))) (t ∷ the.Open ∷ ts) rest
 both_bound t x y ts us rest plain a b =
-    let inside : Bound 0 (λ r. scalar_words AScalar x (Of the.Comma ∷ scalar_words AScalar y r)) ts (the.Close ∷ rest) = joined 0 the.Comma (scalar_words AScalar x) (scalar_words AScalar y) ts us (the.Close ∷ rest) (λ d ts. refl) a b in
-    prefixed t _ (the.Open ∷ ts) rest plain (enclosed the.Open the.Close (λ r. scalar_words AScalar x (Of the.Comma ∷ scalar_words AScalar y r)) (λ r. r) ts rest rest parens inside (idle rest))
+    let inside : Bound 0 (λ r. scalar_words scalar_place.Scalar x (Of the.Comma ∷ scalar_words scalar_place.Scalar y r)) ts (the.Close ∷ rest) = joined 0 the.Comma (scalar_words scalar_place.Scalar x) (scalar_words scalar_place.Scalar y) ts us (the.Close ∷ rest) (λ d ts. refl) a b in
+    prefixed t _ (the.Open ∷ ts) rest plain (enclosed the.Open the.Close (λ r. scalar_words scalar_place.Scalar x (Of the.Comma ∷ scalar_words scalar_place.Scalar y r)) (λ r. r) ts rest rest parens inside (idle rest))
 
 mutual
   -- by induction on what the symbols read as
   pub scalar_bound : {ts rest : List Symbol} {x : Scalar} → IsScalar ts x rest → Bounds 1 1 x ts rest
   scalar_bound {ts} {rest} {x} (product h) = let b = product_bound h in record { scalar = b.scalar; product = loosened _ ts rest b.product; factor = b.factor }
   scalar_bound {ts} {rest} {x} (sum {us = us} {x = y} {y = z} h k) =
-      let it = joined 0 the.Plus (scalar_words AScalar y) (scalar_words AProduct z) ts us rest (λ d ts. refl) (scalar_bound h).scalar (product_bound k).product in
+      let it = joined 0 the.Plus (scalar_words scalar_place.Scalar y) (scalar_words scalar_place.Product z) ts us rest (λ d ts. refl) (scalar_bound h).scalar (product_bound k).product in
       record { scalar = it; product = wrapped _ ts rest it; factor = wrapped _ ts rest it }
   scalar_bound {ts} {rest} {x} (difference {us = us} {x = y} {y = z} h k) =
-      let it = joined 0 the.Minus (scalar_words AScalar y) (scalar_words AProduct z) ts us rest (λ d ts. refl) (scalar_bound h).scalar (product_bound k).product in
+      let it = joined 0 the.Minus (scalar_words scalar_place.Scalar y) (scalar_words scalar_place.Product z) ts us rest (λ d ts. refl) (scalar_bound h).scalar (product_bound k).product in
       record { scalar = it; product = wrapped _ ts rest it; factor = wrapped _ ts rest it }
 
   -- by induction on what the symbols read as
   pub product_bound : {ts rest : List Symbol} {x : Scalar} → IsProduct ts x rest → Bounds 0 1 x ts rest
   product_bound {ts} {rest} {x} (factor h) = let b = factor_bound h in record { scalar = b.scalar; product = b.product; factor = loosened _ ts rest b.factor }
   product_bound {ts} {rest} {x} (times {us = us} {x = y} {y = z} h k) =
-      let it = joined 0 the.Star (scalar_words AProduct y) (scalar_words AFactor z) ts us rest (λ d ts. refl) (product_bound h).product (factor_bound k).factor in
+      let it = joined 0 the.Star (scalar_words scalar_place.Product y) (scalar_words scalar_place.Factor z) ts us rest (λ d ts. refl) (product_bound h).product (factor_bound k).factor in
       record { scalar = it; product = it; factor = wrapped _ ts rest it }
 
   -- by induction on what the symbols read as

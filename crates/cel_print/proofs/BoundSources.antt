@@ -7,25 +7,28 @@ use Rattle.cel_grammar.specs.Symbols.{Symbol}
 use Rattle.cel_grammar.specs.Symbols as the
 use Rattle.cel_grammar.specs.Trees.{Scalar, Attr, Pred, True, Item, Named, Agg, Source, Name, Filter, Select}
 use Rattle.cel_grammar.specs.Sources.{IsItem, star, name, named, IsItems, one, more, IsAggs, none, set, IsSource, term, union, next, next_where, fold, IsTerm, of, group, select, filter}
+use Rattle.cel_print.specs.declared.places.SourcePlace.TheVariants as source_place
+use Rattle.cel_print.specs.declared.places.ScalarPlace.TheVariants as scalar_place
+use Rattle.cel_print.specs.declared.places.PredPlace.TheVariants as pred_place
 use Rattle.cel_print.specs.Words.{Word, Of}
-use Rattle.cel_print.specs.ScalarWords.{AScalar, scalar_words}
-use Rattle.cel_print.specs.PredicateWords.{APred, pred_words}
-use Rattle.cel_print.specs.SourceWords.{ASource, ATerm, is_own_name, named_words, item_words, items_words, aggs_words, condition_words, source_words}
+use Rattle.cel_print.specs.ScalarWords.{scalar_words}
+use Rattle.cel_print.specs.PredicateWords.{pred_words}
+use Rattle.cel_print.specs.SourceWords.{is_own_name, named_words, item_words, items_words, aggs_words, condition_words, source_words}
 use Rattle.cel_print.proofs.Names.{own_name_is, own_name}
 use Rattle.cel_print.proofs.Bounds.{Bound, idle, leaf, loosened, joined, prefixed, wrapped, unwrapped, enclosed, dropped, parens, braces}
 use Rattle.cel_print.proofs.BoundScalars.{scalar_bound}
 use Rattle.cel_print.proofs.BoundPredicates.{pred_bound}
 
 -- a scalar under a name
-named_bound : (x : Scalar) (a : List ℕ) (ts rest : List Symbol) → Bound 0 (scalar_words AScalar x) ts (the.As ∷ the.Name a ∷ rest) → Bound 0 (named_words x a) ts rest
-named_bound x a ts rest b = joined 0 the.As (scalar_words AScalar x) (λ r. Of (the.Name a) ∷ r) ts (the.Name a ∷ rest) rest (λ d ts. refl) b (leaf (the.Name a) rest (λ d ts. refl))
+named_bound : (x : Scalar) (a : List ℕ) (ts rest : List Symbol) → Bound 0 (scalar_words scalar_place.Scalar x) ts (the.As ∷ the.Name a ∷ rest) → Bound 0 (named_words x a) ts rest
+named_bound x a ts rest b = joined 0 the.As (scalar_words scalar_place.Scalar x) (λ r. Of (the.Name a) ∷ r) ts (the.Name a ∷ rest) rest (λ d ts. refl) b (leaf (the.Name a) rest (λ d ts. refl))
 
 -- a name that is left out behind its attribute
 short_bound : (a : List ℕ) (ts rest : List Symbol) → Bound 0 (λ r. Of (the.Name a) ∷ r) ts (the.As ∷ the.Name a ∷ rest) → Bound 0 (λ r. Of (the.Name a) ∷ r) ts rest
 short_bound a ts rest b = record { few = λ r. omega (arith, b.few r); shallow = b.shallow; after = b.after }
 
 -- an item, which is its name alone where its scalar is the attribute of this name
-item_bound : (x : Scalar) (a : List ℕ) (ts rest : List Symbol) → Bound 0 (scalar_words AScalar x) ts (the.As ∷ the.Name a ∷ rest) → Bound 0 (item_words (Named x a)) ts rest
+item_bound : (x : Scalar) (a : List ℕ) (ts rest : List Symbol) → Bound 0 (scalar_words scalar_place.Scalar x) ts (the.As ∷ the.Name a ∷ rest) → Bound 0 (item_words (Named x a)) ts rest
 item_bound x a ts rest b =
     let P : Bool → Type 0 = λ own. is_own_name x a ≡ own → Bound 0 (λ r. if own then Of (the.Name a) ∷ r else named_words x a r) ts rest in
     (elim (is_own_name x a) as P [
@@ -63,39 +66,39 @@ aggs_bound {rest = rest} (set {ts = ts} {us = us} {x = x} {a = a} {as' = aggs} h
 
 -- so many pairs more are needed at each place
 pub record Bounds (t : ℕ) (e : Source) (ts rest : List Symbol) : Type 0 where
-  pub source : Bound 0 (source_words ASource e) ts rest
-  pub term : Bound t (source_words ATerm e) ts rest
+  pub source : Bound 0 (source_words source_place.Source e) ts rest
+  pub term : Bound t (source_words source_place.Term e) ts rest
 
 -- the same words at each place
-same : (e : Source) (ts rest : List Symbol) → Bound 0 (source_words ASource e) ts rest → Bound 0 (source_words ATerm e) ts rest → Bounds 0 e ts rest
+same : (e : Source) (ts rest : List Symbol) → Bound 0 (source_words source_place.Source e) ts rest → Bound 0 (source_words source_place.Term e) ts rest → Bounds 0 e ts rest
 same e ts rest a b = record { source = a; term = b }
 
 -- a condition in braces, which TRUE loses
-condition_bound : (p : Pred) (g : List Word → List Word) (ts us rest : List Symbol) → Bound 0 (pred_words APred p) ts (the.BraceClose ∷ us) → Bound 0 g us rest → Bound 0 (λ r. condition_words p (g r)) (the.BraceOpen ∷ ts) rest
-condition_bound True g ts us rest b k = dropped (pred_words APred True) g ts us rest (λ r. omega arith) b k
-condition_bound p g ts us rest b k = enclosed the.BraceOpen the.BraceClose (pred_words APred p) g ts us rest braces b k
+condition_bound : (p : Pred) (g : List Word → List Word) (ts us rest : List Symbol) → Bound 0 (pred_words pred_place.Pred p) ts (the.BraceClose ∷ us) → Bound 0 g us rest → Bound 0 (λ r. condition_words p (g r)) (the.BraceOpen ∷ ts) rest
+condition_bound True g ts us rest b k = dropped (pred_words pred_place.Pred True) g ts us rest (λ r. omega arith) b k
+condition_bound p g ts us rest b k = enclosed the.BraceOpen the.BraceClose (pred_words pred_place.Pred p) g ts us rest braces b k
 
 mutual
   -- by induction on what the symbols read as
   pub source_bound : {ts rest : List Symbol} {e : Source} → IsSource ts e rest → Bounds 1 e ts rest
   source_bound {ts} {rest} (term h) = let b = term_bound h in record { source = b.source; term = loosened _ ts rest b.term }
   source_bound {ts} {rest} (union {us = us} {e = e} {f = f} h k) =
-      let it = joined 0 the.Union (source_words ASource e) (source_words ATerm f) ts us rest (λ d ts. refl) (source_bound h).source (term_bound k).term in
+      let it = joined 0 the.Union (source_words source_place.Source e) (source_words source_place.Term f) ts us rest (λ d ts. refl) (source_bound h).source (term_bound k).term in
       record { source = it; term = wrapped _ ts rest it }
   source_bound {ts} {rest} (next {us = us} {e = e} {f = f} h k) =
-      let it = joined 0 the.Next (source_words ASource e) (source_words ATerm f) ts us rest (λ d ts. refl) (source_bound h).source (term_bound k).term in
+      let it = joined 0 the.Next (source_words source_place.Source e) (source_words source_place.Term f) ts us rest (λ d ts. refl) (source_bound h).source (term_bound k).term in
       record { source = it; term = wrapped _ ts rest it }
   source_bound {ts} {rest} (next_where {us = us} {vs = vs} {e = e} {f = f} {p = p} h i k) =
-      let it = joined 0 the.Next (source_words ASource e) (λ r. condition_words p (source_words ATerm f r)) ts (the.BraceOpen ∷ us) rest (λ d ts. refl) (source_bound h).source
-      (condition_bound p (source_words ATerm f) us vs rest (pred_bound i).pred (term_bound k).term) in
+      let it = joined 0 the.Next (source_words source_place.Source e) (λ r. condition_words p (source_words source_place.Term f r)) ts (the.BraceOpen ∷ us) rest (λ d ts. refl) (source_bound h).source
+      (condition_bound p (source_words source_place.Term f) us vs rest (pred_bound i).pred (term_bound k).term) in
       record { source = it; term = wrapped _ ts rest it }
   source_bound {ts} {rest} (fold {us = us} {vs = vs} {ws = ws} {xs = xs} {e = e} {f = f} {p = p} {q = q} {sets = sets} h i j s k) =
-      let parts : Bound 0 (λ r. pred_words APred p (Of the.Comma ∷ pred_words APred q (aggs_words sets r))) us (the.BraceClose ∷ xs) =
-      joined 0 the.Comma (pred_words APred p) (λ r. pred_words APred q (aggs_words sets r)) us vs (the.BraceClose ∷ xs) (λ d ts. refl) (pred_bound i).pred
-      (beside (pred_words APred q) (aggs_words sets) vs ws (the.BraceClose ∷ xs) (pred_bound j).pred (aggs_bound s)) in
-      let inner : Bound 0 (λ r. Of the.BraceOpen ∷ pred_words APred p (Of the.Comma ∷ pred_words APred q (aggs_words sets (Of the.BraceClose ∷ source_words ATerm f r)))) (the.BraceOpen ∷ us) rest =
-      enclosed the.BraceOpen the.BraceClose (λ r. pred_words APred p (Of the.Comma ∷ pred_words APred q (aggs_words sets r))) (source_words ATerm f) us xs rest braces parts (term_bound k).term in
-      let it = joined 0 the.Fold (source_words ASource e) (λ r. Of the.BraceOpen ∷ pred_words APred p (Of the.Comma ∷ pred_words APred q (aggs_words sets (Of the.BraceClose ∷ source_words ATerm f r)))) ts (the.BraceOpen ∷ us) rest (λ d ts. refl) (source_bound h).source inner in
+      let parts : Bound 0 (λ r. pred_words pred_place.Pred p (Of the.Comma ∷ pred_words pred_place.Pred q (aggs_words sets r))) us (the.BraceClose ∷ xs) =
+      joined 0 the.Comma (pred_words pred_place.Pred p) (λ r. pred_words pred_place.Pred q (aggs_words sets r)) us vs (the.BraceClose ∷ xs) (λ d ts. refl) (pred_bound i).pred
+      (beside (pred_words pred_place.Pred q) (aggs_words sets) vs ws (the.BraceClose ∷ xs) (pred_bound j).pred (aggs_bound s)) in
+      let inner : Bound 0 (λ r. Of the.BraceOpen ∷ pred_words pred_place.Pred p (Of the.Comma ∷ pred_words pred_place.Pred q (aggs_words sets (Of the.BraceClose ∷ source_words source_place.Term f r)))) (the.BraceOpen ∷ us) rest =
+      enclosed the.BraceOpen the.BraceClose (λ r. pred_words pred_place.Pred p (Of the.Comma ∷ pred_words pred_place.Pred q (aggs_words sets r))) (source_words source_place.Term f) us xs rest braces parts (term_bound k).term in
+      let it = joined 0 the.Fold (source_words source_place.Source e) (λ r. Of the.BraceOpen ∷ pred_words pred_place.Pred p (Of the.Comma ∷ pred_words pred_place.Pred q (aggs_words sets (Of the.BraceClose ∷ source_words source_place.Term f r)))) ts (the.BraceOpen ∷ us) rest (λ d ts. refl) (source_bound h).source inner in
       record { source = it; term = wrapped _ ts rest it }
 
   -- by induction on what the symbols read as
@@ -105,12 +108,12 @@ mutual
       let b = source_bound h in
       same e (the.Open ∷ ts) rest (unwrapped _ ts rest (loosened _ ts (the.Close ∷ rest) b.source)) (unwrapped _ ts rest b.term)
   term_bound {rest = rest} (select {ts = ts} {us = us} {is = is} {e = e} h k) =
-      let inside : Bound 0 (λ r. Of the.Select ∷ items_words is (Of the.From ∷ source_words ASource e r)) (the.Select ∷ ts) (the.Close ∷ rest) =
-      prefixed the.Select (λ r. items_words is (Of the.From ∷ source_words ASource e r)) ts (the.Close ∷ rest) (λ d ts. refl)
-      (joined 0 the.From (items_words is) (source_words ASource e) ts us (the.Close ∷ rest) (λ d ts. refl) (items_bound h) (source_bound k).source) in
-      let it = enclosed the.Open the.Close (λ r. Of the.Select ∷ items_words is (Of the.From ∷ source_words ASource e r)) (λ r. r) (the.Select ∷ ts) rest rest parens inside (idle rest) in
+      let inside : Bound 0 (λ r. Of the.Select ∷ items_words is (Of the.From ∷ source_words source_place.Source e r)) (the.Select ∷ ts) (the.Close ∷ rest) =
+      prefixed the.Select (λ r. items_words is (Of the.From ∷ source_words source_place.Source e r)) ts (the.Close ∷ rest) (λ d ts. refl)
+      (joined 0 the.From (items_words is) (source_words source_place.Source e) ts us (the.Close ∷ rest) (λ d ts. refl) (items_bound h) (source_bound k).source) in
+      let it = enclosed the.Open the.Close (λ r. Of the.Select ∷ items_words is (Of the.From ∷ source_words source_place.Source e r)) (λ r. r) (the.Select ∷ ts) rest rest parens inside (idle rest) in
       same (Select is e) _ rest it it
   term_bound {rest = rest} (filter {ts = ts} {us = us} {p = p} {e = e} h k) =
-      let it = prefixed the.Filter (λ r. Of the.BraceOpen ∷ pred_words APred p (Of the.BraceClose ∷ source_words ATerm e r)) (the.BraceOpen ∷ ts) rest (λ d ts. refl)
-      (enclosed the.BraceOpen the.BraceClose (pred_words APred p) (source_words ATerm e) ts us rest braces (pred_bound h).pred (term_bound k).term) in
+      let it = prefixed the.Filter (λ r. Of the.BraceOpen ∷ pred_words pred_place.Pred p (Of the.BraceClose ∷ source_words source_place.Term e r)) (the.BraceOpen ∷ ts) rest (λ d ts. refl)
+      (enclosed the.BraceOpen the.BraceClose (pred_words pred_place.Pred p) (source_words source_place.Term e) ts us rest braces (pred_bound h).pred (term_bound k).term) in
       same (Filter p e) _ rest it it

@@ -5,8 +5,9 @@ use Rattle.cel_grammar.specs.Symbols.{Symbol}
 use Rattle.cel_grammar.specs.Symbols as the
 use Rattle.cel_grammar.specs.Trees.{Column, Col, Statement}
 use Rattle.cel_grammar.specs.Statements.{IsKind, int, text, IsColumns, one, more, IsStatement, declaration, query}
+use Rattle.cel_print.specs.declared.places.SourcePlace.TheVariants as source_place
 use Rattle.cel_print.specs.Words.{Word, Of}
-use Rattle.cel_print.specs.SourceWords.{ASource, items_words, source_words}
+use Rattle.cel_print.specs.SourceWords.{items_words, source_words}
 use Rattle.cel_print.specs.StatementWords.{kind_symbol, columns_words, statement_words}
 use Rattle.cel_print.proofs.Bounds.{Bound, idle, leaf, joined, prefixed, enclosed, parens}
 use Rattle.cel_print.proofs.BoundSources.{items_bound, source_bound}
@@ -30,5 +31,5 @@ statement_bound {rest = rest} (declaration {a = a} {ts = ts} {cs = cs} h) =
     prefixed the.Stream _ (the.Name a ∷ the.Open ∷ ts) rest (λ d ts. refl) (prefixed (the.Name a) _ (the.Open ∷ ts) rest (λ d ts. refl)
     (enclosed the.Open the.Close (columns_words cs) (λ r. r) ts rest rest parens (columns_bound h) (idle rest)))
 statement_bound {rest = rest} (query {a = a} {ts = ts} {us = us} {items = items} {source = source} h k) =
-    prefixed the.Select _ ts rest (λ d ts. refl) (joined 0 the.From (items_words items) (λ r. source_words ASource source (Of the.Publish ∷ Of (the.Name a) ∷ r)) ts us rest (λ d ts. refl) (items_bound h)
-    (joined 0 the.Publish (source_words ASource source) (λ r. Of (the.Name a) ∷ r) us (the.Name a ∷ rest) rest (λ d ts. refl) (source_bound k).source (leaf (the.Name a) rest (λ d ts. refl))))
+    prefixed the.Select _ ts rest (λ d ts. refl) (joined 0 the.From (items_words items) (λ r. source_words source_place.Source source (Of the.Publish ∷ Of (the.Name a) ∷ r)) ts us rest (λ d ts. refl) (items_bound h)
+    (joined 0 the.Publish (source_words source_place.Source source) (λ r. Of (the.Name a) ∷ r) us (the.Name a ∷ rest) rest (λ d ts. refl) (source_bound k).source (leaf (the.Name a) rest (λ d ts. refl))))

@@ -8,3 +8,9 @@ pub mod BoundScalars
 pub mod BoundPredicates
 pub mod BoundSources
 pub mod BoundStatements
+pub mod Spacing
+pub mod TextScalars
+pub mod TextPredicates
+pub mod TextSources
+pub mod TextStatements
+pub mod Lists

@@ -6,8 +6,9 @@ use Rattle.event_types.specs.declared.kind.Kind.{Kind}
 use Rattle.event_types.specs.declared.kind.Kind.TheVariants as kind
 use Rattle.cel_grammar.specs.Trees.{Column, Col, Statement}
 use Rattle.cel_grammar.specs.Statements.{IsKind, int, text, IsColumns, one, more, IsStatement, declaration, query}
+use Rattle.cel_print.specs.declared.places.SourcePlace.TheVariants as source_place
 use Rattle.cel_print.specs.Words.{Word, Of, symbols}
-use Rattle.cel_print.specs.SourceWords.{ASource, source_words}
+use Rattle.cel_print.specs.SourceWords.{source_words}
 use Rattle.cel_print.specs.StatementWords.{kind_symbol, columns_words, statement_words}
 use Rattle.cel_print.proofs.ReadSources.{items_read, source_reads}
 
@@ -26,4 +27,4 @@ columns_read (more {k = k} {cs = []} h r) rest = elim r [ ]
 pub statement_reads : {ts us : List Symbol} {s : Statement} → IsStatement ts s us → (rest : List Word) → IsStatement (symbols (statement_words s rest)) s (symbols rest)
 statement_reads (declaration h) rest = declaration (columns_read h (Of the.Close ∷ rest))
 statement_reads (query {a = a} {source = source} h k) rest =
-    query (items_read h (Of the.From ∷ source_words ASource source (Of the.Publish ∷ Of (the.Name a) ∷ rest))) (source_reads k (Of the.Publish ∷ Of (the.Name a) ∷ rest)).source
+    query (items_read h (Of the.From ∷ source_words source_place.Source source (Of the.Publish ∷ Of (the.Name a) ∷ rest))) (source_reads k (Of the.Publish ∷ Of (the.Name a) ∷ rest)).source

@@ -4,4 +4,5 @@ pub mod PredicateWords
 pub mod SourceWords
 pub mod StatementWords
 pub mod Spelled
+pub mod Parts
 pub mod Laws

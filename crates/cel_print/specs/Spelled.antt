@@ -1,5 +1,6 @@
 -- The canonical text of a file: its words with their spaces.
 use Rattle.std.specs.Prelude.{ℕ, Bool, true, false, ◌||◌, ◌==◌, List, [], ◌∷◌, ◌++◌, codes, decimal, if◌then◌else◌}
+use Rattle.std.specs.List.{flat_map}
 use Rattle.event_types.specs.declared.comparison.Cmp.TheVariants as cmp
 use Rattle.cel_grammar.specs.Symbols.{Symbol}
 use Rattle.cel_grammar.specs.Symbols as the
@@ -9,8 +10,7 @@ use Rattle.cel_print.specs.StatementWords.{statement_words}
 
 -- a text in which each quote stands twice
 abbrev pub doubled : List ℕ → List ℕ
-doubled [] = []
-doubled (b ∷ text) = if b == 39 then 39 ∷ 39 ∷ doubled text else b ∷ doubled text
+doubled text = flat_map (λ b. if b == 39 then 39 ∷ 39 ∷ [] else b ∷ []) text
 
 -- how a symbol is spelled: a number without leading zeros, a text between quotes
 abbrev pub spelling : Symbol → List ℕ
@@ -34,7 +34,7 @@ spelling the.Min = codes "MIN"
 spelling the.Max = codes "MAX"
 spelling (the.Name name) = name
 spelling (the.Number n) = decimal n
-spelling (the.Quoted text) = 39 ∷ doubled text ++ codes "'"
+spelling (the.Quoted text) = 39 ∷ (doubled text ++ codes "'")
 spelling the.Dollar1 = codes "$1"
 spelling the.Dollar2 = codes "$2"
 spelling the.Dollar = codes "$"
@@ -59,6 +59,14 @@ spelling (the.Compare cmp.Ge) = codes ">="
 abbrev pub word_spelling : Word → List ℕ
 word_spelling (Of symbol) = spelling symbol
 word_spelling (Negative n) = 45 ∷ decimal n
+
+-- the parentheses of what may not stand as it is
+abbrev pub opening : Bool → List ℕ
+opening bare = if bare then [] else codes "("
+
+-- the parentheses of what may not stand as it is
+abbrev pub closing : Bool → List ℕ
+closing bare = if bare then [] else codes ")"
 
 -- no space stands before , ; ) } .
 abbrev pub joins_left : Word → Bool
@@ -89,7 +97,7 @@ space left right = if joins_right left || joins_left right || is_call left right
 -- the text of some words behind a word
 abbrev pub text_behind : Word → List Word → List ℕ
 text_behind left [] = []
-text_behind left (word ∷ words) = space left word ++ word_spelling word ++ text_behind word words
+text_behind left (word ∷ words) = space left word ++ (word_spelling word ++ text_behind word words)
 
 -- the text of some words
 abbrev pub text_of : List Word → List ℕ
@@ -102,5 +110,4 @@ line_of statement = text_of (statement_words statement (Of the.End ∷ [])) ++ c
 
 -- the canonical text of a file: each statement on its line
 abbrev pub canon : List Statement → List ℕ
-canon [] = []
-canon (statement ∷ statements) = line_of statement ++ canon statements
+canon statements = flat_map line_of statements

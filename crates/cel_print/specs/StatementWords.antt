@@ -5,8 +5,9 @@ use Rattle.event_types.specs.declared.kind.Kind.TheVariants as kind
 use Rattle.cel_grammar.specs.Symbols.{Symbol}
 use Rattle.cel_grammar.specs.Symbols as the
 use Rattle.cel_grammar.specs.Trees.{Column, Col, Statement, Stream, Query}
+use Rattle.cel_print.specs.declared.places.SourcePlace.TheVariants as source_place
 use Rattle.cel_print.specs.Words.{Word, Of}
-use Rattle.cel_print.specs.SourceWords.{ASource, items_words, source_words}
+use Rattle.cel_print.specs.SourceWords.{items_words, source_words}
 
 -- the keyword of a kind
 abbrev pub kind_symbol : Kind → Symbol
@@ -22,4 +23,4 @@ columns_words (Col name k ∷ next ∷ columns) rest = Of (the.Name name) ∷ Of
 -- a statement, and then rest
 abbrev pub statement_words : Statement → List Word → List Word
 statement_words (Stream name columns) rest = Of the.Stream ∷ Of (the.Name name) ∷ Of the.Open ∷ columns_words columns (Of the.Close ∷ rest)
-statement_words (Query items source name) rest = Of the.Select ∷ items_words items (Of the.From ∷ source_words ASource source (Of the.Publish ∷ Of (the.Name name) ∷ rest))
+statement_words (Query items source name) rest = Of the.Select ∷ items_words items (Of the.From ∷ source_words source_place.Source source (Of the.Publish ∷ Of (the.Name name) ∷ rest))
