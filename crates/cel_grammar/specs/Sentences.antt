@@ -27,18 +27,18 @@ pub record Sentence : Type 0 where
 
 -- the sentences with one more symbol, which is no semicolon, before them: it belongs to the first one, and where there are none, it begins one without a semicolon
 abbrev pub with_front : Placed → List Sentence → List Sentence
-with_front word [] = record { line = word.line; symbols = word.symbol ∷ []; ended = false } ∷ []
-with_front word (s ∷ ss) = record { line = word.line; symbols = word.symbol ∷ s.symbols; ended = s.ended } ∷ ss
+with_front placed [] = record { line = placed.line; symbols = placed.symbol ∷ []; ended = false } ∷ []
+with_front placed (s ∷ ss) = record { line = placed.line; symbols = placed.symbol ∷ s.symbols; ended = s.ended } ∷ ss
 
 -- the sentences with one more symbol before them: a semicolon is a sentence's end
 abbrev pub with_symbol : Symbol → Placed → List Sentence → List Sentence
-with_symbol the.End word ss = record { line = word.line; symbols = []; ended = true } ∷ ss
-with_symbol symbol word ss = with_front word ss
+with_symbol the.End placed ss = record { line = placed.line; symbols = []; ended = true } ∷ ss
+with_symbol symbol placed ss = with_front placed ss
 
 -- the sentences of some symbols; only the last one may lack its semicolon
 abbrev pub sentences : List Placed → List Sentence
 sentences [] = []
-sentences (word ∷ words) = with_symbol word.symbol word (sentences words)
+sentences (placed ∷ rest) = with_symbol placed.symbol placed (sentences rest)
 
 -- whether more than 64 parentheses and braces are open at some symbol, where so many are open before: each opening one adds one, each closing one takes one away, not below 0
 abbrev pub is_deep : ℕ → List Symbol → Bool

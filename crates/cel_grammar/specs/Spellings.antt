@@ -1,8 +1,7 @@
 -- The symbols of tokens.
-use Rattle.std.specs.Prelude.{ℕ, ℤ, pos, ◌-◌, ◌==◌, ◌&&◌, List, [], ◌∷◌, map, drop, take, length, codes, if◌then◌else◌}
+use Rattle.std.specs.Prelude.{ℕ, ℤ, pos, ◌-◌, ◌==◌, ◌&&◌, List, [], ◌∷◌, drop, take, length, codes, if◌then◌else◌}
 use Rattle.std.specs.Str.{bytes_eq}
 use Rattle.event_types.specs.declared.comparison.Cmp.TheVariants as cmp
-use Rattle.cel_lexer.specs.Listing.{Listing, spelling}
 use Rattle.cel_lexer.specs.declared.token.What.{What}
 use Rattle.cel_lexer.specs.declared.token.What.TheVariants as what
 use Rattle.cel_grammar.specs.Symbols.{Symbol}
@@ -69,7 +68,3 @@ symbol_of (what.Number z) word = number_symbol z
 symbol_of what.Quoted word = the.Quoted (undoubled (inside word))
 symbol_of what.Mark word = looked_up mark_entries the.Dollar word
 symbol_of what.Sign word = looked_up sign_entries (the.Compare cmp.Ge) word
-
--- the symbols of the tokens of a text
-unfoldable pub symbols_of : Listing → List Symbol
-symbols_of listing = map (λ token. symbol_of token.what (spelling listing.source token)) listing.items
