@@ -1,5 +1,8 @@
 pub mod Gives
+pub mod Columns
 pub mod Grouping
+pub mod Links
+pub mod Lists
 pub mod Numbers
 pub mod Operations
 pub mod Seen
@@ -7,3 +10,4 @@ pub mod Filed
 pub mod Faults
 pub mod Cutting
 pub mod Laws
+pub mod Terms

@@ -3,6 +3,7 @@ ghost use Rattle.std.specs.Prelude.{◌≡◌, map};
 ghost use Rattle.cel_parser.specs.Gives.{Gives};
 ghost use Rattle.cel_parser.specs.Seen.{seen};
 ghost use Rattle.grammar_laws.specs.ScalarReader.{close_at, comma_at, open_at};
+ghost use Rattle.grammar_laws.specs.SourceReader.{brace_at, from_at};
 
 use crate::reading::Symbols;
 use crate::symbol::Symbol;
@@ -34,6 +35,26 @@ pub(crate) fn after_close<'a>(symbols: Symbols<'a>) -> Result<Symbols<'a>, Unrea
 {
     match symbols {
         [Symbol::Close, rest @ ..] => Ok(rest),
+        _ => Err(Unread::Bad),
+    }
+}
+
+/// The symbols behind a closing brace.
+pub(crate) fn after_brace<'a>(symbols: Symbols<'a>) -> Result<Symbols<'a>, Unread>
+    ensures { Gives (λ rest. map seen rest.now) result (brace_at (map seen symbols.now)) }
+{
+    match symbols {
+        [Symbol::BraceClose, rest @ ..] => Ok(rest),
+        _ => Err(Unread::Bad),
+    }
+}
+
+/// The symbols behind FROM.
+pub(crate) fn after_from<'a>(symbols: Symbols<'a>) -> Result<Symbols<'a>, Unread>
+    ensures { Gives (λ rest. map seen rest.now) result (from_at (map seen symbols.now)) }
+{
+    match symbols {
+        [Symbol::From, rest @ ..] => Ok(rest),
         _ => Err(Unread::Bad),
     }
 }

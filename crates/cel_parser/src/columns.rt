@@ -1,0 +1,95 @@
+//! Attributes of declarations from symbols.
+ghost use Rattle.std.specs.Prelude.{◌≡◌, ◌<◌, ◌++◌, [], ◌∷◌, IfErr, IfOk, map};
+ghost use Rattle.cel_grammar.specs.Views.{column_of};
+ghost use Rattle.cel_parser.specs.Columns.{columns_after, columns_behind};
+ghost use Rattle.cel_parser.specs.Gives.{Gives};
+ghost use Rattle.cel_parser.specs.Seen.{seen};
+ghost use Rattle.grammar_laws.specs.StatementReader.{column_at, columns_at};
+
+use crate::literals::name_text;
+use crate::reading::{Reading, Symbols};
+use crate::symbol::Symbol;
+use crate::unread::Unread;
+use cel_grammar::{Attr, Attrs};
+use event_types::Kind;
+use std::alloc::Global;
+
+/// Names with their kinds, between commas, and the symbols behind them.
+#[tactic(auto, using(crate::proofs::ColumnNext::columns_alone))]
+pub(crate) fn read_columns<'a>(
+    alloc: Global,
+    steps: usize,
+    symbols: Symbols<'a>,
+) -> Reading<'a, Attrs>
+    ensures { Gives (λ p. (map column_of p.0, map seen p.1.now)) result (columns_at steps (map seen symbols.now)) }
+{
+    more_columns(alloc, steps, Attrs::new(alloc), symbols)
+}
+
+// Columns, with those that stand before them.
+#[cycle(columns)]
+#[tactic(auto, using(crate::proofs::ColumnNext::columns_after_next, crate::proofs::ColumnNext::columns_after_none))]
+fn more_columns<'a>(
+    alloc: Global,
+    steps: usize,
+    columns: Attrs,
+    symbols: Symbols<'a>,
+) -> Reading<'a, Attrs>
+    ensures { Gives (λ p. (map column_of p.0, map seen p.1.now)) result (columns_after steps (map column_of columns) (map seen symbols.now)) }
+{
+    if steps == 0 {
+        return Err(Unread::Bad);
+    }
+    let (column, rest) = read_column(alloc, symbols)?;
+    let columns = with_column(columns, column)?;
+    go_on_columns(alloc, steps - 1, columns, rest)
+}
+
+// Columns that may go on behind a comma.
+#[cycle(columns)]
+#[tactic(auto, unfolding(crate::specs::Columns::columns_behind))]
+fn go_on_columns<'a>(
+    alloc: Global,
+    steps: usize,
+    columns: Attrs,
+    symbols: Symbols<'a>,
+) -> Reading<'a, Attrs>
+    ensures { Gives (λ p. (map column_of p.0, map seen p.1.now)) result (columns_behind steps (map column_of columns) (map seen symbols.now)) }
+{
+    if steps == 0 {
+        return Err(Unread::Bad);
+    }
+    match symbols {
+        [Symbol::Comma, rest @ ..] => more_columns(alloc, steps - 1, columns, rest),
+        _ => Ok((columns, symbols)),
+    }
+}
+
+fn with_column(mut columns: Attrs, column: Attr) -> Result<Attrs, Unread>
+    ensures ok { IfOk result (λ longer. map column_of longer ≡ map column_of columns ++ column_of column ∷ []) }
+    ensures memory { IfErr result (λ fault. fault ≡ Unread.Memory) }
+{
+    match columns.push(column) {
+        Ok(()) => Ok(columns),
+        Err(_) => Err(Unread::Memory),
+    }
+}
+
+// A name and its kind.
+fn read_column<'a>(alloc: Global, symbols: Symbols<'a>) -> Reading<'a, Attr>
+    ensures { Gives (λ p. (column_of p.0, map seen p.1.now)) result (column_at (map seen symbols.now)) }
+{
+    match symbols {
+        [Symbol::Name(name), Symbol::Int, rest @ ..] => Ok((made(alloc, name, Kind::Int)?, rest)),
+        [Symbol::Name(name), Symbol::Text, rest @ ..] => Ok((made(alloc, name, Kind::Text)?, rest)),
+        _ => Err(Unread::Bad),
+    }
+}
+
+fn made(alloc: Global, name: &str, kind: Kind) -> Result<Attr, Unread>
+    ensures ok { IfOk result (λ column. column ≡ record { name = name.now; kind = kind }) }
+    ensures memory { IfErr result (λ fault. fault ≡ Unread.Memory) }
+{
+    let name = name_text(alloc, name)?;
+    Ok(Attr { name, kind })
+}
