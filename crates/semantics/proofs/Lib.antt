@@ -1,2 +1,5 @@
 pub mod Examples
+pub mod ListLemmas
+pub mod ReadingLemmas
 pub mod ReportLemmas
+pub mod StatementLemmas

@@ -6,10 +6,12 @@ pub mod Kinds
 pub mod Laws
 pub mod Nexts
 pub mod Programs
+pub mod Reading
 pub mod Report
 pub mod Results
 pub mod Runs
 pub mod Scalars
+pub mod Statements
 pub mod Truth
 pub mod TypedPrograms
 pub mod Typing

@@ -6,6 +6,7 @@
 #![tactic(auto)]
 
 ghost use Rattle.semantics.specs.Laws.{TimesAscend, LaterEventsChangeNothing, ReportGrows, ReportGrowsByEpochs};
+ghost use Rattle.semantics.specs.Statements.{SameStatementsGiveSameResults, StreamsAreDenoted};
 
 /// The detection times of a history ascend, each once.
 pub fn times_ascend()
@@ -25,4 +26,14 @@ pub fn report_grows()
 /// A run may write its report epoch by epoch.
 pub fn report_grows_by_epochs()
     ensures { ReportGrowsByEpochs }
+{}
+
+/// The streams of a typed program are those that its statements describe, whatever the order of work.
+pub fn streams_are_denoted()
+    ensures { StreamsAreDenoted }
+{}
+
+/// No result depends on a query or an event that the query doesn't read from.
+pub fn same_statements_give_same_results()
+    ensures { SameStatementsGiveSameResults }
 {}

@@ -1,0 +1,33 @@
+-- Filters of filters and of maps.
+use Rattle.std.proofs.Common.{◌≡◌, ◌∙◌, sym, ap, refl, Bool, true, false, ◌&&◌, cond, List, [], ◌∷◌, map}
+use Rattle.std.specs.List.{filter}
+use Rattle.std.proofs.lemmas.List.Elements.{filter_agree}
+
+and_comm : (x y : Bool) → (x && y) ≡ (y && x)
+and_comm true true = refl
+and_comm true false = refl
+and_comm false true = refl
+and_comm false false = refl
+
+filter-filter : {X : Type 0} (p q : X → Bool) (xs : List X) → filter p (filter q xs) ≡ filter (λ x. q x && p x) xs
+filter-filter p q [] = refl
+filter-filter {X} p q (x ∷ xs) =
+    let both : X → Bool = λ x. q x && p x in
+    elim (q x) as (λ b. filter p (cond b (x ∷ filter q xs) (filter q xs)) ≡ cond (b && p x) (x ∷ filter both xs) (filter both xs)) [
+      | true ↦ ap (λ ys. cond (p x) (x ∷ ys) ys) (filter-filter p q xs)
+      | false ↦ filter-filter p q xs
+    ]
+
+-- two filters may change places
+pub filter_swap : {X : Type 0} (p q : X → Bool) (xs : List X) → filter p (filter q xs) ≡ filter q (filter p xs)
+filter_swap p q xs = filter-filter p q xs ∙ filter_agree (λ x. q x && p x) (λ x. p x && q x) (λ x. and_comm (q x) (p x)) xs ∙ sym (filter-filter q p xs)
+
+-- what a test keeps of the images is the images of what it keeps
+pub filter-map : {X Y : Type 0} (p : Y → Bool) (f : X → Y) (xs : List X) → filter p (map f xs) ≡ map f (filter (λ x. p (f x)) xs)
+filter-map p f [] = refl
+filter-map {X} p f (x ∷ xs) =
+    let kept = filter (λ (x : X). p (f x)) xs in
+    elim (p (f x)) as (λ b. cond b (f x ∷ filter p (map f xs)) (filter p (map f xs)) ≡ map f (cond b (x ∷ kept) kept)) [
+      | true ↦ ap (λ ys. f x ∷ ys) (filter-map p f xs)
+      | false ↦ filter-map p f xs
+    ]

@@ -1,0 +1,153 @@
+-- The streams of a program by its statements, and programs that share some.
+use Rattle.std.proofs.Common.{◌≡◌, ◌∙◌, sym, ap, refl, subst, ℕ, ◌+◌, ◌<◌, ◌==◌, nat_le, nat_lt, Bool, true, false, cond, List, [], ◌∷◌, map, arith}
+use Rattle.std.specs.Prelude.{IsTrue}
+use Rattle.std.specs.List.{All, filter}
+use Rattle.std.proofs.lemmas.Bool.Decides.{nat_tests}
+use Rattle.std.proofs.lemmas.List.Elements.{All-nil, All-cons, All-contains, All-head, All-tail, All-weaker}
+use Rattle.std.proofs.lemmas.List.Sorted.{All-permutation, IsPermutation-sym}
+use Rattle.event_types.specs.declared.kind.Kind.{Kind}
+use Rattle.event_types.specs.Order.{sorted}
+use Rattle.event_types.specs.Tuple.{Row}
+use Rattle.semantics.specs.Denotation.{Streams, denote}
+use Rattle.semantics.specs.Expressions.{Ex}
+use Rattle.semantics.specs.Histories.{Heard, heard_on, upto}
+use Rattle.semantics.specs.Programs.{Program, Query, declared_streams, env, published, with_stream}
+use Rattle.semantics.specs.Reading.{ReadsOnly, renumbered}
+use Rattle.semantics.specs.Results.{results}
+use Rattle.semantics.specs.Statements.{HaveSameStatements, HearTheSame, Publishes}
+use Rattle.semantics.specs.TypedPrograms.{IsProgram, PublishInTurn}
+use Rattle.semantics.specs.Typing.{Gives}
+use Rattle.semantics.proofs.ListLemmas.{filter_swap, filter-map}
+use Rattle.semantics.proofs.ReadingLemmas.{denote_agrees, denote-renumbered, reads_both, reads_first}
+
+same_number : (m n : ℕ) → (m == n) ≡ true → m ≡ n
+same_number m n e = grind (arith, nat_tests)
+
+is_same : (m n : ℕ) → m ≡ n → (m == n) ≡ true
+is_same m n e = grind (arith, nat_tests)
+
+is_other : (m n : ℕ) → (m ≡ n → ⊥) → (m == n) ≡ false
+is_other m n other = grind (arith, nat_tests)
+
+is_below : (m n : ℕ) → m < n → nat_lt m n ≡ true
+is_below m n lt = grind (arith, nat_tests)
+
+is_before : (m n : ℕ) → m < n + 1 → (m == n) ≡ false → m < n
+is_before m n lt e = grind (arith, nat_tests)
+
+-- a stream that is put at a number is there, and the others stay
+with_stream_same : (streams : Streams) (number : ℕ) (tuples : List Row) → with_stream streams number tuples number ≡ tuples
+with_stream_same streams number tuples = ap (λ b. cond b tuples (streams number)) (is_same number number refl)
+
+with_stream_other : (streams : Streams) (number : ℕ) (tuples : List Row) (stream : ℕ) → (stream ≡ number → ⊥) → with_stream streams number tuples stream ≡ streams stream
+with_stream_other streams number tuples stream other = ap (λ b. cond b tuples (streams stream)) (is_other stream number other)
+
+-- queries that publish from a number on leave the streams below it: by induction on the queries
+published_below : (kinds : ℕ → List Kind) (number : ℕ) (streams : Streams) (order : List Query) → PublishInTurn kinds number order → (stream : ℕ) → stream < number → published streams order stream ≡ streams stream
+published_below kinds number streams [] turn stream lt = refl
+published_below kinds number streams (query ∷ order) turn stream lt =
+    let tuples = denote query.expr streams in
+    let rest = published_below kinds (number + 1) (with_stream streams query.stream tuples) order turn.2 stream (omega arith) in
+    let other : stream ≡ query.stream → ⊥ = λ e. let same : stream ≡ number = e ∙ turn.0 in absurd (omega arith) in rest ∙ with_stream_other streams query.stream tuples stream other
+
+-- each query's stream is what its expression denotes in the end: by induction on the queries
+published_denoted : (kinds : ℕ → List Kind) (number : ℕ) (streams : Streams) (order : List Query) → PublishInTurn kinds number order
+    → All (λ query. published streams order query.stream ≡ denote query.expr (published streams order)) order
+published_denoted kinds number streams [] turn = All-nil _
+published_denoted kinds number streams (query ∷ order) turn =
+    let tuples = denote query.expr streams in
+    let here = published_below kinds (number + 1) (with_stream streams query.stream tuples) order turn.2 query.stream (omega (arith, turn.0)) ∙ with_stream_same streams query.stream tuples in
+    let last = published streams (query ∷ order) in
+    let agrees = denote_agrees (λ stream. stream < number) streams last (λ stream lt. sym (published_below kinds number streams (query ∷ order) turn stream lt)) query.expr (reads_first number kinds (kinds number) query.expr turn.1) in
+    All-cons (λ q. last q.stream ≡ denote q.expr last) query order (here ∙ agrees) (published_denoted kinds (number + 1) (with_stream streams query.stream tuples) order turn.2)
+
+-- a declared stream has what was heard on it
+pub declared_is : (kinds : ℕ → List Kind) (program : Program) (history : List Heard) → IsProgram kinds program → (stream : ℕ) → stream < program.declared → env program history stream ≡ heard_on history stream
+declared_is kinds program history typed stream lt =
+    published_below kinds program.declared (declared_streams program.declared history) program.order typed.in_turn stream lt ∙ ap (λ b. cond b (heard_on history stream) []) (is_below stream program.declared lt)
+
+-- a query's stream has what its expression denotes over the streams of the program
+pub published_is : (kinds : ℕ → List Kind) (program : Program) (history : List Heard) → IsProgram kinds program → All (λ query. env program history query.stream ≡ denote query.expr (env program history)) program.queries
+published_is kinds program history typed =
+    All-permutation (λ query. env program history query.stream ≡ denote query.expr (env program history)) program.order program.queries (IsPermutation-sym program.queries program.order typed.same_queries)
+    (published_denoted kinds program.declared (declared_streams program.declared history) program.order typed.in_turn)
+
+-- what was heard on a stream by a time
+heard_on-upto : (time stream : ℕ) (history : List Heard) → heard_on (upto time history) stream ≡ filter (λ tuple. nat_le tuple.at time) (heard_on history stream)
+heard_on-upto time stream history =
+    let on : Heard → Bool = λ event. event.stream == stream in
+    let early : Heard → Bool = λ event. nat_le event.tuple.at time in
+    ap (map (λ (event : Heard). event.tuple)) (filter_swap on early history) ∙ sym (filter-map (λ (tuple : Row). nat_le tuple.at time) (λ (event : Heard). event.tuple) (filter on history))
+
+-- what a query's stream has in the other program, where it is shared
+abbrev IsFollowed : (ℕ → Bool) → (ℕ → ℕ) → Streams → Query → Type 0
+IsFollowed is_shared number others query = IsTrue (is_shared query.stream) → ReadsOnly (λ stream. IsTrue (is_shared stream)) query.expr × (others (number query.stream) ≡ denote (renumbered number query.expr) others)
+
+-- shared streams below a number agree
+abbrev AgreeBelow : (ℕ → Bool) → (ℕ → ℕ) → Streams → Streams → ℕ → Type 0
+AgreeBelow is_shared number streams others count = (stream : ℕ) → stream < count → IsTrue (is_shared stream) → streams stream ≡ others (number stream)
+
+-- then a shared stream that is published next agrees
+next_agrees : (is_shared : ℕ → Bool) (number : ℕ → ℕ) (streams others : Streams) (kinds : ℕ → List Kind) (out : List Kind) (count : ℕ) (query : Query)
+    → Gives query.expr count kinds out → streams query.stream ≡ denote query.expr streams → IsFollowed is_shared number others query → AgreeBelow is_shared number streams others count
+    → IsTrue (is_shared query.stream) → streams query.stream ≡ others (number query.stream)
+next_agrees is_shared number streams others kinds out count query gives is followed agree shared =
+    let there = followed shared in
+    let reads = reads_both (λ stream. stream < count) (λ stream. IsTrue (is_shared stream)) query.expr (reads_first count kinds out query.expr gives) there.0 in
+    is ∙ denote_agrees (λ stream. (stream < count) × IsTrue (is_shared stream)) streams (λ stream. others (number stream)) (λ stream so. agree stream so.0 so.1) query.expr reads
+    ∙ sym (there.1 ∙ denote-renumbered number others query.expr)
+
+-- so all shared streams that are published in turn agree: by induction on the queries
+all_agree : (is_shared : ℕ → Bool) (number : ℕ → ℕ) (streams others : Streams) (kinds : ℕ → List Kind) (count : ℕ) (order : List Query)
+    → PublishInTurn kinds count order → All (λ query. streams query.stream ≡ denote query.expr streams) order → All (IsFollowed is_shared number others) order → AgreeBelow is_shared number streams others count
+    → All (λ query. IsTrue (is_shared query.stream) → streams query.stream ≡ others (number query.stream)) order
+all_agree is_shared number streams others kinds count [] turn is followed agree = All-nil _
+all_agree is_shared number streams others kinds count (query ∷ order) turn is followed agree =
+    All-cons (λ q. IsTrue (is_shared q.stream) → streams q.stream ≡ others (number q.stream)) query order here
+    (all_agree is_shared number streams others kinds (count + 1) order turn.2 (All-tail (λ q. streams q.stream ≡ denote q.expr streams) query order is) (All-tail (IsFollowed is_shared number others) query order followed) more)
+  where
+    here : IsTrue (is_shared query.stream) → streams query.stream ≡ others (number query.stream)
+    here = next_agrees is_shared number streams others kinds (kinds count) count query turn.1 (All-head (λ q. streams q.stream ≡ denote q.expr streams) query order is) (All-head (IsFollowed is_shared number others) query order followed) agree
+
+    more : AgreeBelow is_shared number streams others (count + 1)
+    more stream lt = go (stream == count) refl
+      where
+        go : (b : Bool) → (stream == count) ≡ b → IsTrue (is_shared stream) → streams stream ≡ others (number stream)
+        go true e = subst (λ (s : ℕ). IsTrue (is_shared s) → streams s ≡ others (number s)) (turn.0 ∙ sym (same_number stream count e)) here
+        go false e = agree stream (is_before stream count lt e)
+
+-- the query that publishes a stream in the other program tells what it has
+publisher_is : (kinds : ℕ → List Kind) (program : Program) (history : List Heard) → IsProgram kinds program → (stream : ℕ) (expr : Ex) → Publishes program stream expr → env program history stream ≡ denote expr (env program history)
+publisher_is kinds program history typed stream expr found =
+    let streams = env program history in
+    let is = All-contains (λ query. streams query.stream ≡ denote query.expr streams) program.queries found.0 (published_is kinds program history typed) found.1 in
+    ap streams (sym found.2) ∙ is ∙ ap (λ e. denote e streams) found.3
+
+-- the streams that two programs share agree over histories that agree
+shared_agree : (is_shared : ℕ → Bool) (number : ℕ → ℕ) (kinds other_kinds : ℕ → List Kind) (program other : Program) (history others : List Heard)
+    → IsProgram kinds program → IsProgram other_kinds other → HaveSameStatements is_shared number program other → HearTheSame is_shared number program.declared history others
+    → All (λ query. IsTrue (is_shared query.stream) → env program history query.stream ≡ env other others (number query.stream)) program.queries
+shared_agree is_shared number kinds other_kinds program other history others typed other_typed same hear =
+    let streams = env program history in
+    let there = env other others in
+    let followed =
+    All-weaker (λ q. IsTrue (is_shared q.stream) → ReadsOnly (λ stream. IsTrue (is_shared stream)) q.expr × Publishes other (number q.stream) (renumbered number q.expr)) (IsFollowed is_shared number there)
+    (λ q told shared. let one = told shared in (one.0, publisher_is other_kinds other others other_typed (number q.stream) (renumbered number q.expr) one.1)) program.queries same.published in
+    let declared = λ (stream : ℕ) (lt : stream < program.declared) (shared : IsTrue (is_shared stream)).
+    declared_is kinds program history typed stream lt ∙ hear stream shared lt ∙ sym (declared_is other_kinds other others other_typed (number stream) (same.declared stream shared lt)) in
+    All-permutation (λ q. IsTrue (is_shared q.stream) → streams q.stream ≡ there (number q.stream)) program.order program.queries (IsPermutation-sym program.queries program.order typed.same_queries)
+    (all_agree is_shared number streams there kinds program.declared program.order typed.in_turn
+    (published_denoted kinds program.declared (declared_streams program.declared history) program.order typed.in_turn)
+    (All-permutation (IsFollowed is_shared number there) program.queries program.order typed.same_queries followed) declared)
+
+-- so have their results at each time
+pub same_results : (is_shared : ℕ → Bool) (number : ℕ → ℕ) (kinds other_kinds : ℕ → List Kind) (program other : Program) (history others : List Heard)
+    → IsProgram kinds program → IsProgram other_kinds other → HaveSameStatements is_shared number program other → HearTheSame is_shared number program.declared history others
+    → All (λ query. IsTrue (is_shared query.stream) → (time : ℕ) → results program history query.stream time ≡ results other others (number query.stream) time) program.queries
+same_results is_shared number kinds other_kinds program other history others typed other_typed same hear = λ k d lt shared time.
+    ap (λ tuples. sorted (filter (λ (tuple : Row). tuple.at == time) tuples))
+    (shared_agree is_shared number kinds other_kinds program other (upto time history) (upto time others) typed other_typed same (early time) k d lt shared)
+  where
+    early : (time : ℕ) → HearTheSame is_shared number program.declared (upto time history) (upto time others)
+    early time stream shared lt =
+        heard_on-upto time stream history ∙ ap (filter (λ (tuple : Row). nat_le tuple.at time)) (hear stream shared lt) ∙ sym (heard_on-upto time (number stream) others)
