@@ -9,3 +9,5 @@ pub mod ScalarLaws
 pub mod PredicateLaws
 pub mod DeclarationLemmas
 pub mod DeclarationLaws
+pub mod CanonicalTyped
+pub mod TypedLaws

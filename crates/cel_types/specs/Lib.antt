@@ -11,3 +11,4 @@ pub mod Statements
 pub mod Views
 pub mod Laws
 pub mod Making
+pub mod Typed

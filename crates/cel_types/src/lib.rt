@@ -13,4 +13,6 @@ mod unions;
 
 pub use declaring::declare;
 pub use fault::TypeFault;
-pub use laws::{declaration_has_one_schema, predicate_has_one_type, scalar_has_one_type};
+pub use laws::{
+    declaration_has_one_schema, predicate_has_one_type, scalar_has_one_type, terms_are_typed,
+};
