@@ -1,6 +1,9 @@
+pub mod AssignLemmas
+pub mod AssignRules
 pub mod MakeLemmas
 pub mod MakeRules
 pub mod NewLemmas
+pub mod RebindLemmas
 pub mod SplitLemmas
 pub mod UnionLemmas
 pub mod ScalarSteps

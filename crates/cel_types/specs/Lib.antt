@@ -12,3 +12,4 @@ pub mod Views
 pub mod Laws
 pub mod Making
 pub mod Typed
+pub mod Assigning

@@ -1,6 +1,7 @@
 //! Types of statements: the schema of a declaration, and the schema and the expression of a query.
 #![tactic(auto)]
 
+mod aggregates;
 mod attributes;
 mod conditions;
 mod declaring;
