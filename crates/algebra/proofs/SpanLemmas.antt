@@ -14,7 +14,7 @@ use Rattle.scalar_expr.specs.Fits.{Fits, PredFits}
 use Rattle.algebra.specs.Suits.{FitsPairs, Suits, SuitsRuns}
 
 -- what holds of every value holds of each element
-everywhere : {X : Type 0} (P : X → Type 0) → ((x : X) → P x) → (xs : List X) → All P xs
+pub everywhere : {X : Type 0} (P : X → Type 0) → ((x : X) → P x) → (xs : List X) → All P xs
 everywhere P h xs = λ k d lt. h _
 
 -- TRUE fits
@@ -22,7 +22,7 @@ any_fits : (rs : List Row) (b : Row) → FitsPairs [] rs b
 any_fits rs b = everywhere (λ (r : Row). All (λ p. PredFits p r (Some b)) []) (λ r. All-nil (λ p. PredFits p r (Some b))) rs
 
 -- a limit of the span fits
-limit_fits : (c : Cmp) (v : Value) (rs : List Row) (b : Row) → FitsPairs (Test Dur c (Lit v) ∷ []) rs b
+pub limit_fits : (c : Cmp) (v : Value) (rs : List Row) (b : Row) → FitsPairs (Test Dur c (Lit v) ∷ []) rs b
 limit_fits c v rs b =
     everywhere (λ (r : Row). All (λ p. PredFits p r (Some b)) (Test Dur c (Lit v) ∷ [])) (λ r. All-cons (λ p. PredFits p r (Some b)) (Test Dur c (Lit v)) [] (tt, tt) (All-nil (λ p. PredFits p r (Some b)))) rs
 

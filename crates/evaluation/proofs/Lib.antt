@@ -3,3 +3,4 @@ pub mod NumberLemmas
 pub mod PublishingLemmas
 pub mod ResultLemmas
 pub mod StreamLemmas
+pub mod TwoQueries

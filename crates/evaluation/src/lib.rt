@@ -13,3 +13,6 @@ pub use evaluator::Evaluator;
 pub use laws::typed_queries_suit;
 pub use publishing::Batch;
 pub use query::Query;
+
+#[cfg(test)]
+mod tests;

@@ -3,6 +3,7 @@ use algebra::Expr;
 use event_types::StreamId;
 
 /// A query: its name, the number of the stream that it publishes, and the expression that says what.
+#[derive(Clone, Copy)]
 pub struct Query<'a> {
     pub name: &'a str,
     pub stream: StreamId,
