@@ -5,5 +5,4 @@ pub mod FaultLemmas
 pub mod ColumnNext
 pub mod ListNext
 pub mod PredicateNext
-pub mod ScalarNext
 pub mod SourceNext

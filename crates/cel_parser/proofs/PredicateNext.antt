@@ -2,61 +2,13 @@
 use Rattle.std.proofs.Common.{◌≡◌, ℕ, zero, suc, ◌-◌, ◌<◌, List, ◌∷◌, refl, arith, sub-one}
 use Rattle.std.specs.Prelude.{pos, negsuc, map, Bool, true, false, if◌then◌else◌}
 use Rattle.cel_grammar.specs.Parens.{holds_test}
-use Rattle.cel_grammar.specs.Trees.{Pred, True, And, Or, Not}
+use Rattle.cel_grammar.specs.Trees.{Pred, True, Not}
 use Rattle.cel_parser.specs.declared.symbol.Symbol.{Symbol}
 use Rattle.cel_parser.specs.declared.symbol.Symbol.TheVariants as symbol
 use Rattle.cel_parser.specs.Grouping.{closed_at}
 use Rattle.cel_parser.specs.Seen.{seen}
 use Rattle.grammar_laws.specs.ScalarReader.{◌>>=◌, Read, done}
-use Rattle.grammar_laws.specs.PredicateReader.{test_at, pred_at, pred_more, conj_at, conj_more, neg_at, prim_at}
-
--- a predicate is a conjunction that goes on
-pub pred_next : (n : ℕ) (ts : List Symbol) → 0 < n → pred_at n (map seen ts) ≡ (conj_at (n - 1) (map seen ts) >>= λ p. pred_more (n - 1) p.0 p.1)
-unfolding pred_at
-pred_next zero ts h = absurd (omega arith)
-pred_next (suc n) ts h = rw sub-one refl
-
--- what goes on a predicate
-abbrev pub pred_step : ℕ → Pred → List Symbol → Read Pred
-pred_step n p (symbol.Or ∷ ts) = conj_at n (map seen ts) >>= λ q. pred_more n (Or p q.0) q.1
-pred_step n p ts = done p (map seen ts)
-
--- one step
-pred_same : (n : ℕ) (p : Pred) (ts : List Symbol) → pred_more (suc n) p (map seen ts) ≡ pred_step n p ts
-unfolding pred_more
-pred_same n p (symbol.Or ∷ ts) = refl
-pred_same n p (symbol.Number (pos k) ∷ ts) = refl
-pred_same n p (symbol.Number (negsuc k) ∷ ts) = refl
-pred_same n p ts = refl
-
--- one step
-pub pred_more_next : (n : ℕ) (p : Pred) (ts : List Symbol) → 0 < n → pred_more n p (map seen ts) ≡ pred_step (n - 1) p ts
-pred_more_next zero p ts h = absurd (omega arith)
-pred_more_next (suc n) p ts h = rw sub-one (pred_same n p ts)
-
--- a conjunction is a negation that goes on
-pub conj_next : (n : ℕ) (ts : List Symbol) → 0 < n → conj_at n (map seen ts) ≡ (neg_at (n - 1) (map seen ts) >>= λ p. conj_more (n - 1) p.0 p.1)
-unfolding conj_at
-conj_next zero ts h = absurd (omega arith)
-conj_next (suc n) ts h = rw sub-one refl
-
--- what goes on a conjunction
-abbrev pub conj_step : ℕ → Pred → List Symbol → Read Pred
-conj_step n p (symbol.And ∷ ts) = neg_at n (map seen ts) >>= λ q. conj_more n (And p q.0) q.1
-conj_step n p ts = done p (map seen ts)
-
--- one step
-conj_same : (n : ℕ) (p : Pred) (ts : List Symbol) → conj_more (suc n) p (map seen ts) ≡ conj_step n p ts
-unfolding conj_more
-conj_same n p (symbol.And ∷ ts) = refl
-conj_same n p (symbol.Number (pos k) ∷ ts) = refl
-conj_same n p (symbol.Number (negsuc k) ∷ ts) = refl
-conj_same n p ts = refl
-
--- one step
-pub conj_more_next : (n : ℕ) (p : Pred) (ts : List Symbol) → 0 < n → conj_more n p (map seen ts) ≡ conj_step (n - 1) p ts
-conj_more_next zero p ts h = absurd (omega arith)
-conj_more_next (suc n) p ts h = rw sub-one (conj_same n p ts)
+use Rattle.grammar_laws.specs.PredicateReader.{test_at, pred_at, neg_at, prim_at}
 
 -- a negation by its first symbol
 abbrev pub neg_step : ℕ → List Symbol → Read Pred

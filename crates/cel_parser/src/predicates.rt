@@ -18,7 +18,7 @@ use std::alloc::Global;
 
 /// A predicate at the front, and the symbols behind it.
 #[cycle(predicate)]
-#[tactic(auto, using(crate::proofs::PredicateNext::pred_next), unfolding(grammar_laws::specs::PredicateReader::pred_at))]
+#[tactic(auto, unfolding(grammar_laws::specs::PredicateReader::pred_at))]
 pub(crate) fn read_predicate<'a>(
     alloc: Global,
     steps: usize,
@@ -35,7 +35,7 @@ pub(crate) fn read_predicate<'a>(
 
 // A predicate that begins with p.
 #[cycle(predicate)]
-#[tactic(auto, using(crate::proofs::PredicateNext::pred_more_next), unfolding(grammar_laws::specs::PredicateReader::pred_at))]
+#[tactic(auto, unfolding(grammar_laws::specs::PredicateReader::pred_at))]
 fn go_on_predicate<'a>(
     alloc: Global,
     steps: usize,
@@ -58,7 +58,7 @@ fn go_on_predicate<'a>(
 
 // A conjunction at the front.
 #[cycle(predicate)]
-#[tactic(auto, using(crate::proofs::PredicateNext::conj_next), unfolding(grammar_laws::specs::PredicateReader::pred_at))]
+#[tactic(auto, unfolding(grammar_laws::specs::PredicateReader::pred_at))]
 fn read_conjunction<'a>(alloc: Global, steps: usize, symbols: Symbols<'a>) -> Reading<'a, RawPred>
     ensures { Gives (λ p. (pred_of p.0, map seen p.1.now)) result (conj_at steps (map seen symbols.now)) }
 {
@@ -71,7 +71,7 @@ fn read_conjunction<'a>(alloc: Global, steps: usize, symbols: Symbols<'a>) -> Re
 
 // A conjunction that begins with p.
 #[cycle(predicate)]
-#[tactic(auto, using(crate::proofs::PredicateNext::conj_more_next), unfolding(grammar_laws::specs::PredicateReader::pred_at))]
+#[tactic(auto, unfolding(grammar_laws::specs::PredicateReader::pred_at))]
 fn go_on_conjunction<'a>(
     alloc: Global,
     steps: usize,

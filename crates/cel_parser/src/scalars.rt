@@ -18,7 +18,7 @@ use std::alloc::Global;
 
 /// A scalar at the front, and the symbols behind it.
 #[cycle(scalar)]
-#[tactic(auto, using(crate::proofs::ScalarNext::scalar_next), unfolding(grammar_laws::specs::ScalarReader::scalar_at))]
+#[tactic(auto, unfolding(grammar_laws::specs::ScalarReader::scalar_at))]
 pub(crate) fn read_scalar<'a>(alloc: Global, steps: usize, symbols: Symbols<'a>) -> Reading<'a, Raw>
     ensures { Gives (λ p. (scalar_of p.0, map seen p.1.now)) result (scalar_at steps (map seen symbols.now)) }
 {
@@ -31,7 +31,7 @@ pub(crate) fn read_scalar<'a>(alloc: Global, steps: usize, symbols: Symbols<'a>)
 
 // A scalar that begins with x.
 #[cycle(scalar)]
-#[tactic(auto, using(crate::proofs::ScalarNext::scalar_more_next), unfolding(grammar_laws::specs::ScalarReader::scalar_at))]
+#[tactic(auto, unfolding(grammar_laws::specs::ScalarReader::scalar_at))]
 fn go_on_scalar<'a>(alloc: Global, steps: usize, x: Raw, symbols: Symbols<'a>) -> Reading<'a, Raw>
     ensures { Gives (λ p. (scalar_of p.0, map seen p.1.now)) result (scalar_more steps (scalar_of x) (map seen symbols.now)) }
 {
@@ -40,13 +40,13 @@ fn go_on_scalar<'a>(alloc: Global, steps: usize, x: Raw, symbols: Symbols<'a>) -
     }
     match symbols {
         [Symbol::Plus, rest @ ..] => {
-            let (y, rest) = read_product(alloc, steps - 1, rest)?;
-            let sum = joined(alloc, Operation::Add, x, y)?;
+            let (more, rest) = read_product(alloc, steps - 1, rest)?;
+            let sum = joined(alloc, Operation::Add, x, more)?;
             go_on_scalar(alloc, steps - 1, sum, rest)
         }
         [Symbol::Minus, rest @ ..] => {
-            let (y, rest) = read_product(alloc, steps - 1, rest)?;
-            let difference = joined(alloc, Operation::Sub, x, y)?;
+            let (less, rest) = read_product(alloc, steps - 1, rest)?;
+            let difference = joined(alloc, Operation::Sub, x, less)?;
             go_on_scalar(alloc, steps - 1, difference, rest)
         }
         _ => Ok((x, symbols)),
@@ -55,7 +55,7 @@ fn go_on_scalar<'a>(alloc: Global, steps: usize, x: Raw, symbols: Symbols<'a>) -
 
 // A product at the front.
 #[cycle(scalar)]
-#[tactic(auto, using(crate::proofs::ScalarNext::product_next), unfolding(grammar_laws::specs::ScalarReader::scalar_at))]
+#[tactic(auto, unfolding(grammar_laws::specs::ScalarReader::scalar_at))]
 fn read_product<'a>(alloc: Global, steps: usize, symbols: Symbols<'a>) -> Reading<'a, Raw>
     ensures { Gives (λ p. (scalar_of p.0, map seen p.1.now)) result (product_at steps (map seen symbols.now)) }
 {
@@ -68,7 +68,7 @@ fn read_product<'a>(alloc: Global, steps: usize, symbols: Symbols<'a>) -> Readin
 
 // A product that begins with x.
 #[cycle(scalar)]
-#[tactic(auto, using(crate::proofs::ScalarNext::product_more_next), unfolding(grammar_laws::specs::ScalarReader::scalar_at))]
+#[tactic(auto, unfolding(grammar_laws::specs::ScalarReader::scalar_at))]
 fn go_on_product<'a>(alloc: Global, steps: usize, x: Raw, symbols: Symbols<'a>) -> Reading<'a, Raw>
     ensures { Gives (λ p. (scalar_of p.0, map seen p.1.now)) result (product_more steps (scalar_of x) (map seen symbols.now)) }
 {
@@ -87,7 +87,7 @@ fn go_on_product<'a>(alloc: Global, steps: usize, x: Raw, symbols: Symbols<'a>) 
 
 // A factor at the front.
 #[cycle(scalar)]
-#[tactic(auto, using(crate::proofs::ScalarNext::factor_next), unfolding(grammar_laws::specs::ScalarReader::scalar_at))]
+#[tactic(auto, unfolding(grammar_laws::specs::ScalarReader::scalar_at))]
 fn read_factor<'a>(alloc: Global, steps: usize, symbols: Symbols<'a>) -> Reading<'a, Raw>
     ensures { Gives (λ p. (scalar_of p.0, map seen p.1.now)) result (factor_at steps (map seen symbols.now)) }
 {
@@ -122,7 +122,7 @@ fn read_factor<'a>(alloc: Global, steps: usize, symbols: Symbols<'a>) -> Reading
 
 // Two scalars in parentheses.
 #[cycle(scalar)]
-#[tactic(auto, using(crate::proofs::ScalarNext::both_next), unfolding(grammar_laws::specs::ScalarReader::scalar_at))]
+#[tactic(auto, unfolding(grammar_laws::specs::ScalarReader::scalar_at))]
 fn read_two<'a>(
     alloc: Global,
     steps: usize,
