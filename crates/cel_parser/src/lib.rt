@@ -4,18 +4,18 @@
 //! reads as.
 #![tactic(auto)]
 
+mod columns;
 mod fault;
 mod file;
-mod laws;
-mod parsing;
-mod sentences;
-mod columns;
 mod items;
+mod laws;
 mod links;
 mod literals;
+mod parsing;
 mod predicates;
 mod reading;
 mod scalars;
+mod sentences;
 mod signs;
 mod sources;
 mod statements;
@@ -28,3 +28,6 @@ pub use fault::SyntaxFault;
 pub use file::File;
 pub use laws::one_answer;
 pub use parsing::parse;
+
+#[cfg(test)]
+mod tests;
