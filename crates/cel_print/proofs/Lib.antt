@@ -14,3 +14,14 @@ pub mod TextPredicates
 pub mod TextSources
 pub mod TextStatements
 pub mod Lists
+pub mod Bytes
+pub mod Good
+pub mod GoodTrees
+pub mod Literals
+pub mod Pieces
+pub mod Cutting
+pub mod Lines
+pub mod Sounds
+pub mod Best
+pub mod Again
+pub mod Outcomes

@@ -12,7 +12,7 @@ use Rattle.cel_print.specs.SourceWords.{items_words, source_words}
 use Rattle.cel_print.specs.StatementWords.{kind_symbol, columns_words, statement_words}
 use Rattle.cel_print.specs.Spelled.{spelling, line_of}
 use Rattle.cel_print.specs.Parts.{items_text, source_text, column_text, columns_text}
-use Rattle.cel_print.proofs.Spacing.{Ends, Front, Tail, behind, leaf, spaced, linked, followed, chained, prefixed, opened, idle}
+use Rattle.cel_print.proofs.Spacing.{whole, Ends, Front, Tail, behind, leaf, spaced, linked, followed, chained, prefixed, opened, idle}
 use Rattle.cel_print.proofs.TextSources.{items_tail, source_front}
 
 -- a kind joins nothing
@@ -66,8 +66,8 @@ query_front items e a =
 
 -- the line of a declaration
 pub stream_line : (a : List ℕ) (cs : List Column) → line_of (Stream a cs) ≡ codes "STREAM " ++ (a ++ (codes " (" ++ (columns_text cs ++ codes ");\n")))
-stream_line a cs = ap (λ (s : List ℕ). s ++ codes "\n") ((stream_front a cs).ends (Of the.End ∷ [])) ∙ simp append_assoc
+stream_line a cs = ap (λ (s : List ℕ). s ++ codes ";\n") (whole (statement_words (Stream a cs)) _ (stream_front a cs)) ∙ simp append_assoc
 
 -- the line of a query
 pub query_line : (items : List Item) (e : Source) (a : List ℕ) → line_of (Query items e a) ≡ codes "SELECT" ++ (items_text items ++ (codes " FROM " ++ (source_text source_place.Source e ++ (codes " PUBLISH " ++ (a ++ codes ";\n")))))
-query_line items e a = ap (λ (s : List ℕ). s ++ codes "\n") ((query_front items e a).ends (Of the.End ∷ [])) ∙ simp append_assoc
+query_line items e a = ap (λ (s : List ℕ). s ++ codes ";\n") (whole (statement_words (Query items e a)) _ (query_front items e a)) ∙ simp append_assoc

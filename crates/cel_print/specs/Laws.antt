@@ -1,10 +1,13 @@
--- What holds of the canonical words.
-use Rattle.std.specs.Prelude.{ℕ, ◌+◌, ◌-◌, ◌≤◌, max, List, [], ◌∷◌, length}
+-- What holds of the canonical text.
+use Rattle.std.specs.Prelude.{◌≡◌, true, ℕ, ◌+◌, ◌-◌, ◌≤◌, max, List, [], ◌∷◌, length}
+use Rattle.std.specs.Str.{is_utf8}
+use Rattle.cel_grammar.specs.Sentences.{ReadsAs}
 use Rattle.cel_grammar.specs.Symbols.{Symbol}
 use Rattle.cel_grammar.specs.Symbols as the
 use Rattle.cel_grammar.specs.Statements.{IsStatement}
 use Rattle.cel_grammar.specs.Trees.{Statement}
 use Rattle.cel_print.specs.Words.{symbols}
+use Rattle.cel_print.specs.Spelled.{canon}
 use Rattle.cel_print.specs.StatementWords.{statement_words}
 
 -- the canonical symbols of a statement
@@ -29,3 +32,12 @@ pub record IsBest (ts : List Symbol) (statement : Statement) : Type 0 where
 -- where some symbols read as a statement, its canonical ones read as it, and none are fewer or nested less
 abbrev pub CanonicalIsBest : Type 0
 CanonicalIsBest = (ts : List Symbol) (statement : Statement) → IsStatement ts statement [] → IsBest ts statement
+
+-- the lines from one on, one for each statement
+abbrev pub lines_from : ℕ → List Statement → List ℕ
+lines_from line [] = []
+lines_from line (statement ∷ statements) = line ∷ lines_from (line + 1) statements
+
+-- where some text reads as statements, their canonical text, if it is UTF-8, reads as them, each on a line of its own
+abbrev pub CanonicalIsRead : Type 0
+CanonicalIsRead = (text : List ℕ) (statements : List Statement) (lines : List ℕ) → ReadsAs text statements lines → is_utf8 (canon statements) ≡ true → ReadsAs (canon statements) statements (lines_from 1 statements)

@@ -68,10 +68,9 @@ opening bare = if bare then [] else codes "("
 abbrev pub closing : Bool → List ℕ
 closing bare = if bare then [] else codes ")"
 
--- no space stands before , ; ) } .
+-- no space stands before , ) } .
 abbrev pub joins_left : Word → Bool
 joins_left (Of the.Comma) = true
-joins_left (Of the.End) = true
 joins_left (Of the.Close) = true
 joins_left (Of the.BraceClose) = true
 joins_left (Of the.Dot) = true
@@ -104,9 +103,9 @@ abbrev pub text_of : List Word → List ℕ
 text_of [] = []
 text_of (word ∷ words) = word_spelling word ++ text_behind word words
 
--- the line of a statement, with its semicolon and LF
+-- the line of a statement: its text, with its semicolon and an LF right behind it
 abbrev pub line_of : Statement → List ℕ
-line_of statement = text_of (statement_words statement (Of the.End ∷ [])) ++ codes "\n"
+line_of statement = text_of (statement_words statement []) ++ codes ";\n"
 
 -- the canonical text of a file: each statement on its line
 abbrev pub canon : List Statement → List ℕ

@@ -3,6 +3,7 @@
 
 mod appending;
 mod items;
+mod laws;
 mod places;
 mod predicates;
 mod printer;
@@ -10,12 +11,5 @@ mod scalars;
 mod sources;
 mod statements;
 
-ghost use Rattle.cel_print.specs.Laws.{CanonicalIsBest};
-
+pub use laws::{canonical_is_best, canonical_is_read};
 pub use printer::{print, print_one};
-
-/// The canonical symbols of a statement are read as it, and no others that are read as it are fewer or
-/// nested less.
-pub fn canonical_is_best()
-    ensures { CanonicalIsBest }
-{}

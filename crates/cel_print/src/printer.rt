@@ -1,6 +1,9 @@
 //! The canonical text of files.
-ghost use Rattle.std.specs.Prelude.{◌≡◌, ◌<◌, ◌++◌, IfOk, OnOk, Some, length, map, option_map, slice_get};
+ghost use Rattle.std.specs.Prelude.{◌≡◌, ◌<◌, ◌++◌, IfOk, OnOk, true, Some, length, map, option_map, slice_get};
+ghost use Rattle.std.specs.Str.{is_utf8};
+ghost use Rattle.cel_grammar.specs.Sentences.{ReadsAs};
 ghost use Rattle.cel_grammar.specs.Views.{statement_of};
+ghost use Rattle.cel_print.specs.Laws.{lines_from};
 ghost use Rattle.cel_print.specs.Spelled.{canon, line_of};
 
 use crate::statements::append_statement;
@@ -11,7 +14,8 @@ use std::str;
 
 /// The canonical text of a file: each statement on its line.
 pub fn print(alloc: Global, file: &File) -> Result<Text, Memory>
-    ensures { IfOk result (λ text. text ≡ canon (map statement_of file.now.statements)) }
+    ensures text { IfOk result (λ text. text ≡ canon (map statement_of file.now.statements)) }
+    ensures read_again { IfOk result (λ text. ReadsAs text (map statement_of file.now.statements) (lines_from 1 (map statement_of file.now.statements))) }
 {
     let mut text = Vec::new(alloc);
     for i in 0..file.size() {
@@ -32,7 +36,8 @@ pub fn print_one(alloc: Global, file: &File, i: usize) -> Result<Text, Memory>
 
 // These bytes as a text, which they are where each part of them came from a text.
 fn text_of(alloc: Global, bytes: &[u8]) -> Result<Text, Memory>
-    ensures { IfOk result (λ text. text ≡ bytes.now) }
+    ensures same { IfOk result (λ text. text ≡ bytes.now) }
+    ensures utf8 { IfOk result (λ text. is_utf8 text ≡ true) }
 {
     match str::from_utf8(bytes) {
         Ok(text) => Text::make(alloc, text),
