@@ -67,12 +67,12 @@ token_first source front symbol (b ∷ u) tail line words e is cut =
     record {
       tokens = token ∷ cut.tokens;
       all =
-        is.piece line (length front) follows
-        ∙ ap (λ (n : ℕ). before token (follows n)) size
-        ∙ ap (λ (k : ℕ). before token (tokens_from (length u) k (length front + 1) (u ++ tail))) (same_line b line parts.0)
-        ∙ ap (before token) (skip u tail line (length front + 1) parts.1)
-        ∙ ap (λ (k : ℕ). before token (tokens_from 0 line k tail)) place
-        ∙ ap (before token) cut.all;
+          is.piece line (length front) follows
+          ∙ ap (λ (n : ℕ). before token (follows n)) size
+          ∙ ap (λ (k : ℕ). before token (tokens_from (length u) k (length front + 1) (u ++ tail))) (same_line b line parts.0)
+          ∙ ap (before token) (skip u tail line (length front + 1) parts.1)
+          ∙ ap (λ (k : ℕ). before token (tokens_from 0 line k tail)) place
+          ∙ ap (before token) cut.all;
       seen = ap (λ (s : List ℕ). record { line = line; symbol = symbol_of is.kind s } ∷ map (placed source) cut.tokens) bytes ∙ ap (λ (s : Symbol). record { line = line; symbol = s } ∷ map (placed source) cut.tokens) is.stands ∙ ap (λ (w : List Placed). record { line = line; symbol = symbol } ∷ w) cut.seen;
     }
 

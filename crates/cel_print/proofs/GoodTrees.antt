@@ -157,8 +157,11 @@ mutual
       record { left = b.left; words = λ place. within_good (takes_link place) (λ r. source_words source_place.Source e (Of the.Next ∷ condition_words p (source_words source_place.Term f r))) (λ r end. a.words source_place.Source _ (tt, condition_good p (c.words pred_place.Pred) _ (b.words source_place.Term r end))) }
   source_good (source.fold {e = e} {f = f} {p = p} {q = q} {sets = sets} h i j s k) good =
       let a = source_good h good in let c = pred_good i a.left.1.1 in let d = pred_good j c.left.1 in let g = aggs_good s d.left in let b = term_good k g.left.1 in
-      record { left = b.left; words = λ place. within_good (takes_link place) (λ r. source_words source_place.Source e (Of the.Fold ∷ Of the.BraceOpen ∷ pred_words pred_place.Pred p (Of the.Comma ∷ pred_words pred_place.Pred q (aggs_words sets (Of the.BraceClose ∷ source_words source_place.Term f r)))))
-        (λ r end. a.words source_place.Source _ (tt, (tt, c.words pred_place.Pred _ (tt, d.words pred_place.Pred _ (g.words _ (tt, b.words source_place.Term r end)))))) }
+      record {
+        left = b.left;
+        words = λ place. within_good (takes_link place) (λ r. source_words source_place.Source e (Of the.Fold ∷ Of the.BraceOpen ∷ pred_words pred_place.Pred p (Of the.Comma ∷ pred_words pred_place.Pred q (aggs_words sets (Of the.BraceClose ∷ source_words source_place.Term f r)))))
+            (λ r end. a.words source_place.Source _ (tt, (tt, c.words pred_place.Pred _ (tt, d.words pred_place.Pred _ (g.words _ (tt, b.words source_place.Term r end))))));
+      }
 
   -- by induction on what the symbols read as
   pub term_good : {ts rest : List Symbol} {e : tree.Source} → source.IsTerm ts e rest → AllGood ts → Kept (λ place. source_words place e) rest

@@ -94,9 +94,9 @@ digits_cut n (b ∷ u) rest low all some value stop =
     record {
       kind = what.Number (pos n);
       piece = λ line at follows.
-        ap (λ p. with_piece p line at follows) (fourth (is_blank b) _ (is_letter b) (is_ascii_digit b) _ _ _ _ _ plain.0 (no_comment b _ plain.1) plain.2 parts.0)
-        ∙ ap (λ (s : List ℕ). with_piece (number_piece s) line at follows) (run_is is_ascii_digit (b ∷ u) rest all (stops is_ascii_digit rest no_digit stop))
-        ∙ number_lexes n (b ∷ u) value fits line at follows;
+          ap (λ p. with_piece p line at follows) (fourth (is_blank b) _ (is_letter b) (is_ascii_digit b) _ _ _ _ _ plain.0 (no_comment b _ plain.1) plain.2 parts.0)
+          ∙ ap (λ (s : List ℕ). with_piece (number_piece s) line at follows) (run_is is_ascii_digit (b ∷ u) rest all (stops is_ascii_digit rest no_digit stop))
+          ∙ number_lexes n (b ∷ u) value fits line at follows;
       stands = refl;
       line = passes_more is_ascii_digit is_comment_byte digit_comment (b ∷ u) all;
       some = omega arith;
@@ -131,8 +131,8 @@ text t rest line stop =
     record {
       kind = what.Quoted;
       piece = λ line' at follows.
-        ap (λ o. with_piece (literal_piece o) line' at follows) (literal_is t rest line (stops (λ c. c == 39) rest no_quote stop))
-        ∙ ap (λ (k : ℕ). before (record { what = what.Quoted; line = line'; begin = at; end = at + k }) (follows (k - 1))) (whole (length (doubled t)) _ size);
+          ap (λ o. with_piece (literal_piece o) line' at follows) (literal_is t rest line (stops (λ c. c == 39) rest no_quote stop))
+          ∙ ap (λ (k : ℕ). before (record { what = what.Quoted; line = line'; begin = at; end = at + k }) (follows (k - 1))) (whole (length (doubled t)) _ size);
       stands = ap the.Quoted (ap undoubled (ap (λ (k : ℕ). take k (doubled t ++ codes "'")) (inner (length (doubled t)) _ size) ∙ take-append_seam (doubled t) (codes "'")) ∙ undoubled_is t);
       line = passes_append is_comment_byte (doubled t) (codes "'") (doubled_passes t line) refl;
       some = omega arith;

@@ -87,6 +87,7 @@ word_sound b rest letter short =
     letter_case : (c : Bool) → c ≡ true → is_first is_letter (cond c (b ∷ take_while is_word_byte rest) []) ≡ true
     letter_case true e = letter
     letter_case false e = absurd cc
+
     first_letter : is_first is_letter (take_while is_word_byte (b ∷ rest)) ≡ true
     first_letter = rw (take_while-cons is_word_byte b rest) (letter_case (is_word_byte b) (rw letter refl))
 
@@ -132,32 +133,37 @@ piece_sound source front b rest line follows tokens whole later =
     choose (λ p. with_piece p line at follows ≡ Ok tokens → AllSound source tokens) (is_blank b) _ _ (λ _ e. later 0 tokens e) (λ _.
     choose (λ p. with_piece p line at follows ≡ Ok tokens → AllSound source tokens) ((b == 45) && is_first (λ next. next == 45) rest) _ _ (λ _ e. later _ tokens e) (λ _.
     choose (λ p. with_piece p line at follows ≡ Ok tokens → AllSound source tokens) (is_letter b) _ _ (λ letter.
-      choose (λ p. with_piece p line at follows ≡ Ok tokens → AllSound source tokens) (nat_le (length word) 64) _ _
-      (λ short e. lexed (if is_keyword word then what.Keyword else what.Name) (length word) word (run_bytes is_word_byte (b ∷ rest)) (word_sound b rest letter short) e)
-      (λ _ e. absurd cc)) (λ _.
+    choose (λ p. with_piece p line at follows ≡ Ok tokens → AllSound source tokens) (nat_le (length word) 64) _ _
+    (λ short e. lexed (if is_keyword word then what.Keyword else what.Name) (length word) word (run_bytes is_word_byte (b ∷ rest)) (word_sound b rest letter short) e)
+    (λ _ e. absurd cc)) (λ _.
     choose (λ p. with_piece p line at follows ≡ Ok tokens → AllSound source tokens) (is_ascii_digit b) _ _ (λ digit.
-      choose (λ p. with_piece p line at follows ≡ Ok tokens → AllSound source tokens) (nat_lt (digits_value 10 digits) (2 ^ 127)) _ _
-      (λ low e. lexed (what.Number (pos (digits_value 10 digits))) (length digits) digits (run_bytes is_ascii_digit (b ∷ rest)) (below (digits_value 10 digits) low) e)
-      (λ _ e. absurd cc)) (λ _.
+    choose (λ p. with_piece p line at follows ≡ Ok tokens → AllSound source tokens) (nat_lt (digits_value 10 digits) (2 ^ 127)) _ _
+    (λ low e. lexed (what.Number (pos (digits_value 10 digits))) (length digits) digits (run_bytes is_ascii_digit (b ∷ rest)) (below (digits_value 10 digits) low) e)
+    (λ _ e. absurd cc)) (λ _.
     choose (λ p. with_piece p line at follows ≡ Ok tokens → AllSound source tokens) (b == 39) _ _ (λ quote. literal (literal_rest rest) refl quote) (λ _.
     choose (λ p. with_piece p line at follows ≡ Ok tokens → AllSound source tokens) (b == 36) _ _
-      (λ _ e. lexed what.Mark (if is_first is_side rest then 2 else 1) (take (if is_first is_side rest then 2 else 1) (b ∷ rest)) refl (mark_sound (take (if is_first is_side rest then 2 else 1) (b ∷ rest))) e) (λ _.
+    (λ _ e. lexed what.Mark (if is_first is_side rest then 2 else 1) (take (if is_first is_side rest then 2 else 1) (b ∷ rest)) refl (mark_sound (take (if is_first is_side rest then 2 else 1) (b ∷ rest))) e) (λ _.
     choose (λ p. with_piece p line at follows ≡ Ok tokens → AllSound source tokens) (is_sign b) _ _
-      (λ _ e. lexed what.Sign (if is_first (is_long_sign b) rest then 2 else 1) (take (if is_first (is_long_sign b) rest then 2 else 1) (b ∷ rest)) refl (sign_sound (take (if is_first (is_long_sign b) rest then 2 else 1) (b ∷ rest))) e)
-      (λ _ e. absurd cc)))))))
+    (λ _ e. lexed what.Sign (if is_first (is_long_sign b) rest then 2 else 1) (take (if is_first (is_long_sign b) rest then 2 else 1) (b ∷ rest)) refl (sign_sound (take (if is_first (is_long_sign b) rest then 2 else 1) (b ∷ rest))) e)
+    (λ _ e. absurd cc)))))))
   where
     at : ℕ
     at = length front
+
     word : List ℕ
     word = take_while is_word_byte (b ∷ rest)
+
     digits : List ℕ
     digits = take_while is_ascii_digit (b ∷ rest)
+
     below : (n : ℕ) → nat_lt n (2 ^ 127) ≡ true → n < 2 ^ 127
     below n h = grind (arith, nat_tests, h)
+
     lexed : (kind : What) (n : ℕ) (bytes : List ℕ) → take n (b ∷ rest) ≡ bytes → Sound (symbol_of kind bytes) → before (record { what = kind; line = line; begin = length front; end = length front + n }) (follows (n - 1)) ≡ Ok tokens → AllSound source tokens
     lexed kind n bytes is sound e =
         before_sound source (record { what = kind; line = line; begin = length front; end = length front + n }) (follows (n - 1)) tokens (λ ts k. later (n - 1) ts k)
         (rw (slice_is source front (b ∷ rest) n whole ∙ is) sound) e
+
     literal : (o : Option ℕ) → literal_rest rest ≡ o → (b == 39) ≡ true → with_piece (literal_piece o) line (length front) follows ≡ Ok tokens → AllSound source tokens
     literal (Some n) is quote e = lexed what.Quoted (n + 1) _ refl (rw (eqb-true b 39 quote) (literal_sound rest n is)) e
     literal None is quote e = absurd cc

@@ -5,11 +5,9 @@ ghost use Rattle.cel_print.specs.Laws.{CanonicalIsBest, CanonicalIsRead};
 /// nested less.
 pub fn canonical_is_best()
     ensures { CanonicalIsBest }
-{
-}
+{}
 
 /// The canonical text of what a text reads as is read as the same statements.
 pub fn canonical_is_read()
     ensures { CanonicalIsRead }
-{
-}
+{}
