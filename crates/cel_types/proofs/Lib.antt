@@ -3,7 +3,9 @@ pub mod AssignRules
 pub mod MakeLemmas
 pub mod MakeRules
 pub mod NewLemmas
+pub mod ReadLemmas
 pub mod RebindLemmas
+pub mod SourceRules
 pub mod SplitLemmas
 pub mod UnionLemmas
 pub mod ScalarSteps

@@ -13,3 +13,4 @@ pub mod Laws
 pub mod Making
 pub mod Typed
 pub mod Assigning
+pub mod Typing

@@ -5,14 +5,17 @@ mod aggregates;
 mod attributes;
 mod conditions;
 mod declaring;
+mod elaborating;
 mod fault;
-mod laws;
 mod items;
+mod laws;
 mod scalars;
 mod scope;
+mod sources;
 mod unions;
 
 pub use declaring::declare;
+pub use elaborating::elaborate;
 pub use fault::TypeFault;
 pub use laws::{
     declaration_has_one_schema, predicate_has_one_type, scalar_has_one_type, terms_are_typed,
