@@ -16,3 +16,9 @@ pub mod DeclarationLemmas
 pub mod DeclarationLaws
 pub mod CanonicalTyped
 pub mod TypedLaws
+pub mod MakeLaws
+pub mod AssignLaws
+pub mod SourceLaws
+pub mod SourceFaults
+pub mod TypedSources
+pub mod QueryLaws

@@ -14,3 +14,4 @@ pub mod Making
 pub mod Typed
 pub mod Assigning
 pub mod Typing
+pub mod SourceLaws

@@ -11,6 +11,7 @@ mod items;
 mod laws;
 mod scalars;
 mod scope;
+mod source_laws;
 mod sources;
 mod unions;
 
@@ -20,3 +21,4 @@ pub use fault::TypeFault;
 pub use laws::{
     declaration_has_one_schema, predicate_has_one_type, scalar_has_one_type, terms_are_typed,
 };
+pub use source_laws::{queries_are_typed, query_has_one_type};
