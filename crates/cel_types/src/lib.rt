@@ -22,3 +22,6 @@ pub use laws::{
     declaration_has_one_schema, predicate_has_one_type, scalar_has_one_type, terms_are_typed,
 };
 pub use source_laws::{queries_are_typed, query_has_one_type};
+
+#[cfg(test)]
+mod tests;
