@@ -7,3 +7,4 @@ pub mod WalkLemmas
 pub mod SpanLemmas
 pub mod FaultLemmas
 pub mod AscentLemmas
+pub mod MemoryLemmas
