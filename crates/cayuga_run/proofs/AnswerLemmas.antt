@@ -12,11 +12,12 @@ use Rattle.cayuga_run.specs.declared.status.Status.{Status}
 use Rattle.cayuga_run.specs.declared.status.Status.TheVariants.{Done, Usage, BadQuery, BadEvent, OutOfOrder, AttachFault, ReadFault, WriteFault, TooMuch, Memory}
 use Rattle.cayuga_run.specs.Answers.{Answers}
 use Rattle.cayuga_run.specs.Catalogue.{Catalogue}
-use Rattle.cayuga_run.specs.Expected.{AnswersRefused, expected, expected_after, expected_of, IsExpectedOrFault, IsExpectedOrMemory, IsSteady}
-use Rattle.cayuga_run.specs.Judgement.{Verdict, Accepts, Refuses, judge}
-use Rattle.cayuga_run.specs.Outcome.{AreThere, IsAccepted, OfFiles, OfQueries, Outcome, is_whole}
+use Rattle.cayuga_run.specs.Expected.{AnswersRefused, expected_after, IsExpected, IsExpectedOrFault, IsExpectedOrMemory, IsSteady}
+use Rattle.cayuga_run.specs.Judgement.{Verdict, Accepts, Refuses, IsAccepted, Judges}
+use Rattle.cayuga_run.specs.Outcome.{AreThere, OfFiles, OfQueries, Outcome, is_whole}
 use Rattle.cayuga_run.specs.Reports.{refused_in}
 use Rattle.cayuga_run.specs.Words.{Job}
+use Rattle.cayuga_run.proofs.JudgementLemmas.{one-verdict}
 
 -- a claim on both files from another
 of_files : (a b : Option (List ℕ)) (P Q : List ℕ → List ℕ → Type 0) → ((q e : List ℕ) → P q e → Q q e) → IfSome a (λ q. IfSome b (P q)) → IfSome a (λ q. IfSome b (Q q))
@@ -35,10 +36,9 @@ of_none (Some q) None Q f = tt
 of_none (Some q) (Some e) Q f = f q e
 
 -- a status that an accepted text asks for
-asked : (status : Status) (v : Verdict) (limit : ℕ) (events : List ℕ) (P : Catalogue → Type 0)
-    → ((c : Catalogue) → P c → status ≡ expected_after limit (refused_in c (take limit events) (is_whole limit events)) (is_whole limit events)) → IsAccepted v P → status ≡ expected_of v limit events
-asked status (Accepts c) limit events P f h = f c h
-asked status (Refuses line why) limit events P f h = absurd h
+asked : (status : Status) (text : List ℕ) (limit : ℕ) (events : List ℕ) (P : Catalogue → Type 0)
+    → ((c : Catalogue) → P c → status ≡ expected_after limit (refused_in c (take limit events) (is_whole limit events)) (is_whole limit events)) → IsAccepted text P → IsExpected limit text events status
+asked status text limit events P f h = record { verdict = Accepts h.catalogue; judged = h.judged; value = f h.catalogue h.holds }
 
 whole_is : (limit : ℕ) (events : List ℕ) → length events ≤ limit → is_whole limit events ≡ true
 whole_is limit events few = le-leb (length events) limit few
@@ -47,23 +47,23 @@ long_is : (limit : ℕ) (events : List ℕ) → limit < length events → is_who
 long_is limit events long = grind (arith, nat_tests, long)
 
 -- the status, where the texts decide it
-decided : (job : Job) (limit : ℕ) (old new : Told) (status : Status) → Outcome (Some job) limit old new status → OfFiles job old (λ queries events. IsExpectedOrFault (expected limit queries events) status)
+decided : (job : Job) (limit : ℕ) (old new : Told) (status : Status) → Outcome (Some job) limit old new status → OfFiles job old (λ queries events. IsExpectedOrFault (IsExpected limit queries events) status)
 decided job limit old new Done o =
-    of_files _ _ _ _ (λ q e. asked Done (judge q) limit e _
+    of_files _ _ _ _ (λ q e. asked Done q limit e _
     (λ c h. sym (ap (λ b. expected_after limit (refused_in c (take limit e) b) b) (whole_is limit e h.0) ∙ ap (λ t. expected_after limit (refused_in c t true) true) (take_all limit e h.0) ∙ ap (λ r. expected_after limit r true) h.1))) o.text
 decided job limit old new Usage o = absurd o
 decided job limit old new (BadQuery line why) o =
-    of_queries (file_of job.queries old.files) (file_of job.events old.files) (λ q. judge q ≡ Refuses line why) (λ q e. BadQuery line why ≡ expected limit q e)
-    (λ q e h. let same : judge q ≡ Refuses line why = h in sym (ap (λ v. expected_of v limit e) same)) o.refused
+    of_queries (file_of job.queries old.files) (file_of job.events old.files) (λ q. Judges q (Refuses line why)) (λ q e. IsExpected limit q e (BadQuery line why))
+    (λ q e h. record { verdict = Refuses line why; judged = h; value = refl }) o.refused
 decided job limit old new (BadEvent line why) o =
-    of_files _ _ _ _ (λ q e. asked (BadEvent line why) (judge q) limit e _ (λ c h. sym (ap (λ r. expected_after limit r (is_whole limit e)) h.0))) o.text
+    of_files _ _ _ _ (λ q e. asked (BadEvent line why) q limit e _ (λ c h. sym (ap (λ r. expected_after limit r (is_whole limit e)) h.0))) o.text
 decided job limit old new (OutOfOrder line at seen) o =
-    of_files _ _ _ _ (λ q e. asked (OutOfOrder line at seen) (judge q) limit e _ (λ c h. sym (ap (λ r. expected_after limit r (is_whole limit e)) h.0))) o.text
+    of_files _ _ _ _ (λ q e. asked (OutOfOrder line at seen) q limit e _ (λ c h. sym (ap (λ r. expected_after limit r (is_whole limit e)) h.0))) o.text
 decided job limit old new (AttachFault side) o = of_none _ _ _ (λ q e. tt)
 decided job limit old new (ReadFault side) o = of_none _ _ _ (λ q e. tt)
 decided job limit old new WriteFault o = of_none _ _ _ (λ q e. tt)
 decided job limit old new (TooMuch most) o =
-    of_files _ _ _ _ (λ q e. asked (TooMuch most) (judge q) limit e _
+    of_files _ _ _ _ (λ q e. asked (TooMuch most) q limit e _
     (λ c h. ap TooMuch o.0 ∙ sym (ap (λ b. expected_after limit (refused_in c (take limit e) b) b) (long_is limit e h.0) ∙ ap (λ r. expected_after limit r false) h.1))) o.1.text
 decided job limit old new Memory o = of_none _ _ _ (λ q e. tt)
 
@@ -82,14 +82,17 @@ for_some : {X : Type 0} (o : Option X) (P Q : X → Type 0) → ((x : X) → P x
 for_some None P Q f h = tt
 for_some (Some x) P Q f h = f x h
 
--- an accepted text has any answer
-accepted_answers : (v : Verdict) (status : Status) (P : Catalogue → Type 0) → IsAccepted v P → AnswersRefused v status
-accepted_answers (Accepts c) status P h = tt
-accepted_answers (Refuses line why) status P h = absurd h
+-- each verdict that the text has allows the status
+abbrev Answered : Status → List ℕ → Type 0
+Answered status text = (v : Verdict) → Judges text v → AnswersRefused v status
 
-free_answers : (o : Option (List ℕ)) (status : Status) → ((line : ℕ) (why : QueryFault) → AnswersRefused (Refuses line why) status) → IfSome o (λ q. AnswersRefused (judge q) status)
+-- an accepted text has any answer
+accepted_answers : (text : List ℕ) (status : Status) (P : Catalogue → Type 0) → IsAccepted text P → Answered status text
+accepted_answers text status P h v judged = subst (λ w. AnswersRefused w status) (one-verdict text (Accepts h.catalogue) v h.judged judged) tt
+
+free_answers : (o : Option (List ℕ)) (status : Status) → ((line : ℕ) (why : QueryFault) → AnswersRefused (Refuses line why) status) → IfSome o (Answered status)
 free_answers None status f = tt
-free_answers (Some q) status f = by_verdict (judge q)
+free_answers (Some q) status f = λ v judged. by_verdict v
   where
     by_verdict : (v : Verdict) → AnswersRefused v status
     by_verdict (Accepts c) = tt
@@ -97,24 +100,24 @@ free_answers (Some q) status f = by_verdict (judge q)
 
 -- both files are there and the query text is accepted
 accepted_files : (job : Job) (old : Told) (status : Status) (P : List ℕ → Catalogue → Type 0) → AreThere job old
-    → OfFiles job old (λ q e. IsAccepted (judge q) (P e)) → OfQueries job old (λ q. AnswersRefused (judge q) status)
+    → OfFiles job old (λ q e. IsAccepted q (P e)) → OfQueries job old (Answered status)
 accepted_files job old status P there h =
-    for_some (file_of job.queries old.files) (λ q. (e : List ℕ) × IsAccepted (judge q) (P e)) (λ q. AnswersRefused (judge q) status)
-    (λ q p. accepted_answers (judge q) status (P p.0) p.1) (both_told job old.files (λ q e. IsAccepted (judge q) (P e)) there.events h)
+    for_some (file_of job.queries old.files) (λ q. (e : List ℕ) × IsAccepted q (P e)) (Answered status)
+    (λ q p. accepted_answers q status (P p.0) p.1) (both_told job old.files (λ q e. IsAccepted q (P e)) there.events h)
 
 -- the answer where the query text is refused
-refused_by : (job : Job) (limit : ℕ) (old new : Told) (status : Status) → Outcome (Some job) limit old new status → OfQueries job old (λ q. AnswersRefused (judge q) status)
+refused_by : (job : Job) (limit : ℕ) (old new : Told) (status : Status) → Outcome (Some job) limit old new status → OfQueries job old (Answered status)
 refused_by job limit old new Done o = accepted_files job old Done _ o.there o.text
 refused_by job limit old new Usage o = absurd o
 refused_by job limit old new (BadQuery line why) o =
-    for_some (file_of job.queries old.files) (λ q. judge q ≡ Refuses line why) (λ q. AnswersRefused (judge q) (BadQuery line why))
-    (λ q e. subst (λ v. AnswersRefused v (BadQuery line why)) (sym e) refl) o.refused
+    for_some (file_of job.queries old.files) (λ q. Judges q (Refuses line why)) (Answered (BadQuery line why))
+    (λ q h v judged. subst (λ w. AnswersRefused w (BadQuery line why)) (one-verdict q (Refuses line why) v h judged) refl) o.refused
 refused_by job limit old new (BadEvent line why) o = accepted_files job old (BadEvent line why) _ o.there o.text
 refused_by job limit old new (OutOfOrder line at seen) o = accepted_files job old (OutOfOrder line at seen) _ o.there o.text
 refused_by job limit old new (AttachFault Queries) o = free_answers (file_of job.queries old.files) (AttachFault Queries) (λ line why. tt)
 refused_by job limit old new (AttachFault Events) o =
-    for_some (file_of job.queries old.files) (λ q. IsAccepted (judge q) (λ c. Unit {0})) (λ q. AnswersRefused (judge q) (AttachFault Events))
-    (λ q h. accepted_answers (judge q) (AttachFault Events) (λ c. Unit {0}) h) (o.accepted refl).1
+    for_some (file_of job.queries old.files) (λ q. IsAccepted q (λ c. Unit {0})) (Answered (AttachFault Events))
+    (λ q h. accepted_answers q (AttachFault Events) (λ c. Unit {0}) h) (o.accepted refl).1
 refused_by job limit old new (ReadFault Queries) o = free_answers (file_of job.queries old.files) (ReadFault Queries) (λ line why. tt)
 refused_by job limit old new (ReadFault Events) o = let stopped = o.events refl in accepted_files job old (ReadFault Events) _ stopped.there stopped.text
 refused_by job limit old new WriteFault o = accepted_files job old WriteFault _ o.there o.text
@@ -127,7 +130,7 @@ no_rise before now r e b = omega (arith, r, e, b)
 
 -- the status, where no call of the host failed
 complete_by : (job : Job) (limit : ℕ) (old new : Told) (status : Status) → Outcome (Some job) limit old new status → IsSteady old new → AreThere job old
-    → OfFiles job old (λ queries events. IsExpectedOrMemory (expected limit queries events) status)
+    → OfFiles job old (λ queries events. IsExpectedOrMemory (IsExpected limit queries events) status)
 complete_by job limit old new Done o st there = decided job limit old new Done o
 complete_by job limit old new Usage o st there = absurd o
 complete_by job limit old new (BadQuery line why) o st there = decided job limit old new (BadQuery line why) o

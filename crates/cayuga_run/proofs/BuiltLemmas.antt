@@ -1,34 +1,25 @@
 -- Steps of the reading of a built file.
-use Rattle.std.proofs.Common.{◌≡◌, ◌∙◌, ap, ℕ, ◌≤◌, ◌-◌, true, false, cond, List, [], ◌∷◌, take, drop, length, get_or, Some, None, arith}
-use Rattle.std.specs.Prelude.{codes}
-use Rattle.std.specs.Option.{option_and_then}
-use Rattle.std.proofs.lemmas.List.{take_all}
-use Rattle.stream_schema.specs.Schema.{Attr}
-use Rattle.cayuga_run.specs.Spelled.{Spelled}
-use Rattle.cayuga_run.specs.Spelling.{is_sign}
-use Rattle.cayuga_run.specs.Built.{attributes_from, built_of, is_beginning, query_from, with_attribute}
+use Rattle.std.proofs.Common.{◌≡◌, ◌∙◌, sym, ap, ℕ, suc, ◌+◌, add-one, ◌<◌, cond, List, [], ◌∷◌, ◌++◌, map, drop, drop-cons, length, get_or, slice_get, Some, None, arith}
+use Rattle.cel_grammar.specs.declared.statement.Attr.{Attr}
+use Rattle.cel_grammar.specs.Views.{column_of}
+use Rattle.stream_schema.specs.Schema as schema
+use Rattle.cayuga_run.specs.Built.{is_free, schema_from}
 
--- the first three tokens, and the others
-pub three_first : (words : List Spelled) (x y z : Spelled) → 3 ≤ length words
-    → x ≡ get_or words 0 x → y ≡ get_or words 1 y → z ≡ get_or words 2 z
-    → words ≡ x ∷ y ∷ z ∷ take (length words - 3) (drop 3 words)
-three_first [] x y z h e f g = absurd (omega arith)
-three_first (a ∷ []) x y z h e f g = absurd (omega arith)
-three_first (a ∷ b ∷ []) x y z h e f g = absurd (omega arith)
-three_first (a ∷ b ∷ d ∷ rest) x y z h e f g =
-    let all : take (length (a ∷ b ∷ d ∷ rest) - 3) rest ≡ rest = take_all (length (a ∷ b ∷ d ∷ rest) - 3) rest (omega arith) in
-    cc (e, f, g, all)
+-- a list from a place on is the item at it and those behind it
+from_item : {A : Type 0} (xs : List A) (place : ℕ) (x : A) → place < length xs → x ≡ get_or xs place x → drop place xs ≡ x ∷ drop (place + 1) xs
+from_item xs place x within here =
+    drop-cons xs place x within ∙ ap (λ y. y ∷ drop (suc place) xs) (sym here) ∙ ap (λ n. x ∷ drop n xs) (sym (add-one place))
 
--- the tokens begin a declaration
-pub begins : (word stream parenthesis : Spelled) (rest : List Spelled) → is_beginning word stream parenthesis ≡ true
-    → built_of (word ∷ stream ∷ parenthesis ∷ rest) ≡ attributes_from stream.text [] rest
-begins word stream parenthesis rest h = ap (λ b. cond b (attributes_from stream.text [] rest) None) h
+-- the attributes from a place on are the one at it and those behind it
+pub next_attribute : (before : List schema.Attr) (attrs : List Attr) (place : ℕ) (attr : Attr) → place < length attrs → attr ≡ get_or attrs place attr
+    → schema_from before (map column_of (drop place attrs))
+    ≡ cond (is_free before attr.name) (schema_from (before ++ record { name = attr.name; kind = attr.kind } ∷ []) (map column_of (drop (place + 1) attrs))) None
+next_attribute before attrs place attr within here =
+    ap (λ xs. schema_from before (map column_of xs)) (from_item attrs place attr within here)
 
--- one attribute more, and a comma
-pub one_more : (stream : List ℕ) (schema longer : List Attr) (name kind sign : Spelled) (rest : List Spelled)
-    → with_attribute schema name kind ≡ Some longer → is_sign (codes ")") sign ≡ false → is_sign (codes ",") sign ≡ true
-    → attributes_from stream schema (name ∷ kind ∷ sign ∷ rest) ≡ attributes_from stream longer rest
-one_more stream schema longer name kind sign rest w f g =
-    ap (λ o. option_and_then (λ l. cond (is_sign (codes ")") sign) (query_from stream l rest) (cond (is_sign (codes ",") sign) (attributes_from stream l rest) None)) o) w
-    ∙ ap (λ b. cond b (query_from stream longer rest) (cond (is_sign (codes ",") sign) (attributes_from stream longer rest) None)) f
-    ∙ ap (λ b. cond b (attributes_from stream longer rest) None) g
+-- two items are the whole of a list of two
+pub two_items : {A : Type 0} (xs : List A) (x y : A) → length xs ≡ 2 → slice_get xs 0 ≡ Some x → slice_get xs 1 ≡ Some y → xs ≡ x ∷ y ∷ []
+two_items [] x y two first second = absurd (omega arith)
+two_items (a ∷ []) x y two first second = absurd (omega arith)
+two_items (a ∷ b ∷ []) x y two first second = cc
+two_items (a ∷ b ∷ c ∷ rest) x y two first second = absurd (omega (arith, two))

@@ -1,12 +1,10 @@
-pub mod AcceptedLemmas
 pub mod AnswerLemmas
-pub mod BuiltFilesLemmas
 pub mod BuiltLemmas
 pub mod ClosingLemmas
 pub mod EvaluationLemmas
 pub mod FilteringLemmas
+pub mod JudgementLemmas
 pub mod OwingLemmas
 pub mod ReadingLemmas
 pub mod RunLemmas
-pub mod SpellingLemmas
 pub mod WorkingLemmas

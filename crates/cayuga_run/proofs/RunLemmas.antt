@@ -2,24 +2,22 @@
 use Rattle.std.proofs.Common.{◌≡◌, ◌∙◌, sym, ap, refl, subst, ℕ, ◌+◌, ◌-◌, ◌<◌, ◌≤◌, List, [], ◌∷◌, ◌++◌, Bool, true, false, cond, ◌&&◌, is_some, is_none, Option, Some, None, IfSome, map, arith, length, take, length-append, append-nil, append_assoc}
 use Rattle.std.specs.Option.{option_or}
 use Rattle.std.proofs.lemmas.List.{take_all, take-append-le, map-append}
-use Rattle.std.proofs.lemmas.Bool.{lt-ltb, le-leb}
+use Rattle.std.proofs.lemmas.Bool.{le-leb}
 use Rattle.std.proofs.lemmas.Bool.Decides.{nat_tests}
 use Rattle.std.proofs.Math.Seq.{take-append-add}
 use Rattle.std.specs.Io.KnownBytes.{prepend_known, append_known}
 use Rattle.cay_host.specs.Files.{file_of, lacks}
 use Rattle.cay_host.specs.Input.{SameButRead}
 use Rattle.cay_host.specs.declared.side.Side.TheVariants.{Queries, Events}
-use Rattle.cay_host.specs.Output.{Wrote, WrotePart, KeepsOutput, SameButOutput, add_lines, count_lf}
+use Rattle.cay_host.specs.Output.{Wrote, WrotePart, KeepsOutput, SameButOutput, add_lines}
 use Rattle.cay_host.specs.Told.{Told}
 use Rattle.cay_host.specs.Faults.{Rose}
 use Rattle.cay_host.proofs.OutputLemmas.{Wrote-nil}
 use Rattle.event_csv.specs.Fed.{fed_more, unfed}
 use Rattle.event_csv.specs.Lines.{lines}
 use Rattle.event_csv.proofs.GoOnFacts.{go_on-left}
-use Rattle.cel_lexer.specs.Faults.{tokens_of}
 use Rattle.cayuga_run.specs.declared.refusal.Refusal.{Refusal}
 use Rattle.cayuga_run.specs.declared.refusal.Refusal.TheVariants.{HasFault, IsOutOfOrder}
-use Rattle.cayuga_run.specs.declared.fault.QueryFault.TheVariants as query
 use Rattle.cayuga_run.specs.declared.status.Status.{Status}
 use Rattle.cayuga_run.specs.declared.status.Status.TheVariants.{Done, Usage, BadQuery, BadEvent, OutOfOrder, AttachFault, ReadFault, WriteFault, TooMuch, Memory}
 use Rattle.cayuga_run.specs.declared.taking.End.{End}
@@ -34,8 +32,8 @@ use Rattle.cayuga_run.specs.Working.{closes, rows_left}
 use Rattle.cayuga_run.proofs.FilteringLemmas.{rows_left_are_report}
 use Rattle.cayuga_run.proofs.WorkingLemmas.{part_of_more, front_of_more}
 use Rattle.cayuga_run.specs.Judgement as Judged
-use Rattle.cayuga_run.specs.Judgement.{Verdict, Accepts, judge, text_limit, verdict_by}
-use Rattle.cayuga_run.specs.Outcome.{AreThere, IsAccepted, IsDone, IsReadFault, IsRefused, IsTooMuch, IsWriteFault, IsMemory, MemoryText, Outcome, is_whole}
+use Rattle.cayuga_run.specs.Judgement.{Verdict, Accepts, IsAccepted, Judges, text_limit}
+use Rattle.cayuga_run.specs.Outcome.{AreThere, IsDone, IsReadFault, IsRefused, IsTooMuch, IsWriteFault, IsMemory, MemoryText, Outcome, is_whole}
 use Rattle.cayuga_run.specs.Owing.{WroteFront}
 use Rattle.cayuga_run.specs.QueryFailing.{QueriesFail, TextFails}
 use Rattle.cayuga_run.specs.Readings.{reading_of, readings}
@@ -43,10 +41,11 @@ use Rattle.cayuga_run.specs.Reports.{refused_in, report_of_closed, report_of_hea
 use Rattle.cayuga_run.specs.Taking.{EndsAs}
 use Rattle.cayuga_run.specs.Words.{Job}
 use Rattle.cayuga_run.proofs.EvaluationLemmas.{closed_is_heard, epoch_law}
+use Rattle.cayuga_run.proofs.JudgementLemmas.{one-verdict, past-limit}
 
 -- both files were read as far as that, and nothing was written
 pub record IsReady (job : Job) (limit : ℕ) (catalogue : Catalogue) (bytes : List ℕ) (end : End) (old mid : Told) : Type 0 where
-  pub accept : IfSome (file_of job.queries old.files) (λ queries. judge queries ≡ Accepts catalogue)
+  pub accept : IfSome (file_of job.queries old.files) (λ queries. Judges queries (Accepts catalogue))
   pub there : AreThere job old
   pub events : file_of job.events old.files ≡ prepend_known bytes (mid.left Events)
   pub ends : EndsAs end limit bytes Events old mid
@@ -71,36 +70,28 @@ memory_silent job limit old new keeps =
     by_verdict (Accepts catalogue) events = record { size = 0; within = omega arith; wrote = Wrote-after keeps (Wrote-nil new) }
     by_verdict (Judged.Refuses line why) events = keeps
 
-    by_files : (a b : Option (List ℕ)) → IfSome a (λ queries. IfSome b (λ events. MemoryText (judge queries) limit events old new))
+    by_files : (a b : Option (List ℕ)) → IfSome a (λ queries. IfSome b (λ events. (v : Verdict) → Judges queries v → MemoryText v limit events old new))
     by_files None b = tt
     by_files (Some q) None = tt
-    by_files (Some q) (Some e) = by_verdict (judge q) e
+    by_files (Some q) (Some e) = λ v judged. by_verdict v e
 
--- a text that is past the limit is refused, wherever it is cut behind the limit
-too_long : (text : List ℕ) → text_limit < length text → judge text ≡ Judged.Refuses (count_lf (take text_limit text) + 1) query.TooLong
-too_long text more = ap (λ b. cond b (Judged.Refuses (count_lf (take text_limit text) + 1) query.TooLong) (verdict_by text (tokens_of text))) (lt-ltb text_limit (length text) more)
+-- the verdict on all that was read of the queries is that on the text
+pub judged_whole : (text left : Option (List ℕ)) (bytes : List ℕ) (v : Verdict) → text ≡ prepend_known bytes left → IfSome left (λ rest. rest ≡ []) → Judges bytes v → IfSome text (λ t. Judges t v)
+judged_whole text None bytes v e nil judged = subst (λ o. IfSome o (λ t. Judges t v)) (sym e) tt
+judged_whole text (Some rest) bytes v e nil judged =
+    let all : bytes ++ rest ≡ bytes = ap (λ r. bytes ++ r) nil ∙ append-nil bytes in
+    subst (λ o. IfSome o (λ t. Judges t v)) (sym e) (subst (λ t. Judges t v) (sym all) judged)
 
--- the judgement of all that was read of the queries is that of the text
-pub judged_whole : (text left : Option (List ℕ)) (bytes : List ℕ) → text ≡ prepend_known bytes left → IfSome left (λ rest. rest ≡ []) → IfSome text (λ t. judge t ≡ judge bytes)
-judged_whole text None bytes e nil = subst (λ o. IfSome o (λ t. judge t ≡ judge bytes)) (sym e) tt
-judged_whole text (Some rest) bytes e nil = subst (λ o. IfSome o (λ t. judge t ≡ judge bytes)) (sym e) (ap judge (ap (λ r. bytes ++ r) nil ∙ append-nil bytes))
-
--- so is that of its first bytes, where they are one more than the limit
-pub judged_past : (text left : Option (List ℕ)) (bytes : List ℕ) → text ≡ prepend_known bytes left → length bytes ≡ text_limit + 1 → IfSome text (λ t. judge t ≡ judge bytes)
-judged_past text None bytes e long = subst (λ o. IfSome o (λ t. judge t ≡ judge bytes)) (sym e) tt
-judged_past text (Some rest) bytes e long =
+-- so is that on its first bytes, where they are one more than the limit
+pub judged_past : (text left : Option (List ℕ)) (bytes : List ℕ) (v : Verdict) → text ≡ prepend_known bytes left → length bytes ≡ text_limit + 1 → Judges bytes v → IfSome text (λ t. Judges t v)
+judged_past text None bytes v e long judged = subst (λ o. IfSome o (λ t. Judges t v)) (sym e) tt
+judged_past text (Some rest) bytes v e long judged =
     let size = length-append bytes rest in
-    subst (λ o. IfSome o (λ t. judge t ≡ judge bytes)) (sym e)
-    (too_long (bytes ++ rest) (omega (arith, long, size)) ∙ ap (λ t. Judged.Refuses (count_lf t + 1) query.TooLong) (take-append-le text_limit bytes rest (omega (arith, long))) ∙ sym (too_long bytes (omega (arith, long))))
-
--- the verdict on what was read is that on the text
-pub verdict_same : (text : Option (List ℕ)) (bytes : List ℕ) (v : Verdict) → IfSome text (λ t. judge t ≡ judge bytes) → judge bytes ≡ v → IfSome text (λ t. judge t ≡ v)
-verdict_same None bytes v h e = tt
-verdict_same (Some t) bytes v h e = h ∙ e
+    subst (λ o. IfSome o (λ t. Judges t v)) (sym e) (past-limit bytes rest v (omega (arith, long)) (omega (arith, long, size)) judged)
 
 -- why the queries weren't accepted, as the outcome of the run
-pub text_fails : (a : Told) (b : Told) (bytes : List ℕ) (status : Status) → IfSome (a.left Queries) (λ t. judge t ≡ judge bytes) → TextFails (judge bytes) status → QueriesFail a b status
-text_fails a b bytes (BadQuery line why) h f = verdict_same (a.left Queries) bytes (Judged.Refuses line why) h f
+pub text_fails : (a : Told) (b : Told) (bytes : List ℕ) (status : Status) → ((v : Verdict) → Judges bytes v → IfSome (a.left Queries) (λ t. Judges t v)) → TextFails bytes status → QueriesFail a b status
+text_fails a b bytes (BadQuery line why) h f = h (Judged.Refuses line why) f
 text_fails a b bytes Memory h f = tt
 text_fails a b bytes Done h f = f
 text_fails a b bytes Usage h f = f
@@ -123,7 +114,7 @@ pub record HasQueries (job : Job) (old mid : Told) : Type 0 where
 pub queries_fail : (job : Job) (limit : ℕ) (old mid new : Told) (status : Status) → HasQueries job old mid → QueriesFail mid new status → SameButRead Queries mid new → Outcome (Some job) limit old new status
 queries_fail job limit old mid new (BadQuery line why) has fails kept = record {
   there = has.there;
-  refused = subst (λ o. IfSome o (λ t. judge t ≡ Judged.Refuses line why)) has.text fails;
+  refused = subst (λ o. IfSome o (λ t. Judges t (Judged.Refuses line why))) has.text fails;
   silent = record { written = kept.written ∙ has.silent.written; lines = kept.lines ∙ has.silent.lines };
 }
 queries_fail job limit old mid new (ReadFault side) has fails kept =
@@ -148,29 +139,31 @@ queries_fail job limit old mid new WriteFault has fails kept = absurd fails
 queries_fail job limit old mid new (TooMuch most) has fails kept = absurd fails
 
 -- an accepted text under the file's name
-pub accepted_file : (text file : Option (List ℕ)) (catalogue : Catalogue) → text ≡ file → IfSome text (λ t. judge t ≡ Accepts catalogue) → IfSome file (λ t. judge t ≡ Accepts catalogue)
-accepted_file text file catalogue e h = subst (λ o. IfSome o (λ t. judge t ≡ Accepts catalogue)) e h
+pub accepted_file : (text file : Option (List ℕ)) (catalogue : Catalogue) → text ≡ file → IfSome text (λ t. Judges t (Accepts catalogue)) → IfSome file (λ t. Judges t (Accepts catalogue))
+accepted_file text file catalogue e h = subst (λ o. IfSome o (λ t. Judges t (Accepts catalogue))) e h
 
-pub is_accepted : (file : Option (List ℕ)) (catalogue : Catalogue) → IfSome file (λ t. judge t ≡ Accepts catalogue) → IfSome file (λ t. IsAccepted (judge t) (λ c. Unit {0}))
+pub is_accepted : (file : Option (List ℕ)) (catalogue : Catalogue) → IfSome file (λ t. Judges t (Accepts catalogue)) → IfSome file (λ t. IsAccepted t (λ c. Unit {0}))
 is_accepted None catalogue h = tt
-is_accepted (Some t) catalogue h = subst (λ v. IsAccepted v (λ c. Unit {0})) (sym h) tt
+is_accepted (Some t) catalogue h = record { catalogue = catalogue; judged = h; holds = tt }
 
 -- the claims on both files, from a claim on what was read of them
 of_both : (a b left : Option (List ℕ)) (catalogue : Catalogue) (x : List ℕ) (R : Catalogue → List ℕ → Type 0)
-    → IfSome a (λ queries. judge queries ≡ Accepts catalogue) → b ≡ prepend_known x left → ((rest : List ℕ) → left ≡ Some rest → R catalogue (x ++ rest))
-    → IfSome a (λ queries. IfSome b (λ events. IsAccepted (judge queries) (λ c. R c events)))
+    → IfSome a (λ queries. Judges queries (Accepts catalogue)) → b ≡ prepend_known x left → ((rest : List ℕ) → left ≡ Some rest → R catalogue (x ++ rest))
+    → IfSome a (λ queries. IfSome b (λ events. IsAccepted queries (λ c. R c events)))
 of_both None b left catalogue x R qe be h = tt
-of_both (Some q) b None catalogue x R qe be h = subst (λ o. IfSome o (λ events. IsAccepted (judge q) (λ c. R c events))) (sym be) tt
+of_both (Some q) b None catalogue x R qe be h = subst (λ o. IfSome o (λ events. IsAccepted q (λ c. R c events))) (sym be) tt
 of_both (Some q) b (Some rest) catalogue x R qe be h =
-    subst (λ o. IfSome o (λ events. IsAccepted (judge q) (λ c. R c events))) (sym be) (subst (λ v. IsAccepted v (λ c. R c (x ++ rest))) (sym qe) (h rest refl))
+    subst (λ o. IfSome o (λ events. IsAccepted q (λ c. R c events))) (sym be) (record { catalogue = catalogue; judged = qe; holds = h rest refl })
 
--- the same of the verdict
+-- the same of each verdict that the text has
 of_verdict : (a b left : Option (List ℕ)) (catalogue : Catalogue) (x : List ℕ) (R : Verdict → List ℕ → Type 0)
-    → IfSome a (λ queries. judge queries ≡ Accepts catalogue) → b ≡ prepend_known x left → ((rest : List ℕ) → left ≡ Some rest → R (Accepts catalogue) (x ++ rest))
-    → IfSome a (λ queries. IfSome b (λ events. R (judge queries) events))
+    → IfSome a (λ queries. Judges queries (Accepts catalogue)) → b ≡ prepend_known x left → ((rest : List ℕ) → left ≡ Some rest → R (Accepts catalogue) (x ++ rest))
+    → IfSome a (λ queries. IfSome b (λ events. (v : Verdict) → Judges queries v → R v events))
 of_verdict None b left catalogue x R qe be h = tt
-of_verdict (Some q) b None catalogue x R qe be h = subst (λ o. IfSome o (R (judge q))) (sym be) tt
-of_verdict (Some q) b (Some rest) catalogue x R qe be h = subst (λ o. IfSome o (R (judge q))) (sym be) (subst (λ v. R v (x ++ rest)) (sym qe) (h rest refl))
+of_verdict (Some q) b None catalogue x R qe be h = subst (λ o. IfSome o (λ events. (v : Verdict) → Judges q v → R v events)) (sym be) tt
+of_verdict (Some q) b (Some rest) catalogue x R qe be h =
+    subst (λ o. IfSome o (λ events. (v : Verdict) → Judges q v → R v events)) (sym be)
+    (λ v judged. subst (λ w. R w (x ++ rest)) (one-verdict q (Accepts catalogue) v qe judged) (h rest refl))
 
 -- at the end nothing is left
 at_end : (o : Option (List ℕ)) (rest : List ℕ) → IfSome o (λ r. r ≡ []) → o ≡ Some rest → rest ≡ []

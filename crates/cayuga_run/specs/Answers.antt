@@ -7,8 +7,8 @@ use Rattle.cayuga_run.specs.declared.fault.QueryFault.{QueryFault}
 use Rattle.cayuga_run.specs.declared.refusal.Refusal.TheVariants.{HasFault, IsOutOfOrder}
 use Rattle.cayuga_run.specs.declared.status.Status.{Status}
 use Rattle.cayuga_run.specs.declared.status.Status.TheVariants.{Done, Usage, BadQuery, BadEvent, OutOfOrder, AttachFault, ReadFault, WriteFault, TooMuch, Memory}
-use Rattle.cayuga_run.specs.Judgement.{judge}
-use Rattle.cayuga_run.specs.Expected.{AnswersRefused, expected, IsExpectedOrFault, IsExpectedOrMemory, IsSteady}
+use Rattle.cayuga_run.specs.Judgement.{Verdict, Judges}
+use Rattle.cayuga_run.specs.Expected.{AnswersRefused, IsExpected, IsExpectedOrFault, IsExpectedOrMemory, IsSteady}
 use Rattle.cayuga_run.specs.Outcome.{AreThere, ForJob, IsAttachFault, IsBadQuery, IsDone, IsMemory, IsReadFault, IsRefused, IsTooMuch, IsWriteFault, OfFiles, OfQueries}
 use Rattle.cayuga_run.specs.Words.{Job}
 
@@ -28,8 +28,8 @@ pub record Answers (job : Option Job) (limit : ℕ) (old new : Told) (status : S
   pub write_fault : status ≡ WriteFault → ForJob job (λ j. IsWriteFault j limit old new)
   pub memory : status ≡ Memory → ForJob job (λ j. IsMemory j limit old new)
   -- a refused query text decides the answer whatever the events, unless the queries couldn't be attached or read or there was no memory
-  pub refused : IfSome job (λ j. OfQueries j old (λ queries. AnswersRefused (judge queries) status))
+  pub refused : IfSome job (λ j. OfQueries j old (λ queries. (v : Verdict) → Judges queries v → AnswersRefused v status))
   -- the texts decide the answer, unless the host failed or there was no memory
-  pub determined : IfSome job (λ j. OfFiles j old (λ queries events. IsExpectedOrFault (expected limit queries events) status))
+  pub determined : IfSome job (λ j. OfFiles j old (λ queries events. IsExpectedOrFault (IsExpected limit queries events) status))
   -- where no call of the host failed and both files are there, the texts decide the answer, unless there was no memory
-  pub complete : IfSome job (λ j. IsSteady old new → AreThere j old → OfFiles j old (λ queries events. IsExpectedOrMemory (expected limit queries events) status))
+  pub complete : IfSome job (λ j. IsSteady old new → AreThere j old → OfFiles j old (λ queries events. IsExpectedOrMemory (IsExpected limit queries events) status))

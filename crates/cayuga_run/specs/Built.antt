@@ -1,24 +1,17 @@
 -- Built files: one declaration, and one query that filters its stream by one comparison.
-use Rattle.std.specs.Prelude.{ℕ, ℤ, Bool, true, false, ◌&&◌, nat_lt, if◌then◌else◌, codes, List, [], ◌∷◌, ◌++◌, length, slice_get, Option, Some, None}
+use Rattle.std.specs.Prelude.{ℕ, ℤ, pos, Bool, true, false, ◌&&◌, nat_lt, if◌then◌else◌, codes, List, [], ◌∷◌, ◌++◌, length, slice_get, Option, Some, None}
 use Rattle.std.specs.Option.{is_none, option_map, option_and_then}
 use Rattle.std.specs.Str.{bytes_eq}
 use Rattle.event_types.specs.declared.comparison.Cmp.{Cmp}
-use Rattle.event_types.specs.declared.comparison.Cmp.TheVariants as cmp
 use Rattle.event_types.specs.declared.kind.Kind.{Kind}
 use Rattle.event_types.specs.declared.kind.Kind.TheVariants as kind
 use Rattle.event_types.specs.declared.value.Value.TheVariants as value
-use Rattle.cel_lexer.specs.declared.token.What.{What}
-use Rattle.cel_lexer.specs.declared.token.What.TheVariants as what
+use Rattle.cel_grammar.specs.declared.mark.Mark.TheVariants as mark
+use Rattle.cel_grammar.specs.Trees as tree
 use Rattle.semantics.specs.Scalars.{Pr, Test, Event, Lit}
 use Rattle.scalar_expr.specs.Canonical.{canonical}
 use Rattle.stream_schema.specs.Schema.{Attr, kinds_of, place_of}
 use Rattle.cayuga_run.specs.Catalogue.{Catalogue}
-use Rattle.cayuga_run.specs.Spelled.{Spelled}
-use Rattle.cayuga_run.specs.Spelling.{is_keyword, is_name, is_sign}
-
--- a name that a stream can have: `stream` is that of no stream
-abbrev pub is_stream_name : Spelled → Bool
-is_stream_name word = if bytes_eq word.text (codes "stream") then false else is_name word
 
 -- the catalogue of one declared stream and a query of this name that filters it by this test
 abbrev pub catalogue_with : List ℕ → List Attr → Pr → List ℕ → Catalogue
@@ -26,18 +19,6 @@ catalogue_with stream schema test query = record {
   streams = record { name = stream; schema = schema; declared = true } ∷ [];
   filtering = record { name = query; condition = canonical test };
 }
-
--- the tokens `S PUBLISH Q ;`, where S is the declared stream, and Q isn't S
-abbrev pub is_ending : List ℕ → Spelled → Spelled → Spelled → Spelled → Bool
-is_ending stream source publish query semicolon =
-    is_name source && bytes_eq source.text stream && is_keyword (codes "PUBLISH") publish && is_stream_name query
-    && (if bytes_eq query.text stream then false else is_sign (codes ";") semicolon)
-
--- the catalogue of a file whose last tokens, from behind the test on, are these
-abbrev pub ending_from : List ℕ → List Attr → Pr → List Spelled → Option Catalogue
-ending_from stream schema test (source ∷ publish ∷ query ∷ semicolon ∷ []) =
-    if is_ending stream source publish query semicolon then Some (catalogue_with stream schema test query.text) else None
-ending_from stream schema test other = None
 
 -- the kind INT
 abbrev pub is_int : Option Kind → Bool
@@ -48,84 +29,75 @@ is_int other = false
 abbrev pub int_place : List ℕ → List Attr → Option ℕ
 int_place name schema = option_and_then (λ place. if is_int (slice_get (kinds_of schema) place) then Some place else None) (place_of name schema)
 
--- the comparison that a sign stands for
-abbrev pub comparison_of : Spelled → Option Cmp
-comparison_of word =
-    if is_sign (codes "=") word then Some cmp.Eq
-    else if is_sign (codes "<>") word then Some cmp.Ne
-    else if is_sign (codes "<") word then Some cmp.Lt
-    else if is_sign (codes "<=") word then Some cmp.Le
-    else if is_sign (codes ">") word then Some cmp.Gt
-    else if is_sign (codes ">=") word then Some cmp.Ge
-    else None
+-- the name of an attribute that has no mark
+abbrev pub bare_name : tree.Scalar → Option (List ℕ)
+bare_name (tree.Attr mark.Bare name) = Some name
+bare_name other = None
 
--- the number of a token that is one
-abbrev pub literal_of : What → Option ℤ
-literal_of (what.Number n) = Some n
-literal_of other = None
+-- a number that isn't below 0
+abbrev pub plain_number : tree.Scalar → Option ℤ
+plain_number (tree.Number (pos n)) = Some (pos n)
+plain_number other = None
 
 -- the test of the attribute at a place
 abbrev pub test_with : ℕ → Cmp → ℤ → Pr
 test_with place comparison n = Test (Event place) comparison (Lit (value.Int n))
 
--- the test that the tokens `a op n` write: a is an attribute of kind INT, and n a number
-abbrev pub test_of : List Attr → Spelled → Spelled → Spelled → Option Pr
-test_of schema name sign number =
-    if is_name name
-    then option_and_then (λ place. option_and_then (λ comparison. option_map (test_with place comparison) (literal_of number.what)) (comparison_of sign)) (int_place name.text schema)
-    else None
+-- the test of an attribute of this name by a scalar, where it is one of kind INT and that is a number
+abbrev pub test_by : List Attr → Option (List ℕ) → Cmp → Option ℤ → Option Pr
+test_by schema name comparison number =
+    option_and_then (λ place. option_map (test_with place comparison) number) (option_and_then (λ a. int_place a schema) name)
 
--- the catalogue of a file whose tokens from the test on are these
-abbrev pub test_from : List ℕ → List Attr → List Spelled → Option Catalogue
-test_from stream schema (name ∷ sign ∷ number ∷ close ∷ rest) =
-    if is_sign (codes "}") close then option_and_then (λ test. ending_from stream schema test rest) (test_of schema name sign number) else None
-test_from stream schema other = None
+-- the test `a op n`: a is an attribute of kind INT, and n a number that isn't below 0
+abbrev pub test_of : List Attr → tree.Pred → Option Pr
+test_of schema (tree.Test left comparison right) = test_by schema (bare_name left) comparison (plain_number right)
+test_of schema other = None
 
--- the tokens `; SELECT * FROM FILTER {`
-abbrev pub is_opening : Spelled → Spelled → Spelled → Spelled → Spelled → Spelled → Bool
-is_opening semicolon select star from filter brace =
-    is_sign (codes ";") semicolon && is_keyword (codes "SELECT") select && is_sign (codes "*") star
-    && is_keyword (codes "FROM") from && is_keyword (codes "FILTER") filter && is_sign (codes "{") brace
+-- the source is the stream of this name
+abbrev pub is_stream : List ℕ → tree.Source → Bool
+is_stream stream (tree.Name name) = bytes_eq name stream
+is_stream stream other = false
 
--- the catalogue of a file whose tokens behind the attributes are these
-abbrev pub query_from : List ℕ → List Attr → List Spelled → Option Catalogue
-query_from stream schema (semicolon ∷ select ∷ star ∷ from ∷ filter ∷ brace ∷ rest) =
-    if is_opening semicolon select star from filter brace then test_from stream schema rest else None
+-- the test of a source that filters the stream of this name, as `FILTER {a op n} S`
+abbrev pub filter_of : List ℕ → List Attr → tree.Source → Option Pr
+filter_of stream schema (tree.Filter condition source) = if is_stream stream source then test_of schema condition else None
+filter_of stream schema other = None
+
+-- the items are `*`
+abbrev pub is_star : List tree.Item → Bool
+is_star (tree.All ∷ []) = true
+is_star other = false
+
+-- `stream` is the name of no stream
+abbrev pub is_stream_name : List ℕ → Bool
+is_stream_name name = if bytes_eq name (codes "stream") then false else true
+
+-- a name that a query of this stream can have
+abbrev pub is_query_name : List ℕ → List ℕ → Bool
+is_query_name stream name = is_stream_name name && (if bytes_eq name stream then false else true)
+
+-- the catalogue of a declared stream and a query that filters it
+abbrev pub query_from : List ℕ → List Attr → tree.Statement → Option Catalogue
+query_from stream schema (tree.Query items source name) =
+    if is_star items && is_query_name stream name then option_map (λ test. catalogue_with stream schema test name) (filter_of stream schema source) else None
 query_from stream schema other = None
 
--- the kind that a keyword stands for
-abbrev pub kind_of : Spelled → Option Kind
-kind_of word =
-    if is_keyword (codes "INT") word then Some kind.Int
-    else if is_keyword (codes "TEXT") word then Some kind.Text
-    else None
-
 -- a name that one more attribute can have: no other has it, and there are at most 256
-abbrev pub is_free : List Attr → Spelled → Bool
-is_free schema name = is_name name && is_none (place_of name.text schema) && nat_lt (length schema) 256
+abbrev pub is_free : List Attr → List ℕ → Bool
+is_free schema name = is_none (place_of name schema) && nat_lt (length schema) 256
 
--- the schema with one more attribute, which the tokens `a INT` or `a TEXT` declare
-abbrev pub with_attribute : List Attr → Spelled → Spelled → Option (List Attr)
-with_attribute schema name kind =
-    if is_free schema name then option_map (λ k. schema ++ record { name = name.text; kind = k } ∷ []) (kind_of kind) else None
+-- the schema of these attributes and then those of a declaration
+abbrev pub schema_from : List Attr → List tree.Column → Option (List Attr)
+schema_from schema [] = Some schema
+schema_from schema (tree.Col name kind ∷ columns) = if is_free schema name then schema_from (schema ++ record { name = name; kind = kind } ∷ []) columns else None
 
--- the catalogue of a file whose tokens behind these attributes are these: one attribute more, and `,` or `)`
-abbrev pub attributes_from : List ℕ → List Attr → List Spelled → Option Catalogue
-attributes_from stream schema (name ∷ kind ∷ sign ∷ rest) =
-    option_and_then
-    (λ longer.
-    if is_sign (codes ")") sign then query_from stream longer rest
-    else if is_sign (codes ",") sign then attributes_from stream longer rest
-    else None)
-    (with_attribute schema name kind)
-attributes_from stream schema other = None
+-- the catalogue of a declaration and a query
+abbrev pub built_from : tree.Statement → tree.Statement → Option Catalogue
+built_from (tree.Stream stream columns) query =
+    if is_stream_name stream then option_and_then (λ schema. query_from stream schema query) (schema_from [] columns) else None
+built_from other query = None
 
--- the tokens `STREAM S (`
-abbrev pub is_beginning : Spelled → Spelled → Spelled → Bool
-is_beginning word stream parenthesis = is_keyword (codes "STREAM") word && is_stream_name stream && is_sign (codes "(") parenthesis
-
--- the catalogue of the built file that has these tokens, if one has them
-abbrev pub built_of : List Spelled → Option Catalogue
-built_of (word ∷ stream ∷ parenthesis ∷ rest) =
-    if is_beginning word stream parenthesis then attributes_from stream.text [] rest else None
+-- the catalogue of the built file that has these statements, if one has them
+abbrev pub built_of : List tree.Statement → Option Catalogue
+built_of (declaration ∷ query ∷ []) = built_from declaration query
 built_of other = None

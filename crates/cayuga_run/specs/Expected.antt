@@ -6,7 +6,7 @@ use Rattle.cayuga_run.specs.declared.refusal.Refusal.{Refusal}
 use Rattle.cayuga_run.specs.declared.refusal.Refusal.TheVariants.{HasFault, IsOutOfOrder}
 use Rattle.cayuga_run.specs.declared.status.Status.{Status}
 use Rattle.cayuga_run.specs.declared.status.Status.TheVariants.{Done, BadQuery, BadEvent, OutOfOrder, AttachFault, ReadFault, WriteFault, TooMuch, Memory}
-use Rattle.cayuga_run.specs.Judgement.{Verdict, Accepts, Refuses, judge}
+use Rattle.cayuga_run.specs.Judgement.{Verdict, Accepts, Refuses, Judges}
 use Rattle.cayuga_run.specs.Outcome.{is_whole}
 use Rattle.cayuga_run.specs.Reports.{refused_in}
 
@@ -22,22 +22,28 @@ abbrev pub expected_of : Verdict → ℕ → List ℕ → Status
 expected_of (Refuses line why) limit events = BadQuery line why
 expected_of (Accepts catalogue) limit events = expected_after limit (refused_in catalogue (take limit events) (is_whole limit events)) (is_whole limit events)
 
--- the status that these texts ask for
-abbrev pub expected : ℕ → List ℕ → List ℕ → Status
-expected limit queries events = expected_of (judge queries) limit events
+-- these texts ask for the status
+pub record IsExpected (limit : ℕ) (queries events : List ℕ) (status : Status) : Type 0 where
+  pub verdict : Verdict
+  pub judged : Judges queries verdict
+  pub value : status ≡ expected_of verdict limit events
 
--- the status is that one, unless the host failed or there was no memory
-abbrev pub IsExpectedOrFault : Status → Status → Type 0
-IsExpectedOrFault want (AttachFault side) = ⊤
-IsExpectedOrFault want (ReadFault side) = ⊤
-IsExpectedOrFault want WriteFault = ⊤
-IsExpectedOrFault want Memory = ⊤
-IsExpectedOrFault want status = status ≡ want
+-- they ask for at most one
+abbrev pub OneStatus : Type 0
+OneStatus = (limit : ℕ) (queries events : List ℕ) (status other : Status) → IsExpected limit queries events status → IsExpected limit queries events other → status ≡ other
 
--- the status is that one, unless there was no memory
-abbrev pub IsExpectedOrMemory : Status → Status → Type 0
-IsExpectedOrMemory want Memory = ⊤
-IsExpectedOrMemory want status = status ≡ want
+-- the status is the one that is asked for, unless the host failed or there was no memory
+abbrev pub IsExpectedOrFault : (Status → Type 0) → Status → Type 0
+IsExpectedOrFault IsAsked (AttachFault side) = ⊤
+IsExpectedOrFault IsAsked (ReadFault side) = ⊤
+IsExpectedOrFault IsAsked WriteFault = ⊤
+IsExpectedOrFault IsAsked Memory = ⊤
+IsExpectedOrFault IsAsked status = IsAsked status
+
+-- the status is the one that is asked for, unless there was no memory
+abbrev pub IsExpectedOrMemory : (Status → Type 0) → Status → Type 0
+IsExpectedOrMemory IsAsked Memory = ⊤
+IsExpectedOrMemory IsAsked status = IsAsked status
 
 -- a refused query text is the answer, unless the queries couldn't be attached or read or there was no memory
 abbrev pub AnswersRefused : Verdict → Status → Type 0

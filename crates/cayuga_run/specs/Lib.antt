@@ -1,6 +1,5 @@
 pub mod Answers
 pub mod Built
-pub mod BuiltFiles
 pub mod Catalogue
 pub mod Expected
 pub mod Filtering
@@ -15,8 +14,6 @@ pub mod QueryFailing
 pub mod Readings
 pub mod Refusing
 pub mod Reports
-pub mod Spelled
-pub mod Spelling
 pub mod Suits
 pub mod Taking
 pub mod Words

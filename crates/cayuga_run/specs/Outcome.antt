@@ -12,8 +12,7 @@ use Rattle.cayuga_run.specs.declared.refusal.Refusal.{Refusal}
 use Rattle.cayuga_run.specs.declared.refusal.Refusal.TheVariants.{HasFault, IsOutOfOrder}
 use Rattle.cayuga_run.specs.declared.status.Status.{Status}
 use Rattle.cayuga_run.specs.declared.status.Status.TheVariants.{Done, Usage, BadQuery, BadEvent, OutOfOrder, AttachFault, ReadFault, WriteFault, TooMuch, Memory}
-use Rattle.cayuga_run.specs.Catalogue.{Catalogue}
-use Rattle.cayuga_run.specs.Judgement.{Verdict, Accepts, Refuses, judge}
+use Rattle.cayuga_run.specs.Judgement.{Verdict, Accepts, Refuses, IsAccepted, Judges}
 use Rattle.cayuga_run.specs.Owing.{WroteFront}
 use Rattle.cayuga_run.specs.Reports.{refused_in, report_of_closed, report_of_heard}
 use Rattle.cayuga_run.specs.Words.{Job, name_of}
@@ -25,11 +24,6 @@ OfQueries job old P = IfSome (file_of job.queries old.files) P
 -- where the host tells both files
 abbrev pub OfFiles : Job → Told → (List ℕ → List ℕ → Type 0) → Type 0
 OfFiles job old P = IfSome (file_of job.queries old.files) (λ queries. IfSome (file_of job.events old.files) (λ events. P queries events))
-
--- the query text is accepted, and this holds of what it stands for
-abbrev pub IsAccepted : Verdict → (Catalogue → Type 0) → Type 0
-IsAccepted (Accepts catalogue) P = P catalogue
-IsAccepted (Refuses line why) P = ⊥
 
 -- the event text has at most so many bytes
 abbrev pub is_whole : ℕ → List ℕ → Bool
@@ -43,26 +37,26 @@ pub record AreThere (job : Job) (old : Told) : Type 0 where
 -- all events were heard, none was refused, and their report was written
 pub record IsDone (job : Job) (limit : ℕ) (old new : Told) : Type 0 where
   pub there : AreThere job old
-  pub text : OfFiles job old (λ queries events. IsAccepted (judge queries) (λ catalogue.
+  pub text : OfFiles job old (λ queries events. IsAccepted queries (λ catalogue.
       (length events ≤ limit) × (refused_in catalogue events true ≡ None) × Wrote (report_of_heard catalogue events true) old new))
   pub ended : IfSome (new.left Events) (λ rest. rest ≡ [])
 
 -- the query text is refused at that line for that reason, and nothing was written
 pub record IsBadQuery (line : ℕ) (why : QueryFault) (job : Job) (old new : Told) : Type 0 where
   pub there : lacks job.queries old.files ≡ false
-  pub refused : OfQueries job old (λ queries. judge queries ≡ Refuses line why)
+  pub refused : OfQueries job old (λ queries. Judges queries (Refuses line why))
   pub silent : KeepsOutput old new
 
 -- that line of the event text, cut at the limit, is refused, and the report of the epochs closed before it was written
 pub record IsRefused (refusal : Refusal) (job : Job) (limit : ℕ) (old new : Told) : Type 0 where
   pub there : AreThere job old
-  pub text : OfFiles job old (λ queries events. IsAccepted (judge queries) (λ catalogue.
+  pub text : OfFiles job old (λ queries events. IsAccepted queries (λ catalogue.
       (refused_in catalogue (take limit events) (is_whole limit events) ≡ Some refusal) × Wrote (report_of_closed catalogue (take limit events) (is_whole limit events)) old new))
 
 -- there are more events than the limit, none up to it is refused, and the report of the epochs closed by then was written
 pub record IsTooMuch (job : Job) (limit : ℕ) (old new : Told) : Type 0 where
   pub there : AreThere job old
-  pub text : OfFiles job old (λ queries events. IsAccepted (judge queries) (λ catalogue.
+  pub text : OfFiles job old (λ queries events. IsAccepted queries (λ catalogue.
       (limit < length events) × (refused_in catalogue (take limit events) false ≡ None) × Wrote (report_of_closed catalogue (take limit events) false) old new))
 
 -- the side isn't attached, the one before it is, and the one after it isn't
@@ -72,7 +66,7 @@ StoppedAt Events new = (new.attached Queries ≡ true) × (new.attached Events �
 
 -- the query text is there, and is accepted
 abbrev pub QueriesAccepted : Job → Told → Type 0
-QueriesAccepted job old = (lacks job.queries old.files ≡ false) × OfQueries job old (λ queries. IsAccepted (judge queries) (λ catalogue. Unit {0}))
+QueriesAccepted job old = (lacks job.queries old.files ≡ false) × OfQueries job old (λ queries. IsAccepted queries (λ catalogue. Unit {0}))
 
 -- the side couldn't be attached: the count of attach faults rose, or the host tells that it has no such file
 pub record IsAttachFault (side : Side) (job : Job) (old new : Told) : Type 0 where
@@ -90,7 +84,7 @@ pub record StoppedInQueries (job : Job) (old new : Told) : Type 0 where
 -- a read of the events failed: no line of the bytes that were taken is refused, and the report of the epochs that they close was written
 pub record StoppedInEvents (job : Job) (limit : ℕ) (old new : Told) : Type 0 where
   pub there : AreThere job old
-  pub text : OfFiles job old (λ queries events. IsAccepted (judge queries) (λ catalogue. (taken : List ℕ)
+  pub text : OfFiles job old (λ queries events. IsAccepted queries (λ catalogue. (taken : List ℕ)
       × (Some events ≡ prepend_known taken (new.left Events)) × (length taken ≤ limit) × (refused_in catalogue taken false ≡ None) × Wrote (report_of_closed catalogue taken false) old new))
 
 -- the count of read faults rose, and the side whose read failed is attached
@@ -104,7 +98,7 @@ pub record IsReadFault (side : Side) (job : Job) (limit : ℕ) (old new : Told) 
 pub record IsWriteFault (job : Job) (limit : ℕ) (old new : Told) : Type 0 where
   pub cause : Rose old.write_faults new.write_faults
   pub there : AreThere job old
-  pub text : OfFiles job old (λ queries events. IsAccepted (judge queries) (λ catalogue. WrotePart (report_of_closed catalogue (take limit events) (is_whole limit events)) old new))
+  pub text : OfFiles job old (λ queries events. IsAccepted queries (λ catalogue. WrotePart (report_of_closed catalogue (take limit events) (is_whole limit events)) old new))
 
 -- what was written before memory was wanting: a front of the report of the closed epochs, and nothing where the query text is refused
 abbrev pub MemoryText : Verdict → ℕ → List ℕ → Told → Told → Type 0
@@ -113,7 +107,7 @@ MemoryText (Refuses line why) limit events old new = KeepsOutput old new
 
 -- there was no memory; nothing was written where a file of the job is absent or the query text is refused
 pub record IsMemory (job : Job) (limit : ℕ) (old new : Told) : Type 0 where
-  pub text : OfFiles job old (λ queries events. MemoryText (judge queries) limit events old new)
+  pub text : OfFiles job old (λ queries events. (v : Verdict) → Judges queries v → MemoryText v limit events old new)
   pub no_queries : lacks job.queries old.files ≡ true → KeepsOutput old new
   pub no_events : lacks job.events old.files ≡ true → KeepsOutput old new
 

@@ -1,21 +1,21 @@
 -- Why the queries weren't accepted. No public clause cites this module.
-use Rattle.std.specs.Prelude.{◌≡◌, ⊤, IfSome}
+use Rattle.std.specs.Prelude.{◌≡◌, ⊤, ℕ, List, IfSome}
 use Rattle.cay_host.specs.declared.side.Side.TheVariants.{Queries}
 use Rattle.cay_host.specs.Faults.{Rose}
 use Rattle.cay_host.specs.Told.{Told}
 use Rattle.cayuga_run.specs.declared.status.Status.{Status}
 use Rattle.cayuga_run.specs.declared.status.Status.TheVariants.{BadQuery, ReadFault, Memory}
-use Rattle.cayuga_run.specs.Judgement.{Verdict, Refuses, judge}
+use Rattle.cayuga_run.specs.Judgement.{Judges, Refuses}
 
--- a text with this verdict is refused, or there was no memory
-abbrev pub TextFails : Verdict → Status → Type 0
-TextFails verdict (BadQuery line why) = verdict ≡ Refuses line why
-TextFails verdict Memory = ⊤
-TextFails verdict other = ⊥
+-- the text is refused, or there was no memory
+abbrev pub TextFails : List ℕ → Status → Type 0
+TextFails text (BadQuery line why) = Judges text (Refuses line why)
+TextFails text Memory = ⊤
+TextFails text other = ⊥
 
 -- the queries are refused, or couldn't be read, or there was no memory
 abbrev pub QueriesFail : Told → Told → Status → Type 0
-QueriesFail before after (BadQuery line why) = IfSome (before.left Queries) (λ text. judge text ≡ Refuses line why)
+QueriesFail before after (BadQuery line why) = IfSome (before.left Queries) (λ text. Judges text (Refuses line why))
 QueriesFail before after (ReadFault side) = (side ≡ Queries) × Rose before.read_faults after.read_faults
 QueriesFail before after Memory = ⊤
 QueriesFail before after other = ⊥

@@ -1,219 +1,210 @@
-//! Built files, read from their tokens.
-ghost use Rattle.std.specs.Prelude.{◌≡◌, ◌<◌, [], length, IfOk, IfSome, Some, None};
+//! Built files, from their statements.
+ghost use Rattle.std.specs.Prelude.{◌≡◌, ◌<◌, [], length, map, IfOk, IfSome, None};
 ghost use Rattle.std.specs.Option.{option_map};
 ghost use Rattle.event_types.specs.Tuple.{Row};
 ghost use Rattle.scalar_expr.specs.Canonical.{canonical};
 ghost use Rattle.scalar_expr.specs.Fits.{AllFit};
 ghost use Rattle.scalar_expr.specs.Views.{pr_of};
-ghost use Rattle.cayuga_run.specs.Built.{attributes_from, built_of, catalogue_with, comparison_of, ending_from, int_place, is_beginning, is_ending, is_free, is_opening, is_stream_name, kind_of, literal_of, query_from, test_from, test_of, with_attribute};
-ghost use Rattle.cayuga_run.specs.BuiltFiles.{AcceptedAreBuilt, BuiltAreAccepted};
+ghost use Rattle.cel_grammar.specs.Trees as tree;
+ghost use Rattle.cel_grammar.specs.Views.{column_of, item_of, pred_of, scalar_of, source_of, statement_of};
+ghost use Rattle.cayuga_run.specs.Built.{bare_name, built_from, built_of, catalogue_with, filter_of, int_place, is_free, is_query_name, is_star, is_stream, is_stream_name, plain_number, query_from, schema_from, test_by, test_of};
 ghost use Rattle.cayuga_run.specs.Catalogue.{catalogue_of};
 ghost use Rattle.cayuga_run.specs.Suits.{Suits};
 
 use crate::filter::Filter;
-use crate::spelling::SpelledToken;
-use cel_lexer::What;
+use cel_parser::{Attr, File, Item, Mark, Raw, RawPred, Source, Statement};
 use event_types::{Cmp, Kind, Memory, Text, Value};
 use scalar_expr::{Pred, Scalar, normal};
 use std::alloc::Global;
 use stream_schema::{Schema, Streams};
 
-/// The filter of the built file that has these tokens, as
+/// The filter of the built file that has these statements, as
 /// `STREAM Stock (Name TEXT, Price INT); SELECT * FROM FILTER {Price > 100} Stock PUBLISH Big;`.
-pub fn read_built(alloc: Global, words: &[SpelledToken<'_>]) -> Result<Option<Filter>, Memory>
-    ensures value { IfOk result (λ o. option_map catalogue_of o ≡ built_of words.now) }
+pub fn read_built(alloc: Global, file: &File) -> Result<Option<Filter>, Memory>
+    ensures value { IfOk result (λ o. option_map catalogue_of o ≡ built_of (map statement_of file.now.statements)) }
     ensures suits { IfOk result (λ o. IfSome o Suits) }
 {
-    match words {
-        [word, stream, parenthesis, rest @ ..] => {
-            if is_beginning(word, stream, parenthesis) {
-                read_attributes(alloc, stream.text(), rest)
-            } else {
-                Ok(None)
-            }
-        }
-        _ => Ok(None),
+    if file.size() == 2 {
+        read_pair(alloc, file.statement(0), file.statement(1))
+    } else {
+        Ok(None)
     }
 }
 
-// Whether the tokens are `STREAM S (`.
-fn is_beginning(
-    word: &SpelledToken<'_>,
-    stream: &SpelledToken<'_>,
-    parenthesis: &SpelledToken<'_>,
-) -> bool
-    ensures { result ≡ is_beginning word.now stream.now parenthesis.now }
+// The filter of a declaration and a query.
+fn read_pair(
+    alloc: Global,
+    declaration: &Statement,
+    query: &Statement,
+) -> Result<Option<Filter>, Memory>
+    ensures value { IfOk result (λ o. option_map catalogue_of o ≡ built_from (statement_of declaration.now) (statement_of query.now)) }
+    ensures suits { IfOk result (λ o. IfSome o Suits) }
 {
-    word.is_keyword("STREAM") && is_stream_name(stream) && parenthesis.is_sign("(")
+    match declaration {
+        Statement::Stream { name, attrs } => {
+            read_declared(alloc, name.as_str(), attrs.as_slice(), query)
+        }
+        Statement::Query { .. } => Ok(None),
+    }
+}
+
+// The filter of a declaration with these attributes and a query.
+fn read_declared(
+    alloc: Global,
+    stream: &str,
+    attrs: &[Attr],
+    query: &Statement,
+) -> Result<Option<Filter>, Memory>
+    ensures value { IfOk result (λ o. option_map catalogue_of o ≡ built_from (tree.Stream stream.now (map column_of attrs.now)) (statement_of query.now)) }
+    ensures suits { IfOk result (λ o. IfSome o Suits) }
+{
+    if !is_stream_name(stream) {
+        return Ok(None);
+    }
+    match schema_of(alloc, attrs) {
+        Ok(Some(schema)) => read_query(alloc, stream, schema, query),
+        Ok(None) => Ok(None),
+        Err(memory) => Err(memory),
+    }
 }
 
 // Whether a stream can have the name.
-fn is_stream_name(word: &SpelledToken<'_>) -> bool
-    ensures { result ≡ is_stream_name word.now }
+fn is_stream_name(name: &str) -> bool
+    ensures { result ≡ is_stream_name name.now }
 {
-    word.text() != "stream" && word.is_name()
+    name != "stream"
 }
 
-// Reads from the first attribute on.
-fn read_attributes(
-    alloc: Global,
-    stream: &str,
-    words: &[SpelledToken<'_>],
-) -> Result<Option<Filter>, Memory>
-    ensures value { IfOk result (λ o. option_map catalogue_of o ≡ attributes_from stream.now [] words.now) }
-    ensures suits { IfOk result (λ o. IfSome o Suits) }
+// The schema of a declaration with these attributes.
+fn schema_of(alloc: Global, attrs: &[Attr]) -> Result<Option<Schema>, Memory>
+    ensures { IfOk result (λ o. o ≡ schema_from [] (map column_of attrs.now)) }
 {
     let mut schema = Schema::new(alloc);
-    let mut words = words;
-    'attributes: while let [name, kind, sign, rest @ ..] = words {
-        match with_attribute(schema, name, kind) {
-            Err(memory) => return Err(memory),
-            Ok(None) => return Ok(None),
-            Ok(Some(longer)) => {
-                if sign.is_sign(")") {
-                    return read_query(alloc, stream, longer, rest);
-                }
-                if !sign.is_sign(",") {
-                    return Ok(None);
-                }
-                schema = longer;
-                words = rest;
-            }
+    for attr in attrs {
+        if !is_free(&schema, attr.name.as_str()) {
+            return Ok(None);
+        }
+        if schema.add(attr.name.as_str(), attr.kind).is_err() {
+            return Err(Memory);
         }
     }
-    Ok(None)
-}
-
-// The schema with one more attribute.
-fn with_attribute(
-    schema: Schema,
-    name: &SpelledToken<'_>,
-    kind: &SpelledToken<'_>,
-) -> Result<Option<Schema>, Memory>
-    ensures { IfOk result (λ o. o ≡ with_attribute schema name.now kind.now) }
-{
-    if !is_free(&schema, name) {
-        return Ok(None);
-    }
-    match kind_of(kind) {
-        None => Ok(None),
-        Some(kind) => {
-            let mut schema = schema;
-            match schema.add(name.text(), kind) {
-                Ok(()) => Ok(Some(schema)),
-                Err(_) => Err(Memory),
-            }
-        }
-    }
+    Ok(Some(schema))
 }
 
 // Whether one more attribute can have the name.
-fn is_free(schema: &Schema, name: &SpelledToken<'_>) -> bool
+fn is_free(schema: &Schema, name: &str) -> bool
     ensures { result ≡ is_free schema.now name.now }
 {
-    name.is_name() && schema.find(name.text()).is_none() && schema.size() < Schema::MOST
+    schema.find(name).is_none() && schema.size() < Schema::MOST
 }
 
-// The kind that a keyword stands for.
-fn kind_of(word: &SpelledToken<'_>) -> Option<Kind>
-    ensures { result ≡ kind_of word.now }
-{
-    if word.is_keyword("INT") {
-        Some(Kind::Int)
-    } else if word.is_keyword("TEXT") {
-        Some(Kind::Text)
-    } else {
-        None
-    }
-}
-
-// Reads from behind the attributes on.
+// The filter of a declared stream and a query.
 fn read_query(
     alloc: Global,
     stream: &str,
     schema: Schema,
-    words: &[SpelledToken<'_>],
+    query: &Statement,
 ) -> Result<Option<Filter>, Memory>
-    ensures value { IfOk result (λ o. option_map catalogue_of o ≡ query_from stream.now schema words.now) }
+    ensures value { IfOk result (λ o. option_map catalogue_of o ≡ query_from stream.now schema (statement_of query.now)) }
     ensures suits { IfOk result (λ o. IfSome o Suits) }
 {
-    match words {
-        [semicolon, select, star, from, filter, brace, rest @ ..] => {
-            if is_opening(semicolon, select, star, from, filter, brace) {
-                read_test(alloc, stream, schema, rest)
-            } else {
-                Ok(None)
-            }
-        }
-        _ => Ok(None),
-    }
-}
-
-// Whether the tokens are `; SELECT * FROM FILTER {`.
-fn is_opening(
-    semicolon: &SpelledToken<'_>,
-    select: &SpelledToken<'_>,
-    star: &SpelledToken<'_>,
-    from: &SpelledToken<'_>,
-    filter: &SpelledToken<'_>,
-    brace: &SpelledToken<'_>,
-) -> bool
-    ensures { result ≡ is_opening semicolon.now select.now star.now from.now filter.now brace.now }
-{
-    semicolon.is_sign(";")
-        && select.is_keyword("SELECT")
-        && star.is_sign("*")
-        && from.is_keyword("FROM")
-        && filter.is_keyword("FILTER")
-        && brace.is_sign("{")
-}
-
-// Reads from the test on.
-fn read_test(
-    alloc: Global,
-    stream: &str,
-    schema: Schema,
-    words: &[SpelledToken<'_>],
-) -> Result<Option<Filter>, Memory>
-    ensures value { IfOk result (λ o. option_map catalogue_of o ≡ test_from stream.now schema words.now) }
-    ensures suits { IfOk result (λ o. IfSome o Suits) }
-{
-    match words {
-        [name, sign, number, close, rest @ ..] => {
-            if !close.is_sign("}") {
+    match query {
+        Statement::Stream { .. } => Ok(None),
+        Statement::Query {
+            items,
+            source,
+            name,
+        } => {
+            if !(is_star(items.as_slice()) && is_query_name(stream, name.as_str())) {
                 return Ok(None);
             }
-            match test_of(&schema, name, sign, number) {
-                Some(test) => read_ending(alloc, stream, schema, test, rest),
+            match filter_of(stream, &schema, source) {
                 None => Ok(None),
+                Some(test) => match filter_with(alloc, stream, schema, test, name.as_str()) {
+                    Ok(filter) => Ok(Some(filter)),
+                    Err(memory) => Err(memory),
+                },
             }
         }
-        _ => Ok(None),
     }
 }
 
-// The test that three tokens write.
-fn test_of(
-    schema: &Schema,
-    name: &SpelledToken<'_>,
-    sign: &SpelledToken<'_>,
-    number: &SpelledToken<'_>,
-) -> Option<Pred>
-    ensures value { option_map pr_of result ≡ test_of schema.now name.now sign.now number.now }
+// Whether the items are `*`.
+fn is_star(items: &[Item]) -> bool
+    ensures { result ≡ is_star (map item_of items.now) }
+{
+    matches!(items, [Item::Star])
+}
+
+// Whether a query of the stream can have the name.
+fn is_query_name(stream: &str, name: &str) -> bool
+    ensures { result ≡ is_query_name stream.now name.now }
+{
+    is_stream_name(name) && name != stream
+}
+
+// The test of a source that filters the stream.
+fn filter_of(stream: &str, schema: &Schema, source: &Source) -> Option<Pred>
+    ensures value { option_map pr_of result ≡ filter_of stream.now schema.now (source_of source.now) }
     ensures fits { IfSome result (λ test. (tuple : Row) → length tuple.vals ≡ length schema.now → AllFit (canonical (pr_of test)) tuple None) }
 {
-    if !name.is_name() {
-        return None;
+    match source {
+        Source::Filter(condition, inner) => {
+            if is_stream(stream, inner) {
+                test_of(schema, condition)
+            } else {
+                None
+            }
+        }
+        _ => None,
     }
-    match int_place(schema, name.text()) {
+}
+
+// Whether the source is the stream.
+fn is_stream(stream: &str, source: &Source) -> bool
+    ensures { result ≡ is_stream stream.now (source_of source.now) }
+{
+    match source {
+        Source::Name(name) => name.as_str() == stream,
+        _ => false,
+    }
+}
+
+// The test that a predicate is.
+fn test_of(schema: &Schema, condition: &RawPred) -> Option<Pred>
+    ensures value { option_map pr_of result ≡ test_of schema.now (pred_of condition.now) }
+    ensures fits { IfSome result (λ test. (tuple : Row) → length tuple.vals ≡ length schema.now → AllFit (canonical (pr_of test)) tuple None) }
+{
+    match condition {
+        RawPred::Test(left, cmp, right) => test_by(schema, left, *cmp, right),
+        _ => None,
+    }
+}
+
+// The test of an attribute of kind INT by a number.
+fn test_by(schema: &Schema, left: &Raw, cmp: Cmp, right: &Raw) -> Option<Pred>
+    ensures value { option_map pr_of result ≡ test_by schema.now (bare_name (scalar_of left.now)) cmp (plain_number (scalar_of right.now)) }
+    ensures fits { IfSome result (λ test. (tuple : Row) → length tuple.vals ≡ length schema.now → AllFit (canonical (pr_of test)) tuple None) }
+{
+    match bare_name(left) {
         None => None,
-        Some(place) => match comparison_of(sign) {
+        Some(name) => match int_place(schema, name) {
             None => None,
-            Some(cmp) => match literal_of(number.what()) {
+            Some(place) => match plain_number(right) {
                 None => None,
                 Some(n) => Some(Pred::Test(Scalar::Event(place), cmp, Scalar::Lit(Value::Int(n)))),
             },
         },
+    }
+}
+
+// The name of an attribute that has no mark.
+fn bare_name(scalar: &Raw) -> Option<&str>
+    ensures { option_map (λ name. name.now) result ≡ bare_name (scalar_of scalar.now) }
+{
+    match scalar {
+        Raw::Attr(Mark::Bare, name) => Some(name.as_str()),
+        _ => None,
     }
 }
 
@@ -231,79 +222,14 @@ fn int_place(schema: &Schema, name: &str) -> Option<usize>
     }
 }
 
-// The comparison that a sign stands for.
-fn comparison_of(word: &SpelledToken<'_>) -> Option<Cmp>
-    ensures { result ≡ comparison_of word.now }
+// A number that isn't below 0.
+fn plain_number(scalar: &Raw) -> Option<i128>
+    ensures { result ≡ plain_number (scalar_of scalar.now) }
 {
-    if word.is_sign("=") {
-        Some(Cmp::Eq)
-    } else if word.is_sign("<>") {
-        Some(Cmp::Ne)
-    } else if word.is_sign("<") {
-        Some(Cmp::Lt)
-    } else if word.is_sign("<=") {
-        Some(Cmp::Le)
-    } else if word.is_sign(">") {
-        Some(Cmp::Gt)
-    } else if word.is_sign(">=") {
-        Some(Cmp::Ge)
-    } else {
-        None
-    }
-}
-
-// The number of a token that is one.
-fn literal_of(what: What) -> Option<i128>
-    ensures { result ≡ literal_of what }
-{
-    match what {
-        What::Number(n) => Some(n),
+    match scalar {
+        Raw::Number(n) => { if *n < 0 { None } else { Some(*n) } }
         _ => None,
     }
-}
-
-// Reads from behind the test on.
-fn read_ending(
-    alloc: Global,
-    stream: &str,
-    schema: Schema,
-    test: Pred,
-    words: &[SpelledToken<'_>],
-) -> Result<Option<Filter>, Memory>
-    requires { (tuple : Row) → length tuple.vals ≡ length schema → AllFit (canonical (pr_of test)) tuple None }
-    ensures value { IfOk result (λ o. option_map catalogue_of o ≡ ending_from stream.now schema (pr_of test) words.now) }
-    ensures suits { IfOk result (λ o. IfSome o Suits) }
-{
-    match words {
-        [source, publish, query, semicolon] => {
-            if !is_ending(stream, source, publish, query, semicolon) {
-                return Ok(None);
-            }
-            match filter_with(alloc, stream, schema, test, query.text()) {
-                Ok(filter) => Ok(Some(filter)),
-                Err(memory) => Err(memory),
-            }
-        }
-        _ => Ok(None),
-    }
-}
-
-// Whether the tokens are `S PUBLISH Q ;`.
-fn is_ending(
-    stream: &str,
-    source: &SpelledToken<'_>,
-    publish: &SpelledToken<'_>,
-    query: &SpelledToken<'_>,
-    semicolon: &SpelledToken<'_>,
-) -> bool
-    ensures { result ≡ is_ending stream.now source.now publish.now query.now semicolon.now }
-{
-    source.is_name()
-        && source.text() == stream
-        && publish.is_keyword("PUBLISH")
-        && is_stream_name(query)
-        && query.text() != stream
-        && semicolon.is_sign(";")
 }
 
 // The filter of one declared stream by a test.
@@ -328,10 +254,3 @@ fn filter_with(
         condition,
     })
 }
-
-/// Whatever is accepted has exactly the tokens of a built file and stands for what they say, and every
-/// built file is accepted.
-pub fn built_files_are_read()
-    ensures accepted_are_built { AcceptedAreBuilt }
-    ensures built_are_accepted { BuiltAreAccepted }
-{}

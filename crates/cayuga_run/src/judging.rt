@@ -1,17 +1,18 @@
 //! The judgement of a query text.
-ghost use Rattle.std.specs.Prelude.{◌≡◌, ◌≢◌, ◌+◌, ◌≤◌, length, take, List, ℕ, Ok, Err, IfOk, IfErr};
+ghost use Rattle.std.specs.Prelude.{◌≡◌, ◌≢◌, ◌+◌, ◌≤◌, length, take, List, ℕ, Err, IfOk, IfErr};
 ghost use Rattle.cay_host.specs.Output.{count_lf};
-ghost use Rattle.cel_lexer.specs.Tokens.{Lexed};
+ghost use Rattle.cel_lexer.specs.Faults.{tokens_of};
+ghost use Rattle.cel_parser.specs.Faults.{IsRefused};
 ghost use Rattle.cayuga_run.specs.Catalogue.{catalogue_of};
-ghost use Rattle.cayuga_run.specs.Judgement.{Accepts, judge, text_limit, verdict_by};
+ghost use Rattle.cayuga_run.specs.Judgement.{Accepts, Judges, text_limit};
 ghost use Rattle.cayuga_run.specs.Refusing.{Tells};
 ghost use Rattle.cayuga_run.specs.Suits.{Suits};
 
 use crate::built::read_built;
 use crate::fault::QueryFault;
 use crate::filter::Filter;
-use crate::spelling::spell;
 use cel_lexer::{LexFault, Tokens, lex};
+use cel_parser::{SyntaxFault, parse};
 use std::alloc::Global;
 
 /// Why a query text isn't accepted.
@@ -28,8 +29,8 @@ const MOST: usize = 1048576;
 
 /// Judges a query text.
 pub fn judge(alloc: Global, text: &[u8]) -> Result<Filter, Rejection>
-    ensures accepted { IfOk result (λ filter. judge text.now ≡ Accepts (catalogue_of filter)) }
-    ensures refused { IfErr result (Tells (judge text.now)) }
+    ensures accepted { IfOk result (λ filter. Judges text.now (Accepts (catalogue_of filter))) }
+    ensures refused { IfErr result (Tells text.now) }
     ensures suits { IfOk result Suits }
 {
     if text.len() > MOST {
@@ -54,7 +55,7 @@ fn last_line(text: &[u8]) -> u64
 
 // The rejection of a text that isn't cut into tokens.
 fn rejection_by(fault: LexFault) -> Rejection
-    ensures { (text : List ℕ) (found : Lexed) → (fault ≢ LexFault.Memory → found ≡ Err fault) → Tells (verdict_by text found) result }
+    ensures { (text : List ℕ) → length text ≤ text_limit → (fault ≢ LexFault.Memory → tokens_of text ≡ Err fault) → Tells text result }
 {
     match fault {
         LexFault::NotUtf8 { line } => Rejection::Bad {
@@ -75,20 +76,42 @@ fn rejection_by(fault: LexFault) -> Rejection
 
 // Judges the tokens of a query text.
 fn judge_tokens(alloc: Global, tokens: &Tokens<'_>) -> Result<Filter, Rejection>
-    ensures accepted { IfOk result (λ filter. verdict_by tokens.now.source (Ok tokens.now.items) ≡ Accepts (catalogue_of filter)) }
-    ensures refused { IfErr result (Tells (verdict_by tokens.now.source (Ok tokens.now.items))) }
+    requires { length tokens.now.source ≤ text_limit }
+    ensures accepted { IfOk result (λ filter. Judges tokens.now.source (Accepts (catalogue_of filter))) }
+    ensures refused { IfErr result (Tells tokens.now.source) }
     ensures suits { IfOk result Suits }
 {
-    let words = match spell(alloc, tokens) {
-        Ok(words) => words,
-        Err(_) => return Err(Rejection::Memory),
+    let file = match parse(alloc, tokens) {
+        Ok(file) => file,
+        Err(fault) => return Err(rejection_of(fault)),
     };
-    match read_built(alloc, &words) {
+    match read_built(alloc, &file) {
         Ok(Some(filter)) => Ok(filter),
         Ok(None) => Err(Rejection::Bad {
             line: 1,
             why: QueryFault::Unbuilt,
         }),
         Err(_) => Err(Rejection::Memory),
+    }
+}
+
+// The rejection of a text with a faulty statement.
+fn rejection_of(fault: SyntaxFault) -> Rejection
+    ensures { (text : List ℕ) → length text ≤ text_limit → (fault ≢ SyntaxFault.Memory → IsRefused text fault) → Tells text result }
+{
+    match fault {
+        SyntaxFault::TooManyTokens { number, line } => Rejection::Bad {
+            line,
+            why: QueryFault::TooManyTokens { number },
+        },
+        SyntaxFault::TooDeep { number, line } => Rejection::Bad {
+            line,
+            why: QueryFault::TooDeep { number },
+        },
+        SyntaxFault::BadStatement { number, line } => Rejection::Bad {
+            line,
+            why: QueryFault::BadStatement { number },
+        },
+        SyntaxFault::Memory => Rejection::Memory,
     }
 }

@@ -12,17 +12,15 @@ mod laws;
 mod reading;
 mod refusal;
 mod run;
-mod spelling;
 mod status;
 mod taking;
 mod top;
 mod work;
 mod writing;
 
-pub use built::built_files_are_read;
 pub use event_csv::LineFault;
 pub use fault::QueryFault;
-pub use laws::{refused_lines_stay, reports_grow};
+pub use laws::{one_verdict, refused_lines_stay, reports_grow};
 pub use status::Status;
 pub use top::{cayuga, cayuga_within};
 

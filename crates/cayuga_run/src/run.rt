@@ -5,7 +5,7 @@ ghost use Rattle.cay_host.specs.Input.{SameButRead};
 ghost use Rattle.cay_host.specs.Output.{SameButOutput};
 ghost use Rattle.cayuga_run.specs.Catalogue.{catalogue_of};
 ghost use Rattle.cayuga_run.specs.Finishing.{Finishes, is_all};
-ghost use Rattle.cayuga_run.specs.Judgement.{Accepts, judge};
+ghost use Rattle.cayuga_run.specs.Judgement.{Accepts, Judges};
 ghost use Rattle.cayuga_run.specs.Outcome.{Outcome};
 ghost use Rattle.cayuga_run.specs.QueryFailing.{QueriesFail, TextFails};
 ghost use Rattle.cayuga_run.specs.Suits.{Suits};
@@ -55,7 +55,7 @@ pub fn run<H: Host, L: Ledger>(
 // Reads the queries and judges them.
 fn take_queries<H: Host>(alloc: Global, host: &mut H) -> Result<Filter, Status>
     requires { (H.told host.old).attached Queries ≡ true }
-    ensures accepted { IfOk result (λ filter. IfSome ((H.told host.old).left Queries) (λ text. judge text ≡ Accepts (catalogue_of filter))) }
+    ensures accepted { IfOk result (λ filter. IfSome ((H.told host.old).left Queries) (λ text. Judges text (Accepts (catalogue_of filter)))) }
     ensures suits { IfOk result Suits }
     ensures fails { IfErr result (QueriesFail (H.told host.old) (H.told host.new)) }
     ensures same { SameButRead Queries (H.told host.old) (H.told host.new) }
@@ -72,9 +72,9 @@ fn take_queries<H: Host>(alloc: Global, host: &mut H) -> Result<Filter, Status>
 
 // Judges the bytes of the queries.
 fn judge_text(alloc: Global, text: &[u8]) -> Result<Filter, Status>
-    ensures accepted { IfOk result (λ filter. judge text.now ≡ Accepts (catalogue_of filter)) }
+    ensures accepted { IfOk result (λ filter. Judges text.now (Accepts (catalogue_of filter))) }
     ensures suits { IfOk result Suits }
-    ensures fails { IfErr result (TextFails (judge text.now)) }
+    ensures fails { IfErr result (TextFails text.now) }
 {
     match judge(alloc, text) {
         Ok(filter) => Ok(filter),

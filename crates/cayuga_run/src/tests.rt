@@ -3,12 +3,14 @@ ghost use Rattle.std.specs.Prelude.{◌≡◌, ◌<◌, IfOk};
 ghost use Rattle.cay_host.specs.MemHost.{mem_told};
 ghost use Rattle.cay_host.specs.Told.{IsFree};
 
-use crate::{LineFault, QueryFault, Status, cayuga, cayuga_within};
+use crate::{LineFault, Status, cayuga, cayuga_within};
 use cay_host::{Ledger, MemHost, Quiet, Side, Steps};
 use std::alloc::{AllocError, Global};
 use std::process::Abort;
 use std::sync::ledger::Blank;
 use std::test::Fail;
+
+mod query_texts;
 
 /// Trades above 100.
 const HIGH: &[u8] =
@@ -162,45 +164,6 @@ fn the_first_fault_of_an_event_line_is_the_answer(rt: HostRuntime) -> Result<(),
     expect(&rt, alloc, ALL, b"Stock,2,1,IBM,10,5\n", bad(early), b"")?;
     let number = LineFault::BadInt { field: 5 };
     expect(&rt, alloc, ALL, b"Stock,1,1,IBM,ten,5\n", bad(number), b"")?;
-    Ok(())
-}
-
-#[test]
-fn a_refused_query_text_names_its_line(rt: HostRuntime) -> Result<(), Fail> {
-    let alloc = rt.alloc();
-    let bad = |line, why| Status::BadQuery { line, why };
-    expect(&rt, alloc, b"", TRADE, bad(1, QueryFault::Unbuilt), b"")?;
-    let open = b"STREAM Stock (Name TEXT);\nSELECT * FROM FILTER {Name = 'IBM} Stock PUBLISH Q;\n";
-    expect(&rt, alloc, open, TRADE, bad(2, QueryFault::BadToken), b"")?;
-    expect(
-        &rt,
-        alloc,
-        b"\n\n\xFF",
-        TRADE,
-        bad(3, QueryFault::NotUtf8),
-        b"",
-    )?;
-    let wide = b"170141183460469231731687303715884105728";
-    expect(
-        &rt,
-        alloc,
-        wide,
-        TRADE,
-        bad(1, QueryFault::NumberPast128),
-        b"",
-    )?;
-    let text =
-        b"STREAM Stock (Name TEXT, Price INT);\nSELECT * FROM FILTER {Name > 100} Stock PUBLISH Q;\n";
-    expect(&rt, alloc, text, TRADE, bad(1, QueryFault::Unbuilt), b"")?;
-    let long = vec![in alloc; b'\n'; 1_048_577]?;
-    expect(
-        &rt,
-        alloc,
-        &long,
-        TRADE,
-        bad(1_048_577, QueryFault::TooLong),
-        b"",
-    )?;
     Ok(())
 }
 

@@ -1,10 +1,10 @@
-use Rattle.std.proofs.Common.{◌≡◌, IfSome}
+use Rattle.std.proofs.Common.{IfSome}
 use Rattle.std.proofs.lemmas.Result.{IfOk-weaker, IfErr-weaker}
 use Rattle.cay_host.specs.declared.side.Side.TheVariants.{Queries}
 use Rattle.cayuga_run.specs.Catalogue.{catalogue_of}
-use Rattle.cayuga_run.specs.Judgement.{Accepts, judge}
+use Rattle.cayuga_run.specs.Judgement.{Accepts, Judges, Verdict}
 use Rattle.cayuga_run.specs.QueryFailing.{QueriesFail, TextFails}
-use Rattle.cayuga_run.proofs.RunLemmas.{judged_whole, judged_past, text_fails, verdict_same}
+use Rattle.cayuga_run.proofs.RunLemmas.{judged_whole, judged_past, text_fails}
 use Rattle.cayuga_run.proofs.run.take_queries.Goals as goal
 
 -- all of the queries was read and accepted
@@ -14,9 +14,10 @@ returns-in-Whole-clause-accepted g c =
     let after = g.H.Host.told c.take_side.new.host in
     let bytes = c.deref.result.now in
     let ends = rw c.in-Whole.is at c.in-Ok.ensures.end in
-    let same : IfSome (before.left Queries) (λ t. judge t ≡ judge bytes) = judged_whole (before.left Queries) (after.left Queries) bytes (rw c.deref.ensures.value c.in-Ok.ensures.front) ends.1 in
-    IfOk-weaker c.judge_text.result (λ filter. judge bytes ≡ Accepts (catalogue_of filter)) (λ filter. IfSome (before.left Queries) (λ t. judge t ≡ Accepts (catalogue_of filter)))
-    (λ filter e. verdict_same (before.left Queries) bytes (Accepts (catalogue_of filter)) same e) c.judge_text.ensures.accepted
+    let same : (v : Verdict) → Judges bytes v → IfSome (before.left Queries) (λ t. Judges t v) =
+    λ v judged. judged_whole (before.left Queries) (after.left Queries) bytes v (rw c.deref.ensures.value c.in-Ok.ensures.front) ends.1 judged in
+    IfOk-weaker c.judge_text.result (λ filter. Judges bytes (Accepts (catalogue_of filter))) (λ filter. IfSome (before.left Queries) (λ t. Judges t (Accepts (catalogue_of filter))))
+    (λ filter judged. same (Accepts (catalogue_of filter)) judged) c.judge_text.ensures.accepted
 
 -- all of the queries was read, and not accepted
 pub returns-in-Whole-clause-fails : goal.returns-in-Whole-clause-fails
@@ -25,8 +26,21 @@ returns-in-Whole-clause-fails g c =
     let after = g.H.Host.told c.take_side.new.host in
     let bytes = c.deref.result.now in
     let ends = rw c.in-Whole.is at c.in-Ok.ensures.end in
-    let same : IfSome (before.left Queries) (λ t. judge t ≡ judge bytes) = judged_whole (before.left Queries) (after.left Queries) bytes (rw c.deref.ensures.value c.in-Ok.ensures.front) ends.1 in
-    IfErr-weaker c.judge_text.result (TextFails (judge bytes)) (QueriesFail before after) (λ status f. text_fails before after bytes status same f) c.judge_text.ensures.fails
+    let same : (v : Verdict) → Judges bytes v → IfSome (before.left Queries) (λ t. Judges t v) =
+    λ v judged. judged_whole (before.left Queries) (after.left Queries) bytes v (rw c.deref.ensures.value c.in-Ok.ensures.front) ends.1 judged in
+    IfErr-weaker c.judge_text.result (TextFails bytes) (QueriesFail before after) (λ status f. text_fails before after bytes status same f) c.judge_text.ensures.fails
+
+-- the first bytes of queries past the limit were accepted
+pub returns-clause-accepted : goal.returns-clause-accepted
+returns-clause-accepted g c =
+    let before = g.H.Host.told c.args.host.now in
+    let after = g.H.Host.told c.take_side.new.host in
+    let bytes = c.deref-in-More.result.now in
+    let ends = rw c.in-More.is at c.in-Ok.ensures.end in
+    let same : (v : Verdict) → Judges bytes v → IfSome (before.left Queries) (λ t. Judges t v) =
+    λ v judged. judged_past (before.left Queries) (after.left Queries) bytes v (rw c.deref-in-More.ensures.value c.in-Ok.ensures.front) (rw c.deref-in-More.ensures.value ends) judged in
+    IfOk-weaker c.judge_text-in-More.result (λ filter. Judges bytes (Accepts (catalogue_of filter))) (λ filter. IfSome (before.left Queries) (λ t. Judges t (Accepts (catalogue_of filter))))
+    (λ filter judged. same (Accepts (catalogue_of filter)) judged) c.judge_text-in-More.ensures.accepted
 
 -- the queries are past the limit
 pub returns-clause-fails : goal.returns-clause-fails
@@ -35,6 +49,6 @@ returns-clause-fails g c =
     let after = g.H.Host.told c.take_side.new.host in
     let bytes = c.deref-in-More.result.now in
     let ends = rw c.in-More.is at c.in-Ok.ensures.end in
-    let same : IfSome (before.left Queries) (λ t. judge t ≡ judge bytes) =
-    judged_past (before.left Queries) (after.left Queries) bytes (rw c.deref-in-More.ensures.value c.in-Ok.ensures.front) (rw c.deref-in-More.ensures.value ends) in
-    IfErr-weaker c.judge_text-in-More.result (TextFails (judge bytes)) (QueriesFail before after) (λ status f. text_fails before after bytes status same f) c.judge_text-in-More.ensures.fails
+    let same : (v : Verdict) → Judges bytes v → IfSome (before.left Queries) (λ t. Judges t v) =
+    λ v judged. judged_past (before.left Queries) (after.left Queries) bytes v (rw c.deref-in-More.ensures.value c.in-Ok.ensures.front) (rw c.deref-in-More.ensures.value ends) judged in
+    IfErr-weaker c.judge_text-in-More.result (TextFails bytes) (QueriesFail before after) (λ status f. text_fails before after bytes status same f) c.judge_text-in-More.ensures.fails
