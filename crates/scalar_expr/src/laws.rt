@@ -1,6 +1,7 @@
-//! Laws over canonical forms, nexts and runs. The functions do nothing: their contracts say what
+//! Laws over canonical forms, kinds, nexts and runs. The functions do nothing: their contracts say what
 //! follows from the definitions.
 ghost use Rattle.scalar_expr.specs.CanonicalLaws.{HasOneForm, KeepsTruth, PartsKeepTruth};
+ghost use Rattle.scalar_expr.specs.KindLaws.{TypedHasItsKind};
 ghost use Rattle.scalar_expr.specs.NextsLaws.{NextsOfABag, NextsStartLater, RunsEnd};
 
 /// A predicate may be tested by its canonical form, so `normal` keeps the truth.
@@ -31,4 +32,9 @@ pub fn nexts_of_a_bag()
 /// The runs from a binding end of themselves, since each event of a run starts after the one before.
 pub fn runs_end()
     ensures { RunsEnd }
+{}
+
+/// The kind that `kind_of` tells of a typed scalar is the only one that it has.
+pub fn typed_has_its_kind()
+    ensures { TypedHasItsKind }
 {}

@@ -23,7 +23,7 @@ pub use event_types::Cmp;
 pub use kinding::kind_of;
 pub use laws::{
     canonical_form_keeps_truth, nexts_of_a_bag, nexts_start_later, parts_keep_truth, runs_end,
-    same_parts_have_one_form,
+    same_parts_have_one_form, typed_has_its_kind,
 };
 pub use part::Part;
 pub use predicate::Pred;
