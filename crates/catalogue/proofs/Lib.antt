@@ -1,0 +1,9 @@
+pub mod ArrangeLemmas
+pub mod FilingLemmas
+pub mod LawLemmas
+pub mod NameLemmas
+pub mod NamingLemmas
+pub mod PlaceLemmas
+pub mod ReadingLemmas
+pub mod ReadsLemmas
+pub mod SmallLemmas

@@ -1,0 +1,12 @@
+pub mod Statements
+pub mod First
+pub mod Naming
+pub mod Reading
+pub mod Arranging
+pub mod Faults
+pub mod Filing
+pub mod Typing
+pub mod Judgement
+pub mod Tables
+pub mod Telling
+pub mod Laws

@@ -1,0 +1,71 @@
+-- The types of a file: its declarations in file order, then its queries in the order of work.
+use Rattle.std.specs.Prelude.{◌≡◌, ℕ, true, false, List, [], ◌∷◌, ◌++◌, length, map, Some, slice_get}
+use Rattle.std.specs.List.{items_where_true}
+use Rattle.semantics.specs.Expressions.{Ex}
+use Rattle.semantics.specs.Programs.{Query}
+use Rattle.stream_schema.specs.Schema.{Attr}
+use Rattle.stream_schema.specs.Streams.{Entry}
+use Rattle.cel_grammar.specs.Trees.{Column, Item, Source, Statement}
+use Rattle.cel_grammar.specs.Trees as tree
+use Rattle.cel_types.specs.declared.fault.TypeFault.{TypeFault}
+use Rattle.cel_types.specs.Declarations.{IsDeclared, FailsToDeclare}
+use Rattle.cel_types.specs.Statements.{FailsAsQuery, Queries}
+use Rattle.catalogue.specs.declared.fault.QueryFault.{QueryFault}
+use Rattle.catalogue.specs.Faults.{IsOfTypes}
+use Rattle.catalogue.specs.Statements.{is_query, name_of, queries_in}
+
+-- the statements declare these streams, in file order
+pub data Declare : List Statement → List Entry → Type 0 where
+  none : Declare [] []
+  stream : {name : List ℕ} {columns : List Column} {schema : List Attr} {later : List Statement} {streams : List Entry}
+      → IsDeclared columns schema → Declare later streams → Declare (tree.Stream name columns ∷ later) (record { name = name; schema = schema; declared = true } ∷ streams)
+  query : {items : List Item} {source : Source} {name : List ℕ} {later : List Statement} {streams : List Entry} → Declare later streams → Declare (tree.Query items source name ∷ later) streams
+
+-- the first declaration that has a fault has this one, and begins on this line
+pub data FailToDeclare : List Statement → List ℕ → ℕ → TypeFault → Type 0 where
+  here : {name : List ℕ} {columns : List Column} {later : List Statement} {line : ℕ} {lines : List ℕ} {f : TypeFault} → FailsToDeclare columns f → FailToDeclare (tree.Stream name columns ∷ later) (line ∷ lines) line f
+  behind : {name : List ℕ} {columns : List Column} {schema : List Attr} {later : List Statement} {at line : ℕ} {lines : List ℕ} {f : TypeFault}
+      → IsDeclared columns schema → FailToDeclare later lines line f → FailToDeclare (tree.Stream name columns ∷ later) (at ∷ lines) line f
+  query : {items : List Item} {source : Source} {name : List ℕ} {later : List Statement} {at line : ℕ} {lines : List ℕ} {f : TypeFault}
+      → FailToDeclare later lines line f → FailToDeclare (tree.Query items source name ∷ later) (at ∷ lines) line f
+
+-- the lines on which the queries of a file begin, by the queries' numbers
+abbrev pub query_lines : List Statement → List ℕ → List ℕ
+query_lines statements lines = items_where_true (map is_query statements) lines
+
+-- the stream that a query publishes
+abbrev pub published_by : Statement → List Attr → Entry
+published_by statement schema = record { name = name_of statement; schema = schema; declared = false }
+
+-- behind these streams the queries with these numbers publish one after another: each is typed over the streams before it, and its stream is the next; so these are the streams then, and these the queries
+pub data Publish (queries : List Statement) : List Entry → List ℕ → List Entry → List Query → Type 0 where
+  none : {streams : List Entry} → Publish queries streams [] streams []
+  next : {streams all : List Entry} {number : ℕ} {order : List ℕ} {s : Statement} {more : List Query} (schema : List Attr) (x : Ex)
+      → slice_get queries number ≡ Some s → Queries streams s schema x → Publish queries (streams ++ published_by s schema ∷ []) order all more
+      → Publish queries streams (number ∷ order) all (record { name = name_of s; stream = length streams; expr = x } ∷ more)
+
+-- the first of the queries with these numbers that has a fault has this one, and begins on this line
+pub data FailToPublish (queries : List Statement) (lines : List ℕ) : List Entry → List ℕ → ℕ → TypeFault → Type 0 where
+  here : {streams : List Entry} {number line : ℕ} {order : List ℕ} {s : Statement} {f : TypeFault}
+      → slice_get queries number ≡ Some s → slice_get lines number ≡ Some line → FailsAsQuery streams s f → FailToPublish queries lines streams (number ∷ order) line f
+  behind : {streams : List Entry} {number line : ℕ} {order : List ℕ} {s : Statement} {f : TypeFault} (schema : List Attr) (x : Ex)
+      → slice_get queries number ≡ Some s → Queries streams s schema x → FailToPublish queries lines (streams ++ published_by s schema ∷ []) order line f → FailToPublish queries lines streams (number ∷ order) line f
+
+-- a fault of types as one of a query text, on this line
+pub record FailsOn (at : ℕ) (is_fault : TypeFault → Type 0) (line : ℕ) (why : QueryFault) : Type 0 where
+  pub on_line : line ≡ at
+  pub fault : TypeFault
+  pub is : is_fault fault
+  pub same : IsOfTypes fault why
+
+-- the first fault of the declarations, as one of a query text
+pub record FailsInDeclarations (statements : List Statement) (lines : List ℕ) (line : ℕ) (why : QueryFault) : Type 0 where
+  pub fault : TypeFault
+  pub fails : FailToDeclare statements lines line fault
+  pub same : IsOfTypes fault why
+
+-- the first fault of the queries with these numbers, behind these streams, as one of a query text
+pub record FailsInQueries (statements : List Statement) (lines : List ℕ) (streams : List Entry) (order : List ℕ) (line : ℕ) (why : QueryFault) : Type 0 where
+  pub fault : TypeFault
+  pub fails : FailToPublish (queries_in statements) (query_lines statements lines) streams order line fault
+  pub same : IsOfTypes fault why

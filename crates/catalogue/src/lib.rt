@@ -1,0 +1,15 @@
+//! Query texts: which are accepted, as which queries over which streams, and why others are refused.
+#![tactic(auto)]
+
+mod arranging;
+mod fault;
+mod filing;
+mod laws;
+mod naming;
+mod reading;
+mod statements;
+
+pub use arranging::arrange;
+pub use fault::{LoadFault, QueryFault};
+pub use filing::file_of;
+pub use laws::{names_have_one_answer, text_is_one_file};
