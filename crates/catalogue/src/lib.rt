@@ -13,3 +13,6 @@ pub use arranging::arrange;
 pub use fault::{LoadFault, QueryFault};
 pub use filing::file_of;
 pub use laws::{names_have_one_answer, text_is_one_file};
+
+#[cfg(test)]
+mod tests;
