@@ -1,4 +1,4 @@
--- The types of a file: its declarations in file order, then its queries in the order of work.
+-- The types of a file: its declarations in file order, then its queries in the order of work. No public clause cites this module.
 use Rattle.std.specs.Prelude.{◌≡◌, ℕ, true, false, List, [], ◌∷◌, ◌++◌, length, map, Some, slice_get}
 use Rattle.std.specs.List.{items_where_true}
 use Rattle.semantics.specs.Expressions.{Ex}
