@@ -25,4 +25,3 @@ pub use source_laws::{queries_are_typed, query_has_one_type};
 
 #[cfg(test)]
 mod tests;
-mod elaborate_tests;

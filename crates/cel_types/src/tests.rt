@@ -1,5 +1,6 @@
 //! Types and first faults, by tables.
 mod declarations;
+mod queries;
 mod terms;
 
 use crate::TypeFault;
