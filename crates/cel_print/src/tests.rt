@@ -83,10 +83,7 @@ const PREDICATES: [(&str, &str); 16] = [
     ("(TRUE)", "TRUE"),
     ("a<>'x'", "a <> 'x'"),
     ("(a=1)OR(b>=2)", "a = 1 OR b >= 2"),
-    (
-        "a=1 AND(b=2 OR NOT(c<3))",
-        "a = 1 AND (b = 2 OR NOT c < 3)",
-    ),
+    ("a=1 AND(b=2 OR NOT(c<3))", "a = 1 AND (b = 2 OR NOT c < 3)"),
 ];
 
 const SOURCES: [(&str, &str); 15] = [
@@ -101,10 +98,7 @@ const SOURCES: [(&str, &str); 15] = [
         "A FOLD{TRUE,$2.x<$.x,$2.x AS x,$.n+1 AS n}B",
         "A FOLD {TRUE, $2.x < $.x, $2.x AS x, $.n + 1 AS n} B",
     ),
-    (
-        "FILTER{a=1}FILTER{b=2}A",
-        "FILTER {a = 1} FILTER {b = 2} A",
-    ),
+    ("FILTER{a=1}FILTER{b=2}A", "FILTER {a = 1} FILTER {b = 2} A"),
     ("FILTER{a=1}(A UNION B)", "FILTER {a = 1} (A UNION B)"),
     ("(FILTER{a=1}A)UNION B", "FILTER {a = 1} A UNION B"),
     (
@@ -136,7 +130,8 @@ fn parentheses_stand_exactly_where_they_are_needed(rt: HostRuntime) -> Result<()
 #[test]
 fn each_statement_has_a_line(rt: HostRuntime) -> Result<(), Fail> {
     let alloc = rt.alloc();
-    let text = "STREAM Stock(Name TEXT,Price INT,Volume INT); SELECT * FROM FILTER{(Price)>100}(Stock) PUBLISH Q;";
+    let text =
+        "STREAM Stock(Name TEXT,Price INT,Volume INT); SELECT * FROM FILTER{(Price)>100}(Stock) PUBLISH Q;";
     let declaration = "STREAM Stock (Name TEXT, Price INT, Volume INT);\n";
     let query = "SELECT * FROM FILTER {Price > 100} Stock PUBLISH Q;\n";
     let file = read(&rt, alloc, text);
