@@ -16,5 +16,6 @@ pub mod Refusing
 pub mod Reports
 pub mod Suits
 pub mod Taking
+pub mod Wording
 pub mod Words
 pub mod Working

@@ -15,6 +15,7 @@ mod run;
 mod status;
 mod taking;
 mod top;
+mod wording;
 mod work;
 mod writing;
 

@@ -11,6 +11,7 @@ use std::sync::ledger::Blank;
 use std::test::Fail;
 
 mod query_texts;
+mod wording;
 
 /// Trades above 100.
 const HIGH: &[u8] =

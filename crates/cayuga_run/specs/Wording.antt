@@ -1,0 +1,45 @@
+-- The text of each status (this project's profile): one line without its end.
+use Rattle.std.specs.Prelude.{ℕ, List, [], ◌++◌, codes, decimal}
+use Rattle.cay_host.specs.declared.side.Side.TheVariants.{Queries, Events}
+use Rattle.event_csv.specs.declared.fault.LineFault.{LineFault}
+use Rattle.event_csv.specs.declared.fault.LineFault.TheVariants as event
+use Rattle.cayuga_run.specs.declared.fault.QueryFault.{QueryFault}
+use Rattle.cayuga_run.specs.declared.fault.QueryFault.TheVariants as query
+use Rattle.cayuga_run.specs.declared.status.Status.{Status}
+use Rattle.cayuga_run.specs.declared.status.Status.TheVariants.{Done, Usage, BadQuery, BadEvent, OutOfOrder, AttachFault, ReadFault, WriteFault, TooMuch, Memory}
+
+-- what is wrong with the queries, in words
+abbrev pub query_words : QueryFault → List ℕ
+query_words query.NotUtf8 = codes "not UTF-8"
+query_words query.BadToken = codes "bad token"
+query_words query.NumberPast128 = codes "number past 128 bits"
+query_words (query.TooManyTokens number) = codes "statement " ++ (decimal number ++ codes " has more than 1024 tokens")
+query_words (query.TooDeep number) = codes "statement " ++ (decimal number ++ codes " is nested more than 64 deep")
+query_words (query.BadStatement number) = codes "statement " ++ (decimal number ++ codes " is not in the grammar")
+query_words query.TooLong = codes "more than 1048576 bytes of queries"
+query_words query.Unbuilt = codes "not a built file"
+
+-- what is wrong with an event line, in words
+abbrev pub line_words : LineFault → List ℕ
+line_words event.LineTooLong = codes "more than 65536 bytes"
+line_words event.NotUtf8 = codes "not UTF-8"
+line_words event.UnknownStream = codes "unknown stream"
+line_words (event.FieldCount want got) = decimal want ++ (codes " fields wanted, " ++ (decimal got ++ codes " given"))
+line_words (event.BadTime field) = codes "field " ++ (decimal field ++ codes " is not a time")
+line_words event.StartAfterDetection = codes "start after detection"
+line_words (event.BadInt field) = codes "field " ++ (decimal field ++ codes " is not a whole number of 128 bits")
+
+-- the text of a status: nothing where the job was done, else the program's name, the place, and what was found there
+abbrev pub text_of : Status → List ℕ
+text_of Done = []
+text_of Usage = codes "cayuga: usage: cayuga [--stats] run QUERIES EVENTS, check QUERIES, plan QUERIES, load SEED N"
+text_of (BadQuery line why) = codes "cayuga: queries line " ++ (decimal line ++ (codes ": " ++ query_words why))
+text_of (BadEvent line why) = codes "cayuga: events line " ++ (decimal line ++ (codes ": " ++ line_words why))
+text_of (OutOfOrder line at seen) = codes "cayuga: events line " ++ (decimal line ++ (codes ": detection " ++ (decimal at ++ (codes " is below " ++ decimal seen))))
+text_of (AttachFault Queries) = codes "cayuga: cannot open the queries"
+text_of (AttachFault Events) = codes "cayuga: cannot open the events"
+text_of (ReadFault Queries) = codes "cayuga: cannot read the queries"
+text_of (ReadFault Events) = codes "cayuga: cannot read the events"
+text_of WriteFault = codes "cayuga: cannot write the results"
+text_of (TooMuch limit) = codes "cayuga: more than " ++ (decimal limit ++ codes " bytes of events")
+text_of Memory = codes "cayuga: no memory"
