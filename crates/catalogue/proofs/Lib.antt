@@ -1,4 +1,5 @@
 pub mod ArrangeLemmas
+pub mod DeclareLemmas
 pub mod FilingLemmas
 pub mod LawLemmas
 pub mod NameLemmas

@@ -1,4 +1,4 @@
--- The types of a file: its declarations in file order, then its queries in the order of work. No public clause cites this module.
+-- The types of a file: its declarations in file order, then its queries in the order of work. No public clause cites yet what is said of queries.
 use Rattle.std.specs.Prelude.{◌≡◌, ℕ, true, false, List, [], ◌∷◌, ◌++◌, length, map, Some, slice_get}
 use Rattle.std.specs.List.{items_where_true}
 use Rattle.semantics.specs.Expressions.{Ex}
@@ -20,6 +20,11 @@ pub data Declare : List Statement → List Entry → Type 0 where
   stream : {name : List ℕ} {columns : List Column} {schema : List Attr} {later : List Statement} {streams : List Entry}
       → IsDeclared columns schema → Declare later streams → Declare (tree.Stream name columns ∷ later) (record { name = name; schema = schema; declared = true } ∷ streams)
   query : {items : List Item} {source : Source} {name : List ℕ} {later : List Statement} {streams : List Entry} → Declare later streams → Declare (tree.Query items source name ∷ later) streams
+
+-- the declared streams with that of one statement more, if it is a declaration
+abbrev pub Adds : Statement → List Entry → List Entry → Type 0
+Adds (tree.Stream name columns) old new = (schema : List Attr) × IsDeclared columns schema × (new ≡ old ++ record { name = name; schema = schema; declared = true } ∷ [])
+Adds (tree.Query items source name) old new = new ≡ old
 
 -- the first declaration that has a fault has this one, and begins on this line
 pub data FailToDeclare : List Statement → List ℕ → ℕ → TypeFault → Type 0 where

@@ -2,6 +2,7 @@
 #![tactic(auto)]
 
 mod arranging;
+mod declaring;
 mod fault;
 mod filing;
 mod laws;
@@ -10,6 +11,7 @@ mod reading;
 mod statements;
 
 pub use arranging::arrange;
+pub use declaring::declare_all;
 pub use fault::{LoadFault, QueryFault};
 pub use filing::file_of;
 pub use laws::{names_have_one_answer, text_is_one_file};
