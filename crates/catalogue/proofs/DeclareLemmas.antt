@@ -96,11 +96,11 @@ module _ (ss : List Statement) (place : ℕ) (s : Statement) (there : slice_get 
   tells_declared streams lines line (Cycle names) d on_line h = h
   tells_declared streams lines line Memory d on_line h = tt
 
--- a fault of types on a line is that of the declaration
-pub tells_types : (s : Statement) (line : ℕ) (f : TypeFault) (told : LoadFault) → (f ≢ type.Memory → FailsAsDeclaration s f) → TellsBad (λ at why. (at ≡ line) × IsOfTypes f why) told → TellsBad (FailsOn line (FailsAsDeclaration s)) told
-tells_types s line f (Bad at why) fails h = record { on_line = h.0; fault = f; is = fails (types_told h.1); same = h.1 }
-tells_types s line f (Cycle names) fails h = h
-tells_types s line f Memory fails h = tt
+-- a fault of types on a line is that of the statement
+pub tells_types : (P : TypeFault → Type 0) (line : ℕ) (f : TypeFault) (told : LoadFault) → (f ≢ type.Memory → P f) → TellsBad (λ at why. (at ≡ line) × IsOfTypes f why) told → TellsBad (FailsOn line P) told
+tells_types P line f (Bad at why) fails h = record { on_line = h.0; fault = f; is = fails (types_told h.1); same = h.1 }
+tells_types P line f (Cycle names) fails h = h
+tells_types P line f Memory fails h = tt
 
 -- what is told of a fault of types on a line
 pub told_on : (line : ℕ) (f given : TypeFault) (why : QueryFault) (told : LoadFault) → f ≡ given → told ≡ Bad line why → IsOfTypes given why → TellsBad (λ at why. (at ≡ line) × IsOfTypes f why) told

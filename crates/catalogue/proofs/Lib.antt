@@ -6,5 +6,9 @@ pub mod NameLemmas
 pub mod NamingLemmas
 pub mod PlaceLemmas
 pub mod ReadingLemmas
+pub mod PlacesLemmas
+pub mod PublishLemmas
 pub mod ReadsLemmas
 pub mod SmallLemmas
+pub mod StandLemmas
+pub mod WorkLemmas

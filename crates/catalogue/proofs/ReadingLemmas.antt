@@ -16,11 +16,11 @@ use Rattle.catalogue.specs.declared.fault.QueryFault.TheVariants.{Unknown}
 use Rattle.catalogue.specs.Naming.{read_fault}
 use Rattle.catalogue.specs.Reading.{numbers_of}
 
-abbrev fault_by : Bool → List ℕ → Option QueryFault → Option QueryFault
+abbrev pub fault_by : Bool → List ℕ → Option QueryFault → Option QueryFault
 fault_by there name later = cond there later (Some (Unknown name))
 
 -- the fault of one name before others
-read_fault-cons : (names : List (List ℕ)) (x : List ℕ) (xs : List (List ℕ)) → read_fault names (x ∷ xs) ≡ fault_by (is_among names x) x (read_fault names xs)
+pub read_fault-cons : (names : List (List ℕ)) (x : List ℕ) (xs : List (List ℕ)) → read_fault names (x ∷ xs) ≡ fault_by (is_among names x) x (read_fault names xs)
 read_fault-cons names x xs = elim (cases_Bool (is_among names x)) [
   | inl there ↦ ap (λ b. option_map Unknown (cond (not b) (Some x) (find (λ name. not (is_among names name)) xs))) there ∙ sym (ap (λ b. fault_by b x (read_fault names xs)) there)
   | inr absent ↦ ap (λ b. option_map Unknown (cond (not b) (Some x) (find (λ name. not (is_among names name)) xs))) absent ∙ sym (ap (λ b. fault_by b x (read_fault names xs)) absent)

@@ -6,7 +6,7 @@ pub mod Arranging
 pub mod Faults
 pub mod Filing
 pub mod Typing
-pub mod Judgement
 pub mod Tables
+pub mod Judgement
 pub mod Telling
 pub mod Laws

@@ -1,6 +1,8 @@
--- The types of a file: its declarations in file order, then its queries in the order of work. No public clause cites yet what is said of queries.
+-- The types of a file: its declarations in file order, then its queries in the order of work.
 use Rattle.std.specs.Prelude.{◌≡◌, ℕ, true, false, List, [], ◌∷◌, ◌++◌, length, map, Some, slice_get}
 use Rattle.std.specs.List.{items_where_true}
+use Rattle.algebra.specs.declared.expression.Expr.{Expr}
+use Rattle.algebra.specs.Views.{ex_of}
 use Rattle.semantics.specs.Expressions.{Ex}
 use Rattle.semantics.specs.Programs.{Query}
 use Rattle.stream_schema.specs.Schema.{Attr}
@@ -55,6 +57,18 @@ pub data FailToPublish (queries : List Statement) (lines : List ℕ) : List Entr
       → slice_get queries number ≡ Some s → slice_get lines number ≡ Some line → FailsAsQuery streams s f → FailToPublish queries lines streams (number ∷ order) line f
   behind : {streams : List Entry} {number line : ℕ} {order : List ℕ} {s : Statement} {f : TypeFault} (schema : List Attr) (x : Ex)
       → slice_get queries number ≡ Some s → Queries streams s schema x → FailToPublish queries lines (streams ++ published_by s schema ∷ []) order line f → FailToPublish queries lines streams (number ∷ order) line f
+
+-- the streams with that of one query more, which is typed over those before it and has this expression
+pub record AddsQuery (s : Statement) (old new : List Entry) (x : Ex) : Type 0 where
+  pub schema : List Attr
+  pub typed : Queries old s schema x
+  pub added : new ≡ old ++ published_by s schema ∷ []
+
+-- behind these streams the queries with these numbers publish more, and have these expressions one after another
+pub record ArePublished (statements : List Statement) (old : List Entry) (order : List ℕ) (new : List Entry) (expressions : List Expr) : Type 0 where
+  pub queries : List Query
+  pub publish : Publish (queries_in statements) old order new queries
+  pub expressions_are : map (λ q. q.expr) queries ≡ map ex_of expressions
 
 -- a fault of types as one of a query text, on this line
 pub record FailsOn (at : ℕ) (is_fault : TypeFault → Type 0) (line : ℕ) (why : QueryFault) : Type 0 where

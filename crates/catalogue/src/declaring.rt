@@ -57,7 +57,7 @@ fn declare_one(
 }
 
 // A fault of types on a line.
-fn of_types(fault: TypeFault, line: u64) -> LoadFault
+pub fn of_types(fault: TypeFault, line: u64) -> LoadFault
     ensures { TellsBad (λ at why. (at ≡ line) × IsOfTypes fault why) result }
 {
     match fault {

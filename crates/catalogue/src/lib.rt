@@ -7,6 +7,7 @@ mod fault;
 mod filing;
 mod laws;
 mod naming;
+mod publishing;
 mod reading;
 mod statements;
 
@@ -15,6 +16,7 @@ pub use declaring::declare_all;
 pub use fault::{LoadFault, QueryFault};
 pub use filing::file_of;
 pub use laws::{names_have_one_answer, text_is_one_file};
+pub use publishing::publish_all;
 
 #[cfg(test)]
 mod tests;
