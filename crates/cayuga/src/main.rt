@@ -18,7 +18,17 @@ fn main(rt: HostRuntime) -> ExitCode {
         Ok(words) => run::<Quiet>(&rt, &words, Blank::new(1)),
         Err(status) => status,
     };
+    tell(&rt, &status);
     ExitCode::from(status.number())
+}
+
+// Prints the status's text on standard error, where it has one and there is memory for it.
+fn tell(rt: &HostRuntime, status: &Status) {
+    if let Ok(text) = status.text(rt.alloc()) {
+        if !text.as_str().is_empty() {
+            let _ = eprintln!(rt; "{}", text.as_str());
+        }
+    }
 }
 
 // The words after the program's name. A word that isn't UTF-8 is in no job's words, so it is Usage.
