@@ -11,4 +11,6 @@ pub mod PublishLemmas
 pub mod ReadsLemmas
 pub mod SmallLemmas
 pub mod StandLemmas
+pub mod TypingLaws
+pub mod VerdictLemmas
 pub mod WorkLemmas

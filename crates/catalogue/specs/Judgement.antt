@@ -1,4 +1,4 @@
--- What a query text is judged to be. No public clause cites this module.
+-- What a query text is judged to be.
 use Rattle.std.specs.Prelude.{◌==◌, ℕ, List, [], length, map, slice_index_or}
 use Rattle.std.specs.List.{position_or_len, range_with_len}
 use Rattle.semantics.specs.Expressions.{Read}

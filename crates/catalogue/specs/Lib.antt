@@ -10,3 +10,4 @@ pub mod Tables
 pub mod Judgement
 pub mod Telling
 pub mod Laws
+pub mod Verdicts

@@ -1,5 +1,6 @@
-//! Laws of the first passes. The functions do nothing: their contracts say what follows from the definitions.
+//! Laws of the passes. The functions do nothing: their contracts say what follows from the definitions.
 ghost use Rattle.catalogue.specs.Laws.{FileOrFault, OneCycleOfNames, OneFile, OneFileFault, OneNameFault, OrderOrCycle, SoundOrFault};
+ghost use Rattle.catalogue.specs.Verdicts.{DeclaredOrFault, OneDeclaration, OneDeclareFault, OnePublication, OnePublishFault, OneVerdict, PublishedOrFault};
 
 /// What `file_of` answers, want of memory aside, is settled by the text.
 pub fn text_is_one_file()
@@ -14,4 +15,24 @@ pub fn names_have_one_answer()
     ensures sound { SoundOrFault }
     ensures cycle { OneCycleOfNames }
     ensures order { OrderOrCycle }
+{}
+
+/// What `declare_all` answers, want of memory aside, is settled by the statements and their lines.
+pub fn declarations_have_one_answer()
+    ensures streams { OneDeclaration }
+    ensures fault { OneDeclareFault }
+    ensures not_both { DeclaredOrFault }
+{}
+
+/// What `publish_all` answers, want of memory aside, is settled by the statements, their lines, the
+/// declared streams and the order.
+pub fn queries_have_one_answer()
+    ensures streams { OnePublication }
+    ensures fault { OnePublishFault }
+    ensures not_both { PublishedOrFault }
+{}
+
+/// A text is accepted as one program, or refused with one fault on one line, or for one cycle of names.
+pub fn text_has_one_verdict()
+    ensures { OneVerdict }
 {}

@@ -15,7 +15,10 @@ pub use arranging::arrange;
 pub use declaring::declare_all;
 pub use fault::{LoadFault, QueryFault};
 pub use filing::file_of;
-pub use laws::{names_have_one_answer, text_is_one_file};
+pub use laws::{
+    declarations_have_one_answer, names_have_one_answer, queries_have_one_answer,
+    text_has_one_verdict, text_is_one_file,
+};
 pub use publishing::publish_all;
 
 #[cfg(test)]
