@@ -1,11 +1,10 @@
 //! The schemas of the streams that a file declares.
-ghost use Rattle.std.specs.Prelude.{◌≡◌, None, IfErr, IfOk, OnOk, length, map};
+ghost use Rattle.std.specs.Prelude.{◌≡◌, None, IfErr, IfOk, OnOk, map};
 ghost use Rattle.cel_grammar.specs.Views.{statement_of};
 ghost use Rattle.cel_types.specs.Statements.{FailsAsDeclaration};
 ghost use Rattle.stream_schema.specs.Streams.{number_of};
+ghost use Rattle.catalogue.specs.Arranging.{AreSound};
 ghost use Rattle.catalogue.specs.Faults.{IsOfTypes};
-ghost use Rattle.catalogue.specs.First.{HaveNone};
-ghost use Rattle.catalogue.specs.Naming.{name_fault_at};
 ghost use Rattle.catalogue.specs.Statements.{name_of};
 ghost use Rattle.catalogue.specs.Telling.{TellsBad};
 ghost use Rattle.catalogue.specs.Typing.{Adds, Declare, FailsInDeclarations, FailsOn};
@@ -19,7 +18,7 @@ use stream_schema::Streams;
 
 /// The streams that a file with sound names declares, in its order, or the first fault of a declaration.
 pub fn declare_all(alloc: Global, file: &File) -> Result<Streams, LoadFault>
-    requires { HaveNone (name_fault_at (map statement_of file.now.statements)) (length file.now.statements) }
+    requires { AreSound (map statement_of file.now.statements) }
     ensures ok { IfOk result (Declare (map statement_of file.now.statements)) }
     ensures err { IfErr result (TellsBad (FailsInDeclarations (map statement_of file.now.statements) file.now.lines)) }
 {

@@ -1,11 +1,11 @@
-use Rattle.std.proofs.Common.{◌≡◌, ◌<◌, List, [], length, map, subst, sym, arith}
+use Rattle.std.proofs.Common.{◌≡◌, ◌<◌, List, [], length, map, subst, sym}
 use Rattle.std.specs.Prelude.{Some, slice_get}
 use Rattle.cel_grammar.specs.Trees.{Statement}
 use Rattle.cel_grammar.specs.Views.{statement_of}
 use Rattle.stream_schema.specs.Streams.{Entry}
 use Rattle.catalogue.specs.Typing.{Declare, none}
 use Rattle.catalogue.proofs.DeclareLemmas.{Declare-more, absent_at, tells_declared}
-use Rattle.catalogue.proofs.PlaceLemmas.{slice_get-map}
+use Rattle.catalogue.proofs.PlaceLemmas.{slice_get-map, slice_get-within}
 use Rattle.catalogue.proofs.declaring.declare_all.Goals as goal
 
 -- no statement was looked at
@@ -16,8 +16,8 @@ loop-place-init c = subst (λ (streams : List Entry). Declare [] streams) (sym c
 pub declare_one-requires : goal.declare_one-requires
 declare_one-requires c =
     let there : slice_get (map statement_of c.args.file.now.statements) c.loop-place.place ≡ Some (statement_of c.statement.result.now) = slice_get-map statement_of c.args.file.now.statements c.loop-place.place c.statement.result.now c.statement.ensures in
-    let within : c.loop-place.place < length c.args.file.now.statements = omega arith in
-    absent_at (map statement_of c.args.file.now.statements) c.loop-place.place (statement_of c.statement.result.now) there c.loop-place.streams c.loop-place.invariant (c.requires c.loop-place.place within)
+    let within : c.loop-place.place < length (map statement_of c.args.file.now.statements) = slice_get-within (map statement_of c.args.file.now.statements) c.loop-place.place (statement_of c.statement.result.now) there in
+    absent_at (map statement_of c.args.file.now.statements) c.loop-place.place (statement_of c.statement.result.now) there c.loop-place.streams c.loop-place.invariant (c.requires.names c.loop-place.place within)
 
 -- the declaration has a fault
 pub returns-in-Err-clause-err : goal.returns-in-Err-clause-err
