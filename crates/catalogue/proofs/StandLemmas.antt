@@ -1,5 +1,5 @@
 -- The streams that stand when a query is worked on: those that it reads do, and its own doesn't.
-use Rattle.std.proofs.Common.{◌≡◌, ◌≢◌, ◌∙◌, ℕ, zero, suc, ◌<◌, ◌≤◌, List, [], ◌∷◌, ◌++◌, Bool, true, false, ◌||◌, cond, length, map, take, get_or, refl, sym, ap, subst, inl, inr, arith, length-take-le}
+use Rattle.std.proofs.Common.{◌≡◌, ◌≢◌, ◌∙◌, ℕ, zero, suc, ◌<◌, List, [], ◌∷◌, ◌++◌, true, false, ◌||◌, length, map, take, get_or, refl, sym, ap, subst, inl, inr, arith, length-take-le}
 use Rattle.std.specs.Prelude.{Option, Some, None, slice_get, Contains, AllPairs, position, is_some}
 use Rattle.std.specs.List.{All, cons_option}
 use Rattle.std.specs.Str.{bytes_eq}
@@ -17,11 +17,10 @@ use Rattle.stream_schema.proofs.PlaceLemmas.{is_some-position}
 use Rattle.cel_grammar.specs.Trees.{Statement}
 use Rattle.cel_grammar.specs.Trees as tree
 use Rattle.cel_types.specs.Aggregates.{is_among}
-use Rattle.resubscribe.specs.Laws.{HasEachOnce, StandsAfterReads}
+use Rattle.resubscribe.specs.Laws.{HasEachOnce}
 use Rattle.resubscribe.specs.Order.{IsOrder, reads_of}
 use Rattle.resubscribe.proofs.OrderLemmas.{HasEachOnce-order, StandsAfterReads-order}
 use Rattle.semantics.specs.Programs.{Query}
-use Rattle.catalogue.specs.declared.fault.QueryFault.{QueryFault}
 use Rattle.catalogue.specs.declared.fault.QueryFault.TheVariants.{Unknown}
 use Rattle.catalogue.specs.Arranging.{AreSound}
 use Rattle.catalogue.specs.First.{HaveNone}

@@ -1,18 +1,14 @@
 -- What the last pass tells is settled.
 use Rattle.std.proofs.Common.{◌≡◌, ℕ, true, List, [], ◌∷◌, ◌++◌, length, refl, sym, subst}
 use Rattle.std.specs.Prelude.{Some, slice_get}
-use Rattle.semantics.specs.Expressions.{Ex}
-use Rattle.semantics.specs.Programs.{Query}
-use Rattle.stream_schema.specs.Schema.{Attr}
 use Rattle.stream_schema.specs.Streams.{Entry}
 use Rattle.cel_grammar.specs.Trees.{Statement}
 use Rattle.cel_grammar.specs.Trees as tree
-use Rattle.cel_types.specs.declared.fault.TypeFault.{TypeFault}
 use Rattle.cel_types.specs.Statements.{FailsAsQuery, Queries}
 use Rattle.cel_types.proofs.DeclarationLaws.{Declares-no_fault, Declares-one, FailsAsDeclaration-one}
 use Rattle.cel_types.proofs.QueryLaws.{FailsAsQuery-one, Queries-no_fault, Queries-one}
 use Rattle.catalogue.specs.Statements.{name_of}
-use Rattle.catalogue.specs.Typing.{Declare, FailToDeclare, FailToPublish, Publish, published_by, none, stream, query, next, here, behind}
+use Rattle.catalogue.specs.Typing.{FailToPublish, Publish, published_by, none, stream, query, next, here, behind}
 use Rattle.catalogue.specs.Verdicts.{DeclaredOrFault, OneDeclaration, OneDeclareFault, OnePublication, OnePublishFault, PublishedOrFault}
 
 pub one_declaration : OneDeclaration

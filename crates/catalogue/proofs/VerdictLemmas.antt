@@ -1,5 +1,5 @@
 -- A text has at most one verdict: pass by pass.
-use Rattle.std.proofs.Common.{◌≡◌, ◌∙◌, ℕ, List, length, refl, sym, ap, subst}
+use Rattle.std.proofs.Common.{◌≡◌, ℕ, List, length, refl, sym, ap, subst}
 use Rattle.semantics.specs.Programs.{Query}
 use Rattle.stream_schema.specs.Streams.{Entry}
 use Rattle.cel_grammar.specs.Trees.{Statement}

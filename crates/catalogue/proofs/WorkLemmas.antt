@@ -1,5 +1,5 @@
 -- One query more in the order of work.
-use Rattle.std.proofs.Common.{◌≡◌, ◌∙◌, ℕ, ◌+◌, ◌<◌, List, [], ◌∷◌, ◌++◌, true, false, length, map, take, drop, get_or, refl, sym, ap, subst, arith, take-append-drop}
+use Rattle.std.proofs.Common.{◌≡◌, ◌∙◌, ℕ, ◌+◌, ◌<◌, List, [], ◌∷◌, ◌++◌, true, length, map, take, drop, get_or, refl, sym, ap, subst, take-append-drop}
 use Rattle.std.specs.Prelude.{Some, None, slice_get, Contains}
 use Rattle.std.specs.List.{All}
 use Rattle.std.proofs.lemmas.List.{drop_more, length-map, map-append, take_more}
@@ -7,7 +7,6 @@ use Rattle.std.proofs.lemmas.List.Elements.{Contains-get_or}
 use Rattle.std.proofs.lemmas.Option.{slice_get-get_or}
 use Rattle.algebra.specs.declared.expression.Expr.{Expr}
 use Rattle.algebra.specs.Views.{ex_of}
-use Rattle.semantics.specs.Programs.{Query}
 use Rattle.stream_schema.specs.Streams.{Entry, number_of, stream_names}
 use Rattle.cel_grammar.specs.Trees.{Statement}
 use Rattle.cel_grammar.specs.Trees as tree
@@ -22,7 +21,7 @@ use Rattle.catalogue.specs.Reading.{numbers_of, reads_in}
 use Rattle.catalogue.specs.Statements.{is_query, name_of, queries_in, query_names, reads_by}
 use Rattle.catalogue.specs.Tables.{ArePlaces}
 use Rattle.catalogue.specs.Telling.{TellsBad}
-use Rattle.catalogue.specs.Typing.{AddsQuery, ArePublished, Declare, FailToPublish, FailsInQueries, FailsOn, Publish, none, published_by, query_lines}
+use Rattle.catalogue.specs.Typing.{AddsQuery, ArePublished, Declare, FailToPublish, FailsInQueries, FailsOn, Publish, none, query_lines}
 use Rattle.catalogue.proofs.PlaceLemmas.{slice_get-within}
 use Rattle.catalogue.proofs.PlacesLemmas.{at_place, places_long}
 use Rattle.catalogue.proofs.PublishLemmas.{Publish-push, fails_behind}

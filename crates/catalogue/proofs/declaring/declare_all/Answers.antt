@@ -1,6 +1,5 @@
 use Rattle.std.proofs.Common.{◌≡◌, ◌<◌, List, [], length, map, subst, sym}
 use Rattle.std.specs.Prelude.{Some, slice_get}
-use Rattle.cel_grammar.specs.Trees.{Statement}
 use Rattle.cel_grammar.specs.Views.{statement_of}
 use Rattle.stream_schema.specs.Streams.{Entry}
 use Rattle.catalogue.specs.Typing.{Declare, none}
