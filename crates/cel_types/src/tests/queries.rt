@@ -4,7 +4,8 @@ ghost use Rattle.cel_grammar.specs.Views.{source_of, statement_of};
 ghost use Rattle.cel_types.specs.Statements.{IsQueryOver};
 ghost use Rattle.cel_types.specs.Typing.{ReadsStreams};
 
-use crate::{TypeFault, elaborate};
+use super::said;
+use crate::elaborate;
 use cel_grammar::{Source, Statement};
 use cel_lexer::lex;
 use cel_parser::parse;
@@ -59,25 +60,6 @@ fn is_query(streams: &Streams, statement: &Statement) -> bool
         Statement::Stream { .. } => false,
         Statement::Query { source, .. } => reads_streams(streams, source),
     }
-}
-
-// What a fault says.
-fn said(alloc: Global, fault: &TypeFault) -> Result<String, Memory> {
-    let text = match fault {
-        TypeFault::UnknownAttr { name } => format!(in alloc; "{} is unknown", name.as_str())?,
-        TypeFault::KindMismatch { want, got } => format!(in alloc;
-            "{want:?} wanted, {got:?} given"
-        )?,
-        TypeFault::NotAssignable { name } => format!(in alloc;
-            "{} cannot be assigned",
-            name.as_str()
-        )?,
-        TypeFault::DuplicateAttr { name } => format!(in alloc; "{} stands twice", name.as_str())?,
-        TypeFault::UnionMismatch { place } => format!(in alloc; "differs at {place}")?,
-        TypeFault::TooWide { count } => format!(in alloc; "{count} attributes")?,
-        TypeFault::Memory => String::from_str(alloc, "no memory")?,
-    };
-    Ok(text)
 }
 
 // The names of a schema, each with a space behind it.
