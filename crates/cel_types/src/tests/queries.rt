@@ -107,6 +107,33 @@ fn the_first_fault_of_the_walk_decides(rt: HostRuntime) -> Result<(), Fail> {
             "SELECT * FROM FILTER {Name > 1} Stock PUBLISH Q;",
             "Text wanted, Int given",
         ),
+        // the source, then the condition; of a comparison the left scalar, the right one, then their kinds
+        (
+            "SELECT * FROM FILTER {C > 1} (SELECT A FROM Stock) PUBLISH Q;",
+            "A is unknown",
+        ),
+        (
+            "SELECT * FROM FILTER {A > B} Stock PUBLISH Q;",
+            "A is unknown",
+        ),
+        (
+            "SELECT * FROM FILTER {Name > B} Stock PUBLISH Q;",
+            "B is unknown",
+        ),
+        (
+            "SELECT * FROM FILTER {Name > 1 OR A = 1} Stock PUBLISH Q;",
+            "Text wanted, Int given",
+        ),
+        // of an operation the left operand, then the right one
+        (
+            "SELECT Name + A AS X FROM Stock PUBLISH Q;",
+            "Int wanted, Text given",
+        ),
+        ("SELECT A * Name AS X FROM Stock PUBLISH Q;", "A is unknown"),
+        (
+            "SELECT MIN(Price, Name) AS X FROM Stock PUBLISH Q;",
+            "Int wanted, Text given",
+        ),
         // an item's scalar, then its name; `*` stands for all attributes
         (
             "SELECT Name, A AS Name FROM Stock PUBLISH Q;",
