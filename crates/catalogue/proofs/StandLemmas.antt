@@ -35,16 +35,16 @@ use Rattle.catalogue.proofs.PublishLemmas.{Publish-names}
 use Rattle.catalogue.proofs.ReadingLemmas.{read_fault-cons, fault_by}
 
 -- a name that stands among others is found there
-among-there : (xs : List (List ℕ)) (name : List ℕ) → Contains xs name → is_among xs name ≡ true
+pub among-there : (xs : List (List ℕ)) (name : List ℕ) → Contains xs name → is_among xs name ≡ true
 among-there [] name stands = absurd (omega arith)
 among-there (x ∷ xs) name (zero, within, same) = ap (λ b. b || is_among xs name) ((bytes_eq-Decides name x).1 (sym same))
 among-there (x ∷ xs) name (suc k, within, same) = ap (λ b. bytes_eq name x || b) (among-there xs name (k, omega arith, same)) ∙ or-true (bytes_eq name x)
 
 -- a name that is found among others stands there
-stands-from : (xs : List (List ℕ)) (name : List ℕ) → is_among xs name ≡ true → Contains xs name
+pub stands-from : (xs : List (List ℕ)) (name : List ℕ) → is_among xs name ≡ true → Contains xs name
 stands-from xs name e = Contains-from_any {eq = bytes_eq} (λ a b same. (bytes_eq-Decides a b).0 same) name xs e
 
-Contains-map : {X Y : Type 0} (f : X → Y) (xs : List X) (x : X) → Contains xs x → Contains (map f xs) (f x)
+pub Contains-map : {X Y : Type 0} (f : X → Y) (xs : List X) (x : X) → Contains xs x → Contains (map f xs) (f x)
 Contains-map f xs x (k, within, same) = (k, rw (length-map xs f) within, get_or-map f xs k x (f x) within ∙ ap f same)
 
 -- a declared stream comes from a declaration
@@ -83,7 +83,7 @@ query_stands (tree.Query items source own ∷ ss) zero s there is =
 query_stands (tree.Query items source own ∷ ss) (suc place) s there is = Contains-append_right (own ∷ []) (query_names ss) (name_of s) (query_stands ss place s there is)
 
 -- sound names differ
-sound_apart : (ss : List Statement) → HaveNone (name_fault_at ss) (length ss) → AllPairs (λ s t. name_of s ≢ name_of t) ss
+pub sound_apart : (ss : List Statement) → HaveNone (name_fault_at ss) (length ss) → AllPairs (λ s t. name_of s ≢ name_of t) ss
 sound_apart ss none_at i j d lt within same =
     let there : slice_get ss j ≡ Some (get_or ss j d) = slice_get-get_or ss j d within in
     let new : is_among (names_in (take j ss)) (name_of (get_or ss j d)) ≡ false = new_at ss j (get_or ss j d) there (none_at j within) in
