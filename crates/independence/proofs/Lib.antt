@@ -1,0 +1,12 @@
+pub mod AcceptedLemmas
+pub mod EnlargingLemmas
+pub mod EventLemmas
+pub mod Examples
+pub mod IndependenceLemmas
+pub mod ProgramLemmas
+pub mod PublishedLemmas
+pub mod ReachLemmas
+pub mod SharedLemmas
+pub mod TableLemmas
+pub mod TypingLemmas
+pub mod WithinLemmas

@@ -1,0 +1,4 @@
+pub mod ReadsFrom
+pub mod Hearing
+pub mod Independence
+pub mod Enlarging

@@ -1,0 +1,24 @@
+//! Laws over accepted query texts.
+ghost use Rattle.independence.specs.Enlarging.{AddedQueriesChangeNoEvent, AddedQueriesChangeNoLine, SameEventsHaveSameTimes};
+ghost use Rattle.independence.specs.Independence.{ResultsDependOnReadsAlone};
+
+/// No line of a query depends on a query that it doesn't read from. "Read from" is followed through
+/// published streams.
+pub fn results_depend_on_reads_alone()
+    ensures { ResultsDependOnReadsAlone }
+{}
+
+/// An event text is read alike where queries are added, up to the numbers of the streams.
+pub fn added_queries_change_no_event()
+    ensures { AddedQueriesChangeNoEvent }
+{}
+
+/// The same events close the same epochs.
+pub fn same_events_have_same_times()
+    ensures { SameEventsHaveSameTimes }
+{}
+
+/// A set of queries that is enlarged by others gives each old query the same lines.
+pub fn added_queries_change_no_line()
+    ensures { AddedQueriesChangeNoLine }
+{}
