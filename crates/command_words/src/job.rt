@@ -1,0 +1,13 @@
+//! What the words of the command line ask for.
+use event_types::Text;
+
+/// A job, with the names of its files.
+#[derive(Drop)]
+pub enum Job {
+    /// Runs the queries over the events, and writes the report: `run QUERIES EVENTS`.
+    Run { queries: Text, events: Text },
+    /// Writes the canonical text of the queries: `check QUERIES`.
+    Check { queries: Text },
+    /// Writes a line for each query, in the order of work: `plan QUERIES`.
+    Plan { queries: Text },
+}

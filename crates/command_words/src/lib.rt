@@ -1,0 +1,14 @@
+//! The words of the command line, and the job that they name.
+//!
+//! Contracts see a `Job` as itself, and words as their bytes.
+#![tactic(auto)]
+
+mod command;
+mod job;
+mod table;
+
+pub use job::Job;
+pub use table::job_of;
+
+#[cfg(test)]
+mod tests;
