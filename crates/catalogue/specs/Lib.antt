@@ -6,8 +6,10 @@ pub mod Arranging
 pub mod Faults
 pub mod Filing
 pub mod Typing
-pub mod Tables
 pub mod Judgement
+pub mod Catalogued
+pub mod Tables
 pub mod Telling
+pub mod Loading
 pub mod Laws
 pub mod Verdicts

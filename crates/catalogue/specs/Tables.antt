@@ -1,8 +1,9 @@
 -- Tables of the statements of a file, by name and by the queries' numbers. No public clause cites this.
-use Rattle.std.specs.Prelude.{◌≡◌, ℕ, List, map, Some, slice_get}
+use Rattle.std.specs.Prelude.{◌≡◌, ◌<◌, ℕ, List, length, map, Some, slice_get, slice_index_or}
 use Rattle.cel_grammar.specs.Trees.{Statement}
 use Rattle.stream_schema.specs.Streams.{stream_names}
 use Rattle.catalogue.specs.declared.naming.Named.{Named}
+use Rattle.catalogue.specs.Catalogued.{Catalogued, IsAccepted}
 use Rattle.catalogue.specs.Statements.{names_in, queries_in, query_names}
 use Rattle.catalogue.specs.Typing.{query_lines}
 
@@ -15,3 +16,13 @@ pub record AreNamed (statements : List Statement) (named : Named) : Type 0 where
 pub record ArePlaces (statements : List Statement) (lines : List ℕ) (some : List Statement) (some_lines places : List ℕ) : Type 0 where
   pub queries : map (slice_get statements) places ≡ map Some (queries_in some)
   pub lines_are : map (slice_get lines) places ≡ map Some (query_lines some some_lines)
+
+-- for each of these numbers its place among them
+pub record HasPlaces (numbers : List ℕ) (places : List ℕ) : Type 0 where
+  pub long : length places ≡ length numbers
+  pub there : (place : ℕ) → place < length numbers → slice_index_or places (slice_index_or numbers place 0) 0 ≡ place
+
+-- the parts are accepted, and these are the places of the queries in the order of work
+pub record AreHeld (c : Catalogued) (places : List ℕ) : Type 0 where
+  pub accepted : IsAccepted c
+  pub placed : HasPlaces c.order places

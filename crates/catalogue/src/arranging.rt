@@ -20,9 +20,9 @@ use resubscribe::{OrderFault, Reads, order};
 use std::alloc::Global;
 use stream_schema::Streams;
 
-/// The order in which the queries of a file are worked on, by their numbers; a query's number is its place
-/// among the queries of the file, from 0. Else the first fault of a name, or the names of a cycle.
-pub fn arrange(alloc: Global, file: &File) -> Result<Numbers, LoadFault>
+// The order in which the queries of a file are worked on, by their numbers; a query's number is its place
+// among the queries of the file, from 0. Else the first fault of a name, or the names of a cycle.
+pub(crate) fn arrange(alloc: Global, file: &File) -> Result<Numbers, LoadFault>
     ensures ok { IfOk result (IsOrder (reads_in (map statement_of file.now.statements))) }
     ensures sound { OnOk result (AreSound (map statement_of file.now.statements)) }
     ensures err { IfErr result (Tells (FailInNames (map statement_of file.now.statements) file.now.lines) (HaveCycle (map statement_of file.now.statements))) }

@@ -16,8 +16,8 @@ use cel_types::{TypeFault, declare};
 use std::alloc::Global;
 use stream_schema::Streams;
 
-/// The streams that a file with sound names declares, in its order, or the first fault of a declaration.
-pub fn declare_all(alloc: Global, file: &File) -> Result<Streams, LoadFault>
+// The streams that a file with sound names declares, in its order, or the first fault of a declaration.
+pub(crate) fn declare_all(alloc: Global, file: &File) -> Result<Streams, LoadFault>
     requires { AreSound (map statement_of file.now.statements) }
     ensures ok { IfOk result (Declare (map statement_of file.now.statements)) }
     ensures err { IfErr result (TellsBad (FailsInDeclarations (map statement_of file.now.statements) file.now.lines)) }

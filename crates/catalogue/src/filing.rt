@@ -14,8 +14,8 @@ use std::alloc::Global;
 // The greatest number of bytes of a query text.
 const MOST: usize = 1_048_576;
 
-/// The statements of a text, or its first fault of length, tokens or grammar.
-pub fn file_of(alloc: Global, text: &[u8]) -> Result<File, LoadFault>
+// The statements of a text, or its first fault of length, tokens or grammar.
+pub(crate) fn file_of(alloc: Global, text: &[u8]) -> Result<File, LoadFault>
     ensures ok { IfOk result (λ file. IsFile text.now (map statement_of file.statements) file.lines) }
     ensures err { IfErr result (TellsBad (FailsAsFile text.now)) }
 {

@@ -2,14 +2,14 @@
 ghost use Rattle.catalogue.specs.Laws.{FileOrFault, OneCycleOfNames, OneFile, OneFileFault, OneNameFault, OrderOrCycle, SoundOrFault};
 ghost use Rattle.catalogue.specs.Verdicts.{DeclaredOrFault, OneDeclaration, OneDeclareFault, OnePublication, OnePublishFault, OneVerdict, PublishedOrFault};
 
-/// What `file_of` answers, want of memory aside, is settled by the text.
+/// Whether a text is a file, and which, or else its first fault, is settled by the text.
 pub fn text_is_one_file()
     ensures file { OneFile }
     ensures fault { OneFileFault }
     ensures not_both { FileOrFault }
 {}
 
-/// What `arrange` answers, want of memory aside, is settled by the statements and their lines.
+/// The first fault of names, or else the cycle of queries, is settled by the statements and their lines.
 pub fn names_have_one_answer()
     ensures fault { OneNameFault }
     ensures sound { SoundOrFault }
@@ -17,15 +17,15 @@ pub fn names_have_one_answer()
     ensures order { OrderOrCycle }
 {}
 
-/// What `declare_all` answers, want of memory aside, is settled by the statements and their lines.
+/// The declared streams, or the first fault of a declaration, are settled by the statements and their lines.
 pub fn declarations_have_one_answer()
     ensures streams { OneDeclaration }
     ensures fault { OneDeclareFault }
     ensures not_both { DeclaredOrFault }
 {}
 
-/// What `publish_all` answers, want of memory aside, is settled by the statements, their lines, the
-/// declared streams and the order.
+/// The streams that queries publish, or the first fault of a query, are settled by the statements, their
+/// lines, the declared streams and the order.
 pub fn queries_have_one_answer()
     ensures streams { OnePublication }
     ensures fault { OnePublishFault }

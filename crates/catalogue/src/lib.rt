@@ -1,25 +1,29 @@
 //! Query texts: which are accepted, as which queries over which streams, and why others are refused.
+//!
+//! Contracts see a `Catalogue` as its file, its declared streams, the streams that its queries publish,
+//! the numbers of its queries in the order of work, and their expressions in this order (`judged_of`
+//! says what a text with these parts is judged to be).
 #![tactic(auto)]
 
+mod accepted;
 mod arranging;
 mod declaring;
 mod fault;
 mod filing;
 mod laws;
+mod loading;
 mod naming;
 mod publishing;
 mod reading;
 mod statements;
 
-pub use arranging::arrange;
-pub use declaring::declare_all;
+pub use accepted::Catalogue;
 pub use fault::{LoadFault, QueryFault};
-pub use filing::file_of;
 pub use laws::{
     declarations_have_one_answer, names_have_one_answer, queries_have_one_answer,
     text_has_one_verdict, text_is_one_file,
 };
-pub use publishing::publish_all;
+pub use loading::load;
 
 #[cfg(test)]
 mod tests;

@@ -23,9 +23,9 @@ use event_types::{List, Memory, Numbers};
 use std::alloc::Global;
 use stream_schema::Streams;
 
-/// Adds the streams of the queries to the declared ones, in the order of work, and gives the queries'
-/// expressions in this order; or tells the first fault of a query. After it some streams may be added.
-pub fn publish_all(
+// Adds the streams of the queries to the declared ones, in the order of work, and gives the queries'
+// expressions in this order; or tells the first fault of a query. After it some streams may be added.
+pub(crate) fn publish_all(
     alloc: Global,
     file: &File,
     order: &Numbers,

@@ -1,0 +1,6 @@
+use Rattle.catalogue.proofs.HeldLemmas.{HasFirstPlaces}
+use Rattle.catalogue.proofs.accepted.places_in.Given as goal
+
+-- the numbers so far have their places
+abbrev pub invariant-loop-place : goal.invariant-loop-place
+invariant-loop-place l = HasFirstPlaces l.numbers l.places.items l.place

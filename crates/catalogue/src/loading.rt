@@ -1,0 +1,68 @@
+//! From a query text to its catalogue.
+ghost use Rattle.std.specs.Prelude.{IfErr, IfOk};
+ghost use Rattle.catalogue.specs.Catalogued.{parts_of, judged_of};
+ghost use Rattle.catalogue.specs.Judgement.{Accepts, Circles, Refuses};
+ghost use Rattle.catalogue.specs.Loading.{AcceptsFile, RefusesFile};
+ghost use Rattle.catalogue.specs.Telling.{Tells};
+
+use crate::accepted::Catalogue;
+use crate::arranging::arrange;
+use crate::declaring::declare_all;
+use crate::fault::LoadFault;
+use crate::filing::file_of;
+use crate::publishing::publish_all;
+use algebra::Expr;
+use cel_parser::File;
+use event_types::{List, Numbers};
+use std::alloc::Global;
+use stream_schema::Streams;
+
+/// The catalogue of a query text, or its first fault: of its length, its tokens, its statements, their
+/// names, the names that they read, a cycle, the types of its declarations, or those of its queries.
+pub fn load(alloc: Global, text: &[u8]) -> Result<Catalogue, LoadFault>
+    ensures ok { IfOk result (λ catalogue. Accepts text.now (judged_of catalogue)) }
+    ensures err { IfErr result (Tells (Refuses text.now) (Circles text.now)) }
+{
+    match file_of(alloc, text) {
+        Ok(file) => match type_file(alloc, &file) {
+            Ok(typed) => Ok(Catalogue::make(
+                alloc,
+                file,
+                typed.streams,
+                typed.order,
+                typed.expressions,
+            )?),
+            Err(fault) => Err(fault),
+        },
+        Err(fault) => Err(fault),
+    }
+}
+
+// What a catalogue has beside its file.
+#[derive(Drop)]
+struct Typed {
+    streams: Streams,
+    order: Numbers,
+    expressions: List<Expr>,
+}
+
+// The streams of a file, and its queries in the order of work; or the first fault of names or types.
+fn type_file(alloc: Global, file: &File) -> Result<Typed, LoadFault>
+    ensures ok { IfOk result (λ typed. AcceptsFile file.now (judged_of (parts_of file.now typed.streams typed.order typed.expressions))) }
+    ensures err { IfErr result (RefusesFile file.now) }
+{
+    match arrange(alloc, file) {
+        Ok(order) => match declare_all(alloc, file) {
+            Ok(mut streams) => match publish_all(alloc, file, &order, &mut streams) {
+                Ok(expressions) => Ok(Typed {
+                    streams,
+                    order,
+                    expressions,
+                }),
+                Err(fault) => Err(fault),
+            },
+            Err(fault) => Err(fault),
+        },
+        Err(fault) => Err(fault),
+    }
+}
