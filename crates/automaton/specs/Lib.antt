@@ -1,0 +1,14 @@
+pub mod Additions
+pub mod Alive
+pub mod Flow
+pub mod LineKinds
+pub mod Layouts
+pub mod NetworkLines
+pub mod Networks
+pub mod Plain
+pub mod Prefixes
+pub mod States
+pub mod Steps
+pub mod Waiting
+pub mod Waits
+pub mod Work

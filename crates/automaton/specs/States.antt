@@ -1,0 +1,69 @@
+-- The states of a network by number, as its readers tell them.
+use Rattle.std.specs.Prelude.{ℕ, Bool, is_some, List, [], Option, Some, None, slice_index_or}
+use Rattle.std.specs.Option.{option_and_then, option_map, unwrap_or}
+use Rattle.automaton.specs.declared.network.End.{End}
+use Rattle.automaton.specs.declared.network.Entry.{Entry}
+use Rattle.automaton.specs.declared.network.Entry.TheVariants.{Root, Waiting}
+use Rattle.automaton.specs.declared.network.State.{State}
+use Rattle.automaton.specs.declared.step.Stage.{Stage}
+use Rattle.automaton.specs.declared.wait.Wait.{Wait}
+
+-- a network: at each number its state, or nothing where no state has the number
+abbrev pub Net : Type 0
+Net = List (Option State)
+
+-- the state with a number
+abbrev pub state_at : Net → ℕ → Option State
+state_at net number = slice_index_or net number None
+
+-- whether a state has the number
+abbrev pub is_used : Net → ℕ → Bool
+is_used net number = is_some (state_at net number)
+
+-- how the state with a number is entered
+abbrev pub entry_at : Net → ℕ → Option Entry
+entry_at net number = option_map (λ state. state.entry) (state_at net number)
+
+-- the stream of a root state
+abbrev pub root_by : Entry → Option ℕ
+root_by (Root stream) = Some stream
+root_by (Waiting before hop) = None
+
+-- the number of the state before a waiting state
+abbrev pub before_by : Entry → Option ℕ
+before_by (Root stream) = None
+before_by (Waiting before hop) = Some before
+
+-- what a binding waits for at a waiting state
+abbrev pub wait_by : Entry → Option Wait
+wait_by (Root stream) = None
+wait_by (Waiting before hop) = Some hop.wait
+
+-- the step into a waiting state, and the empty one at a root
+abbrev pub step_by : Entry → List Stage
+step_by (Root stream) = []
+step_by (Waiting before hop) = hop.step
+
+-- the stream of the state with a number, where it is a root state
+abbrev pub root_at : Net → ℕ → Option ℕ
+root_at net number = option_and_then root_by (entry_at net number)
+
+-- the number of the state before the state with a number
+abbrev pub before_at : Net → ℕ → Option ℕ
+before_at net number = option_and_then before_by (entry_at net number)
+
+-- what a binding waits for at the state with a number, where it is a waiting state
+abbrev pub wait_at : Net → ℕ → Option Wait
+wait_at net number = option_and_then wait_by (entry_at net number)
+
+-- the step into the state with a number
+abbrev pub step_at : Net → ℕ → List Stage
+step_at net number = unwrap_or (option_map step_by (entry_at net number)) []
+
+-- the numbers of the states to which the forward edges of a state lead
+abbrev pub edges_at : Net → ℕ → List ℕ
+edges_at net number = unwrap_or (option_map (λ state. state.edges) (state_at net number)) []
+
+-- the ends at a state
+abbrev pub ends_at : Net → ℕ → List End
+ends_at net number = unwrap_or (option_map (λ state. state.ends) (state_at net number)) []

@@ -1,0 +1,68 @@
+//! Layouts: which streams lines publish, in which order, and of which kinds.
+ghost use Rattle.std.specs.Prelude.{◌≡◌, IfOk};
+
+use event_types::{KindLists, Kinds, List, Memory, Numbers};
+use std::alloc::Global;
+
+/// The streams of a network.
+///
+/// `order` has the derived streams in the order of work, hidden ones included, `outs` the streams that
+/// are printed, in print order, and `kinds` the kinds of each stream by its number.
+#[derive(Drop)]
+pub struct Layout {
+    pub order: Numbers,
+    pub outs: Numbers,
+    pub kinds: KindLists,
+}
+
+impl Layout {
+    /// An equal layout.
+    pub fn copy(&self, alloc: Global) -> Result<Layout, Memory>
+        ensures { IfOk result (λ copy. copy ≡ self.now) }
+    {
+        let order = copy_numbers(alloc, &self.order)?;
+        let outs = copy_numbers(alloc, &self.outs)?;
+        let kinds = copy_kind_lists(alloc, &self.kinds)?;
+        Ok(Layout { order, outs, kinds })
+    }
+}
+
+// Equal numbers.
+fn copy_numbers(alloc: Global, numbers: &Numbers) -> Result<Numbers, Memory>
+    ensures { IfOk result (λ copy. copy ≡ numbers.now) }
+{
+    let mut copy = List::new(alloc);
+    for number in numbers.as_slice() {
+        if copy.push(*number).is_err() {
+            return Err(Memory);
+        }
+    }
+    Ok(copy)
+}
+
+// Equal kinds.
+pub(crate) fn copy_kinds(alloc: Global, kinds: &Kinds) -> Result<Kinds, Memory>
+    ensures { IfOk result (λ copy. copy ≡ kinds.now) }
+{
+    let mut copy = List::new(alloc);
+    for kind in kinds.as_slice() {
+        if copy.push(*kind).is_err() {
+            return Err(Memory);
+        }
+    }
+    Ok(copy)
+}
+
+// Equal kinds of each stream.
+fn copy_kind_lists(alloc: Global, lists: &KindLists) -> Result<KindLists, Memory>
+    ensures { IfOk result (λ copy. copy ≡ lists.now) }
+{
+    let mut copy = List::new(alloc);
+    for kinds in lists.as_slice() {
+        let kinds = copy_kinds(alloc, kinds)?;
+        if copy.push(kinds).is_err() {
+            return Err(Memory);
+        }
+    }
+    Ok(copy)
+}

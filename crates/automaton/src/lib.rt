@@ -1,0 +1,16 @@
+//! Lines of steps and waits, the networks that they make, and what flows along both.
+//!
+//! Contracts see a `Network` as its states by number, with nothing at a number that no state has.
+#![tactic(auto)]
+
+mod layout;
+mod line;
+mod network;
+mod step;
+mod wait;
+
+pub use layout::Layout;
+pub use line::{Hop, Hops, Line, Lines};
+pub use network::{End, Ends, Entry, Network, State};
+pub use step::{Stage, Step};
+pub use wait::{Turn, Wait};
