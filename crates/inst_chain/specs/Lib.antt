@@ -1,0 +1,4 @@
+pub mod Beads
+pub mod Heads
+pub mod Items
+pub mod Reading
