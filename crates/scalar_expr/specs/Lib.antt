@@ -1,3 +1,4 @@
+pub mod Alive
 pub mod Canonical
 pub mod CanonicalLaws
 pub mod Classes
