@@ -1,0 +1,71 @@
+-- Lists up to order, and lists within others.
+use Rattle.std.proofs.Common.{◌≡◌, sym, ap, refl, subst, ◌≤◌, length, List, [], ◌∷◌, ◌++◌, map, append_assoc, arith}
+use Rattle.std.specs.Prelude.{Option, Some, None}
+use Rattle.std.specs.List.{All, filter_map, flat_map, cons_option}
+use Rattle.std.specs.List.Sorted.{IsPermutation}
+use Rattle.std.proofs.lemmas.List.Elements.{All-head, All-tail}
+use Rattle.std.proofs.lemmas.List.Sorted.{IsPermutation-refl, IsPermutation-trans, IsPermutation-append, IsPermutation-append_left, IsPermutation-append_right, IsPermutation-append_comm, IsPermutation-map}
+use Rattle.scalar_expr.proofs.Bags.{permuted_from, permuted_to, flat_map_permuted}
+use Rattle.epoch_laws.specs.Stores.{IsWithin}
+use Rattle.epoch_laws.proofs.Lists.{map-append}
+
+module _ {X : Type 0} where
+  pub permuted_is : {xs ys : List X} → xs ≡ ys → IsPermutation xs ys
+  permuted_is {xs} {ys} e = subst (λ zs. IsPermutation xs zs) e (IsPermutation-refl xs)
+
+  -- the two in the middle change places
+  pub swap_mid : (a b c : List X) → IsPermutation (a ++ (b ++ c)) (b ++ (a ++ c))
+  swap_mid a b c =
+      permuted_from (sym (append_assoc a b c)) (permuted_to (IsPermutation-append_left c (a ++ b) (b ++ a) (IsPermutation-append_comm a b)) (append_assoc b a c))
+
+  pub swap_four : (a b c d : List X) → IsPermutation ((a ++ b) ++ (c ++ d)) ((a ++ c) ++ (b ++ d))
+  swap_four a b c d =
+      permuted_from (append_assoc a b (c ++ d)) (permuted_to (IsPermutation-append_right a (b ++ (c ++ d)) (c ++ (b ++ d)) (swap_mid b c d)) (sym (append_assoc a c (b ++ d))))
+
+  pub no_length : (xs : List X) → length xs ≤ 0 → xs ≡ []
+  no_length [] h = refl
+  no_length (x ∷ xs) h = absurd (omega arith)
+
+  -- what is within a list that is within another is within that
+  pub within_through : (xs ys zs : List X) → IsWithin xs ys → IsWithin ys zs → IsWithin xs zs
+  within_through xs ys zs h g = (h.0 ++ g.0, permuted_from (sym (append_assoc xs h.0 g.0)) (IsPermutation-trans _ _ _ (IsPermutation-append_left g.0 (xs ++ h.0) ys h.1) g.1))
+
+  pub within_permuted : (xs ys zs : List X) → IsPermutation xs ys → IsWithin ys zs → IsWithin xs zs
+  within_permuted xs ys zs h g = (g.0, IsPermutation-trans _ _ _ (IsPermutation-append_left g.0 xs ys h) g.1)
+
+module _ {X Y : Type 0} where
+  -- the images of what is within a list are within its images
+  pub map_within : (f : X → Y) (xs ys : List X) → IsWithin xs ys → IsWithin (map f xs) (map f ys)
+  map_within f xs ys h = (map f h.0, permuted_from (sym (map-append f xs h.0)) (IsPermutation-map f (xs ++ h.0) ys h.1))
+
+  -- what each item gives in two parts
+  pub flat_map_parts : (f g : X → List Y) (xs : List X) → IsPermutation (flat_map (λ x. f x ++ g x) xs) (flat_map f xs ++ flat_map g xs)
+  flat_map_parts f g [] = IsPermutation-refl []
+  flat_map_parts f g (x ∷ xs) =
+      IsPermutation-trans _ _ _
+      (IsPermutation-append_right (f x ++ g x) (flat_map (λ x. f x ++ g x) xs) (flat_map f xs ++ flat_map g xs) (flat_map_parts f g xs))
+      (swap_four (f x) (g x) (flat_map f xs) (flat_map g xs))
+
+  -- items that give the same bags
+  pub flat_map_alike : (f g : X → List Y) (xs : List X) → All (λ x. IsPermutation (f x) (g x)) xs → IsPermutation (flat_map f xs) (flat_map g xs)
+  flat_map_alike f g [] all = IsPermutation-refl []
+  flat_map_alike f g (x ∷ xs) all =
+      IsPermutation-append (f x) (g x) (flat_map f xs) (flat_map g xs) (first x xs all) (flat_map_alike f g xs (rest x xs all))
+    where
+      first : (x : X) (xs : List X) → All (λ x. IsPermutation (f x) (g x)) (x ∷ xs) → IsPermutation (f x) (g x)
+      first x xs all = All-head (λ x. IsPermutation (f x) (g x)) x xs all
+
+      rest : (x : X) (xs : List X) → All (λ x. IsPermutation (f x) (g x)) (x ∷ xs) → All (λ x. IsPermutation (f x) (g x)) xs
+      rest x xs all = All-tail (λ x. IsPermutation (f x) (g x)) x xs all
+
+  filter_map_flat : (f : X → Option Y) (xs : List X) → filter_map f xs ≡ flat_map (λ x. cons_option (f x) []) xs
+  filter_map_flat f [] = refl
+  filter_map_flat f (x ∷ xs) = go (filter_map_flat f xs) (f x)
+    where
+      go : filter_map f xs ≡ flat_map (λ x. cons_option (f x) []) xs → (o : Option Y) → cons_option o (filter_map f xs) ≡ cons_option o [] ++ flat_map (λ x. cons_option (f x) []) xs
+      go rest None = rest
+      go rest (Some y) = ap (λ ys. y ∷ ys) rest
+
+  pub filter_map_permuted : (f : X → Option Y) (xs ys : List X) → IsPermutation xs ys → IsPermutation (filter_map f xs) (filter_map f ys)
+  filter_map_permuted f xs ys h =
+      permuted_from (filter_map_flat f xs) (permuted_to (flat_map_permuted (λ x. cons_option (f x) []) xs ys h) (sym (filter_map_flat f ys)))

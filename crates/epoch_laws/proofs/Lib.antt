@@ -1,0 +1,10 @@
+pub mod Bags
+pub mod Cuts
+pub mod Flows
+pub mod Folds
+pub mod Lists
+pub mod Networks
+pub mod Purges
+pub mod Stands
+pub mod Streams
+pub mod Waits

@@ -1,0 +1,208 @@
+-- Closing an epoch over the states of a network.
+use Rattle.std.proofs.Common.{◌≡◌, ◌∙◌, sym, ap, refl, subst, ℕ, ◌≤◌, ◌==◌, Bool, true, false, length, List, [], ◌∷◌, ◌++◌, map}
+use Rattle.std.specs.Prelude.{Option, Some, None, is_some}
+use Rattle.std.specs.Option.{option_and_then, option_map, unwrap_or}
+use Rattle.std.specs.List.{All, filter, filter_map, flat_map, range_with_len}
+use Rattle.std.specs.List.Sorted.{IsPermutation}
+use Rattle.std.proofs.lemmas.List.Elements.{All-nil, All-cons, All-head, All-tail, All-weaker}
+use Rattle.std.proofs.lemmas.List.Folds.{flat_map-map}
+use Rattle.std.proofs.lemmas.List.Sorted.{All-permutation, IsPermutation-sym, IsPermutation-trans, IsPermutation-map}
+use Rattle.std.proofs.lemmas.Simd.{map-map}
+use Rattle.event_types.specs.Tuple.{Row}
+use Rattle.instances.specs.declared.instance.Instance.{Instance}
+use Rattle.semantics.specs.Denotation.{Streams}
+use Rattle.semantics.specs.Scalars.{Pr}
+use Rattle.semantics.proofs.ListLemmas.{filter-map}
+use Rattle.scalar_expr.proofs.Bags.{filter_permuted, flat_map_permuted, permuted_from, permuted_to}
+use Rattle.scalar_expr.proofs.RunsLemmas.{flat_map_same}
+use Rattle.automaton.specs.Flow.{entering}
+use Rattle.automaton.specs.NetworkLines.{Ending, HasLines, endings_by, ending_at}
+use Rattle.automaton.specs.Networks.{IsAt}
+use Rattle.automaton.specs.Prefixes.{Prefix, Root, After, extended, hops_of, path, root_of}
+use Rattle.automaton.specs.States.{Net, ends_at, entry_at, root_by, state_at}
+use Rattle.automaton.specs.Steps.{pass}
+use Rattle.automaton.specs.Waiting.{waiting}
+use Rattle.automaton.specs.Work.{ReadsNone, is_in}
+use Rattle.automaton.specs.declared.line.Hop.{Hop}
+use Rattle.automaton.specs.declared.line.Line.{Line}
+use Rattle.automaton.specs.declared.network.End.{End}
+use Rattle.automaton.specs.declared.network.Entry.{Entry}
+use Rattle.automaton.specs.declared.network.Entry.TheVariants as entry
+use Rattle.automaton.specs.declared.network.State.{State}
+use Rattle.automaton.specs.declared.wait.Turn.{Turn}
+use Rattle.epoch_laws.specs.Closing.{Stores, leaves, leaves_by, published, published_at, stepped_by, stores_after}
+use Rattle.epoch_laws.specs.Epochs.{again, is_unmet, stepped, taken, took}
+use Rattle.epoch_laws.specs.Instances.{bindings_of, instance_of}
+use Rattle.epoch_laws.specs.Stores.{Holds}
+use Rattle.epoch_laws.proofs.Bags.{filter_map_permuted, flat_map_alike, permuted_is}
+use Rattle.epoch_laws.proofs.Flows.{flow_rows}
+use Rattle.epoch_laws.proofs.Lists.{All_last, every, filter-flat_map, flat_map-flat_map, map-append, map-flat_map, map_all}
+use Rattle.epoch_laws.proofs.Purges.{IsStored, between_holds, rows_stepped, store_gives, store_keeps}
+
+-- stores and the bindings that they hold
+took_bindings : (p : List Pr) (turn : Option Turn) (new : List Row) (store : List Instance) → took p turn new store ≡ flat_map (taken p turn new) (bindings_of store)
+took_bindings p turn new store = sym (flat_map-map (taken p turn new) (λ instance. instance.tuple) store)
+
+map_itself : (xs : List Row) → map (λ binding. binding) xs ≡ xs
+map_itself [] = refl
+map_itself (x ∷ xs) = ap (λ ys. x ∷ ys) (map_itself xs)
+
+bindings_back : (bs : List Row) → bindings_of (map instance_of bs) ≡ bs
+bindings_back bs = map-map (λ instance. instance.tuple) instance_of bs ∙ map_itself bs
+
+pub stepped_bindings : (p : List Pr) (turn : Option Turn) (new entered : List Row) (store : List Instance) → bindings_of (stepped p turn new entered store) ≡ rows_stepped p turn new entered (bindings_of store)
+stepped_bindings p turn new entered store =
+    map-append (λ instance. instance.tuple) (filter (λ instance. is_unmet p new instance.tuple) store) (map instance_of (entered ++ again turn (took p turn new store)))
+    ∙ (λ i. sym (filter-map (is_unmet p new) (λ (instance : Instance). instance.tuple) store) i ++ bindings_back (entered ++ again turn (took_bindings p turn new store i)) i)
+
+pub is_stored : (now : ℕ) (p : List Pr) (store : List Instance) (bindings : List Row) → Holds now p store bindings → IsStored now p (bindings_of store) bindings
+is_stored now p store bindings holds = between_holds now p (bindings_of store) bindings holds.at_least holds.at_most
+
+-- the line of an end at a prefix begins with that prefix
+extended_hops : (p : Prefix) (hops more : List Hop) → extended p (hops ++ more) ≡ extended (extended p hops) more
+extended_hops p [] more = refl
+extended_hops p (h ∷ hops) more = extended_hops (After p h) hops more
+
+path_back : (p : Prefix) → extended (Root (root_of p)) (hops_of p) ≡ p
+path_back (Root s) = refl
+path_back (After p h) = extended_hops (Root (root_of p)) (hops_of p) (h ∷ []) ∙ ap (λ q. After q h) (path_back p)
+
+abbrev pub line_at : Prefix → End → Line
+line_at p e = (ending_at p e).line
+
+-- what holds of each item of a concatenation
+module _ {Y : Type 0} (Q : Y → Type 0) where
+  front : (ys zs : List Y) → All Q (ys ++ zs) → All Q ys
+  front [] zs all = All-nil Q
+  front (y ∷ ys) zs all = All-cons Q y ys (All-head Q y (ys ++ zs) all) (front ys zs (All-tail Q y (ys ++ zs) all))
+
+  back : (ys zs : List Y) → All Q (ys ++ zs) → All Q zs
+  back [] zs all = all
+  back (y ∷ ys) zs all = back ys zs (All-tail Q y (ys ++ zs) all)
+
+module _ {X Y : Type 0} (Q : Y → Type 0) where
+  flat_all : (f : X → List Y) (xs : List X) → All Q (flat_map f xs) → All (λ x. All Q (f x)) xs
+  flat_all f [] all = All-nil (λ x. All Q (f x))
+  flat_all f (x ∷ xs) all = All-cons (λ x. All Q (f x)) x xs (front Q (f x) (flat_map f xs) all) (flat_all f xs (back Q (f x) (flat_map f xs) all))
+
+-- what holds of the lines of a network holds of the line of each end
+module _ (net : Net) (lines : List Line) (has : HasLines net lines) where
+  abbrev pub places : ℕ → Prefix
+  places = has.1.places
+
+  abbrev pub ends_of : ℕ → ℕ → List End
+  ends_of s n = filter (λ e. e.out == s) (ends_at net n)
+
+  abbrev pub numbers : List ℕ
+  numbers = range_with_len 0 (length net)
+
+  -- the lines of a stream, state by state
+  abbrev pub by_state : ℕ → List Line
+  by_state s = flat_map (λ n. map (line_at (places n)) (ends_of s n)) numbers
+
+  by_state_is : (s : ℕ) → filter (λ l. l.out == s) (map (λ e. e.line) (endings_by places net)) ≡ by_state s
+  by_state_is s =
+      ap (filter (λ l. l.out == s)) (map-flat_map (λ (e : Ending). e.line) (λ n. map (ending_at (places n)) (ends_at net n)) numbers)
+      ∙ filter-flat_map (λ l. l.out == s) (λ n. map (λ (e : Ending). e.line) (map (ending_at (places n)) (ends_at net n))) numbers
+      ∙ flat_map_same (λ n. filter (λ l. l.out == s) (map (λ (e : Ending). e.line) (map (ending_at (places n)) (ends_at net n)))) (λ n. map (line_at (places n)) (ends_of s n)) numbers
+      (every (λ n. filter (λ l. l.out == s) (map (λ (e : Ending). e.line) (map (ending_at (places n)) (ends_at net n))) ≡ map (line_at (places n)) (ends_of s n)) one numbers)
+    where
+      one : (n : ℕ) → filter (λ l. l.out == s) (map (λ (e : Ending). e.line) (map (ending_at (places n)) (ends_at net n))) ≡ map (line_at (places n)) (ends_of s n)
+      one n = ap (filter (λ l. l.out == s)) (map-map (λ (e : Ending). e.line) (ending_at (places n)) (ends_at net n)) ∙ filter-map (λ l. l.out == s) (line_at (places n)) (ends_at net n)
+
+  pub lines_by_state : (s : ℕ) → IsPermutation (filter (λ l. l.out == s) lines) (by_state s)
+  lines_by_state s =
+      permuted_from (ap (filter (λ l. l.out == s)) (sym has.2))
+      (permuted_to (filter_permuted (λ l. l.out == s) _ _ (IsPermutation-map (λ (e : Ending). e.line) _ _ (IsPermutation-sym _ _ has.1.same))) (by_state_is s))
+
+  pub each_end : (Q : Line → Type 0) (s : ℕ) → All Q (filter (λ l. l.out == s) lines) → All (λ n. All (λ e. Q (line_at (places n) e)) (ends_of s n)) numbers
+  each_end Q s all =
+      All-weaker (λ n. All Q (map (line_at (places n)) (ends_of s n))) (λ n. All (λ e. Q (line_at (places n) e)) (ends_of s n)) (λ n h. map_all Q (line_at (places n)) (ends_of s n) h) numbers
+      (flat_all Q (λ n. map (line_at (places n)) (ends_of s n)) numbers (All-permutation Q _ _ (lines_by_state s) all))
+
+  -- what all lines of a stream give, end by end
+  pub flat_ends : {Y : Type 0} (f : Line → List Y) (s : ℕ) → IsPermutation (flat_map f (filter (λ l. l.out == s) lines)) (flat_map (λ n. flat_map (λ e. f (line_at (places n) e)) (ends_of s n)) numbers)
+  flat_ends f s =
+      permuted_to (flat_map_permuted f _ _ (lines_by_state s))
+      (flat_map-flat_map f (λ n. map (line_at (places n)) (ends_of s n)) numbers
+      ∙ flat_map_same (λ n. flat_map f (map (line_at (places n)) (ends_of s n))) (λ n. flat_map (λ e. f (line_at (places n) e)) (ends_of s n)) numbers
+      (every (λ n. flat_map f (map (line_at (places n)) (ends_of s n)) ≡ flat_map (λ e. f (line_at (places n) e)) (ends_of s n)) (λ n. flat_map-map f (line_at (places n)) (ends_of s n)) numbers))
+
+-- what leaves one state
+root_leaves : (o : Option Entry) (s : ℕ) (news : Streams) (store : List Instance) → option_and_then root_by o ≡ Some s → leaves_by o news store ≡ news s
+root_leaves None s news store e = absurd (cc)
+root_leaves (Some (entry.Root t)) s news store e = let same : t ≡ s = cc in ap news same
+root_leaves (Some (entry.Waiting before hop)) s news store e = absurd (cc)
+
+no_ends : (o : Option State) → is_some o ≡ false → unwrap_or (option_map (λ state. state.ends) o) [] ≡ []
+no_ends None e = refl
+no_ends (Some state) e = absurd (cc)
+
+module _ (net : Net) (now : ℕ) (stores : Stores) (news exact earlier : Streams)
+    (late : (s : ℕ) → All (λ r. now ≤ r.at) (exact s))
+    (holds : (number : ℕ) (p : Prefix) (h : Hop) → IsAt net number (After p h) → Holds now h.wait.choose (stores number) (waiting earlier p h)) where
+  -- the stream of a root, or the one on which the last hop waits
+  abbrev pub Knows : Prefix → Type 0
+  Knows (Root s) = IsPermutation (news s) (exact s)
+  Knows (After p h) = IsPermutation (news h.wait.stream) (exact h.wait.stream)
+
+  pub leaves_alike : (number : ℕ) (p : Prefix) → IsAt net number p → Knows p → IsPermutation (leaves net news stores number) (flow_rows exact earlier p)
+  leaves_alike number (Root s) at known = permuted_from (root_leaves (entry_at net number) s news (stores number) at) known
+  leaves_alike number (After p h) at known =
+      permuted_from (ap (λ o. leaves_by o news (stores number)) at.1 ∙ took_bindings h.wait.choose h.wait.fold (news h.wait.stream) (stores number))
+      (store_gives now h.wait.choose h.wait.fold (exact h.wait.stream) (news h.wait.stream) (bindings_of (stores number)) (waiting earlier p h) (late h.wait.stream) known
+      (is_stored now h.wait.choose (stores number) (waiting earlier p h) (holds number p h at)))
+
+  -- a line that reads none of some streams, where all others are known
+  knows_of : (order : List ℕ) → ((t : ℕ) → is_in order t ≡ false → IsPermutation (news t) (exact t)) → (p : Prefix) (e : End) → ReadsNone order (line_at p e) → Knows p
+  knows_of order known (Root s) e reads = known s reads.root
+  knows_of order known (After p h) e reads = known h.wait.stream (All_last (λ h. is_in order h.wait.stream ≡ false) (hops_of p) h reads.hops)
+
+  -- what the ends of a stream give
+  pub published_alike : (lines : List Line) (has : HasLines net lines) (s : ℕ) (order : List ℕ) → All (ReadsNone order) (filter (λ l. l.out == s) lines)
+      → ((t : ℕ) → is_in order t ≡ false → IsPermutation (news t) (exact t))
+      → IsPermutation (published net news stores s) (flat_map (λ l. filter_map (pass l.last) (flow_rows exact earlier (path l))) (filter (λ l. l.out == s) lines))
+  published_alike lines has s order reads known =
+      IsPermutation-trans _ _ _
+      (flat_map_alike (published_at net news stores s) (λ n. flat_map (λ e. f (line_at (places net lines has n) e)) (ends_of net lines has s n)) (numbers net lines has)
+      (All-weaker (λ n. All (λ e. ReadsNone order (line_at (places net lines has n) e)) (ends_of net lines has s n)) (λ n. IsPermutation (published_at net news stores s n) (flat_map (λ e. f (line_at (places net lines has n) e)) (ends_of net lines has s n)))
+      (λ n all. at_state n all (is_some (state_at net n)) refl) (numbers net lines has) (each_end net lines has (ReadsNone order) s reads)))
+      (IsPermutation-sym _ _ (flat_ends net lines has f s))
+    where
+      f : Line → List Row
+      f l = filter_map (pass l.last) (flow_rows exact earlier (path l))
+
+      at_state : (n : ℕ) → All (λ e. ReadsNone order (line_at (places net lines has n) e)) (ends_of net lines has s n) → (used : Bool) → is_some (state_at net n) ≡ used
+          → IsPermutation (published_at net news stores s n) (flat_map (λ e. f (line_at (places net lines has n) e)) (ends_of net lines has s n))
+      at_state n all true is =
+          flat_map_alike (λ e. filter_map (pass e.step) (leaves net news stores n)) (λ e. f (line_at (places net lines has n) e)) (ends_of net lines has s n)
+          (All-weaker (λ e. ReadsNone order (line_at (places net lines has n) e)) (λ e. IsPermutation (filter_map (pass e.step) (leaves net news stores n)) (f (line_at (places net lines has n) e))) one (ends_of net lines has s n) all)
+        where
+          one : (e : End) → ReadsNone order (line_at (places net lines has n) e) → IsPermutation (filter_map (pass e.step) (leaves net news stores n)) (f (line_at (places net lines has n) e))
+          one e reads =
+              filter_map_permuted (pass e.step) _ _
+              (permuted_to (leaves_alike n (places net lines has n) (has.1.are_places n is) (knows_of order known (places net lines has n) e reads))
+              (ap (flow_rows exact earlier) (sym (path_back (places net lines has n)))))
+      at_state n all false is =
+          permuted_is (ap (λ es. flat_map (λ e. filter_map (pass e.step) (leaves net news stores n)) (filter (λ e. e.out == s) es)) (no_ends (state_at net n) is)
+          ∙ sym (ap (λ es. flat_map (λ e. f (line_at (places net lines has n) e)) (filter (λ e. e.out == s) es)) (no_ends (state_at net n) is)))
+
+  -- the store of a waiting state after the epoch
+  pub stores_keep : (later : ℕ) → now ≤ later → ((s : ℕ) → IsPermutation (news s) (exact s)) → (number : ℕ) (p : Prefix) (h : Hop) → IsAt net number (After p h)
+      → (after : List Row) → IsPermutation after (rows_stepped h.wait.choose h.wait.fold (exact h.wait.stream) (entering h (flow_rows exact earlier p)) (waiting earlier p h))
+      → IsStored later h.wait.choose (bindings_of (stores_after net news stores number)) after
+  stores_keep later le known number p h at after is =
+      subst (λ bs. IsStored later h.wait.choose bs after) (sym stored)
+      (store_keeps now h.wait.choose h.wait.fold later (exact h.wait.stream) (news h.wait.stream) (entering h (flow_rows exact earlier p)) (entering h (leaves net news stores at.0)) (bindings_of (stores number)) (waiting earlier p h) after
+      le (late h.wait.stream) (known h.wait.stream)
+      (filter_map_permuted (pass h.step) _ _ (leaves_alike at.0 p at.2 (all_known p)))
+      (is_stored now h.wait.choose (stores number) (waiting earlier p h) (holds number p h at)) is)
+    where
+      all_known : (p : Prefix) → Knows p
+      all_known (Root s) = known s
+      all_known (After q k) = known k.wait.stream
+
+      stored : bindings_of (stores_after net news stores number) ≡ rows_stepped h.wait.choose h.wait.fold (news h.wait.stream) (entering h (leaves net news stores at.0)) (bindings_of (stores number))
+      stored =
+          ap (λ o. bindings_of (stepped_by o news (leaves net news stores) (stores number))) at.1
+          ∙ stepped_bindings h.wait.choose h.wait.fold (news h.wait.stream) (entering h (leaves net news stores at.0)) (stores number)

@@ -1,0 +1,155 @@
+-- The streams of lines over a history.
+use Rattle.std.proofs.Common.{◌≡◌, ◌∙◌, sym, ap, refl, ℕ, ◌==◌, Bool, true, false, ◌||◌, cond, nat_lt, List, [], ◌∷◌, map, arith}
+use Rattle.std.specs.Prelude.{Option, Some, None}
+use Rattle.std.specs.List.{All, filter, filter_map}
+use Rattle.std.proofs.lemmas.Bool.Decides.{nat_tests}
+use Rattle.std.proofs.lemmas.List.Elements.{filter_agree, All-nil, All-cons, All-head, All-tail, All-filter, All-map, All-weaker}
+use Rattle.event_types.specs.Tuple.{Row}
+use Rattle.semantics.specs.Denotation.{Streams}
+use Rattle.semantics.specs.Histories.{Heard, heard_on}
+use Rattle.semantics.specs.Programs.{with_stream}
+use Rattle.semantics.proofs.ListLemmas.{filter-map, filter_swap}
+use Rattle.scalar_expr.proofs.RunsLemmas.{flat_map_same}
+use Rattle.automaton.specs.Flow.{derived, entering, flow, given}
+use Rattle.automaton.specs.Prefixes.{Prefix, Root, After, extended, path}
+use Rattle.automaton.specs.Steps.{pass}
+use Rattle.automaton.specs.Waiting.{waiting, waiting_in}
+use Rattle.automaton.specs.Waits.{chosen}
+use Rattle.automaton.specs.Work.{IsInOrder, ReadsNone, completed, is_in}
+use Rattle.automaton.specs.declared.line.Hop.{Hop}
+use Rattle.automaton.specs.declared.line.Line.{Line}
+use Rattle.automaton.specs.declared.wait.Turn.{Turn}
+use Rattle.epoch_laws.specs.Histories.{events_before, events_during, streams_over}
+use Rattle.epoch_laws.specs.Times.{ArePast, before, during, IsPast, streams_before}
+use Rattle.epoch_laws.proofs.Flows.{flow_before, flow_past, pass_cut, pass_past}
+use Rattle.epoch_laws.proofs.Lists.{All-flat_map, every, filter-flat_map, filter_none}
+
+pub or_parts : (a b : Bool) → (a || b) ≡ false → (a ≡ false) × (b ≡ false)
+or_parts true b e = absurd (cc)
+or_parts false b e = (refl, e)
+
+pub self_equal : (s : ℕ) → (s == s) ≡ true
+self_equal s = grind (arith, nat_tests)
+
+-- streams that no line publishes from here on stay
+pub with_other : (env : Streams) (n : ℕ) (rows : List Row) (s : ℕ) → (s == n) ≡ false → with_stream env n rows s ≡ env s
+with_other env n rows s e = ap (λ b. cond b rows (env s)) e
+
+pub completed_other : (lines : List Line) (order : List ℕ) (env : Streams) (s : ℕ) → is_in order s ≡ false → completed lines order env s ≡ env s
+completed_other lines [] env s e = refl
+completed_other lines (n ∷ order) env s e =
+    let parts = or_parts (s == n) (is_in order s) e in
+    completed_other lines order (with_stream env n (derived lines env n)) s parts.1 ∙ with_other env n (derived lines env n) s parts.0
+
+-- lines that read the same give the same
+extended_alike : (env other : Streams) (hops : List Hop) → All (λ h. env h.wait.stream ≡ other h.wait.stream) hops → (p : Prefix) → flow env p ≡ flow other p → flow env (extended p hops) ≡ flow other (extended p hops)
+extended_alike env other [] all p e = e
+extended_alike env other (h ∷ hops) all p e =
+    extended_alike env other hops (All-tail (λ h. env h.wait.stream ≡ other h.wait.stream) h hops all) (After p h)
+    (λ i. chosen h.wait.choose h.wait.fold (All-head (λ h. env h.wait.stream ≡ other h.wait.stream) h hops all i) (entering h (e i)))
+
+pub given_alike : (env other : Streams) (l : Line) → env l.root ≡ other l.root → All (λ h. env h.wait.stream ≡ other h.wait.stream) l.hops → given env l ≡ given other l
+given_alike env other l root hops = ap (filter_map (pass l.last)) (extended_alike env other l.hops hops (Root l.root) root)
+
+-- no tuple of a derived stream is later
+module _ (time : ℕ) (lines : List Line) where
+  given_past : (env : Streams) → ArePast time env → (l : Line) → All (IsPast time) (given env l)
+  given_past env past l = pass_past time l.last (flow env (path l)) (flow_past time env past (path l))
+
+  derived_past : (env : Streams) → ArePast time env → (s : ℕ) → All (IsPast time) (derived lines env s)
+  derived_past env past s = All-flat_map (IsPast time) (given env) (filter (λ l. l.out == s) lines) (every (λ l. All (IsPast time) (given env l)) (given_past env past) (filter (λ l. l.out == s) lines))
+
+  with_past : (env : Streams) → ArePast time env → (n : ℕ) (rows : List Row) → All (IsPast time) rows → ArePast time (with_stream env n rows)
+  with_past env past n rows all s = go (s == n)
+    where
+      go : (b : Bool) → All (IsPast time) (cond b rows (env s))
+      go true = all
+      go false = past s
+
+  pub completed_past : (order : List ℕ) (env : Streams) → ArePast time env → ArePast time (completed lines order env)
+  completed_past [] env past = past
+  completed_past (s ∷ order) env past = completed_past order (with_stream env s (derived lines env s)) (with_past env past s (derived lines env s) (derived_past env past s))
+
+  -- what they are before the time
+  given_before : (env : Streams) → ArePast time env → (l : Line) → before time (given env l) ≡ given (streams_before time env) l
+  given_before env past l = pass_cut (λ at. nat_lt at time) l.last (flow env (path l)) ∙ ap (filter_map (pass l.last)) (flow_before time env past (path l))
+
+  derived_before : (env : Streams) → ArePast time env → (s : ℕ) → before time (derived lines env s) ≡ derived lines (streams_before time env) s
+  derived_before env past s =
+      filter-flat_map (λ r. nat_lt r.at time) (given env) (filter (λ l. l.out == s) lines)
+      ∙ flat_map_same (λ l. before time (given env l)) (given (streams_before time env)) (filter (λ l. l.out == s) lines)
+      (every (λ l. before time (given env l) ≡ given (streams_before time env) l) (given_before env past) (filter (λ l. l.out == s) lines))
+
+  with_before : (env : Streams) (n : ℕ) (rows other : List Row) → before time rows ≡ other → streams_before time (with_stream env n rows) ≡ with_stream (streams_before time env) n other
+  with_before env n rows other e = λ i s. go s (s == n) i
+    where
+      go : (s : ℕ) (b : Bool) → before time (cond b rows (env s)) ≡ cond b other (before time (env s))
+      go s true = e
+      go s false = refl
+
+  pub completed_before : (order : List ℕ) (env : Streams) → ArePast time env → streams_before time (completed lines order env) ≡ completed lines order (streams_before time env)
+  completed_before [] env past = refl
+  completed_before (s ∷ order) env past =
+      completed_before order (with_stream env s (derived lines env s)) (with_past env past s (derived lines env s) (derived_past env past s))
+      ∙ ap (completed lines order) (with_before env s (derived lines env s) (derived lines (streams_before time env) s) (derived_before env past s))
+
+-- each derived stream is what its lines give over all streams
+pub completed_holds : (lines : List Line) (order : List ℕ) (env : Streams) → IsInOrder lines order → All (λ s. completed lines order env s ≡ derived lines (completed lines order env) s) order
+completed_holds lines [] env ordered = All-nil (λ s. env s ≡ derived lines env s)
+completed_holds lines (s ∷ order) env ordered =
+    All-cons (λ n. completed lines (s ∷ order) env n ≡ derived lines (completed lines (s ∷ order) env) n) s order head
+    (completed_holds lines order (with_stream env s (derived lines env s)) ordered.2)
+  where
+    one : (l : Line) → ReadsNone (s ∷ order) l → given env l ≡ given (completed lines (s ∷ order) env) l
+    one l reads =
+        sym (given_alike (completed lines (s ∷ order) env) env l (completed_other lines (s ∷ order) env l.root reads.root)
+        (All-weaker (λ h. is_in (s ∷ order) h.wait.stream ≡ false) (λ h. completed lines (s ∷ order) env h.wait.stream ≡ env h.wait.stream) (λ h e. completed_other lines (s ∷ order) env h.wait.stream e) l.hops reads.hops))
+
+    head : completed lines (s ∷ order) env s ≡ derived lines (completed lines (s ∷ order) env) s
+    head =
+        completed_other lines order (with_stream env s (derived lines env s)) s ordered.1
+        ∙ ap (λ b. cond b (derived lines env s) (env s)) (self_equal s)
+        ∙ flat_map_same (given env) (given (completed lines (s ∷ order) env)) (filter (λ l. l.out == s) lines)
+        (All-weaker (ReadsNone (s ∷ order)) (λ l. given env l ≡ given (completed lines (s ∷ order) env) l) one (filter (λ l. l.out == s) lines) ordered.0)
+
+-- over a history
+heard_past : (time : ℕ) (h : List Heard) → All (λ e. IsPast time e.tuple) h → ArePast time (heard_on h)
+heard_past time h all s = All-map (IsPast time) (λ e. e.tuple) (filter (λ e. e.stream == s) h) (All-filter (λ e. e.stream == s) (λ e. IsPast time e.tuple) h all)
+
+heard_before : (time : ℕ) (h : List Heard) → streams_before time (heard_on h) ≡ heard_on (events_before time h)
+heard_before time h = λ i s. (filter-map (λ r. nat_lt r.at time) (λ e. e.tuple) (filter (λ e. e.stream == s) h) ∙ ap (map (λ e. e.tuple)) (filter_swap (λ e. nat_lt e.tuple.at time) (λ e. e.stream == s) h)) i
+
+pub heard_now : (time : ℕ) (h : List Heard) (s : ℕ) → during time (heard_on h s) ≡ heard_on (events_during time h) s
+heard_now time h s = filter-map (λ r. r.at == time) (λ e. e.tuple) (filter (λ e. e.stream == s) h) ∙ ap (map (λ e. e.tuple)) (filter_swap (λ e. e.tuple.at == time) (λ e. e.stream == s) h)
+
+pub over_past : (time : ℕ) (lines : List Line) (order : List ℕ) (h : List Heard) → All (λ e. IsPast time e.tuple) h → ArePast time (streams_over lines order h)
+over_past time lines order h all = completed_past time lines order (heard_on h) (heard_past time h all)
+
+pub over_before : (time : ℕ) (lines : List Line) (order : List ℕ) (h : List Heard) → All (λ e. IsPast time e.tuple) h → streams_before time (streams_over lines order h) ≡ streams_over lines order (events_before time h)
+over_before time lines order h all = completed_before time lines order (heard_on h) (heard_past time h all) ∙ ap (completed lines order) (heard_before time h)
+
+pub streams_early : (time : ℕ) (lines : List Line) (order : List ℕ) (h : List Heard) → All (λ e. IsPast time e.tuple) h → (s : ℕ) → before time (streams_over lines order h s) ≡ streams_over lines order (events_before time h) s
+streams_early time lines order h all s = λ i. over_before time lines order h all i s
+
+-- at the start nothing waits
+flow_none : (env : Streams) → ((s : ℕ) → env s ≡ []) → (p : Prefix) → flow env p ≡ []
+flow_none env none (Root s) = none s
+flow_none env none (After p h) = ap (λ ts. chosen h.wait.choose h.wait.fold (env h.wait.stream) (entering h ts)) (flow_none env none p) ∙ go h.wait.fold
+  where
+    go : (turn : Option Turn) → chosen h.wait.choose turn (env h.wait.stream) [] ≡ []
+    go None = refl
+    go (Some t) = refl
+
+no_streams : (lines : List Line) (order : List ℕ) (s : ℕ) → streams_over lines order [] s ≡ []
+no_streams lines order s = sym (streams_early 0 lines order [] (All-nil (λ e. IsPast 0 e.tuple)) s) ∙ filter_agree (λ r. nat_lt r.at 0) (λ _. false) (λ r. no_less r.at) (streams_over lines order [] s) ∙ filter_none (streams_over lines order [] s)
+  where
+    no_less : (at : ℕ) → nat_lt at 0 ≡ false
+    no_less at = grind (arith, nat_tests)
+
+pub start_waits : (lines : List Line) (order : List ℕ) (p : Prefix) (h : Hop) → waiting (streams_over lines order []) p h ≡ []
+start_waits lines order p h =
+    ap (λ ts. waiting_in h.wait.choose h.wait.fold (streams_over lines order [] h.wait.stream) (entering h ts)) (flow_none (streams_over lines order []) (no_streams lines order) p) ∙ go h.wait.fold
+  where
+    go : (turn : Option Turn) → waiting_in h.wait.choose turn (streams_over lines order [] h.wait.stream) [] ≡ []
+    go None = refl
+    go (Some t) = refl

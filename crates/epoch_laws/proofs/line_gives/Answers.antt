@@ -1,0 +1,5 @@
+use Rattle.epoch_laws.proofs.Flows as lemma
+use Rattle.epoch_laws.proofs.line_gives.Goals as goal
+
+pub returns : goal.returns
+returns c = lemma.line_gives

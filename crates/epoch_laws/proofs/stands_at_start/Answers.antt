@@ -1,0 +1,5 @@
+use Rattle.epoch_laws.proofs.Stands as lemma
+use Rattle.epoch_laws.proofs.stands_at_start.Goals as goal
+
+pub returns : goal.returns
+returns c = lemma.stands_at_start

@@ -1,0 +1,5 @@
+use Rattle.epoch_laws.proofs.Stands as lemma
+use Rattle.epoch_laws.proofs.stands_purged.Goals as goal
+
+pub returns : goal.returns
+returns c = lemma.stands_purged

@@ -1,0 +1,5 @@
+use Rattle.epoch_laws.proofs.Waits as lemma
+use Rattle.epoch_laws.proofs.wait_gives.Goals as goal
+
+pub returns : goal.returns
+returns c = lemma.wait_gives

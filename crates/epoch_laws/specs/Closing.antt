@@ -1,0 +1,54 @@
+-- One epoch over the states of a network, where each waiting state has a store of its own.
+use Rattle.std.specs.Prelude.{◌≡◌, ℕ, ◌==◌, false, List, [], length, Option, Some, None}
+use Rattle.std.specs.List.{All, filter, filter_map, flat_map, range_with_len}
+use Rattle.std.specs.List.Sorted.{IsPermutation}
+use Rattle.event_types.specs.Tuple.{Row}
+use Rattle.instances.specs.declared.instance.Instance.{Instance}
+use Rattle.semantics.specs.Denotation.{Streams}
+use Rattle.automaton.specs.Flow.{entering}
+use Rattle.automaton.specs.States.{Net, ends_at, entry_at, wait_at}
+use Rattle.automaton.specs.Steps.{pass}
+use Rattle.automaton.specs.Work.{is_in}
+use Rattle.automaton.specs.declared.network.Entry.{Entry}
+use Rattle.automaton.specs.declared.network.Entry.TheVariants.{Root, Waiting}
+use Rattle.automaton.specs.declared.wait.Wait.{Wait}
+use Rattle.epoch_laws.specs.Epochs.{stepped, took}
+use Rattle.epoch_laws.specs.Stores.{Purged}
+
+-- the instances of each waiting state, by its number
+abbrev pub Stores : Type 0
+Stores = ℕ → List Instance
+
+-- what leaves a state in an epoch: at a root the tuples of its stream, at a waiting state what its instances give
+abbrev pub leaves_by : Option Entry → Streams → List Instance → List Row
+leaves_by None news store = []
+leaves_by (Some (Root stream)) news store = news stream
+leaves_by (Some (Waiting before hop)) news store = took hop.wait.choose hop.wait.fold (news hop.wait.stream) store
+
+abbrev pub leaves : Net → Streams → Stores → ℕ → List Row
+leaves net news stores number = leaves_by (entry_at net number) news (stores number)
+
+-- the store of a state after the epoch, where these tuples left each state
+abbrev pub stepped_by : Option Entry → Streams → (ℕ → List Row) → List Instance → List Instance
+stepped_by None news leaving store = []
+stepped_by (Some (Root stream)) news leaving store = []
+stepped_by (Some (Waiting before hop)) news leaving store = stepped hop.wait.choose hop.wait.fold (news hop.wait.stream) (entering hop (leaving before)) store
+
+abbrev pub stores_after : Net → Streams → Stores → Stores
+stores_after net news stores number = stepped_by (entry_at net number) news (leaves net news stores) (stores number)
+
+-- what the ends of a stream give in the epoch, at one state and at all
+abbrev pub published_at : Net → Streams → Stores → ℕ → ℕ → List Row
+published_at net news stores stream number = flat_map (λ end. filter_map (pass end.step) (leaves net news stores number)) (filter (λ end. end.out == stream) (ends_at net number))
+
+abbrev pub published : Net → Streams → Stores → ℕ → List Row
+published net news stores stream = flat_map (published_at net news stores stream) (range_with_len 0 (length net))
+
+-- `news` has all tuples of an epoch, up to order: those that were heard, and in each derived stream what its ends give
+pub record IsEpoch (net : Net) (order : List ℕ) (stores : Stores) (heard news : Streams) : Type 0 where
+  pub declared : (stream : ℕ) → is_in order stream ≡ false → IsPermutation (news stream) (heard stream)
+  pub derived : All (λ stream. IsPermutation (news stream) (published net news stores stream)) order
+
+-- each store was purged for a time, in whole, in part or not at all
+abbrev pub ArePurged : ℕ → Net → Stores → Stores → Type 0
+ArePurged time net stores kept = (number : ℕ) (wait : Wait) → wait_at net number ≡ Some wait → Purged time wait.choose (stores number) (kept number)

@@ -1,0 +1,13 @@
+pub mod CloseLaws
+pub mod Closing
+pub mod Epochs
+pub mod Histories
+pub mod Instances
+pub mod LineLaws
+pub mod Lines
+pub mod PurgeLaws
+pub mod Stands
+pub mod Stores
+pub mod StreamLaws
+pub mod Times
+pub mod WaitLaws

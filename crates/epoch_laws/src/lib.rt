@@ -1,0 +1,63 @@
+//! Laws of an epoch.
+#![tactic(auto)]
+
+ghost use Rattle.epoch_laws.specs.CloseLaws.{StandsAtStart, StandsClosed, StandsPurged};
+ghost use Rattle.epoch_laws.specs.LineLaws.{LineGives, StateKeeps};
+ghost use Rattle.epoch_laws.specs.PurgeLaws.{DeadLater, DeadStayDead};
+ghost use Rattle.epoch_laws.specs.StreamLaws.{StreamsEarly};
+ghost use Rattle.epoch_laws.specs.WaitLaws.{WaitEarly, WaitGives, WaitKeeps};
+
+/// What leaves a wait in an epoch comes from the bindings that waited before it.
+pub fn wait_gives()
+    ensures { WaitGives }
+{}
+
+/// The bindings that wait after an epoch are those that waited before it, stepped through it.
+pub fn wait_keeps()
+    ensures { WaitKeeps }
+{}
+
+/// What left a wait before an epoch stands.
+pub fn wait_early()
+    ensures { WaitEarly }
+{}
+
+/// A binding that isn't alive at a time has no eligible tuple from then on.
+pub fn dead_stay_dead()
+    ensures { DeadStayDead }
+{}
+
+/// Nor is it alive later.
+pub fn dead_later()
+    ensures { DeadLater }
+{}
+
+/// What a line gives in an epoch comes from the bindings that waited before it.
+pub fn line_gives()
+    ensures { LineGives }
+{}
+
+/// The bindings that wait at a state after an epoch are those before it, stepped through it.
+pub fn state_keeps()
+    ensures { StateKeeps }
+{}
+
+/// The streams over the events before a time are what the streams were before it.
+pub fn streams_early()
+    ensures { StreamsEarly }
+{}
+
+/// Empty stores stand for the empty history.
+pub fn stands_at_start()
+    ensures { StandsAtStart }
+{}
+
+/// Stores that are purged, in whole, in part or not at all, stand for what they stood for.
+pub fn stands_purged()
+    ensures { StandsPurged }
+{}
+
+/// After an epoch the stores stand for the longer history, and its tuples are what the streams have at its time.
+pub fn stands_closed()
+    ensures { StandsClosed }
+{}

@@ -1,0 +1,20 @@
+//! Instances.
+
+use event_types::{Copied, List, Memory, Tuple};
+use std::alloc::Global;
+
+/// A binding that waits at a state.
+#[derive(Drop)]
+pub struct Instance {
+    pub tuple: Tuple,
+}
+
+/// A list of instances.
+pub type Instances = List<Instance>;
+
+impl Copied for Instance {
+    fn copied(&self, alloc: Global) -> Result<Self, Memory> {
+        let tuple = self.tuple.copy(alloc)?;
+        Ok(Instance { tuple })
+    }
+}
