@@ -1,7 +1,9 @@
 pub mod Bags
+pub mod Batches
 pub mod Cuts
 pub mod Flows
 pub mod Folds
+pub mod Grows
 pub mod Lists
 pub mod Networks
 pub mod Purges

@@ -129,12 +129,12 @@ module _ (net : Net) (lines : List Line) (has : HasLines net lines) where
       (every (λ n. flat_map f (map (line_at (places n)) (ends_of s n)) ≡ flat_map (λ e. f (line_at (places n) e)) (ends_of s n)) (λ n. flat_map-map f (line_at (places n)) (ends_of s n)) numbers))
 
 -- what leaves one state
-root_leaves : (o : Option Entry) (s : ℕ) (news : Streams) (store : List Instance) → option_and_then root_by o ≡ Some s → leaves_by o news store ≡ news s
+pub root_leaves : (o : Option Entry) (s : ℕ) (news : Streams) (store : List Instance) → option_and_then root_by o ≡ Some s → leaves_by o news store ≡ news s
 root_leaves None s news store e = absurd (cc)
 root_leaves (Some (entry.Root t)) s news store e = let same : t ≡ s = cc in ap news same
 root_leaves (Some (entry.Waiting before hop)) s news store e = absurd (cc)
 
-no_ends : (o : Option State) → is_some o ≡ false → unwrap_or (option_map (λ state. state.ends) o) [] ≡ []
+pub no_ends : (o : Option State) → is_some o ≡ false → unwrap_or (option_map (λ state. state.ends) o) [] ≡ []
 no_ends None e = refl
 no_ends (Some state) e = absurd (cc)
 

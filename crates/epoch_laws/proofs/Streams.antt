@@ -1,7 +1,7 @@
 -- The streams of lines over a history.
 use Rattle.std.proofs.Common.{◌≡◌, ◌∙◌, sym, ap, refl, ℕ, ◌==◌, Bool, true, false, ◌||◌, cond, nat_lt, List, [], ◌∷◌, map, arith}
 use Rattle.std.specs.Prelude.{Option, Some, None}
-use Rattle.std.specs.List.{All, filter, filter_map}
+use Rattle.std.specs.List.{All, filter, filter_map, flat_map}
 use Rattle.std.proofs.lemmas.Bool.Decides.{nat_tests}
 use Rattle.std.proofs.lemmas.List.Elements.{filter_agree, All-nil, All-cons, All-head, All-tail, All-filter, All-map, All-weaker}
 use Rattle.event_types.specs.Tuple.{Row}
@@ -20,8 +20,9 @@ use Rattle.automaton.specs.declared.line.Hop.{Hop}
 use Rattle.automaton.specs.declared.line.Line.{Line}
 use Rattle.automaton.specs.declared.wait.Turn.{Turn}
 use Rattle.epoch_laws.specs.Histories.{events_before, events_during, streams_over}
-use Rattle.epoch_laws.specs.Times.{ArePast, before, during, IsPast, streams_before}
-use Rattle.epoch_laws.proofs.Flows.{flow_before, flow_past, pass_cut, pass_past}
+use Rattle.epoch_laws.specs.Lines.{given_now}
+use Rattle.epoch_laws.specs.Times.{ArePast, before, during, IsPast, streams_before, streams_during}
+use Rattle.epoch_laws.proofs.Flows.{flow_before, flow_past, line_gives, pass_cut, pass_past}
 use Rattle.epoch_laws.proofs.Lists.{All-flat_map, every, filter-flat_map, filter_none}
 
 pub or_parts : (a b : Bool) → (a || b) ≡ false → (a ≡ false) × (b ≡ false)
@@ -153,3 +154,20 @@ start_waits lines order p h =
     go : (turn : Option Turn) → waiting_in h.wait.choose turn (streams_over lines order [] h.wait.stream) [] ≡ []
     go None = refl
     go (Some t) = refl
+
+-- what the lines of a derived stream give in an epoch
+pub streams_give : (time : ℕ) (lines : List Line) (order : List ℕ) (h : List Heard) → All (λ e. IsPast time e.tuple) h → IsInOrder lines order
+    → let streams = streams_over lines order h in All (λ s. during time (streams s) ≡ flat_map (given_now (streams_during time streams) (streams_before time streams)) (filter (λ l. l.out == s) lines)) order
+streams_give time lines order h past ordered =
+    All-weaker (λ s. streams_over lines order h s ≡ derived lines (streams_over lines order h) s)
+    (λ s. during time (streams_over lines order h s) ≡ flat_map (given_now (streams_during time (streams_over lines order h)) (streams_before time (streams_over lines order h))) (filter (λ l. l.out == s) lines))
+    one order (completed_holds lines order (heard_on h) ordered)
+  where
+    one : (s : ℕ) → streams_over lines order h s ≡ derived lines (streams_over lines order h) s
+        → during time (streams_over lines order h s) ≡ flat_map (given_now (streams_during time (streams_over lines order h)) (streams_before time (streams_over lines order h))) (filter (λ l. l.out == s) lines)
+    one s e =
+        ap (during time) e
+        ∙ filter-flat_map (λ r. r.at == time) (given (streams_over lines order h)) (filter (λ l. l.out == s) lines)
+        ∙ flat_map_same (λ l. during time (given (streams_over lines order h) l)) (given_now (streams_during time (streams_over lines order h)) (streams_before time (streams_over lines order h))) (filter (λ l. l.out == s) lines)
+        (every (λ l. during time (given (streams_over lines order h) l) ≡ given_now (streams_during time (streams_over lines order h)) (streams_before time (streams_over lines order h)) l)
+        (line_gives time (streams_over lines order h) (over_past time lines order h past)) (filter (λ l. l.out == s) lines))

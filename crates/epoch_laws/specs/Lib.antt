@@ -1,3 +1,4 @@
+pub mod Batch
 pub mod CloseLaws
 pub mod Closing
 pub mod Epochs

@@ -1,10 +1,15 @@
-//! Laws of an epoch.
+//! Laws of an epoch: what comes of the tuples of one detection time, and what waits after it.
+//!
+//! The definitions stand in `specs/`. The functions are laws: they do nothing, and their contracts say
+//! what follows from the definitions. An engine that closes an epoch as `IsEpoch` and `ArePurged` say
+//! goes on standing for its history (`Stands`), and its batch is what the queries denote.
 #![tactic(auto)]
 
-ghost use Rattle.epoch_laws.specs.CloseLaws.{StandsAtStart, StandsClosed, StandsPurged};
+ghost use Rattle.epoch_laws.specs.Batch.{BatchIsResults};
+ghost use Rattle.epoch_laws.specs.CloseLaws.{EpochGrows, EpochStarts, StandsAtStart, StandsClosed, StandsPurged};
 ghost use Rattle.epoch_laws.specs.LineLaws.{LineGives, StateKeeps};
 ghost use Rattle.epoch_laws.specs.PurgeLaws.{DeadLater, DeadStayDead};
-ghost use Rattle.epoch_laws.specs.StreamLaws.{StreamsEarly};
+ghost use Rattle.epoch_laws.specs.StreamLaws.{StreamsEarly, StreamsGive};
 ghost use Rattle.epoch_laws.specs.WaitLaws.{WaitEarly, WaitGives, WaitKeeps};
 
 /// What leaves a wait in an epoch comes from the bindings that waited before it.
@@ -22,16 +27,6 @@ pub fn wait_early()
     ensures { WaitEarly }
 {}
 
-/// A binding that isn't alive at a time has no eligible tuple from then on.
-pub fn dead_stay_dead()
-    ensures { DeadStayDead }
-{}
-
-/// Nor is it alive later.
-pub fn dead_later()
-    ensures { DeadLater }
-{}
-
 /// What a line gives in an epoch comes from the bindings that waited before it.
 pub fn line_gives()
     ensures { LineGives }
@@ -47,6 +42,21 @@ pub fn streams_early()
     ensures { StreamsEarly }
 {}
 
+/// A derived stream has in an epoch what its lines give in it.
+pub fn streams_give()
+    ensures { StreamsGive }
+{}
+
+/// A binding that isn't alive at a time has no eligible tuple from then on.
+pub fn dead_stay_dead()
+    ensures { DeadStayDead }
+{}
+
+/// Nor is it alive later.
+pub fn dead_later()
+    ensures { DeadLater }
+{}
+
 /// Empty stores stand for the empty history.
 pub fn stands_at_start()
     ensures { StandsAtStart }
@@ -57,7 +67,23 @@ pub fn stands_purged()
     ensures { StandsPurged }
 {}
 
-/// After an epoch the stores stand for the longer history, and its tuples are what the streams have at its time.
+/// After an epoch the stores stand for the longer history, and its tuples are what the streams have at
+/// its time.
 pub fn stands_closed()
     ensures { StandsClosed }
+{}
+
+/// Before the first derived stream is made, the tuples of an epoch are those that were heard.
+pub fn epoch_starts()
+    ensures { EpochStarts }
+{}
+
+/// One more derived stream of an epoch is made in the order of work.
+pub fn epoch_grows()
+    ensures { EpochGrows }
+{}
+
+/// The tuples of an epoch in a query's stream, put in order, are the query's results at its time.
+pub fn batch_is_results()
+    ensures { BatchIsResults }
 {}
