@@ -7,6 +7,7 @@ mod layout;
 mod line;
 mod network;
 mod step;
+mod typing;
 mod wait;
 
 pub use layout::Layout;
