@@ -1,5 +1,4 @@
 pub mod Additions
-pub mod Alive
 pub mod Flow
 pub mod LineKinds
 pub mod Layouts

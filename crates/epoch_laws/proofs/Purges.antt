@@ -19,7 +19,7 @@ use Rattle.semantics.specs.Runs.{rebound}
 use Rattle.semantics.specs.Scalars.{Pr, Test, Lit, Event, Binding, Dur}
 use Rattle.semantics.specs.Truth.{truth, all_true}
 use Rattle.semantics.proofs.ListLemmas.{filter_swap}
-use Rattle.scalar_expr.specs.Alive.{alive, is_alive, meets_bound}
+use Rattle.instances.specs.Alive.{alive, is_alive, meets_bound}
 use Rattle.scalar_expr.specs.Classes.{bounded, class_of, exchanged, fixed, keyed}
 use Rattle.scalar_expr.proofs.Bags.{permuted_from, permuted_to, filter_permuted, flat_map_permuted}
 use Rattle.automaton.specs.Waiting.{is_empty}

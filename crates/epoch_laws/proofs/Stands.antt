@@ -14,7 +14,7 @@ use Rattle.semantics.specs.Histories.{Heard, heard_on}
 use Rattle.semantics.specs.Scalars.{Pr}
 use Rattle.semantics.proofs.ListLemmas.{filter-map}
 use Rattle.semantics.proofs.ReportLemmas.{filter_all}
-use Rattle.scalar_expr.specs.Alive.{alive, is_alive}
+use Rattle.instances.specs.Alive.{alive, is_alive}
 use Rattle.scalar_expr.proofs.Bags.{permuted_from, permuted_to}
 use Rattle.scalar_expr.proofs.RunsLemmas.{flat_map_same}
 use Rattle.automaton.specs.Flow.{derived, given}

@@ -3,7 +3,7 @@ use Rattle.std.specs.Prelude.{◌≡◌, ℕ, ◌≤◌, false, List}
 use Rattle.event_types.specs.Tuple.{Row}
 use Rattle.semantics.specs.Nexts.{is_eligible}
 use Rattle.semantics.specs.Scalars.{Pr}
-use Rattle.scalar_expr.specs.Alive.{is_alive}
+use Rattle.instances.specs.Alive.{is_alive}
 
 -- for a binding that isn't alive at a time, no tuple of that time or a later one is eligible
 abbrev pub DeadStayDead : Type 0

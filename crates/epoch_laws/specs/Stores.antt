@@ -5,7 +5,7 @@ use Rattle.std.specs.List.Sorted.{IsPermutation}
 use Rattle.event_types.specs.Tuple.{Row}
 use Rattle.instances.specs.declared.instance.Instance.{Instance}
 use Rattle.semantics.specs.Scalars.{Pr}
-use Rattle.scalar_expr.specs.Alive.{alive, is_alive}
+use Rattle.instances.specs.Alive.{alive, is_alive}
 use Rattle.epoch_laws.specs.Instances.{bindings_of}
 
 -- as bags, the first list is within the second

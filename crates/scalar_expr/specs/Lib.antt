@@ -1,4 +1,3 @@
-pub mod Alive
 pub mod Canonical
 pub mod CanonicalLaws
 pub mod Classes
