@@ -22,7 +22,7 @@ declared_count (stream {later = later} {streams = streams} first rest) = let e :
 declared_count (query {later = later} {streams = streams} rest) = let e : length streams + length (queries_in later) ≡ length later = declared_count rest in omega arith
 
 -- distinct numbers are distinct by their test
-distinct_by_test : (xs : List ℕ) → AllPairs (λ x y. x ≢ y) xs → IsDistinct ◌==◌ xs
+pub distinct_by_test : (xs : List ℕ) → AllPairs (λ x y. x ≢ y) xs → IsDistinct ◌==◌ xs
 distinct_by_test xs apart = IsDistinct-from_apart ◌==◌ xs (λ i j d lt within. eq_apart (get_or xs i d) (get_or xs j d) (apart i j d lt within))
 
 -- an order has as many numbers as there are queries

@@ -8,13 +8,16 @@ pub mod LoadLemmas
 pub mod NameLemmas
 pub mod NamingLemmas
 pub mod PartLemmas
+pub mod PermutationLemmas
 pub mod PlaceLemmas
 pub mod PlacesLemmas
+pub mod ProgramLemmas
 pub mod PublishLemmas
 pub mod ReadingLemmas
 pub mod ReadsLemmas
 pub mod SmallLemmas
 pub mod StandLemmas
+pub mod TurnLemmas
 pub mod TypingLaws
 pub mod VerdictLemmas
 pub mod WorkLemmas

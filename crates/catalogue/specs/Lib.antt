@@ -13,3 +13,4 @@ pub mod Telling
 pub mod Loading
 pub mod Laws
 pub mod Verdicts
+pub mod Programs

@@ -1,5 +1,6 @@
 //! Laws of the passes. The functions do nothing: their contracts say what follows from the definitions.
 ghost use Rattle.catalogue.specs.Laws.{FileOrFault, OneCycleOfNames, OneFile, OneFileFault, OneNameFault, OrderOrCycle, SoundOrFault};
+ghost use Rattle.catalogue.specs.Programs.{AcceptedArePrograms, AllAreWorkedOn, NumbersAreQueries, WorkIsInOrder};
 ghost use Rattle.catalogue.specs.Verdicts.{DeclaredOrFault, OneDeclaration, OneDeclareFault, OnePublication, OnePublishFault, OneVerdict, PublishedOrFault};
 
 /// Whether a text is a file, and which, or else its first fault, is settled by the text.
@@ -35,4 +36,16 @@ pub fn queries_have_one_answer()
 /// A text is accepted as one program, or refused with one fault on one line, or for one cycle of names.
 pub fn text_has_one_verdict()
     ensures { OneVerdict }
+{}
+
+/// An accepted text is a program over the kinds of its streams.
+pub fn accepted_texts_are_programs()
+    ensures { AcceptedArePrograms }
+{}
+
+/// The queries of an accepted text are worked on in the order of their numbers that the catalogue gives.
+pub fn work_is_in_order()
+    ensures order { WorkIsInOrder }
+    ensures numbers { NumbersAreQueries }
+    ensures all { AllAreWorkedOn }
 {}
