@@ -1,6 +1,6 @@
 //! Laws of the passes. The functions do nothing: their contracts say what follows from the definitions.
 ghost use Rattle.catalogue.specs.Laws.{FileOrFault, OneCycleOfNames, OneFile, OneFileFault, OneNameFault, OrderOrCycle, SoundOrFault};
-ghost use Rattle.catalogue.specs.Programs.{AcceptedArePrograms, AllAreWorkedOn, NumbersAreQueries, WorkIsInOrder};
+ghost use Rattle.catalogue.specs.Programs.{AcceptedArePrograms, AllAreWorkedOn, DeclaredAreTold, DeclaredComeFirst, NumbersAreQueries, QueriesHaveTheirNames, StreamsHaveTheirNames, WorkIsInOrder};
 ghost use Rattle.catalogue.specs.Verdicts.{DeclaredOrFault, OneDeclaration, OneDeclareFault, OnePublication, OnePublishFault, OneVerdict, PublishedOrFault};
 
 /// Whether a text is a file, and which, or else its first fault, is settled by the text.
@@ -48,4 +48,16 @@ pub fn work_is_in_order()
     ensures order { WorkIsInOrder }
     ensures numbers { NumbersAreQueries }
     ensures all { AllAreWorkedOn }
+{}
+
+/// The queries of an accepted text have the names of their statements, and so have their streams.
+pub fn names_are_those_of_statements()
+    ensures queries { QueriesHaveTheirNames }
+    ensures streams { StreamsHaveTheirNames }
+{}
+
+/// The declared streams of an accepted text have the first numbers.
+pub fn declared_streams_come_first()
+    ensures first { DeclaredComeFirst }
+    ensures told { DeclaredAreTold }
 {}
