@@ -11,7 +11,7 @@ use Rattle.resubscribe.proofs.WalkLemmas.{front-nonempty}
 use Rattle.resubscribe.proofs.OrderLemmas.{none_ready-from_none_left, taken_same}
 
 -- what is found is among the numbers
-find-Contains : (p : ℕ → Bool) (xs : List ℕ) (q : ℕ) → find p xs ≡ Some q → Contains xs q
+pub find-Contains : (p : ℕ → Bool) (xs : List ℕ) (q : ℕ) → find p xs ≡ Some q → Contains xs q
 find-Contains p [] q e = cc
 find-Contains p (x ∷ xs) q e = elim (cases_Bool (p x)) [
   | inl hit ↦ let here : Some x ≡ Some q = sym (ap (λ b. cond b (Some x) (find p xs)) hit) ∙ e in (0, omega arith, cc)

@@ -6,3 +6,4 @@ pub mod TakeLemmas
 pub mod WalkLemmas
 pub mod OrderLemmas
 pub mod CycleLemmas
+pub mod TotalLemmas

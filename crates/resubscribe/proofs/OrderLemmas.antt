@@ -35,7 +35,7 @@ none_ready-from_none_left reads taken none =
     (λ k low high. ap (λ b. b && list_all (is_among taken) (reads_of reads k)) (found_below (is_untaken taken) (length reads) None none k low (omega arith)))
 
 -- what is ready is a query, isn't taken, and its reads are
-ready_parts : (reads : List (List ℕ)) (taken : List ℕ) (q : ℕ) → first_ready reads taken ≡ Some q → (q < length reads) × (is_among taken q ≡ false) × (list_all (is_among taken) (reads_of reads q) ≡ true)
+pub ready_parts : (reads : List (List ℕ)) (taken : List ℕ) (q : ℕ) → first_ready reads taken ≡ Some q → (q < length reads) × (is_among taken q ≡ false) × (list_all (is_among taken) (reads_of reads q) ≡ true)
 ready_parts reads taken q e =
     let first = found_below (is_ready reads taken) (length reads) (Some q) e in (
       first.1,

@@ -1,5 +1,5 @@
 -- What follows of the order and of the cycle.
-use Rattle.std.specs.Prelude.{◌≡◌, ◌≢◌, ◌<◌, ◌↔◌, ℕ, ⊤, List, [], ◌∷◌, length, take, slice_index, AllPairs, Contains}
+use Rattle.std.specs.Prelude.{◌≡◌, ◌≢◌, ◌<◌, ◌↔◌, ◌⊎◌, ℕ, ⊤, List, [], ◌∷◌, length, take, slice_index, AllPairs, Contains}
 use Rattle.std.specs.List.{All}
 use Rattle.resubscribe.specs.Order.{IsOrder, reads_of}
 use Rattle.resubscribe.specs.Cycle.{IsCycle}
@@ -34,3 +34,7 @@ OneCycle = (reads : List (List ℕ)) (cycle other : List ℕ) → IsCycle reads 
 -- queries that have an order have no cycle
 abbrev pub NotBoth : Type 0
 NotBoth = (reads : List (List ℕ)) (order cycle : List ℕ) → IsOrder reads order → ¬ IsCycle reads cycle
+
+-- queries that read queries have an order or a cycle
+abbrev pub SomeOutcome : Type 0
+SomeOutcome = (reads : List (List ℕ)) → All (λ numbers. All (λ number. number < length reads) numbers) reads → ((order : List ℕ) × IsOrder reads order) ⊎ ((cycle : List ℕ) × IsCycle reads cycle)

@@ -12,7 +12,7 @@ mod ordering;
 mod walking;
 
 pub use fault::OrderFault;
-pub use laws::one_outcome;
+pub use laws::{one_outcome, some_outcome};
 pub use ordering::{Reads, order};
 
 #[cfg(test)]
