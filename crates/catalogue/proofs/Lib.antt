@@ -17,6 +17,10 @@ pub mod ReadingLemmas
 pub mod ReadsLemmas
 pub mod SmallLemmas
 pub mod StandLemmas
+pub mod TotalDeclarations
+pub mod TotalQueries
+pub mod TotalTypes
+pub mod TotalVerdicts
 pub mod TurnLemmas
 pub mod TypingLaws
 pub mod VerdictLemmas

@@ -1,4 +1,4 @@
--- Laws of the last pass, and of all passes: a text has at most one verdict.
+-- Laws of the last pass, and of all passes: a text has exactly one verdict.
 use Rattle.std.specs.Prelude.{◌≡◌, ℕ, List}
 use Rattle.semantics.specs.Programs.{Query}
 use Rattle.stream_schema.specs.Streams.{Entry}
@@ -34,3 +34,7 @@ PublishedOrFault = (queries : List Statement) (lines : List ℕ) (streams : List
 -- a text has at most one verdict
 abbrev pub OneVerdict : Type 0
 OneVerdict = (text : List ℕ) (verdict other : Verdict) → Judges text verdict → Judges text other → verdict ≡ other
+
+-- each text has a verdict
+abbrev pub SomeVerdict : Type 0
+SomeVerdict = (text : List ℕ) → (verdict : Verdict) × Judges text verdict

@@ -62,6 +62,7 @@ impl Catalogue {
         })
     }
 
+    /// The statements of the text and their lines.
     pub fn file(&self) -> &File
         ensures value { result.now ≡ self.now.file }
         ensures is_accepted { IsAccepted self.now }

@@ -1,7 +1,7 @@
 //! Laws of the passes. The functions do nothing: their contracts say what follows from the definitions.
 ghost use Rattle.catalogue.specs.Laws.{FileOrFault, OneCycleOfNames, OneFile, OneFileFault, OneNameFault, OrderOrCycle, SoundOrFault};
 ghost use Rattle.catalogue.specs.Programs.{AcceptedArePrograms, AllAreWorkedOn, DeclaredAreTold, DeclaredComeFirst, NumbersAreQueries, QueriesHaveTheirNames, StreamsHaveTheirNames, WorkIsInOrder};
-ghost use Rattle.catalogue.specs.Verdicts.{DeclaredOrFault, OneDeclaration, OneDeclareFault, OnePublication, OnePublishFault, OneVerdict, PublishedOrFault};
+ghost use Rattle.catalogue.specs.Verdicts.{DeclaredOrFault, OneDeclaration, OneDeclareFault, OnePublication, OnePublishFault, OneVerdict, PublishedOrFault, SomeVerdict};
 
 /// Whether a text is a file, and which, or else its first fault, is settled by the text.
 pub fn text_is_one_file()
@@ -36,6 +36,11 @@ pub fn queries_have_one_answer()
 /// A text is accepted as one program, or refused with one fault on one line, or for one cycle of names.
 pub fn text_has_one_verdict()
     ensures { OneVerdict }
+{}
+
+/// Each text is accepted or refused so.
+pub fn text_has_some_verdict()
+    ensures { SomeVerdict }
 {}
 
 /// An accepted text is a program over the kinds of its streams.
