@@ -1,5 +1,5 @@
 -- The kinds of what leaves stages, steps and hops.
-use Rattle.std.proofs.Common.{◌≡◌, ◌∙◌, sym, ap, refl, subst, ℕ, suc, ◌+◌, ◌<◌, ◌≤◌, length, get_or, drop, add-one, List, [], ◌∷◌, ◌++◌, map, arith}
+use Rattle.std.proofs.Common.{◌≡◌, ◌∙◌, sym, refl, subst, ℕ, ◌+◌, ◌<◌, ◌≤◌, length, get_or, drop, add-one, List, [], ◌∷◌, map}
 use Rattle.std.specs.Prelude.{Option, Some, None, slice_get}
 use Rattle.std.specs.List.{All}
 use Rattle.std.proofs.Math.Seq.{drop-cons}
@@ -7,7 +7,7 @@ use Rattle.std.proofs.lemmas.List.{drop_all}
 use Rattle.std.proofs.lemmas.List.Elements.{All-nil, All-cons}
 use Rattle.event_types.specs.declared.kind.Kind.{Kind}
 use Rattle.semantics.specs.Scalars.{Sc}
-use Rattle.semantics.specs.Typing.{AreOfKinds, AreTyped, IsOfKind}
+use Rattle.semantics.specs.Typing.{AreOfKinds, AreTyped}
 use Rattle.scalar_expr.specs.Kinds.{HasPlace, sc_kind}
 use Rattle.scalar_expr.proofs.KindLemmas.{typed_has_its_kind}
 use Rattle.automaton.specs.declared.line.Hop.{Hop}

@@ -1,7 +1,8 @@
 pub mod Additions
 pub mod Flow
-pub mod LineKinds
+pub mod Growing
 pub mod Layouts
+pub mod LineKinds
 pub mod NetworkLines
 pub mod Networks
 pub mod Plain

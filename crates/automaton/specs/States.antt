@@ -1,5 +1,5 @@
 -- The states of a network by number, as its readers tell them.
-use Rattle.std.specs.Prelude.{ℕ, Bool, is_some, List, [], Option, Some, None, slice_index_or}
+use Rattle.std.specs.Prelude.{ℕ, ◌==◌, Bool, false, is_some, List, [], Option, Some, None, slice_index_or}
 use Rattle.std.specs.Option.{option_and_then, option_map, unwrap_or}
 use Rattle.automaton.specs.declared.network.End.{End}
 use Rattle.automaton.specs.declared.network.Entry.{Entry}
@@ -20,9 +20,9 @@ state_at net number = slice_index_or net number None
 abbrev pub is_used : Net → ℕ → Bool
 is_used net number = is_some (state_at net number)
 
--- how the state with a number is entered
-abbrev pub entry_at : Net → ℕ → Option Entry
-entry_at net number = option_map (λ state. state.entry) (state_at net number)
+-- how a state is entered
+abbrev pub entry_in : Option State → Option Entry
+entry_in slot = option_map (λ state. state.entry) slot
 
 -- the stream of a root state
 abbrev pub root_by : Entry → Option ℕ
@@ -44,13 +44,33 @@ abbrev pub step_by : Entry → List Stage
 step_by (Root stream) = []
 step_by (Waiting before hop) = hop.step
 
+-- the same of a state that may be there
+abbrev pub root_in : Option State → Option ℕ
+root_in slot = option_and_then root_by (entry_in slot)
+
+-- the number of the state before it, where it is a waiting state
+abbrev pub before_in : Option State → Option ℕ
+before_in slot = option_and_then before_by (entry_in slot)
+
+-- the numbers of the states to which its forward edges lead
+abbrev pub edges_in : Option State → List ℕ
+edges_in slot = unwrap_or (option_map (λ state. state.edges) slot) []
+
+-- the ends at it
+abbrev pub ends_in : Option State → List End
+ends_in slot = unwrap_or (option_map (λ state. state.ends) slot) []
+
+-- how the state with a number is entered
+abbrev pub entry_at : Net → ℕ → Option Entry
+entry_at net number = entry_in (state_at net number)
+
 -- the stream of the state with a number, where it is a root state
 abbrev pub root_at : Net → ℕ → Option ℕ
-root_at net number = option_and_then root_by (entry_at net number)
+root_at net number = root_in (state_at net number)
 
--- the number of the state before the state with a number
+-- the number of the state before the state with a number, where it is a waiting state
 abbrev pub before_at : Net → ℕ → Option ℕ
-before_at net number = option_and_then before_by (entry_at net number)
+before_at net number = before_in (state_at net number)
 
 -- what a binding waits for at the state with a number, where it is a waiting state
 abbrev pub wait_at : Net → ℕ → Option Wait
@@ -60,10 +80,15 @@ wait_at net number = option_and_then wait_by (entry_at net number)
 abbrev pub step_at : Net → ℕ → List Stage
 step_at net number = unwrap_or (option_map step_by (entry_at net number)) []
 
--- the numbers of the states to which the forward edges of a state lead
+-- the numbers of the states to which the forward edges of the state with a number lead
 abbrev pub edges_at : Net → ℕ → List ℕ
-edges_at net number = unwrap_or (option_map (λ state. state.edges) (state_at net number)) []
+edges_at net number = edges_in (state_at net number)
 
--- the ends at a state
+-- the ends at the state with a number
 abbrev pub ends_at : Net → ℕ → List End
-ends_at net number = unwrap_or (option_map (λ state. state.ends) (state_at net number)) []
+ends_at net number = ends_in (state_at net number)
+
+-- whether a number is told, and is this one
+abbrev pub tells : ℕ → Option ℕ → Bool
+tells number None = false
+tells number (Some other) = other == number

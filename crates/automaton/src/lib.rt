@@ -6,6 +6,7 @@
 mod layout;
 mod line;
 mod network;
+mod plain;
 mod step;
 mod typing;
 mod wait;

@@ -1,12 +1,14 @@
 //! Networks: states with forward edges between them.
 ghost use Rattle.std.specs.Prelude.{◌≡◌, ◌<◌, IsTrue, length, count_by, is_some, Some};
 ghost use Rattle.std.specs.Option.{option_copied};
+ghost use Rattle.automaton.specs.Networks.{IsNetwork};
 ghost use Rattle.automaton.specs.States.{edges_at, ends_at, is_used, root_at, state_at, step_at, wait_at};
 
 use crate::line::Hop;
 use crate::step::Step;
 use crate::wait::Wait;
 use event_types::{List, Numbers, StreamId};
+use std::alloc::Global;
 use std::marker::Model;
 
 /// How a state is entered: a root state by the tuples of its stream, a waiting state through a hop from
@@ -68,6 +70,19 @@ impl Model for Network {
 }
 
 impl Network {
+    // The network of these states, by their places.
+    pub(crate) fn of(alloc: Global, slots: Vec<Option<State>>) -> Network
+        requires network { IsNetwork slots.items }
+        requires full { count_by is_some slots.items ≡ length slots.items }
+        ensures { result ≡ slots.items }
+    {
+        Network {
+            states: slots.len(),
+            slots,
+            no_step: List::new(alloc),
+        }
+    }
+
     /// The number of states.
     pub fn states(&self) -> usize
         ensures { result ≡ count_by is_some self.now }
@@ -77,7 +92,8 @@ impl Network {
 
     /// A number above those of all states.
     pub fn places(&self) -> usize
-        ensures { result ≡ length self.now }
+        ensures value { result ≡ length self.now }
+        ensures network { IsNetwork self.now }
     {
         self.slots.len()
     }

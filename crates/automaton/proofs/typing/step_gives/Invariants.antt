@@ -1,4 +1,3 @@
-use Rattle.std.proofs.Common.{drop}
 use Rattle.automaton.proofs.TypingLemmas.{StepLeads}
 use Rattle.automaton.proofs.typing.step_gives.Given as goal
 

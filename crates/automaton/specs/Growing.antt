@@ -1,0 +1,56 @@
+-- Networks that grow by a state, an edge or an end. No public clause cites this.
+use Rattle.std.specs.Prelude.{◌≡◌, ℕ, ◌+◌, ◌==◌, ◌||◌, IsTrue, if◌then◌else◌, is_some, List, [], ◌∷◌, ◌++◌, length, Option, Some, None, slice_set, sum_by, count_by}
+use Rattle.std.specs.List.{list_any}
+use Rattle.std.specs.List.Sorted.{IsPermutation}
+use Rattle.automaton.specs.declared.line.Hop.{Hop}
+use Rattle.automaton.specs.declared.line.Line.{Line}
+use Rattle.automaton.specs.declared.network.End.{End}
+use Rattle.automaton.specs.declared.network.Entry.TheVariants as entry
+use Rattle.automaton.specs.declared.network.State.{State}
+use Rattle.automaton.specs.NetworkLines.{ArePlaces, endings_by}
+use Rattle.automaton.specs.Networks.{IsNetwork}
+use Rattle.automaton.specs.Plain.{IsPlain, numbered}
+use Rattle.automaton.specs.Prefixes.{Prefix, hops_of, root_of}
+use Rattle.automaton.specs.States.{Net, before_at, before_in, edges_at, ends_at, is_used, root_in, state_at, tells}
+
+-- the state with one more forward edge
+abbrev pub with_edge : ℕ → Option State → Option State
+with_edge next None = None
+with_edge next (Some state) = Some (record { entry = state.entry; edges = state.edges ++ next ∷ []; ends = state.ends })
+
+-- the state with one more end
+abbrev pub with_end : End → Option State → Option State
+with_end end None = None
+with_end end (Some state) = Some (record { entry = state.entry; edges = state.edges; ends = state.ends ++ end ∷ [] })
+
+-- the network with a root state for a stream, where none was found
+abbrev pub rooted : ℕ → Option ℕ → Net → Net
+rooted stream (Some found) net = net
+rooted stream None net = net ++ Some (record { entry = entry.Root stream; edges = []; ends = [] }) ∷ []
+
+-- the network with one more waiting state, to which a forward edge leads from the state that the line has reached
+abbrev pub hopped : ℕ → Hop → Net → Net
+hopped tip hop net = slice_set net tip (with_edge (length net) (state_at net tip)) ++ Some (record { entry = entry.Waiting tip hop; edges = []; ends = [] }) ∷ []
+
+-- the network with one more end at the state that the line has reached
+abbrev pub ended : ℕ → End → Net → Net
+ended tip end net = slice_set net tip (with_end end (state_at net tip))
+
+-- the plain network of these lines, each number of which is used
+pub record IsWhole (lines : List Line) (net : Net) : Type 0 where
+  pub network : IsNetwork net
+  pub plain : IsPlain lines net
+  pub full : count_by is_some net ≡ length net
+
+-- the same with a further line that has come to a state by the hops of a prefix
+pub record IsGrown (lines : List Line) (tip : ℕ) (prefix : Prefix) (net : Net) : Type 0 where
+  pub network : IsNetwork net
+  pub places : ℕ → Prefix
+  pub are_places : ArePlaces net places
+  pub here : places tip ≡ prefix
+  pub used : IsTrue (is_used net tip)
+  pub same : IsPermutation (endings_by places net) (numbered 0 lines)
+  pub roots : (stream : ℕ) → count_by (λ slot. tells stream (root_in slot)) net ≡ (if list_any (λ line. line.root == stream) lines || (root_of prefix == stream) then 1 else 0)
+  pub waiting : count_by (λ slot. is_some (before_in slot)) net ≡ sum_by (λ line. length line.hops) lines + length (hops_of prefix)
+  pub apart : (number before : ℕ) → before_at net number ≡ Some before → length (edges_at net number) + length (ends_at net number) ≡ (if number == tip then 0 else 1)
+  pub full : count_by is_some net ≡ length net
