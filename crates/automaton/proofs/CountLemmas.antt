@@ -9,7 +9,7 @@ use Rattle.std.proofs.lemmas.List.Sorted.{IsPermutation-append_comm, IsPermutati
 use Rattle.automaton.proofs.NumberLemmas.{are_same_or_not}
 
 -- what a test counts for
-abbrev bit : Bool → ℕ
+abbrev pub bit : Bool → ℕ
 bit b = cond b 1 0
 
 module _ {X : Type 0} (p : X → Bool) where

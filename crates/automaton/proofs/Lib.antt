@@ -1,6 +1,11 @@
+pub mod AdditionLemmas
 pub mod CountLemmas
+pub mod EndLemmas
 pub mod GrowingLemmas
+pub mod HopLemmas
 pub mod NumberLemmas
 pub mod PlaceLemmas
+pub mod RootLemmas
 pub mod SlotLemmas
 pub mod TypingLemmas
+pub mod WorkLemmas

@@ -12,7 +12,7 @@ use Rattle.automaton.specs.NetworkLines.{ArePlaces, Ending, ending_at, endings_b
 use Rattle.automaton.specs.Networks.{IsAt}
 use Rattle.automaton.specs.Plain.{numbered}
 use Rattle.automaton.specs.Prefixes.{Prefix, Root, After, extended, hops_of, path, root_of}
-use Rattle.automaton.specs.States.{Net, ends_at, ends_in, entry_at, entry_in, is_used, state_at}
+use Rattle.automaton.specs.States.{Net, before_at, before_in, edges_at, edges_in, ends_at, ends_in, entry_at, entry_in, is_used, state_at}
 use Rattle.automaton.proofs.CountLemmas.{range_more, range-push, range_same}
 use Rattle.automaton.proofs.NumberLemmas.{are_same_or_not, is_other, is_same}
 use Rattle.automaton.proofs.SlotLemmas.{KeepsEntries, at_kept}
@@ -25,6 +25,13 @@ entry_there (Some state) = refl
 -- no state has the number behind all others
 pub none_behind : (net : Net) → state_at net (length net) ≡ None
 none_behind net = get_or_past net (length net) None (omega arith)
+
+-- and so nothing leads there or from there
+pub nothing_before : (net : Net) → before_at net (length net) ≡ None
+nothing_before net = ap before_in (none_behind net)
+
+pub nothing_edged : (net : Net) → edges_at net (length net) ≡ []
+nothing_edged net = ap edges_in (none_behind net)
 
 -- the prefixes with one more at a number
 abbrev pub with_place : ℕ → Prefix → (ℕ → Prefix) → ℕ → Prefix

@@ -24,3 +24,9 @@ pub record ReadsNone (numbers : List ℕ) (line : Line) : Type 0 where
 abbrev pub IsInOrder : List Line → List ℕ → Type 0
 IsInOrder lines [] = ⊤
 IsInOrder lines (stream ∷ order) = All (ReadsNone (stream ∷ order)) (filter (λ line. line.out == stream) lines) × (is_in order stream ≡ false) × IsInOrder lines order
+
+-- in the order of work each derived stream is what its lines give over all the streams
+abbrev pub StreamsAreDerived : Type 0
+StreamsAreDerived =
+    (lines : List Line) (order : List ℕ) (streams : Streams) → IsInOrder lines order
+    → All (λ stream. completed lines order streams stream ≡ derived lines (completed lines order streams) stream) order

@@ -3,6 +3,7 @@
 //! Contracts see a `Network` as its states by number, with nothing at a number that no state has.
 #![tactic(auto)]
 
+mod laws;
 mod layout;
 mod line;
 mod network;
@@ -11,6 +12,10 @@ mod step;
 mod typing;
 mod wait;
 
+pub use laws::{
+    added_lines_change_no_stream, added_lines_stand_alone, added_lines_stay_in_order,
+    streams_are_derived,
+};
 pub use layout::Layout;
 pub use line::{Hop, Hops, Line, Lines};
 pub use network::{End, Ends, Entry, Network, State};

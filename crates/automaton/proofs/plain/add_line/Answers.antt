@@ -1,7 +1,8 @@
 use Rattle.std.proofs.lemmas.Result.{on_ok_weaker}
 use Rattle.automaton.specs.Growing.{IsWhole}
 use Rattle.automaton.specs.Prefixes.{Root}
-use Rattle.automaton.proofs.GrowingLemmas.{first_state, last_state, next_state}
+use Rattle.automaton.proofs.GrowingLemmas.{last_state, next_state}
+use Rattle.automaton.proofs.RootLemmas.{first_state}
 use Rattle.automaton.proofs.plain.add_line.Goals as goal
 
 -- the line begins at the root state of its stream

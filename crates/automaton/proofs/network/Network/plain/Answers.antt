@@ -1,7 +1,8 @@
 use Rattle.std.proofs.Common.{[], subst, sym}
 use Rattle.automaton.specs.States.{Net}
 use Rattle.automaton.specs.Growing.{IsWhole}
-use Rattle.automaton.proofs.GrowingLemmas.{whole_more, whole_none}
+use Rattle.automaton.proofs.GrowingLemmas.{whole_more}
+use Rattle.automaton.proofs.RootLemmas.{whole_none}
 use Rattle.automaton.proofs.network.Network.plain.Goals as goal
 
 -- at first there are no lines and no states
