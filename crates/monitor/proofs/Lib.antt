@@ -1,0 +1,9 @@
+pub mod BatchLemmas
+pub mod ClosedLemmas
+pub mod ClosingLemmas
+pub mod FittingLemmas
+pub mod OwingLemmas
+pub mod ReadingLemmas
+pub mod ReportLemmas
+pub mod StandingLemmas
+pub mod WorkingLemmas

@@ -1,0 +1,9 @@
+pub mod Batches
+pub mod Fitting
+pub mod Hearing
+pub mod Owing
+pub mod Readings
+pub mod Reports
+pub mod Standing
+pub mod Watching
+pub mod Working

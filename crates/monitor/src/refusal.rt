@@ -1,0 +1,11 @@
+//! Why a line of the event text is refused.
+use event_csv::LineFault;
+
+/// Why a line of the event text is refused. Lines are counted from 1.
+#[derive(Clone, Copy, Debug, PartialEq, Eq, Drop)]
+pub enum Refusal {
+    /// The line has a fault.
+    HasFault { line: u64, why: LineFault },
+    /// Its event is detected before the event of the line before it, which was seen at `seen`.
+    IsOutOfOrder { line: u64, at: u64, seen: u64 },
+}

@@ -1,0 +1,72 @@
+//! The rows of closed epochs, on their way to the output.
+ghost use Rattle.std.specs.Prelude.{◌≡◌, ◌++◌, [], ℕ, List, length, OnOk, OnErr};
+ghost use Rattle.std.specs.List.{flat_map};
+ghost use Rattle.cay_host.specs.Faults.{Rose};
+ghost use Rattle.cay_host.specs.Output.{Wrote, WrotePart, SameButOutput};
+ghost use Rattle.semantics.specs.Report.{line};
+ghost use Rattle.monitor.specs.Batches.{lines_of};
+ghost use Rattle.monitor.specs.Owing.{Owes};
+
+use cay_host::{Failed, Host, write_whole};
+use evaluation::{Batch, Query};
+use event_types::{Memory, Tuples};
+use result_text::append_rows;
+use std::alloc::Global;
+
+/// Rows are written once there are so many bytes of them.
+const FULL: usize = 65536;
+
+/// Appends the result lines of each query's tuples.
+pub fn put_batch(
+    alloc: Global,
+    queries: &[Query<'_>],
+    batch: &Batch,
+    rows: &mut Vec<u8>,
+) -> Result<(), Memory>
+    requires { length batch.now ≡ length queries.now }
+    ensures { OnOk result (rows.new.items ≡ rows.old.items ++ lines_of queries.now batch.now) }
+{
+    for (place, query) in queries.iter().enumerate() {
+        put_tuples(alloc, query.name, batch.get(place), rows)?;
+    }
+    Ok(())
+}
+
+// Appends the result lines of a query's tuples.
+fn put_tuples(alloc: Global, name: &str, tuples: &Tuples, rows: &mut Vec<u8>) -> Result<(), Memory>
+    ensures { OnOk result (rows.new.items ≡ rows.old.items ++ flat_map (line name.now) tuples.now) }
+{
+    if tuples.len() == 0 {
+        return Ok(());
+    }
+    let buffer = std::mem::replace(rows, Vec::new(alloc));
+    *rows = append_rows(buffer, name, tuples.as_slice())?;
+    Ok(())
+}
+
+/// Writes the rows once there are many. Takes no memory.
+pub fn write_many<H: Host>(host: &mut H, rows: &mut Vec<u8>) -> Result<(), Failed>
+    ensures ok { OnOk result ((rest : List ℕ) → Owes (rows.old.items ++ rest) (rows.new.items ++ rest) (H.told host.old) (H.told host.new)) }
+    ensures part { OnErr result (WrotePart rows.old.items (H.told host.old) (H.told host.new)) }
+    ensures cause { OnErr result (Rose (H.told host.old).write_faults (H.told host.new).write_faults) }
+    ensures same { SameButOutput (H.told host.old) (H.told host.new) }
+{
+    if rows.len() < FULL {
+        Ok(())
+    } else {
+        write_rows(host, rows)
+    }
+}
+
+/// Writes the rows, and takes them away. Takes no memory.
+pub fn write_rows<H: Host>(host: &mut H, rows: &mut Vec<u8>) -> Result<(), Failed>
+    ensures ok { OnOk result (Wrote rows.old.items (H.told host.old) (H.told host.new)) }
+    ensures taken { OnOk result (rows.new.items ≡ []) }
+    ensures part { OnErr result (WrotePart rows.old.items (H.told host.old) (H.told host.new)) }
+    ensures cause { OnErr result (Rose (H.told host.old).write_faults (H.told host.new).write_faults) }
+    ensures same { SameButOutput (H.told host.old) (H.told host.new) }
+{
+    write_whole(host, rows)?;
+    rows.clear();
+    Ok(())
+}
