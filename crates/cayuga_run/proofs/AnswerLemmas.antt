@@ -6,18 +6,18 @@ use Rattle.std.proofs.lemmas.Bool.Decides.{nat_tests}
 use Rattle.cay_host.specs.declared.side.Side.TheVariants.{Queries, Events}
 use Rattle.cay_host.specs.Faults.{Rose}
 use Rattle.cay_host.specs.Files.{Files, file_of, find_file, lacks}
-use Rattle.cayuga_run.specs.declared.fault.QueryFault.{QueryFault}
+use Rattle.catalogue.specs.declared.fault.QueryFault.{QueryFault}
 use Rattle.cay_host.specs.Told.{Told}
 use Rattle.cayuga_run.specs.declared.status.Status.{Status}
-use Rattle.cayuga_run.specs.declared.status.Status.TheVariants.{Done, Usage, BadQuery, BadEvent, OutOfOrder, AttachFault, ReadFault, WriteFault, TooMuch, Memory}
+use Rattle.cayuga_run.specs.declared.status.Status.TheVariants.{Done, Usage, BadQuery, Cycle, BadEvent, OutOfOrder, AttachFault, ReadFault, WriteFault, TooMuch, Memory}
 use Rattle.cayuga_run.specs.Answers.{Answers}
-use Rattle.cayuga_run.specs.Catalogue.{Catalogue}
-use Rattle.cayuga_run.specs.Expected.{AnswersRefused, expected_after, IsExpected, IsExpectedOrFault, IsExpectedOrMemory, IsSteady}
-use Rattle.cayuga_run.specs.Judgement.{Verdict, Accepts, Refuses, IsAccepted, Judges}
+use Rattle.cayuga_run.specs.Expected.{AnswersRefused, IsUnlessFault, expected_after, IsExpected, IsExpectedOrFault, IsExpectedOrMemory, IsSteady}
+use Rattle.catalogue.specs.Judgement.{Verdict, Accepted, Refused, Circle, Judges, Judged, Refuses, Circles}
+use Rattle.catalogue.proofs.VerdictLemmas.{one_verdict}
+use Rattle.cayuga_run.specs.Accepting.{IsAccepted}
 use Rattle.cayuga_run.specs.Outcome.{AreThere, OfFiles, OfQueries, Outcome, is_whole}
 use Rattle.cayuga_run.specs.Reports.{refused_in}
 use Rattle.cayuga_run.specs.Words.{Job}
-use Rattle.cayuga_run.proofs.JudgementLemmas.{one-verdict}
 
 -- a claim on both files from another
 of_files : (a b : Option (List ℕ)) (P Q : List ℕ → List ℕ → Type 0) → ((q e : List ℕ) → P q e → Q q e) → IfSome a (λ q. IfSome b (P q)) → IfSome a (λ q. IfSome b (Q q))
@@ -36,9 +36,9 @@ of_none (Some q) None Q f = tt
 of_none (Some q) (Some e) Q f = f q e
 
 -- a status that an accepted text asks for
-asked : (status : Status) (text : List ℕ) (limit : ℕ) (events : List ℕ) (P : Catalogue → Type 0)
-    → ((c : Catalogue) → P c → status ≡ expected_after limit (refused_in c (take limit events) (is_whole limit events)) (is_whole limit events)) → IsAccepted text P → IsExpected limit text events status
-asked status text limit events P f h = record { verdict = Accepts h.catalogue; judged = h.judged; value = f h.catalogue h.holds }
+asked : (status : Status) (text : List ℕ) (limit : ℕ) (events : List ℕ) (P : Judged → Type 0)
+    → ((c : Judged) → P c → status ≡ expected_after limit (refused_in c (take limit events) (is_whole limit events)) (is_whole limit events)) → IsAccepted text P → IsExpected limit text events status
+asked status text limit events P f h = record { verdict = Accepted h.judged; judged = h.accepts; value = f h.judged h.holds }
 
 whole_is : (limit : ℕ) (events : List ℕ) → length events ≤ limit → is_whole limit events ≡ true
 whole_is limit events few = le-leb (length events) limit few
@@ -53,8 +53,11 @@ decided job limit old new Done o =
     (λ c h. sym (ap (λ b. expected_after limit (refused_in c (take limit e) b) b) (whole_is limit e h.0) ∙ ap (λ t. expected_after limit (refused_in c t true) true) (take_all limit e h.0) ∙ ap (λ r. expected_after limit r true) h.1))) o.text
 decided job limit old new Usage o = absurd o
 decided job limit old new (BadQuery line why) o =
-    of_queries (file_of job.queries old.files) (file_of job.events old.files) (λ q. Judges q (Refuses line why)) (λ q e. IsExpected limit q e (BadQuery line why))
-    (λ q e h. record { verdict = Refuses line why; judged = h; value = refl }) o.refused
+    of_queries (file_of job.queries old.files) (file_of job.events old.files) (λ q. Refuses q line why) (λ q e. IsExpected limit q e (BadQuery line why))
+    (λ q e h. record { verdict = Refused line why; judged = h; value = refl }) o.refused
+decided job limit old new (Cycle names) o =
+    of_queries (file_of job.queries old.files) (file_of job.events old.files) (λ q. Circles q names) (λ q e. IsExpected limit q e (Cycle names))
+    (λ q e h. record { verdict = Circle names; judged = h; value = refl }) o.circles
 decided job limit old new (BadEvent line why) o =
     of_files _ _ _ _ (λ q e. asked (BadEvent line why) q limit e _ (λ c h. sym (ap (λ r. expected_after limit r (is_whole limit e)) h.0))) o.text
 decided job limit old new (OutOfOrder line at seen) o =
@@ -87,19 +90,20 @@ abbrev Answered : Status → List ℕ → Type 0
 Answered status text = (v : Verdict) → Judges text v → AnswersRefused v status
 
 -- an accepted text has any answer
-accepted_answers : (text : List ℕ) (status : Status) (P : Catalogue → Type 0) → IsAccepted text P → Answered status text
-accepted_answers text status P h v judged = subst (λ w. AnswersRefused w status) (one-verdict text (Accepts h.catalogue) v h.judged judged) tt
+accepted_answers : (text : List ℕ) (status : Status) (P : Judged → Type 0) → IsAccepted text P → Answered status text
+accepted_answers text status P h v judged = subst (λ w. AnswersRefused w status) (one_verdict text (Accepted h.judged) v h.accepts judged) tt
 
-free_answers : (o : Option (List ℕ)) (status : Status) → ((line : ℕ) (why : QueryFault) → AnswersRefused (Refuses line why) status) → IfSome o (Answered status)
+free_answers : (o : Option (List ℕ)) (status : Status) → ((asked : Status) → IsUnlessFault asked status) → IfSome o (Answered status)
 free_answers None status f = tt
 free_answers (Some q) status f = λ v judged. by_verdict v
   where
     by_verdict : (v : Verdict) → AnswersRefused v status
-    by_verdict (Accepts c) = tt
-    by_verdict (Refuses line why) = f line why
+    by_verdict (Accepted judged) = tt
+    by_verdict (Refused line why) = f (BadQuery line why)
+    by_verdict (Circle names) = f (Cycle names)
 
 -- both files are there and the query text is accepted
-accepted_files : (job : Job) (old : Told) (status : Status) (P : List ℕ → Catalogue → Type 0) → AreThere job old
+accepted_files : (job : Job) (old : Told) (status : Status) (P : List ℕ → Judged → Type 0) → AreThere job old
     → OfFiles job old (λ q e. IsAccepted q (P e)) → OfQueries job old (Answered status)
 accepted_files job old status P there h =
     for_some (file_of job.queries old.files) (λ q. (e : List ℕ) × IsAccepted q (P e)) (Answered status)
@@ -110,19 +114,22 @@ refused_by : (job : Job) (limit : ℕ) (old new : Told) (status : Status) → Ou
 refused_by job limit old new Done o = accepted_files job old Done _ o.there o.text
 refused_by job limit old new Usage o = absurd o
 refused_by job limit old new (BadQuery line why) o =
-    for_some (file_of job.queries old.files) (λ q. Judges q (Refuses line why)) (Answered (BadQuery line why))
-    (λ q h v judged. subst (λ w. AnswersRefused w (BadQuery line why)) (one-verdict q (Refuses line why) v h judged) refl) o.refused
+    for_some (file_of job.queries old.files) (λ q. Refuses q line why) (Answered (BadQuery line why))
+    (λ q h v judged. subst (λ w. AnswersRefused w (BadQuery line why)) (one_verdict q (Refused line why) v h judged) refl) o.refused
+refused_by job limit old new (Cycle names) o =
+    for_some (file_of job.queries old.files) (λ q. Circles q names) (Answered (Cycle names))
+    (λ q h v judged. subst (λ w. AnswersRefused w (Cycle names)) (one_verdict q (Circle names) v h judged) refl) o.circles
 refused_by job limit old new (BadEvent line why) o = accepted_files job old (BadEvent line why) _ o.there o.text
 refused_by job limit old new (OutOfOrder line at seen) o = accepted_files job old (OutOfOrder line at seen) _ o.there o.text
-refused_by job limit old new (AttachFault Queries) o = free_answers (file_of job.queries old.files) (AttachFault Queries) (λ line why. tt)
+refused_by job limit old new (AttachFault Queries) o = free_answers (file_of job.queries old.files) (AttachFault Queries) (λ asked. tt)
 refused_by job limit old new (AttachFault Events) o =
     for_some (file_of job.queries old.files) (λ q. IsAccepted q (λ c. Unit {0})) (Answered (AttachFault Events))
     (λ q h. accepted_answers q (AttachFault Events) (λ c. Unit {0}) h) (o.accepted refl).1
-refused_by job limit old new (ReadFault Queries) o = free_answers (file_of job.queries old.files) (ReadFault Queries) (λ line why. tt)
+refused_by job limit old new (ReadFault Queries) o = free_answers (file_of job.queries old.files) (ReadFault Queries) (λ asked. tt)
 refused_by job limit old new (ReadFault Events) o = let stopped = o.events refl in accepted_files job old (ReadFault Events) _ stopped.there stopped.text
 refused_by job limit old new WriteFault o = accepted_files job old WriteFault _ o.there o.text
 refused_by job limit old new (TooMuch most) o = accepted_files job old (TooMuch most) _ o.1.there o.1.text
-refused_by job limit old new Memory o = free_answers (file_of job.queries old.files) Memory (λ line why. tt)
+refused_by job limit old new Memory o = free_answers (file_of job.queries old.files) Memory (λ asked. tt)
 
 -- a count that didn't rise and is below its end
 no_rise : (before now : ℕ) → Rose before now → now ≡ before → before < 2 ^ 64 - 1 → ⊥
@@ -134,6 +141,7 @@ complete_by : (job : Job) (limit : ℕ) (old new : Told) (status : Status) → O
 complete_by job limit old new Done o st there = decided job limit old new Done o
 complete_by job limit old new Usage o st there = absurd o
 complete_by job limit old new (BadQuery line why) o st there = decided job limit old new (BadQuery line why) o
+complete_by job limit old new (Cycle names) o st there = decided job limit old new (Cycle names) o
 complete_by job limit old new (BadEvent line why) o st there = decided job limit old new (BadEvent line why) o
 complete_by job limit old new (OutOfOrder line at seen) o st there = decided job limit old new (OutOfOrder line at seen) o
 complete_by job limit old new (AttachFault Queries) o st there = absurd (no_rise _ _ (o.cause there.queries) st.attach st.attach_below)
@@ -150,6 +158,7 @@ without_job limit old new Usage o = record {
   usage_does = λ e. o;
   done = λ e. cc;
   bad_query = λ line why e. cc;
+  cycle = λ names e. cc;
   bad_event = λ line why e. cc;
   out_of_order = λ line at seen e. cc;
   too_much = λ most e. cc;
@@ -163,6 +172,7 @@ without_job limit old new Usage o = record {
 }
 without_job limit old new Done o = absurd o
 without_job limit old new (BadQuery line why) o = absurd o
+without_job limit old new (Cycle names) o = absurd o
 without_job limit old new (BadEvent line why) o = absurd o
 without_job limit old new (OutOfOrder line at seen) o = absurd o
 without_job limit old new (AttachFault side) o = absurd o
@@ -179,6 +189,7 @@ answers (Some job) limit old new status o = record {
   usage_does = λ e. absurd (subst (Outcome (Some job) limit old new) e o);
   done = λ e. subst (Outcome (Some job) limit old new) e o;
   bad_query = λ line why e. subst (Outcome (Some job) limit old new) e o;
+  cycle = λ names e. subst (Outcome (Some job) limit old new) e o;
   bad_event = λ line why e. subst (Outcome (Some job) limit old new) e o;
   out_of_order = λ line at seen e. subst (Outcome (Some job) limit old new) e o;
   too_much = λ most e. subst (Outcome (Some job) limit old new) e o;

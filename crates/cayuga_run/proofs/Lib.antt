@@ -1,10 +1,6 @@
 pub mod AnswerLemmas
-pub mod BuiltLemmas
-pub mod ClosingLemmas
-pub mod EvaluationLemmas
-pub mod FilteringLemmas
+pub mod GrowingLemmas
 pub mod JudgementLemmas
-pub mod OwingLemmas
-pub mod ReadingLemmas
+pub mod ProgramLemmas
 pub mod RunLemmas
-pub mod WorkingLemmas
+pub mod WordingLemmas

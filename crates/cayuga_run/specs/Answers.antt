@@ -1,15 +1,15 @@
 -- What each answer of the top call says.
-use Rattle.std.specs.Prelude.{◌≡◌, ◌↔◌, ℕ, Option, None, IfSome}
+use Rattle.std.specs.Prelude.{◌≡◌, ◌↔◌, ℕ, List, Option, None, IfSome}
 use Rattle.cay_host.specs.declared.side.Side.{Side}
 use Rattle.cay_host.specs.Told.{Told}
 use Rattle.event_csv.specs.declared.fault.LineFault.{LineFault}
-use Rattle.cayuga_run.specs.declared.fault.QueryFault.{QueryFault}
-use Rattle.cayuga_run.specs.declared.refusal.Refusal.TheVariants.{HasFault, IsOutOfOrder}
+use Rattle.catalogue.specs.declared.fault.QueryFault.{QueryFault}
+use Rattle.monitor.specs.declared.refusal.Refusal.TheVariants.{HasFault, IsOutOfOrder}
 use Rattle.cayuga_run.specs.declared.status.Status.{Status}
-use Rattle.cayuga_run.specs.declared.status.Status.TheVariants.{Done, Usage, BadQuery, BadEvent, OutOfOrder, AttachFault, ReadFault, WriteFault, TooMuch, Memory}
-use Rattle.cayuga_run.specs.Judgement.{Verdict, Judges}
+use Rattle.cayuga_run.specs.declared.status.Status.TheVariants.{Done, Usage, BadQuery, Cycle, BadEvent, OutOfOrder, AttachFault, ReadFault, WriteFault, TooMuch, Memory}
+use Rattle.catalogue.specs.Judgement.{Verdict, Judges}
 use Rattle.cayuga_run.specs.Expected.{AnswersRefused, IsExpected, IsExpectedOrFault, IsExpectedOrMemory, IsSteady}
-use Rattle.cayuga_run.specs.Outcome.{AreThere, ForJob, IsAttachFault, IsBadQuery, IsDone, IsMemory, IsReadFault, IsRefused, IsTooMuch, IsWriteFault, OfFiles, OfQueries}
+use Rattle.cayuga_run.specs.Outcome.{AreThere, ForJob, IsAttachFault, IsBadQuery, IsCycle, IsDone, IsMemory, IsReadFault, IsRefused, IsTooMuch, IsWriteFault, OfFiles, OfQueries}
 use Rattle.cayuga_run.specs.Words.{Job}
 
 -- the answers of a call with these words and this limit, over what the host told before and after it
@@ -20,6 +20,7 @@ pub record Answers (job : Option Job) (limit : ℕ) (old new : Told) (status : S
   -- what each other answer says
   pub done : status ≡ Done → ForJob job (λ j. IsDone j limit old new)
   pub bad_query : (line : ℕ) (why : QueryFault) → status ≡ BadQuery line why → ForJob job (λ j. IsBadQuery line why j old new)
+  pub cycle : (names : List (List ℕ)) → status ≡ Cycle names → ForJob job (λ j. IsCycle names j old new)
   pub bad_event : (line : ℕ) (why : LineFault) → status ≡ BadEvent line why → ForJob job (λ j. IsRefused (HasFault line why) j limit old new)
   pub out_of_order : (line at seen : ℕ) → status ≡ OutOfOrder line at seen → ForJob job (λ j. IsRefused (IsOutOfOrder line at seen) j limit old new)
   pub too_much : (most : ℕ) → status ≡ TooMuch most → (most ≡ limit) × ForJob job (λ j. IsTooMuch j limit old new)

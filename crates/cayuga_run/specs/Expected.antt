@@ -2,11 +2,11 @@
 use Rattle.std.specs.Prelude.{◌≡◌, ⊤, ℕ, ◌-◌, ◌^◌, ◌<◌, List, Bool, true, false, take, Option, Some, None}
 use Rattle.cay_host.specs.declared.side.Side.TheVariants.{Queries}
 use Rattle.cay_host.specs.Told.{Told}
-use Rattle.cayuga_run.specs.declared.refusal.Refusal.{Refusal}
-use Rattle.cayuga_run.specs.declared.refusal.Refusal.TheVariants.{HasFault, IsOutOfOrder}
+use Rattle.monitor.specs.declared.refusal.Refusal.{Refusal}
+use Rattle.monitor.specs.declared.refusal.Refusal.TheVariants.{HasFault, IsOutOfOrder}
 use Rattle.cayuga_run.specs.declared.status.Status.{Status}
-use Rattle.cayuga_run.specs.declared.status.Status.TheVariants.{Done, BadQuery, BadEvent, OutOfOrder, AttachFault, ReadFault, WriteFault, TooMuch, Memory}
-use Rattle.cayuga_run.specs.Judgement.{Verdict, Accepts, Refuses, Judges}
+use Rattle.cayuga_run.specs.declared.status.Status.TheVariants.{Done, BadQuery, Cycle, BadEvent, OutOfOrder, AttachFault, ReadFault, WriteFault, TooMuch, Memory}
+use Rattle.catalogue.specs.Judgement.{Verdict, Accepted, Refused, Circle, Judges}
 use Rattle.cayuga_run.specs.Outcome.{is_whole}
 use Rattle.cayuga_run.specs.Reports.{refused_in}
 
@@ -17,10 +17,11 @@ expected_after limit (Some (IsOutOfOrder line at seen)) whole = OutOfOrder line 
 expected_after limit None true = Done
 expected_after limit None false = TooMuch limit
 
--- a refused query text decides before all events
+-- a refused query text, or a cycle in it, decides before all events
 abbrev pub expected_of : Verdict → ℕ → List ℕ → Status
-expected_of (Refuses line why) limit events = BadQuery line why
-expected_of (Accepts catalogue) limit events = expected_after limit (refused_in catalogue (take limit events) (is_whole limit events)) (is_whole limit events)
+expected_of (Refused line why) limit events = BadQuery line why
+expected_of (Circle names) limit events = Cycle names
+expected_of (Accepted judged) limit events = expected_after limit (refused_in judged (take limit events) (is_whole limit events)) (is_whole limit events)
 
 -- these texts ask for the status
 pub record IsExpected (limit : ℕ) (queries events : List ℕ) (status : Status) : Type 0 where
@@ -45,13 +46,18 @@ abbrev pub IsExpectedOrMemory : (Status → Type 0) → Status → Type 0
 IsExpectedOrMemory IsAsked Memory = ⊤
 IsExpectedOrMemory IsAsked status = IsAsked status
 
--- a refused query text is the answer, unless the queries couldn't be attached or read or there was no memory
+-- the status is this one, unless the queries couldn't be attached or read or there was no memory
+abbrev pub IsUnlessFault : Status → Status → Type 0
+IsUnlessFault asked (AttachFault Queries) = ⊤
+IsUnlessFault asked (ReadFault Queries) = ⊤
+IsUnlessFault asked Memory = ⊤
+IsUnlessFault asked status = status ≡ asked
+
+-- the refusal of a query text is the answer, unless the queries couldn't be attached or read or there was no memory
 abbrev pub AnswersRefused : Verdict → Status → Type 0
-AnswersRefused (Accepts catalogue) status = ⊤
-AnswersRefused (Refuses line why) (AttachFault Queries) = ⊤
-AnswersRefused (Refuses line why) (ReadFault Queries) = ⊤
-AnswersRefused (Refuses line why) Memory = ⊤
-AnswersRefused (Refuses line why) status = status ≡ BadQuery line why
+AnswersRefused (Accepted judged) status = ⊤
+AnswersRefused (Refused line why) status = IsUnlessFault (BadQuery line why) status
+AnswersRefused (Circle names) status = IsUnlessFault (Cycle names) status
 
 -- no count of faults rose, and each is below its end
 pub record IsSteady (old new : Told) : Type 0 where

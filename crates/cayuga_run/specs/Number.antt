@@ -1,13 +1,14 @@
 -- The number of each status.
 use Rattle.std.specs.Prelude.{ℕ}
 use Rattle.cayuga_run.specs.declared.status.Status.{Status}
-use Rattle.cayuga_run.specs.declared.status.Status.TheVariants.{Done, Usage, BadQuery, BadEvent, OutOfOrder, AttachFault, ReadFault, WriteFault, TooMuch, Memory}
+use Rattle.cayuga_run.specs.declared.status.Status.TheVariants.{Done, Usage, BadQuery, Cycle, BadEvent, OutOfOrder, AttachFault, ReadFault, WriteFault, TooMuch, Memory}
 
 -- the number that the program ends with
 abbrev pub number_of : Status → ℕ
 number_of Done = 0
 number_of Usage = 1
 number_of (BadQuery line why) = 2
+number_of (Cycle names) = 3
 number_of (BadEvent line why) = 4
 number_of (OutOfOrder line at seen) = 5
 number_of (AttachFault side) = 6

@@ -7,13 +7,14 @@ use Rattle.cay_host.specs.Faults.{Rose}
 use Rattle.cay_host.specs.Files.{file_of, lacks}
 use Rattle.cay_host.specs.Output.{Wrote, WrotePart, KeepsOutput}
 use Rattle.cay_host.specs.Told.{Told}
-use Rattle.cayuga_run.specs.declared.fault.QueryFault.{QueryFault}
-use Rattle.cayuga_run.specs.declared.refusal.Refusal.{Refusal}
-use Rattle.cayuga_run.specs.declared.refusal.Refusal.TheVariants.{HasFault, IsOutOfOrder}
+use Rattle.catalogue.specs.declared.fault.QueryFault.{QueryFault}
+use Rattle.monitor.specs.declared.refusal.Refusal.{Refusal}
+use Rattle.monitor.specs.declared.refusal.Refusal.TheVariants.{HasFault, IsOutOfOrder}
 use Rattle.cayuga_run.specs.declared.status.Status.{Status}
-use Rattle.cayuga_run.specs.declared.status.Status.TheVariants.{Done, Usage, BadQuery, BadEvent, OutOfOrder, AttachFault, ReadFault, WriteFault, TooMuch, Memory}
-use Rattle.cayuga_run.specs.Judgement.{Verdict, Accepts, Refuses, IsAccepted, Judges}
-use Rattle.cayuga_run.specs.Owing.{WroteFront}
+use Rattle.cayuga_run.specs.declared.status.Status.TheVariants.{Done, Usage, BadQuery, Cycle, BadEvent, OutOfOrder, AttachFault, ReadFault, WriteFault, TooMuch, Memory}
+use Rattle.catalogue.specs.Judgement.{Verdict, Accepted, Refused, Circle, Judges, Refuses, Circles}
+use Rattle.cayuga_run.specs.Accepting.{IsAccepted}
+use Rattle.monitor.specs.Owing.{WroteFront}
 use Rattle.cayuga_run.specs.Reports.{refused_in, report_of_closed, report_of_heard}
 use Rattle.cayuga_run.specs.Words.{Job, name_of}
 
@@ -37,27 +38,33 @@ pub record AreThere (job : Job) (old : Told) : Type 0 where
 -- all events were heard, none was refused, and their report was written
 pub record IsDone (job : Job) (limit : ℕ) (old new : Told) : Type 0 where
   pub there : AreThere job old
-  pub text : OfFiles job old (λ queries events. IsAccepted queries (λ catalogue.
-      (length events ≤ limit) × (refused_in catalogue events true ≡ None) × Wrote (report_of_heard catalogue events true) old new))
+  pub text : OfFiles job old (λ queries events. IsAccepted queries (λ judged.
+      (length events ≤ limit) × (refused_in judged events true ≡ None) × Wrote (report_of_heard judged events true) old new))
   pub ended : IfSome (new.left Events) (λ rest. rest ≡ [])
 
 -- the query text is refused at that line for that reason, and nothing was written
 pub record IsBadQuery (line : ℕ) (why : QueryFault) (job : Job) (old new : Told) : Type 0 where
   pub there : lacks job.queries old.files ≡ false
-  pub refused : OfQueries job old (λ queries. Judges queries (Refuses line why))
+  pub refused : OfQueries job old (λ queries. Refuses queries line why)
+  pub silent : KeepsOutput old new
+
+-- the queries of the text read one another in the circle of these names, and nothing was written
+pub record IsCycle (names : List (List ℕ)) (job : Job) (old new : Told) : Type 0 where
+  pub there : lacks job.queries old.files ≡ false
+  pub circles : OfQueries job old (λ queries. Circles queries names)
   pub silent : KeepsOutput old new
 
 -- that line of the event text, cut at the limit, is refused, and the report of the epochs closed before it was written
 pub record IsRefused (refusal : Refusal) (job : Job) (limit : ℕ) (old new : Told) : Type 0 where
   pub there : AreThere job old
-  pub text : OfFiles job old (λ queries events. IsAccepted queries (λ catalogue.
-      (refused_in catalogue (take limit events) (is_whole limit events) ≡ Some refusal) × Wrote (report_of_closed catalogue (take limit events) (is_whole limit events)) old new))
+  pub text : OfFiles job old (λ queries events. IsAccepted queries (λ judged.
+      (refused_in judged (take limit events) (is_whole limit events) ≡ Some refusal) × Wrote (report_of_closed judged (take limit events) (is_whole limit events)) old new))
 
 -- there are more events than the limit, none up to it is refused, and the report of the epochs closed by then was written
 pub record IsTooMuch (job : Job) (limit : ℕ) (old new : Told) : Type 0 where
   pub there : AreThere job old
-  pub text : OfFiles job old (λ queries events. IsAccepted queries (λ catalogue.
-      (limit < length events) × (refused_in catalogue (take limit events) false ≡ None) × Wrote (report_of_closed catalogue (take limit events) false) old new))
+  pub text : OfFiles job old (λ queries events. IsAccepted queries (λ judged.
+      (limit < length events) × (refused_in judged (take limit events) false ≡ None) × Wrote (report_of_closed judged (take limit events) false) old new))
 
 -- the side isn't attached, the one before it is, and the one after it isn't
 abbrev pub StoppedAt : Side → Told → Type 0
@@ -66,7 +73,7 @@ StoppedAt Events new = (new.attached Queries ≡ true) × (new.attached Events �
 
 -- the query text is there, and is accepted
 abbrev pub QueriesAccepted : Job → Told → Type 0
-QueriesAccepted job old = (lacks job.queries old.files ≡ false) × OfQueries job old (λ queries. IsAccepted queries (λ catalogue. Unit {0}))
+QueriesAccepted job old = (lacks job.queries old.files ≡ false) × OfQueries job old (λ queries. IsAccepted queries (λ judged. Unit {0}))
 
 -- the side couldn't be attached: the count of attach faults rose, or the host tells that it has no such file
 pub record IsAttachFault (side : Side) (job : Job) (old new : Told) : Type 0 where
@@ -84,8 +91,8 @@ pub record StoppedInQueries (job : Job) (old new : Told) : Type 0 where
 -- a read of the events failed: no line of the bytes that were taken is refused, and the report of the epochs that they close was written
 pub record StoppedInEvents (job : Job) (limit : ℕ) (old new : Told) : Type 0 where
   pub there : AreThere job old
-  pub text : OfFiles job old (λ queries events. IsAccepted queries (λ catalogue. (taken : List ℕ)
-      × (Some events ≡ prepend_known taken (new.left Events)) × (length taken ≤ limit) × (refused_in catalogue taken false ≡ None) × Wrote (report_of_closed catalogue taken false) old new))
+  pub text : OfFiles job old (λ queries events. IsAccepted queries (λ judged. (taken : List ℕ)
+      × (Some events ≡ prepend_known taken (new.left Events)) × (length taken ≤ limit) × (refused_in judged taken false ≡ None) × Wrote (report_of_closed judged taken false) old new))
 
 -- the count of read faults rose, and the side whose read failed is attached
 pub record IsReadFault (side : Side) (job : Job) (limit : ℕ) (old new : Told) : Type 0 where
@@ -98,12 +105,13 @@ pub record IsReadFault (side : Side) (job : Job) (limit : ℕ) (old new : Told) 
 pub record IsWriteFault (job : Job) (limit : ℕ) (old new : Told) : Type 0 where
   pub cause : Rose old.write_faults new.write_faults
   pub there : AreThere job old
-  pub text : OfFiles job old (λ queries events. IsAccepted queries (λ catalogue. WrotePart (report_of_closed catalogue (take limit events) (is_whole limit events)) old new))
+  pub text : OfFiles job old (λ queries events. IsAccepted queries (λ judged. WrotePart (report_of_closed judged (take limit events) (is_whole limit events)) old new))
 
 -- what was written before memory was wanting: a front of the report of the closed epochs, and nothing where the query text is refused
 abbrev pub MemoryText : Verdict → ℕ → List ℕ → Told → Told → Type 0
-MemoryText (Accepts catalogue) limit events old new = WroteFront (report_of_closed catalogue (take limit events) (is_whole limit events)) old new
-MemoryText (Refuses line why) limit events old new = KeepsOutput old new
+MemoryText (Accepted judged) limit events old new = WroteFront (report_of_closed judged (take limit events) (is_whole limit events)) old new
+MemoryText (Refused line why) limit events old new = KeepsOutput old new
+MemoryText (Circle names) limit events old new = KeepsOutput old new
 
 -- there was no memory; nothing was written where a file of the job is absent or the query text is refused
 pub record IsMemory (job : Job) (limit : ℕ) (old new : Told) : Type 0 where
@@ -116,6 +124,7 @@ abbrev pub Outcome : Option Job → ℕ → Told → Told → Status → Type 0
 Outcome (Some job) limit old new Done = IsDone job limit old new
 Outcome None limit old new Usage = new ≡ old
 Outcome (Some job) limit old new (BadQuery line why) = IsBadQuery line why job old new
+Outcome (Some job) limit old new (Cycle names) = IsCycle names job old new
 Outcome (Some job) limit old new (BadEvent line why) = IsRefused (HasFault line why) job limit old new
 Outcome (Some job) limit old new (OutOfOrder line at seen) = IsRefused (IsOutOfOrder line at seen) job limit old new
 Outcome (Some job) limit old new (AttachFault side) = IsAttachFault side job old new

@@ -1,12 +1,24 @@
 -- The text of each status (this project's profile): one line without its end.
 use Rattle.std.specs.Prelude.{ℕ, List, [], ◌++◌, codes, decimal}
+use Rattle.std.specs.List.{join_by}
 use Rattle.cay_host.specs.declared.side.Side.TheVariants.{Queries, Events}
+use Rattle.event_types.specs.declared.kind.Kind.{Kind}
+use Rattle.event_types.specs.declared.kind.Kind.TheVariants as kind
 use Rattle.event_csv.specs.declared.fault.LineFault.{LineFault}
 use Rattle.event_csv.specs.declared.fault.LineFault.TheVariants as event
-use Rattle.cayuga_run.specs.declared.fault.QueryFault.{QueryFault}
-use Rattle.cayuga_run.specs.declared.fault.QueryFault.TheVariants as query
+use Rattle.catalogue.specs.declared.fault.QueryFault.{QueryFault}
+use Rattle.catalogue.specs.declared.fault.QueryFault.TheVariants as query
 use Rattle.cayuga_run.specs.declared.status.Status.{Status}
-use Rattle.cayuga_run.specs.declared.status.Status.TheVariants.{Done, Usage, BadQuery, BadEvent, OutOfOrder, AttachFault, ReadFault, WriteFault, TooMuch, Memory}
+use Rattle.cayuga_run.specs.declared.status.Status.TheVariants.{Done, Usage, BadQuery, Cycle, BadEvent, OutOfOrder, AttachFault, ReadFault, WriteFault, TooMuch, Memory}
+
+-- a kind as it stands in a declaration
+abbrev pub kind_word : Kind → List ℕ
+kind_word kind.Int = codes "INT"
+kind_word kind.Text = codes "TEXT"
+
+-- names, joined by a comma and a space
+abbrev pub names_joined : List (List ℕ) → List ℕ
+names_joined names = join_by (λ name. name) (codes ", ") names
 
 -- what is wrong with the queries, in words
 abbrev pub query_words : QueryFault → List ℕ
@@ -17,7 +29,15 @@ query_words (query.TooManyTokens number) = codes "statement " ++ (decimal number
 query_words (query.TooDeep number) = codes "statement " ++ (decimal number ++ codes " is nested more than 64 deep")
 query_words (query.BadStatement number) = codes "statement " ++ (decimal number ++ codes " is not in the grammar")
 query_words query.TooLong = codes "more than 1048576 bytes of queries"
-query_words query.Unbuilt = codes "not a built file"
+query_words (query.Reserved name) = codes "name " ++ (name ++ codes " is reserved")
+query_words (query.Duplicate name) = codes "name " ++ (name ++ codes " is taken")
+query_words (query.Unknown name) = codes "stream " ++ (name ++ codes " is unknown")
+query_words (query.UnknownAttr name) = codes "attribute " ++ (name ++ codes " is unknown")
+query_words (query.KindMismatch want got) = kind_word want ++ (codes " wanted, " ++ (kind_word got ++ codes " given"))
+query_words (query.NotAssignable name) = codes "attribute " ++ (name ++ codes " cannot be assigned")
+query_words (query.DuplicateAttr name) = codes "attribute " ++ (name ++ codes " stands twice")
+query_words (query.UnionMismatch place) = codes "union differs at attribute " ++ decimal place
+query_words (query.TooWide count) = decimal count ++ codes " attributes, at most 256"
 
 -- what is wrong with an event line, in words
 abbrev pub line_words : LineFault → List ℕ
@@ -34,6 +54,7 @@ abbrev pub text_of : Status → List ℕ
 text_of Done = []
 text_of Usage = codes "cayuga: usage: cayuga [--stats] run QUERIES EVENTS, check QUERIES, plan QUERIES, load SEED N"
 text_of (BadQuery line why) = codes "cayuga: queries line " ++ (decimal line ++ (codes ": " ++ query_words why))
+text_of (Cycle names) = codes "cayuga: cycle: " ++ names_joined names
 text_of (BadEvent line why) = codes "cayuga: events line " ++ (decimal line ++ (codes ": " ++ line_words why))
 text_of (OutOfOrder line at seen) = codes "cayuga: events line " ++ (decimal line ++ (codes ": detection " ++ (decimal at ++ (codes " is below " ++ decimal seen))))
 text_of (AttachFault Queries) = codes "cayuga: cannot open the queries"

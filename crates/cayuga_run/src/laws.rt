@@ -1,6 +1,5 @@
-//! Laws of verdicts, and of event texts that go on.
+//! Laws of what both texts ask for, and of event texts that go on.
 ghost use Rattle.cayuga_run.specs.Expected.{OneStatus};
-ghost use Rattle.cayuga_run.specs.Judgement.{OneVerdict, SomeVerdict};
 ghost use Rattle.cayuga_run.specs.Laws.{RefusedLinesStay, ReportsGrow};
 
 /// A refused line stays refused, whatever bytes follow.
@@ -13,9 +12,7 @@ pub fn reports_grow()
     ensures { ReportsGrow }
 {}
 
-/// A query text has exactly one verdict, and so both texts ask for at most one status.
-pub fn one_verdict()
-    ensures one { OneVerdict }
-    ensures some { SomeVerdict }
-    ensures status { OneStatus }
+/// Both texts ask for at most one status.
+pub fn texts_ask_for_one_status()
+    ensures { OneStatus }
 {}

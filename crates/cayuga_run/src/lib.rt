@@ -3,25 +3,17 @@
 //! Contracts see a `Status` as itself, a host by what it tells, and words and texts as their bytes.
 #![tactic(auto)]
 
-mod built;
-mod evaluation;
-mod fault;
-mod filter;
-mod judging;
 mod laws;
-mod reading;
-mod refusal;
 mod run;
 mod status;
 mod taking;
 mod top;
+mod watching;
 mod wording;
-mod work;
-mod writing;
 
+pub use catalogue::QueryFault;
 pub use event_csv::LineFault;
-pub use fault::QueryFault;
-pub use laws::{one_verdict, refused_lines_stay, reports_grow};
+pub use laws::{refused_lines_stay, reports_grow, texts_ask_for_one_status};
 pub use status::Status;
 pub use top::{cayuga, cayuga_within};
 

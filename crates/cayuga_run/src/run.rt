@@ -3,21 +3,18 @@ ghost use Rattle.std.specs.Prelude.{◌≡◌, false, true, Some, take, IfOk, If
 ghost use Rattle.cay_host.specs.declared.side.Side.TheVariants.{Queries, Events};
 ghost use Rattle.cay_host.specs.Input.{SameButRead};
 ghost use Rattle.cay_host.specs.Output.{SameButOutput};
-ghost use Rattle.cayuga_run.specs.Catalogue.{catalogue_of};
+ghost use Rattle.catalogue.specs.Catalogued.{judged_of};
+ghost use Rattle.catalogue.specs.Judgement.{Accepts};
 ghost use Rattle.cayuga_run.specs.Finishing.{Finishes, is_all};
-ghost use Rattle.cayuga_run.specs.Judgement.{Accepts, Judges};
 ghost use Rattle.cayuga_run.specs.Outcome.{Outcome};
 ghost use Rattle.cayuga_run.specs.QueryFailing.{QueriesFail, TextFails};
-ghost use Rattle.cayuga_run.specs.Suits.{Suits};
 
-use crate::evaluation::evaluate;
-use crate::filter::Filter;
-use crate::judging::{Rejection, judge};
-use crate::refusal::Refusal;
 use crate::status::Status;
 use crate::taking::{End, Taken, take_side};
-use crate::work::Ended;
+use crate::watching::watch;
+use catalogue::{Catalogue, LoadFault, load};
 use cay_host::{Host, Ledger, Side, Steps};
+use monitor::{Ended, Refusal};
 use std::alloc::Global;
 
 /// The most bytes of a query text.
@@ -39,8 +36,8 @@ pub fn run<H: Host, L: Ledger>(
     if host.attach(Side::Queries, queries).is_err() {
         return Status::AttachFault(Side::Queries);
     }
-    let filter = match take_queries(alloc, host) {
-        Ok(filter) => filter,
+    let catalogue = match take_queries(alloc, host) {
+        Ok(catalogue) => catalogue,
         Err(status) => return status,
     };
     if host.attach(Side::Events, events).is_err() {
@@ -49,14 +46,13 @@ pub fn run<H: Host, L: Ledger>(
     let Ok(taken) = take_side(alloc, host, Side::Events, limit) else {
         return Status::Memory;
     };
-    finish(alloc, host, &filter, &taken, limit, steps)
+    finish(alloc, host, &catalogue, &taken, limit, steps)
 }
 
 // Reads the queries and judges them.
-fn take_queries<H: Host>(alloc: Global, host: &mut H) -> Result<Filter, Status>
+fn take_queries<H: Host>(alloc: Global, host: &mut H) -> Result<Catalogue, Status>
     requires { (H.told host.old).attached Queries ≡ true }
-    ensures accepted { IfOk result (λ filter. IfSome ((H.told host.old).left Queries) (λ text. Judges text (Accepts (catalogue_of filter)))) }
-    ensures suits { IfOk result Suits }
+    ensures accepted { IfOk result (λ catalogue. IfSome ((H.told host.old).left Queries) (λ text. Accepts text (judged_of catalogue))) }
     ensures fails { IfErr result (QueriesFail (H.told host.old) (H.told host.new)) }
     ensures same { SameButRead Queries (H.told host.old) (H.told host.new) }
 {
@@ -71,15 +67,15 @@ fn take_queries<H: Host>(alloc: Global, host: &mut H) -> Result<Filter, Status>
 }
 
 // Judges the bytes of the queries.
-fn judge_text(alloc: Global, text: &[u8]) -> Result<Filter, Status>
-    ensures accepted { IfOk result (λ filter. Judges text.now (Accepts (catalogue_of filter))) }
-    ensures suits { IfOk result Suits }
+fn judge_text(alloc: Global, text: &[u8]) -> Result<Catalogue, Status>
+    ensures accepted { IfOk result (λ catalogue. Accepts text.now (judged_of catalogue)) }
     ensures fails { IfErr result (TextFails text.now) }
 {
-    match judge(alloc, text) {
-        Ok(filter) => Ok(filter),
-        Err(Rejection::Bad { line, why }) => Err(Status::BadQuery { line, why }),
-        Err(Rejection::Memory) => Err(Status::Memory),
+    match load(alloc, text) {
+        Ok(catalogue) => Ok(catalogue),
+        Err(LoadFault::Bad { line, why }) => Err(Status::BadQuery { line, why }),
+        Err(LoadFault::Cycle(names)) => Err(Status::Cycle(names)),
+        Err(LoadFault::Memory) => Err(Status::Memory),
     }
 }
 
@@ -87,18 +83,17 @@ fn judge_text(alloc: Global, text: &[u8]) -> Result<Filter, Status>
 fn finish<H: Host, L: Ledger>(
     alloc: Global,
     host: &mut H,
-    filter: &Filter,
+    catalogue: &Catalogue,
     taken: &Taken,
     limit: u64,
     steps: &mut Steps<L>,
 ) -> Status
-    requires { Suits filter.now }
-    ensures finishes { Finishes (catalogue_of filter.now) taken.now.bytes.items taken.now.end limit (H.told host.old) (H.told host.new) result }
+    ensures finishes { Finishes (judged_of catalogue.now) taken.now.bytes.items taken.now.end limit (H.told host.old) (H.told host.new) result }
     ensures same { SameButOutput (H.told host.old) (H.told host.new) }
 {
     let ended = is_all(taken.end);
     let text = up_to(&taken.bytes, limit);
-    match evaluate(alloc, host, filter, text, ended, steps) {
+    match watch(alloc, host, catalogue, text, ended, steps) {
         Ended::Whole => match taken.end {
             End::Whole => Status::Done,
             End::More => Status::TooMuch { limit },

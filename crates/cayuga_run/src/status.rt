@@ -2,12 +2,13 @@
 ghost use Rattle.std.specs.Prelude.{◌≡◌};
 ghost use Rattle.cayuga_run.specs.Number.{number_of};
 
-use crate::fault::QueryFault;
+use catalogue::QueryFault;
 use cay_host::Side;
 use event_csv::LineFault;
+use event_types::Names;
 
 /// How a run ended.
-#[derive(Clone, Copy, Debug, PartialEq, Eq, Drop)]
+#[derive(Drop)]
 pub enum Status {
     /// The job was done, and the events were read to their end.
     Done,
@@ -15,6 +16,8 @@ pub enum Status {
     Usage,
     /// The query text is refused. Lines are counted from 1.
     BadQuery { line: u64, why: QueryFault },
+    /// Queries read one another in a circle: each name reads the next, and the last reads the first.
+    Cycle(Names),
     /// An event line has a fault. Lines are counted from 1.
     BadEvent { line: u64, why: LineFault },
     /// An event is detected before the event of the line before it, which was seen at `seen`.
@@ -40,6 +43,7 @@ impl Status {
             Status::Done => 0,
             Status::Usage => 1,
             Status::BadQuery { .. } => 2,
+            Status::Cycle(_) => 3,
             Status::BadEvent { .. } => 4,
             Status::OutOfOrder { .. } => 5,
             Status::AttachFault(_) => 6,

@@ -1,12 +1,12 @@
 //! The texts of the statuses.
 ghost use Rattle.std.specs.Prelude.{◌≡◌, IfOk, string_bytes};
-ghost use Rattle.cayuga_run.specs.Wording.{line_words, query_words, text_of};
+ghost use Rattle.cayuga_run.specs.Wording.{kind_word, line_words, names_joined, query_words, text_of};
 
-use crate::fault::QueryFault;
 use crate::status::Status;
+use catalogue::QueryFault;
 use cay_host::Side;
 use event_csv::LineFault;
-use event_types::{Memory, Text};
+use event_types::{Kind, Memory, Names, Text};
 use std::alloc::Global;
 
 impl Status {
@@ -33,6 +33,10 @@ fn written(alloc: Global, status: &Status) -> Result<String, Memory>
             let words = query_words(alloc, why)?;
             Ok(format!(in alloc; "cayuga: queries line {line}: {words}")?)
         }
+        Status::Cycle(names) => {
+            let words = joined(alloc, names)?;
+            Ok(format!(in alloc; "cayuga: cycle: {words}")?)
+        }
         Status::BadEvent { line, why } => {
             let words = line_words(alloc, why)?;
             Ok(format!(in alloc; "cayuga: events line {line}: {words}")?)
@@ -58,7 +62,18 @@ fn written(alloc: Global, status: &Status) -> Result<String, Memory>
     }
 }
 
-// What is wrong with the queries.
+// The names, joined by a comma and a space.
+fn joined(alloc: Global, names: &Names) -> Result<String, Memory>
+    ensures { IfOk result (λ text. string_bytes text ≡ names_joined names.now) }
+{
+    let mut texts = Vec::new(alloc);
+    for name in names.as_slice() {
+        texts.push(name.as_str())?;
+    }
+    Ok(texts.join(alloc, ", ")?)
+}
+
+// What is wrong with the text of the queries.
 fn query_words(alloc: Global, why: &QueryFault) -> Result<String, Memory>
     ensures { IfOk result (λ words. string_bytes words ≡ query_words why.now) }
 {
@@ -76,7 +91,51 @@ fn query_words(alloc: Global, why: &QueryFault) -> Result<String, Memory>
             Ok(format!(in alloc; "statement {number} is not in the grammar")?)
         }
         QueryFault::TooLong => Ok(format!(in alloc; "more than 1048576 bytes of queries")?),
-        QueryFault::Unbuilt => Ok(format!(in alloc; "not a built file")?),
+        QueryFault::Reserved { name } => {
+            let name = name.as_str();
+            Ok(format!(in alloc; "name {name} is reserved")?)
+        }
+        QueryFault::Duplicate { name } => {
+            let name = name.as_str();
+            Ok(format!(in alloc; "name {name} is taken")?)
+        }
+        QueryFault::Unknown { name } => {
+            let name = name.as_str();
+            Ok(format!(in alloc; "stream {name} is unknown")?)
+        }
+        QueryFault::UnknownAttr { name } => {
+            let name = name.as_str();
+            Ok(format!(in alloc; "attribute {name} is unknown")?)
+        }
+        QueryFault::KindMismatch { want, got } => {
+            let want = kind_word(*want);
+            let got = kind_word(*got);
+            Ok(format!(in alloc; "{want} wanted, {got} given")?)
+        }
+        QueryFault::NotAssignable { name } => {
+            let name = name.as_str();
+            Ok(format!(in alloc; "attribute {name} cannot be assigned")?)
+        }
+        QueryFault::DuplicateAttr { name } => {
+            let name = name.as_str();
+            Ok(format!(in alloc; "attribute {name} stands twice")?)
+        }
+        QueryFault::UnionMismatch { place } => {
+            Ok(format!(in alloc; "union differs at attribute {place}")?)
+        }
+        QueryFault::TooWide { count } => {
+            Ok(format!(in alloc; "{count} attributes, at most 256")?)
+        }
+    }
+}
+
+// The kind as it stands in a declaration.
+fn kind_word(kind: Kind) -> &'static str
+    ensures { result.now ≡ kind_word kind }
+{
+    match kind {
+        Kind::Int => "INT",
+        Kind::Text => "TEXT",
     }
 }
 

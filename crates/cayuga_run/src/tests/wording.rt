@@ -1,17 +1,9 @@
-//! The text of each status.
+//! The number and the text of each status.
+use crate::tests::expect_status;
 use crate::{LineFault, QueryFault, Status};
 use cay_host::Side;
-use std::alloc::Global;
-use std::process::Abort;
+use event_types::{Kind, List, Text};
 use std::test::Fail;
-
-// The status has this text.
-fn expect_text(rt: &impl Abort, alloc: Global, status: Status, text: &str) {
-    match status.text(alloc) {
-        Ok(found) => assert_eq!(rt; found.as_str(), text),
-        Err(_) => assert!(rt; false, "no memory for {text}"),
-    }
-}
 
 #[test]
 fn each_end_of_a_run_has_its_text(rt: HostRuntime) -> Result<(), Fail> {
@@ -23,43 +15,66 @@ fn each_end_of_a_run_has_its_text(rt: HostRuntime) -> Result<(), Fail> {
         seen: 18446744073709551615,
     };
     let rows = [
-        (Status::Done, ""),
-        (Status::Usage, usage),
+        (Status::Done, 0, ""),
+        (Status::Usage, 1, usage),
         (
             late,
+            5,
             "cayuga: events line 3: detection 4 is below 18446744073709551615",
         ),
         (
             Status::AttachFault(Side::Queries),
+            6,
             "cayuga: cannot open the queries",
         ),
         (
             Status::AttachFault(Side::Events),
+            6,
             "cayuga: cannot open the events",
         ),
         (
             Status::ReadFault(Side::Queries),
+            7,
             "cayuga: cannot read the queries",
         ),
         (
             Status::ReadFault(Side::Events),
+            7,
             "cayuga: cannot read the events",
         ),
-        (Status::WriteFault, "cayuga: cannot write the results"),
+        (Status::WriteFault, 8, "cayuga: cannot write the results"),
         (
             Status::TooMuch { limit: 1 << 40 },
+            9,
             "cayuga: more than 1099511627776 bytes of events",
         ),
-        (Status::Memory, "cayuga: no memory"),
+        (Status::Memory, 10, "cayuga: no memory"),
     ];
-    for (status, text) in rows {
-        expect_text(&rt, rt.alloc(), status, text);
+    for (status, number, text) in &rows {
+        expect_status(&rt, rt.alloc(), status, (*number, *text));
     }
     Ok(())
 }
 
 #[test]
+fn names_of_a_cycle_are_joined_by_commas(rt: HostRuntime) -> Result<(), Fail> {
+    let alloc = rt.alloc();
+    let mut names = List::new(alloc);
+    for name in ["P", "Q", "R"] {
+        assert!(rt; names.push(Text::make(alloc, name)?).is_ok());
+    }
+    expect_status(
+        &rt,
+        alloc,
+        &Status::Cycle(names),
+        (3, "cayuga: cycle: P, Q, R"),
+    );
+    Ok(())
+}
+
+#[test]
 fn each_fault_of_the_queries_has_its_words(rt: HostRuntime) -> Result<(), Fail> {
+    let alloc = rt.alloc();
     let number = 12;
     let rows = [
         (QueryFault::NotUtf8, "cayuga: queries line 7: not UTF-8"),
@@ -84,9 +99,66 @@ fn each_fault_of_the_queries_has_its_words(rt: HostRuntime) -> Result<(), Fail> 
             QueryFault::TooLong,
             "cayuga: queries line 7: more than 1048576 bytes of queries",
         ),
+        (
+            QueryFault::KindMismatch {
+                want: Kind::Int,
+                got: Kind::Text,
+            },
+            "cayuga: queries line 7: INT wanted, TEXT given",
+        ),
+        (
+            QueryFault::UnionMismatch { place: 2 },
+            "cayuga: queries line 7: union differs at attribute 2",
+        ),
+        (
+            QueryFault::TooWide { count: 257 },
+            "cayuga: queries line 7: 257 attributes, at most 256",
+        ),
     ];
     for (why, text) in rows {
-        expect_text(&rt, rt.alloc(), Status::BadQuery { line: 7, why }, text);
+        expect_status(&rt, alloc, &Status::BadQuery { line: 7, why }, (2, text));
+    }
+    Ok(())
+}
+
+#[test]
+fn each_fault_of_a_name_has_its_words(rt: HostRuntime) -> Result<(), Fail> {
+    let alloc = rt.alloc();
+    let name = |text| Text::make(alloc, text);
+    let rows = [
+        (
+            QueryFault::Reserved {
+                name: name("stream")?,
+            },
+            "cayuga: queries line 7: name stream is reserved",
+        ),
+        (
+            QueryFault::Duplicate { name: name("Q")? },
+            "cayuga: queries line 7: name Q is taken",
+        ),
+        (
+            QueryFault::Unknown {
+                name: name("Bond")?,
+            },
+            "cayuga: queries line 7: stream Bond is unknown",
+        ),
+        (
+            QueryFault::UnknownAttr {
+                name: name("$1.Name")?,
+            },
+            "cayuga: queries line 7: attribute $1.Name is unknown",
+        ),
+        (
+            QueryFault::NotAssignable { name: name("Cnt")? },
+            "cayuga: queries line 7: attribute Cnt cannot be assigned",
+        ),
+        (
+            QueryFault::DuplicateAttr { name: name("Cnt")? },
+            "cayuga: queries line 7: attribute Cnt stands twice",
+        ),
+    ];
+    for (why, text) in rows {
+        expect_status(&rt, alloc, &Status::BadQuery { line: 7, why }, (2, text));
     }
     Ok(())
 }
@@ -121,7 +193,12 @@ fn each_fault_of_an_event_line_has_its_words(rt: HostRuntime) -> Result<(), Fail
         ),
     ];
     for (why, text) in rows {
-        expect_text(&rt, rt.alloc(), Status::BadEvent { line: 10, why }, text);
+        expect_status(
+            &rt,
+            rt.alloc(),
+            &Status::BadEvent { line: 10, why },
+            (4, text),
+        );
     }
     Ok(())
 }

@@ -1,4 +1,4 @@
-use Rattle.cayuga_run.proofs.RunLemmas.{report_grows_with_bytes}
+use Rattle.cayuga_run.proofs.GrowingLemmas.{report_grows_with_bytes}
 use Rattle.cayuga_run.proofs.laws.reports_grow.Goals as goal
 
 pub returns : goal.returns

@@ -1,8 +1,8 @@
 use Rattle.std.proofs.Common.{◌∙◌, ap, take}
-use Rattle.cayuga_run.specs.declared.refusal.Refusal.TheVariants.{HasFault, IsOutOfOrder}
-use Rattle.cayuga_run.specs.Catalogue.{catalogue_of}
+use Rattle.monitor.specs.declared.refusal.Refusal.TheVariants.{HasFault, IsOutOfOrder}
+use Rattle.catalogue.specs.Catalogued.{judged_of}
 use Rattle.cayuga_run.specs.Finishing.{is_all}
-use Rattle.cayuga_run.proofs.EvaluationLemmas.{refused_same}
+use Rattle.cayuga_run.proofs.RunLemmas.{refused_same}
 use Rattle.cayuga_run.proofs.run.finish.Goals as goal
 
 -- a line with a fault is refused
@@ -10,13 +10,13 @@ pub returns-in-Refused-HasFault-clause-finishes : goal.returns-in-Refused-HasFau
 returns-in-Refused-HasFault-clause-finishes g c =
     let here = c.in-Refused-HasFault in
     let taken = c.args.taken.now in
-    refused_same (catalogue_of c.args.filter.now) c.up_to-text.result.now (take c.args.limit taken.bytes.items) c.is_all-ended.result (is_all taken.end) here.field-0 (HasFault here.line here.why)
-    (g.H.Host.told c.args.host.now) (g.H.Host.told c.evaluate.new.host) (c.up_to-text.ensures ∙ ap (take c.args.limit) c.deref.ensures.value) c.is_all-ended.ensures here.field-0-is here.ensures.evaluates
+    refused_same (judged_of c.args.catalogue.now) c.up_to-text.result.now (take c.args.limit taken.bytes.items) c.is_all-ended.result (is_all taken.end) here.field-0 (HasFault here.line here.why)
+    (g.H.Host.told c.args.host.now) (g.H.Host.told c.watch.new.host) (c.up_to-text.ensures ∙ ap (take c.args.limit) c.deref.ensures.value) c.is_all-ended.ensures here.field-0-is here.ensures.reports
 
 -- a late event is refused
 pub returns-in-Refused-IsOutOfOrder-clause-finishes : goal.returns-in-Refused-IsOutOfOrder-clause-finishes
 returns-in-Refused-IsOutOfOrder-clause-finishes g c =
     let here = c.in-Refused-IsOutOfOrder in
     let taken = c.args.taken.now in
-    refused_same (catalogue_of c.args.filter.now) c.up_to-text.result.now (take c.args.limit taken.bytes.items) c.is_all-ended.result (is_all taken.end) here.field-0 (IsOutOfOrder here.line here.at here.seen)
-    (g.H.Host.told c.args.host.now) (g.H.Host.told c.evaluate.new.host) (c.up_to-text.ensures ∙ ap (take c.args.limit) c.deref.ensures.value) c.is_all-ended.ensures here.field-0-is here.ensures.evaluates
+    refused_same (judged_of c.args.catalogue.now) c.up_to-text.result.now (take c.args.limit taken.bytes.items) c.is_all-ended.result (is_all taken.end) here.field-0 (IsOutOfOrder here.line here.at here.seen)
+    (g.H.Host.told c.args.host.now) (g.H.Host.told c.watch.new.host) (c.up_to-text.ensures ∙ ap (take c.args.limit) c.deref.ensures.value) c.is_all-ended.ensures here.field-0-is here.ensures.reports

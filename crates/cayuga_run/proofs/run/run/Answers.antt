@@ -1,9 +1,9 @@
 use Rattle.std.proofs.Common.{rules}
 use Rattle.cay_host.specs.declared.side.Side.TheVariants.{Queries}
 use Rattle.cay_host.specs.Files.{file_of}
-use Rattle.cayuga_run.specs.Catalogue.{catalogue_of}
+use Rattle.catalogue.specs.Catalogued.{judged_of}
 use Rattle.cayuga_run.specs.Words.{Job}
-use Rattle.cayuga_run.proofs.RunLemmas.{HasQueries, accepted_file, memory_silent, queries_fail, run_finishes}
+use Rattle.cayuga_run.proofs.RunLemmas.{HasQueries, accepted_file, is_accepted, memory_silent, queries_fail, run_finishes}
 use Rattle.cayuga_run.proofs.run.run.Goals as goal
 
 -- the queries weren't accepted
@@ -23,6 +23,22 @@ returns-in-Err g c =
     } in
     queries_fail job c.args.limit old mid (told c.take_queries.new.host) c.in-Err.status has c.in-Err.ensures.fails c.take_queries.ensures.same
 
+-- the events couldn't be attached
+pub returns-then-is_err-2 : goal.returns-then-is_err-2
+returns-then-is_err-2 g c =
+    let told = g.H.Host.told in
+    let job : Job = record { queries = c.args.queries.now; events = c.args.events.now } in
+    let old = told c.args.host.now in
+    let mid = told c.attach.new.self in
+    let judged = judged_of c.in-Ok.catalogue in
+    let accepted = is_accepted (file_of job.queries old.files) judged (accepted_file (mid.left Queries) (file_of job.queries old.files) judged (search rules) c.in-Ok.ensures.accepted) in
+    record {
+      cause = search rules;
+      stopped = search rules;
+      accepted = λ e. (search rules, accepted);
+      silent = record { written = search rules; lines = search rules };
+    }
+
 -- there was no memory for the events
 pub returns-in_default : goal.returns-in_default
 returns-in_default g c = memory_silent _ _ _ _ (record { written = search rules; lines = search rules })
@@ -34,11 +50,11 @@ returns g c =
     let job : Job = record { queries = c.args.queries.now; events = c.args.events.now } in
     let old = told c.args.host.now in
     let mid = told c.attach.new.self in
-    let catalogue = catalogue_of c.in-Ok.filter in
+    let judged = judged_of c.in-Ok.catalogue in
     let taken = c.in-Ok-take_side.taken in
-    run_finishes job c.args.limit catalogue taken.bytes.items taken.end old (told c.take_side.new.host) (told c.finish.new.host) c.finish.result
+    run_finishes job c.args.limit judged taken.bytes.items taken.end old (told c.take_side.new.host) (told c.finish.new.host) c.finish.result
     (record {
-      accept = accepted_file (mid.left Queries) (file_of job.queries old.files) catalogue (search rules) c.in-Ok.ensures.accepted;
+      accept = accepted_file (mid.left Queries) (file_of job.queries old.files) judged (search rules) c.in-Ok.ensures.accepted;
       there = record { queries = search rules; events = search rules };
       events = search rules;
       ends = search rules;

@@ -1,8 +1,8 @@
 use Rattle.std.proofs.Common.{IfSome}
 use Rattle.std.proofs.lemmas.Result.{IfOk-weaker, IfErr-weaker}
 use Rattle.cay_host.specs.declared.side.Side.TheVariants.{Queries}
-use Rattle.cayuga_run.specs.Catalogue.{catalogue_of}
-use Rattle.cayuga_run.specs.Judgement.{Accepts, Judges, Verdict}
+use Rattle.catalogue.specs.Catalogued.{judged_of}
+use Rattle.catalogue.specs.Judgement.{Accepted, Accepts, Judges, Verdict}
 use Rattle.cayuga_run.specs.QueryFailing.{QueriesFail, TextFails}
 use Rattle.cayuga_run.proofs.RunLemmas.{judged_whole, judged_past, text_fails}
 use Rattle.cayuga_run.proofs.run.take_queries.Goals as goal
@@ -16,8 +16,8 @@ returns-in-Whole-clause-accepted g c =
     let ends = rw c.in-Whole.is at c.in-Ok.ensures.end in
     let same : (v : Verdict) → Judges bytes v → IfSome (before.left Queries) (λ t. Judges t v) =
     λ v judged. judged_whole (before.left Queries) (after.left Queries) bytes v (rw c.deref.ensures.value c.in-Ok.ensures.front) ends.1 judged in
-    IfOk-weaker c.judge_text.result (λ filter. Judges bytes (Accepts (catalogue_of filter))) (λ filter. IfSome (before.left Queries) (λ t. Judges t (Accepts (catalogue_of filter))))
-    (λ filter judged. same (Accepts (catalogue_of filter)) judged) c.judge_text.ensures.accepted
+    IfOk-weaker c.judge_text.result (λ catalogue. Accepts bytes (judged_of catalogue)) (λ catalogue. IfSome (before.left Queries) (λ t. Accepts t (judged_of catalogue)))
+    (λ catalogue accepts. same (Accepted (judged_of catalogue)) accepts) c.judge_text.ensures.accepted
 
 -- all of the queries was read, and not accepted
 pub returns-in-Whole-clause-fails : goal.returns-in-Whole-clause-fails
@@ -39,8 +39,8 @@ returns-clause-accepted g c =
     let ends = rw c.in-More.is at c.in-Ok.ensures.end in
     let same : (v : Verdict) → Judges bytes v → IfSome (before.left Queries) (λ t. Judges t v) =
     λ v judged. judged_past (before.left Queries) (after.left Queries) bytes v (rw c.deref-in-More.ensures.value c.in-Ok.ensures.front) (rw c.deref-in-More.ensures.value ends) judged in
-    IfOk-weaker c.judge_text-in-More.result (λ filter. Judges bytes (Accepts (catalogue_of filter))) (λ filter. IfSome (before.left Queries) (λ t. Judges t (Accepts (catalogue_of filter))))
-    (λ filter judged. same (Accepts (catalogue_of filter)) judged) c.judge_text-in-More.ensures.accepted
+    IfOk-weaker c.judge_text-in-More.result (λ catalogue. Accepts bytes (judged_of catalogue)) (λ catalogue. IfSome (before.left Queries) (λ t. Accepts t (judged_of catalogue)))
+    (λ catalogue accepts. same (Accepted (judged_of catalogue)) accepts) c.judge_text-in-More.ensures.accepted
 
 -- the queries are past the limit
 pub returns-clause-fails : goal.returns-clause-fails
