@@ -1,0 +1,4 @@
+pub mod Texts
+pub mod Reads
+pub mod Parts
+pub mod Plan

@@ -1,0 +1,97 @@
+//! What the queries of a file read, each name once.
+ghost use Rattle.std.specs.Prelude.{◌≡◌, ◌++◌, ◌∷◌, [], IfOk, OnOk, map, if◌then◌else◌};
+ghost use Rattle.std.specs.List.{fold};
+ghost use Rattle.cel_grammar.specs.Views.{source_of, statement_of};
+ghost use Rattle.cel_types.specs.Aggregates.{is_among};
+ghost use Rattle.cel_types.specs.Statements.{read_names};
+ghost use Rattle.catalogue.specs.Statements.{is_query, reads_by};
+ghost use Rattle.plan_text.specs.Parts.{with_name};
+ghost use Rattle.plan_text.specs.Reads.{once, reads_once};
+
+use cel_grammar::{Source, Statement};
+use cel_parser::File;
+use event_types::{List, Memory, Names, Text};
+use std::alloc::Global;
+
+/// For each query of a file the names that it reads, by the queries' numbers.
+pub(crate) fn reads_in(alloc: Global, file: &File) -> Result<List<Names>, Memory>
+    ensures { IfOk result (λ reads. reads ≡ reads_once (map statement_of file.now.statements)) }
+{
+    let mut reads: List<Names> = List::new(alloc);
+    for place in 0..file.size() {
+        add_statement(alloc, file.statement(place), &mut reads)?;
+    }
+    Ok(reads)
+}
+
+// Adds what the statement reads, if it is a query.
+fn add_statement(
+    alloc: Global,
+    statement: &Statement,
+    reads: &mut List<Names>,
+) -> Result<(), Memory>
+    ensures { OnOk result (reads.new ≡ reads.old ++ (if is_query (statement_of statement.now) then once (reads_by (statement_of statement.now)) ∷ [] else [])) }
+{
+    match statement {
+        Statement::Stream { .. } => Ok(()),
+        Statement::Query { source, .. } => {
+            let names = reads_of(alloc, source)?;
+            match reads.push(names) {
+                Ok(()) => Ok(()),
+                Err(_) => Err(Memory),
+            }
+        }
+    }
+}
+
+// The names that the source reads.
+fn reads_of(alloc: Global, source: &Source) -> Result<Names, Memory>
+    ensures { IfOk result (λ names. names ≡ once (read_names (source_of source.now))) }
+{
+    let mut names: Names = List::new(alloc);
+    add_source(alloc, source, &mut names)?;
+    Ok(names)
+}
+
+// Adds the names that the source reads and that aren't there yet.
+fn add_source(alloc: Global, source: &Source, names: &mut Names) -> Result<(), Memory>
+    ensures { OnOk result (names.new ≡ fold with_name names.old (read_names (source_of source.now))) }
+{
+    match source {
+        Source::Name(name) => add_name(alloc, name.as_str(), names),
+        Source::Filter(_, inner) => add_source(alloc, inner, names),
+        Source::Select(_, inner) => add_source(alloc, inner, names),
+        Source::Union(left, right) => {
+            add_source(alloc, left, names)?;
+            add_source(alloc, right, names)
+        }
+        Source::Next(_, left, right) => {
+            add_source(alloc, left, names)?;
+            add_source(alloc, right, names)
+        }
+        Source::Fold(_, _, _, left, right) => {
+            add_source(alloc, left, names)?;
+            add_source(alloc, right, names)
+        }
+    }
+}
+
+// Adds the name, if it isn't there yet.
+fn add_name(alloc: Global, name: &str, names: &mut Names) -> Result<(), Memory>
+    ensures { OnOk result (names.new ≡ with_name names.old name.now) }
+{
+    if is_among(names.as_slice(), name) {
+        return Ok(());
+    }
+    match names.push(Text::make(alloc, name)?) {
+        Ok(()) => Ok(()),
+        Err(_) => Err(Memory),
+    }
+}
+
+// Whether the name is among those.
+fn is_among(names: &[Text], name: &str) -> bool
+    ensures { result ≡ is_among names.now name.now }
+{
+    names.iter().any(|other| name == other.as_str())
+}
