@@ -1,4 +1,5 @@
 pub mod AcceptedLemmas
+pub mod EnlargedLemmas
 pub mod EnlargingLemmas
 pub mod EventLemmas
 pub mod Examples
@@ -6,6 +7,7 @@ pub mod IndependenceLemmas
 pub mod ProgramLemmas
 pub mod PublishedLemmas
 pub mod ReachLemmas
+pub mod ReadingLemmas
 pub mod SharedLemmas
 pub mod TableLemmas
 pub mod TypingLemmas

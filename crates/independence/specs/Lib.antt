@@ -2,3 +2,4 @@ pub mod ReadsFrom
 pub mod Hearing
 pub mod Independence
 pub mod Enlarging
+pub mod Reports

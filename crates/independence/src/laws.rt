@@ -1,6 +1,7 @@
 //! Laws over accepted query texts.
 ghost use Rattle.independence.specs.Enlarging.{AddedQueriesChangeNoEvent, AddedQueriesChangeNoLine, SameEventsHaveSameTimes};
 ghost use Rattle.independence.specs.Independence.{ResultsDependOnReadsAlone};
+ghost use Rattle.independence.specs.Reports.{AddedQueriesChangeNoReport};
 
 /// No line of a query depends on a query that it doesn't read from. "Read from" is followed through
 /// published streams.
@@ -21,4 +22,9 @@ pub fn same_events_have_same_times()
 /// A set of queries that is enlarged by others gives each old query the same lines.
 pub fn added_queries_change_no_line()
     ensures { AddedQueriesChangeNoLine }
+{}
+
+/// The same of whole event texts, which are refused, heard and closed alike.
+pub fn added_queries_change_no_report()
+    ensures { AddedQueriesChangeNoReport }
 {}
