@@ -12,7 +12,7 @@ use Rattle.independence.proofs.AcceptedLemmas.{accepted-stands}
 use Rattle.independence.proofs.EnlargingLemmas.{hear-same, same_times}
 use Rattle.independence.proofs.EventLemmas.{read-alike}
 use Rattle.independence.proofs.IndependenceLemmas.{reads_alone}
-use Rattle.independence.proofs.ProgramLemmas.{accepted-program}
+use Rattle.catalogue.proofs.ProgramLemmas.{accepted_are_programs}
 use Rattle.independence.proofs.ReadingLemmas.{closed-so, heard-so, refused-alike}
 
 pub lines_are_read_alike : AddedQueriesChangeNoEvent
@@ -20,7 +20,7 @@ lines_are_read_alike text other_text judged other line accepts accepts_too adds 
 
 pub lines_stay : AddedQueriesChangeNoLine
 lines_stay text other_text judged other history other_history accepts accepts_too adds same = λ k d inside.
-    reads_alone text other_text judged other history other_history accepts accepts_too (kinds_in judged.streams) (kinds_in other.streams) (accepted-program text judged accepts) (accepted-program other_text other accepts_too) k d inside
+    reads_alone text other_text judged other history other_history accepts accepts_too (kinds_in judged.streams) (kinds_in other.streams) (accepted_are_programs text judged accepts) (accepted_are_programs other_text other accepts_too) k d inside
     (λ s stated read. All-contains (Contains other.statements) judged.statements s adds.all_stand stated)
     (hear-same judged other (accepted-stands text judged accepts) (accepted-stands other_text other accepts_too) adds history other_history same (get_or (program_of judged).queries k d).name)
 

@@ -4,7 +4,6 @@ pub mod EnlargingLemmas
 pub mod EventLemmas
 pub mod Examples
 pub mod IndependenceLemmas
-pub mod ProgramLemmas
 pub mod PublishedLemmas
 pub mod ReachLemmas
 pub mod ReadingLemmas
