@@ -1,0 +1,9 @@
+pub mod EachLemmas
+pub mod LawLemmas
+pub mod ListLemmas
+pub mod MeaningLemmas
+pub mod NumberingLemmas
+pub mod OutLemmas
+pub mod ReadLemmas
+pub mod StageLemmas
+pub mod StepLemmas

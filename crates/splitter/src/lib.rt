@@ -1,0 +1,16 @@
+//! Expressions as left-deep automaton lines.
+//!
+//! Contracts see a `Namer` as the next number that it hands out.
+#![tactic(auto)]
+
+mod laws;
+mod namer;
+mod open;
+mod splitting;
+mod stages;
+
+pub use laws::{
+    added_lines_mean_their_expression, lines_are_in_order, lines_mean_their_expression,
+};
+pub use namer::Namer;
+pub use splitting::split;
