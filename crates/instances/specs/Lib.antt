@@ -1,1 +1,5 @@
 pub mod Alive
+pub mod Bounds
+pub mod Keys
+pub mod Plain
+pub mod PlainCode

@@ -1,6 +1,20 @@
-//! Instances, and stores in which they wait.
+//! Instances, and stores in which they wait for their nexts.
+//!
+//! Contracts see an `Instance` as its tuple, a store that is `Waiting` as its condition, its key, its
+//! instances and the keys that are ready, and a `PlainStore` as its condition and its instances.
 #![tactic(auto)]
 
+mod bounds;
+mod eligibility;
 mod instance;
+mod plain_store;
+mod waiting;
 
+pub use bounds::keep_alive;
+pub use eligibility::take_eligible;
 pub use instance::{Instance, Instances};
+pub use plain_store::PlainStore;
+pub use waiting::Waiting;
+
+#[cfg(test)]
+mod tests;

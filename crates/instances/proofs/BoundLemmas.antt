@@ -1,0 +1,82 @@
+-- Bounds on DUR, over the parts of a condition and over the starts of bindings.
+use Rattle.std.proofs.Common.{◌≡◌, ◌∙◌, ap, refl, ℕ, ℤ, zero, suc, pos, ◌≤◌, ◌-ℤ◌, Bool, true, false, ◌&&◌, min, take, List, [], ◌∷◌, arith}
+use Rattle.std.specs.Prelude.{Some, int_le, int_lt, slice_get}
+use Rattle.std.specs.Option.{option_map}
+use Rattle.std.specs.List.{All, list_all}
+use Rattle.std.proofs.lemmas.Int.{ints}
+use Rattle.std.proofs.lemmas.List.Elements.{All-weaker}
+use Rattle.event_types.specs.Tuple.{Row}
+use Rattle.semantics.specs.Scalars.{Pr}
+use Rattle.semantics.proofs.ReportLemmas.{filter_all}
+use Rattle.instances.specs.Alive.{is_alive, meets_bound}
+use Rattle.scalar_expr.specs.Classes.{Class, Fixed, Key, Bound, Rest, class_of}
+use Rattle.instances.specs.Bounds.{alive_instances, started}
+use Rattle.instances.specs.declared.instance.Instance.{Instance}
+
+-- a bound reads the start alone
+meets_started : (time : ℕ) (b : Row) (c : Class) → meets_bound time (started b.from) c ≡ meets_bound time b c
+meets_started time b (Bound true most) = refl
+meets_started time b (Bound false most) = refl
+meets_started time b (Fixed place cmp v) = refl
+meets_started time b (Key event binding) = refl
+meets_started time b Rest = refl
+
+pub started_is : (time : ℕ) (choose : List Pr) (b : Row) → is_alive time choose (started b.from) ≡ is_alive time choose b
+started_is time [] b = refl
+started_is time (p ∷ ps) b = λ i. meets_started time b (class_of p) i && started_is time ps b i
+
+-- what starts later meets a bound longer
+less_later : (time from later : ℕ) (most : ℤ) → from ≤ later → int_lt (pos time -ℤ pos from) most ≡ true → int_lt (pos time -ℤ pos later) most ≡ true
+less_later time from later most le e = grind (arith, ints)
+
+most_later : (time from later : ℕ) (most : ℤ) → from ≤ later → int_le (pos time -ℤ pos from) most ≡ true → int_le (pos time -ℤ pos later) most ≡ true
+most_later time from later most le e = grind (arith, ints)
+
+meets_later : (time from : ℕ) (b : Row) → from ≤ b.from → (c : Class) → meets_bound time (started from) c ≡ true → meets_bound time b c ≡ true
+meets_later time from b le (Bound true most) e = less_later time from b.from most le e
+meets_later time from b le (Bound false most) e = most_later time from b.from most le e
+meets_later time from b le (Fixed place cmp v) e = refl
+meets_later time from b le (Key event binding) e = refl
+meets_later time from b le Rest e = refl
+
+alive_later : (time from : ℕ) (b : Row) → from ≤ b.from → (choose : List Pr) → is_alive time choose (started from) ≡ true → is_alive time choose b ≡ true
+alive_later time from b le [] e = refl
+alive_later time from b le (p ∷ ps) e = go (alive_later time from b le ps) (meets_bound time (started from) (class_of p)) refl e
+  where
+    go : (is_alive time ps (started from) ≡ true → is_alive time ps b ≡ true) → (t : Bool) → meets_bound time (started from) (class_of p) ≡ t → (t && is_alive time ps (started from)) ≡ true → (meets_bound time b (class_of p) && is_alive time ps b) ≡ true
+    go rest true is e = λ i. meets_later time from b le (class_of p) is i && rest e i
+    go rest false is e = absurd (cc)
+
+-- where the oldest start can still meet each bound, so can all
+pub all_alive : (time oldest : ℕ) (choose : List Pr) (instances : List Instance) → All (λ instance. oldest ≤ instance.tuple.from) instances → is_alive time choose (started oldest) ≡ true → alive_instances time choose instances ≡ instances
+all_alive time oldest choose instances all e =
+    filter_all (λ instance. is_alive time choose instance.tuple) instances
+    (All-weaker (λ (instance : Instance). oldest ≤ instance.tuple.from) (λ instance. is_alive time choose instance.tuple ≡ true) (λ instance le. alive_later time oldest instance.tuple le choose e) instances all)
+
+-- the parts of a condition, tested one after another
+module _ (test : Class → Bool) where
+  pub one_more_holds : (parts : List Pr) (place : ℕ) (c : Class) → option_map class_of (slice_get parts place) ≡ Some c → test c ≡ true
+      → list_all (λ p. test (class_of p)) (take place parts) ≡ true → list_all (λ p. test (class_of p)) (take (suc place) parts) ≡ true
+  one_more_holds [] place c is holds before = absurd (cc)
+  one_more_holds (p ∷ ps) zero c is holds before = let same : class_of p ≡ c = cc in λ i. (ap test same ∙ holds) i && true
+  one_more_holds (p ∷ ps) (suc place) c is holds before = go (one_more_holds ps place c is holds) (test (class_of p)) refl before
+    where
+      go : (list_all (λ p. test (class_of p)) (take place ps) ≡ true → list_all (λ p. test (class_of p)) (take (suc place) ps) ≡ true) → (t : Bool) → test (class_of p) ≡ t → (t && list_all (λ p. test (class_of p)) (take place ps)) ≡ true → (test (class_of p) && list_all (λ p. test (class_of p)) (take (suc place) ps)) ≡ true
+      go more true e rest = λ i. e i && more rest i
+      go more false e rest = absurd (cc)
+
+  pub one_fails : (parts : List Pr) (place : ℕ) (c : Class) → option_map class_of (slice_get parts place) ≡ Some c → test c ≡ false → list_all (λ p. test (class_of p)) parts ≡ false
+  one_fails [] place c is fails = absurd (cc)
+  one_fails (p ∷ ps) zero c is fails = let same : class_of p ≡ c = cc in ap (λ t. t && list_all (λ p. test (class_of p)) ps) (ap test same ∙ fails)
+  one_fails (p ∷ ps) (suc place) c is fails = go (one_fails ps place c is fails) (test (class_of p))
+    where
+      go : list_all (λ p. test (class_of p)) ps ≡ false → (t : Bool) → (t && list_all (λ p. test (class_of p)) ps) ≡ false
+      go rest true = rest
+      go rest false = refl
+
+-- the lesser of two numbers is at most what each of them is at most
+pub least_of_left : (least a b c : ℕ) → least ≡ min a b → a ≤ c → least ≤ c
+least_of_left least a b c e h = omega arith
+
+pub least_of_right : (least a b c : ℕ) → least ≡ min a b → b ≡ c → least ≤ c
+least_of_right least a b c e h = omega arith

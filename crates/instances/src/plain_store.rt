@@ -1,0 +1,116 @@
+//! A store without a key.
+ghost use Rattle.std.specs.Prelude.{◌≡◌, [], None, IfOk};
+
+use crate::bounds::{can_be_met, keep_alive};
+use crate::eligibility::take_eligible;
+use crate::instance::{Instance, Instances};
+use crate::waiting::Waiting;
+use cay_host::{Ledger, Steps};
+use event_types::{Copied, List, Memory, Tuple};
+use inst_chain::{Bead, Chain, Look};
+use scalar_expr::Conj;
+use std::alloc::Global;
+use std::marker::Model;
+
+/// A store that looks at each of its instances.
+///
+/// It is walked by a purge only where its oldest instance may have expired.
+#[derive(Drop)]
+pub struct PlainStore {
+    chain: Chain<Instance>,
+    condition: Conj,
+    // no instance starts before this time
+    oldest: u64,
+}
+
+impl Model for PlainStore {
+    ghost use Rattle.instances.specs.Plain.{Plain};
+    ghost use Rattle.instances.specs.PlainCode.{plain_code};
+
+    ghost Value = { Plain };
+
+    ghost coded = { plain_code };
+
+    ghost use Rattle.std.specs.Prelude.{◌≤◌, All};
+
+    ghost view = { λ s. record { condition = s.condition; instances = s.chain } };
+
+    ghost invariant = { λ s. All (λ instance. s.oldest ≤ instance.tuple.from) s.chain };
+}
+
+impl PlainStore {
+    /// A store for the condition, with no instance.
+    pub fn make(alloc: Global, choose: &Conj) -> Result<PlainStore, Memory>
+        ensures { IfOk result (λ store. store ≡ record { condition = choose.now; instances = [] }) }
+    {
+        let condition = choose.copy(alloc)?;
+        Ok(PlainStore {
+            chain: Chain::new(),
+            condition,
+            oldest: u64::MAX,
+        })
+    }
+}
+
+impl Waiting for PlainStore {
+    ghost condition = { λ store. store.condition };
+
+    ghost key = { λ store. None };
+
+    ghost instances = { λ store. store.instances };
+
+    ghost ready_keys = { λ store. [] };
+
+    fn candidates(&self, _event: &Tuple) -> Look<'_, Instance> {
+        self.chain.look()
+    }
+
+    fn take<L: Ledger>(&mut self, event: &Tuple, choose: &Conj, steps: &mut Steps<L>) {
+        take_eligible(&mut self.chain, event, choose, steps);
+    }
+
+    fn all(&self, alloc: Global) -> Result<Instances, Memory> {
+        let mut copies = List::new(alloc);
+        let mut look = self.chain.look();
+        while let Some(instance) = look.next() {
+            let copy = instance.copied(alloc)?;
+            if copies.push(copy).is_err() {
+                return Err(Memory);
+            }
+        }
+        Ok(copies)
+    }
+
+    fn ready(&mut self, _alloc: Global, _instance: &Instance) -> Result<(), Memory> {
+        Ok(())
+    }
+
+    /// Puts the instance in front, at once however many there are.
+    fn link(&mut self, bead: Bead<Instance>) {
+        let mut chain = Chain::new();
+        chain.link(bead);
+        if let Some(instance) = chain.look().next() {
+            self.oldest = self.oldest.min(instance.tuple.from());
+        }
+        chain.append(&mut self.chain);
+        std::mem::swap(&mut self.chain, &mut chain);
+    }
+
+    fn purge(&mut self, now: u64) {
+        if !can_be_met(&self.condition, now, self.oldest) {
+            self.oldest = keep_alive(&mut self.chain, &self.condition, now);
+        }
+    }
+
+    fn count(&self) -> u64 {
+        let mut count = 0;
+        let mut look = self.chain.look();
+        while let Some(_instance) = look.next() {
+            if count == u64::MAX {
+                return count;
+            }
+            count += 1;
+        }
+        count
+    }
+}
