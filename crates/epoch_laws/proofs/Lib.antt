@@ -1,6 +1,7 @@
 pub mod Bags
 pub mod Batches
 pub mod Cuts
+pub mod Examples
 pub mod Flows
 pub mod Folds
 pub mod Grows

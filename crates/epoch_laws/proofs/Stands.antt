@@ -8,6 +8,7 @@ use Rattle.std.proofs.lemmas.Bool.Decides.{nat_tests}
 use Rattle.std.proofs.lemmas.List.Elements.{filter-append, All-nil, All-append, All-head, All-tail, All-weaker}
 use Rattle.std.proofs.lemmas.List.Sorted.{IsPermutation-refl, IsPermutation-sym, IsPermutation-trans, IsPermutation-filter_both}
 use Rattle.event_types.specs.Tuple.{Row, IsSound}
+use Rattle.instances.specs.Bounds.{alive_instances}
 use Rattle.instances.specs.declared.instance.Instance.{Instance}
 use Rattle.semantics.specs.Denotation.{Streams}
 use Rattle.semantics.specs.Histories.{Heard, heard_on}
@@ -30,7 +31,7 @@ use Rattle.epoch_laws.specs.Closing.{ArePurged, IsEpoch, Stores, published, stor
 use Rattle.epoch_laws.specs.Histories.{events_before, events_during, streams_over}
 use Rattle.epoch_laws.specs.Instances.{bindings_of}
 use Rattle.epoch_laws.specs.Stands.{Serves, Stands}
-use Rattle.epoch_laws.specs.Stores.{Holds, Purged, alive_instances}
+use Rattle.epoch_laws.specs.Stores.{Holds, Purged}
 use Rattle.epoch_laws.specs.Times.{ArePast, during, IsPast, streams_before, streams_during}
 use Rattle.epoch_laws.proofs.Bags.{map_within, within_permuted, within_through}
 use Rattle.epoch_laws.proofs.Flows.{flow_rows, rows_line, rows_state}

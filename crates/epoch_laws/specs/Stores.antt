@@ -1,20 +1,16 @@
 -- Stores of instances: what they may leave out, and what they have to keep.
 use Rattle.std.specs.Prelude.{ℕ, List, ◌++◌}
-use Rattle.std.specs.List.{filter}
 use Rattle.std.specs.List.Sorted.{IsPermutation}
 use Rattle.event_types.specs.Tuple.{Row}
+use Rattle.instances.specs.Bounds.{alive_instances}
 use Rattle.instances.specs.declared.instance.Instance.{Instance}
 use Rattle.semantics.specs.Scalars.{Pr}
-use Rattle.instances.specs.Alive.{alive, is_alive}
+use Rattle.instances.specs.Alive.{alive}
 use Rattle.epoch_laws.specs.Instances.{bindings_of}
 
 -- as bags, the first list is within the second
 abbrev pub IsWithin : {X : Type 0} → List X → List X → Type 0
 IsWithin {X} xs ys = (rest : List X) × IsPermutation (xs ++ rest) ys
-
--- the instances whose bindings meet each bound part of the condition at a time
-abbrev pub alive_instances : ℕ → List Pr → List Instance → List Instance
-alive_instances time choose store = filter (λ instance. is_alive time choose instance.tuple) store
 
 -- of the bindings that wait, a store holds at least those that are alive at a time, and no others
 pub record Holds (time : ℕ) (choose : List Pr) (store : List Instance) (bindings : List Row) : Type 0 where

@@ -1,0 +1,47 @@
+-- Examples of one epoch at one wait, each worked out by hand. No contract cites them.
+use Rattle.std.proofs.Common.{◌≡◌, refl, ℕ, pos, List, [], ◌∷◌, map}
+use Rattle.std.specs.Prelude.{Some, None}
+use Rattle.event_types.specs.declared.comparison.Cmp.TheVariants as cmp
+use Rattle.event_types.specs.declared.value.Value.TheVariants as value
+use Rattle.event_types.specs.Tuple.{Row}
+use Rattle.instances.specs.declared.instance.Instance.{Instance}
+use Rattle.semantics.specs.Scalars.{Lit, Event, Dur, Test}
+use Rattle.automaton.specs.declared.wait.Turn.{Turn}
+use Rattle.epoch_laws.specs.Epochs.{stepped, took}
+use Rattle.epoch_laws.specs.Instances.{instance_of}
+
+-- the tuple of one number with these times
+abbrev tuple : ℕ → ℕ → ℕ → Row
+tuple n from at = record { vals = value.Int (pos n) ∷ []; from = from; at = at }
+
+-- the tuple of two numbers with these times
+abbrev pair : ℕ → ℕ → ℕ → ℕ → Row
+pair m n from at = record { vals = value.Int (pos m) ∷ value.Int (pos n) ∷ []; from = from; at = at }
+
+-- one binding waits, from the time 1
+abbrev waiting : List Instance
+waiting = map instance_of (tuple 1 1 1 ∷ [])
+
+-- FOLD {.., DUR < most, $2.a AS a}
+abbrev turn : ℕ → Turn
+turn most = record { on = Test Dur cmp.Lt (Lit (value.Int (pos most))) ∷ []; set = record { width = 1; parts = Event 0 ∷ [] } }
+
+-- each of two equal tuples is joined with the binding, and one that starts at the binding's detection isn't
+pub both_are_joined : took [] None (tuple 7 2 2 ∷ tuple 8 1 2 ∷ tuple 7 2 2 ∷ []) waiting ≡ pair 1 7 1 2 ∷ pair 1 7 1 2 ∷ []
+both_are_joined = refl
+
+-- a binding for which no tuple is eligible is kept, beside the one that enters
+pub unmet_is_kept : stepped [] None (tuple 8 1 2 ∷ []) (tuple 9 2 2 ∷ []) waiting ≡ map instance_of (tuple 1 1 1 ∷ tuple 9 2 2 ∷ [])
+unmet_is_kept = refl
+
+-- a binding with an eligible tuple isn't
+pub met_is_gone : stepped [] None (tuple 7 2 2 ∷ []) [] waiting ≡ []
+met_is_gone = refl
+
+-- in a FOLD it goes on as the new binding where the go-on condition holds
+pub fold_goes_on : stepped [] (Some (turn 2)) (tuple 7 2 2 ∷ []) [] waiting ≡ map instance_of (tuple 7 1 2 ∷ [])
+fold_goes_on = refl
+
+-- and ends without a result where it doesn't
+pub fold_ends : took [] (Some (turn 1)) (tuple 7 2 2 ∷ []) waiting ≡ []
+fold_ends = refl
