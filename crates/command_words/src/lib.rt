@@ -5,9 +5,11 @@
 
 mod command;
 mod job;
+mod laws;
 mod table;
 
 pub use job::Job;
+pub use laws::plain_words_are_jobs;
 pub use table::job_of;
 
 #[cfg(test)]
