@@ -14,3 +14,6 @@ pub use laws::{
 };
 pub use namer::Namer;
 pub use splitting::split;
+
+#[cfg(test)]
+mod tests;
