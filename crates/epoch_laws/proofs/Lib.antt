@@ -1,6 +1,7 @@
 pub mod Bags
 pub mod Batches
 pub mod Cuts
+pub mod Events
 pub mod Examples
 pub mod Flows
 pub mod Folds
@@ -8,6 +9,7 @@ pub mod Grows
 pub mod Lists
 pub mod Networks
 pub mod Purges
+pub mod Standing
 pub mod Stands
 pub mod Streams
 pub mod Waits

@@ -42,7 +42,7 @@ use Rattle.epoch_laws.proofs.Purges.{IsStored, between_holds, holds_between}
 use Rattle.epoch_laws.proofs.Streams.{completed_holds, completed_other, heard_now, over_before, over_past, start_waits}
 
 -- purged stores
-alive_bindings : (now : ℕ) (p : List Pr) (store : List Instance) → bindings_of (alive_instances now p store) ≡ alive now p (bindings_of store)
+pub alive_bindings : (now : ℕ) (p : List Pr) (store : List Instance) → bindings_of (alive_instances now p store) ≡ alive now p (bindings_of store)
 alive_bindings now p store = sym (filter-map (is_alive now p) (λ (instance : Instance). instance.tuple) store)
 
 purged_holds : (now : ℕ) (p : List Pr) (store kept : List Instance) (bindings : List Row) → Holds now p store bindings → Purged now p store kept → Holds now p kept bindings

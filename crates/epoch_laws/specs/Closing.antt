@@ -19,28 +19,31 @@ use Rattle.epoch_laws.specs.Stores.{Purged}
 abbrev pub Stores : Type 0
 Stores = ℕ → List Instance
 
--- what leaves a state in an epoch: at a root the tuples of its stream, at a waiting state what its instances give
+-- what leaves a state that is entered so, in an epoch: at a root the tuples of its stream, at a waiting state what its instances give
 abbrev pub leaves_by : Option Entry → Streams → List Instance → List Row
 leaves_by None news store = []
 leaves_by (Some (Root stream)) news store = news stream
 leaves_by (Some (Waiting before hop)) news store = took hop.wait.choose hop.wait.fold (news hop.wait.stream) store
 
+-- what leaves the state with a number
 abbrev pub leaves : Net → Streams → Stores → ℕ → List Row
 leaves net news stores number = leaves_by (entry_at net number) news (stores number)
 
--- the store of a state after the epoch, where these tuples left each state
+-- the store of a state that is entered so, after an epoch in which these tuples left each state
 abbrev pub stepped_by : Option Entry → Streams → (ℕ → List Row) → List Instance → List Instance
 stepped_by None news leaving store = []
 stepped_by (Some (Root stream)) news leaving store = []
 stepped_by (Some (Waiting before hop)) news leaving store = stepped hop.wait.choose hop.wait.fold (news hop.wait.stream) (entering hop (leaving before)) store
 
+-- the store of each state after the epoch
 abbrev pub stores_after : Net → Streams → Stores → Stores
 stores_after net news stores number = stepped_by (entry_at net number) news (leaves net news stores) (stores number)
 
--- what the ends of a stream give in the epoch, at one state and at all
+-- what the ends of a stream give in the epoch at one state
 abbrev pub published_at : Net → Streams → Stores → ℕ → ℕ → List Row
 published_at net news stores stream number = flat_map (λ end. filter_map (pass end.step) (leaves net news stores number)) (filter (λ end. end.out == stream) (ends_at net number))
 
+-- what they give at all states
 abbrev pub published : Net → Streams → Stores → ℕ → List Row
 published net news stores stream = flat_map (published_at net news stores stream) (range_with_len 0 (length net))
 

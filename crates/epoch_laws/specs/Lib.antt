@@ -2,11 +2,15 @@ pub mod Batch
 pub mod CloseLaws
 pub mod Closing
 pub mod Epochs
+pub mod EventLaws
+pub mod Events
 pub mod Histories
 pub mod Instances
 pub mod LineLaws
 pub mod Lines
 pub mod PurgeLaws
+pub mod Standing
+pub mod StandingLaws
 pub mod Stands
 pub mod Stores
 pub mod StreamLaws

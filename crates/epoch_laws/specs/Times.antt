@@ -20,9 +20,10 @@ IsPast time tuple = (tuple.from ≤ tuple.at) × (tuple.at ≤ time)
 abbrev pub ArePast : ℕ → Streams → Type 0
 ArePast time streams = (stream : ℕ) → All (IsPast time) (streams stream)
 
--- the streams as they were before a time, and their tuples of its epoch
+-- the streams as they were before a time
 abbrev pub streams_before : ℕ → Streams → Streams
 streams_before time streams stream = before time (streams stream)
 
+-- the tuples of the epoch of a time in each stream
 abbrev pub streams_during : ℕ → Streams → Streams
 streams_during time streams stream = during time (streams stream)

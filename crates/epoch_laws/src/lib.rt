@@ -7,8 +7,10 @@
 
 ghost use Rattle.epoch_laws.specs.Batch.{BatchIsResults};
 ghost use Rattle.epoch_laws.specs.CloseLaws.{EpochGrows, EpochStarts, StandsAtStart, StandsClosed, StandsPurged};
+ghost use Rattle.epoch_laws.specs.EventLaws.{FoundIsTook, TakenOutIsLeft};
 ghost use Rattle.epoch_laws.specs.LineLaws.{LineGives, StateKeeps};
 ghost use Rattle.epoch_laws.specs.PurgeLaws.{DeadLater, DeadStayDead};
+ghost use Rattle.epoch_laws.specs.StandingLaws.{CloseStands, ClosingIsResults, OfferStands, PurgeStands, StartStands, TrimmedIsAlive};
 ghost use Rattle.epoch_laws.specs.StreamLaws.{StreamsEarly, StreamsGive};
 ghost use Rattle.epoch_laws.specs.WaitLaws.{WaitEarly, WaitGives, WaitKeeps};
 
@@ -25,6 +27,16 @@ pub fn wait_keeps()
 /// What left a wait before an epoch stands.
 pub fn wait_early()
     ensures { WaitEarly }
+{}
+
+/// A store may be asked for the candidates of one tuple after another.
+pub fn found_is_took()
+    ensures { FoundIsTook }
+{}
+
+/// What one tuple after another takes out are the instances that the epoch matches.
+pub fn taken_out_is_left()
+    ensures { TakenOutIsLeft }
 {}
 
 /// What a line gives in an epoch comes from the bindings that waited before it.
@@ -86,4 +98,34 @@ pub fn epoch_grows()
 /// The tuples of an epoch in a query's stream, put in order, are the query's results at its time.
 pub fn batch_is_results()
     ensures { BatchIsResults }
+{}
+
+/// An engine with empty stores stands for the empty history.
+pub fn start_stands()
+    ensures { StartStands }
+{}
+
+/// An offered event that may follow comes to the end of the history.
+pub fn offer_stands()
+    ensures { OfferStands }
+{}
+
+/// A closing gives the tuples that the streams have at the open time, and leaves no epoch open.
+pub fn close_stands()
+    ensures { CloseStands }
+{}
+
+/// What a closing gives for a query is its results.
+pub fn closing_is_results()
+    ensures { ClosingIsResults }
+{}
+
+/// Purges change nothing of what an engine stands for.
+pub fn purge_stands()
+    ensures { PurgeStands }
+{}
+
+/// Purged whole, the stores have exactly the waiting bindings that are alive.
+pub fn trimmed_is_alive()
+    ensures { TrimmedIsAlive }
 {}

@@ -1,0 +1,222 @@
+-- An epoch at one wait taken event by event.
+use Rattle.std.proofs.Common.{◌≡◌, ◌∙◌, sym, ap, refl, ℕ, Bool, true, false, not, ◌&&◌, cond, List, [], ◌∷◌, ◌++◌, map}
+use Rattle.std.specs.Prelude.{Option, Some, None}
+use Rattle.std.specs.List.{All, filter, flat_map}
+use Rattle.std.specs.List.Sorted.{IsPermutation}
+use Rattle.std.specs.Cmp.Lexicographic.{slice_cmp}
+use Rattle.std.specs.Ordering.{int_cmp, is_eq, nat_cmp, ordering_reverse}
+use Rattle.std.specs.declared.cmp.Ordering.{Ordering}
+use Rattle.std.specs.declared.cmp.Ordering.TheVariants.{Less, Equal, Greater}
+use Rattle.std.proofs.lemmas.Cmp.{int_cmp_total, nat_list_cmp_total}
+use Rattle.std.proofs.lemmas.List.Elements.{All-contains, All-cons, All-nil, filter-append, filter_agree}
+use Rattle.std.proofs.lemmas.List.Sorted.{IsPermutation-refl, IsPermutation-sym, IsPermutation-trans, IsPermutation-append_right}
+use Rattle.event_types.specs.declared.comparison.Cmp.{Cmp}
+use Rattle.event_types.specs.declared.comparison.Cmp.TheVariants as cmp
+use Rattle.event_types.specs.declared.value.Value.{Value}
+use Rattle.event_types.specs.declared.value.Value.TheVariants as value
+use Rattle.event_types.specs.Tuple.{Row}
+use Rattle.instances.specs.Keys.{Key, candidates_of, is_matched, key_matches, unmatched}
+use Rattle.instances.specs.declared.instance.Instance.{Instance}
+use Rattle.semantics.specs.Denotation.{joined}
+use Rattle.semantics.specs.Nexts.{is_eligible}
+use Rattle.semantics.specs.Runs.{rebound}
+use Rattle.semantics.specs.Scalars.{Pr, Test, Lit, Event, Binding, Dur}
+use Rattle.semantics.specs.Truth.{all_true, is_met, order_of, truth}
+use Rattle.semantics.specs.Values.{value_at}
+use Rattle.scalar_expr.specs.Classes as class
+use Rattle.scalar_expr.proofs.Bags.{permuted_from, permuted_to}
+use Rattle.scalar_expr.proofs.RunsLemmas.{flat_map_same}
+use Rattle.automaton.specs.Waiting.{is_empty}
+use Rattle.automaton.specs.declared.wait.Turn.{Turn}
+use Rattle.epoch_laws.specs.Epochs.{eligible_of, is_unmet, left, taken, took}
+use Rattle.epoch_laws.specs.Events.{IsKeyOf, found, taken_out}
+use Rattle.epoch_laws.proofs.Bags.{flat_map_parts}
+use Rattle.epoch_laws.proofs.Lists.{and-false, every, filter-filter, flat_map-filter, map-append}
+
+-- equality of values doesn't depend on the side
+eq_turned : (o : Ordering) → is_eq (ordering_reverse o) ≡ is_eq o
+eq_turned Less = refl
+eq_turned Equal = refl
+eq_turned Greater = refl
+
+equal_turned : (v w : Value) → is_met cmp.Eq (order_of v w) ≡ is_met cmp.Eq (order_of w v)
+equal_turned (value.Int x) (value.Int y) = ap is_eq (int_cmp_total.antisymm x y) ∙ eq_turned (int_cmp y x)
+equal_turned (value.Text x) (value.Text y) = ap is_eq (nat_list_cmp_total.antisymm x y) ∙ eq_turned (slice_cmp nat_cmp y x)
+equal_turned value.Over value.Over = refl
+equal_turned v w = refl
+
+-- only a key part has the class of one
+fixed_is_no_key : {P : Type 0} (place e k : ℕ) (c : Cmp) (v : Value) → class.fixed place c v ≡ class.Key e k → P
+fixed_is_no_key place e k cmp.Eq v is = absurd (cc)
+fixed_is_no_key place e k cmp.Ne v is = absurd (cc)
+fixed_is_no_key place e k cmp.Lt v is = absurd (cc)
+fixed_is_no_key place e k cmp.Le v is = absurd (cc)
+fixed_is_no_key place e k cmp.Gt v is = absurd (cc)
+fixed_is_no_key place e k cmp.Ge v is = absurd (cc)
+
+bounded_is_no_key : {P : Type 0} (e k : ℕ) (c : Cmp) (v : Value) → class.class_of (Test Dur c (Lit v)) ≡ class.Key e k → P
+bounded_is_no_key e k cmp.Eq (value.Int most) is = absurd (cc)
+bounded_is_no_key e k cmp.Ne (value.Int most) is = absurd (cc)
+bounded_is_no_key e k cmp.Lt (value.Int most) is = absurd (cc)
+bounded_is_no_key e k cmp.Le (value.Int most) is = absurd (cc)
+bounded_is_no_key e k cmp.Gt (value.Int most) is = absurd (cc)
+bounded_is_no_key e k cmp.Ge (value.Int most) is = absurd (cc)
+bounded_is_no_key e k c value.Over is = absurd (cc)
+bounded_is_no_key e k c (value.Text bytes) is = absurd (cc)
+
+module _ (r b : Row) (e k : ℕ) where
+  abbrev Met : Type 0
+  Met = is_met cmp.Eq (order_of (value_at r e) (value_at b k)) ≡ true
+
+  -- a key part with the event on the left, and with the binding there
+  event_first : (c : Cmp) (place bound : ℕ) → truth (Test (Event place) c (Binding bound)) r (Some b) ≡ true → class.keyed place c bound ≡ class.Key e k → Met
+  event_first cmp.Eq place bound holds is = (λ i. is_met cmp.Eq (order_of (value_at r (sym place_is i)) (value_at b (sym bound_is i)))) ∙ holds
+    where
+      place_is : place ≡ e
+      place_is = cc
+
+      bound_is : bound ≡ k
+      bound_is = cc
+  event_first cmp.Ne place bound holds is = absurd (cc)
+  event_first cmp.Lt place bound holds is = absurd (cc)
+  event_first cmp.Le place bound holds is = absurd (cc)
+  event_first cmp.Gt place bound holds is = absurd (cc)
+  event_first cmp.Ge place bound holds is = absurd (cc)
+
+  binding_first : (c : Cmp) (place bound : ℕ) → truth (Test (Binding bound) c (Event place)) r (Some b) ≡ true → class.keyed place c bound ≡ class.Key e k → Met
+  binding_first cmp.Eq place bound holds is =
+      (λ i. is_met cmp.Eq (order_of (value_at r (sym place_is i)) (value_at b (sym bound_is i)))) ∙ equal_turned (value_at r place) (value_at b bound) ∙ holds
+    where
+      place_is : place ≡ e
+      place_is = cc
+
+      bound_is : bound ≡ k
+      bound_is = cc
+  binding_first cmp.Ne place bound holds is = absurd (cc)
+  binding_first cmp.Lt place bound holds is = absurd (cc)
+  binding_first cmp.Le place bound holds is = absurd (cc)
+  binding_first cmp.Gt place bound holds is = absurd (cc)
+  binding_first cmp.Ge place bound holds is = absurd (cc)
+
+  -- where a part holds whose class is this key, the key part holds
+  part_met : (p : Pr) → truth p r (Some b) ≡ true → class.class_of p ≡ class.Key e k → Met
+  part_met (Test (Event place) c (Binding bound)) holds is = event_first c place bound holds is
+  part_met (Test (Binding bound) c (Event place)) holds is = binding_first c place bound holds is
+  part_met (Test (Event place) c (Lit v)) holds is = fixed_is_no_key place e k c v is
+  part_met (Test (Lit v) c (Event place)) holds is = fixed_is_no_key place e k (class.exchanged c) v is
+  part_met (Test Dur c (Lit v)) holds is = bounded_is_no_key e k c v is
+  part_met p holds is = absurd (cc)
+
+  all_met : (choose : List Pr) → all_true choose r (Some b) ≡ true → All (λ c. c ≡ class.Key e k → Met) (map class.class_of choose)
+  all_met [] holds = All-nil (λ c. c ≡ class.Key e k → Met)
+  all_met (p ∷ ps) holds = go (all_met ps) (truth p r (Some b)) refl holds
+    where
+      go : (all_true ps r (Some b) ≡ true → All (λ c. c ≡ class.Key e k → Met) (map class.class_of ps)) → (t : Bool) → truth p r (Some b) ≡ t → (t && all_true ps r (Some b)) ≡ true → All (λ c. c ≡ class.Key e k → Met) (class.class_of p ∷ map class.class_of ps)
+      go more true is rest = All-cons (λ c. c ≡ class.Key e k → Met) (class.class_of p) (map class.class_of ps) (part_met p is) (more rest)
+      go more false is rest = absurd (cc)
+
+and_right : (x y : Bool) → (x && y) ≡ true → y ≡ true
+and_right true y e = e
+and_right false y e = absurd (cc)
+
+-- what is eligible for a binding is looked at with it
+eligible_matches : (key : Option Key) (choose : List Pr) (r b : Row) → IsKeyOf key choose → is_eligible choose b r ≡ true → key_matches key r b ≡ true
+eligible_matches None choose r b of e = refl
+eligible_matches (Some key) choose r b of e =
+    All-contains (λ c. c ≡ class.Key key.event key.binding → Met r b key.event key.binding) (map class.class_of choose) (class.Key key.event key.binding)
+    (all_met r b key.event key.binding choose (and_right _ _ e)) of refl
+
+module _ (key : Option Key) (choose : List Pr) (of : IsKeyOf key choose) where
+  -- so the matched candidates are the instances for which the tuple is eligible
+  matched_is : (r : Row) (i : Instance) → is_matched key choose r i ≡ is_eligible choose i.tuple r
+  matched_is r i = go (is_eligible choose i.tuple r) refl
+    where
+      go : (t : Bool) → is_eligible choose i.tuple r ≡ t → (key_matches key r i.tuple && t) ≡ t
+      go true e = ap (λ m. m && true) (eligible_matches key choose r i.tuple of e)
+      go false e = and-false (key_matches key r i.tuple)
+
+  one_unmet : (r : Row) (rs : List Row) (i : Instance) → (not (is_matched key choose r i) && is_unmet choose rs i.tuple) ≡ is_unmet choose (r ∷ rs) i.tuple
+  one_unmet r rs i = ap (λ m. not m && is_unmet choose rs i.tuple) (matched_is r i) ∙ go (is_eligible choose i.tuple r)
+    where
+      go : (t : Bool) → (not t && is_unmet choose rs i.tuple) ≡ is_empty (cond t (r ∷ eligible_of choose rs i.tuple) (eligible_of choose rs i.tuple))
+      go true = refl
+      go false = refl
+
+  -- what all tuples have taken out
+  pub taken_out_is_left : (rs : List Row) (store : List Instance) → taken_out key choose rs store ≡ left choose rs store
+  taken_out_is_left [] store = sym (filter_every store)
+    where
+      filter_every : (xs : List Instance) → filter (λ _. true) xs ≡ xs
+      filter_every [] = refl
+      filter_every (x ∷ xs) = ap (λ ys. x ∷ ys) (filter_every xs)
+  taken_out_is_left (r ∷ rs) store =
+      taken_out_is_left rs (unmatched key choose r store)
+      ∙ filter-filter (λ i. is_unmet choose rs i.tuple) (λ i. not (is_matched key choose r i)) store
+      ∙ filter_agree (λ i. not (is_matched key choose r i) && is_unmet choose rs i.tuple) (λ i. is_unmet choose (r ∷ rs) i.tuple) (one_unmet r rs) store
+
+  module _ (turn : Option Turn) where
+    abbrev one : Row → Instance → List Row
+    one r i = taken choose turn (r ∷ []) i.tuple
+
+    -- a tuple that isn't eligible gives nothing
+    none_taken : (r b : Row) → is_eligible choose b r ≡ false → taken choose turn (r ∷ []) b ≡ []
+    none_taken r b e = go turn
+      where
+        none : eligible_of choose (r ∷ []) b ≡ []
+        none = ap (λ t. cond t (r ∷ []) []) e
+
+        go : (turn : Option Turn) → taken choose turn (r ∷ []) b ≡ []
+        go None = ap (map (joined b)) none
+        go (Some t) = ap (λ rs. map (rebound t.set.parts b) (filter (λ r. all_true t.on r (Some b)) rs)) none
+
+    -- so the candidates give what the whole store does
+    candidates_give : (r : Row) (store : List Instance) → flat_map (one r) (candidates_of key r store) ≡ flat_map (one r) store
+    candidates_give r store = sym (looked key refl)
+      where
+        looked : (k : Option Key) → key ≡ k → flat_map (one r) store ≡ flat_map (one r) (candidates_of k r store)
+        looked None is = refl
+        looked (Some k) is =
+            flat_map-filter (λ i. key_matches (Some k) r i.tuple) (λ _. Unit {0}) (one r) (one r) (λ i _ _. refl)
+            (λ i _ e. unmet i (ap (λ k. key_matches k r i.tuple) is ∙ e) (is_eligible choose i.tuple r) refl) store (λ _ _ _. tt)
+          where
+            unmet : (i : Instance) → key_matches key r i.tuple ≡ false → (t : Bool) → is_eligible choose i.tuple r ≡ t → one r i ≡ []
+            unmet i e true f = let no : true ≡ false = sym (eligible_matches key choose r i.tuple of f) ∙ e in absurd (cc)
+            unmet i e false f = none_taken r i.tuple f
+
+    -- tuple by tuple, for one binding
+    taken_each : (rs : List Row) (b : Row) → flat_map (λ r. taken choose turn (r ∷ []) b) rs ≡ taken choose turn rs b
+    taken_each rs b = go turn rs
+      where
+        eligible_cut : (r : Row) (rs : List Row) → eligible_of choose (r ∷ rs) b ≡ eligible_of choose (r ∷ []) b ++ eligible_of choose rs b
+        eligible_cut r rs = filter-append (is_eligible choose b) (r ∷ []) rs
+
+        go : (turn : Option Turn) (rs : List Row) → flat_map (λ r. taken choose turn (r ∷ []) b) rs ≡ taken choose turn rs b
+        go None [] = refl
+        go (Some t) [] = refl
+        go None (r ∷ rs) =
+            ap (λ ys. taken choose None (r ∷ []) b ++ ys) (go None rs)
+            ∙ sym (map-append (joined b) (eligible_of choose (r ∷ []) b) (eligible_of choose rs b))
+            ∙ ap (map (joined b)) (sym (eligible_cut r rs))
+        go (Some t) (r ∷ rs) =
+            let goes : Row → Bool = λ r. all_true t.on r (Some b) in
+            ap (λ ys. taken choose (Some t) (r ∷ []) b ++ ys) (go (Some t) rs)
+            ∙ sym (map-append (rebound t.set.parts b) (filter goes (eligible_of choose (r ∷ []) b)) (filter goes (eligible_of choose rs b)))
+            ∙ ap (map (rebound t.set.parts b)) (sym (filter-append goes (eligible_of choose (r ∷ []) b) (eligible_of choose rs b)) ∙ ap (filter goes) (sym (eligible_cut r rs)))
+
+    nothing : (xs : List Instance) → flat_map {X = Instance} {A = Row} (λ _. []) xs ≡ []
+    nothing [] = refl
+    nothing (x ∷ xs) = nothing xs
+
+    -- tuples and instances may change places
+    exchange : (rs : List Row) (store : List Instance) → IsPermutation (flat_map (λ r. flat_map (one r) store) rs) (flat_map (λ i. flat_map (λ r. one r i) rs) store)
+    exchange [] store = permuted_from (sym (nothing store)) (IsPermutation-refl _)
+    exchange (r ∷ rs) store =
+        IsPermutation-trans _ _ _ (IsPermutation-append_right (flat_map (one r) store) _ _ (exchange rs store))
+        (IsPermutation-sym _ _ (flat_map_parts (one r) (λ i. flat_map (λ r. one r i) rs) store))
+
+    -- what each tuple finds among its candidates
+    pub found_is_took : (rs : List Row) (store : List Instance) → IsPermutation (found key choose turn rs store) (took choose turn rs store)
+    found_is_took rs store =
+        permuted_from (flat_map_same (λ r. flat_map (one r) (candidates_of key r store)) (λ r. flat_map (one r) store) rs (every (λ r. flat_map (one r) (candidates_of key r store) ≡ flat_map (one r) store) (λ r. candidates_give r store) rs))
+        (permuted_to (exchange rs store)
+        (flat_map_same (λ i. flat_map (λ r. one r i) rs) (λ i. taken choose turn rs i.tuple) store (every (λ (i : Instance). flat_map (λ r. one r i) rs ≡ taken choose turn rs i.tuple) (λ i. taken_each rs i.tuple) store)))
