@@ -73,11 +73,11 @@ fn count<L: Ledger>(alloc: Global, host: &mut MemHost, words: &[&str], blank: Bl
 }
 
 // The status has this number and this text.
-fn expect_status(rt: &impl Abort, alloc: Global, found: &Status, status: (u8, &str)) {
-    assert_eq!(rt; found.number(), status.0, "{}", status.1);
+fn expect_status(rt: &impl Abort, alloc: Global, found: &Status, number: u8, text: &str) {
+    assert_eq!(rt; found.number(), number);
     match found.text(alloc) {
-        Ok(text) => assert_eq!(rt; text.as_str(), status.1),
-        Err(_) => assert!(rt; false, "no memory for {}", status.1),
+        Ok(found) => assert_eq!(rt; found.as_str(), text),
+        Err(_) => assert!(rt; false, "no memory for {text}"),
     }
 }
 
@@ -94,8 +94,8 @@ fn expect_within(
     requires { IsFree (mem_told host.old) }
 {
     let found = run_within(alloc, host, words, limit);
-    expect_status(rt, alloc, &found, status);
-    assert_eq!(rt; host.written(), rows, "{}", status.1);
+    expect_status(rt, alloc, &found, status.0, status.1);
+    assert_eq!(rt; host.written(), rows);
 }
 
 // The queries over the events end with this status, and write those rows.

@@ -51,7 +51,7 @@ fn each_end_of_a_run_has_its_text(rt: HostRuntime) -> Result<(), Fail> {
         (Status::Memory, 10, "cayuga: no memory"),
     ];
     for (status, number, text) in &rows {
-        expect_status(&rt, rt.alloc(), status, (*number, *text));
+        expect_status(&rt, rt.alloc(), status, *number, *text);
     }
     Ok(())
 }
@@ -67,7 +67,8 @@ fn names_of_a_cycle_are_joined_by_commas(rt: HostRuntime) -> Result<(), Fail> {
         &rt,
         alloc,
         &Status::Cycle(names),
-        (3, "cayuga: cycle: P, Q, R"),
+        3,
+        "cayuga: cycle: P, Q, R",
     );
     Ok(())
 }
@@ -116,7 +117,7 @@ fn each_fault_of_the_queries_has_its_words(rt: HostRuntime) -> Result<(), Fail> 
         ),
     ];
     for (why, text) in rows {
-        expect_status(&rt, alloc, &Status::BadQuery { line: 7, why }, (2, text));
+        expect_status(&rt, alloc, &Status::BadQuery { line: 7, why }, 2, text);
     }
     Ok(())
 }
@@ -158,7 +159,7 @@ fn each_fault_of_a_name_has_its_words(rt: HostRuntime) -> Result<(), Fail> {
         ),
     ];
     for (why, text) in rows {
-        expect_status(&rt, alloc, &Status::BadQuery { line: 7, why }, (2, text));
+        expect_status(&rt, alloc, &Status::BadQuery { line: 7, why }, 2, text);
     }
     Ok(())
 }
@@ -197,7 +198,8 @@ fn each_fault_of_an_event_line_has_its_words(rt: HostRuntime) -> Result<(), Fail
             &rt,
             rt.alloc(),
             &Status::BadEvent { line: 10, why },
-            (4, text),
+            4,
+            text,
         );
     }
     Ok(())
