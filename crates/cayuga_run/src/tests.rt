@@ -10,7 +10,10 @@ use std::process::Abort;
 use std::sync::ledger::Blank;
 use std::test::Fail;
 
+mod epochs;
+mod faults;
 mod iteration;
+mod pieces;
 mod query_texts;
 mod sequence;
 mod union;
@@ -138,21 +141,6 @@ fn rows_of_an_epoch_stand_in_the_order_of_tuples(rt: HostRuntime) -> Result<(), 
 }
 
 #[test]
-fn a_refused_line_closes_nothing(rt: HostRuntime) -> Result<(), Fail> {
-    let alloc = rt.alloc();
-    let early = b"Stock,5,5,IBM,10,5\nStock,4,4,IBM,10,5\n";
-    let late = (5, "cayuga: events line 2: detection 4 is below 5");
-    expect(&rt, alloc, ALL, early, late, b"")?;
-    let bad = b"Stock,1,1,IBM,10,5\nStock,2,2,IBM,11,6\nStock,3,3,IBM,ten,7\n";
-    let faulty = (
-        4,
-        "cayuga: events line 3: field 5 is not a whole number of 128 bits",
-    );
-    expect(&rt, alloc, ALL, bad, faulty, b"All,1,1,IBM,10,5\n")?;
-    Ok(())
-}
-
-#[test]
 fn the_first_fault_of_an_event_line_is_the_answer(rt: HostRuntime) -> Result<(), Fail> {
     let alloc = rt.alloc();
     let time = "cayuga: events line 1: field 3 is not a time";
@@ -172,12 +160,16 @@ fn the_first_fault_of_an_event_line_is_the_answer(rt: HostRuntime) -> Result<(),
             "cayuga: events line 1: start after detection",
         ),
         (
+            b"Stock,1,1,IBM,ten,5\n".as_slice(),
+            "cayuga: events line 1: field 5 is not a whole number of 128 bits",
+        ),
+        (
             b"Q,1,1,IBM,10,5\n".as_slice(),
             "cayuga: events line 1: unknown stream",
         ),
     ];
     for (events, text) in rows {
-        expect(&rt, alloc, HIGH, events, (4, text), b"")?;
+        expect(&rt, alloc, ALL, events, (4, text), b"")?;
     }
     Ok(())
 }
@@ -220,21 +212,6 @@ fn one_byte_more_than_the_limit_is_too_much(rt: HostRuntime) -> Result<(), Fail>
     let much = (9, "cayuga: more than 21 bytes of events");
     let mut host = host_with(alloc, HIGH, TRADE)?;
     expect_within(&rt, alloc, &mut host, &words, 21, much, b"");
-    Ok(())
-}
-
-#[test]
-fn pieces_of_any_size_give_the_same_rows(rt: HostRuntime) -> Result<(), Fail> {
-    let alloc = rt.alloc();
-    for read in [1, 2, 3, 7] {
-        for write in [1, 2, 7] {
-            let mut host = host_with(alloc, HIGH, TRADE)?;
-            host.pieces(read, write);
-            let status = run_within(alloc, &mut host, &["run", "q", "e"], 99);
-            assert_eq!(rt; status.number(), 0, "{read} {write}");
-            assert_eq!(rt; host.written(), ROW, "{read} {write}");
-        }
-    }
     Ok(())
 }
 
