@@ -5,9 +5,9 @@ use Rattle.std.specs.List.{All, filter_map, flat_map, cons_option}
 use Rattle.std.specs.List.Sorted.{IsPermutation}
 use Rattle.std.proofs.lemmas.List.Elements.{All-head, All-tail}
 use Rattle.std.proofs.lemmas.List.Sorted.{IsPermutation-refl, IsPermutation-trans, IsPermutation-append, IsPermutation-append_left, IsPermutation-append_right, IsPermutation-append_comm, IsPermutation-map}
+use Rattle.std.proofs.lemmas.List.{map-append}
 use Rattle.scalar_expr.proofs.Bags.{permuted_from, permuted_to, flat_map_permuted}
 use Rattle.epoch_laws.specs.Stores.{IsWithin}
-use Rattle.epoch_laws.proofs.Lists.{map-append}
 
 module _ {X : Type 0} where
   pub permuted_is : {xs ys : List X} → xs ≡ ys → IsPermutation xs ys

@@ -10,6 +10,7 @@ use Rattle.std.specs.declared.cmp.Ordering.TheVariants.{Less, Equal, Greater}
 use Rattle.std.proofs.lemmas.Cmp.{int_cmp_total, nat_list_cmp_total}
 use Rattle.std.proofs.lemmas.List.Elements.{All-contains, All-cons, All-nil, filter-append, filter_agree}
 use Rattle.std.proofs.lemmas.List.Sorted.{IsPermutation-refl, IsPermutation-sym, IsPermutation-trans, IsPermutation-append_right}
+use Rattle.std.proofs.lemmas.List.{map-append}
 use Rattle.event_types.specs.declared.comparison.Cmp.{Cmp}
 use Rattle.event_types.specs.declared.comparison.Cmp.TheVariants as cmp
 use Rattle.event_types.specs.declared.value.Value.{Value}
@@ -31,7 +32,7 @@ use Rattle.automaton.specs.declared.wait.Turn.{Turn}
 use Rattle.epoch_laws.specs.Epochs.{eligible_of, is_unmet, left, taken, took}
 use Rattle.epoch_laws.specs.Events.{IsKeyOf, found, taken_out}
 use Rattle.epoch_laws.proofs.Bags.{flat_map_parts}
-use Rattle.epoch_laws.proofs.Lists.{and-false, every, filter-filter, flat_map-filter, map-append}
+use Rattle.epoch_laws.proofs.Lists.{and-false, every, filter-filter, flat_map-filter}
 
 -- equality of values doesn't depend on the side
 eq_turned : (o : Ordering) → is_eq (ordering_reverse o) ≡ is_eq o

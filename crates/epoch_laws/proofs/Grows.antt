@@ -19,12 +19,13 @@ use Rattle.automaton.specs.Steps.{pass}
 use Rattle.automaton.specs.Work.{IsInOrder, ReadsNone, is_in}
 use Rattle.automaton.specs.declared.line.Line.{Line}
 use Rattle.automaton.specs.declared.network.End.{End}
+use Rattle.automaton.proofs.WorkLemmas.{or_parts, self_equal}
 use Rattle.epoch_laws.specs.Closing.{IsEpoch, Stores, leaves, leaves_by, published, published_at}
 use Rattle.epoch_laws.specs.Epochs.{took}
 use Rattle.epoch_laws.specs.Stands.{Serves}
 use Rattle.epoch_laws.proofs.Lists.{All_last}
 use Rattle.epoch_laws.proofs.Networks.{each_end, ends_of, line_at, no_ends, numbers, places, root_leaves}
-use Rattle.epoch_laws.proofs.Streams.{or_parts, self_equal, with_other}
+use Rattle.epoch_laws.proofs.Streams.{with_other}
 
 or-true : (a : Bool) → (a || true) ≡ true
 or-true true = refl

@@ -8,6 +8,7 @@ use Rattle.std.proofs.lemmas.List.Elements.{All-nil, All-cons, All-head, All-tai
 use Rattle.std.proofs.lemmas.List.Folds.{flat_map-map}
 use Rattle.std.proofs.lemmas.List.Sorted.{All-permutation, IsPermutation-sym, IsPermutation-trans, IsPermutation-map}
 use Rattle.std.proofs.lemmas.Simd.{map-map}
+use Rattle.std.proofs.lemmas.List.{map-append}
 use Rattle.event_types.specs.Tuple.{Row}
 use Rattle.instances.specs.declared.instance.Instance.{Instance}
 use Rattle.semantics.specs.Denotation.{Streams}
@@ -36,7 +37,7 @@ use Rattle.epoch_laws.specs.Instances.{bindings_of, instance_of}
 use Rattle.epoch_laws.specs.Stores.{Holds}
 use Rattle.epoch_laws.proofs.Bags.{filter_map_permuted, flat_map_alike, permuted_is}
 use Rattle.epoch_laws.proofs.Flows.{flow_rows}
-use Rattle.epoch_laws.proofs.Lists.{All_last, every, filter-flat_map, flat_map-flat_map, map-append, map-flat_map, map_all}
+use Rattle.epoch_laws.proofs.Lists.{All_last, every, filter-flat_map, flat_map-flat_map, map-flat_map, map_all}
 use Rattle.epoch_laws.proofs.Purges.{IsStored, between_holds, rows_stepped, store_gives, store_keeps}
 
 -- stores and the bindings that they hold

@@ -6,6 +6,7 @@ use Rattle.std.specs.List.Sorted.{IsPermutation}
 use Rattle.std.proofs.lemmas.Bool.Decides.{nat_tests}
 use Rattle.std.proofs.lemmas.List.Elements.{filter-append, filter_passes, All-nil, All-cons, All-head, All-tail, All-append, All-filter, All-weaker}
 use Rattle.std.proofs.lemmas.List.Sorted.{IsPermutation-refl, IsPermutation-trans, IsPermutation-append_left}
+use Rattle.std.proofs.lemmas.List.{map-append}
 use Rattle.event_types.specs.Order.{sorted}
 use Rattle.event_types.specs.Tuple.{IsSound}
 use Rattle.instances.specs.Bounds.{alive_instances}
@@ -31,7 +32,7 @@ use Rattle.epoch_laws.specs.Standing.{MayFollow, StandsFor, closed_part, last_ti
 use Rattle.epoch_laws.specs.Stands.{Serves, Stands}
 use Rattle.epoch_laws.specs.Times.{during}
 use Rattle.epoch_laws.proofs.Batches.{batch_is_results}
-use Rattle.epoch_laws.proofs.Lists.{filter_false, map-append}
+use Rattle.epoch_laws.proofs.Lists.{filter_false}
 use Rattle.epoch_laws.proofs.Networks.{is_stored}
 use Rattle.epoch_laws.proofs.Stands.{alive_bindings, stands_at_start, stands_closed, stands_purged}
 

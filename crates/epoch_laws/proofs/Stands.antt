@@ -27,6 +27,7 @@ use Rattle.automaton.specs.Waiting.{waiting}
 use Rattle.automaton.specs.Work.{IsInOrder, is_in}
 use Rattle.automaton.specs.declared.line.Hop.{Hop}
 use Rattle.automaton.specs.declared.line.Line.{Line}
+use Rattle.automaton.proofs.WorkLemmas.{completed_other, streams_derived}
 use Rattle.epoch_laws.specs.Closing.{ArePurged, IsEpoch, Stores, published, stores_after}
 use Rattle.epoch_laws.specs.Histories.{events_before, events_during, streams_over}
 use Rattle.epoch_laws.specs.Instances.{bindings_of}
@@ -39,7 +40,7 @@ use Rattle.epoch_laws.proofs.Folds.{during_at}
 use Rattle.epoch_laws.proofs.Lists.{every, filter-flat_map, filter_false}
 use Rattle.epoch_laws.proofs.Networks.{published_alike, stores_keep}
 use Rattle.epoch_laws.proofs.Purges.{IsStored, between_holds, holds_between}
-use Rattle.epoch_laws.proofs.Streams.{completed_holds, completed_other, heard_now, over_before, over_past, start_waits}
+use Rattle.epoch_laws.proofs.Streams.{heard_now, over_before, over_past, start_waits}
 
 -- purged stores
 pub alive_bindings : (now : ℕ) (p : List Pr) (store : List Instance) → bindings_of (alive_instances now p store) ≡ alive now p (bindings_of store)
@@ -121,7 +122,7 @@ module _ (net : Net) (lines : List Line) (order : List ℕ) (h : List Heard) (ti
 
   pub net_gives : (t : ℕ) → IsPermutation (news t) (during time (streams_over lines order h t))
   net_gives t =
-      news_alike order serves.in_order epoch.derived (completed_holds lines order (heard_on h) serves.in_order)
+      news_alike order serves.in_order epoch.derived (streams_derived lines order (heard_on h) serves.in_order)
       (λ t e. permuted_to (epoch.declared t e) (sym (ap (during time) (completed_other lines order (heard_on h) t e) ∙ heard_now time h t))) t
 
   pub net_keeps : (later : ℕ) → now ≤ later → AllHold net later (stores_after net news stores) (streams_over lines order h)

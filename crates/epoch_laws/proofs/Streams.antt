@@ -1,9 +1,9 @@
 -- The streams of lines over a history.
-use Rattle.std.proofs.Common.{◌≡◌, ◌∙◌, sym, ap, refl, ℕ, ◌==◌, Bool, true, false, ◌||◌, cond, nat_lt, List, [], ◌∷◌, map, arith}
+use Rattle.std.proofs.Common.{◌≡◌, ◌∙◌, sym, ap, refl, ℕ, ◌==◌, Bool, true, false, cond, nat_lt, List, [], ◌∷◌, map, arith}
 use Rattle.std.specs.Prelude.{Option, Some, None}
 use Rattle.std.specs.List.{All, filter, filter_map, flat_map}
 use Rattle.std.proofs.lemmas.Bool.Decides.{nat_tests}
-use Rattle.std.proofs.lemmas.List.Elements.{filter_agree, All-nil, All-cons, All-head, All-tail, All-filter, All-map, All-weaker}
+use Rattle.std.proofs.lemmas.List.Elements.{filter_agree, All-nil, All-filter, All-map, All-weaker}
 use Rattle.event_types.specs.Tuple.{Row}
 use Rattle.semantics.specs.Denotation.{Streams}
 use Rattle.semantics.specs.Histories.{Heard, heard_on}
@@ -11,46 +11,24 @@ use Rattle.semantics.specs.Programs.{with_stream}
 use Rattle.semantics.proofs.ListLemmas.{filter-map, filter_swap}
 use Rattle.scalar_expr.proofs.RunsLemmas.{flat_map_same}
 use Rattle.automaton.specs.Flow.{derived, entering, flow, given}
-use Rattle.automaton.specs.Prefixes.{Prefix, Root, After, extended, path}
+use Rattle.automaton.specs.Prefixes.{Prefix, Root, After, path}
 use Rattle.automaton.specs.Steps.{pass}
 use Rattle.automaton.specs.Waiting.{waiting, waiting_in}
 use Rattle.automaton.specs.Waits.{chosen}
-use Rattle.automaton.specs.Work.{IsInOrder, ReadsNone, completed, is_in}
+use Rattle.automaton.specs.Work.{IsInOrder, completed}
 use Rattle.automaton.specs.declared.line.Hop.{Hop}
 use Rattle.automaton.specs.declared.line.Line.{Line}
 use Rattle.automaton.specs.declared.wait.Turn.{Turn}
+use Rattle.automaton.proofs.WorkLemmas.{streams_derived}
 use Rattle.epoch_laws.specs.Histories.{events_before, events_during, streams_over}
 use Rattle.epoch_laws.specs.Lines.{given_now}
 use Rattle.epoch_laws.specs.Times.{ArePast, before, during, IsPast, streams_before, streams_during}
 use Rattle.epoch_laws.proofs.Flows.{flow_before, flow_past, line_gives, pass_cut, pass_past}
 use Rattle.epoch_laws.proofs.Lists.{All-flat_map, every, filter-flat_map, filter_none}
 
-pub or_parts : (a b : Bool) → (a || b) ≡ false → (a ≡ false) × (b ≡ false)
-or_parts true b e = absurd (cc)
-or_parts false b e = (refl, e)
-
-pub self_equal : (s : ℕ) → (s == s) ≡ true
-self_equal s = grind (arith, nat_tests)
-
--- streams that no line publishes from here on stay
+-- the other streams stay
 pub with_other : (env : Streams) (n : ℕ) (rows : List Row) (s : ℕ) → (s == n) ≡ false → with_stream env n rows s ≡ env s
 with_other env n rows s e = ap (λ b. cond b rows (env s)) e
-
-pub completed_other : (lines : List Line) (order : List ℕ) (env : Streams) (s : ℕ) → is_in order s ≡ false → completed lines order env s ≡ env s
-completed_other lines [] env s e = refl
-completed_other lines (n ∷ order) env s e =
-    let parts = or_parts (s == n) (is_in order s) e in
-    completed_other lines order (with_stream env n (derived lines env n)) s parts.1 ∙ with_other env n (derived lines env n) s parts.0
-
--- lines that read the same give the same
-extended_alike : (env other : Streams) (hops : List Hop) → All (λ h. env h.wait.stream ≡ other h.wait.stream) hops → (p : Prefix) → flow env p ≡ flow other p → flow env (extended p hops) ≡ flow other (extended p hops)
-extended_alike env other [] all p e = e
-extended_alike env other (h ∷ hops) all p e =
-    extended_alike env other hops (All-tail (λ h. env h.wait.stream ≡ other h.wait.stream) h hops all) (After p h)
-    (λ i. chosen h.wait.choose h.wait.fold (All-head (λ h. env h.wait.stream ≡ other h.wait.stream) h hops all i) (entering h (e i)))
-
-pub given_alike : (env other : Streams) (l : Line) → env l.root ≡ other l.root → All (λ h. env h.wait.stream ≡ other h.wait.stream) l.hops → given env l ≡ given other l
-given_alike env other l root hops = ap (filter_map (pass l.last)) (extended_alike env other l.hops hops (Root l.root) root)
 
 -- no tuple of a derived stream is later
 module _ (time : ℕ) (lines : List Line) where
@@ -93,25 +71,6 @@ module _ (time : ℕ) (lines : List Line) where
   completed_before (s ∷ order) env past =
       completed_before order (with_stream env s (derived lines env s)) (with_past env past s (derived lines env s) (derived_past env past s))
       ∙ ap (completed lines order) (with_before env s (derived lines env s) (derived lines (streams_before time env) s) (derived_before env past s))
-
--- each derived stream is what its lines give over all streams
-pub completed_holds : (lines : List Line) (order : List ℕ) (env : Streams) → IsInOrder lines order → All (λ s. completed lines order env s ≡ derived lines (completed lines order env) s) order
-completed_holds lines [] env ordered = All-nil (λ s. env s ≡ derived lines env s)
-completed_holds lines (s ∷ order) env ordered =
-    All-cons (λ n. completed lines (s ∷ order) env n ≡ derived lines (completed lines (s ∷ order) env) n) s order head
-    (completed_holds lines order (with_stream env s (derived lines env s)) ordered.2)
-  where
-    one : (l : Line) → ReadsNone (s ∷ order) l → given env l ≡ given (completed lines (s ∷ order) env) l
-    one l reads =
-        sym (given_alike (completed lines (s ∷ order) env) env l (completed_other lines (s ∷ order) env l.root reads.root)
-        (All-weaker (λ h. is_in (s ∷ order) h.wait.stream ≡ false) (λ h. completed lines (s ∷ order) env h.wait.stream ≡ env h.wait.stream) (λ h e. completed_other lines (s ∷ order) env h.wait.stream e) l.hops reads.hops))
-
-    head : completed lines (s ∷ order) env s ≡ derived lines (completed lines (s ∷ order) env) s
-    head =
-        completed_other lines order (with_stream env s (derived lines env s)) s ordered.1
-        ∙ ap (λ b. cond b (derived lines env s) (env s)) (self_equal s)
-        ∙ flat_map_same (given env) (given (completed lines (s ∷ order) env)) (filter (λ l. l.out == s) lines)
-        (All-weaker (ReadsNone (s ∷ order)) (λ l. given env l ≡ given (completed lines (s ∷ order) env) l) one (filter (λ l. l.out == s) lines) ordered.0)
 
 -- over a history
 heard_past : (time : ℕ) (h : List Heard) → All (λ e. IsPast time e.tuple) h → ArePast time (heard_on h)
@@ -161,7 +120,7 @@ pub streams_give : (time : ℕ) (lines : List Line) (order : List ℕ) (h : List
 streams_give time lines order h past ordered =
     All-weaker (λ s. streams_over lines order h s ≡ derived lines (streams_over lines order h) s)
     (λ s. during time (streams_over lines order h s) ≡ flat_map (given_now (streams_during time (streams_over lines order h)) (streams_before time (streams_over lines order h))) (filter (λ l. l.out == s) lines))
-    one order (completed_holds lines order (heard_on h) ordered)
+    one order (streams_derived lines order (heard_on h) ordered)
   where
     one : (s : ℕ) → streams_over lines order h s ≡ derived lines (streams_over lines order h) s
         → during time (streams_over lines order h s) ≡ flat_map (given_now (streams_during time (streams_over lines order h)) (streams_before time (streams_over lines order h))) (filter (λ l. l.out == s) lines)

@@ -7,6 +7,7 @@ use Rattle.std.proofs.lemmas.Grind.{flat_map-append}
 use Rattle.std.proofs.lemmas.List.Elements.{filter_agree, All-filter, All-weaker, All-map}
 use Rattle.std.proofs.lemmas.List.Folds.{flat_map-map}
 use Rattle.std.proofs.lemmas.List.Sorted.{IsPermutation-trans, IsPermutation-append, IsPermutation-append_right, IsPermutation-append_comm, IsPermutation-map}
+use Rattle.std.proofs.lemmas.List.{map-append}
 use Rattle.event_types.specs.Tuple.{Row, IsSound}
 use Rattle.semantics.specs.Scalars.{Sc, Pr}
 use Rattle.semantics.specs.Nexts.{is_eligible, nexts, earliest}
@@ -26,7 +27,7 @@ use Rattle.epoch_laws.specs.Times.{before, during, IsPast}
 use Rattle.epoch_laws.proofs.Bags.{permuted_is, flat_map_parts, flat_map_alike}
 use Rattle.epoch_laws.proofs.Cuts.{not_less, empty_is, before_nexts, none_early, during_nexts, waits_cut, waits_now}
 use Rattle.epoch_laws.proofs.Folds.{before_runs, cut_permuted, during_at, early_none, fold_gives, fold_keeps, late_runs, runs_past, stays, turned}
-use Rattle.epoch_laws.proofs.Lists.{All-flat_map, filter-filter, filter-flat_map, flat_map-filter, flat_map-flat_map, flat_map_each, map-append}
+use Rattle.epoch_laws.proofs.Lists.{All-flat_map, filter-filter, filter-flat_map, flat_map-filter, flat_map-flat_map, flat_map_each}
 
 -- all bindings
 -- of those that entered, only those before the last time give what is detected at it
