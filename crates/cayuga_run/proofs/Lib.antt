@@ -4,3 +4,5 @@ pub mod JudgementLemmas
 pub mod ProgramLemmas
 pub mod RunLemmas
 pub mod WordingLemmas
+pub mod WorkLemmas
+pub mod WritingLemmas

@@ -30,11 +30,13 @@ use Rattle.cayuga_run.specs.declared.taking.End.{End}
 use Rattle.cayuga_run.specs.declared.taking.End.TheVariants.{Whole, More, Failed}
 use Rattle.cayuga_run.specs.Accepting.{IsAccepted}
 use Rattle.cayuga_run.specs.Finishing.{Finishes, RefusesLine, is_all}
-use Rattle.cayuga_run.specs.Outcome.{AreThere, IsDone, IsReadFault, IsRefused, IsTooMuch, IsWriteFault, IsMemory, MemoryText, Outcome, is_whole}
+use Rattle.cayuga_run.specs.Begun.{HasAccepted}
+use Rattle.cayuga_run.specs.Refusing.{AreNotAccepted, OfQueries}
+use Rattle.cayuga_run.specs.RunOutcome.{AreThere, IsAttachFault, IsDone, IsReadFault, IsRefused, IsTooMuch, IsWriteFault, IsMemory, MemoryText, RunOutcome, is_whole}
 use Rattle.cayuga_run.specs.QueryFailing.{QueriesFail, TextFails}
 use Rattle.cayuga_run.specs.Reports.{refused_in, report_of_closed, report_of_heard}
 use Rattle.cayuga_run.specs.Taking.{EndsAs}
-use Rattle.cayuga_run.specs.Words.{Job}
+use Rattle.cayuga_run.specs.Works.{Run}
 use Rattle.cayuga_run.proofs.GrowingLemmas.{more_bytes, report_grows_with_bytes}
 use Rattle.cayuga_run.proofs.JudgementLemmas.{past_limit}
 
@@ -50,10 +52,10 @@ refused_same judged text bytes ended all found refusal a b e f g ends =
     (subst (λ o. (refused_in judged text o ≡ Some refusal) × Wrote (report_of_closed judged text o) a b) f (ends.0 ∙ ap Some g, ends.1))
 
 -- both files were read as far as that, and nothing was written
-pub record IsReady (job : Job) (limit : ℕ) (judged : Judged) (bytes : List ℕ) (end : End) (old mid : Told) : Type 0 where
-  pub accept : IfSome (file_of job.queries old.files) (λ queries. Accepts queries judged)
-  pub there : AreThere job old
-  pub events : file_of job.events old.files ≡ prepend_known bytes (mid.left Events)
+pub record IsReady (run : Run) (limit : ℕ) (judged : Judged) (bytes : List ℕ) (end : End) (old mid : Told) : Type 0 where
+  pub accept : IfSome (file_of run.queries old.files) (λ queries. Accepts queries judged)
+  pub there : AreThere run old
+  pub events : file_of run.events old.files ≡ prepend_known bytes (mid.left Events)
   pub ends : EndsAs end limit bytes Events old mid
   pub queries_attached : mid.attached Queries ≡ true
   pub events_attached : mid.attached Events ≡ true
@@ -61,16 +63,16 @@ pub record IsReady (job : Job) (limit : ℕ) (judged : Judged) (bytes : List ℕ
   pub write_faults : mid.write_faults ≡ old.write_faults
 
 -- an output that was as before
-Wrote-after : {bs : List ℕ} {old mid new : Told} → KeepsOutput old mid → Wrote bs mid new → Wrote bs old new
+pub Wrote-after : {bs : List ℕ} {old mid new : Told} → KeepsOutput old mid → Wrote bs mid new → Wrote bs old new
 Wrote-after {bs} s w = record {
   written = w.written ∙ ap (λ o. append_known o bs) s.written;
   lines = w.lines ∙ ap (λ o. add_lines o bs) s.lines;
 }
 
 -- nothing was written, whatever is to be
-pub memory_silent : (job : Job) (limit : ℕ) (old new : Told) → KeepsOutput old new → IsMemory job limit old new
-memory_silent job limit old new keeps =
-    record { text = by_files (file_of job.queries old.files) (file_of job.events old.files); no_queries = λ e. keeps; no_events = λ e. keeps }
+pub memory_silent : (run : Run) (limit : ℕ) (old new : Told) → KeepsOutput old new → IsMemory run limit old new
+memory_silent run limit old new keeps =
+    record { text = by_files (file_of run.queries old.files) (file_of run.events old.files); no_queries = λ e. keeps; no_events = λ e. keeps }
   where
     by_verdict : (v : Verdict) (events : List ℕ) → MemoryText v limit events old new
     by_verdict (Accepted judged) events = record { size = 0; within = omega arith; wrote = Wrote-after keeps (Wrote-nil new) }
@@ -111,50 +113,85 @@ text_fails a b bytes WriteFault h f = f
 text_fails a b bytes (TooMuch most) h f = f
 
 -- the queries are attached, and nothing else was done
-pub record HasQueries (job : Job) (old mid : Told) : Type 0 where
-  pub there : lacks job.queries old.files ≡ false
-  pub text : mid.left Queries ≡ file_of job.queries old.files
+pub record HasQueries (queries : List ℕ) (old mid : Told) : Type 0 where
+  pub there : lacks queries old.files ≡ false
+  pub text : mid.left Queries ≡ file_of queries old.files
   pub attached : mid.attached Queries ≡ true
   pub events : mid.attached Events ≡ false
+  pub attach_faults : mid.attach_faults ≡ old.attach_faults
   pub read_faults : mid.read_faults ≡ old.read_faults
+  pub write_faults : mid.write_faults ≡ old.write_faults
+  pub files : mid.files ≡ old.files
   pub silent : KeepsOutput old mid
 
-pub queries_fail : (job : Job) (limit : ℕ) (old mid new : Told) (status : Status) → HasQueries job old mid → QueriesFail mid new status → SameButRead Queries mid new → Outcome (Some job) limit old new status
-queries_fail job limit old mid new (BadQuery line why) has fails kept = record {
+-- reading keeps the output
+kept_by_reading : {old mid new : Told} → KeepsOutput old mid → SameButRead Queries mid new → KeepsOutput old new
+kept_by_reading silent kept = record { written = kept.written ∙ silent.written; lines = kept.lines ∙ silent.lines }
+
+-- the queries that are attached weren't accepted
+pub queries_fail : (queries : List ℕ) (old mid new : Told) (status : Status) → HasQueries queries old mid → SameButRead Queries mid new → QueriesFail mid new status → AreNotAccepted queries old new status
+queries_fail queries old mid new (BadQuery line why) has kept fails = record {
   there = has.there;
   refused = subst (λ o. IfSome o (λ t. Refuses t line why)) has.text fails;
-  silent = record { written = kept.written ∙ has.silent.written; lines = kept.lines ∙ has.silent.lines };
+  silent = kept_by_reading has.silent kept;
 }
-queries_fail job limit old mid new (Cycle names) has fails kept = record {
+queries_fail queries old mid new (Cycle names) has kept fails = record {
   there = has.there;
   circles = subst (λ o. IfSome o (λ t. Circles t names)) has.text fails;
-  silent = record { written = kept.written ∙ has.silent.written; lines = kept.lines ∙ has.silent.lines };
+  silent = kept_by_reading has.silent kept;
 }
-queries_fail job limit old mid new (ReadFault side) has fails kept =
-    subst (λ s. IsReadFault s job limit old new) (sym fails.0)
-    (record {
-      cause = subst (λ n. Rose n new.read_faults) has.read_faults fails.1;
-      attached = ap (λ f. f Queries) kept.attached ∙ has.attached;
-      queries = λ e. record {
-        there = has.there;
-        events = ap (λ f. f Events) kept.attached ∙ has.events;
-        silent = record { written = kept.written ∙ has.silent.written; lines = kept.lines ∙ has.silent.lines };
-      };
-      events = λ e. cc;
-    })
-queries_fail job limit old mid new Memory has fails kept = memory_silent job limit old new (record { written = kept.written ∙ has.silent.written; lines = kept.lines ∙ has.silent.lines })
-queries_fail job limit old mid new Done has fails kept = absurd fails
-queries_fail job limit old mid new Usage has fails kept = fails
-queries_fail job limit old mid new (BadEvent line why) has fails kept = absurd fails
-queries_fail job limit old mid new (OutOfOrder line at seen) has fails kept = absurd fails
-queries_fail job limit old mid new (AttachFault side) has fails kept = absurd fails
-queries_fail job limit old mid new WriteFault has fails kept = absurd fails
-queries_fail job limit old mid new (TooMuch most) has fails kept = absurd fails
+queries_fail queries old mid new (ReadFault side) has kept fails = (
+  fails.0,
+  record {
+    cause = subst (λ n. Rose n new.read_faults) has.read_faults fails.1;
+    attached = ap (λ f. f Queries) kept.attached ∙ has.attached;
+    stopped = record {
+      there = has.there;
+      events = ap (λ f. f Events) kept.attached ∙ has.events;
+      silent = kept_by_reading has.silent kept;
+    };
+  },
+)
+queries_fail queries old mid new Memory has kept fails = kept_by_reading has.silent kept
+queries_fail queries old mid new Done has kept fails = absurd fails
+queries_fail queries old mid new Usage has kept fails = absurd fails
+queries_fail queries old mid new (BadEvent line why) has kept fails = absurd fails
+queries_fail queries old mid new (OutOfOrder line at seen) has kept fails = absurd fails
+queries_fail queries old mid new (AttachFault side) has kept fails = absurd fails
+queries_fail queries old mid new WriteFault has kept fails = absurd fails
+queries_fail queries old mid new (TooMuch most) has kept fails = absurd fails
 
--- an accepted text under the file's name
-pub accepted_file : (text file : Option (List ℕ)) (judged : Judged) → text ≡ file → IfSome text (λ t. Accepts t judged) → IfSome file (λ t. Accepts t judged)
-accepted_file text file judged e h = subst (λ o. IfSome o (λ t. Accepts t judged)) e h
+-- the queries that are attached were accepted
+pub queries_accepted : (queries : List ℕ) (judged : Judged) (old mid new : Told) → HasQueries queries old mid → SameButRead Queries mid new → IfSome (mid.left Queries) (λ t. Accepts t judged) → HasAccepted queries judged old new
+queries_accepted queries judged old mid new has kept accepts = record {
+  there = has.there;
+  accepts = subst (λ o. IfSome o (λ t. Accepts t judged)) has.text accepts;
+  attached = ap (λ f. f Queries) kept.attached ∙ has.attached;
+  attach_faults = kept.attach_faults ∙ has.attach_faults;
+  read_faults = subst (λ n. n ≤ new.read_faults) has.read_faults kept.later;
+  write_faults = kept.write_faults ∙ has.write_faults;
+  files = kept.files ∙ has.files;
+  silent = kept_by_reading has.silent kept;
+}
 
+-- a run whose queries weren't accepted
+pub run_fails : (run : Run) (limit : ℕ) (old new : Told) (status : Status) → AreNotAccepted run.queries old new status → RunOutcome run limit old new status
+run_fails run limit old new (BadQuery line why) fails = fails
+run_fails run limit old new (Cycle names) fails = fails
+run_fails run limit old new (AttachFault side) fails =
+    subst (λ s. IsAttachFault s run old new) (sym fails.0) (record { cause = fails.1.cause; stopped = fails.1.stopped; accepted = λ e. cc; silent = fails.1.silent })
+run_fails run limit old new (ReadFault side) fails =
+    subst (λ s. IsReadFault s run limit old new) (sym fails.0)
+    (record { cause = fails.1.cause; attached = fails.1.attached; queries = λ e. fails.1.stopped; events = λ e. cc })
+run_fails run limit old new Memory fails = memory_silent run limit old new fails
+run_fails run limit old new Done fails = absurd fails
+run_fails run limit old new Usage fails = fails
+run_fails run limit old new (BadEvent line why) fails = absurd fails
+run_fails run limit old new (OutOfOrder line at seen) fails = absurd fails
+run_fails run limit old new WriteFault fails = absurd fails
+run_fails run limit old new (TooMuch most) fails = absurd fails
+
+-- some text is accepted
 pub is_accepted : (file : Option (List ℕ)) (judged : Judged) → IfSome file (λ t. Accepts t judged) → IfSome file (λ t. IsAccepted t (λ c. Unit {0}))
 is_accepted None judged h = tt
 is_accepted (Some t) judged h = record { judged = judged; accepts = h; holds = tt }
@@ -236,12 +273,12 @@ module _ (judged : Judged) (limit : ℕ) (bytes rest : List ℕ) (end : End) whe
       let here = report_grows_with_bytes judged (take limit bytes) more whole in
       (here.0, ap (λ t. report_of_closed judged t whole) e ∙ here.1 ∙ ap (λ b. report_of_closed judged (take limit bytes) b ++ here.0) (sym f))
 
-place : {job : Job} {limit : ℕ} {judged : Judged} {bytes : List ℕ} {end : End} {old mid : Told} → IsReady job limit judged bytes end old mid
+place : {run : Run} {limit : ℕ} {judged : Judged} {bytes : List ℕ} {end : End} {old mid : Told} → IsReady run limit judged bytes end old mid
     → (rest : List ℕ) → mid.left Events ≡ Some rest → Front limit bytes rest end
-place {job} {limit} {judged} {bytes} {end} {old} {mid} r rest e = front limit bytes rest end (stands limit bytes rest end old mid r.ends e)
+place {run} {limit} {judged} {bytes} {end} {old} {mid} r rest e = front limit bytes rest end (stands limit bytes rest end old mid r.ends e)
 
-module _ {job : Job} {limit : ℕ} {judged : Judged} {bytes : List ℕ} {end : End} {old mid new : Told} (r : IsReady job limit judged bytes end old mid) where
-  refused_after : (refusal : Refusal) → RefusesLine refusal judged bytes end limit mid new → IsRefused refusal job limit old new
+module _ {run : Run} {limit : ℕ} {judged : Judged} {bytes : List ℕ} {end : End} {old mid new : Told} (r : IsReady run limit judged bytes end old mid) where
+  refused_after : (refusal : Refusal) → RefusesLine refusal judged bytes end limit mid new → IsRefused refusal run limit old new
   refused_after refusal done = record {
     there = r.there;
     text = of_both _ _ (mid.left Events) judged bytes
@@ -250,7 +287,7 @@ module _ {job : Job} {limit : ℕ} {judged : Judged} {bytes : List ℕ} {end : E
         (here.0, Wrote-after r.silent (subst (λ t. Wrote t mid new) here.1 done.1)));
   }
 
-  write_fault_after : Rose mid.write_faults new.write_faults → WrotePart (report_of_closed judged (take limit bytes) (is_all end)) mid new → IsWriteFault job limit old new
+  write_fault_after : Rose mid.write_faults new.write_faults → WrotePart (report_of_closed judged (take limit bytes) (is_all end)) mid new → IsWriteFault run limit old new
   write_fault_after rose w = record {
     cause = subst (λ n. Rose n new.write_faults) r.write_faults rose;
     there = r.there;
@@ -260,7 +297,7 @@ module _ {job : Job} {limit : ℕ} {judged : Judged} {bytes : List ℕ} {end : E
         (longer.0, longer.1, Wrote-after r.silent longer.2));
   }
 
-  memory_after : WroteFront (report_of_closed judged (take limit bytes) (is_all end)) mid new → IsMemory job limit old new
+  memory_after : WroteFront (report_of_closed judged (take limit bytes) (is_all end)) mid new → IsMemory run limit old new
   memory_after w = record {
     text = of_verdict _ _ (mid.left Events) judged bytes (λ v e. MemoryText v limit e old new) r.accept r.events
         (λ rest e. let here = report_front judged limit bytes rest end (place r rest e) in
@@ -270,9 +307,9 @@ module _ {job : Job} {limit : ℕ} {judged : Judged} {bytes : List ℕ} {end : E
     no_events = λ e. absurd (let wrong : true ≡ false = sym e ∙ r.there.events in cc);
   }
 
-done_after : {job : Job} {limit : ℕ} {judged : Judged} {bytes : List ℕ} {old mid new : Told} → IsReady job limit judged bytes Whole old mid
-    → refused_in judged (take limit bytes) true ≡ None → Wrote (report_of_closed judged (take limit bytes) true) mid new → SameButOutput mid new → IsDone job limit old new
-done_after {job} {limit} {judged} {bytes} {old} {mid} {new} r none w same = record {
+done_after : {run : Run} {limit : ℕ} {judged : Judged} {bytes : List ℕ} {old mid new : Told} → IsReady run limit judged bytes Whole old mid
+    → refused_in judged (take limit bytes) true ≡ None → Wrote (report_of_closed judged (take limit bytes) true) mid new → SameButOutput mid new → IsDone run limit old new
+done_after {run} {limit} {judged} {bytes} {old} {mid} {new} r none w same = record {
   there = r.there;
   text = of_both _ _ (mid.left Events) judged bytes
       (λ c e. (length e ≤ limit) × (refused_in c e true ≡ None) × Wrote (report_of_heard c e true) old new) r.accept r.events
@@ -287,9 +324,9 @@ done_after {job} {limit} {judged} {bytes} {old} {mid} {new} r none w same = reco
   ended = subst (λ f. IfSome (f Events) (λ rest. rest ≡ [])) (sym same.left) r.ends.1;
 }
 
-too_much_after : {job : Job} {limit : ℕ} {judged : Judged} {bytes : List ℕ} {old mid new : Told} → IsReady job limit judged bytes More old mid
-    → refused_in judged (take limit bytes) false ≡ None → Wrote (report_of_closed judged (take limit bytes) false) mid new → IsTooMuch job limit old new
-too_much_after {job} {limit} {judged} {bytes} {old} {mid} {new} r none w = record {
+too_much_after : {run : Run} {limit : ℕ} {judged : Judged} {bytes : List ℕ} {old mid new : Told} → IsReady run limit judged bytes More old mid
+    → refused_in judged (take limit bytes) false ≡ None → Wrote (report_of_closed judged (take limit bytes) false) mid new → IsTooMuch run limit old new
+too_much_after {run} {limit} {judged} {bytes} {old} {mid} {new} r none w = record {
   there = r.there;
   text = of_both _ _ (mid.left Events) judged bytes
       (λ c e. (limit < length e) × (refused_in c (take limit e) false ≡ None) × Wrote (report_of_closed c (take limit e) false) old new) r.accept r.events
@@ -304,9 +341,9 @@ too_much_after {job} {limit} {judged} {bytes} {old} {mid} {new} r none w = recor
       ));
 }
 
-read_fault_after : {job : Job} {limit : ℕ} {judged : Judged} {bytes : List ℕ} {old mid new : Told} → IsReady job limit judged bytes Failed old mid
-    → refused_in judged (take limit bytes) false ≡ None → Wrote (report_of_closed judged (take limit bytes) false) mid new → SameButOutput mid new → IsReadFault Events job limit old new
-read_fault_after {job} {limit} {judged} {bytes} {old} {mid} {new} r none w same = record {
+read_fault_after : {run : Run} {limit : ℕ} {judged : Judged} {bytes : List ℕ} {old mid new : Told} → IsReady run limit judged bytes Failed old mid
+    → refused_in judged (take limit bytes) false ≡ None → Wrote (report_of_closed judged (take limit bytes) false) mid new → SameButOutput mid new → IsReadFault Events run limit old new
+read_fault_after {run} {limit} {judged} {bytes} {old} {mid} {new} r none w same = record {
   cause = subst (λ n. Rose old.read_faults n) (sym same.read_faults) r.ends.1;
   attached = ap (λ f. f Events) same.attached ∙ r.events_attached;
   queries = λ e. cc;
@@ -327,22 +364,22 @@ read_fault_after {job} {limit} {judged} {bytes} {old} {mid} {new} r none w same 
 }
 
 -- the outcome, by the status
-pub run_finishes : (job : Job) (limit : ℕ) (judged : Judged) (bytes : List ℕ) (end : End) (old mid new : Told) (status : Status) → IsReady job limit judged bytes end old mid
-    → Finishes judged bytes end limit mid new status → SameButOutput mid new → Outcome (Some job) limit old new status
-run_finishes job limit judged bytes end old mid new Done r f kept =
+pub run_finishes : (run : Run) (limit : ℕ) (judged : Judged) (bytes : List ℕ) (end : End) (old mid new : Told) (status : Status) → IsReady run limit judged bytes end old mid
+    → Finishes judged bytes end limit mid new status → SameButOutput mid new → RunOutcome run limit old new status
+run_finishes run limit judged bytes end old mid new Done r f kept =
     let here = subst (λ k. (refused_in judged (take limit bytes) (is_all k) ≡ None) × Wrote (report_of_closed judged (take limit bytes) (is_all k)) mid new) f.0 f.1 in
-    done_after (subst (λ k. IsReady job limit judged bytes k old mid) f.0 r) here.0 here.1 kept
-run_finishes job limit judged bytes end old mid new Usage r f kept = f
-run_finishes job limit judged bytes end old mid new (BadQuery line why) r f kept = absurd f
-run_finishes job limit judged bytes end old mid new (Cycle names) r f kept = absurd f
-run_finishes job limit judged bytes end old mid new (BadEvent line why) r f kept = refused_after r (HasFault line why) f
-run_finishes job limit judged bytes end old mid new (OutOfOrder line at seen) r f kept = refused_after r (IsOutOfOrder line at seen) f
-run_finishes job limit judged bytes end old mid new (AttachFault side) r f kept = absurd f
-run_finishes job limit judged bytes end old mid new (ReadFault side) r f kept =
+    done_after (subst (λ k. IsReady run limit judged bytes k old mid) f.0 r) here.0 here.1 kept
+run_finishes run limit judged bytes end old mid new Usage r f kept = f
+run_finishes run limit judged bytes end old mid new (BadQuery line why) r f kept = absurd f
+run_finishes run limit judged bytes end old mid new (Cycle names) r f kept = absurd f
+run_finishes run limit judged bytes end old mid new (BadEvent line why) r f kept = refused_after r (HasFault line why) f
+run_finishes run limit judged bytes end old mid new (OutOfOrder line at seen) r f kept = refused_after r (IsOutOfOrder line at seen) f
+run_finishes run limit judged bytes end old mid new (AttachFault side) r f kept = absurd f
+run_finishes run limit judged bytes end old mid new (ReadFault side) r f kept =
     let here = subst (λ k. (refused_in judged (take limit bytes) (is_all k) ≡ None) × Wrote (report_of_closed judged (take limit bytes) (is_all k)) mid new) f.1 f.2 in
-    subst (λ k. IsReadFault k job limit old new) (sym f.0) (read_fault_after (subst (λ k. IsReady job limit judged bytes k old mid) f.1 r) here.0 here.1 kept)
-run_finishes job limit judged bytes end old mid new WriteFault r f kept = write_fault_after r f.0 f.1
-run_finishes job limit judged bytes end old mid new (TooMuch most) r f kept =
+    subst (λ k. IsReadFault k run limit old new) (sym f.0) (read_fault_after (subst (λ k. IsReady run limit judged bytes k old mid) f.1 r) here.0 here.1 kept)
+run_finishes run limit judged bytes end old mid new WriteFault r f kept = write_fault_after r f.0 f.1
+run_finishes run limit judged bytes end old mid new (TooMuch most) r f kept =
     let here = subst (λ k. (refused_in judged (take limit bytes) (is_all k) ≡ None) × Wrote (report_of_closed judged (take limit bytes) (is_all k)) mid new) f.1 f.2 in
-    (f.0, too_much_after (subst (λ k. IsReady job limit judged bytes k old mid) f.1 r) here.0 here.1)
-run_finishes job limit judged bytes end old mid new Memory r f kept = memory_after r f
+    (f.0, too_much_after (subst (λ k. IsReady run limit judged bytes k old mid) f.1 r) here.0 here.1)
+run_finishes run limit judged bytes end old mid new Memory r f kept = memory_after r f

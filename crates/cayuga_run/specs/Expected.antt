@@ -7,7 +7,7 @@ use Rattle.monitor.specs.declared.refusal.Refusal.TheVariants.{HasFault, IsOutOf
 use Rattle.cayuga_run.specs.declared.status.Status.{Status}
 use Rattle.cayuga_run.specs.declared.status.Status.TheVariants.{Done, BadQuery, Cycle, BadEvent, OutOfOrder, AttachFault, ReadFault, WriteFault, TooMuch, Memory}
 use Rattle.catalogue.specs.Judgement.{Verdict, Accepted, Refused, Circle, Judges}
-use Rattle.cayuga_run.specs.Outcome.{is_whole}
+use Rattle.cayuga_run.specs.RunOutcome.{is_whole}
 use Rattle.cayuga_run.specs.Reports.{refused_in}
 
 -- a refused line decides; else whether the event text is within the limit
@@ -32,6 +32,16 @@ pub record IsExpected (limit : ℕ) (queries events : List ℕ) (status : Status
 -- they ask for at most one
 abbrev pub OneStatus : Type 0
 OneStatus = (limit : ℕ) (queries events : List ℕ) (status other : Status) → IsExpected limit queries events status → IsExpected limit queries events other → status ≡ other
+
+-- where a text about queries is asked for, a refused query text or a cycle in it decides; else the text is written
+abbrev pub expected_writing : Verdict → Status
+expected_writing (Accepted judged) = Done
+expected_writing (Refused line why) = BadQuery line why
+expected_writing (Circle names) = Cycle names
+
+-- the query text asks for the status
+abbrev pub IsExpectedWriting : List ℕ → Status → Type 0
+IsExpectedWriting queries status = (v : Verdict) → Judges queries v → status ≡ expected_writing v
 
 -- the status is the one that is asked for, unless the host failed or there was no memory
 abbrev pub IsExpectedOrFault : (Status → Type 0) → Status → Type 0

@@ -1,4 +1,4 @@
--- The last part of a run: the report of what was taken of the events is written. No public clause cites this module.
+-- The last part of a job: the report of what was taken of the events is written, or a text. No public clause cites this module.
 use Rattle.std.specs.Prelude.{◌≡◌, ℕ, List, Bool, true, false, take, None, Some}
 use Rattle.cay_host.specs.declared.side.Side.TheVariants.{Events}
 use Rattle.cay_host.specs.Faults.{Rose}
@@ -40,3 +40,9 @@ Finishes judged bytes end limit old new (OutOfOrder line at seen) = RefusesLine 
 Finishes judged bytes end limit old new WriteFault = Rose old.write_faults new.write_faults × WrotePart (report_of_closed judged (take limit bytes) (is_all end)) old new
 Finishes judged bytes end limit old new Memory = WroteFront (report_of_closed judged (take limit bytes) (is_all end)) old new
 Finishes judged bytes end limit old new other = ⊥
+
+-- a text was written, or a proper prefix of it
+abbrev pub WritesText : List ℕ → Told → Told → Status → Type 0
+WritesText text old new Done = Wrote text old new
+WritesText text old new WriteFault = Rose old.write_faults new.write_faults × WrotePart text old new
+WritesText text old new other = ⊥

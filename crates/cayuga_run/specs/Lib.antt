@@ -1,12 +1,16 @@
 pub mod Accepting
 pub mod Answers
+pub mod Begun
 pub mod Expected
 pub mod Finishing
 pub mod Laws
 pub mod Number
 pub mod Outcome
 pub mod QueryFailing
+pub mod Refusing
 pub mod Reports
+pub mod RunOutcome
 pub mod Taking
 pub mod Wording
-pub mod Words
+pub mod Works
+pub mod WritingOutcome

@@ -1,140 +1,18 @@
--- What a run has done, by its status.
-use Rattle.std.specs.Prelude.{◌≡◌, ℕ, ◌<◌, ◌≤◌, List, [], Bool, true, false, nat_le, length, take, Option, Some, None, IfSome}
-use Rattle.std.specs.Io.KnownBytes.{prepend_known}
-use Rattle.cay_host.specs.declared.side.Side.{Side}
-use Rattle.cay_host.specs.declared.side.Side.TheVariants.{Queries, Events}
-use Rattle.cay_host.specs.Faults.{Rose}
-use Rattle.cay_host.specs.Files.{file_of, lacks}
-use Rattle.cay_host.specs.Output.{Wrote, WrotePart, KeepsOutput}
+-- What a call has done, by the work and the status.
+use Rattle.std.specs.Prelude.{◌≡◌, ℕ}
 use Rattle.cay_host.specs.Told.{Told}
-use Rattle.catalogue.specs.declared.fault.QueryFault.{QueryFault}
-use Rattle.monitor.specs.declared.refusal.Refusal.{Refusal}
-use Rattle.monitor.specs.declared.refusal.Refusal.TheVariants.{HasFault, IsOutOfOrder}
 use Rattle.cayuga_run.specs.declared.status.Status.{Status}
-use Rattle.cayuga_run.specs.declared.status.Status.TheVariants.{Done, Usage, BadQuery, Cycle, BadEvent, OutOfOrder, AttachFault, ReadFault, WriteFault, TooMuch, Memory}
-use Rattle.catalogue.specs.Judgement.{Verdict, Accepted, Refused, Circle, Judges, Refuses, Circles}
-use Rattle.cayuga_run.specs.Accepting.{IsAccepted}
-use Rattle.monitor.specs.Owing.{WroteFront}
-use Rattle.cayuga_run.specs.Reports.{refused_in, report_of_closed, report_of_heard}
-use Rattle.cayuga_run.specs.Words.{Job, name_of}
+use Rattle.cayuga_run.specs.declared.status.Status.TheVariants.{Usage, Memory}
+use Rattle.cayuga_run.specs.RunOutcome.{RunOutcome}
+use Rattle.cayuga_run.specs.Works.{Work, ByWork}
+use Rattle.cayuga_run.specs.WritingOutcome.{WritingOutcome}
 
--- where the host tells the query file
-abbrev pub OfQueries : Job → Told → (List ℕ → Type 0) → Type 0
-OfQueries job old P = IfSome (file_of job.queries old.files) P
+-- nothing was done, since the words ask for nothing, or there was no memory for them
+abbrev pub DidNothing : Told → Told → Status → Type 0
+DidNothing old new Usage = new ≡ old
+DidNothing old new Memory = new ≡ old
+DidNothing old new other = ⊥
 
--- where the host tells both files
-abbrev pub OfFiles : Job → Told → (List ℕ → List ℕ → Type 0) → Type 0
-OfFiles job old P = IfSome (file_of job.queries old.files) (λ queries. IfSome (file_of job.events old.files) (λ events. P queries events))
-
--- the event text has at most so many bytes
-abbrev pub is_whole : ℕ → List ℕ → Bool
-is_whole limit events = nat_le (length events) limit
-
--- the host doesn't tell that a file of the job is absent
-pub record AreThere (job : Job) (old : Told) : Type 0 where
-  pub queries : lacks job.queries old.files ≡ false
-  pub events : lacks job.events old.files ≡ false
-
--- all events were heard, none was refused, and their report was written
-pub record IsDone (job : Job) (limit : ℕ) (old new : Told) : Type 0 where
-  pub there : AreThere job old
-  pub text : OfFiles job old (λ queries events. IsAccepted queries (λ judged.
-      (length events ≤ limit) × (refused_in judged events true ≡ None) × Wrote (report_of_heard judged events true) old new))
-  pub ended : IfSome (new.left Events) (λ rest. rest ≡ [])
-
--- the query text is refused at that line for that reason, and nothing was written
-pub record IsBadQuery (line : ℕ) (why : QueryFault) (job : Job) (old new : Told) : Type 0 where
-  pub there : lacks job.queries old.files ≡ false
-  pub refused : OfQueries job old (λ queries. Refuses queries line why)
-  pub silent : KeepsOutput old new
-
--- the queries of the text read one another in the circle of these names, and nothing was written
-pub record IsCycle (names : List (List ℕ)) (job : Job) (old new : Told) : Type 0 where
-  pub there : lacks job.queries old.files ≡ false
-  pub circles : OfQueries job old (λ queries. Circles queries names)
-  pub silent : KeepsOutput old new
-
--- that line of the event text, cut at the limit, is refused, and the report of the epochs closed before it was written
-pub record IsRefused (refusal : Refusal) (job : Job) (limit : ℕ) (old new : Told) : Type 0 where
-  pub there : AreThere job old
-  pub text : OfFiles job old (λ queries events. IsAccepted queries (λ judged.
-      (refused_in judged (take limit events) (is_whole limit events) ≡ Some refusal) × Wrote (report_of_closed judged (take limit events) (is_whole limit events)) old new))
-
--- there are more events than the limit, none up to it is refused, and the report of the epochs closed by then was written
-pub record IsTooMuch (job : Job) (limit : ℕ) (old new : Told) : Type 0 where
-  pub there : AreThere job old
-  pub text : OfFiles job old (λ queries events. IsAccepted queries (λ judged.
-      (limit < length events) × (refused_in judged (take limit events) false ≡ None) × Wrote (report_of_closed judged (take limit events) false) old new))
-
--- the side isn't attached, the one before it is, and the one after it isn't
-abbrev pub StoppedAt : Side → Told → Type 0
-StoppedAt Queries new = (new.attached Queries ≡ false) × (new.attached Events ≡ false)
-StoppedAt Events new = (new.attached Queries ≡ true) × (new.attached Events ≡ false)
-
--- the query text is there, and is accepted
-abbrev pub QueriesAccepted : Job → Told → Type 0
-QueriesAccepted job old = (lacks job.queries old.files ≡ false) × OfQueries job old (λ queries. IsAccepted queries (λ judged. Unit {0}))
-
--- the side couldn't be attached: the count of attach faults rose, or the host tells that it has no such file
-pub record IsAttachFault (side : Side) (job : Job) (old new : Told) : Type 0 where
-  pub cause : lacks (name_of job side) old.files ≡ false → Rose old.attach_faults new.attach_faults
-  pub stopped : StoppedAt side new
-  pub accepted : side ≡ Events → QueriesAccepted job old
-  pub silent : KeepsOutput old new
-
--- a read of the queries failed: nothing was attached or written after it
-pub record StoppedInQueries (job : Job) (old new : Told) : Type 0 where
-  pub there : lacks job.queries old.files ≡ false
-  pub events : new.attached Events ≡ false
-  pub silent : KeepsOutput old new
-
--- a read of the events failed: no line of the bytes that were taken is refused, and the report of the epochs that they close was written
-pub record StoppedInEvents (job : Job) (limit : ℕ) (old new : Told) : Type 0 where
-  pub there : AreThere job old
-  pub text : OfFiles job old (λ queries events. IsAccepted queries (λ judged. (taken : List ℕ)
-      × (Some events ≡ prepend_known taken (new.left Events)) × (length taken ≤ limit) × (refused_in judged taken false ≡ None) × Wrote (report_of_closed judged taken false) old new))
-
--- the count of read faults rose, and the side whose read failed is attached
-pub record IsReadFault (side : Side) (job : Job) (limit : ℕ) (old new : Told) : Type 0 where
-  pub cause : Rose old.read_faults new.read_faults
-  pub attached : new.attached side ≡ true
-  pub queries : side ≡ Queries → StoppedInQueries job old new
-  pub events : side ≡ Events → StoppedInEvents job limit old new
-
--- the count of write faults rose, and a proper prefix of the report of the closed epochs was written
-pub record IsWriteFault (job : Job) (limit : ℕ) (old new : Told) : Type 0 where
-  pub cause : Rose old.write_faults new.write_faults
-  pub there : AreThere job old
-  pub text : OfFiles job old (λ queries events. IsAccepted queries (λ judged. WrotePart (report_of_closed judged (take limit events) (is_whole limit events)) old new))
-
--- what was written before memory was wanting: a front of the report of the closed epochs, and nothing where the query text is refused
-abbrev pub MemoryText : Verdict → ℕ → List ℕ → Told → Told → Type 0
-MemoryText (Accepted judged) limit events old new = WroteFront (report_of_closed judged (take limit events) (is_whole limit events)) old new
-MemoryText (Refused line why) limit events old new = KeepsOutput old new
-MemoryText (Circle names) limit events old new = KeepsOutput old new
-
--- there was no memory; nothing was written where a file of the job is absent or the query text is refused
-pub record IsMemory (job : Job) (limit : ℕ) (old new : Told) : Type 0 where
-  pub text : OfFiles job old (λ queries events. (v : Verdict) → Judges queries v → MemoryText v limit events old new)
-  pub no_queries : lacks job.queries old.files ≡ true → KeepsOutput old new
-  pub no_events : lacks job.events old.files ≡ true → KeepsOutput old new
-
--- the table of the statuses
-abbrev pub Outcome : Option Job → ℕ → Told → Told → Status → Type 0
-Outcome (Some job) limit old new Done = IsDone job limit old new
-Outcome None limit old new Usage = new ≡ old
-Outcome (Some job) limit old new (BadQuery line why) = IsBadQuery line why job old new
-Outcome (Some job) limit old new (Cycle names) = IsCycle names job old new
-Outcome (Some job) limit old new (BadEvent line why) = IsRefused (HasFault line why) job limit old new
-Outcome (Some job) limit old new (OutOfOrder line at seen) = IsRefused (IsOutOfOrder line at seen) job limit old new
-Outcome (Some job) limit old new (AttachFault side) = IsAttachFault side job old new
-Outcome (Some job) limit old new (ReadFault side) = IsReadFault side job limit old new
-Outcome (Some job) limit old new WriteFault = IsWriteFault job limit old new
-Outcome (Some job) limit old new (TooMuch most) = (most ≡ limit) × IsTooMuch job limit old new
-Outcome (Some job) limit old new Memory = IsMemory job limit old new
-Outcome other limit old new status = ⊥
-
--- in a run of a job
-abbrev pub ForJob : Option Job → (Job → Type 0) → Type 0
-ForJob None P = ⊥
-ForJob (Some job) P = P job
+-- the table of the statuses of the work
+abbrev pub Outcome : Work → ℕ → Told → Told → Status → Type 0
+Outcome work limit old new status = ByWork work (DidNothing old new status) (λ run. RunOutcome run limit old new status) (λ writing. WritingOutcome writing old new status)

@@ -1,8 +1,9 @@
-//! The run of queries over events: what the words ask for, the reading of both files, and the report.
+//! The jobs of the program: what the words ask for, the reading of the files, and what is written.
 //!
 //! Contracts see a `Status` as itself, a host by what it tells, and words and texts as their bytes.
 #![tactic(auto)]
 
+mod accepting;
 mod laws;
 mod run;
 mod status;
@@ -10,6 +11,7 @@ mod taking;
 mod top;
 mod watching;
 mod wording;
+mod writing;
 
 pub use catalogue::QueryFault;
 pub use event_csv::LineFault;

@@ -1,24 +1,19 @@
 //! The run of the queries of one file over the events of another.
-ghost use Rattle.std.specs.Prelude.{◌≡◌, false, true, Some, take, IfOk, IfErr, IfSome};
+ghost use Rattle.std.specs.Prelude.{◌≡◌, false, take};
 ghost use Rattle.cay_host.specs.declared.side.Side.TheVariants.{Queries, Events};
-ghost use Rattle.cay_host.specs.Input.{SameButRead};
 ghost use Rattle.cay_host.specs.Output.{SameButOutput};
 ghost use Rattle.catalogue.specs.Catalogued.{judged_of};
-ghost use Rattle.catalogue.specs.Judgement.{Accepts};
 ghost use Rattle.cayuga_run.specs.Finishing.{Finishes, is_all};
-ghost use Rattle.cayuga_run.specs.Outcome.{Outcome};
-ghost use Rattle.cayuga_run.specs.QueryFailing.{QueriesFail, TextFails};
+ghost use Rattle.cayuga_run.specs.RunOutcome.{RunOutcome};
 
+use crate::accepting::accept;
 use crate::status::Status;
 use crate::taking::{End, Taken, take_side};
 use crate::watching::watch;
-use catalogue::{Catalogue, LoadFault, load};
+use catalogue::Catalogue;
 use cay_host::{Host, Ledger, Side, Steps};
 use monitor::{Ended, Refusal};
 use std::alloc::Global;
-
-/// The most bytes of a query text.
-const MOST_QUERY_BYTES: u64 = 1_048_576;
 
 /// Runs the queries over the events.
 pub fn run<H: Host, L: Ledger>(
@@ -31,12 +26,9 @@ pub fn run<H: Host, L: Ledger>(
 ) -> Status
     requires queries { (H.told host.old).attached Queries ≡ false }
     requires events { (H.told host.old).attached Events ≡ false }
-    ensures { Outcome (Some (record { queries = queries.now; events = events.now })) limit (H.told host.old) (H.told host.new) result }
+    ensures { RunOutcome (record { queries = queries.now; events = events.now }) limit (H.told host.old) (H.told host.new) result }
 {
-    if host.attach(Side::Queries, queries).is_err() {
-        return Status::AttachFault(Side::Queries);
-    }
-    let catalogue = match take_queries(alloc, host) {
+    let catalogue = match accept(alloc, host, queries) {
         Ok(catalogue) => catalogue,
         Err(status) => return status,
     };
@@ -47,36 +39,6 @@ pub fn run<H: Host, L: Ledger>(
         return Status::Memory;
     };
     finish(alloc, host, &catalogue, &taken, limit, steps)
-}
-
-// Reads the queries and judges them.
-fn take_queries<H: Host>(alloc: Global, host: &mut H) -> Result<Catalogue, Status>
-    requires { (H.told host.old).attached Queries ≡ true }
-    ensures accepted { IfOk result (λ catalogue. IfSome ((H.told host.old).left Queries) (λ text. Accepts text (judged_of catalogue))) }
-    ensures fails { IfErr result (QueriesFail (H.told host.old) (H.told host.new)) }
-    ensures same { SameButRead Queries (H.told host.old) (H.told host.new) }
-{
-    match take_side(alloc, host, Side::Queries, MOST_QUERY_BYTES) {
-        Err(_) => Err(Status::Memory),
-        Ok(text) => match text.end {
-            End::Failed => Err(Status::ReadFault(Side::Queries)),
-            End::Whole => judge_text(alloc, &text.bytes),
-            End::More => judge_text(alloc, &text.bytes),
-        },
-    }
-}
-
-// Judges the bytes of the queries.
-fn judge_text(alloc: Global, text: &[u8]) -> Result<Catalogue, Status>
-    ensures accepted { IfOk result (λ catalogue. Accepts text.now (judged_of catalogue)) }
-    ensures fails { IfErr result (TextFails text.now) }
-{
-    match load(alloc, text) {
-        Ok(catalogue) => Ok(catalogue),
-        Err(LoadFault::Bad { line, why }) => Err(Status::BadQuery { line, why }),
-        Err(LoadFault::Cycle(names)) => Err(Status::Cycle(names)),
-        Err(LoadFault::Memory) => Err(Status::Memory),
-    }
 }
 
 // Writes the report of what was taken of the events.

@@ -1,20 +1,25 @@
 //! The top call.
-ghost use Rattle.std.specs.Prelude.{◌^◌};
+ghost use Rattle.std.specs.Prelude.{◌≡◌, ◌^◌, false, Some};
+ghost use Rattle.cay_host.specs.declared.side.Side.{Side};
 ghost use Rattle.cay_host.specs.Told.{IsFree};
+ghost use Rattle.command_words.specs.Table.{job, texts_of};
 ghost use Rattle.cayuga_run.specs.Answers.{Answers};
 ghost use Rattle.cayuga_run.specs.Outcome.{Outcome};
-ghost use Rattle.cayuga_run.specs.Words.{job_of, texts_of};
+ghost use Rattle.cayuga_run.specs.Works.{has_side, work_of};
 
 use crate::run::run;
 use crate::status::Status;
+use crate::writing::{check, plan};
 use cay_host::{Host, Ledger, Steps};
+use command_words::{Job, job_of};
 use std::alloc::Global;
 
 /// The most bytes of an event text that the program takes: 2^40.
 const MOST_EVENT_BYTES: u64 = 1 << 40;
 
-/// Does what the words after the program's name ask for: `run QUERIES EVENTS` writes the report of the
-/// queries over the events, of which at most 2^40 bytes are taken.
+/// Does what the words after the program's name ask for. `run QUERIES EVENTS` writes the report of the
+/// queries over the events, of which at most 2^40 bytes are taken. `check QUERIES` writes the canonical
+/// text of the queries, and `plan QUERIES` what each of them publishes and reads.
 pub fn cayuga<H: Host, L: Ledger>(
     alloc: Global,
     host: &mut H,
@@ -22,7 +27,7 @@ pub fn cayuga<H: Host, L: Ledger>(
     steps: &mut Steps<L>,
 ) -> Status
     requires { IsFree (H.told host.old) }
-    ensures { Answers (job_of (texts_of words.now)) (2 ^ 40) (H.told host.old) (H.told host.new) result }
+    ensures { Answers (work_of (job (texts_of words.now))) (2 ^ 40) (H.told host.old) (H.told host.new) result }
 {
     cayuga_within(alloc, host, words, MOST_EVENT_BYTES, steps)
 }
@@ -36,13 +41,13 @@ pub fn cayuga_within<H: Host, L: Ledger>(
     steps: &mut Steps<L>,
 ) -> Status
     requires { IsFree (H.told host.old) }
-    ensures { Answers (job_of (texts_of words.now)) limit (H.told host.old) (H.told host.new) result }
+    ensures { Answers (work_of (job (texts_of words.now))) limit (H.told host.old) (H.told host.new) result }
 {
-    do_job(alloc, host, words, limit, steps)
+    do_words(alloc, host, words, limit, steps)
 }
 
 // The same, by the table of the statuses.
-fn do_job<H: Host, L: Ledger>(
+fn do_words<H: Host, L: Ledger>(
     alloc: Global,
     host: &mut H,
     words: &[&str],
@@ -50,16 +55,35 @@ fn do_job<H: Host, L: Ledger>(
     steps: &mut Steps<L>,
 ) -> Status
     requires { IsFree (H.told host.old) }
-    ensures { Outcome (job_of (texts_of words.now)) limit (H.told host.old) (H.told host.new) result }
+    ensures outcome { Outcome (work_of (job (texts_of words.now))) limit (H.told host.old) (H.told host.new) result }
+    ensures sides { (side : Side) → has_side (work_of (job (texts_of words.now))) side ≡ false → (H.told host.new).attached side ≡ false }
 {
-    match words {
-        [word, queries, events] => {
-            if *word == "run" {
-                run(alloc, host, queries, events, limit, steps)
-            } else {
-                Status::Usage
-            }
+    match job_of(alloc, words) {
+        Ok(Some(job)) => do_job(alloc, host, &job, limit, steps),
+        Ok(None) => Status::Usage,
+        Err(_) => Status::Memory,
+    }
+}
+
+// Does a job.
+fn do_job<H: Host, L: Ledger>(
+    alloc: Global,
+    host: &mut H,
+    job: &Job,
+    limit: u64,
+    steps: &mut Steps<L>,
+) -> Status
+    requires { IsFree (H.told host.old) }
+    ensures outcome { Outcome (work_of (Some job.now)) limit (H.told host.old) (H.told host.new) result }
+    ensures sides { (side : Side) → has_side (work_of (Some job.now)) side ≡ false → (H.told host.new).attached side ≡ false }
+{
+    match job {
+        Job::Run { queries, events } => {
+            let queries = queries.as_str();
+            let events = events.as_str();
+            run(alloc, host, queries, events, limit, steps)
         }
-        _ => Status::Usage,
+        Job::Check { queries } => check(alloc, host, queries.as_str()),
+        Job::Plan { queries } => plan(alloc, host, queries.as_str()),
     }
 }

@@ -1,41 +1,26 @@
 use Rattle.std.proofs.Common.{rules}
-use Rattle.cay_host.specs.declared.side.Side.TheVariants.{Queries}
 use Rattle.cay_host.specs.Files.{file_of}
 use Rattle.catalogue.specs.Catalogued.{judged_of}
-use Rattle.cayuga_run.specs.Words.{Job}
-use Rattle.cayuga_run.proofs.RunLemmas.{HasQueries, accepted_file, is_accepted, memory_silent, queries_fail, run_finishes}
+use Rattle.cayuga_run.specs.Works.{Run}
+use Rattle.cayuga_run.proofs.RunLemmas.{is_accepted, memory_silent, run_fails, run_finishes}
 use Rattle.cayuga_run.proofs.run.run.Goals as goal
 
 -- the queries weren't accepted
 pub returns-in-Err : goal.returns-in-Err
 returns-in-Err g c =
     let told = g.H.Host.told in
-    let job : Job = record { queries = c.args.queries.now; events = c.args.events.now } in
-    let old = told c.args.host.now in
-    let mid = told c.attach.new.self in
-    let has : HasQueries job old mid = record {
-      there = search rules;
-      text = search rules;
-      attached = search rules;
-      events = search rules;
-      read_faults = search rules;
-      silent = record { written = search rules; lines = search rules };
-    } in
-    queries_fail job c.args.limit old mid (told c.take_queries.new.host) c.in-Err.status has c.in-Err.ensures.fails c.take_queries.ensures.same
+    let run : Run = record { queries = c.args.queries.now; events = c.args.events.now } in
+    run_fails run c.args.limit (told c.args.host.now) (told c.accept.new.host) c.in-Err.status c.in-Err.ensures.fails
 
 -- the events couldn't be attached
-pub returns-then-is_err-2 : goal.returns-then-is_err-2
-returns-then-is_err-2 g c =
-    let told = g.H.Host.told in
-    let job : Job = record { queries = c.args.queries.now; events = c.args.events.now } in
-    let old = told c.args.host.now in
-    let mid = told c.attach.new.self in
-    let judged = judged_of c.in-Ok.catalogue in
-    let accepted = is_accepted (file_of job.queries old.files) judged (accepted_file (mid.left Queries) (file_of job.queries old.files) judged (search rules) c.in-Ok.ensures.accepted) in
+pub returns-then-is_err : goal.returns-then-is_err
+returns-then-is_err g c =
+    let old = g.H.Host.told c.args.host.now in
+    let accepted = c.in-Ok.ensures.accepted in
     record {
       cause = search rules;
       stopped = search rules;
-      accepted = λ e. (search rules, accepted);
+      accepted = λ e. (search rules, is_accepted (file_of c.args.queries.now old.files) (judged_of c.in-Ok.catalogue) accepted.accepts);
       silent = record { written = search rules; lines = search rules };
     }
 
@@ -47,15 +32,14 @@ returns-in_default g c = memory_silent _ _ _ _ (record { written = search rules;
 pub returns : goal.returns
 returns g c =
     let told = g.H.Host.told in
-    let job : Job = record { queries = c.args.queries.now; events = c.args.events.now } in
+    let run : Run = record { queries = c.args.queries.now; events = c.args.events.now } in
     let old = told c.args.host.now in
-    let mid = told c.attach.new.self in
-    let judged = judged_of c.in-Ok.catalogue in
+    let accepted = c.in-Ok.ensures.accepted in
     let taken = c.in-Ok-take_side.taken in
-    run_finishes job c.args.limit judged taken.bytes.items taken.end old (told c.take_side.new.host) (told c.finish.new.host) c.finish.result
+    run_finishes run c.args.limit (judged_of c.in-Ok.catalogue) taken.bytes.items taken.end old (told c.take_side.new.host) (told c.finish.new.host) c.finish.result
     (record {
-      accept = accepted_file (mid.left Queries) (file_of job.queries old.files) judged (search rules) c.in-Ok.ensures.accepted;
-      there = record { queries = search rules; events = search rules };
+      accept = accepted.accepts;
+      there = record { queries = accepted.there; events = search rules };
       events = search rules;
       ends = search rules;
       queries_attached = search rules;

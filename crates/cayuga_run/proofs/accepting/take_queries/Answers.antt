@@ -5,7 +5,7 @@ use Rattle.catalogue.specs.Catalogued.{judged_of}
 use Rattle.catalogue.specs.Judgement.{Accepted, Accepts, Judges, Verdict}
 use Rattle.cayuga_run.specs.QueryFailing.{QueriesFail, TextFails}
 use Rattle.cayuga_run.proofs.RunLemmas.{judged_whole, judged_past, text_fails}
-use Rattle.cayuga_run.proofs.run.take_queries.Goals as goal
+use Rattle.cayuga_run.proofs.accepting.take_queries.Goals as goal
 
 -- all of the queries was read and accepted
 pub returns-in-Whole-clause-accepted : goal.returns-in-Whole-clause-accepted

@@ -1,0 +1,52 @@
+use Rattle.std.proofs.Common.{rules, IfSome}
+use Rattle.std.proofs.lemmas.Result.{IfOk-weaker, IfErr-weaker}
+use Rattle.cay_host.specs.declared.side.Side.TheVariants.{Queries}
+use Rattle.catalogue.specs.Catalogued.{judged_of}
+use Rattle.catalogue.specs.Judgement.{Accepts}
+use Rattle.cayuga_run.specs.Begun.{HasAccepted}
+use Rattle.cayuga_run.specs.QueryFailing.{QueriesFail}
+use Rattle.cayuga_run.specs.Refusing.{AreNotAccepted}
+use Rattle.cayuga_run.proofs.RunLemmas.{HasQueries, queries_accepted, queries_fail}
+use Rattle.cayuga_run.proofs.accepting.accept.Goals as goal
+
+-- the queries are attached, and their text is accepted
+pub returns-clause-accepted : goal.returns-clause-accepted
+returns-clause-accepted g c =
+    let told = g.H.Host.told in
+    let queries = c.args.queries.now in
+    let old = told c.args.host.now in
+    let mid = told c.attach.new.self in
+    let has : HasQueries queries old mid = record {
+      there = search rules;
+      text = search rules;
+      attached = search rules;
+      events = search rules;
+      attach_faults = search rules;
+      read_faults = search rules;
+      write_faults = search rules;
+      files = search rules;
+      silent = record { written = search rules; lines = search rules };
+    } in
+    IfOk-weaker c.take_queries.result (λ catalogue. IfSome (mid.left Queries) (λ text. Accepts text (judged_of catalogue))) (λ catalogue. HasAccepted queries (judged_of catalogue) old (told c.take_queries.new.host))
+    (λ catalogue accepts. queries_accepted queries (judged_of catalogue) old mid (told c.take_queries.new.host) has c.take_queries.ensures.same accepts) c.take_queries.ensures.accepted
+
+-- the queries are attached, and weren't accepted
+pub returns-clause-fails : goal.returns-clause-fails
+returns-clause-fails g c =
+    let told = g.H.Host.told in
+    let queries = c.args.queries.now in
+    let old = told c.args.host.now in
+    let mid = told c.attach.new.self in
+    let has : HasQueries queries old mid = record {
+      there = search rules;
+      text = search rules;
+      attached = search rules;
+      events = search rules;
+      attach_faults = search rules;
+      read_faults = search rules;
+      write_faults = search rules;
+      files = search rules;
+      silent = record { written = search rules; lines = search rules };
+    } in
+    IfErr-weaker c.take_queries.result (QueriesFail mid (told c.take_queries.new.host)) (AreNotAccepted queries old (told c.take_queries.new.host))
+    (λ status fails. queries_fail queries old mid (told c.take_queries.new.host) status has c.take_queries.ensures.same fails) c.take_queries.ensures.fails

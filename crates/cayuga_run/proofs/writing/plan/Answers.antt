@@ -1,0 +1,21 @@
+use Rattle.std.proofs.Common.{◌∙◌}
+use Rattle.catalogue.specs.Catalogued.{judged_of}
+use Rattle.cayuga_run.specs.Works.{Writing}
+use Rattle.plan_text.specs.Plan.{plan_of}
+use Rattle.cayuga_run.proofs.WritingLemmas.{writing_ends, writing_fails}
+use Rattle.cayuga_run.proofs.writing.plan.Goals as goal
+
+-- the queries weren't accepted
+pub returns-clause-outcome : goal.returns-clause-outcome
+returns-clause-outcome g c =
+    let told = g.H.Host.told in
+    let writing : Writing = record { queries = c.args.queries.now; text_of = plan_of } in
+    writing_fails writing (told c.args.host.now) (told c.accept.new.host) c.in-Err.status c.in-Err.ensures.fails
+
+-- the text was written
+pub returns-in-Ok-plan-clause-outcome : goal.returns-in-Ok-plan-clause-outcome
+returns-in-Ok-plan-clause-outcome g c =
+    let told = g.H.Host.told in
+    let writing : Writing = record { queries = c.args.queries.now; text_of = plan_of } in
+    writing_ends writing (judged_of c.in-Ok.catalogue) _ (told c.args.host.now) (told c.accept.new.host) (told c.write_text.new.host) c.write_text.result
+    c.in-Ok.ensures.accepted (c.as_str.ensures ∙ c.in-Ok-plan.ensures) c.write_text.ensures.writes

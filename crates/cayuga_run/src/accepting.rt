@@ -1,0 +1,62 @@
+//! The queries of a file, attached, read and judged.
+ghost use Rattle.std.specs.Prelude.{◌≡◌, false, true, IfOk, IfErr, IfSome};
+ghost use Rattle.cay_host.specs.declared.side.Side.TheVariants.{Queries, Events};
+ghost use Rattle.cay_host.specs.Input.{SameButRead};
+ghost use Rattle.catalogue.specs.Catalogued.{judged_of};
+ghost use Rattle.catalogue.specs.Judgement.{Accepts};
+ghost use Rattle.cayuga_run.specs.Begun.{HasAccepted};
+ghost use Rattle.cayuga_run.specs.QueryFailing.{QueriesFail, TextFails};
+ghost use Rattle.cayuga_run.specs.Refusing.{AreNotAccepted};
+
+use crate::status::Status;
+use crate::taking::{End, take_side};
+use catalogue::{Catalogue, LoadFault, load};
+use cay_host::{Host, Side};
+use std::alloc::Global;
+
+/// The most bytes of a query text.
+const MOST_QUERY_BYTES: u64 = 1_048_576;
+
+/// Attaches the queries, reads them and judges them. The events stay unattached.
+pub fn accept<H: Host>(alloc: Global, host: &mut H, queries: &str) -> Result<Catalogue, Status>
+    requires queries { (H.told host.old).attached Queries ≡ false }
+    requires events { (H.told host.old).attached Events ≡ false }
+    ensures accepted { IfOk result (λ catalogue. HasAccepted queries.now (judged_of catalogue) (H.told host.old) (H.told host.new)) }
+    ensures fails { IfErr result (AreNotAccepted queries.now (H.told host.old) (H.told host.new)) }
+    ensures events { (H.told host.new).attached Events ≡ false }
+{
+    if host.attach(Side::Queries, queries).is_err() {
+        return Err(Status::AttachFault(Side::Queries));
+    }
+    take_queries(alloc, host)
+}
+
+// Reads the queries and judges them.
+fn take_queries<H: Host>(alloc: Global, host: &mut H) -> Result<Catalogue, Status>
+    requires { (H.told host.old).attached Queries ≡ true }
+    ensures accepted { IfOk result (λ catalogue. IfSome ((H.told host.old).left Queries) (λ text. Accepts text (judged_of catalogue))) }
+    ensures fails { IfErr result (QueriesFail (H.told host.old) (H.told host.new)) }
+    ensures same { SameButRead Queries (H.told host.old) (H.told host.new) }
+{
+    match take_side(alloc, host, Side::Queries, MOST_QUERY_BYTES) {
+        Err(_) => Err(Status::Memory),
+        Ok(text) => match text.end {
+            End::Failed => Err(Status::ReadFault(Side::Queries)),
+            End::Whole => judge_text(alloc, &text.bytes),
+            End::More => judge_text(alloc, &text.bytes),
+        },
+    }
+}
+
+// Judges the bytes of the queries.
+fn judge_text(alloc: Global, text: &[u8]) -> Result<Catalogue, Status>
+    ensures accepted { IfOk result (λ catalogue. Accepts text.now (judged_of catalogue)) }
+    ensures fails { IfErr result (TextFails text.now) }
+{
+    match load(alloc, text) {
+        Ok(catalogue) => Ok(catalogue),
+        Err(LoadFault::Bad { line, why }) => Err(Status::BadQuery { line, why }),
+        Err(LoadFault::Cycle(names)) => Err(Status::Cycle(names)),
+        Err(LoadFault::Memory) => Err(Status::Memory),
+    }
+}
