@@ -21,3 +21,6 @@ pub use line::{Hop, Hops, Line, Lines};
 pub use network::{End, Ends, Entry, Network, State};
 pub use step::{Stage, Step};
 pub use wait::{Turn, Wait};
+
+#[cfg(test)]
+mod tests;
