@@ -1,0 +1,11 @@
+pub mod ApartLemmas
+pub mod ChainLemmas
+pub mod GrowLemmas
+pub mod LawLemmas
+pub mod LeadLemmas
+pub mod LineLemmas
+pub mod OneLemmas
+pub mod RangeLemmas
+pub mod SplitLemmas
+pub mod StepLemmas
+pub mod WidthLemmas

@@ -1,0 +1,5 @@
+pub mod Chains
+pub mod Growing
+pub mod Laws
+pub mod Widths
+pub mod Work
