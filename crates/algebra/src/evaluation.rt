@@ -194,8 +194,8 @@ fn add_joined(
     Ok(())
 }
 
-// The values of both, from the start of the left tuple to the detection of the right one.
-fn join(alloc: Global, left: &Tuple, right: &Tuple) -> Result<Tuple, Memory>
+/// The values of both, from the start of the left tuple to the detection of the right one.
+pub fn join(alloc: Global, left: &Tuple, right: &Tuple) -> Result<Tuple, Memory>
     requires { left.now.at < right.now.from }
     ensures { IfOk result (λ tuple. tuple ≡ joined left.now right.now) }
 {
@@ -254,8 +254,8 @@ fn eligible_for<L: Ledger>(
     Ok(found)
 }
 
-// Whether the tuple is eligible for the binding.
-fn can_follow<L: Ledger>(
+/// Whether the tuple is eligible for the binding. Takes no memory.
+pub fn can_follow<L: Ledger>(
     condition: &Conj,
     binding: &Tuple,
     tuple: &Tuple,
@@ -391,8 +391,8 @@ fn passing<L: Ledger>(
     Ok(found)
 }
 
-// The new binding.
-fn rebind(alloc: Global, projection: &Map, binding: &Tuple, event: &Tuple) -> Result<Tuple, Memory>
+/// The new binding of an iteration.
+pub fn rebind(alloc: Global, projection: &Map, binding: &Tuple, event: &Tuple) -> Result<Tuple, Memory>
     requires later { binding.now.at < event.now.from }
     requires fits { All (λ s. Fits s event.now (Some binding.now)) projection.now.parts }
     ensures { IfOk result (λ tuple. tuple ≡ rebound projection.now.parts binding.now event.now) }

@@ -7,7 +7,7 @@ mod evaluation;
 mod expression;
 mod laws;
 
-pub use evaluation::evaluate;
+pub use evaluation::{can_follow, evaluate, join, rebind};
 pub use expression::{Env, Expr};
 pub use laws::{sound_streams_give_sound_tuples, typed_programs_suit, typed_suits};
 

@@ -1,0 +1,8 @@
+//! What tuples of one epoch become on their way: through steps, and at waits with the bindings there.
+#![tactic(auto)]
+
+mod passing;
+mod waiting;
+
+pub use passing::{add_passed, pass_on};
+pub use waiting::add_met;
