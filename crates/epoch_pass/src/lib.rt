@@ -2,7 +2,9 @@
 #![tactic(auto)]
 
 mod passing;
+mod stores;
 mod waiting;
 
 pub use passing::{add_passed, pass_on};
+pub use stores::{leaving, settle};
 pub use waiting::add_met;
