@@ -24,7 +24,7 @@ use Rattle.semantics.specs.Typing.{IsOfKind, IsTyped, AreTyped, AreOfKinds, Give
 use Rattle.algebra.proofs.ListLemmas.{All-flat_map}
 
 -- a binding of these kinds, where there is to be one
-abbrev BindingHasKinds : Option (List Kind) → Option Row → Type 0
+abbrev pub BindingHasKinds : Option (List Kind) → Option Row → Type 0
 BindingHasKinds None None = ⊤
 BindingHasKinds (Some ks) (Some b) = HasKinds ks b
 BindingHasKinds None (Some b) = ⊥
@@ -61,7 +61,7 @@ typed_test (Or p q) es bs e b h he hb = (typed_test p es bs e b h.0 he hb, typed
 typed_test (Not p) es bs e b h he hb = typed_test p es bs e b h he hb
 
 -- a typed condition fits
-typed_tests : (ps : List Pr) (es : List Kind) (bs : Option (List Kind)) (e : Row) (b : Option Row) → AreTyped ps es bs → HasKinds es e → BindingHasKinds bs b → AllFit ps e b
+pub typed_tests : (ps : List Pr) (es : List Kind) (bs : Option (List Kind)) (e : Row) (b : Option Row) → AreTyped ps es bs → HasKinds es e → BindingHasKinds bs b → AllFit ps e b
 typed_tests ps es bs e b h he hb = All-weaker (λ p. IsTyped p es bs) (λ p. PredFits p e b) (λ p hp. typed_test p es bs e b hp he hb) ps h
 
 -- it fits each tuple with the binding
@@ -69,14 +69,14 @@ typed_pairs : (ps : List Pr) (es bs : List Kind) (rs : List Row) (b : Row) → A
 typed_pairs ps es bs rs b h all hb = All-weaker (HasKinds es) (λ r. AllFit ps r (Some b)) (λ r hr. typed_tests ps es (Some bs) r (Some b) h hr hb) rs all
 
 -- scalars of these kinds fit
-typed_fits : (m : List Sc) (es : List Kind) (bs : Option (List Kind)) (ks : List Kind) (e : Row) (b : Option Row) → AreOfKinds m es bs ks → HasKinds es e → BindingHasKinds bs b → All (λ s. Fits s e b) m
+pub typed_fits : (m : List Sc) (es : List Kind) (bs : Option (List Kind)) (ks : List Kind) (e : Row) (b : Option Row) → AreOfKinds m es bs ks → HasKinds es e → BindingHasKinds bs b → All (λ s. Fits s e b) m
 typed_fits [] es bs [] e b h he hb = All-nil _
 typed_fits [] es bs (k ∷ ks) e b h he hb = All-nil _
 typed_fits (s ∷ m) es bs [] e b h he hb = absurd h
 typed_fits (s ∷ m) es bs (k ∷ ks) e b h he hb = All-cons (λ s. Fits s e b) s m (typed_scalar s es bs k e b h.0 he hb).0 (typed_fits m es bs ks e b h.1 he hb)
 
 -- their values have these kinds
-typed_image : (m : List Sc) (es : List Kind) (bs : Option (List Kind)) (ks : List Kind) (e : Row) (b : Option Row) → AreOfKinds m es bs ks → HasKinds es e → BindingHasKinds bs b → map value_kind (map (λ s. val s e b) m) ≡ ks
+pub typed_image : (m : List Sc) (es : List Kind) (bs : Option (List Kind)) (ks : List Kind) (e : Row) (b : Option Row) → AreOfKinds m es bs ks → HasKinds es e → BindingHasKinds bs b → map value_kind (map (λ s. val s e b) m) ≡ ks
 typed_image [] es bs [] e b h he hb = refl
 typed_image [] es bs (k ∷ ks) e b h he hb = absurd h
 typed_image (s ∷ m) es bs [] e b h he hb = absurd h

@@ -1,3 +1,4 @@
 pub mod Lists
 pub mod Pairs
 pub mod StoreLemmas
+pub mod TypingLemmas

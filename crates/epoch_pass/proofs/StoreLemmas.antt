@@ -11,7 +11,7 @@ use Rattle.instances.specs.declared.instance.Instance.{Instance}
 use Rattle.semantics.specs.Nexts.{is_eligible}
 use Rattle.semantics.specs.Scalars.{Pr}
 use Rattle.scalar_expr.proofs.Bags.{filter_permuted, permuted_from, permuted_to}
-use Rattle.scalar_expr.specs.Alive.{is_alive}
+use Rattle.instances.specs.Alive.{is_alive}
 use Rattle.automaton.specs.Steps.{pass}
 use Rattle.automaton.specs.Waiting.{is_empty}
 use Rattle.automaton.specs.declared.wait.Turn.{Turn}

@@ -1,0 +1,10 @@
+pub mod CloseLemmas
+pub mod DeriveLemmas
+pub mod EngineLemmas
+pub mod FlowLemmas
+pub mod LeftLemmas
+pub mod Lists
+pub mod SettleLemmas
+pub mod StandsLemmas
+pub mod StateLemmas
+pub mod TableLemmas

@@ -1,0 +1,31 @@
+-- What the closing of an epoch makes of an engine.
+use Rattle.std.specs.Prelude.{◌≡◌, ℕ, ◌+◌, List, [], length, map, Some, None}
+use Rattle.event_types.specs.Order.{sorted}
+use Rattle.event_types.specs.Tuple.{Row}
+use Rattle.semantics.specs.Denotation.{Streams, streams_of}
+use Rattle.automaton.specs.States.{Net}
+use Rattle.automaton.specs.declared.layout.Layout.{Layout}
+use Rattle.epoch_laws.specs.Closing.{ArePurged, IsEpoch, Stores, stores_after}
+use Rattle.epoch_engine.specs.Views.{View, stores_in}
+
+-- the epoch of a time over stores and open tuples: its tuples `news` are those that were heard and derived, the batch has those of each printed stream in their order, and the stores are stepped through the epoch and purged for the next time
+pub record IsTaken (net : Net) (layout : Layout) (time : ℕ) (stores : Stores) (heard : Streams) (after : Stores) (batch : List (List Row)) : Type 0 where
+  pub news : Streams
+  pub epoch : IsEpoch net layout.order stores heard news
+  pub results : batch ≡ map (λ stream. sorted (news stream)) layout.outs
+  pub purged : ArePurged (time + 1) net (stores_after net news stores) after
+
+-- an engine closed its open epoch: the epoch was taken, no tuple is open, and its time is the last closed one
+pub record Closes (old new : View) (batch : List (List Row)) : Type 0 where
+  pub time : ℕ
+  pub was_open : old.time ≡ Some time
+  pub taken : IsTaken old.network old.layout time (stores_in old) (streams_of old.opened) (stores_in new) batch
+  pub emptied : (stream : ℕ) → streams_of new.opened stream ≡ []
+  pub as_many : length new.opened ≡ length old.opened
+  pub now_closed : new.closed ≡ Some time
+  pub none_open : new.time ≡ None
+
+-- the network and the layout are the same
+pub record KeepsPlan (old new : View) : Type 0 where
+  pub network : new.network ≡ old.network
+  pub layout : new.layout ≡ old.layout

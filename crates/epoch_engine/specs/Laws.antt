@@ -1,0 +1,36 @@
+-- Laws of engines over the histories for which they stand.
+use Rattle.std.specs.Prelude.{◌≡◌, ℕ, List, [], ◌∷◌, ◌++◌, map}
+use Rattle.event_types.specs.Order.{sorted}
+use Rattle.event_types.specs.Tuple.{Row, IsSound}
+use Rattle.semantics.specs.Histories.{Heard}
+use Rattle.automaton.specs.States.{Net}
+use Rattle.automaton.specs.declared.layout.Layout.{Layout}
+use Rattle.automaton.specs.declared.line.Line.{Line}
+use Rattle.epoch_laws.specs.Histories.{streams_over}
+use Rattle.epoch_laws.specs.Stands.{Serves}
+use Rattle.epoch_laws.specs.Times.{during}
+use Rattle.epoch_engine.specs.Closes.{Closes, KeepsPlan}
+use Rattle.epoch_engine.specs.Offers.{IsHeard, IsLate, IsNotAhead, with_tuple}
+use Rattle.epoch_engine.specs.StandsFor.{StandsFor}
+use Rattle.epoch_engine.specs.Starts.{IsNew}
+use Rattle.epoch_engine.specs.Views.{View}
+
+-- a new engine stands for the empty history
+abbrev pub NewStands : Type 0
+NewStands = (net : Net) (layout : Layout) (lines : List Line) (engine : View) → Serves net lines layout.order → IsNew net layout engine → StandsFor engine lines []
+
+-- an engine that took a tuple stands for the history with that event behind
+abbrev pub OfferedStands : Type 0
+OfferedStands =
+    (engine : View) (lines : List Line) (history : List Heard) (stream : ℕ) (tuple : Row) → StandsFor engine lines history → IsHeard engine.layout stream tuple → IsSound tuple → IsNotAhead engine.time tuple.at
+    → ((seen : ℕ) → IsLate engine.time engine.closed tuple.at seen → ⊥) → StandsFor (with_tuple engine stream tuple) lines (history ++ record { stream = stream; tuple = tuple } ∷ [])
+
+-- an engine that closed its epoch stands for the same history
+abbrev pub ClosedStands : Type 0
+ClosedStands = (old new : View) (lines : List Line) (history : List Heard) (batch : List (List Row)) → StandsFor old lines history → Closes old new batch → KeepsPlan old new → StandsFor new lines history
+
+-- the batch has for each printed stream exactly its tuples over the history that have the time of the epoch, in their order
+abbrev pub BatchIsStreams : Type 0
+BatchIsStreams =
+    (old new : View) (lines : List Line) (history : List Heard) (batch : List (List Row)) → StandsFor old lines history → (closes : Closes old new batch)
+    → batch ≡ map (λ stream. sorted (during closes.time (streams_over lines old.layout.order history stream))) old.layout.outs

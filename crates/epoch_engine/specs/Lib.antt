@@ -1,0 +1,14 @@
+pub mod Closes
+pub mod Deriving
+pub mod Flows
+pub mod Kindings
+pub mod Laws
+pub mod Offers
+pub mod Running
+pub mod Settling
+pub mod StandsFor
+pub mod Starts
+pub mod Tables
+pub mod Typed
+pub mod ViewCode
+pub mod Views

@@ -1,0 +1,163 @@
+//! The engine.
+ghost use Rattle.std.specs.Prelude.{◌≡◌, ℕ, false, true, IfNone, IfOk, IfSome, IsSome, IsTrue, OnErr, OnOk};
+ghost use Rattle.automaton.specs.NetworkLines.{NetworkFits};
+ghost use Rattle.epoch_engine.specs.Closes.{Closes, KeepsPlan};
+ghost use Rattle.epoch_engine.specs.Kindings.{AreStatesTyped};
+ghost use Rattle.epoch_engine.specs.Offers.{IsAnswer, IsHeard, IsLate, IsNotAhead, with_tuple};
+ghost use Rattle.epoch_engine.specs.Starts.{IsNew};
+
+use crate::batch::Batch;
+use crate::closing::take_epoch;
+use crate::fault::OfferFault;
+use crate::flow::{Lists, Stores};
+use crate::settling::empty_stores;
+use crate::tables::{Tables, empty_lists};
+use automaton::{Layout, Network};
+use cay_host::{Ledger, Steps};
+use event_types::{Memory, StreamId, Tuple};
+use std::alloc::Global;
+use std::marker::Model;
+
+/// The bindings that wait at the states of a network, and the tuples of the open epoch.
+#[derive(Drop)]
+pub struct Engine {
+    network: Network,
+    layout: Layout,
+    tables: Tables,
+    stores: Stores,
+    opened: Lists,
+    time: Option<u64>,
+    closed: Option<u64>,
+    intact: bool,
+}
+
+impl Model for Engine {
+    ghost use Rattle.epoch_engine.specs.Views.{View};
+
+    ghost Value = { View };
+
+    ghost use Rattle.epoch_engine.specs.ViewCode.{view_code};
+
+    ghost coded = { view_code };
+
+    ghost use Rattle.std.specs.Prelude.{IsTrue, map};
+    ghost use Rattle.epoch_engine.specs.Running.{IsRunning};
+    ghost use Rattle.epoch_engine.specs.Typed.{instances_in};
+
+    ghost view = { λ e. record { network = e.network; layout = e.layout; stores = map instances_in e.stores; opened = e.opened; time = e.time; closed = e.closed; intact = e.intact } };
+
+    ghost invariant = { λ e. IsTrue e.intact → IsRunning e.network e.layout e.tables e.stores e.opened };
+}
+
+impl Engine {
+    /// An engine over a network and a layout that fit it, which has heard nothing.
+    pub fn make(alloc: Global, network: Network, layout: Layout) -> Result<Engine, Memory>
+        requires fits { NetworkFits network layout }
+        requires typed { AreStatesTyped layout.kinds network }
+        ensures { IfOk result (λ engine. IsNew network layout engine) }
+    {
+        let tables = Tables::make(alloc, &network, layout.kinds.len())?;
+        let stores = empty_stores(alloc, &network)?;
+        let opened = empty_lists(alloc, layout.kinds.len())?;
+        Ok(Engine {
+            network,
+            layout,
+            tables,
+            stores,
+            opened,
+            time: None,
+            closed: None,
+            intact: true,
+        })
+    }
+
+    /// The open epoch.
+    pub fn open_time(&self) -> Option<u64>
+        ensures { result ≡ self.now.time }
+    {
+        self.time
+    }
+
+    /// Whether no closing has wanted memory.
+    pub fn intact(&self) -> bool
+        ensures { result ≡ self.now.intact }
+    {
+        self.intact
+    }
+
+    pub fn network(&self) -> &Network
+        ensures { result.now ≡ self.now.network }
+    {
+        &self.network
+    }
+
+    pub fn layout(&self) -> &Layout
+        ensures { result.now ≡ self.now.layout }
+    {
+        &self.layout
+    }
+
+    /// Takes a tuple of a declared stream. Its detection time opens an epoch where none is open.
+    pub fn offer(&mut self, stream: StreamId, tuple: Tuple) -> Result<(), OfferFault>
+        requires intact { IsTrue self.old.intact }
+        requires heard { IsHeard self.old.layout stream tuple }
+        requires in_time { IsNotAhead self.old.time tuple.at }
+        ensures answer { IsAnswer self.old tuple result }
+        ensures ok { OnOk result (self.new ≡ with_tuple self.old stream tuple) }
+        ensures kept { OnErr result (self.new ≡ self.old) }
+    {
+        let at = tuple.at();
+        match late(self.time, self.closed, at) {
+            Some(seen) => Err(OfferFault::OutOfOrder { at, seen, tuple }),
+            None => match self.opened.get_mut(stream).push(tuple) {
+                Ok(()) => {
+                    self.time = Some(at);
+                    Ok(())
+                }
+                Err(tuple) => Err(OfferFault::Memory { tuple }),
+            },
+        }
+    }
+
+    /// Closes the open epoch, and gives its results. After want of memory the engine isn't intact.
+    pub fn close<L: Ledger>(&mut self, alloc: Global, steps: &mut Steps<L>) -> Result<Batch, Memory>
+        requires intact { IsTrue self.old.intact }
+        requires opened { IsSome self.old.time }
+        ensures closed { IfOk result (λ batch. Closes self.old self.new batch) }
+        ensures plan { KeepsPlan self.old self.new }
+        ensures intact { OnOk result (self.new.intact ≡ true) }
+        ensures lost { OnErr result (self.new.intact ≡ false) }
+    {
+        let time = match self.time {
+            Some(time) => time,
+            None => unreachable!(),
+        };
+        self.intact = false;
+        let batch = take_epoch(
+            alloc,
+            &self.network,
+            &self.layout,
+            &self.tables,
+            &mut self.stores,
+            &mut self.opened,
+            time,
+            steps,
+        )?;
+        self.time = None;
+        self.closed = Some(time);
+        self.intact = true;
+        Ok(batch)
+    }
+}
+
+// The open epoch or the last closed time, where a detection time is late for it.
+fn late(time: Option<u64>, closed: Option<u64>, at: u64) -> Option<u64>
+    ensures late { IfSome result (λ seen. IsLate time closed at seen) }
+    ensures in_time { IfNone result ((seen : ℕ) → IsLate time closed at seen → ⊥) }
+{
+    match (time, closed) {
+        (Some(open), _) if at < open => Some(open),
+        (None, Some(last)) if at <= last => Some(last),
+        _ => None,
+    }
+}

@@ -1,0 +1,22 @@
+//! Laws of engines over the histories for which they stand.
+ghost use Rattle.epoch_engine.specs.Laws.{BatchIsStreams, ClosedStands, NewStands, OfferedStands};
+
+/// A new engine stands for the empty history.
+pub fn new_stands()
+    ensures { NewStands }
+{}
+
+/// An engine that took a tuple stands for the history with its event behind.
+pub fn offered_stands()
+    ensures { OfferedStands }
+{}
+
+/// An engine that closed its epoch stands for the same history, with no epoch open.
+pub fn closed_stands()
+    ensures { ClosedStands }
+{}
+
+/// The batch of an epoch has exactly what the printed streams have at its time over the history.
+pub fn batch_is_streams()
+    ensures { BatchIsStreams }
+{}

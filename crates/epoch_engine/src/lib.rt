@@ -1,0 +1,19 @@
+//! The engine, which keeps the bindings that wait and closes one epoch after another.
+//!
+//! Contracts see an `Engine` as its network and layout, the instances of each state, the open tuples of
+//! each stream, the open epoch and the last closed time (`View`).
+#![tactic(auto)]
+
+mod batch;
+mod closing;
+mod engine;
+mod fault;
+mod flow;
+mod laws;
+mod settling;
+mod tables;
+
+pub use batch::Batch;
+pub use engine::Engine;
+pub use fault::OfferFault;
+pub use laws::{batch_is_streams, closed_stands, new_stands, offered_stands};
