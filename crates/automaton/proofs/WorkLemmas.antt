@@ -1,15 +1,14 @@
 -- Streams that are made in the order of work.
 use Rattle.std.proofs.Common.{◌≡◌, ◌∙◌, sym, ap, refl, ℕ, ◌==◌, Bool, true, false, ◌||◌, cond, List, [], ◌∷◌}
-use Rattle.std.specs.List.{All, filter, filter_map, flat_map}
+use Rattle.std.specs.List.{All, filter, filter_map}
 use Rattle.std.proofs.lemmas.List.Elements.{All-nil, All-cons, All-head, All-tail, All-weaker}
-use Rattle.event_types.specs.Tuple.{Row}
 use Rattle.semantics.specs.Denotation.{Streams}
 use Rattle.semantics.specs.Programs.{with_stream}
 use Rattle.scalar_expr.proofs.RunsLemmas.{flat_map_same}
 use Rattle.automaton.specs.declared.line.Hop.{Hop}
 use Rattle.automaton.specs.declared.line.Line.{Line}
-use Rattle.automaton.specs.Flow.{derived, entering, flow, given, leaving}
-use Rattle.automaton.specs.Prefixes.{Prefix, Root, After, extended, path}
+use Rattle.automaton.specs.Flow.{derived, entering, flow, given}
+use Rattle.automaton.specs.Prefixes.{Prefix, Root, After, extended}
 use Rattle.automaton.specs.Steps.{pass}
 use Rattle.automaton.specs.Waits.{chosen}
 use Rattle.automaton.specs.Work.{IsInOrder, ReadsNone, completed, is_in}
