@@ -23,12 +23,12 @@ use Rattle.epoch_laws.proofs.Stands.{closed_batch}
 
 pub batch_is_results : (net : Net) (lines : List Line) (order : List ℕ) (now time : ℕ) (stores : Stores) (past events : List Heard) (news : Streams) (program : Program) (stream : ℕ)
     → Serves net lines order → Stands net lines order now stores past → now ≤ time → All (λ e. IsSound e.tuple × (e.tuple.at ≡ time)) events
-    → IsEpoch net order stores (heard_on events) news → Agree lines order program stream
+    → IsEpoch net order stores (heard_on events) news → Agree lines order program (past ++ events) stream
     → sorted (news stream) ≡ results program (past ++ events) stream time
 batch_is_results net lines order now time stores past events news program stream serves stands le new epoch agree =
     sort_permuted tuple_cmp tuple_total tuple_exact _ _
     (IsPermutation-trans _ _ _ (closed_batch net lines order now time stores past events news serves stands le new epoch stream)
-    (filter_permuted (λ t. t.at == time) _ _ (agree (past ++ events))))
+    (filter_permuted (λ t. t.at == time) _ _ agree))
     ∙ ap (λ (history : List Heard). sorted (filter (λ t. t.at == time) (env program history stream))) (sym whole)
   where
     fits : (at : ℕ) → at < now → nat_le at time ≡ true

@@ -219,9 +219,9 @@ module _ (net : Net) (lines : List Line) (order : List ℕ) (stores : Stores) (t
         },
       )
 
-  pub closing_is_results : (program : Program) (stream : ℕ) → Agree lines order program stream → sorted (news stream) ≡ results program history stream time
+  pub closing_is_results : (program : Program) (stream : ℕ) → Agree lines order program history stream → sorted (news stream) ≡ results program history stream time
   closing_is_results program stream agree =
-      batch_is_results net lines order (next_time closed_time) time stores (events_before time history) (events_during time history) news program stream serves stands.stores_stand in_time events_now heard_epoch agree
+      batch_is_results net lines order (next_time closed_time) time stores (events_before time history) (events_during time history) news program stream serves stands.stores_stand in_time events_now heard_epoch (subst (λ (h : List Heard). Agree lines order program h stream) (sym past_and_now) agree)
       ∙ ap (λ (h : List Heard). results program h stream time) past_and_now
 
 -- a purge

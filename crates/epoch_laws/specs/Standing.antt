@@ -1,4 +1,4 @@
--- When an engine stands for a history, of which it may have an epoch open.
+-- When the stores and the open tuples of an engine stand for a history, of which it may have an epoch open. Which lines its network has, and in which order they are worked on, is `Serves`.
 use Rattle.std.specs.Prelude.{◌≡◌, ℕ, ◌+◌, ◌≤◌, List, [], ◌∷◌, Option, Some, None, IfSome}
 use Rattle.std.specs.List.{All}
 use Rattle.std.specs.List.Sorted.{IsPermutation}

@@ -48,7 +48,7 @@ abbrev pub ClosingIsResults : Type 0
 ClosingIsResults =
     (net : Net) (lines : List Line) (order : List ℕ) (stores : Stores) (time : ℕ) (tuples news : Streams) (closed_time : Option ℕ) (history : List Heard) (program : Program) (stream : ℕ)
     → Serves net lines order → StandsFor net lines order stores (Some time) tuples closed_time history
-    → IsEpoch net order stores tuples news → Agree lines order program stream
+    → IsEpoch net order stores tuples news → Agree lines order program history stream
     → sorted (news stream) ≡ results program history stream time
 
 -- stores that are purged for the next time stand for what they stood for
