@@ -48,7 +48,7 @@ no_place false place len same e = grind (arith, nat_tests)
 pub none_counted : {X : Type 0} (p : X → Bool) (xs : List X) → position p xs ≡ None → count_by p xs ≡ 0
 none_counted p xs none = all_before p xs (no_place (nat_lt (position_or_len p xs) (length xs)) (position_or_len p xs) (length xs) refl none)
 
--- ---- numbers from one on
+-- numbers from one on
 module _ {X : Type 0} (f g : ℕ → List X) where
   -- what is the same at each of the numbers
   pub range_same : (a n : ℕ) → ((k : ℕ) → a ≤ k → k < a + n → f k ≡ g k) → flat_map f (range_with_len a n) ≡ flat_map g (range_with_len a n)

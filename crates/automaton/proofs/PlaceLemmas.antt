@@ -43,7 +43,7 @@ place_here new prefix places = ap (λ b. cond b prefix (places new)) (is_same ne
 pub place_other : (new : ℕ) (prefix : Prefix) (places : ℕ → Prefix) (number : ℕ) → (number ≡ new → ⊥) → with_place new prefix places number ≡ places number
 place_other new prefix places number ne = ap (λ b. cond b prefix (places number)) (is_other number new ne)
 
--- ---- one more state, without ends
+-- one more state, without ends
 module _ (net grown : Net) (longer : length grown ≡ suc (length net)) (entries : (number : ℕ) → (number ≡ length net → ⊥) → entry_at grown number ≡ entry_at net number) where
   pub entries_kept : KeepsEntries net grown
   entries_kept number e is = entries number (λ same. let gone : entry_at net number ≡ None = ap (entry_at net) same ∙ ap entry_in (none_behind net) in cc) ∙ is
@@ -77,7 +77,7 @@ module _ (net grown : Net) (longer : length grown ≡ suc (length net)) (entries
             let none : ends_at grown (0 + length net) ≡ [] = ends (0 + length net) ∙ (let e : 0 + length net ≡ length net = omega arith in ap (ends_at net) e) ∙ ap ends_in (none_behind net) in
             ap (map (ending_at (with_place (length net) prefix places (0 + length net)))) none
 
--- ---- one more end
+-- one more end
 module _ (net grown : Net) (same_length : length grown ≡ length net) (places : ℕ → Prefix) (tip : ℕ) (end : End) where
   pub endings_more : tip < length net → ends_at grown tip ≡ ends_at net tip ++ end ∷ [] → ((number : ℕ) → (number ≡ tip → ⊥) → ends_at grown number ≡ ends_at net number)
       → IsPermutation (endings_by places grown) (endings_by places net ++ ending_at (places tip) end ∷ [])
@@ -94,7 +94,7 @@ module _ (net grown : Net) (same_length : length grown ≡ length net) (places :
       at_tip : after tip ≡ before tip ++ ending_at (places tip) end ∷ []
       at_tip = ap (map (ending_at (places tip))) here ∙ map-append (ending_at (places tip)) (ends_at net tip) (end ∷ [])
 
--- ---- the prefix of a line
+-- the prefix of a line
 extended-root : (prefix : Prefix) (hops : List Hop) → root_of (extended prefix hops) ≡ root_of prefix
 extended-root prefix [] = refl
 extended-root prefix (hop ∷ hops) = extended-root (After prefix hop) hops

@@ -25,7 +25,7 @@ used_below net number used = by_order (cases_lt number (length net))
     by_order (inl lt) = lt
     by_order (inr le) = let none : is_some (state_at net number) ≡ is_some {T = State} None = ap is_some (get_or_past net number None le) in cc
 
--- ---- a state behind all others
+-- a state behind all others
 module _ (net : Net) (slot : Option State) where
   pub pushed_here : state_at (net ++ slot ∷ []) (length net) ≡ slot
   pushed_here = get_or-append_seam net slot [] None
@@ -40,7 +40,7 @@ module _ (net : Net) (slot : Option State) where
           let past : length (net ++ slot ∷ []) ≤ number = omega (arith, length-append net (slot ∷ [])) in
           get_or_past (net ++ slot ∷ []) number None past ∙ sym (get_or_past net number None le)
 
--- ---- a slot that is changed
+-- a slot that is changed
 module _ (net : Net) (tip : ℕ) (slot : Option State) where
   pub changed_here : tip < length net → state_at (set net tip slot) tip ≡ slot
   changed_here lt = get_or-set_same net tip slot None lt
@@ -48,7 +48,7 @@ module _ (net : Net) (tip : ℕ) (slot : Option State) where
   pub changed_other : (number : ℕ) → (number ≡ tip → ⊥) → state_at (set net tip slot) number ≡ state_at net number
   changed_other number ne = get_or-set_other net tip number slot None ne
 
--- ---- a hop
+-- a hop
 module _ (net : Net) (tip : ℕ) (hop : Hop) (inside : tip < length net) where
   pub hopped_here : state_at (hopped tip hop net) (length net) ≡ Some (record { entry = entry.Waiting tip hop; edges = []; ends = [] })
   hopped_here =
@@ -106,7 +106,7 @@ pub end_is_some : (end : End) (slot : Option State) → is_some (with_end end sl
 end_is_some end None = refl
 end_is_some end (Some state) = refl
 
--- ---- what is read of a slot, where the edge or the end that comes doesn't change it
+-- what is read of a slot, where the edge or the end that comes doesn't change it
 module _ {X : Type 0} (f : Option State → X) (net : Net) (tip : ℕ) where
   pub hopped_reads : (hop : Hop) → tip < length net → f (with_edge (length net) (state_at net tip)) ≡ f (state_at net tip) → (number : ℕ) → (number ≡ length net → ⊥) → f (state_at (hopped tip hop net) number) ≡ f (state_at net number)
   hopped_reads hop inside kept number ne = elim (are_same_or_not number tip) [ inl same ↦ at_tip same | inr nt ↦ ap f (hopped_other net tip hop inside number ne nt) ]
@@ -120,7 +120,7 @@ module _ {X : Type 0} (f : Option State → X) (net : Net) (tip : ℕ) where
       at_tip : number ≡ tip → f (state_at (ended tip end net) number) ≡ f (state_at net number)
       at_tip same = ap (λ n. f (state_at (ended tip end net) n)) same ∙ ap f (changed_here net tip (with_end end (state_at net tip)) inside) ∙ kept ∙ ap (λ n. f (state_at net n)) (sym same)
 
--- ---- prefixes
+-- prefixes
 -- what was entered somehow is entered so still
 abbrev pub KeepsEntries : Net → Net → Type 0
 KeepsEntries net grown = (number : ℕ) (e : Entry) → entry_at net number ≡ Some e → entry_at grown number ≡ Some e

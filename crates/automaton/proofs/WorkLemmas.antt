@@ -26,7 +26,7 @@ completed_other lines (n ∷ order) streams stream e =
     let parts = or_parts (stream == n) (is_in order stream) e in
     completed_other lines order (with_stream streams n (derived lines streams n)) stream parts.1 ∙ ap (λ b. cond b (derived lines streams n) (streams stream)) parts.0
 
--- ---- lines that read the same give the same
+-- lines that read the same give the same
 module _ (streams others : Streams) where
   flow_alike : (prefix : Prefix) (hops : List Hop) → flow streams prefix ≡ flow others prefix → All (λ hop. streams hop.wait.stream ≡ others hop.wait.stream) hops → flow streams (extended prefix hops) ≡ flow others (extended prefix hops)
   flow_alike prefix [] same all = same
@@ -37,7 +37,7 @@ module _ (streams others : Streams) where
   pub given_alike : (line : Line) → streams line.root ≡ others line.root → All (λ hop. streams hop.wait.stream ≡ others hop.wait.stream) line.hops → given streams line ≡ given others line
   given_alike line root hops = ap (filter_map (pass line.last)) (flow_alike (Root line.root) line.hops root hops)
 
--- ---- each derived stream is what its lines give
+-- each derived stream is what its lines give
 pub self_equal : (stream : ℕ) → (stream == stream) ≡ true
 self_equal stream = is_same stream stream refl
 

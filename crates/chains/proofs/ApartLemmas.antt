@@ -17,7 +17,7 @@ use Rattle.splitter.proofs.NumberingLemmas.{parts_up}
 use Rattle.splitter.proofs.OutLemmas.{Within, less_other, more_other, parts_outs}
 use Rattle.splitter.proofs.ReadLemmas.{LineReads, PartsRead, parts_read}
 
--- ---- lists of numbers
+-- lists of numbers
 pub any_left : {X : Type 0} (p : X → Bool) (xs ys : List X) → list_any p xs ≡ true → list_any p (xs ++ ys) ≡ true
 any_left p xs ys e = list_any-append p xs ys ∙ ap (λ b. b || list_any p ys) e
 
@@ -66,7 +66,7 @@ reads_weaker IsSo IsThus each (Union e f) so = (reads_weaker IsSo IsThus each e 
 reads_weaker IsSo IsThus each (Next p e f) so = (reads_weaker IsSo IsThus each e so.0, reads_weaker IsSo IsThus each f so.1)
 reads_weaker IsSo IsThus each (Fold p q m e f) so = (reads_weaker IsSo IsThus each e so.0, reads_weaker IsSo IsThus each f so.1)
 
--- ---- earlier and later streams, where hidden streams have the numbers from the first on
+-- earlier and later streams, where hidden streams have the numbers from the first on
 -- a stream below a number, or a hidden one below the next
 abbrev pub Earlier : ℕ → ℕ → ℕ → ℕ → Type 0
 Earlier first number next stream = (stream < number) ⊎ ((first ≤ stream) × (stream < next))
@@ -98,7 +98,7 @@ module _ (first number next : ℕ) (low : number ≤ first) (up : first ≤ next
   none_earlier (s ∷ xs) x all late =
       λ i. are_apart_too s x (All-head (Earlier first number next) s xs all) late i || none_earlier xs x (All-tail (Earlier first number next) s xs all) late i
 
--- ---- the lines of one query
+-- the lines of one query
 module _ (first : ℕ) (e : Ex) (out next : ℕ) (low : out < first) (up : first ≤ next) (reads : ReadsOnly (λ stream. stream < out) e) where
   abbrev last : ℕ
   last = (parts_of e next).next

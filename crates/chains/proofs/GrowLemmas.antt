@@ -71,7 +71,7 @@ grow_same kinds (line ∷ lines) all other h g =
     let out : h.0 ≡ g.0 = same_line kinds line h.0 g.0 h.1 g.1 in
     grow_same (grown line g.0 kinds) lines all other (subst (λ (ks : List Kind). GrowInTurn (grown line ks kinds) lines all) out h.3) g.3
 
--- ---- the lines of one stream
+-- the lines of one stream
 module _ (stream : ℕ) (out : List Kind) where
   -- where its kinds are there, they stay
   pub published_stay : (kinds : List (List Kind)) (lines : List Open) → slice_get kinds stream ≡ Some out → All (OpenGives kinds out) lines → GrowInTurn kinds (map (published_on stream) lines) kinds
@@ -99,7 +99,7 @@ module _ (stream : ℕ) (out : List Kind) where
         subst (λ (ks : List (List Kind)). GrowInTurn ks (map (published_on stream) lines) (kinds ++ out ∷ [])) (sym grows) (published_stay (kinds ++ out ∷ []) lines there tail),
       )
 
--- ---- line by line
+-- line by line
 -- the kinds have grown by the lines up to here, and grow on by the rest
 pub record GrowsFrom (first : List (List Kind)) (lines : List Line) (index : ℕ) (kinds : List (List Kind)) : Type 0 where
   pub rest : (all : List (List Kind)) × GrowInTurn kinds (drop index lines) all

@@ -29,7 +29,7 @@ meant kinds program history is all stream less =
     let streams = declared_streams program.declared history in
     chain_means kinds (first_hidden program) program.declared program.order (first_hidden program) streams streams is.typed.in_turn is.wide refl (omega arith) (declared_kinds kinds program.declared history all) (λ s below. refl) stream less
 
--- ---- each query publishes one of the first streams
+-- each query publishes one of the first streams
 published_below : (kinds : ℕ → List Kind) (number : ℕ) (order : List Query) → PublishInTurn kinds number order → All (λ query. query.stream < number + length order) order
 published_below kinds number [] h = All-nil (λ query. query.stream < number + 0)
 published_below kinds number (query ∷ order) h =
@@ -45,7 +45,7 @@ derived_so kinds program history is all =
     (All-weaker (λ query. query.stream < first_hidden program) same (λ query less. subst (IsPermutation (made query.stream)) (meant kinds program history is all query.stream less) (IsPermutation-refl (made query.stream))) program.order
     (published_below kinds program.declared program.order is.typed.in_turn))
 
--- ---- plain networks
+-- plain networks
 numbered_lines : (number : ℕ) (lines : List Line) → map (λ (ending : Ending). ending.line) (numbered number lines) ≡ lines
 numbered_lines number [] = refl
 numbered_lines number (line ∷ lines) = λ i. line ∷ numbered_lines (number + 1) lines i

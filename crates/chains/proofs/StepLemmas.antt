@@ -20,7 +20,7 @@ use Rattle.automaton.specs.LineKinds.{StageGives, StepGives}
 use Rattle.splitter.specs.Stages.{are_events, is_identity, kept, staged}
 use Rattle.chains.proofs.LineLemmas.{get_next}
 
--- ---- a Keep
+-- a Keep
 -- what holds of all holds of all in order
 module _ {X : Type 0} (cmp : X → X → Ordering) (P : X → Type 0) where
   put_all : (x : X) (xs : List X) → P x → All P xs → All P (put cmp x xs)
@@ -57,7 +57,7 @@ pub keep_staged : (condition : List Pr) (step : List Stage) (kinds mid : List Ki
 keep_staged [] step kinds mid h typed = h
 keep_staged (p ∷ condition) step kinds mid h typed = keep_gives step (p ∷ condition) kinds mid h typed
 
--- ---- a Make
+-- a Make
 stage_behind : (stage : Stage) (step : List Stage) (kinds mid out : List Kind) → StepGives step kinds mid → StageGives stage mid out → StepGives (step ++ stage ∷ []) kinds out
 stage_behind stage [] kinds mid out h gives = (out, subst (λ (k : List Kind). StageGives stage k out) (sym h) gives, refl)
 stage_behind stage (first ∷ step) kinds mid out h gives = (h.0, h.1, stage_behind stage step h.0 mid out h.2 gives)

@@ -23,7 +23,7 @@ use Rattle.splitter.proofs.OutLemmas.{HasStreams, Within, has_sources, left_alon
 use Rattle.splitter.proofs.ReadLemmas.{LineReads, PartsRead, Reads, parts_read}
 use Rattle.splitter.proofs.ListLemmas.{every}
 
--- ---- whether a number is in a list
+-- whether a number is in a list
 or_true : (a : Bool) → (a || true) ≡ true
 or_true true = refl
 or_true false = refl
@@ -67,7 +67,7 @@ All_in P (x ∷ xs) s all e = go (All_in P xs s (All-tail P x xs all)) (s == x) 
     go rest true is e = subst P (sym (same_number s x is)) (All-head P x xs all)
     go rest false is e = rest e
 
--- ---- one expression
+-- one expression
 module _ (e : Ex) (out next : ℕ) (apart : IsApart e out next) where
   abbrev last : ℕ
   last = (parts_of e next).next
@@ -173,7 +173,7 @@ lines_mean_it e out next streams apart wide = (
   λ stream none. completed_other (split_lines e out next) (split_order e out next) streams stream none,
 )
 
--- ---- behind other lines
+-- behind other lines
 -- each line publishes one of the streams
 publish_their_own : (e : Ex) (out next : ℕ) → IsApart e out next → All (λ line. is_in (split_order e out next) line.out ≡ true) (split_lines e out next)
 publish_their_own e out next apart =

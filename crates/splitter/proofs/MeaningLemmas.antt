@@ -36,7 +36,7 @@ open_given streams line = filter_map (pass line.last) (flow streams (extended (R
 abbrev pub parts_given : Streams → Parts → List Row
 parts_given streams parts = flat_map (open_given streams) parts.open_lines
 
--- ---- one more stage
+-- one more stage
 wide_one : (stage : Stage) (o : Option Row) (rest : List Row) → All (IsWide stage) (cons_option o rest) → AreWide stage o
 wide_one stage None rest all = tt
 wide_one stage (Some t) rest all = All-head (IsWide stage) t rest all
@@ -83,7 +83,7 @@ module _ (streams : Streams) where
       (every (λ line. open_given streams (with_hop wait line) ≡ chosen wait.choose wait.fold (streams wait.stream) (open_given streams line)) (hop_gives wait) lines)
       ∙ chosen_parts wait.choose wait.fold (streams wait.stream) (open_given streams) lines
 
--- ---- hidden streams
+-- hidden streams
 -- a right side's hidden stream is what its lines give
 abbrev pub HasSource : Streams → Ex → Parts → Type 0
 HasSource streams (Read stream) right = Unit {0}
@@ -102,7 +102,7 @@ source_gives : (streams : Streams) (f : Ex) (right : Parts) → HasSource stream
 source_gives streams (Read stream) right has gives = refl
 source_gives streams f right has gives = has ∙ gives
 
--- ---- the expression
+-- the expression
 pub parts_give : (e : Ex) (next : ℕ) (streams : Streams) → HasSources streams e next → MeetWidths e streams → parts_given streams (parts_of e next) ≡ denote e streams
 parts_give (Read stream) next streams has wide = ap (λ ts. ts ++ []) (filter_map_all (streams stream)) ∙ append-nil (streams stream)
 parts_give (Filter p e) next streams has wide =

@@ -39,7 +39,7 @@ pub published_outs : (stream : ℕ) (lines : List Open) → OutsWithin stream (s
 published_outs stream lines =
     All-map (λ line. Within stream (stream + 1) line.out) (published_on stream) lines (every (λ o. Within stream (stream + 1) stream) (λ o. record { above = omega arith; below = omega arith }) lines)
 
--- ---- each hidden line publishes one of the numbers that the expression takes
+-- each hidden line publishes one of the numbers that the expression takes
 source_outs : (f : Ex) (low : ℕ) (right : Parts) → low ≤ right.next → OutsWithin low right.next right.hidden → OutsWithin low (source_of f right).next (source_of f right).hidden
 source_outs (Read stream) low right up all = All-nil (λ line. Within low right.next line.out)
 source_outs f low right up all =
@@ -65,7 +65,7 @@ parts_outs (Fold p q m e f) next =
     both_outs next (parts_of e next).next _ _ _ (parts_up e next) (omega (arith, parts_up f (parts_of e next).next, source_up f (parts_of f (parts_of e next).next))) (parts_outs e next)
     (source_outs f (parts_of e next).next (parts_of f (parts_of e next).next) (parts_up f (parts_of e next).next) (parts_outs f (parts_of e next).next))
 
--- ---- the lines of one stream
+-- the lines of one stream
 abbrev pub of_stream : ℕ → List Line → List Line
 of_stream stream lines = filter (λ line. line.out == stream) lines
 
@@ -90,7 +90,7 @@ published_give streams stream lines =
     (All-map (λ line. (line.out == stream) ≡ true) (published_on stream) lines (every (λ o. (stream == stream) ≡ true) (λ o. self_equal stream) lines)))
     ∙ flat_map-map (given streams) (published_on stream) lines
 
--- ---- where each hidden stream is what its lines give, each right side has its stream
+-- where each hidden stream is what its lines give, each right side has its stream
 abbrev pub HasStreams : Streams → ℕ → ℕ → List Line → Type 0
 HasStreams streams low high lines = (stream : ℕ) → low ≤ stream → stream < high → streams stream ≡ flat_map (given streams) (of_stream stream lines)
 

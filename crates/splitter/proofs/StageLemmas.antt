@@ -34,7 +34,7 @@ pub pass_more : (stage : Stage) (step : List Stage) (t : Row) → pass (step ++ 
 pass_more stage [] t = then_all (passed stage t)
 pass_more stage (first ∷ step) t = pass_one step stage (passed stage) (passed first t) (pass_more stage step)
 
--- ---- a Keep
+-- a Keep
 keep_both : (a b : Bool) (t : Row) → cond (a && b) (Some t) None ≡ option_and_then (λ u. cond b (Some t) None) (cond a (Some t) None)
 keep_both true b t = refl
 keep_both false b t = refl
@@ -61,7 +61,7 @@ pass_kept (Make m ∷ []) condition t = kept_one [] condition (passed (Make m) t
 pass_kept (Keep p ∷ stage ∷ step) condition t = kept_one (stage ∷ step) condition (passed (Keep p) t) (pass_kept (stage ∷ step) condition)
 pass_kept (Make m ∷ stage ∷ step) condition t = kept_one (stage ∷ step) condition (passed (Make m) t) (pass_kept (stage ∷ step) condition)
 
--- ---- the identity
+-- the identity
 and_parts : (a b : Bool) → (a && b) ≡ true → (a ≡ true) × (b ≡ true)
 and_parts true b e = (refl, e)
 and_parts false b e = absurd (let none : false ≡ true = e in cc)
@@ -89,7 +89,7 @@ identity_gives m t is wide =
     let vals = events_give m.parts [] t.vals t.from t.at both.1 (same_number (length m.parts) m.width both.0 ∙ sym wide) in
     λ i. record { vals = vals i; from = t.from; at = t.at }
 
--- ---- any stage
+-- any stage
 -- what the stage asks of the tuples that come to it: a Make that they have its width
 abbrev pub IsWide : Stage → Row → Type 0
 IsWide (Keep condition) t = Unit {0}
