@@ -392,7 +392,12 @@ fn passing<L: Ledger>(
 }
 
 /// The new binding of an iteration.
-pub fn rebind(alloc: Global, projection: &Map, binding: &Tuple, event: &Tuple) -> Result<Tuple, Memory>
+pub fn rebind(
+    alloc: Global,
+    projection: &Map,
+    binding: &Tuple,
+    event: &Tuple,
+) -> Result<Tuple, Memory>
     requires later { binding.now.at < event.now.from }
     requires fits { All (λ s. Fits s event.now (Some binding.now)) projection.now.parts }
     ensures { IfOk result (λ tuple. tuple ≡ rebound projection.now.parts binding.now event.now) }
