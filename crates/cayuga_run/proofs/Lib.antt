@@ -2,7 +2,10 @@ pub mod AnswerLemmas
 pub mod GrowingLemmas
 pub mod JudgementLemmas
 pub mod ProgramLemmas
+pub mod RefusedLemmas
+pub mod RunAnswers
 pub mod RunLemmas
 pub mod WordingLemmas
 pub mod WorkLemmas
+pub mod WritingAnswers
 pub mod WritingLemmas

@@ -31,7 +31,7 @@ use Rattle.cayuga_run.specs.declared.taking.End.TheVariants.{Whole, More, Failed
 use Rattle.cayuga_run.specs.Accepting.{IsAccepted}
 use Rattle.cayuga_run.specs.Finishing.{Finishes, RefusesLine, is_all}
 use Rattle.cayuga_run.specs.Begun.{HasAccepted}
-use Rattle.cayuga_run.specs.Refusing.{AreNotAccepted, OfQueries}
+use Rattle.cayuga_run.specs.Refusing.{AreNotAccepted}
 use Rattle.cayuga_run.specs.RunOutcome.{AreThere, IsAttachFault, IsDone, IsReadFault, IsRefused, IsTooMuch, IsWriteFault, IsMemory, MemoryText, RunOutcome, is_whole}
 use Rattle.cayuga_run.specs.QueryFailing.{QueriesFail, TextFails}
 use Rattle.cayuga_run.specs.Reports.{refused_in, report_of_closed, report_of_heard}

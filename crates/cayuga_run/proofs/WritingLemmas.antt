@@ -1,5 +1,5 @@
 -- From accepted queries and what was written to the outcome of a writing.
-use Rattle.std.proofs.Common.{◌≡◌, ◌∙◌, sym, ap, subst, ℕ, List, Option, Some, None, IfSome}
+use Rattle.std.proofs.Common.{◌≡◌, subst, ℕ, List, Option, Some, None, IfSome}
 use Rattle.cay_host.specs.Faults.{Rose}
 use Rattle.cay_host.specs.Files.{file_of}
 use Rattle.cay_host.specs.Output.{Wrote, WrotePart}

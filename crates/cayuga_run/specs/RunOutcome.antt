@@ -1,5 +1,5 @@
 -- What a run has done, by its status.
-use Rattle.std.specs.Prelude.{◌≡◌, ℕ, ◌<◌, ◌≤◌, List, [], Bool, true, false, nat_le, length, take, Option, Some, None, IfSome}
+use Rattle.std.specs.Prelude.{◌≡◌, ℕ, ◌<◌, ◌≤◌, List, [], Bool, true, false, nat_le, length, take, Some, None, IfSome}
 use Rattle.std.specs.Io.KnownBytes.{prepend_known}
 use Rattle.cay_host.specs.declared.side.Side.{Side}
 use Rattle.cay_host.specs.declared.side.Side.TheVariants.{Queries, Events}
@@ -7,12 +7,11 @@ use Rattle.cay_host.specs.Faults.{Rose}
 use Rattle.cay_host.specs.Files.{file_of, lacks}
 use Rattle.cay_host.specs.Output.{Wrote, WrotePart, KeepsOutput}
 use Rattle.cay_host.specs.Told.{Told}
-use Rattle.catalogue.specs.declared.fault.QueryFault.{QueryFault}
 use Rattle.monitor.specs.declared.refusal.Refusal.{Refusal}
 use Rattle.monitor.specs.declared.refusal.Refusal.TheVariants.{HasFault, IsOutOfOrder}
 use Rattle.cayuga_run.specs.declared.status.Status.{Status}
 use Rattle.cayuga_run.specs.declared.status.Status.TheVariants.{Done, Usage, BadQuery, Cycle, BadEvent, OutOfOrder, AttachFault, ReadFault, WriteFault, TooMuch, Memory}
-use Rattle.catalogue.specs.Judgement.{Verdict, Accepted, Refused, Circle, Judges, Refuses, Circles}
+use Rattle.catalogue.specs.Judgement.{Verdict, Accepted, Refused, Circle, Judges}
 use Rattle.cayuga_run.specs.Accepting.{IsAccepted}
 use Rattle.monitor.specs.Owing.{WroteFront}
 use Rattle.cayuga_run.specs.Refusing.{IsBadQuery, IsCycle, OfQueries, StoppedAt, StoppedInQueries}
