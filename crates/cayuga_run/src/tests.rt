@@ -13,6 +13,7 @@ use std::test::Fail;
 mod epochs;
 mod faults;
 mod iteration;
+mod jobs;
 mod pieces;
 mod query_texts;
 mod sequence;
