@@ -176,7 +176,7 @@ fn the_first_fault_of_an_event_line_is_the_answer(rt: HostRuntime) -> Result<(),
 }
 
 #[test]
-fn words_that_are_no_run_are_usage(rt: HostRuntime) -> Result<(), Fail> {
+fn words_that_ask_for_no_job_are_usage(rt: HostRuntime) -> Result<(), Fail> {
     let alloc = rt.alloc();
     let mut host = host_with(alloc, HIGH, TRADE)?;
     assert_eq!(rt; run_within(alloc, &mut host, &[], 9).number(), 1);
