@@ -5,6 +5,7 @@ pub mod LawLemmas
 pub mod LeadLemmas
 pub mod LineLemmas
 pub mod OneLemmas
+pub mod ProgramLemmas
 pub mod RangeLemmas
 pub mod SplitLemmas
 pub mod StepLemmas

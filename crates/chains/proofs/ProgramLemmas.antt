@@ -1,0 +1,92 @@
+-- The queries of a program by their expressions.
+use Rattle.std.proofs.Common.{◌≡◌, ◌∙◌, sym, ap, refl, subst, ℕ, ◌+◌, ◌≤◌, ◌*◌, length, List, [], ◌∷◌, ◌++◌, map, arith}
+use Rattle.std.specs.List.{All}
+use Rattle.std.proofs.lemmas.List.{length-map}
+use Rattle.std.proofs.lemmas.List.Elements.{All-nil, All-cons, All-head, All-tail}
+use Rattle.event_types.specs.declared.kind.Kind.{Kind}
+use Rattle.semantics.specs.Expressions.{Ex}
+use Rattle.semantics.specs.Programs.{Program, Query}
+use Rattle.semantics.specs.TypedPrograms.{PublishInTurn}
+use Rattle.algebra.specs.declared.expression.Expr.{Expr}
+use Rattle.algebra.specs.Views.{ex_of}
+use Rattle.automaton.specs.declared.line.Line.{Line}
+use Rattle.automaton.specs.Layouts.{LayoutFits}
+use Rattle.splitter.specs.Laws.{split_order}
+use Rattle.splitter.specs.Splitting.{parts_of, split_lines}
+use Rattle.chains.specs.Chains.{chain_end, chain_lines, chain_order, end_of, first_hidden, lines_of, order_of, outs_of}
+use Rattle.chains.specs.declared.chains.Chains.{Chains}
+use Rattle.chains.specs.Layouts.{IsLayoutOf}
+use Rattle.chains.specs.Widths.{HasWidths}
+use Rattle.chains.specs.Work.{AreChains, kinds_by, queries_from, work_of}
+
+-- the expressions of queries
+abbrev pub expressions_of : List Query → List Ex
+expressions_of order = map (λ query. query.expr) order
+
+module _ (kinds : ℕ → List Kind) where
+  turn_from : (number : ℕ) (order : List Query) → PublishInTurn kinds number order → PublishInTurn kinds number (queries_from number (expressions_of order))
+  turn_from number [] h = tt
+  turn_from number (query ∷ order) h = (refl, h.1, turn_from (number + 1) order h.2)
+
+  wide_from : (number : ℕ) (order : List Query) → All (λ query. HasWidths kinds query.expr) order → All (λ query. HasWidths kinds query.expr) (queries_from number (expressions_of order))
+  wide_from number [] all = All-nil (λ (q : Query). HasWidths kinds q.expr)
+  wide_from number (query ∷ order) all =
+      All-cons (λ (q : Query). HasWidths kinds q.expr) (record { name = []; stream = number; expr = query.expr }) (queries_from (number + 1) (expressions_of order))
+      (All-head (λ (q : Query). HasWidths kinds q.expr) query order all) (wide_from (number + 1) order (All-tail (λ (q : Query). HasWidths kinds q.expr) query order all))
+
+  lines_from : (number : ℕ) (order : List Query) (next : ℕ) → PublishInTurn kinds number order → chain_lines (queries_from number (expressions_of order)) next ≡ chain_lines order next
+  lines_from number [] next h = refl
+  lines_from number (query ∷ order) next h = λ i. split_lines query.expr (sym h.0 i) next ++ lines_from (number + 1) order (parts_of query.expr next).next h.2 i
+
+  order_from : (number : ℕ) (order : List Query) (next : ℕ) → PublishInTurn kinds number order → chain_order (queries_from number (expressions_of order)) next ≡ chain_order order next
+  order_from number [] next h = refl
+  order_from number (query ∷ order) next h = λ i. split_order query.expr (sym h.0 i) next ++ order_from (number + 1) order (parts_of query.expr next).next h.2 i
+
+end_from : (number : ℕ) (order : List Query) (next : ℕ) → chain_end (queries_from number (expressions_of order)) next ≡ chain_end order next
+end_from number [] next = refl
+end_from number (query ∷ order) next = end_from (number + 1) order (parts_of query.expr next).next
+
+module _ (kinds : List (List Kind)) (program : Program) (expressions : List Expr) (same : expressions_of program.order ≡ map ex_of expressions) where
+  as_many : length expressions ≡ length program.order
+  as_many = sym (length-map expressions ex_of) ∙ ap length (sym same) ∙ length-map program.order (λ query. query.expr)
+
+  first_is : program.declared + length expressions ≡ first_hidden program
+  first_is = ap (λ n. program.declared + n) as_many
+
+  -- what the making of lines asks
+  pub work_typed : PublishInTurn (kinds_by kinds) program.declared program.order → PublishInTurn (kinds_by kinds) program.declared (work_of program.declared expressions)
+  work_typed h = subst (λ (xs : List Ex). PublishInTurn (kinds_by kinds) program.declared (queries_from program.declared xs)) same (turn_from (kinds_by kinds) program.declared program.order h)
+
+  pub work_wide : All (λ query. HasWidths (kinds_by kinds) query.expr) program.order → All (λ query. HasWidths (kinds_by kinds) query.expr) (work_of program.declared expressions)
+  work_wide all = subst (λ (xs : List Ex). All (λ (q : Query). HasWidths (kinds_by kinds) q.expr) (queries_from program.declared xs)) same (wide_from (kinds_by kinds) program.declared program.order all)
+
+  pub work_end : chain_end (work_of program.declared expressions) (program.declared + length expressions) ≡ end_of program
+  work_end = (λ i. chain_end (queries_from program.declared (sym same i)) (first_is i)) ∙ end_from program.declared program.order (first_hidden program)
+
+  -- and what they are
+  module _ (typed : PublishInTurn (kinds_by kinds) program.declared program.order) (places : List ℕ) (outs : map (λ place. program.declared + place) places ≡ outs_of program) (chains : Chains)
+      (made : AreChains program.declared expressions places kinds chains) where
+    pub lines_made : chains.lines ≡ lines_of program
+    lines_made =
+        made.lines ∙ (λ i. chain_lines (queries_from program.declared (sym same i)) (first_is i)) ∙ lines_from (kinds_by kinds) program.declared program.order (first_hidden program) typed
+
+    pub layout_made : IsLayoutOf program kinds chains.layout
+    layout_made = record {
+      order =
+          made.order ∙ (λ i. chain_order (queries_from program.declared (sym same i)) (first_is i)) ∙ order_from (kinds_by kinds) program.declared program.order (first_hidden program) typed;
+      outs = made.outs ∙ outs;
+      hidden = made.hidden;
+      kinds_are = made.kinds_are;
+      all_kinds = made.all_kinds ∙ work_end;
+      fits = subst (λ (lines : List Line). LayoutFits lines chains.layout) lines_made made.fits;
+    }
+
+-- ---- where each query takes at most 1,024 numbers for hidden streams
+abbrev pub TakesFew : Ex → Type 0
+TakesFew e = (next : ℕ) → (parts_of e next).next ≤ next + 1024
+
+pub few_taken : (order : List Query) → All (λ query. TakesFew query.expr) order → (next : ℕ) → chain_end order next ≤ next + 1024 * length order
+few_taken [] all next = omega arith
+few_taken (query ∷ order) all next =
+    let here = All-head (λ (q : Query). TakesFew q.expr) query order all next in
+    let rest = few_taken order (All-tail (λ (q : Query). TakesFew q.expr) query order all) (parts_of query.expr next).next in omega (arith, here, rest)
