@@ -59,9 +59,13 @@ written lists s tuples lt = λ i n. each n (same_or_other n s) i
     each n (inr other) = get_or-set_other lists s n tuples [] other ∙ sym (ap (λ b. cond b tuples (get_or lists n [])) (other_test n s other))
 
 module _ {X : Type 0} (P : X → Type 0) where
-  all_first : (xs ys : List X) → All P (xs ++ ys) → All P xs
+  pub all_first : (xs ys : List X) → All P (xs ++ ys) → All P xs
   all_first [] ys all = All-nil P
   all_first (x ∷ xs) ys all = All-cons P x xs (All-head P x (xs ++ ys) all) (all_first xs ys (All-tail P x (xs ++ ys) all))
+
+  pub all_second : (xs ys : List X) → All P (xs ++ ys) → All P ys
+  all_second [] ys all = all
+  all_second (x ∷ xs) ys all = all_second xs ys (All-tail P x (xs ++ ys) all)
 
   within_all : (xs ys : List X) → IsWithin xs ys → All P ys → All P xs
   within_all xs ys h all = all_first xs h.0 (All-permutation P ys (xs ++ h.0) (IsPermutation-sym _ _ h.1) all)

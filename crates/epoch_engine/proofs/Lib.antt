@@ -1,5 +1,6 @@
 pub mod CloseLemmas
 pub mod DeriveLemmas
+pub mod EdgeLemmas
 pub mod EngineLemmas
 pub mod FlowLemmas
 pub mod LeftLemmas

@@ -38,6 +38,7 @@ use Rattle.epoch_engine.specs.Settling.{AreSettledBelow, IsSettled, IsSettledAt,
 use Rattle.epoch_engine.specs.Tables.{IsBefore, if_below}
 use Rattle.epoch_engine.specs.Typed.{AreTyped, IsStoreOf, held, instances_in}
 use Rattle.epoch_engine.proofs.DeriveLemmas.{Flows, state_flows}
+use Rattle.epoch_engine.proofs.EdgeLemmas.{before_edge}
 use Rattle.epoch_engine.proofs.FlowLemmas.{stream_below}
 use Rattle.epoch_engine.proofs.LeftLemmas.{state_below, wait_below}
 use Rattle.epoch_engine.proofs.Lists.{below_or_last}
@@ -51,7 +52,7 @@ before_state net network n b h = go (state_at net b) refl
     no_item x c = absurd (omega arith)
 
     there : Contains (edges_at net b) n
-    there = (network.edges b n).1 h
+    there = before_edge net network b n h
 
     go : (o : Option State) → state_at net b ≡ o → (state : State) × (state_at net b ≡ Some state)
     go (Some state) e = (state, e)

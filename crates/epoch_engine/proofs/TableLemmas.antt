@@ -16,6 +16,7 @@ use Rattle.automaton.specs.declared.network.State.{State}
 use Rattle.automaton.specs.declared.wait.Wait.{Wait}
 use Rattle.epoch_engine.specs.declared.tables.EndPlace.{EndPlace}
 use Rattle.epoch_engine.specs.Tables.{Found, IsBefore, ListsEnds, ListsWaits, ends_among, ends_on_at, found_at, if_below}
+use Rattle.epoch_engine.proofs.EdgeLemmas.{before_edge, edge_before}
 use Rattle.epoch_engine.proofs.LeftLemmas.{state_below, wait_below}
 use Rattle.epoch_engine.proofs.Lists.{below_or_last, same_or_other}
 use Rattle.epoch_engine.proofs.StateLemmas.{at_wait, some_is}
@@ -44,14 +45,14 @@ before_more net network n old new h noted = record { as_many = noted.as_many ∙
   where
     go : (k : ℕ) (o : Option ℕ) → before_at net k ≡ o → get_or new k None ≡ if_below (n + 1) (before_at net k)
     go k None e =
-        noted.others k (λ c. none_some n (sym e ∙ (network.edges n k).0 c)) ∙ h.each k ∙ ap (if_below n) e ∙ sym (ap (if_below (n + 1)) e)
+        noted.others k (λ c. none_some n (sym e ∙ edge_before net network n k c)) ∙ h.each k ∙ ap (if_below n) e ∙ sym (ap (if_below (n + 1)) e)
     go k (Some m) e = at (same_or_other m n)
       where
         at : (m ≡ n) ⊎ (m ≡ n → ⊥) → get_or new k None ≡ if_below (n + 1) (before_at net k)
         at (inl same) =
-            noted.noted k ((network.edges n k).1 (e ∙ ap Some same)) ∙ sym (ap (if_below (n + 1)) (e ∙ ap Some same) ∙ ap (λ b. cond b (Some n) None) (below_next n))
+            noted.noted k (before_edge net network n k (e ∙ ap Some same)) ∙ sym (ap (if_below (n + 1)) (e ∙ ap Some same) ∙ ap (λ b. cond b (Some n) None) (below_next n))
         at (inr other) =
-            noted.others k (λ c. other (some_is m n (sym e ∙ (network.edges n k).0 c))) ∙ h.each k ∙ ap (if_below n) e ∙ ap (λ b. cond b (Some m) None) (below_other m n other) ∙ sym (ap (if_below (n + 1)) e)
+            noted.others k (λ c. other (some_is m n (sym e ∙ edge_before net network n k c))) ∙ h.each k ∙ ap (if_below n) e ∙ ap (λ b. cond b (Some m) None) (below_other m n other) ∙ sym (ap (if_below (n + 1)) e)
 
 -- a state before which another stands is there
 before_below : (net : Net) (k b : ℕ) → before_at net k ≡ Some b → k < length net
@@ -77,7 +78,7 @@ note_nothing net n list h = record { as_many = refl; noted = λ p c. absurd (no_
 pub edges_below : (net : Net) → IsNetwork net → (n : ℕ) (edges : List ℕ) (m : ℕ) → edges ≡ edges_at net n → m ≡ length net → All (λ p. p < m) edges
 edges_below net network n edges m e same k d lt =
     let there = subst (λ (ns : List ℕ). Contains ns (get_or edges k d)) e (Contains-get_or edges k d lt) in
-    let below = before_below net (get_or edges k d) n ((network.edges n (get_or edges k d)).0 there) in omega (arith, same)
+    let below = before_below net (get_or edges k d) n (edge_before net network n (get_or edges k d) there) in omega (arith, same)
 
 pub no_wait : (net : Net) (n : ℕ) → is_some (state_at net n) ≡ false → (w : Wait) → wait_at net n ≡ Some w → ⊥
 no_wait net n h w at = let found = at_wait net n w at in true_false (sym (ap is_some found.found) ∙ h)

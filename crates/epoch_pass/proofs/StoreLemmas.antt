@@ -7,6 +7,7 @@ use Rattle.std.proofs.lemmas.List.{map-append, take_more}
 use Rattle.std.proofs.lemmas.List.Elements.{filter-append, filter_agree}
 use Rattle.std.proofs.lemmas.List.Sorted.{IsPermutation-append_left, IsPermutation-append_right, IsPermutation-cons, IsPermutation-map, IsPermutation-middle, IsPermutation-refl, IsPermutation-sym, IsPermutation-to_front, IsPermutation-trans}
 use Rattle.event_types.specs.Tuple.{Row}
+use Rattle.instances.specs.Bounds.{alive_instances}
 use Rattle.instances.specs.declared.instance.Instance.{Instance}
 use Rattle.semantics.specs.Nexts.{is_eligible}
 use Rattle.semantics.specs.Scalars.{Pr}
@@ -17,7 +18,7 @@ use Rattle.automaton.specs.Waiting.{is_empty}
 use Rattle.automaton.specs.declared.wait.Turn.{Turn}
 use Rattle.epoch_laws.specs.Epochs.{again, is_unmet, left, stepped, took}
 use Rattle.epoch_laws.specs.Instances.{instance_of}
-use Rattle.epoch_laws.specs.Stores.{Purged, alive_instances}
+use Rattle.epoch_laws.specs.Stores.{Purged}
 use Rattle.epoch_laws.proofs.Lists.{filter-filter}
 
 filter_true : {X : Type 0} (xs : List X) → filter (λ x. true) xs ≡ xs

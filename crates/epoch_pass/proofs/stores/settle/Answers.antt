@@ -3,7 +3,7 @@ use Rattle.std.specs.List.{filter_map}
 use Rattle.automaton.specs.Steps.{pass}
 use Rattle.semantics.specs.Scalars.{Pr}
 use Rattle.std.proofs.Common.{List}
-use Rattle.epoch_laws.specs.Stores.{alive_instances}
+use Rattle.instances.specs.Bounds.{alive_instances}
 use Rattle.epoch_pass.proofs.StoreLemmas.{settled}
 use Rattle.epoch_pass.proofs.stores.settle.Goals as goal
 
