@@ -113,13 +113,13 @@ module _ (old new : View) (lines : List Line) (history : List Heard) (batch : Li
       let order : old.layout.order ≡ new.layout.order = ap (λ (l : Layout). l.order) (sym plan.layout) in
       let none : (λ _. []) ≡ streams_of new.opened = λ i s. sym (closes.emptied s) i in
       let after =
-          (close_stands old.network lines old.layout.order (stores_in old) closes.time (streams_of old.opened) closes.taken.news old.closed history stands.serves open_stands closes.taken.epoch (stores_in new) closes.taken.purged).1 in record {
-            serves = subst (λ (n : Net). Serves n lines new.layout.order) (sym plan.network) (subst (Serves old.network lines) order stands.serves);
-            as_many = closes.as_many ∙ stands.as_many ∙ ap (λ (l : Layout). length l.kinds) (sym plan.layout);
-            stands =
-                subst (λ (n : Net). Standing n lines new.layout.order (stores_in new) new.time (streams_of new.opened) new.closed history) (sym plan.network)
-                (subst (λ (o : List ℕ). Standing old.network lines o (stores_in new) new.time (streams_of new.opened) new.closed history) order
-                (subst (λ (t : Option ℕ). Standing old.network lines old.layout.order (stores_in new) t (streams_of new.opened) new.closed history) (sym closes.none_open)
-                (subst (λ (t : Option ℕ). Standing old.network lines old.layout.order (stores_in new) None (streams_of new.opened) t history) (sym closes.now_closed)
-                (subst (λ (ts : Streams). Standing old.network lines old.layout.order (stores_in new) None ts (Some closes.time) history) none after))));
-          }
+      (close_stands old.network lines old.layout.order (stores_in old) closes.time (streams_of old.opened) closes.taken.news old.closed history stands.serves open_stands closes.taken.epoch (stores_in new) closes.taken.purged).1 in record {
+        serves = subst (λ (n : Net). Serves n lines new.layout.order) (sym plan.network) (subst (Serves old.network lines) order stands.serves);
+        as_many = closes.as_many ∙ stands.as_many ∙ ap (λ (l : Layout). length l.kinds) (sym plan.layout);
+        stands =
+            subst (λ (n : Net). Standing n lines new.layout.order (stores_in new) new.time (streams_of new.opened) new.closed history) (sym plan.network)
+            (subst (λ (o : List ℕ). Standing old.network lines o (stores_in new) new.time (streams_of new.opened) new.closed history) order
+            (subst (λ (t : Option ℕ). Standing old.network lines old.layout.order (stores_in new) t (streams_of new.opened) new.closed history) (sym closes.none_open)
+            (subst (λ (t : Option ℕ). Standing old.network lines old.layout.order (stores_in new) None (streams_of new.opened) t history) (sym closes.now_closed)
+            (subst (λ (ts : Streams). Standing old.network lines old.layout.order (stores_in new) None ts (Some closes.time) history) none after))));
+      }

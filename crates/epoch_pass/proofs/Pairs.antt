@@ -1,7 +1,7 @@
 -- What leaves a wait, gone through tuple by tuple or instance by instance.
-use Rattle.std.proofs.Common.{◌≡◌, ◌∙◌, sym, ap, refl, Bool, true, false, cond, List, [], ◌∷◌, ◌++◌, map}
+use Rattle.std.proofs.Common.{◌≡◌, ◌∙◌, sym, ap, refl, Bool, true, false, cond, List, [], ◌∷◌, ◌++◌}
 use Rattle.std.specs.Prelude.{Option, Some, None}
-use Rattle.std.specs.List.{All, filter, flat_map}
+use Rattle.std.specs.List.{filter, flat_map}
 use Rattle.std.specs.List.Sorted.{IsPermutation}
 use Rattle.std.proofs.lemmas.List.Concat.{flat_map_single}
 use Rattle.std.proofs.lemmas.List.Sorted.{IsPermutation-refl, IsPermutation-sym, IsPermutation-trans, IsPermutation-append_right}
@@ -12,7 +12,7 @@ use Rattle.semantics.specs.Nexts.{is_eligible}
 use Rattle.semantics.specs.Runs.{rebound}
 use Rattle.semantics.specs.Scalars.{Pr}
 use Rattle.semantics.specs.Truth.{all_true}
-use Rattle.scalar_expr.proofs.Bags.{permuted_from, permuted_to}
+use Rattle.scalar_expr.proofs.Bags.{permuted_to}
 use Rattle.scalar_expr.proofs.RunsLemmas.{flat_map_same}
 use Rattle.automaton.specs.declared.wait.Turn.{Turn}
 use Rattle.automaton.specs.declared.wait.Wait.{Wait}

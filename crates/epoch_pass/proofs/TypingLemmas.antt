@@ -1,8 +1,8 @@
 -- What comes to a state has the kinds for which its conditions and scalars are typed.
-use Rattle.std.proofs.Common.{◌≡◌, ◌∙◌, sym, ap, refl, subst, Bool, true, false, cond, List, [], ◌∷◌, ◌++◌, map}
+use Rattle.std.proofs.Common.{◌≡◌, ◌∙◌, refl, subst, Bool, true, false, cond, List, [], ◌∷◌, ◌++◌}
 use Rattle.std.specs.Prelude.{Option, Some, None}
 use Rattle.std.specs.Option.{option_and_then}
-use Rattle.std.specs.List.{All, cons_option, filter, filter_map, flat_map}
+use Rattle.std.specs.List.{All, cons_option, filter, filter_map}
 use Rattle.std.proofs.lemmas.List.{map-append}
 use Rattle.std.proofs.lemmas.List.Elements.{All-nil, All-cons, All-head, All-tail, All-filter, All-map, All-weaker}
 use Rattle.event_types.specs.declared.kind.Kind.{Kind}
@@ -17,7 +17,7 @@ use Rattle.semantics.specs.Truth.{all_true}
 use Rattle.algebra.proofs.ListLemmas.{All-flat_map}
 use Rattle.algebra.proofs.TypingLemmas.{typed_fits, typed_image, typed_tests}
 use Rattle.automaton.specs.LineKinds.{StepGives, TurnGives, WaitGives}
-use Rattle.automaton.specs.Steps.{pass, passed}
+use Rattle.automaton.specs.Steps.{pass}
 use Rattle.automaton.specs.declared.step.Stage.{Stage}
 use Rattle.automaton.specs.declared.step.Stage.TheVariants.{Keep, Make}
 use Rattle.automaton.specs.declared.wait.Turn.{Turn}

@@ -1,5 +1,5 @@
-use Rattle.std.proofs.Common.{◌≡◌, ◌∙◌, sym, subst, ◌++◌, List, map}
-use Rattle.std.specs.Prelude.{OnOk, Option, Some}
+use Rattle.std.proofs.Common.{sym, subst, ◌++◌, List, map}
+use Rattle.std.specs.Prelude.{OnOk, Option}
 use Rattle.std.specs.List.Sorted.{IsPermutation}
 use Rattle.event_types.specs.Tuple.{Row}
 use Rattle.automaton.specs.declared.wait.Turn.{Turn}

@@ -1,4 +1,4 @@
-use Rattle.std.proofs.Common.{◌≡◌, ◌∙◌, sym, ap, refl, subst, ◌<◌, not, length, take, List, arith}
+use Rattle.std.proofs.Common.{◌∙◌, sym, ap, refl, subst, ◌<◌, not, length, take, List, arith}
 use Rattle.std.specs.Prelude.{Some}
 use Rattle.std.specs.List.{All, filter}
 use Rattle.std.proofs.lemmas.List.Elements.{All-filter}
@@ -7,7 +7,7 @@ use Rattle.event_types.specs.Tuple.{Row}
 use Rattle.instances.specs.declared.instance.Instance.{Instance}
 use Rattle.scalar_expr.specs.Fits.{AllFit}
 use Rattle.semantics.specs.Nexts.{is_eligible}
-use Rattle.epoch_laws.specs.Epochs.{is_unmet, left}
+use Rattle.epoch_laws.specs.Epochs.{is_unmet}
 use Rattle.epoch_pass.proofs.StoreLemmas.{left_more, left_none}
 use Rattle.epoch_pass.proofs.stores.take_met.Goals as goal
 

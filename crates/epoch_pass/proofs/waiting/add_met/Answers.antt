@@ -1,4 +1,4 @@
-use Rattle.std.proofs.Common.{◌≡◌, ◌∙◌, sym, ap, ◌++◌, append_assoc}
+use Rattle.std.proofs.Common.{◌∙◌, sym, ap, ◌++◌, append_assoc}
 use Rattle.std.proofs.lemmas.List.Elements.{All-rest}
 use Rattle.instances.specs.declared.instance.Instance.{Instance}
 use Rattle.epoch_pass.specs.Pairs.{met, paired}
