@@ -98,7 +98,7 @@ published_few {queries = queries} few (typing.next {streams = streams} {number =
     at : (xs : List Statement) (place : ℕ) (s : Statement) → All HasFew xs → slice_get xs place ≡ Some s → HasFew s
     at xs place s all e = subst HasFew (get_or_from_slice_get xs place s s e) (All-get_or HasFew xs place s (slice_get_within xs place s e) all)
 
--- ---- how many statements there are
+-- how many statements there are
 say_many : {said : List Sentence} {ss : List Statement} {lines : List ℕ} → Say said ss lines → length ss ≡ length said
 say_many none = refl
 say_many (more says rest) = ap suc (say_many rest)

@@ -81,7 +81,7 @@ module _ (kinds : List (List Kind)) (program : Program) (expressions : List Expr
       fits = subst (λ (lines : List Line). LayoutFits lines chains.layout) lines_made made.fits;
     }
 
--- ---- where each query takes at most 1,024 numbers for hidden streams
+-- where each query takes at most 1,024 numbers for hidden streams
 abbrev pub TakesFew : Ex → Type 0
 TakesFew e = (next : ℕ) → (parts_of e next).next ≤ next + 1024
 
