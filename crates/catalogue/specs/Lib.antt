@@ -8,7 +8,6 @@ pub mod Filing
 pub mod Typing
 pub mod Judgement
 pub mod Catalogued
-pub mod Chained
 pub mod Tables
 pub mod Telling
 pub mod Loading
