@@ -58,7 +58,7 @@ module _ (c : Catalogued) (accepted : IsAccepted c) where
   pub sizes : length c.declared + length c.order ≡ length c.file.statements
   sizes = statement_count (map statement_of c.file.statements) c.declared c.order accepted.accepts.declares accepted.accepts.in_order ∙ length-map c.file.statements statement_of
 
-  queries_long : length (queries_by (length c.declared) c.published c.expressions) ≡ length c.order
+  pub queries_long : length (queries_by (length c.declared) c.published c.expressions) ≡ length c.order
   queries_long = published_count accepted.accepts.publishes
 
   typed_there : (place : ℕ) → place < length c.order → place < length (queries_by (length c.declared) c.published c.expressions)

@@ -1,4 +1,5 @@
 pub mod ArrangeLemmas
+pub mod ChainedLemmas
 pub mod CountLemmas
 pub mod DeclareLemmas
 pub mod FilingLemmas
@@ -15,6 +16,7 @@ pub mod ProgramLemmas
 pub mod PublishLemmas
 pub mod ReadingLemmas
 pub mod ReadsLemmas
+pub mod RoomLemmas
 pub mod SmallLemmas
 pub mod StandLemmas
 pub mod TotalDeclarations
@@ -24,4 +26,5 @@ pub mod TotalVerdicts
 pub mod TurnLemmas
 pub mod TypingLaws
 pub mod VerdictLemmas
+pub mod WideLemmas
 pub mod WorkLemmas

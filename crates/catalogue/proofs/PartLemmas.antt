@@ -72,6 +72,11 @@ pub published_count : {queries : List Statement} {streams all : List Entry} {ord
 published_count none = refl
 published_count (next schema x there typed rest) = ap suc (published_count rest)
 
+-- and as many expressions are there
+pub expressions_count : (ss : List Statement) (streams : List Entry) (order : List ℕ) (all : List Entry) (expressions : List Expr) → ArePublished ss streams order all expressions → length expressions ≡ length order
+expressions_count ss streams order all expressions published =
+    sym (length-map expressions ex_of) ∙ ap length (sym published.expressions_are) ∙ length-map published.queries (λ q. q.expr) ∙ published_count published.publish
+
 -- a query by its place: its stream
 pub stream_by : (number : ℕ) (streams : List Entry) (expressions : List Expr) (place : ℕ) (d : Query) → place < length (queries_by number streams expressions)
     → (get_or (queries_by number streams expressions) place d).stream ≡ number + place

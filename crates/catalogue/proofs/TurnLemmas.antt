@@ -46,7 +46,7 @@ gives_alike count kinds others alike (Fold p q m e f) out gives =
     (gives.0, gives_alike count kinds others alike e out gives.1, gives_alike count kinds others alike f gives.0 gives.2, gives.3, gives.4, gives.5)
 
 -- streams behind others leave the kinds of those
-kinds_before : (streams more all : List Entry) → all ≡ streams ++ more → (stream : ℕ) → stream < length streams → kinds_in streams stream ≡ kinds_in all stream
+pub kinds_before : (streams more all : List Entry) → all ≡ streams ++ more → (stream : ℕ) → stream < length streams → kinds_in streams stream ≡ kinds_in all stream
 kinds_before streams more all is stream within =
     let long : length (schemas_of streams) ≡ length streams = length-map streams (λ e. e.schema) in
     ap kinds_of (sym (ap (λ es. get_or (schemas_of es) stream []) is ∙ ap (λ xs. get_or xs stream []) (map-append (λ e. e.schema) streams more) ∙ get_or_append_left (schemas_of streams) (schemas_of more) [] stream (omega arith)))

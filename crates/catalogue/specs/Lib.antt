@@ -8,6 +8,7 @@ pub mod Filing
 pub mod Typing
 pub mod Judgement
 pub mod Catalogued
+pub mod Chained
 pub mod Tables
 pub mod Telling
 pub mod Loading

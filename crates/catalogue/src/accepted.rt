@@ -1,14 +1,19 @@
 //! Catalogues: query texts that are accepted.
-ghost use Rattle.std.specs.Prelude.{◌≡◌, ◌≢◌, ◌<◌, ◌==◌, AllPairs, IfOk, length};
+ghost use Rattle.std.specs.Prelude.{◌≡◌, ◌≢◌, ◌<◌, ◌==◌, ◌++◌, ◌∷◌, [], AllPairs, IfOk, OnOk, length};
 ghost use Rattle.std.specs.List.{All, position_or_len};
 ghost use Rattle.algebra.specs.Views.{ex_of};
+ghost use Rattle.chains.specs.Chains.{lines_of};
+ghost use Rattle.chains.specs.Layouts.{IsLayoutOf};
 ghost use Rattle.catalogue.specs.Catalogued.{IsAccepted, parts_of, judged_of};
-ghost use Rattle.catalogue.specs.Judgement.{query_at};
+ghost use Rattle.catalogue.specs.Chained.{kinds_of_each};
+ghost use Rattle.catalogue.specs.Judgement.{program_of, query_at};
 ghost use Rattle.catalogue.specs.Tables.{HasPlaces};
 
 use algebra::Expr;
+use automaton::{Layout, Lines};
 use cel_parser::File;
-use event_types::{List, Memory, Numbers, StreamId};
+use chains::Chains;
+use event_types::{KindLists, Kinds, List, Memory, Numbers, StreamId};
 use std::alloc::Global;
 use std::marker::Model;
 use stream_schema::Streams;
@@ -24,6 +29,7 @@ pub struct Catalogue {
     expressions: List<Expr>,
     // For each query by its number its place in the order of work.
     places: Vec<usize>,
+    chains: Chains,
 }
 
 impl Model for Catalogue {
@@ -33,11 +39,12 @@ impl Model for Catalogue {
 
     ghost coded = { catalogued_code };
 
+    ghost use Rattle.catalogue.specs.Chained.{AreChained};
     ghost use Rattle.catalogue.specs.Tables.{AreHeld};
 
     ghost view = { λ c. parts_of c.file c.streams c.order c.expressions };
 
-    ghost invariant = { λ c. AreHeld (parts_of c.file c.streams c.order c.expressions) c.places.items };
+    ghost invariant = { λ c. AreHeld (parts_of c.file c.streams c.order c.expressions) c.places.items × AreChained (parts_of c.file c.streams c.order c.expressions) c.chains };
 }
 
 impl Catalogue {
@@ -49,16 +56,21 @@ impl Catalogue {
         order: Numbers,
         expressions: List<Expr>,
     ) -> Result<Catalogue, Memory>
-        requires { IsAccepted (parts_of file streams order expressions) }
+        requires accepted { IsAccepted (parts_of file streams order expressions) }
+        requires typed { length expressions ≡ length order }
         ensures { IfOk result (λ catalogue. catalogue ≡ parts_of file streams order expressions) }
     {
         let places = places_in(alloc, &order)?;
+        let declared = file.size() - order.len();
+        let kinds = stream_kinds(alloc, &streams, file.size())?;
+        let chains = Chains::make(alloc, declared, &expressions, &places, kinds)?;
         Ok(Catalogue {
             file,
             streams,
             order,
             expressions,
             places,
+            chains,
         })
     }
 
@@ -119,6 +131,20 @@ impl Catalogue {
         &self.order
     }
 
+    /// The automaton lines of the queries, those of a stream before those that read it.
+    pub fn lines(&self) -> &Lines
+        ensures { result.now ≡ lines_of (program_of (judged_of self.now)) }
+    {
+        &self.chains.lines
+    }
+
+    /// The streams of the lines. Printed are those of the queries, in the order of the file.
+    pub fn layout(&self) -> &Layout
+        ensures { IsLayoutOf (program_of (judged_of self.now)) (kinds_of_each (judged_of self.now).streams) result.now }
+    {
+        &self.chains.layout
+    }
+
     // The place of the query with this number in the order of work.
     fn place(&self, query: usize) -> usize
         requires { query < length self.now.order }
@@ -140,4 +166,27 @@ fn places_in(alloc: Global, numbers: &Numbers) -> Result<Vec<usize>, Memory>
         places[*numbers.get(place)] = place;
     }
     Ok(places)
+}
+
+// The kinds of each of so many streams, by its number.
+fn stream_kinds(alloc: Global, streams: &Streams, many: usize) -> Result<KindLists, Memory>
+    requires { many ≡ length streams.now }
+    ensures { IfOk result (λ kinds. kinds ≡ kinds_of_each streams.now) }
+{
+    let mut lists: KindLists = List::new(alloc);
+    for stream in 0..many {
+        let kinds = streams.schema(stream).kinds(alloc)?;
+        add_kinds(&mut lists, kinds)?;
+    }
+    Ok(lists)
+}
+
+// Adds the kinds of a stream.
+fn add_kinds(lists: &mut KindLists, kinds: Kinds) -> Result<(), Memory>
+    ensures { OnOk result (lists.new ≡ lists.old ++ kinds ∷ []) }
+{
+    if lists.push(kinds).is_err() {
+        return Err(Memory);
+    }
+    Ok(())
 }

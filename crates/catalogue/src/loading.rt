@@ -1,5 +1,5 @@
 //! From a query text to its catalogue.
-ghost use Rattle.std.specs.Prelude.{IfErr, IfOk};
+ghost use Rattle.std.specs.Prelude.{◌≡◌, IfErr, IfOk, length};
 ghost use Rattle.catalogue.specs.Catalogued.{parts_of, judged_of};
 ghost use Rattle.catalogue.specs.Judgement.{Accepts, Circles, Refuses};
 ghost use Rattle.catalogue.specs.Loading.{AcceptsFile, RefusesFile};
@@ -49,6 +49,7 @@ struct Typed {
 // The streams of a file, and its queries in the order of work; or the first fault of names or types.
 fn type_file(alloc: Global, file: &File) -> Result<Typed, LoadFault>
     ensures ok { IfOk result (λ typed. AcceptsFile file.now (judged_of (parts_of file.now typed.streams typed.order typed.expressions))) }
+    ensures typed { IfOk result (λ typed. length typed.expressions ≡ length typed.order) }
     ensures err { IfErr result (RefusesFile file.now) }
 {
     match arrange(alloc, file) {

@@ -88,3 +88,32 @@ fn queries_that_read_one_another_are_a_cycle(rt: HostRuntime) -> Result<(), Fail
     }
     Ok(())
 }
+
+#[test]
+fn right_side_of_a_sequence_has_a_line_and_a_hidden_stream_of_its_own(
+    rt: HostRuntime,
+) -> Result<(), Fail> {
+    let text = "STREAM A (x INT); STREAM B (y INT); STREAM C (z INT); \
+        SELECT * FROM A NEXT (B NEXT C) PUBLISH Q;";
+    match load(rt.alloc(), text.as_bytes()) {
+        Ok(catalogue) => {
+            let lines = catalogue.lines();
+            assert!(rt; lines.len() == 2);
+            let (inner, outer) = (lines.get(0), lines.get(1));
+            assert_eq!(rt; (inner.root, inner.hops.len(), inner.out), (1, 1, 4));
+            assert_eq!(rt; (outer.root, outer.hops.len(), outer.out), (0, 1, 3));
+            for hop in inner.hops.as_slice() {
+                assert_eq!(rt; hop.wait.stream, 2);
+            }
+            for hop in outer.hops.as_slice() {
+                assert_eq!(rt; hop.wait.stream, 4);
+            }
+            let layout = catalogue.layout();
+            assert_eq!(rt; layout.order.as_slice(), [4, 3].as_slice());
+            assert_eq!(rt; layout.outs.as_slice(), [3].as_slice());
+            assert_eq!(rt; layout.kinds.len(), 5);
+        }
+        Err(_) => panic!(rt; "refused"),
+    }
+    Ok(())
+}

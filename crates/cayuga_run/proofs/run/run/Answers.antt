@@ -1,5 +1,7 @@
-use Rattle.std.proofs.Common.{rules}
+use Rattle.std.proofs.Common.{◌≡◌, ◌∙◌, ap, true, rules}
+use Rattle.cay_host.specs.declared.side.Side.TheVariants.{Queries, Events}
 use Rattle.cay_host.specs.Files.{file_of}
+use Rattle.cay_host.specs.Sides.{with_side}
 use Rattle.catalogue.specs.Catalogued.{judged_of}
 use Rattle.cayuga_run.specs.Works.{Run}
 use Rattle.cayuga_run.proofs.RunLemmas.{is_accepted, memory_silent, run_fails, run_finishes}
@@ -36,14 +38,16 @@ returns g c =
     let old = told c.args.host.now in
     let accepted = c.in-Ok.ensures.accepted in
     let taken = c.in-Ok-take_side.taken in
+    let read : (told c.take_side.new.host).attached ≡ (told c.attach.new.self).attached = c.take_side.ensures.same.attached in
+    let attached : (told c.attach.new.self).attached ≡ with_side Events true (told c.accept.new.host).attached = search rules in
     run_finishes run c.args.limit (judged_of c.in-Ok.catalogue) taken.bytes.items taken.end old (told c.take_side.new.host) (told c.finish.new.host) c.finish.result
     (record {
       accept = accepted.accepts;
       there = record { queries = accepted.there; events = search rules };
       events = search rules;
       ends = search rules;
-      queries_attached = search rules;
-      events_attached = search rules;
+      queries_attached = ap (λ f. f Queries) (read ∙ attached) ∙ accepted.attached;
+      events_attached = ap (λ f. f Events) (read ∙ attached);
       silent = record { written = search rules; lines = search rules };
       write_faults = search rules;
     }) c.finish.ensures.finishes c.finish.ensures.same

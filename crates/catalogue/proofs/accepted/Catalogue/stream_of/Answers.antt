@@ -7,7 +7,7 @@ use Rattle.catalogue.proofs.accepted.Catalogue.stream_of.Goals as goal
 -- there are as many statements as declared streams and queries
 pub overflow_sub-result : goal.overflow_sub-result
 overflow_sub-result c =
-    let held : AreHeld c.args.self.now c.self.inside.places.items = subst (λ (v : Catalogued). AreHeld v c.self.inside.places.items) c.self.view_is c.self.invariant in
+    let held : AreHeld c.args.self.now c.self.inside.places.items = subst (λ (v : Catalogued). AreHeld v c.self.inside.places.items) c.self.view_is c.self.invariant.0 in
     let sum : length c.args.self.now.declared + length c.args.self.now.order ≡ length c.args.self.now.file.statements = sizes c.args.self.now held.accepted in
     let size : c.size.result ≡ length c.args.self.now.file.statements = c.size.ensures.value ∙ ap (λ (v : Catalogued). length v.file.statements) c.self.view_is in
     let queries : c.len.result ≡ length c.args.self.now.order = c.len.ensures ∙ ap (λ (v : Catalogued). length v.order) c.self.view_is in
@@ -16,7 +16,7 @@ overflow_sub-result c =
 -- the stream is one of them
 pub overflow_add-result : goal.overflow_add-result
 overflow_add-result c =
-    let held : AreHeld c.args.self.now c.self.inside.places.items = subst (λ (v : Catalogued). AreHeld v c.self.inside.places.items) c.self.view_is c.self.invariant in
+    let held : AreHeld c.args.self.now c.self.inside.places.items = subst (λ (v : Catalogued). AreHeld v c.self.inside.places.items) c.self.view_is c.self.invariant.0 in
     let sum : length c.args.self.now.declared + length c.args.self.now.order ≡ length c.args.self.now.file.statements = sizes c.args.self.now held.accepted in
     let size : c.size.result ≡ length c.args.self.now.file.statements = c.size.ensures.value ∙ ap (λ (v : Catalogued). length v.file.statements) c.self.view_is in
     let queries : c.len.result ≡ length c.args.self.now.order = c.len.ensures ∙ ap (λ (v : Catalogued). length v.order) c.self.view_is in
@@ -26,7 +26,7 @@ overflow_add-result c =
 
 pub returns-clause-value : goal.returns-clause-value
 returns-clause-value c =
-    let held : AreHeld c.args.self.now c.self.inside.places.items = subst (λ (v : Catalogued). AreHeld v c.self.inside.places.items) c.self.view_is c.self.invariant in
+    let held : AreHeld c.args.self.now c.self.inside.places.items = subst (λ (v : Catalogued). AreHeld v c.self.inside.places.items) c.self.view_is c.self.invariant.0 in
     let sum : length c.args.self.now.declared + length c.args.self.now.order ≡ length c.args.self.now.file.statements = sizes c.args.self.now held.accepted in
     let size : c.size.result ≡ length c.args.self.now.file.statements = c.size.ensures.value ∙ ap (λ (v : Catalogued). length v.file.statements) c.self.view_is in
     let queries : c.len.result ≡ length c.args.self.now.order = c.len.ensures ∙ ap (λ (v : Catalogued). length v.order) c.self.view_is in
@@ -35,7 +35,7 @@ returns-clause-value c =
 
 pub returns-clause-within : goal.returns-clause-within
 returns-clause-within c =
-    let held : AreHeld c.args.self.now c.self.inside.places.items = subst (λ (v : Catalogued). AreHeld v c.self.inside.places.items) c.self.view_is c.self.invariant in
+    let held : AreHeld c.args.self.now c.self.inside.places.items = subst (λ (v : Catalogued). AreHeld v c.self.inside.places.items) c.self.view_is c.self.invariant.0 in
     let sum : length c.args.self.now.declared + length c.args.self.now.order ≡ length c.args.self.now.file.statements = sizes c.args.self.now held.accepted in
     let size : c.size.result ≡ length c.args.self.now.file.statements = c.size.ensures.value ∙ ap (λ (v : Catalogued). length v.file.statements) c.self.view_is in
     let queries : c.len.result ≡ length c.args.self.now.order = c.len.ensures ∙ ap (λ (v : Catalogued). length v.order) c.self.view_is in

@@ -1,0 +1,149 @@
+-- The lines of an accepted query text.
+use Rattle.std.proofs.Common.{◌≡◌, ◌∙◌, sym, ap, refl, subst, ℕ, zero, suc, ◌+◌, ◌<◌, ◌≤◌, ◌^◌, ◌*◌, length, get_or, take, drop, List, [], ◌∷◌, ◌++◌, map, arith}
+use Rattle.std.specs.Prelude.{Some, slice_get}
+use Rattle.std.specs.List.{All, range_with_len}
+use Rattle.std.proofs.lemmas.List.{ext_get_or, get_or-map, length-map, length_push}
+use Rattle.std.proofs.lemmas.List.Elements.{All-from_get_or}
+use Rattle.std.proofs.lemmas.List.FromFn.{get_or-map-range_with_len, length-range_with_len}
+use Rattle.event_types.specs.declared.kind.Kind.{Kind}
+use Rattle.semantics.specs.Programs.{Program, Query}
+use Rattle.semantics.specs.TypedPrograms.{PublishInTurn}
+use Rattle.algebra.specs.declared.expression.Expr.{Expr}
+use Rattle.algebra.specs.Views.{ex_of}
+use Rattle.stream_schema.specs.Schema.{Attr, kinds_of}
+use Rattle.stream_schema.specs.Streams.{Entry, schemas_of}
+use Rattle.cel_grammar.specs.Trees.{Statement}
+use Rattle.cel_grammar.specs.Views.{statement_of}
+use Rattle.chains.specs.Chains.{chain_end, end_of, first_hidden, outs_of}
+use Rattle.chains.specs.declared.chains.Chains.{Chains}
+use Rattle.chains.specs.Widths.{HasWidths}
+use Rattle.chains.specs.Work.{AreChains, kinds_by, work_of}
+use Rattle.chains.proofs.ProgramLemmas.{expressions_of, few_taken, layout_made, lines_made, work_end, work_typed, work_wide}
+use Rattle.cel_types.specs.SourceLaws.{kinds_in}
+use Rattle.catalogue.specs.Catalogued.{Catalogued, IsAccepted, judged_of, queries_by}
+use Rattle.catalogue.specs.Chained.{AreChained, kinds_of_each}
+use Rattle.catalogue.specs.Filing.{most_bytes}
+use Rattle.catalogue.specs.Judgement.{program_of, query_at}
+use Rattle.catalogue.specs.Tables.{HasPlaces}
+use Rattle.catalogue.specs.Typing.{Publish, none, next, published_by}
+use Rattle.catalogue.proofs.HeldLemmas.{place_is, place_small, queries_long, sizes, stream_at}
+use Rattle.catalogue.proofs.RoomLemmas.{file_few, published_few, queries_few}
+use Rattle.catalogue.proofs.TurnLemmas.{in_turn}
+use Rattle.catalogue.proofs.WideLemmas.{published_wide}
+
+-- each query publishes a stream
+all_count : {queries : List Statement} {streams all : List Entry} {order : List ℕ} {done : List Query} → Publish queries streams order all done → length all ≡ length streams + length order
+all_count (none {streams = streams}) = let e : length streams ≡ length streams + 0 = omega arith in e
+all_count (next {streams = streams} {order = order} {s = s} schema x there typed rest) = let later = all_count rest in omega (arith, later, length_push streams (published_by s schema))
+
+-- queries by their expressions
+by_expressions : (number : ℕ) (streams : List Entry) (xs : List Expr) → length (queries_by number streams xs) ≡ length xs → expressions_of (queries_by number streams xs) ≡ map ex_of xs
+by_expressions number [] [] same = refl
+by_expressions number [] (x ∷ xs) same = absurd (omega (arith, same))
+by_expressions number (s ∷ streams) [] same = refl
+by_expressions number (s ∷ streams) (x ∷ xs) same = let rest = by_expressions (number + 1) streams xs (omega (arith, same)) in λ i. ex_of x ∷ rest i
+
+kinds_mapped : (schemas : List (List Attr)) (stream : ℕ) → get_or (map kinds_of schemas) stream [] ≡ kinds_of (get_or schemas stream [])
+kinds_mapped [] stream = refl
+kinds_mapped (s ∷ schemas) zero = refl
+kinds_mapped (s ∷ schemas) (suc stream) = kinds_mapped schemas stream
+
+-- the kinds of one stream more
+pub taken_more : (schemas : List (List Attr)) (stream : ℕ) (schema : List Attr) → slice_get schemas stream ≡ Some schema → take (suc stream) (map kinds_of schemas) ≡ take stream (map kinds_of schemas) ++ kinds_of schema ∷ []
+taken_more [] stream schema e = cc
+taken_more (s ∷ schemas) zero schema e = let same : s ≡ schema = cc in ap (λ x. kinds_of x ∷ []) same
+taken_more (s ∷ schemas) (suc stream) schema e = ap (λ ks. kinds_of s ∷ ks) (taken_more schemas stream schema e)
+
+-- both parts of the streams are all of them
+pub streams_whole : (many : ℕ) (streams : List Entry) → take many streams ++ drop many streams ≡ streams
+streams_whole zero streams = refl
+streams_whole (suc many) [] = refl
+streams_whole (suc many) (s ∷ streams) = ap (λ ss. s ∷ ss) (streams_whole many streams)
+
+-- each statement has a stream
+pub many_streams : (c : Catalogued) → IsAccepted c → length (c.declared ++ c.published) ≡ length c.file.statements
+many_streams c accepted = all_count accepted.accepts.publishes ∙ sizes c accepted
+
+-- what the making of lines asks
+pub record Asks (expressions : List Expr) (places : List ℕ) (declared : ℕ) (kinds : List (List Kind)) : Type 0 where
+  pub typed : PublishInTurn (kinds_by kinds) declared (work_of declared expressions)
+  pub wide : All (λ query. HasWidths (kinds_by kinds) query.expr) (work_of declared expressions)
+  pub given : length kinds ≡ declared + length expressions
+  pub placed : All (λ place. place < length expressions) places
+  pub room : chain_end (work_of declared expressions) (declared + length expressions) < 2 ^ 64
+
+module _ (c : Catalogued) (accepted : IsAccepted c) (typed : length c.expressions ≡ length c.order) (places : List ℕ) (placed : HasPlaces c.order places) where
+  abbrev program : Program
+  program = program_of (judged_of c)
+
+  abbrev lists : List (List Kind)
+  lists = kinds_of_each (c.declared ++ c.published)
+
+  kinds_same : kinds_in (c.declared ++ c.published) ≡ kinds_by lists
+  kinds_same = λ i stream. sym (kinds_mapped (schemas_of (c.declared ++ c.published)) stream) i
+
+  turns : PublishInTurn (kinds_by lists) (length c.declared) program.order
+  turns = subst (λ (kinds : ℕ → List Kind). PublishInTurn kinds (length c.declared) program.order) kinds_same (in_turn accepted.accepts.publishes)
+
+  widths : All (λ query. HasWidths (kinds_by lists) query.expr) program.order
+  widths = subst (λ (kinds : ℕ → List Kind). All (λ (q : Query). HasWidths kinds q.expr) program.order) kinds_same (published_wide accepted.accepts.publishes)
+
+  same : expressions_of program.order ≡ map ex_of c.expressions
+  same = by_expressions (length c.declared) c.published c.expressions (queries_long c accepted ∙ sym typed)
+
+  long : length lists ≡ length c.declared + length c.expressions
+  long =
+      let all = all_count accepted.accepts.publishes in
+      let schemas = length-map (schemas_of (c.declared ++ c.published)) kinds_of ∙ length-map (c.declared ++ c.published) (λ s. s.schema) in omega (arith, all, schemas, typed)
+
+  place_within : (query : ℕ) → query < length places → get_or places query 0 < length c.expressions
+  place_within query within = let small = place_small c accepted places placed query (omega (arith, within, placed.long)) in omega (arith, small, typed)
+
+  room : end_of program < 2 ^ 64
+  room =
+      let ss : List Statement = map statement_of c.file.statements in
+      let most : end_of program ≤ first_hidden program + 1024 * length program.order = few_taken program.order (published_few (queries_few accepted.text ss c.file.lines accepted.accepts.file) accepted.accepts.publishes) (first_hidden program) in
+      let many : length ss ≤ most_bytes = file_few accepted.text ss c.file.lines accepted.accepts.file in
+      let queries : length program.order ≡ length c.order = queries_long c accepted in
+      let first : first_hidden program ≡ length c.declared + length program.order = refl in
+      omega (arith, most, many, queries, first, sizes c accepted, length-map c.file.statements statement_of)
+
+  asked : Asks c.expressions places (length c.declared) lists
+  asked = record {
+    typed = work_typed lists program c.expressions same turns;
+    wide = work_wide lists program c.expressions same widths;
+    given = long;
+    placed = All-from_get_or (λ place. place < length c.expressions) places 0 place_within;
+    room = let end = work_end lists program c.expressions same in omega (arith, room, end);
+  }
+
+  -- each query's stream stands at its place behind the declared ones
+  outs : map (λ place. length c.declared + place) places ≡ outs_of program
+  outs =
+      ext_get_or 0 (map (λ place. length c.declared + place) places) (outs_of program)
+      (length-map places (λ place. length c.declared + place) ∙ placed.long ∙ sym (length-map (map (query_at (judged_of c)) (range_with_len 0 (length c.order))) (λ q. q.stream) ∙ length-map (range_with_len 0 (length c.order)) (query_at (judged_of c)) ∙ length-range_with_len 0 (length c.order)))
+      (λ query within. one query (subst (λ n. query < n) (length-map places (λ place. length c.declared + place)) within))
+    where
+      query_there : (query : ℕ) → query < length c.order → get_or (map (λ (q : Query). q.stream) (map (query_at (judged_of c)) (range_with_len 0 (length c.order)))) query 0 ≡ (query_at (judged_of c) query).stream
+      query_there query small =
+          let all = map (query_at (judged_of c)) (range_with_len 0 (length c.order)) in
+          get_or-map (λ (q : Query). q.stream) all query (query_at (judged_of c) query) 0 (let many = length-map (range_with_len 0 (length c.order)) (query_at (judged_of c)) in omega (arith, small, many, length-range_with_len 0 (length c.order)))
+          ∙ ap (λ (q : Query). q.stream) (get_or-map-range_with_len (query_at (judged_of c)) 0 (length c.order) query query (query_at (judged_of c) query) small (omega arith))
+
+      one : (query : ℕ) → query < length places → get_or (map (λ place. length c.declared + place) places) query 0 ≡ get_or (outs_of (program_of (judged_of c))) query 0
+      one query within =
+          let small : query < length c.order = omega (arith, within, placed.long) in
+          let place = get_or places query 0 in
+          get_or-map (λ place. length c.declared + place) places query 0 0 within
+          ∙ stream_at c accepted query place (sym (place_is c accepted places placed query small)) (place_small c accepted places placed query small) ∙ sym (query_there query small)
+
+  module _ (declared : ℕ) (kinds : List (List Kind)) (declared_is : declared ≡ length c.declared) (kinds_are : kinds ≡ lists) where
+    pub asks : Asks c.expressions places declared kinds
+    asks = subst (λ (s : ℕ × List (List Kind)). Asks c.expressions places s.0 s.1) (λ i. (sym declared_is i, sym kinds_are i)) asked
+
+    pub chained : (chains : Chains) → AreChains declared c.expressions places kinds chains → AreChained c chains
+    chained chains made =
+        let own = subst (λ (s : ℕ × List (List Kind)). AreChains s.0 c.expressions places s.1 chains) (λ i. (declared_is i, kinds_are i)) made in record {
+          lines = lines_made lists program c.expressions same turns places outs chains own;
+          layout = layout_made lists program c.expressions same turns places outs chains own;
+        }
