@@ -1,9 +1,10 @@
 -- A line that comes to its end.
-use Rattle.std.proofs.Common.{◌≡◌, ◌⊎◌, ◌∙◌, sym, ap, refl, subst, inl, inr, ℕ, ◌+◌, ◌<◌, ◌==◌, ◌||◌, Bool, true, false, cond, length, List, [], ◌∷◌, ◌++◌, arith}
-use Rattle.std.specs.Prelude.{Option, Some, None, is_some, sum_by, count_by}
+use Rattle.std.proofs.Common.{◌≡◌, ◌⊎◌, ◌∙◌, sym, ap, refl, subst, inl, inr, ℕ, ◌+◌, ◌<◌, ◌==◌, ◌||◌, Bool, true, false, cond, length, append-nil, List, [], ◌∷◌, ◌++◌, arith}
+use Rattle.std.specs.Prelude.{Option, Some, None, Contains, is_some, sum_by, count_by}
 use Rattle.std.specs.List.{list_any}
 use Rattle.std.specs.List.Sorted.{IsPermutation}
 use Rattle.std.specs.Option.{option_and_then}
+use Rattle.std.proofs.lemmas.Grind.{flat_map-append}
 use Rattle.std.proofs.lemmas.List.{length-append, length-set}
 use Rattle.std.proofs.lemmas.List.Folds.{list_any-append}
 use Rattle.std.proofs.lemmas.List.Sorted.{IsPermutation-append_left, IsPermutation-trans}
@@ -15,12 +16,12 @@ use Rattle.automaton.specs.declared.network.State.{State}
 use Rattle.automaton.specs.Growing.{IsGrown, IsWhole, ended, with_end}
 use Rattle.automaton.specs.NetworkLines.{ArePlaces, Ending, ending_at, endings_by}
 use Rattle.automaton.specs.Plain.{numbered}
-use Rattle.automaton.specs.Prefixes.{path}
+use Rattle.automaton.specs.Prefixes.{beginnings, path, prefixes}
 use Rattle.automaton.specs.States.{Net, before_at, before_by, before_in, edges_at, edges_in, ends_at, ends_in, entry_at, entry_in, is_used, root_by, root_in, state_at, tells}
 use Rattle.automaton.proofs.CountLemmas.{bit, count-set}
 use Rattle.automaton.proofs.NumberLemmas.{are_same_or_not, is_other, is_same}
 use Rattle.automaton.proofs.PlaceLemmas.{endings_more, numbered-push, path-ending, path-hops, path-root}
-use Rattle.automaton.proofs.SlotLemmas.{KeepsEntries, at_kept, changed_here, changed_other, end_edges, end_ends, end_entry, end_is_some, ended_reads, used_below}
+use Rattle.automaton.proofs.SlotLemmas.{KeepsEntries, at_kept, at_one, at_used, changed_here, changed_other, end_edges, end_ends, end_entry, end_is_some, ended_reads, used_below}
 
 module _ (net : Net) (tip : ℕ) (end : End) (used : is_used net tip ≡ true) where
   end_inside : tip < length net
@@ -70,6 +71,10 @@ begins-push : (stream : ℕ) (lines : List Line) (line : Line) → (list_any (λ
 begins-push stream lines line =
     sym (list_any-append (λ (l : Line). l.root == stream) lines (line ∷ []) ∙ ap (λ b. list_any (λ (l : Line). l.root == stream) lines || b) (or_false (line.root == stream)))
 
+-- its prefixes come to those of the others
+prefixes-push : (lines : List Line) (line : Line) → prefixes lines ++ beginnings (path line) ≡ prefixes (lines ++ line ∷ [])
+prefixes-push lines line = ap (λ ps. prefixes lines ++ ps) (sym (append-nil (beginnings (path line)))) ∙ sym (flat_map-append (λ l. beginnings (path l)) lines (line ∷ []))
+
 -- the line comes to its end
 pub grown_end : (lines : List Line) (line : Line) (tip : ℕ) (net : Net) → IsGrown lines tip (path line) net
     → IsWhole (lines ++ line ∷ []) (ended tip (record { step = line.last; out = line.out; number = length lines }) net)
@@ -101,6 +106,10 @@ grown_end lines line tip net g =
             end_count net tip end used (λ slot. is_some (before_in slot)) (ap (λ o. is_some (option_and_then before_by o)) (end_entry end (state_at net tip)))
             ∙ g.waiting ∙ ap (λ (hops : List Hop). sum_by (λ l. length l.hops) lines + length hops) (path-hops line) ∙ sym (sum_by_push (λ (l : Line). length l.hops) lines line);
         apart = end_apart net tip end used g.apart;
+        prefixes_only = λ number prefix at.
+            let u : is_used (ended tip end net) number ≡ true = at_used (ended tip end net) number prefix at in
+            subst (λ among. Contains among prefix) (prefixes-push lines line)
+            (subst (Contains (prefixes lines ++ beginnings (path line))) (at_one (ended tip end net) number (g.places number) prefix (are number u) at) (g.prefixes_only number (sym (end_used net tip end used number) ∙ u)));
       };
       full = end_count net tip end used is_some (end_is_some end (state_at net tip)) ∙ g.full ∙ sym (length-set net tip (with_end end (state_at net tip)));
     }

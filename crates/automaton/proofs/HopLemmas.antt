@@ -1,9 +1,10 @@
 -- A line that comes one hop further.
-use Rattle.std.proofs.Common.{◌≡◌, ◌⊎◌, ◌∙◌, sym, ap, subst, inl, inr, ℕ, suc, ◌+◌, ◌<◌, ◌==◌, Bool, true, cond, length, set, add-one, List, [], ◌∷◌, ◌++◌, arith}
-use Rattle.std.specs.Prelude.{Option, Some, None, is_some, count_by}
+use Rattle.std.proofs.Common.{◌≡◌, ◌⊎◌, ◌∙◌, sym, ap, subst, inl, inr, ℕ, suc, ◌+◌, ◌<◌, ◌==◌, Bool, true, cond, length, set, add-one, append_assoc, List, [], ◌∷◌, ◌++◌, arith}
+use Rattle.std.specs.Prelude.{Option, Some, None, Contains, is_some, count_by}
 use Rattle.std.specs.List.Sorted.{IsPermutation}
 use Rattle.std.specs.Option.{option_and_then}
 use Rattle.std.proofs.lemmas.List.{length-append}
+use Rattle.std.proofs.lemmas.List.Elements.{Contains-append_left, Contains-push}
 use Rattle.automaton.specs.declared.line.Hop.{Hop}
 use Rattle.automaton.specs.declared.line.Line.{Line}
 use Rattle.automaton.specs.declared.network.Entry.TheVariants as entry
@@ -11,11 +12,11 @@ use Rattle.automaton.specs.declared.network.State.{State}
 use Rattle.automaton.specs.Growing.{IsGrown, hopped, with_edge}
 use Rattle.automaton.specs.Networks.{IsAt}
 use Rattle.automaton.specs.Plain.{numbered}
-use Rattle.automaton.specs.Prefixes.{Prefix, After, hops_of}
+use Rattle.automaton.specs.Prefixes.{Prefix, After, beginnings, hops_of, prefixes}
 use Rattle.automaton.specs.States.{Net, before_at, before_by, before_in, edges_at, edges_in, ends_at, ends_in, entry_at, entry_in, is_used, root_by, root_in, state_at, tells}
 use Rattle.automaton.proofs.CountLemmas.{bit, count-push, count-set}
 use Rattle.automaton.proofs.NumberLemmas.{are_same_or_not, is_other, is_same}
-use Rattle.automaton.proofs.PlaceLemmas.{nothing_before, nothing_edged, endings_kept, entries_kept, none_behind, place_here, places_kept, with_place}
+use Rattle.automaton.proofs.PlaceLemmas.{nothing_before, nothing_edged, endings_kept, entries_kept, none_behind, place_here, places_kept, prefixes_kept, with_place}
 use Rattle.automaton.proofs.SlotLemmas.{at_kept, edge_edges, edge_ends, edge_entry, edge_is_some, hopped_here, hopped_length, hopped_other, hopped_reads, hopped_tip, used_below}
 
 module _ (net : Net) (tip : ℕ) (hop : Hop) (used : is_used net tip ≡ true) where
@@ -141,9 +142,16 @@ grown_hop lines tip prefix hop net g =
       here = place_here (length net) (After prefix hop) g.places;
       used = ap is_some (hopped_here net tip hop lt);
       same = subst (λ es. IsPermutation es (numbered 0 lines)) (sym (endings_kept net (hopped tip hop net) longer entries g.places g.are_places (After prefix hop) here (hop_ends net tip hop used))) g.same;
+      prefixes_only =
+          prefixes_kept net (hopped tip hop net) longer entries g.places g.are_places (After prefix hop) here (prefixes lines ++ beginnings (After prefix hop)) (λ number u. longer_prefixes (g.places number) (g.prefixes_only number u))
+          (subst (λ among. Contains among (After prefix hop)) (append_assoc (prefixes lines) (beginnings prefix) (After prefix hop ∷ [])) (Contains-push (prefixes lines ++ beginnings prefix) (After prefix hop)));
       roots = λ stream.
           (let roots = hop_count net tip hop used (λ slot. tells stream (root_in slot)) (ap (λ o. tells stream (option_and_then root_by o)) (edge_entry (length net) (state_at net tip))) in roots ∙ omega arith ∙ g.roots stream);
       waiting = waits ∙ omega (arith, g.waiting, length-append (hops_of prefix) (hop ∷ []));
       apart = hop_apart net tip hop used g.apart;
       full = hop_count net tip hop used is_some (edge_is_some (length net) (state_at net tip)) ∙ omega (arith, g.full, longer);
     }
+  where
+    longer_prefixes : (other : Prefix) → Contains (prefixes lines ++ beginnings prefix) other → Contains (prefixes lines ++ beginnings (After prefix hop)) other
+    longer_prefixes other has =
+        subst (λ among. Contains among other) (append_assoc (prefixes lines) (beginnings prefix) (After prefix hop ∷ [])) (Contains-append_left (prefixes lines ++ beginnings prefix) (After prefix hop ∷ []) other has)

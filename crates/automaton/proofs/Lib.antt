@@ -5,6 +5,7 @@ pub mod GrowingLemmas
 pub mod HopLemmas
 pub mod NumberLemmas
 pub mod PlaceLemmas
+pub mod PlainLemmas
 pub mod RootLemmas
 pub mod SlotLemmas
 pub mod TypingLemmas

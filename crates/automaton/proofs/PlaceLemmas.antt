@@ -1,13 +1,12 @@
 -- The prefixes of states and the lines of ends, where a network gets one more state or one more end.
 use Rattle.std.proofs.Common.{◌≡◌, ◌⊎◌, ◌∙◌, sym, ap, refl, subst, inl, inr, ℕ, suc, ◌+◌, ◌<◌, ◌==◌, true, cond, length, List, [], ◌∷◌, ◌++◌, map, append_assoc, append-nil, arith}
-use Rattle.std.specs.Prelude.{Option, Some, None, is_some}
+use Rattle.std.specs.Prelude.{None, Contains, is_some}
 use Rattle.std.specs.List.{flat_map, range_with_len}
 use Rattle.std.specs.List.Sorted.{IsPermutation}
 use Rattle.std.proofs.lemmas.List.{get_or_past, map-append}
 use Rattle.automaton.specs.declared.line.Hop.{Hop}
 use Rattle.automaton.specs.declared.line.Line.{Line}
 use Rattle.automaton.specs.declared.network.End.{End}
-use Rattle.automaton.specs.declared.network.State.{State}
 use Rattle.automaton.specs.NetworkLines.{ArePlaces, Ending, ending_at, endings_by}
 use Rattle.automaton.specs.Networks.{IsAt}
 use Rattle.automaton.specs.Plain.{numbered}
@@ -15,12 +14,7 @@ use Rattle.automaton.specs.Prefixes.{Prefix, Root, After, extended, hops_of, pat
 use Rattle.automaton.specs.States.{Net, before_at, before_in, edges_at, edges_in, ends_at, ends_in, entry_at, entry_in, is_used, state_at}
 use Rattle.automaton.proofs.CountLemmas.{range_more, range-push, range_same}
 use Rattle.automaton.proofs.NumberLemmas.{are_same_or_not, is_other, is_same}
-use Rattle.automaton.proofs.SlotLemmas.{KeepsEntries, at_kept}
-
--- a state is there where it is entered somehow
-entry_there : (slot : Option State) → is_some (entry_in slot) ≡ is_some slot
-entry_there None = refl
-entry_there (Some state) = refl
+use Rattle.automaton.proofs.SlotLemmas.{KeepsEntries, at_kept, entry_there}
 
 -- no state has the number behind all others
 pub none_behind : (net : Net) → state_at net (length net) ≡ None
@@ -48,15 +42,23 @@ module _ (net grown : Net) (longer : length grown ≡ suc (length net)) (entries
   pub entries_kept : KeepsEntries net grown
   entries_kept number e is = entries number (λ same. let gone : entry_at net number ≡ None = ap (entry_at net) same ∙ ap entry_in (none_behind net) in cc) ∙ is
 
+  was_used : (number : ℕ) → (number ≡ length net → ⊥) → is_used grown number ≡ true → is_used net number ≡ true
+  was_used number ne used = sym (entry_there (state_at net number)) ∙ ap is_some (sym (entries number ne)) ∙ entry_there (state_at grown number) ∙ used
+
   module _ (places : ℕ → Prefix) (are : ArePlaces net places) (prefix : Prefix) (here : IsAt grown (length net) prefix) where
     pub places_kept : ArePlaces grown (with_place (length net) prefix places)
     places_kept number used = by_number (are_same_or_not number (length net))
       where
         by_number : (number ≡ length net) ⊎ (number ≡ length net → ⊥) → IsAt grown number (with_place (length net) prefix places number)
         by_number (inl same) = subst (λ n. IsAt grown n (with_place (length net) prefix places n)) (sym same) (subst (IsAt grown (length net)) (sym (place_here (length net) prefix places)) here)
-        by_number (inr ne) =
-            let was : is_used net number ≡ true = sym (entry_there (state_at net number)) ∙ ap is_some (sym (entries number ne)) ∙ entry_there (state_at grown number) ∙ used in
-            subst (IsAt grown number) (sym (place_other (length net) prefix places number ne)) (at_kept net grown entries_kept number (places number) (are number was))
+        by_number (inr ne) = subst (IsAt grown number) (sym (place_other (length net) prefix places number ne)) (at_kept net grown entries_kept number (places number) (are number (was_used number ne used)))
+
+    pub prefixes_kept : (among : List Prefix) → ((number : ℕ) → is_used net number ≡ true → Contains among (places number)) → Contains among prefix → (number : ℕ) → is_used grown number ≡ true → Contains among (with_place (length net) prefix places number)
+    prefixes_kept among each new number used = by_number (are_same_or_not number (length net))
+      where
+        by_number : (number ≡ length net) ⊎ (number ≡ length net → ⊥) → Contains among (with_place (length net) prefix places number)
+        by_number (inl same) = subst (λ n. Contains among (with_place (length net) prefix places n)) (sym same) (subst (Contains among) (sym (place_here (length net) prefix places)) new)
+        by_number (inr ne) = subst (Contains among) (sym (place_other (length net) prefix places number ne)) (each number (was_used number ne used))
 
     pub endings_kept : ((number : ℕ) → ends_at grown number ≡ ends_at net number) → endings_by (with_place (length net) prefix places) grown ≡ endings_by places net
     endings_kept ends =

@@ -5,6 +5,7 @@ use Rattle.std.specs.List.{list_any}
 use Rattle.std.specs.List.Sorted.{IsPermutation}
 use Rattle.std.specs.Option.{option_and_then, unwrap_or}
 use Rattle.std.proofs.lemmas.List.{length-append}
+use Rattle.std.proofs.lemmas.List.Elements.{Contains-append_left, Contains-push}
 use Rattle.std.proofs.lemmas.List.Quantifiers.{position-Some}
 use Rattle.std.proofs.lemmas.List.Sorted.{IsPermutation-refl}
 use Rattle.automaton.specs.declared.line.Line.{Line}
@@ -14,22 +15,16 @@ use Rattle.automaton.specs.declared.network.State.{State}
 use Rattle.automaton.specs.Growing.{IsGrown, IsWhole, rooted}
 use Rattle.automaton.specs.Networks.{IsAt}
 use Rattle.automaton.specs.Plain.{numbered}
-use Rattle.automaton.specs.Prefixes.{Prefix, Root, After}
+use Rattle.automaton.specs.Prefixes.{Root, beginnings, prefixes}
 use Rattle.automaton.specs.States.{Net, before_at, before_by, before_in, edges_in, ends_in, entry_at, entry_in, is_used, root_at, root_by, root_in, state_at, tells}
 use Rattle.automaton.proofs.CountLemmas.{bit, count-has, count-push, none_counted}
 use Rattle.automaton.proofs.NumberLemmas.{are_same_or_not, is_other, same_number}
-use Rattle.automaton.proofs.PlaceLemmas.{nothing_before, endings_kept, none_behind, place_here, places_kept, with_place}
-use Rattle.automaton.proofs.SlotLemmas.{pushed_here, pushed_other}
+use Rattle.automaton.proofs.PlaceLemmas.{nothing_before, endings_kept, none_behind, place_here, places_kept, prefixes_kept, with_place}
+use Rattle.automaton.proofs.SlotLemmas.{at_used, pushed_here, pushed_other, root_place}
 
 root_tells : (stream : ℕ) (o : Option ℕ) → tells stream o ≡ true → o ≡ Some stream
 root_tells stream None e = cc
 root_tells stream (Some root) e = ap (λ s. Some s) (same_number root stream e)
-
--- a root state stands for its stream alone
-root_place : (net : Net) (number stream : ℕ) (prefix : Prefix) → root_at net number ≡ Some stream → IsAt net number prefix → prefix ≡ Root stream
-root_place net number stream (Root root) is here = let same : root ≡ stream = cc in ap Root same
-root_place net number stream (After prefix hop) is here =
-    let none : root_at net number ≡ None = ap (option_and_then root_by) here.1 in absurd (let no : None ≡ Some stream = cc in cc)
 
 -- a root state isn't entered from another
 root_not_waiting : (net : Net) (number stream before : ℕ) → root_at net number ≡ Some stream → before_at net number ≡ Some before → ⊥
@@ -76,6 +71,7 @@ module _ (lines : List Line) (stream : ℕ) (net : Net) (whole : IsWhole lines n
         here = root_place net tip stream (endings.places tip) is (endings.are_places tip used);
         used = used;
         same = endings.same;
+        prefixes_only = λ number u. Contains-append_left (prefixes lines) (beginnings (Root stream)) (endings.places number) (whole.plain.prefixes_only number (endings.places number) (endings.are_places number u));
         roots = λ other. whole.plain.roots other ∙ begun_or (list_any (λ l. l.root == other) lines) stream other (λ e. begun other e (count-has is_its net tip None at_tip.0 at_tip.1));
         waiting = whole.plain.waiting ∙ (let e : sum_by (λ l. length l.hops) lines ≡ sum_by (λ l. length l.hops) lines + 0 = omega arith in e);
         apart = λ number before from.
@@ -121,6 +117,10 @@ module _ (lines : List Line) (stream : ℕ) (net : Net) (whole : IsWhole lines n
         here = place_here (length net) (Root stream) endings.places;
         used = ap is_some (pushed_here net new_root);
         same = subst (λ es. IsPermutation es (numbered 0 lines)) (sym (endings_kept net grown longer entries endings.places endings.are_places (Root stream) here (pushed_slots ends_in refl))) endings.same;
+        prefixes_only =
+            prefixes_kept net grown longer entries endings.places endings.are_places (Root stream) here (prefixes lines ++ beginnings (Root stream))
+            (λ number u. Contains-append_left (prefixes lines) (beginnings (Root stream)) (endings.places number) (whole.plain.prefixes_only number (endings.places number) (endings.are_places number u)))
+            (Contains-push (prefixes lines) (Root stream));
         roots = λ other.
             count-push (λ slot. tells other (root_in slot)) net new_root ∙ ap (λ n. n + bit (stream == other)) (whole.plain.roots other)
             ∙ begun_new (list_any (λ l. l.root == other) lines) stream other (λ e. unbegun other e (none_counted is_its net absent));
@@ -163,6 +163,7 @@ whole_none = record {
     roots = λ stream. refl;
     waiting = refl;
     apart = λ number before from. absurd (let no : None ≡ Some before = from in cc);
+    prefixes_only = λ number prefix here. absurd (let no : false ≡ true = at_used [] number prefix here in cc);
   };
   full = refl;
 }

@@ -1,5 +1,5 @@
 -- What stands at the numbers of a network that grows.
-use Rattle.std.proofs.Common.{◌≡◌, ◌⊎◌, ◌∙◌, sym, ap, refl, inl, inr, ℕ, ◌+◌, ◌<◌, ◌≤◌, length, set, true, [], ◌∷◌, ◌++◌, arith}
+use Rattle.std.proofs.Common.{◌≡◌, ◌⊎◌, ◌∙◌, sym, ap, refl, subst, inl, inr, ℕ, ◌+◌, ◌<◌, ◌≤◌, length, set, true, [], ◌∷◌, ◌++◌, arith}
 use Rattle.std.specs.Prelude.{Option, Some, None, is_some}
 use Rattle.std.specs.Option.{option_and_then}
 use Rattle.std.proofs.Math.ListN.{get_or-append}
@@ -14,7 +14,7 @@ use Rattle.automaton.specs.declared.network.State.{State}
 use Rattle.automaton.specs.Growing.{ended, hopped, with_edge, with_end}
 use Rattle.automaton.specs.Networks.{IsAt}
 use Rattle.automaton.specs.Prefixes.{Prefix, Root, After}
-use Rattle.automaton.specs.States.{Net, edges_in, ends_in, entry_at, entry_in, is_used, root_by, state_at}
+use Rattle.automaton.specs.States.{Net, edges_in, ends_in, entry_at, entry_in, is_used, root_at, root_by, state_at}
 use Rattle.automaton.proofs.NumberLemmas.{are_same_or_not}
 
 -- a number that is used is below the length
@@ -125,7 +125,7 @@ module _ {X : Type 0} (f : Option State → X) (net : Net) (tip : ℕ) where
 abbrev pub KeepsEntries : Net → Net → Type 0
 KeepsEntries net grown = (number : ℕ) (e : Entry) → entry_at net number ≡ Some e → entry_at grown number ≡ Some e
 
-root_entry : (o : Option Entry) (stream : ℕ) → option_and_then root_by o ≡ Some stream → o ≡ Some (entry.Root stream)
+pub root_entry : (o : Option Entry) (stream : ℕ) → option_and_then root_by o ≡ Some stream → o ≡ Some (entry.Root stream)
 root_entry None stream e = cc
 root_entry (Some (entry.Root root)) stream e = let same : root ≡ stream = cc in ap (λ s. Some (entry.Root s)) same
 root_entry (Some (entry.Waiting before hop)) stream e = cc
@@ -134,7 +134,27 @@ pub at_kept : (net grown : Net) → KeepsEntries net grown → (number : ℕ) (p
 at_kept net grown keeps number (Root stream) here = ap (option_and_then root_by) (keeps number (entry.Root stream) (root_entry (entry_at net number) stream here))
 at_kept net grown keeps number (After prefix hop) here = (here.0, keeps number (entry.Waiting here.0 hop) here.1, at_kept net grown keeps here.0 prefix here.2)
 
--- a state that stands for a prefix is entered somehow
-pub at_used : (net : Net) (number : ℕ) (prefix : Prefix) → IsAt net number prefix → is_some (entry_at net number) ≡ true
-at_used net number (Root stream) here = ap is_some (root_entry (entry_at net number) stream here)
-at_used net number (After prefix hop) here = ap is_some here.1
+-- a state is there where it is entered somehow
+pub entry_there : (slot : Option State) → is_some (entry_in slot) ≡ is_some slot
+entry_there None = refl
+entry_there (Some state) = refl
+
+-- and so where it stands for a prefix
+pub at_used : (net : Net) (number : ℕ) (prefix : Prefix) → IsAt net number prefix → is_used net number ≡ true
+at_used net number (Root stream) here = sym (entry_there (state_at net number)) ∙ ap is_some (root_entry (entry_at net number) stream here)
+at_used net number (After prefix hop) here = sym (entry_there (state_at net number)) ∙ ap is_some here.1
+
+-- a root state stands for its stream alone
+pub root_place : (net : Net) (number stream : ℕ) (prefix : Prefix) → root_at net number ≡ Some stream → IsAt net number prefix → prefix ≡ Root stream
+root_place net number stream (Root root) is here = let same : root ≡ stream = cc in ap Root same
+root_place net number stream (After prefix hop) is here =
+    let none : root_at net number ≡ None = ap (option_and_then root_by) here.1 in absurd (let no : None ≡ Some stream = cc in cc)
+
+-- a state stands for one prefix
+pub at_one : (net : Net) (number : ℕ) (prefix other : Prefix) → IsAt net number prefix → IsAt net number other → prefix ≡ other
+at_one net number (Root stream) other here there = sym (root_place net number stream other here there)
+at_one net number (After prefix hop) (Root stream) here there = root_place net number stream (After prefix hop) there here
+at_one net number (After prefix hop) (After other step) here there =
+    let before : here.0 ≡ there.0 = cc in
+    let same : hop ≡ step = cc in
+    λ i. After (at_one net here.0 prefix other here.2 (subst (λ n. IsAt net n other) (sym before) there.2) i) (same i)

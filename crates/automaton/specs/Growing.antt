@@ -1,5 +1,5 @@
 -- Networks that grow by a state, an edge or an end. No public clause cites this.
-use Rattle.std.specs.Prelude.{◌≡◌, ℕ, ◌+◌, ◌==◌, ◌||◌, IsTrue, if◌then◌else◌, is_some, List, [], ◌∷◌, ◌++◌, length, Option, Some, None, slice_set, sum_by, count_by}
+use Rattle.std.specs.Prelude.{◌≡◌, ℕ, ◌+◌, ◌==◌, ◌||◌, IsTrue, if◌then◌else◌, is_some, List, [], ◌∷◌, ◌++◌, length, Option, Some, None, Contains, slice_set, sum_by, count_by}
 use Rattle.std.specs.List.{list_any}
 use Rattle.std.specs.List.Sorted.{IsPermutation}
 use Rattle.automaton.specs.declared.line.Hop.{Hop}
@@ -10,7 +10,7 @@ use Rattle.automaton.specs.declared.network.State.{State}
 use Rattle.automaton.specs.NetworkLines.{ArePlaces, endings_by}
 use Rattle.automaton.specs.Networks.{IsNetwork}
 use Rattle.automaton.specs.Plain.{IsPlain, numbered}
-use Rattle.automaton.specs.Prefixes.{Prefix, hops_of, root_of}
+use Rattle.automaton.specs.Prefixes.{Prefix, beginnings, hops_of, prefixes, root_of}
 use Rattle.automaton.specs.States.{Net, before_at, before_in, edges_at, ends_at, is_used, root_in, state_at, tells}
 
 -- the state with one more forward edge
@@ -50,6 +50,7 @@ pub record IsGrown (lines : List Line) (tip : ℕ) (prefix : Prefix) (net : Net)
   pub here : places tip ≡ prefix
   pub used : IsTrue (is_used net tip)
   pub same : IsPermutation (endings_by places net) (numbered 0 lines)
+  pub prefixes_only : (number : ℕ) → IsTrue (is_used net number) → Contains (prefixes lines ++ beginnings prefix) (places number)
   pub roots : (stream : ℕ) → count_by (λ slot. tells stream (root_in slot)) net ≡ (if list_any (λ line. line.root == stream) lines || (root_of prefix == stream) then 1 else 0)
   pub waiting : count_by (λ slot. is_some (before_in slot)) net ≡ sum_by (λ line. length line.hops) lines + length (hops_of prefix)
   pub apart : (number before : ℕ) → before_at net number ≡ Some before → length (edges_at net number) + length (ends_at net number) ≡ (if number == tip then 0 else 1)

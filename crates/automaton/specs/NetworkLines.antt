@@ -1,5 +1,5 @@
 -- The lines of a network, one for each end, and layouts that fit it.
-use Rattle.std.specs.Prelude.{◌≡◌, ℕ, IsTrue, List, length, map}
+use Rattle.std.specs.Prelude.{◌≡◌, ℕ, IsTrue, List, length, map, Contains}
 use Rattle.std.specs.List.{flat_map, range_with_len}
 use Rattle.std.specs.List.Sorted.{IsPermutation}
 use Rattle.automaton.specs.declared.layout.Layout.{Layout}
@@ -7,7 +7,7 @@ use Rattle.automaton.specs.declared.line.Line.{Line}
 use Rattle.automaton.specs.declared.network.End.{End}
 use Rattle.automaton.specs.Layouts.{LayoutFits}
 use Rattle.automaton.specs.Networks.{IsAt}
-use Rattle.automaton.specs.Prefixes.{Prefix, hops_of, root_of}
+use Rattle.automaton.specs.Prefixes.{Prefix, hops_of, prefixes, root_of}
 use Rattle.automaton.specs.States.{Net, ends_at, is_used}
 
 -- a line with the number of its end
@@ -33,9 +33,13 @@ pub record HasEndings (net : Net) (endings : List Ending) : Type 0 where
   pub are_places : ArePlaces net places
   pub same : IsPermutation (endings_by places net) endings
 
--- the same of the lines, whatever the numbers of their ends
+-- states stand for prefixes of these lines alone
+abbrev pub ArePrefixes : Net → List Line → Type 0
+ArePrefixes net lines = (number : ℕ) (prefix : Prefix) → IsAt net number prefix → Contains (prefixes lines) prefix
+
+-- the network has exactly these lines, whatever the numbers of their ends, and no states but those of their prefixes
 abbrev pub HasLines : Net → List Line → Type 0
-HasLines net lines = (endings : List Ending) × HasEndings net endings × (map (λ ending. ending.line) endings ≡ lines)
+HasLines net lines = (endings : List Ending) × HasEndings net endings × (map (λ ending. ending.line) endings ≡ lines) × ArePrefixes net lines
 
 -- a layout fits a network where it fits the network's lines
 abbrev pub NetworkFits : Net → Layout → Type 0

@@ -1,5 +1,5 @@
 -- The laws over the lines of programs.
-use Rattle.std.proofs.Common.{◌≡◌, refl, subst, ℕ, ◌+◌, ◌<◌, length, List, [], ◌∷◌, map, arith}
+use Rattle.std.proofs.Common.{◌≡◌, refl, subst, ℕ, ◌+◌, ◌<◌, length, List, [], ◌∷◌, arith}
 use Rattle.std.specs.List.{All}
 use Rattle.std.specs.List.Sorted.{IsPermutation}
 use Rattle.std.proofs.lemmas.List.Elements.{All-nil, All-cons, All-weaker}
@@ -9,12 +9,6 @@ use Rattle.semantics.specs.Histories.{Heard}
 use Rattle.semantics.specs.Programs.{Program, Query, declared_streams, env}
 use Rattle.semantics.specs.TypedPrograms.{HaveTheirKinds, IsProgram, PublishInTurn}
 use Rattle.algebra.proofs.ProgramLemmas.{declared_kinds}
-use Rattle.automaton.specs.declared.layout.Layout.{Layout}
-use Rattle.automaton.specs.declared.line.Line.{Line}
-use Rattle.automaton.specs.Layouts.{LayoutFits}
-use Rattle.automaton.specs.NetworkLines.{Ending, NetworkFits}
-use Rattle.automaton.specs.Plain.{IsPlain, numbered}
-use Rattle.automaton.specs.States.{Net}
 use Rattle.automaton.specs.Work.{IsInOrder, completed}
 use Rattle.chains.specs.Chains.{first_hidden, lines_of, order_of}
 use Rattle.chains.specs.Laws.{IsWideProgram}
@@ -44,11 +38,3 @@ derived_so kinds program history is all =
     All-permutation same program.order program.queries (IsPermutation-sym program.queries program.order is.typed.same_queries)
     (All-weaker (λ query. query.stream < first_hidden program) same (λ query less. subst (IsPermutation (made query.stream)) (meant kinds program history is all query.stream less) (IsPermutation-refl (made query.stream))) program.order
     (published_below kinds program.declared program.order is.typed.in_turn))
-
--- plain networks
-numbered_lines : (number : ℕ) (lines : List Line) → map (λ (ending : Ending). ending.line) (numbered number lines) ≡ lines
-numbered_lines number [] = refl
-numbered_lines number (line ∷ lines) = λ i. line ∷ numbered_lines (number + 1) lines i
-
-pub plain_fits : (lines : List Line) (layout : Layout) (net : Net) → LayoutFits lines layout → IsPlain lines net → NetworkFits net layout
-plain_fits lines layout net fits plain = (lines, (numbered 0 lines, plain.endings, numbered_lines 0 lines), fits)

@@ -13,7 +13,7 @@ use Rattle.automaton.specs.declared.line.Line.{Line}
 use Rattle.automaton.specs.Layouts.{LayoutFits}
 use Rattle.splitter.specs.Laws.{split_order}
 use Rattle.splitter.specs.Splitting.{parts_of, split_lines}
-use Rattle.chains.specs.Chains.{chain_end, chain_lines, chain_order, end_of, first_hidden, lines_of, order_of, outs_of}
+use Rattle.chains.specs.Chains.{chain_end, chain_lines, chain_order, end_of, first_hidden, lines_of, outs_of}
 use Rattle.chains.specs.declared.chains.Chains.{Chains}
 use Rattle.chains.specs.Layouts.{IsLayoutOf}
 use Rattle.chains.specs.Widths.{HasWidths}

@@ -1,4 +1,4 @@
-use Rattle.chains.proofs.LawLemmas.{plain_fits}
+use Rattle.automaton.proofs.PlainLemmas.{plain_fits}
 use Rattle.chains.proofs.laws.plain_networks_fit.Goals as goal
 
 pub returns : goal.returns
