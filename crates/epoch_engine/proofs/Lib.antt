@@ -3,6 +3,7 @@ pub mod DeriveLemmas
 pub mod EdgeLemmas
 pub mod EngineLemmas
 pub mod FlowLemmas
+pub mod KindingLemmas
 pub mod LeftLemmas
 pub mod Lists
 pub mod SettleLemmas

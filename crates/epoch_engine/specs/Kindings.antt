@@ -1,4 +1,4 @@
--- The kinds of what comes to the states of a network.
+-- The kinds of what comes to the states of a network. No public clause names this.
 use Rattle.std.specs.Prelude.{◌≡◌, ℕ, List, Some, slice_get}
 use Rattle.std.specs.List.{All}
 use Rattle.event_types.specs.declared.kind.Kind.{Kind}

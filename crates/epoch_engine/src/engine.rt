@@ -2,7 +2,6 @@
 ghost use Rattle.std.specs.Prelude.{◌≡◌, ℕ, false, true, IfNone, IfOk, IfSome, IsSome, IsTrue, OnErr, OnOk};
 ghost use Rattle.automaton.specs.NetworkLines.{NetworkFits};
 ghost use Rattle.epoch_engine.specs.Closes.{Closes, KeepsPlan};
-ghost use Rattle.epoch_engine.specs.Kindings.{AreStatesTyped};
 ghost use Rattle.epoch_engine.specs.Offers.{IsAnswer, IsHeard, IsLate, IsNotAhead, with_tuple};
 ghost use Rattle.epoch_engine.specs.Starts.{IsNew};
 
@@ -52,8 +51,7 @@ impl Model for Engine {
 impl Engine {
     /// An engine over a network and a layout that fit it, which has heard nothing.
     pub fn make(alloc: Global, network: Network, layout: Layout) -> Result<Engine, Memory>
-        requires fits { NetworkFits network layout }
-        requires typed { AreStatesTyped layout.kinds network }
+        requires { NetworkFits network layout }
         ensures { IfOk result (λ engine. IsNew network layout engine) }
     {
         let tables = Tables::make(alloc, &network, layout.kinds.len())?;

@@ -64,7 +64,7 @@ extended_hops : (p : Prefix) (hops more : List Hop) → extended p (hops ++ more
 extended_hops p [] more = refl
 extended_hops p (h ∷ hops) more = extended_hops (After p h) hops more
 
-path_back : (p : Prefix) → extended (Root (root_of p)) (hops_of p) ≡ p
+pub path_back : (p : Prefix) → extended (Root (root_of p)) (hops_of p) ≡ p
 path_back (Root s) = refl
 path_back (After p h) = extended_hops (Root (root_of p)) (hops_of p) (h ∷ []) ∙ ap (λ q. After q h) (path_back p)
 
@@ -82,7 +82,7 @@ module _ {Y : Type 0} (Q : Y → Type 0) where
   back (y ∷ ys) zs all = back ys zs (All-tail Q y (ys ++ zs) all)
 
 module _ {X Y : Type 0} (Q : Y → Type 0) where
-  flat_all : (f : X → List Y) (xs : List X) → All Q (flat_map f xs) → All (λ x. All Q (f x)) xs
+  pub flat_all : (f : X → List Y) (xs : List X) → All Q (flat_map f xs) → All (λ x. All Q (f x)) xs
   flat_all f [] all = All-nil (λ x. All Q (f x))
   flat_all f (x ∷ xs) all = All-cons (λ x. All Q (f x)) x xs (front Q (f x) (flat_map f xs) all) (flat_all f xs (back Q (f x) (flat_map f xs) all))
 
