@@ -1,5 +1,6 @@
 //! A list of items.
 ghost use Rattle.std.specs.Prelude.{◌≡◌, ◌<◌, [], ◌∷◌, ◌++◌, length, take, slice_get, IsPermutation, IsSorted, IfOk, IfErr, OnOk, OnErr};
+ghost use Rattle.std.specs.List.{remove};
 ghost use Rattle.std.specs.Borrow.{sem};
 ghost use Rattle.std.specs.Cmp.Lexicographic.{slice_cmp, slice_partial_cmp, pointwise, lists_equiv, lists_agrees, lists_total, lists_ties, lists_po, lists_per};
 
@@ -65,6 +66,15 @@ impl<T> List<T> {
             Ok(()) => Ok(()),
             Err(refused) => Err(refused.value),
         }
+    }
+
+    /// Takes the item at a place out, counted from 0; those behind it move up. Takes no memory.
+    pub fn remove(&mut self, place: usize) -> T
+        requires { place < length self.old }
+        ensures value { slice_get self.old place ≡ Some result }
+        ensures others { self.new ≡ remove self.old place }
+    {
+        self.held.remove(place)
     }
 
     /// Drops the items behind the first so many, and keeps their room. Takes no memory.

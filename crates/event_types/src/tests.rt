@@ -64,7 +64,7 @@ fn numbers_come_by_size_then_over_then_texts_by_bytes(rt: HostRuntime) -> Result
 }
 
 #[test]
-fn numbers_are_put_at_the_end_and_sorted_by_size(rt: HostRuntime) -> Result<(), Fail> {
+fn numbers_are_put_at_the_end_sorted_by_size_and_taken_out(rt: HostRuntime) -> Result<(), Fail> {
     let alloc = rt.alloc();
     let mut numbers: Numbers = List::new(alloc);
     for number in [10, 2, 300, 2] {
@@ -75,6 +75,8 @@ fn numbers_are_put_at_the_end_and_sorted_by_size(rt: HostRuntime) -> Result<(), 
     assert_eq!(rt; numbers.as_slice(), [2, 2, 10, 300].as_slice());
     assert!(rt; numbers.len() == 4);
     assert_eq!(rt; *numbers.get(3), 300);
+    assert_eq!(rt; numbers.remove(2), 10);
+    assert_eq!(rt; numbers.as_slice(), [2, 2, 300].as_slice());
     numbers.clear();
     assert_eq!(rt; numbers.len(), 0);
     Ok(())
