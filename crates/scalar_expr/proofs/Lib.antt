@@ -1,6 +1,7 @@
 pub mod Bags
 pub mod CanonicalLaws
 pub mod CanonicalLemmas
+pub mod EqualityLemmas
 pub mod KindLemmas
 pub mod NextsLemmas
 pub mod OneForm

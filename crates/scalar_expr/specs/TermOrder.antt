@@ -7,7 +7,8 @@ use Rattle.event_types.specs.declared.comparison.Cmp.TheVariants as cmp
 use Rattle.event_types.specs.Order.{value_cmp}
 use Rattle.semantics.specs.Scalars.{Op, Add, Sub, Mul, Min, Max, Sc, Lit, Event, Binding, Dur, Two, Pr, True, Test, And, Or, Not}
 use Rattle.scalar_expr.specs.declared.predicate.Pred.{Pred}
-use Rattle.scalar_expr.specs.Views.{pr_of}
+use Rattle.scalar_expr.specs.declared.scalar.Scalar.{Scalar}
+use Rattle.scalar_expr.specs.Views.{pr_of, sc_of}
 
 -- the place of an operation among the scalars
 abbrev pub op_place : Op → ℕ
@@ -57,6 +58,10 @@ pr_cmp (And p q) (And p' q') = ordering_then (pr_cmp p p') (pr_cmp q q')
 pr_cmp (Or p q) (Or p' q') = ordering_then (pr_cmp p p') (pr_cmp q q')
 pr_cmp (Not p) (Not p') = pr_cmp p p'
 pr_cmp p q = nat_cmp (pr_place p) (pr_place q)
+
+-- the same order of the program's scalars
+abbrev pub scalar_cmp : Scalar → Scalar → Ordering
+scalar_cmp = on sc_of sc_cmp
 
 -- the same order of the program's predicates
 abbrev pub pred_cmp : Pred → Pred → Ordering

@@ -11,8 +11,8 @@ use Rattle.event_types.specs.declared.value.Value.TheVariants as value
 use Rattle.event_types.specs.OrderLaws.{value_total}
 use Rattle.event_types.specs.Order.{value_cmp}
 use Rattle.semantics.specs.Scalars.{Add, Sub, Mul, Min, Max, Sc, Lit, Event, Binding, Dur, Two, Pr, True, Test, And, Or, Not}
-use Rattle.scalar_expr.specs.Views.{pr_of}
-use Rattle.scalar_expr.specs.TermOrder.{op_place, cmp_place, sc_cmp, pr_cmp, pred_cmp}
+use Rattle.scalar_expr.specs.Views.{pr_of, sc_of}
+use Rattle.scalar_expr.specs.TermOrder.{op_place, cmp_place, sc_cmp, pr_cmp, pred_cmp, scalar_cmp}
 
 -- a place as a word
 abbrev place : ℕ → Value
@@ -75,6 +75,15 @@ words_decide z (Two Mul x y) r s = refl
 words_decide z (Two Min x y) r s = refl
 words_decide z (Two Max x y) r s = refl
 words_decide x y r s = refl
+
+sc_cmp_by_words : (x y : Sc) → on words words_cmp x y ≡ sc_cmp x y
+sc_cmp_by_words x y = (λ i. words_cmp (sym (append-nil (words x)) i) (sym (append-nil (words y)) i)) ∙ words_decide x y [] [] ∙ then-equal (sc_cmp x y)
+
+pub sc_total : IsTotalOrder sc_cmp
+sc_total = let same : on words words_cmp ≡ sc_cmp = λ i x y. sc_cmp_by_words x y i in subst IsTotalOrder same (on_total words (lists_total value_total))
+
+pub scalar_total : IsTotalOrder scalar_cmp
+scalar_total = on_total sc_of sc_total
 
 -- the same of predicates
 pr_words_decide : (p q : Pr) (r s : List Value) → words_cmp (pr_words p ++ r) (pr_words q ++ s) ≡ ordering_then (pr_cmp p q) (words_cmp r s)

@@ -1,5 +1,5 @@
 //! Conjunctions.
-ghost use Rattle.std.specs.Prelude.{◌≡◌, ◌<◌, ◌++◌, length, map, slice_get, IfOk, OnOk};
+ghost use Rattle.std.specs.Prelude.{◌≡◌, ◌<◌, ◌++◌, ◌↔◌, length, map, slice_get, IfOk, IsTrue, OnOk};
 ghost use Rattle.std.specs.Option.{option_map};
 ghost use Rattle.scalar_expr.specs.Canonical.{distinct_parts};
 ghost use Rattle.scalar_expr.specs.Classes.{class_of, class_seen};
@@ -71,6 +71,13 @@ impl Conj {
         add_copies(alloc, &mut parts, &self.parts)?;
         add_copies(alloc, &mut parts, &other.parts)?;
         Ok(Conj::of(parts))
+    }
+
+    /// Whether both have the same parts. Takes no memory.
+    pub fn is_same(&self, other: &Conj) -> bool
+        ensures { IsTrue result ↔ (self.now ≡ other.now) }
+    {
+        self.parts() == other.parts()
     }
 
     /// An equal conjunction.

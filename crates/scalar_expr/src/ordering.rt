@@ -5,8 +5,8 @@ ghost use Rattle.std.specs.Ordering.{as_partial_cmp, eq_by_cmp};
 ghost use Rattle.std.specs.Cmp.Rules.{comparing};
 ghost use Rattle.std.proofs.Common.{rules};
 ghost use Rattle.std.proofs.lemmas.Cmp.{eq_by_cmp_equiv};
-ghost use Rattle.scalar_expr.specs.TermOrder.{sc_place, pr_place, sc_cmp, pr_cmp, pred_cmp};
-ghost use Rattle.scalar_expr.specs.TermOrderLaws.{pred_total};
+ghost use Rattle.scalar_expr.specs.TermOrder.{sc_place, pr_place, sc_cmp, pr_cmp, pred_cmp, scalar_cmp};
+ghost use Rattle.scalar_expr.specs.TermOrderLaws.{pred_total, scalar_total};
 ghost use Rattle.scalar_expr.specs.Views.{sc_of, pr_of};
 
 use crate::predicate::Pred;
@@ -72,6 +72,16 @@ fn pred_place(p: &Pred) -> u8
         Pred::And(_, _) => 2,
         Pred::Or(_, _) => 3,
         Pred::Not(_) => 4,
+    }
+}
+
+impl PartialEq for Scalar {
+    ghost eq = { eq_by_cmp scalar_cmp };
+
+    ghost laws = { partial_equiv_from_equiv (eq_by_cmp_equiv scalar_total) };
+
+    fn eq(&self, other: &Scalar) -> bool {
+        compare_scalars(self, other).is_eq()
     }
 }
 

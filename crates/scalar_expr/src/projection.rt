@@ -1,5 +1,5 @@
 //! Projections.
-ghost use Rattle.std.specs.Prelude.{◌≡◌, ◌≤◌, map, IfOk};
+ghost use Rattle.std.specs.Prelude.{◌≡◌, ◌≤◌, ◌↔◌, map, IfOk, IsTrue};
 ghost use Rattle.std.specs.List.{All};
 ghost use Rattle.std.specs.Option.{option_copied};
 ghost use Rattle.semantics.specs.Values.{applied, val};
@@ -40,6 +40,13 @@ impl Map {
         ensures { map sc_of result.now ≡ self.now.parts }
     {
         self.parts.as_slice()
+    }
+
+    /// Whether both have the same width and scalars. Takes no memory.
+    pub fn is_same(&self, other: &Map) -> bool
+        ensures { IsTrue result ↔ (self.now ≡ other.now) }
+    {
+        self.width == other.width && self.scalars() == other.scalars()
     }
 
     /// An equal projection.

@@ -48,7 +48,10 @@ fn parts_of_two_conjunctions_stand_once_each(rt: HostRuntime) -> Result<(), Fail
         both_hold(alloc, bound(9, Cmp::Ne, false), bound(5, Cmp::Gt, false))?,
     )?;
     assert_eq!(rt; above.both(alloc, &other)?.size(), 2);
-    assert_eq!(rt; other.copy(alloc)?.size(), 2);
+    let copy = other.copy(alloc)?;
+    assert_eq!(rt; copy.size(), 2);
+    assert!(rt; copy.is_same(&other));
+    assert!(rt; !copy.is_same(&above));
     Ok(())
 }
 
@@ -57,7 +60,9 @@ fn projection_gives_the_values_and_the_times(rt: HostRuntime) -> Result<(), Fail
     let alloc = rt.alloc();
     let mut parts = List::new(alloc);
     assert!(rt; parts.push(Scalar::Dur).is_ok());
-    let spans = Map { width: 1, parts }.copy(alloc)?;
+    let projection = Map { width: 1, parts };
+    let spans = projection.copy(alloc)?;
+    assert!(rt; spans.is_same(&projection));
     let Ok(event) = Tuple::make(List::new(alloc), 4, 9) else {
         panic!(rt; "starts after its detection")
     };
