@@ -16,7 +16,7 @@ use Rattle.automaton.proofs.HopLemmas.{grown_hop}
 use Rattle.automaton.proofs.EndLemmas.{grown_end}
 
 -- a slot that is read is the state at its number
-same_read : (net : Net) (tip : ℕ) (slot : Option State) → tip < length net → slot ≡ get_or net tip slot → slot ≡ state_at net tip
+pub same_read : (net : Net) (tip : ℕ) (slot : Option State) → tip < length net → slot ≡ get_or net tip slot → slot ≡ state_at net tip
 same_read net tip slot lt is =
     let one = slice_get-get_or net tip slot lt in let other = slice_get-get_or net tip None lt in cc
 

@@ -1,5 +1,5 @@
 -- Networks that grow by a state, an edge or an end. No public clause cites this.
-use Rattle.std.specs.Prelude.{◌≡◌, ℕ, ◌+◌, ◌==◌, ◌||◌, IsTrue, if◌then◌else◌, is_some, List, [], ◌∷◌, ◌++◌, length, Option, Some, None, Contains, slice_set, sum_by, count_by}
+use Rattle.std.specs.Prelude.{◌≡◌, ℕ, ◌+◌, ◌-◌, ◌==◌, ◌||◌, IsTrue, if◌then◌else◌, is_some, List, [], ◌∷◌, ◌++◌, length, nat_lt, take, Option, Some, None, Contains, slice_set, sum_by, count_by}
 use Rattle.std.specs.List.{list_any}
 use Rattle.std.specs.List.Sorted.{IsPermutation}
 use Rattle.automaton.specs.declared.line.Hop.{Hop}
@@ -7,21 +7,13 @@ use Rattle.automaton.specs.declared.line.Line.{Line}
 use Rattle.automaton.specs.declared.network.End.{End}
 use Rattle.automaton.specs.declared.network.Entry.TheVariants as entry
 use Rattle.automaton.specs.declared.network.State.{State}
+pub use Rattle.automaton.specs.Changes.{with_edge, with_end}
+use Rattle.automaton.specs.Changes.{without_edge}
 use Rattle.automaton.specs.NetworkLines.{ArePlaces, endings_by}
 use Rattle.automaton.specs.Networks.{IsNetwork}
 use Rattle.automaton.specs.Plain.{IsPlain, numbered}
 use Rattle.automaton.specs.Prefixes.{Prefix, beginnings, hops_of, prefixes, root_of}
 use Rattle.automaton.specs.States.{Net, before_at, before_in, edges_at, ends_at, is_used, root_in, state_at, tells}
-
--- the state with one more forward edge
-abbrev pub with_edge : ℕ → Option State → Option State
-with_edge next None = None
-with_edge next (Some state) = Some (record { entry = state.entry; edges = state.edges ++ next ∷ []; ends = state.ends })
-
--- the state with one more end
-abbrev pub with_end : End → Option State → Option State
-with_end end None = None
-with_end end (Some state) = Some (record { entry = state.entry; edges = state.edges; ends = state.ends ++ end ∷ [] })
 
 -- the network with a root state for a stream, where none was found
 abbrev pub rooted : ℕ → Option ℕ → Net → Net
@@ -35,6 +27,24 @@ hopped tip hop net = slice_set net tip (with_edge (length net) (state_at net tip
 -- the network with one more end at the state that the line has reached
 abbrev pub ended : ℕ → End → Net → Net
 ended tip end net = slice_set net tip (with_end end (state_at net tip))
+
+-- the state without its last forward edge
+abbrev pub without_last : Option State → Option State
+without_last None = None
+without_last (Some state) = Some (record { entry = state.entry; edges = take (length state.edges - 1) state.edges; ends = state.ends })
+
+-- the network with a state at a number, which is the next one at most
+abbrev pub placed : ℕ → Option State → Net → Net
+placed number slot net = if nat_lt number (length net) then slice_set net number slot else net ++ slot ∷ []
+
+-- the network with a forward edge more
+abbrev pub edged : ℕ → ℕ → Net → Net
+edged before next net = slice_set net before (with_edge next (state_at net before))
+
+-- the network without the forward edge from a state to another
+abbrev pub unedged : Option ℕ → ℕ → Net → Net
+unedged None next net = net
+unedged (Some before) next net = slice_set net before (without_edge next (state_at net before))
 
 -- the plain network of these lines, each number of which is used
 pub record IsWhole (lines : List Line) (net : Net) : Type 0 where

@@ -1,4 +1,5 @@
 pub mod Additions
+pub mod Changes
 pub mod Flow
 pub mod Growing
 pub mod Layouts

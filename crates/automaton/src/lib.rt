@@ -3,6 +3,7 @@
 //! Contracts see a `Network` as its states by number, with nothing at a number that no state has.
 #![tactic(auto)]
 
+mod equality;
 mod laws;
 mod layout;
 mod line;

@@ -4,6 +4,8 @@ ghost use Rattle.std.specs.Option.{option_copied};
 ghost use Rattle.automaton.specs.Networks.{IsNetwork};
 ghost use Rattle.automaton.specs.States.{edges_at, ends_at, is_used, root_at, state_at, step_at, wait_at};
 
+mod growing;
+
 use crate::line::Hop;
 use crate::step::Step;
 use crate::wait::Wait;

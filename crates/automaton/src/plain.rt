@@ -1,5 +1,5 @@
 //! Plain networks, in which lines share no waiting state.
-ghost use Rattle.std.specs.Prelude.{◌≡◌, ◌<◌, ◌++◌, ◌∷◌, [], List, length, position, IfOk, OnOk};
+ghost use Rattle.std.specs.Prelude.{◌≡◌, ◌<◌, ◌++◌, ◌∷◌, [], List, length, position, IfOk, OnErr, OnOk};
 ghost use Rattle.std.specs.Option.{unwrap_or};
 ghost use Rattle.automaton.specs.declared.line.Line.{Line};
 ghost use Rattle.automaton.specs.Growing.{IsWhole, ended, hopped, rooted, with_edge, with_end};
@@ -87,7 +87,7 @@ fn is_root(slot: &Option<State>, stream: StreamId) -> bool
 }
 
 // A state that is entered so, without edges and ends.
-fn entered(alloc: Global, entry: Entry) -> State
+pub(crate) fn entered(alloc: Global, entry: Entry) -> State
     ensures { result ≡ record { entry = entry; edges = []; ends = [] } }
 {
     State {
@@ -116,8 +116,9 @@ fn add_hop(
 }
 
 // Adds a forward edge.
-fn put_edge(slot: &mut Option<State>, next: usize) -> Result<(), Memory>
-    ensures { OnOk result (slot.new ≡ with_edge next slot.old) }
+pub(crate) fn put_edge(slot: &mut Option<State>, next: usize) -> Result<(), Memory>
+    ensures edge { OnOk result (slot.new ≡ with_edge next slot.old) }
+    ensures kept { OnErr result (slot.new ≡ slot.old) }
 {
     if let Some(state) = slot {
         if state.edges.push(next).is_err() {
@@ -128,8 +129,9 @@ fn put_edge(slot: &mut Option<State>, next: usize) -> Result<(), Memory>
 }
 
 // Adds an end.
-fn put_end(slot: &mut Option<State>, end: End) -> Result<(), Memory>
-    ensures { OnOk result (slot.new ≡ with_end end slot.old) }
+pub(crate) fn put_end(slot: &mut Option<State>, end: End) -> Result<(), Memory>
+    ensures end { OnOk result (slot.new ≡ with_end end slot.old) }
+    ensures kept { OnErr result (slot.new ≡ slot.old) }
 {
     if let Some(state) = slot {
         if state.ends.push(end).is_err() {

@@ -21,4 +21,4 @@ returns c =
     on_ok_weaker c.put_end.result
     (λ put. last_state (λ lines. IsWhole lines c.args.slots.now.items) c.args.line.now c.as_slice-hop-items.result.now c.loop-hop.hop-index c.loop-hop.slots.items c.loop-hop.tip c.args.number c.in_ok-step.step c.index_mut.result.now c.put_end.new.slot
     c.loop-hop-test.false c.as_slice-hop-items.ensures c.in_ok-step.ensures c.index_mut.ensures.value put c.loop-hop.invariant)
-    c.put_end.ensures
+    c.put_end.ensures.end

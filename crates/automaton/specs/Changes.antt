@@ -1,0 +1,84 @@
+-- Networks that a state, an edge or an end comes to or leaves.
+use Rattle.std.specs.Prelude.{◌≡◌, ◌≢◌, ℕ, ◌+◌, ◌==◌, max, false, not, List, [], ◌∷◌, ◌++◌, Option, Some, None, count_by, is_some, length}
+use Rattle.std.specs.List.{filter}
+use Rattle.std.specs.Option.{option_and_then}
+use Rattle.automaton.specs.declared.line.Hop.{Hop}
+use Rattle.automaton.specs.declared.network.End.{End}
+use Rattle.automaton.specs.declared.network.Entry.{Entry}
+use Rattle.automaton.specs.declared.network.Entry.TheVariants as entry
+use Rattle.automaton.specs.declared.network.State.{State}
+use Rattle.automaton.specs.States.{Net, before_at, entry_in, state_at, tells}
+
+-- a state that is entered so, without edges and ends
+abbrev pub bare : Entry → Option State
+bare entry = Some (record { entry = entry; edges = []; ends = [] })
+
+-- the hop through which a waiting state is entered
+abbrev pub hop_by : Entry → Option Hop
+hop_by (entry.Root stream) = None
+hop_by (entry.Waiting before hop) = Some hop
+
+-- the same of a state that may be there
+abbrev pub hop_in : Option State → Option Hop
+hop_in slot = option_and_then hop_by (entry_in slot)
+
+-- the state with one more forward edge
+abbrev pub with_edge : ℕ → Option State → Option State
+with_edge next None = None
+with_edge next (Some state) = Some (record { entry = state.entry; edges = state.edges ++ next ∷ []; ends = state.ends })
+
+-- the state with one more end
+abbrev pub with_end : End → Option State → Option State
+with_end end None = None
+with_end end (Some state) = Some (record { entry = state.entry; edges = state.edges; ends = state.ends ++ end ∷ [] })
+
+-- the numbers but this one
+abbrev pub without_number : ℕ → List ℕ → List ℕ
+without_number number numbers = filter (λ other. not (other == number)) numbers
+
+-- the ends but those of this number
+abbrev pub without_numbered : ℕ → List End → List End
+without_numbered number ends = filter (λ end. not (end.number == number)) ends
+
+-- the state without its forward edge to this number
+abbrev pub without_edge : ℕ → Option State → Option State
+without_edge next None = None
+without_edge next (Some state) = Some (record { entry = state.entry; edges = without_number next state.edges; ends = state.ends })
+
+-- the state without the end of this number
+abbrev pub without_end : ℕ → Option State → Option State
+without_end number None = None
+without_end number (Some state) = Some (record { entry = state.entry; edges = state.edges; ends = without_numbered number state.ends })
+
+-- a root state comes, at this number
+pub record AddsRoot (number stream : ℕ) (old new : Net) : Type 0 where
+  pub here : state_at new number ≡ bare (entry.Root stream)
+  pub others : (other : ℕ) → other ≢ number → state_at new other ≡ state_at old other
+  pub places : length new ≡ max (length old) (number + 1)
+
+-- the waiting state of a hop comes, at this number, and a forward edge leads there from the state before it
+pub record AddsHop (number before : ℕ) (hop : Hop) (old new : Net) : Type 0 where
+  pub here : state_at new number ≡ bare (entry.Waiting before hop)
+  pub edge : state_at new before ≡ with_edge number (state_at old before)
+  pub others : (other : ℕ) → other ≢ number → other ≢ before → state_at new other ≡ state_at old other
+  pub places : length new ≡ max (length old) (number + 1)
+
+-- an end comes to a state, behind those that are there
+pub record AddsEnd (state : ℕ) (end : End) (old new : Net) : Type 0 where
+  pub here : state_at new state ≡ with_end end (state_at old state)
+  pub others : (other : ℕ) → other ≢ state → state_at new other ≡ state_at old other
+  pub places : length new ≡ length old
+
+-- the end of this number leaves a state
+pub record RemovesEnd (state number : ℕ) (old new : Net) : Type 0 where
+  pub here : state_at new state ≡ without_end number (state_at old state)
+  pub others : (other : ℕ) → other ≢ state → state_at new other ≡ state_at old other
+  pub places : length new ≡ length old
+
+-- the state of this number leaves, and with it the forward edge that leads there, so there is one state less
+pub record RemovesState (number : ℕ) (old new : Net) : Type 0 where
+  pub here : state_at new number ≡ None
+  pub edge : (before : ℕ) → before_at old number ≡ Some before → state_at new before ≡ without_edge number (state_at old before)
+  pub others : (other : ℕ) → other ≢ number → tells other (before_at old number) ≡ false → state_at new other ≡ state_at old other
+  pub places : length new ≡ length old
+  pub fewer : count_by is_some new + 1 ≡ count_by is_some old

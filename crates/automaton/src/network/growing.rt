@@ -1,0 +1,237 @@
+//! Networks that grow and shrink by a state, an edge or an end.
+ghost use Rattle.std.specs.Prelude.{◌≡◌, ◌≢◌, ◌<◌, ◌≤◌, ◌-◌, ◌↔◌, ℕ, [], IfNone, IfOk, IfSome, IsTrue, OnErr, OnOk, Some, false, length, take};
+ghost use Rattle.automaton.specs.Changes.{AddsEnd, AddsHop, AddsRoot, RemovesEnd, RemovesState, hop_in, without_edge, without_end, without_number, without_numbered};
+ghost use Rattle.automaton.specs.Growing.{edged, placed, unedged, without_last};
+ghost use Rattle.automaton.specs.States.{Net, before_at, edges_at, entry_at, is_used};
+ghost use Rattle.automaton.specs.declared.network.Entry.TheVariants.{Waiting};
+
+use super::{End, Ends, Entry, Network, State};
+use crate::line::Hop;
+use crate::plain::{entered, put_edge, put_end};
+use event_types::{List, Memory, Numbers, StreamId};
+use std::alloc::Global;
+
+impl Network {
+    /// No states. Takes no memory.
+    pub fn new(alloc: Global) -> Network
+        ensures { result ≡ [] }
+    {
+        Network {
+            slots: Vec::new(alloc),
+            states: 0,
+            no_step: List::new(alloc),
+        }
+    }
+
+    /// The number of the state before a waiting state.
+    pub fn before(&self, state: usize) -> Option<usize>
+        requires { IsTrue (is_used self.now state) }
+        ensures { result ≡ before_at self.now state }
+    {
+        match &self.state(state).entry {
+            Entry::Root(_) => None,
+            Entry::Waiting { from, .. } => Some(*from),
+        }
+    }
+
+    /// The number of a state that is entered from this one through the hop. Takes no memory.
+    pub fn next(&self, state: usize, hop: &Hop) -> Option<usize>
+        requires { IsTrue (is_used self.now state) }
+        ensures found { IfSome result (λ next. entry_at self.now next ≡ Some (Waiting state hop.now)) }
+        ensures absent { IfNone result ((next : ℕ) → entry_at self.now next ≢ Some (Waiting state hop.now)) }
+    {
+        for edge in self.edges(state).as_slice() {
+            if is_entered(&self.slots[*edge], hop) {
+                return Some(*edge);
+            }
+        }
+        None
+    }
+
+    /// A root state comes, without edges and ends.
+    pub fn add_root(&mut self, alloc: Global, number: usize, stream: StreamId) -> Result<(), Memory>
+        requires next { number ≤ length self.old }
+        requires free { is_used self.old number ≡ false }
+        ensures added { OnOk result (AddsRoot number stream self.old self.new) }
+        ensures kept { OnErr result (self.new ≡ self.old) }
+    {
+        let state = entered(alloc, Entry::Root(stream));
+        put_slot(&mut self.slots, number, state)?;
+        self.states += 1;
+        Ok(())
+    }
+
+    /// The waiting state of a hop comes, to which a forward edge leads from the state before it.
+    pub fn add_hop(
+        &mut self,
+        alloc: Global,
+        number: usize,
+        before: usize,
+        hop: &Hop,
+    ) -> Result<(), Memory>
+        requires next { number ≤ length self.old }
+        requires free { is_used self.old number ≡ false }
+        requires before { IsTrue (is_used self.old before) }
+        ensures added { OnOk result (AddsHop number before hop.now self.old self.new) }
+        ensures kept { OnErr result (self.new ≡ self.old) }
+    {
+        let hop = hop.copy(alloc)?;
+        let state = entered(alloc, Entry::Waiting { from: before, hop });
+        put_hop(&mut self.slots, number, before, state)?;
+        self.states += 1;
+        Ok(())
+    }
+
+    /// An end comes to a state.
+    pub fn add_end(&mut self, state: usize, end: End) -> Result<(), Memory>
+        requires { IsTrue (is_used self.old state) }
+        ensures added { OnOk result (AddsEnd state end self.old self.new) }
+        ensures kept { OnErr result (self.new ≡ self.old) }
+    {
+        put_end(&mut self.slots[state], end)
+    }
+
+    /// The ends of this number leave a state. Takes no memory.
+    pub fn remove_end(&mut self, state: usize, number: usize)
+        requires { IsTrue (is_used self.old state) }
+        ensures { RemovesEnd state number self.old self.new }
+    {
+        drop_end(&mut self.slots[state], number);
+    }
+
+    /// A state from which no edge leads leaves, with the edge that leads to it. Takes no memory.
+    pub fn remove_state(&mut self, number: usize)
+        requires used { IsTrue (is_used self.old number) }
+        requires last { edges_at self.old number ≡ [] }
+        ensures { RemovesState number self.old self.new }
+    {
+        let before = self.before(number);
+        drop_edge(&mut self.slots, before, number);
+        self.slots[number] = None;
+        self.states -= 1;
+    }
+
+    /// Forgets the last place, which no state has. Takes no memory.
+    pub fn shrink(&mut self)
+        requires some { 0 < length self.old }
+        requires free { is_used self.old (length self.old - 1) ≡ false }
+        ensures { self.new ≡ take (length self.old - 1) self.old }
+    {
+        self.slots.truncate(self.slots.len() - 1);
+    }
+}
+
+// Whether it is a state that is entered through the hop.
+fn is_entered(slot: &Option<State>, hop: &Hop) -> bool
+    ensures { IsTrue result ↔ (hop_in slot.now ≡ Some hop.now) }
+{
+    match slot {
+        Some(state) => match &state.entry {
+            Entry::Root(_) => false,
+            Entry::Waiting { hop: own, .. } => own.is_same(hop),
+        },
+        None => false,
+    }
+}
+
+// Puts a state at a number.
+fn put_slot(slots: &mut Vec<Option<State>>, number: usize, state: State) -> Result<(), Memory>
+    requires { number ≤ length slots.old.items }
+    ensures placed { OnOk result (slots.new.items ≡ placed number (Some state) slots.old.items) }
+    ensures kept { OnErr result (slots.new.items ≡ slots.old.items) }
+{
+    if number < slots.len() {
+        slots[number] = Some(state);
+    } else {
+        slots.push(Some(state))?;
+    }
+    Ok(())
+}
+
+// Puts a state at a number, and a forward edge that leads there.
+fn put_hop(
+    slots: &mut Vec<Option<State>>,
+    number: usize,
+    before: usize,
+    state: State,
+) -> Result<(), Memory>
+    requires next { number ≤ length slots.old.items }
+    requires before { before < length slots.old.items }
+    ensures placed { OnOk result (slots.new.items ≡ placed number (Some state) (edged before number slots.old.items)) }
+    ensures kept { OnErr result (slots.new.items ≡ slots.old.items) }
+{
+    put_edge(&mut slots[before], number)?;
+    if put_slot(slots, number, state).is_err() {
+        cut_edge(&mut slots[before]);
+        return Err(Memory);
+    }
+    Ok(())
+}
+
+// Takes the last forward edge away.
+fn cut_edge(slot: &mut Option<State>)
+    ensures { slot.new ≡ without_last slot.old }
+{
+    if let Some(state) = slot {
+        let len = state.edges.len();
+        if 0 < len {
+            state.edges.truncate(len - 1);
+        }
+    }
+}
+
+// Takes the forward edge to a state away, where one leads there.
+fn drop_edge(slots: &mut Vec<Option<State>>, before: Option<usize>, next: usize)
+    requires { IfSome before (λ from. from < length slots.old.items) }
+    ensures { slots.new.items ≡ unedged before next slots.old.items }
+{
+    if let Some(from) = before {
+        cut_edges(&mut slots[from], next);
+    }
+}
+
+// Takes the forward edge to a state away.
+fn cut_edges(slot: &mut Option<State>, next: usize)
+    ensures { slot.new ≡ without_edge next slot.old }
+{
+    if let Some(state) = slot {
+        drop_number(&mut state.edges, next);
+    }
+}
+
+// Takes the end of this number away.
+fn drop_end(slot: &mut Option<State>, number: usize)
+    ensures { slot.new ≡ without_end number slot.old }
+{
+    if let Some(state) = slot {
+        drop_numbered(&mut state.ends, number);
+    }
+}
+
+// Takes a number out.
+fn drop_number(numbers: &mut Numbers, number: usize)
+    ensures { numbers.new ≡ without_number number numbers.old }
+{
+    let mut place = 0;
+    while place < numbers.len() {
+        if *numbers.get(place) == number {
+            numbers.remove(place);
+        } else {
+            place += 1;
+        }
+    }
+}
+
+// Takes the ends of this number out.
+fn drop_numbered(ends: &mut Ends, number: usize)
+    ensures { ends.new ≡ without_numbered number ends.old }
+{
+    let mut place = 0;
+    while place < ends.len() {
+        if ends.get(place).number == number {
+            ends.remove(place);
+        } else {
+            place += 1;
+        }
+    }
+}
