@@ -18,13 +18,14 @@ use Rattle.resubscribe.specs.Laws.{HasEachOnce}
 use Rattle.resubscribe.proofs.AmongLemmas.{eq_apart, eq_self}
 use Rattle.resubscribe.proofs.OrderLemmas.{HasEachOnce-order}
 use Rattle.catalogue.specs.Judgement.{Accepts, Judged, query_at}
-use Rattle.catalogue.specs.Programs.{AcceptedArePrograms, AllAreWorkedOn, DeclaredAreTold, DeclaredComeFirst, NumbersAreQueries, QueriesHaveTheirNames, StreamsHaveTheirNames, WorkIsInOrder}
+use Rattle.catalogue.specs.Programs.{AcceptedArePrograms, AcceptedAreWidePrograms, AllAreWorkedOn, DeclaredAreTold, DeclaredComeFirst, NumbersAreQueries, QueriesHaveTheirNames, StreamsHaveTheirNames, WorkIsInOrder}
 use Rattle.catalogue.specs.Reading.{reads_in}
 use Rattle.catalogue.specs.Statements.{query_names}
 use Rattle.catalogue.proofs.CountLemmas.{order_count, query_count}
 use Rattle.catalogue.proofs.PartLemmas.{published_count}
 use Rattle.catalogue.proofs.PermutationLemmas.{range_permutes}
 use Rattle.catalogue.proofs.TurnLemmas.{StandsBehind, in_turn, name_in_turn, stands_behind, stream_in_turn, told_declared, told_published}
+use Rattle.catalogue.proofs.WideLemmas.{published_wide}
 
 -- what is found for each item is what is given
 filter_map-found : {Y : Type 0} (f : ℕ → Option Y) (g : ℕ → Y) (xs : List ℕ) → ((x : ℕ) → Contains xs x → f x ≡ Some (g x)) → filter_map f xs ≡ map g xs
@@ -125,6 +126,9 @@ module _ (text : List ℕ) (judged : Judged) (accepts : Accepts text judged) whe
 
 pub accepted_are_programs : AcceptedArePrograms
 accepted_are_programs text judged accepts = record { same_queries = same_queries text judged accepts; in_turn = in_turn accepts.publishes }
+
+pub accepted_are_wide_programs : AcceptedAreWidePrograms
+accepted_are_wide_programs text judged accepts = record { typed = accepted_are_programs text judged accepts; wide = published_wide accepts.publishes }
 
 pub work_is_in_order : WorkIsInOrder
 work_is_in_order text judged accepts = works text judged accepts

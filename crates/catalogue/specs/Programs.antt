@@ -3,6 +3,7 @@ use Rattle.std.specs.Prelude.{◌≡◌, ◌<◌, ◌↔◌, ℕ, true, List, []
 use Rattle.std.specs.List.{All, filter_map}
 use Rattle.semantics.specs.TypedPrograms.{IsProgram}
 use Rattle.stream_schema.specs.Streams.{Entry, stream_names}
+use Rattle.chains.specs.Laws.{IsWideProgram}
 use Rattle.cel_types.specs.SourceLaws.{kinds_in}
 use Rattle.catalogue.specs.Judgement.{Accepts, Judged, program_of, query_at}
 use Rattle.catalogue.specs.Statements.{queries_in, query_names}
@@ -10,6 +11,10 @@ use Rattle.catalogue.specs.Statements.{queries_in, query_names}
 -- an accepted text is a program over the kinds of its streams
 abbrev pub AcceptedArePrograms : Type 0
 AcceptedArePrograms = (text : List ℕ) (judged : Judged) → Accepts text judged → IsProgram (kinds_in judged.streams) (program_of judged)
+
+-- its projections have the widths of their sources
+abbrev pub AcceptedAreWidePrograms : Type 0
+AcceptedAreWidePrograms = (text : List ℕ) (judged : Judged) → Accepts text judged → IsWideProgram (kinds_in judged.streams) (program_of judged)
 
 -- the queries are worked on by their numbers in the order of work
 abbrev pub WorkIsInOrder : Type 0

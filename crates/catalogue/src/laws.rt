@@ -1,6 +1,6 @@
 //! Laws of the passes. The functions do nothing: their contracts say what follows from the definitions.
 ghost use Rattle.catalogue.specs.Laws.{FileOrFault, OneCycleOfNames, OneFile, OneFileFault, OneNameFault, OrderOrCycle, SoundOrFault};
-ghost use Rattle.catalogue.specs.Programs.{AcceptedArePrograms, AllAreWorkedOn, DeclaredAreTold, DeclaredComeFirst, NumbersAreQueries, QueriesHaveTheirNames, StreamsHaveTheirNames, WorkIsInOrder};
+ghost use Rattle.catalogue.specs.Programs.{AcceptedArePrograms, AcceptedAreWidePrograms, AllAreWorkedOn, DeclaredAreTold, DeclaredComeFirst, NumbersAreQueries, QueriesHaveTheirNames, StreamsHaveTheirNames, WorkIsInOrder};
 ghost use Rattle.catalogue.specs.Verdicts.{DeclaredOrFault, OneDeclaration, OneDeclareFault, OnePublication, OnePublishFault, OneVerdict, PublishedOrFault, SomeVerdict};
 
 /// Whether a text is a file, and which, or else its first fault, is settled by the text.
@@ -46,6 +46,11 @@ pub fn text_has_some_verdict()
 /// An accepted text is a program over the kinds of its streams.
 pub fn accepted_texts_are_programs()
     ensures { AcceptedArePrograms }
+{}
+
+/// Its projections have the widths of their sources.
+pub fn accepted_texts_are_wide_programs()
+    ensures { AcceptedAreWidePrograms }
 {}
 
 /// The queries of an accepted text are worked on in the order of their numbers that the catalogue gives.
