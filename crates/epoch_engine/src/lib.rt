@@ -17,3 +17,6 @@ pub use batch::Batch;
 pub use engine::Engine;
 pub use fault::OfferFault;
 pub use laws::{batch_is_streams, closed_stands, new_stands, offered_stands};
+
+#[cfg(test)]
+mod tests;
