@@ -3,14 +3,17 @@ use Rattle.std.proofs.Common.{◌≡◌, ◌∙◌, sym, ap, refl, subst, inl, i
 use Rattle.std.specs.Prelude.{Option, Some, None, Contains, slice_get}
 use Rattle.std.specs.Option.{option_and_then}
 use Rattle.std.specs.List.{All}
+use Rattle.std.specs.List.Sorted.{IsPermutation}
 use Rattle.std.proofs.lemmas.Bool.Decides.{nat_tests}
 use Rattle.std.proofs.lemmas.Grind.{get_or-set_at}
 use Rattle.std.proofs.Math.Seq.{drop-cons}
 use Rattle.std.proofs.lemmas.List.{get_or-set_other, length-set, take-append-drop, take_more}
-use Rattle.std.proofs.lemmas.List.Elements.{All-append, All-cons, All-filter, All-head, All-map, All-nil, All-tail}
+use Rattle.std.proofs.lemmas.List.Elements.{All-append, All-filter, All-map, All-nil}
 use Rattle.std.proofs.lemmas.List.Sorted.{All-permutation, IsPermutation-refl, IsPermutation-sym}
 use Rattle.event_types.specs.declared.kind.Kind.{Kind}
 use Rattle.event_types.specs.Tuple.{Row}
+use Rattle.instances.specs.Alive.{is_alive}
+use Rattle.instances.specs.Bounds.{alive_instances}
 use Rattle.instances.specs.Plain.{Plain}
 use Rattle.instances.specs.declared.instance.Instance.{Instance}
 use Rattle.semantics.specs.Denotation.{streams_of}
@@ -26,13 +29,13 @@ use Rattle.automaton.specs.declared.line.Line.{Line}
 use Rattle.automaton.specs.declared.network.Entry.{Entry}
 use Rattle.automaton.specs.declared.wait.Turn.{Turn}
 use Rattle.automaton.specs.declared.wait.Wait.{Wait}
-use Rattle.epoch_laws.specs.Closing.{ArePurged, IsEpoch, leaves, stepped_by, stores_after}
+use Rattle.epoch_laws.specs.Closing.{IsEpoch, leaves, stepped_by, stores_after}
 use Rattle.epoch_laws.specs.Epochs.{again, is_unmet, left, stepped, took}
 use Rattle.epoch_laws.specs.Instances.{instance_of}
 use Rattle.epoch_laws.specs.Stands.{Serves}
-use Rattle.epoch_laws.specs.Stores.{IsWithin, Purged}
 use Rattle.epoch_laws.proofs.Grows.{epoch_grows, epoch_starts}
 use Rattle.epoch_pass.proofs.TypingLemmas.{passed_kinds, took_kinds}
+use Rattle.epoch_engine.specs.Closes.{ArePurgedWhole}
 use Rattle.epoch_engine.specs.Deriving.{IsDerived, StreamDerived}
 use Rattle.epoch_engine.specs.Flows.{AreLeft, IsLeft}
 use Rattle.epoch_engine.specs.Settling.{AreSettled}
@@ -57,18 +60,6 @@ written lists s tuples lt = λ i n. each n (same_or_other n s) i
     each : (n : ℕ) → (n ≡ s) ⊎ (n ≡ s → ⊥) → get_or (set lists s tuples) n [] ≡ with_stream (streams_of lists) s tuples n
     each n (inl same) = get_or-set_at lists s n tuples [] same lt ∙ sym (ap (λ b. cond b tuples (get_or lists n [])) (same_test n s same))
     each n (inr other) = get_or-set_other lists s n tuples [] other ∙ sym (ap (λ b. cond b tuples (get_or lists n [])) (other_test n s other))
-
-module _ {X : Type 0} (P : X → Type 0) where
-  pub all_first : (xs ys : List X) → All P (xs ++ ys) → All P xs
-  all_first [] ys all = All-nil P
-  all_first (x ∷ xs) ys all = All-cons P x xs (All-head P x (xs ++ ys) all) (all_first xs ys (All-tail P x (xs ++ ys) all))
-
-  pub all_second : (xs ys : List X) → All P (xs ++ ys) → All P ys
-  all_second [] ys all = all
-  all_second (x ∷ xs) ys all = all_second xs ys (All-tail P x (xs ++ ys) all)
-
-  within_all : (xs ys : List X) → IsWithin xs ys → All P ys → All P xs
-  within_all xs ys h all = all_first xs h.0 (All-permutation P ys (xs ++ h.0) (IsPermutation-sym _ _ h.1) all)
 
 module _ (net : Net) (kinds : List (List Kind)) (stores : List (Option Plain)) (opened : List (List Row)) (typed : AreTyped net kinds stores opened) where
   -- a stream may be written anew with tuples of its kinds
@@ -149,7 +140,8 @@ module _ (net : Net) (kinds : List (List Kind)) (stores : List (Option Plain)) (
         record {
           condition = done.2;
           instances =
-              within_all (λ (i : Instance). HasKinds (typed.kinding.waiting n) i.tuple) done.0.instances (stores_after net (streams_of opened) (held stores) n) done.3.at_most (after_kinds n w at);
+              All-permutation (λ (i : Instance). HasKinds (typed.kinding.waiting n) i.tuple) (alive_instances time w.choose (stores_after net (streams_of opened) (held stores) n)) done.0.instances (IsPermutation-sym _ _ done.3)
+              (All-filter (λ (i : Instance). is_alive time w.choose i.tuple) (λ (i : Instance). HasKinds (typed.kinding.waiting n) i.tuple) (stores_after net (streams_of opened) (held stores) n) (after_kinds n w at));
         },
       );
       as_many_streams = same_streams ∙ typed.as_many_streams;
@@ -157,10 +149,10 @@ module _ (net : Net) (kinds : List (List Kind)) (stores : List (Option Plain)) (
     }
 
   -- and they are purged
-  pub settled_purged : (time : ℕ) (new : List (Option Plain)) → AreSettled time net (streams_of opened) stores new → ArePurged time net (stores_after net (streams_of opened) (held stores)) (held new)
+  pub settled_purged : (time : ℕ) (new : List (Option Plain)) → AreSettled time net (streams_of opened) stores new → ArePurgedWhole time net (stores_after net (streams_of opened) (held stores)) (held new)
   settled_purged time new settled n w at =
       let done = settled n w at in
-      subst (λ (o : Option Plain). Purged time w.choose (stores_after net (streams_of opened) (held stores) n) (instances_in o)) (sym done.1) done.3
+      subst (λ (o : Option Plain). IsPermutation (instances_in o) (alive_instances time w.choose (stores_after net (streams_of opened) (held stores) n))) (sym done.1) done.3
 
 -- one derived stream more is made
 pub derived_more : (net : Net) (layout : Layout) (lines : List Line) (stores : List (Option Plain)) (i s : ℕ) (old opened new gone more : List (List Row)) → Serves net lines layout.order → i < length layout.order → s ≡ get_or layout.order i 0 → s < length layout.kinds

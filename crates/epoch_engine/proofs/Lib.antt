@@ -6,6 +6,7 @@ pub mod FlowLemmas
 pub mod KindingLemmas
 pub mod LeftLemmas
 pub mod Lists
+pub mod PurgeLemmas
 pub mod SettleLemmas
 pub mod StandsLemmas
 pub mod StateLemmas

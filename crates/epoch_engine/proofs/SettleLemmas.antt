@@ -2,12 +2,12 @@
 use Rattle.std.proofs.Common.{◌≡◌, ◌∙◌, sym, ap, refl, subst, inl, inr, ℕ, ◌+◌, ◌<◌, ◌⊎◌, nat_lt, Bool, true, false, cond, length, get_or, set, List, [], arith}
 use Rattle.std.specs.Prelude.{Option, Some, None, Contains, is_some, slice_get}
 use Rattle.std.specs.Option.{option_and_then, option_map, unwrap_or}
-use Rattle.std.specs.List.{All, filter, filter_map}
+use Rattle.std.specs.List.{All, filter_map}
 use Rattle.std.specs.List.Sorted.{IsPermutation}
 use Rattle.std.proofs.lemmas.Bool.Decides.{nat_tests}
 use Rattle.std.proofs.lemmas.Grind.{get_or-set_at}
 use Rattle.std.proofs.lemmas.Option.{get_or_from_slice_get}
-use Rattle.std.proofs.lemmas.List.Sorted.{IsPermutation-append_left, IsPermutation-append_right, IsPermutation-map, IsPermutation-sym, IsPermutation-trans}
+use Rattle.std.proofs.lemmas.List.Sorted.{IsPermutation-append_left, IsPermutation-append_right, IsPermutation-map, IsPermutation-trans}
 use Rattle.event_types.specs.declared.kind.Kind.{Kind}
 use Rattle.event_types.specs.Tuple.{Row}
 use Rattle.instances.specs.Plain.{Plain}
@@ -15,6 +15,7 @@ use Rattle.instances.specs.declared.instance.Instance.{Instance}
 use Rattle.semantics.specs.Denotation.{streams_of}
 use Rattle.semantics.specs.Scalars.{Pr}
 use Rattle.instances.specs.Alive.{is_alive}
+use Rattle.instances.specs.Bounds.{alive_instances}
 use Rattle.scalar_expr.proofs.Bags.{filter_permuted, permuted_to}
 use Rattle.automaton.specs.Flow.{entering}
 use Rattle.automaton.specs.LineKinds.{StepGives}
@@ -29,8 +30,7 @@ use Rattle.automaton.specs.declared.wait.Wait.{Wait}
 use Rattle.epoch_laws.specs.Closing.{leaves, stepped_by, stores_after}
 use Rattle.epoch_laws.specs.Epochs.{again, left, stepped, took}
 use Rattle.epoch_laws.specs.Instances.{instance_of}
-use Rattle.epoch_laws.specs.Stores.{Purged}
-use Rattle.epoch_laws.proofs.Bags.{filter_map_permuted, within_permuted}
+use Rattle.epoch_laws.proofs.Bags.{filter_map_permuted}
 use Rattle.epoch_pass.specs.Suits.{StepSuits}
 use Rattle.epoch_pass.proofs.TypingLemmas.{steps_suit, waits_suit}
 use Rattle.epoch_engine.specs.Flows.{AreLeft, flowing}
@@ -60,13 +60,8 @@ before_state net network n b h = go (state_at net b) refl
         let none = subst (λ (ns : List ℕ). Contains ns n) (ap (λ (o : Option State). unwrap_or (option_map (λ (s : State). s.edges) o) []) e) there in
         absurd (no_item n none)
 
-purged_permuted : (time : ℕ) (choose : List Pr) (store other kept : List Instance) → IsPermutation store other → Purged time choose store kept → Purged time choose other kept
-purged_permuted time choose store other kept perm h = record {
-  at_least =
-      within_permuted (filter (λ (n : Instance). is_alive time choose n.tuple) other) (filter (λ (n : Instance). is_alive time choose n.tuple) store) kept
-      (filter_permuted (λ (n : Instance). is_alive time choose n.tuple) other store (IsPermutation-sym _ _ perm)) h.at_least;
-  at_most = (h.at_most.0, IsPermutation-trans _ _ _ h.at_most.1 perm);
-}
+purged_permuted : (time : ℕ) (choose : List Pr) (store other kept : List Instance) → IsPermutation store other → IsPermutation kept (alive_instances time choose store) → IsPermutation kept (alive_instances time choose other)
+purged_permuted time choose store other kept perm h = IsPermutation-trans _ _ _ h (filter_permuted (λ (n : Instance). is_alive time choose n.tuple) store other perm)
 
 stepped_permuted : (choose : List Pr) (turn : Option Turn) (tuples e f : List Row) (store : List Instance) → IsPermutation e f → IsPermutation (stepped choose turn tuples e store) (stepped choose turn tuples f store)
 stepped_permuted choose turn tuples e f store h =
@@ -164,7 +159,7 @@ module _ (net : Net) (kinds : List (List Kind)) (stores : List (Option Plain)) (
       ∙ ap (λ (x : Wait). stepped x.choose x.fold (news x.stream) (entering at.hop (leaves net news (held stores) at.before)) (held stores n)) at.same
       ∙ ap (λ (s : List Stage). stepped w.choose w.fold (news w.stream) (filter_map (pass s) (leaves net news (held stores) at.before)) (held stores n)) (sym step_is)
       ∙ ap (λ (o : Option Plain). stepped w.choose w.fold (news w.stream) (filter_map (pass (step_at net n)) (leaves net news (held stores) at.before)) (instances_in o)) found.1 in
-      (done.0, done.1, done.2, subst (λ (after : List Instance). Purged time w.choose after done.0.instances) (sym after) (purged_permuted time w.choose _ _ done.0.instances perm done.3))
+      (done.0, done.1, done.2, subst (λ (after : List Instance). IsPermutation done.0.instances (alive_instances time w.choose after)) (sym after) (purged_permuted time w.choose _ _ done.0.instances perm done.3))
 
   -- one more state is settled
   pub settle_more : (time n : ℕ) (old new : List (Option Plain)) → get_or old n None ≡ get_or stores n None → AreSettledBelow n time net (streams_of opened) stores old

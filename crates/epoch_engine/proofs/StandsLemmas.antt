@@ -15,7 +15,7 @@ use Rattle.semantics.specs.Histories.{Heard, heard_on}
 use Rattle.automaton.specs.States.{Net}
 use Rattle.automaton.specs.declared.layout.Layout.{Layout}
 use Rattle.automaton.specs.declared.line.Line.{Line}
-use Rattle.epoch_laws.specs.Closing.{Stores}
+use Rattle.epoch_laws.specs.Closing.{ArePurged, Stores, stores_after}
 use Rattle.epoch_laws.specs.Histories.{streams_over}
 use Rattle.epoch_laws.specs.Standing as standing
 use Rattle.epoch_laws.specs.Standing.{MayFollow, next_time}
@@ -28,6 +28,7 @@ use Rattle.epoch_engine.specs.Offers.{IsHeard, IsLate, IsNotAhead, with_tuple}
 use Rattle.epoch_engine.specs.StandsFor.{StandsFor}
 use Rattle.epoch_engine.specs.Starts.{IsNew}
 use Rattle.epoch_engine.specs.Views.{View, stores_in}
+use Rattle.epoch_engine.proofs.PurgeLemmas.{are_purged}
 
 -- the parts of an engine that stand for a history
 abbrev Standing : Net → List Line → List ℕ → Stores → Option ℕ → Streams → Option ℕ → List Heard → Type 0
@@ -97,6 +98,9 @@ module _ (old new : View) (lines : List Line) (history : List Heard) (batch : Li
   open_stands : Standing old.network lines old.layout.order (stores_in old) (Some closes.time) (streams_of old.opened) old.closed history
   open_stands = subst (λ (t : Option ℕ). Standing old.network lines old.layout.order (stores_in old) t (streams_of old.opened) old.closed history) closes.was_open stands.stands
 
+  purged : ArePurged (closes.time + 1) old.network (stores_after old.network closes.taken.news (stores_in old)) (stores_in new)
+  purged = are_purged (closes.time + 1) old.network (stores_after old.network closes.taken.news (stores_in old)) (stores_in new) closes.taken.purged
+
   -- what the batch has
   pub batch_is_streams : batch ≡ map (λ s. sorted (during closes.time (streams_over lines old.layout.order history s))) old.layout.outs
   batch_is_streams = closes.taken.results ∙ (λ i. map (λ s. each s i) old.layout.outs)
@@ -104,7 +108,7 @@ module _ (old new : View) (lines : List Line) (history : List Heard) (batch : Li
       each : (s : ℕ) → sorted (closes.taken.news s) ≡ sorted (during closes.time (streams_over lines old.layout.order history s))
       each s =
           sort_permuted tuple_cmp tuple_total tuple_exact _ _
-          ((close_stands old.network lines old.layout.order (stores_in old) closes.time (streams_of old.opened) closes.taken.news old.closed history stands.serves open_stands closes.taken.epoch (stores_in new) closes.taken.purged).0
+          ((close_stands old.network lines old.layout.order (stores_in old) closes.time (streams_of old.opened) closes.taken.news old.closed history stands.serves open_stands closes.taken.epoch (stores_in new) purged).0
           s)
 
   -- an engine that closed its epoch
@@ -113,7 +117,7 @@ module _ (old new : View) (lines : List Line) (history : List Heard) (batch : Li
       let order : old.layout.order ≡ new.layout.order = ap (λ (l : Layout). l.order) (sym plan.layout) in
       let none : (λ _. []) ≡ streams_of new.opened = λ i s. sym (closes.emptied s) i in
       let after =
-      (close_stands old.network lines old.layout.order (stores_in old) closes.time (streams_of old.opened) closes.taken.news old.closed history stands.serves open_stands closes.taken.epoch (stores_in new) closes.taken.purged).1 in record {
+      (close_stands old.network lines old.layout.order (stores_in old) closes.time (streams_of old.opened) closes.taken.news old.closed history stands.serves open_stands closes.taken.epoch (stores_in new) purged).1 in record {
         serves = subst (λ (n : Net). Serves n lines new.layout.order) (sym plan.network) (subst (Serves old.network lines) order stands.serves);
         as_many = closes.as_many ∙ stands.as_many ∙ ap (λ (l : Layout). length l.kinds) (sym plan.layout);
         stands =

@@ -1,19 +1,26 @@
 -- What the closing of an epoch makes of an engine.
 use Rattle.std.specs.Prelude.{◌≡◌, ℕ, ◌+◌, List, [], length, map, Some, None}
+use Rattle.std.specs.List.Sorted.{IsPermutation}
 use Rattle.event_types.specs.Order.{sorted}
 use Rattle.event_types.specs.Tuple.{Row}
+use Rattle.instances.specs.Bounds.{alive_instances}
 use Rattle.semantics.specs.Denotation.{Streams, streams_of}
-use Rattle.automaton.specs.States.{Net}
+use Rattle.automaton.specs.States.{Net, wait_at}
 use Rattle.automaton.specs.declared.layout.Layout.{Layout}
-use Rattle.epoch_laws.specs.Closing.{ArePurged, IsEpoch, Stores, stores_after}
+use Rattle.automaton.specs.declared.wait.Wait.{Wait}
+use Rattle.epoch_laws.specs.Closing.{IsEpoch, Stores, stores_after}
 use Rattle.epoch_engine.specs.Views.{View, stores_in}
+
+-- each store was purged for a time in whole: up to order, it has exactly the instances that are alive then
+abbrev pub ArePurgedWhole : ℕ → Net → Stores → Stores → Type 0
+ArePurgedWhole time net stores kept = (number : ℕ) (wait : Wait) → wait_at net number ≡ Some wait → IsPermutation (kept number) (alive_instances time wait.choose (stores number))
 
 -- the epoch of a time over stores and open tuples: its tuples `news` are those that were heard and derived, the batch has those of each printed stream in their order, and the stores are stepped through the epoch and purged for the next time
 pub record IsTaken (net : Net) (layout : Layout) (time : ℕ) (stores : Stores) (heard : Streams) (after : Stores) (batch : List (List Row)) : Type 0 where
   pub news : Streams
   pub epoch : IsEpoch net layout.order stores heard news
   pub results : batch ≡ map (λ stream. sorted (news stream)) layout.outs
-  pub purged : ArePurged (time + 1) net (stores_after net news stores) after
+  pub purged : ArePurgedWhole (time + 1) net (stores_after net news stores) after
 
 -- an engine closed its open epoch: the epoch was taken, no tuple is open, and its time is the last closed one
 pub record Closes (old new : View) (batch : List (List Row)) : Type 0 where

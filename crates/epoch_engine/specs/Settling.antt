@@ -3,6 +3,7 @@ use Rattle.std.specs.Prelude.{◌≡◌, ℕ, ◌<◌, IsTrue, List, [], length,
 use Rattle.std.specs.List.{All, filter_map}
 use Rattle.std.specs.List.Sorted.{IsPermutation}
 use Rattle.event_types.specs.Tuple.{Row}
+use Rattle.instances.specs.Bounds.{alive_instances}
 use Rattle.instances.specs.Plain.{Plain}
 use Rattle.instances.specs.declared.instance.Instance.{Instance}
 use Rattle.semantics.specs.Denotation.{Streams, streams_of}
@@ -11,7 +12,6 @@ use Rattle.automaton.specs.Steps.{pass}
 use Rattle.automaton.specs.declared.wait.Wait.{Wait}
 use Rattle.epoch_laws.specs.Closing.{stores_after}
 use Rattle.epoch_laws.specs.Epochs.{stepped, took}
-use Rattle.epoch_laws.specs.Stores.{Purged}
 use Rattle.epoch_pass.specs.Suits.{StepSuits, WaitSuits}
 use Rattle.epoch_engine.specs.Flows.{IsFlowing, flowing}
 use Rattle.epoch_engine.specs.Typed.{held}
@@ -31,9 +31,9 @@ pub record Settles (net : Net) (opened gone : List (List Row)) (number : ℕ) (w
   pub entering : All (StepSuits (step_at net number)) (flowing net (streams_of opened) gone before)
   pub store : (store : Plain) → slot ≡ Some store → StoreSettles wait (streams_of opened wait.stream) (slice_index_or gone number []) store
 
--- there is a store that is made for the wait, and its instances are these, purged for a time
+-- there is a store that is made for the wait, and its instances are those of these that are alive at a time
 abbrev pub IsSettled : ℕ → Wait → List Instance → Option Plain → Type 0
-IsSettled time wait after slot = (store : Plain) × (slot ≡ Some store) × (store.condition ≡ wait.choose) × Purged time wait.choose after store.instances
+IsSettled time wait after slot = (store : Plain) × (slot ≡ Some store) × (store.condition ≡ wait.choose) × IsPermutation store.instances (alive_instances time wait.choose after)
 
 -- the instances of a state after the epoch, from what is remembered
 abbrev pub settled_from : Net → List (List Row) → List (List Row) → ℕ → Wait → ℕ → List Instance → List Instance

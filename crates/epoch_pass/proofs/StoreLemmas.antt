@@ -1,11 +1,11 @@
 -- Stores that change tuple by tuple.
-use Rattle.std.proofs.Common.{◌≡◌, ◌∙◌, sym, ap, refl, ℕ, ◌+◌, ◌<◌, Bool, true, false, not, ◌&&◌, cond, length, get_or, take, List, [], ◌∷◌, ◌++◌, map, append_assoc, append-nil}
+use Rattle.std.proofs.Common.{◌≡◌, ◌∙◌, sym, ap, refl, ℕ, ◌+◌, ◌<◌, Bool, true, false, not, ◌&&◌, cond, length, get_or, take, List, [], ◌∷◌, ◌++◌, map, append_assoc}
 use Rattle.std.specs.Prelude.{Option, Some, None}
 use Rattle.std.specs.List.{filter, filter_map}
 use Rattle.std.specs.List.Sorted.{IsPermutation}
 use Rattle.std.proofs.lemmas.List.{map-append, take_more}
 use Rattle.std.proofs.lemmas.List.Elements.{filter-append, filter_agree}
-use Rattle.std.proofs.lemmas.List.Sorted.{IsPermutation-append_left, IsPermutation-append_right, IsPermutation-cons, IsPermutation-map, IsPermutation-middle, IsPermutation-refl, IsPermutation-sym, IsPermutation-to_front, IsPermutation-trans}
+use Rattle.std.proofs.lemmas.List.Sorted.{IsPermutation-append_left, IsPermutation-append_right, IsPermutation-map, IsPermutation-refl, IsPermutation-sym, IsPermutation-to_front, IsPermutation-trans}
 use Rattle.event_types.specs.Tuple.{Row}
 use Rattle.instances.specs.Bounds.{alive_instances}
 use Rattle.instances.specs.declared.instance.Instance.{Instance}
@@ -18,7 +18,6 @@ use Rattle.automaton.specs.Waiting.{is_empty}
 use Rattle.automaton.specs.declared.wait.Turn.{Turn}
 use Rattle.epoch_laws.specs.Epochs.{again, is_unmet, left, stepped, took}
 use Rattle.epoch_laws.specs.Instances.{instance_of}
-use Rattle.epoch_laws.specs.Stores.{Purged}
 use Rattle.epoch_laws.proofs.Lists.{filter-filter}
 
 filter_true : {X : Type 0} (xs : List X) → filter (λ x. true) xs ≡ xs
@@ -67,32 +66,13 @@ again_permuted : (fold : Option Turn) (xs ys : List Row) → IsPermutation xs ys
 again_permuted None xs ys h = IsPermutation-refl []
 again_permuted (Some turn) xs ys h = h
 
-module _ {X : Type 0} where
-  -- what a filter keeps and what it leaves out are the whole
-  parted : (p : X → Bool) (xs : List X) → IsPermutation (filter p xs ++ filter (λ x. not (p x)) xs) xs
-  parted p [] = IsPermutation-refl []
-  parted p (x ∷ xs) = go (parted p xs) (p x)
-    where
-      go : IsPermutation (filter p xs ++ filter (λ x. not (p x)) xs) xs → (b : Bool)
-          → IsPermutation (cond b (x ∷ filter p xs) (filter p xs) ++ cond (not b) (x ∷ filter (λ x. not (p x)) xs) (filter (λ x. not (p x)) xs)) (x ∷ xs)
-      go rest true = IsPermutation-cons x _ _ rest
-      go rest false = IsPermutation-trans _ _ _ (IsPermutation-middle (filter p xs) x (filter (λ x. not (p x)) xs)) (IsPermutation-cons x _ _ rest)
-
--- a store that was purged in whole
-purged_whole : (time : ℕ) (choose : List Pr) (store linked kept : List Instance) → IsPermutation linked store → kept ≡ alive_instances time choose linked → Purged time choose store kept
-purged_whole time choose store linked kept h e =
-    let p = λ (n : Instance). is_alive time choose n.tuple in record {
-      at_least = ([], permuted_from (append-nil (filter p store)) (permuted_to (IsPermutation-sym _ _ (filter_permuted p linked store h)) (sym e)));
-      at_most = (filter (λ (n : Instance). not (p n)) linked, permuted_from (ap (λ is. is ++ filter (λ (n : Instance). not (p n)) linked) e) (IsPermutation-trans _ _ _ (parted p linked) h));
-    }
-
 -- the store of a wait after an epoch
 pub settled : (time : ℕ) (choose : List Pr) (fold : Option Turn) (tuples entered leaving : List Row) (store met linked again' kept : List Instance)
     → met ≡ left choose tuples store → IsPermutation linked (met ++ map instance_of entered) → IsPermutation again' (linked ++ map instance_of (again fold leaving)) → kept ≡ alive_instances time choose again'
-    → IsPermutation leaving (took choose fold tuples store) → Purged time choose (stepped choose fold tuples entered store) kept
+    → IsPermutation leaving (took choose fold tuples store) → IsPermutation kept (alive_instances time choose (stepped choose fold tuples entered store))
 settled time choose fold tuples entered leaving store met linked again' kept e1 h2 h3 e4 h =
-    purged_whole time choose (stepped choose fold tuples entered store) again' kept
+    permuted_from e4
+    (filter_permuted (λ (n : Instance). is_alive time choose n.tuple) again' (stepped choose fold tuples entered store)
     (IsPermutation-trans _ _ _ (put_more instance_of again' linked met entered (again fold leaving) (entered ++ again fold leaving) h3 h2 refl)
     (permuted_from (ap (λ is. is ++ map instance_of (entered ++ again fold leaving)) e1)
-    (IsPermutation-append_right (left choose tuples store) _ _ (IsPermutation-map instance_of _ _ (IsPermutation-append_right entered _ _ (again_permuted fold leaving (took choose fold tuples store) h))))))
-    e4
+    (IsPermutation-append_right (left choose tuples store) _ _ (IsPermutation-map instance_of _ _ (IsPermutation-append_right entered _ _ (again_permuted fold leaving (took choose fold tuples store) h)))))))

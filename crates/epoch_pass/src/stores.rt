@@ -2,11 +2,11 @@
 ghost use Rattle.std.specs.Prelude.{◌≡◌, ◌+◌, ◌∷◌, ◌++◌, [], map, option_to_list, IfOk, OnOk};
 ghost use Rattle.std.specs.List.{All, filter_map, flat_map};
 ghost use Rattle.std.specs.List.Sorted.{IsPermutation};
+ghost use Rattle.instances.specs.Bounds.{alive_instances};
 ghost use Rattle.scalar_expr.specs.Fits.{AllFit};
 ghost use Rattle.automaton.specs.Steps.{pass};
 ghost use Rattle.epoch_laws.specs.Epochs.{again, left, stepped, took};
 ghost use Rattle.epoch_laws.specs.Instances.{instance_of};
-ghost use Rattle.epoch_laws.specs.Stores.{Purged};
 ghost use Rattle.epoch_pass.specs.Pairs.{met};
 ghost use Rattle.epoch_pass.specs.Suits.{StepSuits, WaitSuits};
 
@@ -140,7 +140,8 @@ fn link_again<L: Ledger>(
 }
 
 /// Takes the store of a wait over an epoch of this time: `tuples` are those of its stream, `before`
-/// those that come to the step into its state, and `leaving` those that leave the wait.
+/// those that come to the step into its state, and `leaving` those that leave the wait. What no event
+/// after that time can match is taken out.
 pub fn settle<L: Ledger>(
     alloc: Global,
     store: &mut PlainStore,
@@ -156,7 +157,7 @@ pub fn settle<L: Ledger>(
     requires met { All (λ tuple. All (λ instance. WaitSuits wait.now instance.tuple tuple) store.old.instances) tuples.now }
     requires entering { All (StepSuits step.now) before.now }
     requires leaving { IsPermutation leaving.now (took wait.now.choose wait.now.fold tuples.now store.old.instances) }
-    ensures purged { OnOk result (Purged (time + 1) wait.now.choose (stepped wait.now.choose wait.now.fold tuples.now (filter_map (pass step.now) before.now) store.old.instances) store.new.instances) }
+    ensures purged { OnOk result (IsPermutation store.new.instances (alive_instances (time + 1) wait.now.choose (stepped wait.now.choose wait.now.fold tuples.now (filter_map (pass step.now) before.now) store.old.instances))) }
     ensures condition { store.new.condition ≡ store.old.condition }
 {
     take_met(store, &wait.choose, tuples, steps);
