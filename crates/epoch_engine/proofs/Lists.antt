@@ -1,6 +1,6 @@
 -- Numbers that are told apart, and lists that are written to.
 use Rattle.std.proofs.Common.{◌≡◌, ◌∙◌, sym, ap, refl, subst, inl, inr, ℕ, zero, suc, ◌+◌, ◌<◌, ◌≤◌, ◌==◌, Bool, true, false, ◌⊎◌, length, get_or, take, List, [], ◌∷◌, ◌++◌, map, arith}
-use Rattle.std.specs.Prelude.{Contains, OnOk, Result, Ok, Err}
+use Rattle.std.specs.Prelude.{Contains, OnErr, OnOk, Result, Ok, Err}
 use Rattle.std.proofs.lemmas.Bool.Decides.{nat_tests}
 use Rattle.std.proofs.lemmas.List.{length-append, map-append, take_more}
 use Rattle.std.proofs.lemmas.List.Elements.{Contains-append_left, Contains-push, Contains-push_cases}
@@ -65,3 +65,8 @@ map_more f xs i d lt = ap (map f) (take_more xs i d lt) ∙ map-append f (take i
 pub on_ok : {T E : Type 0} (r : Result T E) (P Q : Type 0) → (P → Q) → OnOk r P → OnOk r Q
 on_ok (Ok x) P Q f h = f h
 on_ok (Err e) P Q f h = h
+
+-- what holds may be promised of an Err
+pub on_err : {T E : Type 0} (r : Result T E) (P : Type 0) → P → OnErr r P
+on_err (Ok x) P holds = tt
+on_err (Err e) P holds = holds

@@ -22,7 +22,7 @@ pub record IsTaken (net : Net) (layout : Layout) (time : ℕ) (stores : Stores) 
   pub results : batch ≡ map (λ stream. sorted (news stream)) layout.outs
   pub purged : ArePurgedWhole (time + 1) net (stores_after net news stores) after
 
--- an engine closed its open epoch: the epoch was taken, no tuple is open, and its time is the last closed one
+-- an engine closed its open epoch: the epoch was taken, none is open now and no tuple is, and its time is the last closed one
 pub record Closes (old new : View) (batch : List (List Row)) : Type 0 where
   pub time : ℕ
   pub was_open : old.time ≡ Some time
@@ -36,3 +36,8 @@ pub record Closes (old new : View) (batch : List (List Row)) : Type 0 where
 pub record KeepsPlan (old new : View) : Type 0 where
   pub network : new.network ≡ old.network
   pub layout : new.layout ≡ old.layout
+
+-- the open epoch and the last closed time are the same
+pub record KeepsTimes (old new : View) : Type 0 where
+  pub time : new.time ≡ old.time
+  pub closed : new.closed ≡ old.closed

@@ -7,7 +7,7 @@ use Rattle.epoch_laws.specs.Standing as standing
 use Rattle.epoch_laws.specs.Stands.{Serves}
 use Rattle.epoch_engine.specs.Views.{View, stores_in}
 
--- an engine of these lines stands for a history: its stores, its open tuples, its open epoch and its last closed time do so, and it lists the open tuples of each stream that has kinds
+-- an engine whose network has these lines, and whose order of work is one for them, stands for a history: its stores, its open tuples, its open epoch and its last closed time are those that the history asks for, and there is a list of open tuples for each stream that has kinds
 pub record StandsFor (engine : View) (lines : List Line) (history : List Heard) : Type 0 where
   pub serves : Serves engine.network lines engine.layout.order
   pub as_many : length engine.opened ≡ length engine.layout.kinds

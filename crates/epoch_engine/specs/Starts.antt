@@ -5,7 +5,7 @@ use Rattle.automaton.specs.States.{Net}
 use Rattle.automaton.specs.declared.layout.Layout.{Layout}
 use Rattle.epoch_engine.specs.Views.{View, stores_in}
 
--- an engine over this network and this layout, with empty stores, an empty list of open tuples for each stream, no open epoch and no closed one
+-- an engine over this network and this layout, with empty stores, an empty list of open tuples for each stream, no open epoch and no closed one, and intact
 pub record IsNew (net : Net) (layout : Layout) (engine : View) : Type 0 where
   pub network : engine.network ≡ net
   pub same_layout : engine.layout ≡ layout

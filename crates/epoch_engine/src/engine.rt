@@ -1,7 +1,7 @@
 //! The engine.
 ghost use Rattle.std.specs.Prelude.{◌≡◌, ℕ, false, true, IfNone, IfOk, IfSome, IsSome, IsTrue, OnErr, OnOk};
 ghost use Rattle.automaton.specs.NetworkLines.{NetworkFits};
-ghost use Rattle.epoch_engine.specs.Closes.{Closes, KeepsPlan};
+ghost use Rattle.epoch_engine.specs.Closes.{Closes, KeepsPlan, KeepsTimes};
 ghost use Rattle.epoch_engine.specs.Offers.{IsAnswer, IsHeard, IsLate, IsNotAhead, with_tuple};
 ghost use Rattle.epoch_engine.specs.Starts.{IsNew};
 
@@ -49,7 +49,8 @@ impl Model for Engine {
 }
 
 impl Engine {
-    /// An engine over a network and a layout that fit it, which has heard nothing.
+    /// An engine over a network and a layout that fit it, which has heard nothing. Want of memory drops
+    /// both.
     pub fn make(alloc: Global, network: Network, layout: Layout) -> Result<Engine, Memory>
         requires { NetworkFits network layout }
         ensures { IfOk result (λ engine. IsNew network layout engine) }
@@ -76,7 +77,7 @@ impl Engine {
         self.time
     }
 
-    /// Whether no closing has wanted memory.
+    /// False once a closing was refused for want of memory.
     pub fn intact(&self) -> bool
         ensures { result ≡ self.now.intact }
     {
@@ -125,6 +126,7 @@ impl Engine {
         ensures plan { KeepsPlan self.old self.new }
         ensures intact { OnOk result (self.new.intact ≡ true) }
         ensures lost { OnErr result (self.new.intact ≡ false) }
+        ensures kept { OnErr result (KeepsTimes self.old self.new) }
     {
         let time = match self.time {
             Some(time) => time,

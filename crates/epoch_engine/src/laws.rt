@@ -11,7 +11,7 @@ pub fn offered_stands()
     ensures { OfferedStands }
 {}
 
-/// An engine that closed its epoch stands for the same history, with no epoch open.
+/// An engine that closed its epoch stands for the same history.
 pub fn closed_stands()
     ensures { ClosedStands }
 {}

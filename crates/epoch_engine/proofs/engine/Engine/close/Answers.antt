@@ -4,6 +4,7 @@ use Rattle.epoch_engine.specs.Closes.{Closes}
 use Rattle.epoch_engine.specs.Typed.{instances_in}
 use Rattle.epoch_engine.specs.Views.{View}
 use Rattle.epoch_engine.proofs.EngineLemmas.{closes_view}
+use Rattle.epoch_engine.proofs.Lists.{on_err}
 use Rattle.epoch_engine.proofs.engine.Engine.close.Goals as goal
 
 -- the parts of an intact engine fit
@@ -32,3 +33,7 @@ returns-clause-plan g c = record { network = ap (λ (v : View). v.network) c.sel
 
 pub returns-in_err-batch-clause-plan : goal.returns-in_err-batch-clause-plan
 returns-in_err-batch-clause-plan g c = record { network = ap (λ (v : View). v.network) c.self.view_is; layout = ap (λ (v : View). v.layout) c.self.view_is }
+
+-- at the same times
+pub returns-in_err-batch-clause-kept : goal.returns-in_err-batch-clause-kept
+returns-in_err-batch-clause-kept g c = on_err c.from_residual.result _ (record { time = ap (λ (v : View). v.time) c.self.view_is; closed = ap (λ (v : View). v.closed) c.self.view_is })
