@@ -1,0 +1,133 @@
+-- A line that comes to a merged network.
+use Rattle.std.proofs.Common.{◌≡◌, ◌⊎◌, ◌∙◌, ◌↔◌, sym, ap, refl, subst, inl, inr, ℕ, ◌<◌, ◌≤◌, true, false, cond, nat_eq, length, get_or, drop, take, List, [], ◌∷◌, ◌++◌, arith}
+use Rattle.std.specs.Prelude.{Some, None, slice_get}
+use Rattle.std.specs.HashMap.{HashMap, get}
+use Rattle.std.specs.Option.{option_and_then}
+use Rattle.std.proofs.Math.Seq.{drop-cons}
+use Rattle.std.proofs.lemmas.Bool.{cases_lt}
+use Rattle.std.proofs.lemmas.List.{drop_all, take-append-drop}
+use Rattle.std.proofs.lemmas.Option.{slice_get-get_or}
+use Rattle.automaton.specs.declared.line.Hop.{Hop}
+use Rattle.automaton.specs.declared.line.Line.{Line}
+use Rattle.automaton.specs.Changes.{AddsRoot}
+use Rattle.automaton.specs.Networks.{IsAt, IsNetwork}
+use Rattle.automaton.specs.Prefixes.{Prefix, Root, extended, path}
+use Rattle.automaton.specs.States.{Net, before_by, is_used, root_at, root_in}
+use Rattle.automaton.proofs.ChangeLemmas.{free_reads}
+use Rattle.automaton.proofs.NumberLemmas.{are_same_or_not, is_other, is_same}
+use Rattle.automaton.proofs.RootLemmas.{whole_none}
+use Rattle.automaton.proofs.SlotLemmas.{at_used}
+use Rattle.prefix_merge.specs.Growth.{AreUsedBelow, Grows, IsTable, Keeps, Reaches, end_of}
+use Rattle.prefix_merge.specs.Insertion.{Inserts}
+use Rattle.prefix_merge.specs.Merging.{HasEnd, IsLowestFree, IsMerged}
+use Rattle.prefix_merge.proofs.EndingLemmas.{endings_are, ends_are, own_numbers}
+use Rattle.prefix_merge.proofs.StartLemmas.{HasGrown, found_growing, line_grown, none_from_root, root_growing}
+
+-- a prefix with hops behind it, and more hops
+extended-append : (prefix : Prefix) (hops more : List Hop) → extended (extended prefix hops) more ≡ extended prefix (hops ++ more)
+extended-append prefix [] more = refl
+extended-append prefix (hop ∷ hops) more = extended-append _ hops more
+
+-- the first of the hops from a place on
+first_hop : (hops : List Hop) (place : ℕ) (hop : Hop) (rest : List Hop) → drop place hops ≡ hop ∷ rest → slice_get hops place ≡ Some hop
+first_hop hops place hop rest is = by_order (cases_lt place (length hops))
+  where
+    by_order : (place < length hops) ⊎ (length hops ≤ place) → slice_get hops place ≡ Some hop
+    by_order (inl lt) = let cut = drop-cons hops place hop lt in let same : get_or hops place hop ≡ hop = cc in slice_get-get_or hops place hop lt ∙ ap (λ h. Some h) same
+    by_order (inr past) = let none = drop_all place hops past in let no : [] ≡ hop ∷ rest = sym none ∙ is in cc
+
+-- the line grows from a state that it has reached
+pub grown_from : (old new : Net) (line : Line) (state place end : ℕ) → IsNetwork old → IsMerged old → Reaches old line state place → Grows state (drop place line.hops) (end_of line end) old new → HasGrown old old (path line) (end_of line end) new
+grown_from old new line state place end network merged reached grows =
+    subst (λ whole. HasGrown old old whole (end_of line end) new) (extended-append (Root line.root) (take place line.hops) (drop place line.hops) ∙ ap (extended (Root line.root)) (take-append-drop place line.hops))
+    (line_grown old old (drop place line.hops) (extended (Root line.root) (take place line.hops)) state (end_of line end) old new (found_growing old (extended (Root line.root) (take place line.hops)) state network merged reached.here)
+    (λ hop rest next is. reached.last hop next (first_hop line.hops place hop rest is)) grows)
+
+-- and from a root state of its own
+pub grown_whole : (old new base : Net) (line : Line) (number end : ℕ) → IsNetwork old → IsMerged old → ((n : ℕ) → root_at old n ≡ Some line.root → ⊥) → IsLowestFree old number → AddsRoot number line.root old base
+    → Grows number line.hops (end_of line end) base new → HasGrown old base (path line) (end_of line end) new
+grown_whole old new base line number end network merged no_root lowest adds grows =
+    line_grown old base line.hops (Root line.root) number (end_of line end) base new (root_growing old base number line.root network merged no_root lowest adds)
+    (λ hop rest next is entered. none_from_root old base number line.root network merged no_root lowest adds next (ap (option_and_then before_by) entered)) grows
+
+-- so the line has been inserted
+pub line_inserted : (old base new : Net) (line : Line) (end : ℕ) → HasGrown old base (path line) (end_of line end) new → Inserts line end old new
+line_inserted old base new line end grown = record {
+  stay = grown.stay;
+  prefixes = grown.prefixes;
+  numbers = grown.numbers;
+  endings = endings_are old base new line end grown grown.network;
+  ends = ends_are old base new line end grown;
+}
+
+-- and what a merged network keeps is kept
+pub line_kept : {S : Type 0} (table : HashMap ℕ ℕ S) (bound : ℕ) (old base new : Net) (line : Line) (end : ℕ) → HasGrown old base (path line) (end_of line end) new → (HasEnd old end → ⊥) → IsTable table base → AreUsedBelow new bound
+    → {T : Type 0} (before : HashMap ℕ ℕ T) (first : ℕ) → Keeps before first old → Keeps table bound new
+line_kept table bound old base new line end grown fresh roots below before first keeps = record {
+  network = grown.network;
+  merged = grown.merged;
+  numbers = own_numbers old base new line end grown fresh keeps.numbers;
+  roots = λ stream number. (
+    (λ has. grown.roots number ∙ (roots stream number).0 has),
+    λ has. (roots stream number).1 (sym (grown.roots number) ∙ has),
+  );
+  below = below;
+}
+
+-- the table with one more root state
+module _ {S : Type 0} (table more : HashMap ℕ ℕ S) (old base : Net) (stream number : ℕ) (is : IsTable table old) (no_root : (n : ℕ) → root_at old n ≡ Some stream → ⊥) (free : is_used old number ≡ false) (adds : AddsRoot number stream old base)
+    (updates : (q : ℕ) → get nat_eq more q ≡ cond (nat_eq stream q) (Some number) (get nat_eq table q)) where
+  here : root_at base number ≡ Some stream
+  here = ap root_in adds.here
+
+  other_root : (n : ℕ) → (n ≡ number → ⊥) → root_at base n ≡ root_at old n
+  other_root n ne = ap root_in (adds.others n ne)
+
+  told : (q : ℕ) → stream ≡ q → get nat_eq more q ≡ Some number
+  told q same = updates q ∙ ap (λ b. cond b (Some number) (get nat_eq table q)) (is_same stream q same)
+
+  told_other : (q : ℕ) → (stream ≡ q → ⊥) → get nat_eq more q ≡ get nat_eq table q
+  told_other q ne = updates q ∙ ap (λ b. cond b (Some number) (get nat_eq table q)) (is_other stream q ne)
+
+  not_free : (q : ℕ) → root_at old number ≡ Some q → ⊥
+  not_free q has = let none : root_at old number ≡ None = free_reads old base number free root_in in cc
+
+  pub table_more : IsTable more base
+  table_more q n = by_stream (are_same_or_not stream q) (are_same_or_not n number)
+    where
+      by_stream : (stream ≡ q) ⊎ (stream ≡ q → ⊥) → (n ≡ number) ⊎ (n ≡ number → ⊥) → (get nat_eq more q ≡ Some n) ↔ (root_at base n ≡ Some q)
+      by_stream (inl same) (inl at) = (
+        (λ has. ap (root_at base) at ∙ here ∙ ap (λ s. Some s) same),
+        λ has. told q same ∙ ap (λ m. Some m) (sym at),
+      )
+      by_stream (inl same) (inr ne) = (
+        (λ has. let e : Some n ≡ Some number = sym has ∙ told q same in let e' : n ≡ number = cc in absurd (ne e')),
+        λ has. absurd (no_root n (sym (other_root n ne) ∙ has ∙ ap (λ s. Some s) (sym same))),
+      )
+      by_stream (inr apart) (inl at) = (
+        (λ has. absurd (not_free q (ap (root_at old) (sym at) ∙ (is q n).0 (sym (told_other q apart) ∙ has)))),
+        λ has. let e : Some stream ≡ Some q = sym here ∙ ap (root_at base) (sym at) ∙ has in let e' : stream ≡ q = cc in absurd (apart e'),
+      )
+      by_stream (inr apart) (inr ne) = (
+        (λ has. other_root n ne ∙ (is q n).0 (sym (told_other q apart) ∙ has)),
+        λ has. told_other q apart ∙ (is q n).1 (sym (other_root n ne) ∙ has),
+      )
+
+-- at first there are no states
+pub nothing_kept : {S : Type 0} (table : HashMap ℕ ℕ S) → ((q : ℕ) → get nat_eq table q ≡ None) → Keeps table 0 []
+nothing_kept table empty = record {
+  network = whole_none.network;
+  merged = record {
+    apart = λ number other prefix here there. absurd (none number prefix here);
+    needed = λ number prefix here. absurd (none number prefix here);
+  };
+  numbers = record { one = λ number state. omega arith; apart = λ number state other here there. absurd (omega (arith, here)) };
+  roots = λ stream number. (
+    (λ has. let no : None ≡ Some number = sym (empty stream) ∙ has in cc),
+    λ has. let no : None ≡ Some stream = has in cc,
+  );
+  below = λ number lt. absurd (omega (arith, lt));
+}
+  where
+    none : (number : ℕ) (prefix : Prefix) → IsAt [] number prefix → ⊥
+    none number prefix here = let no : false ≡ true = at_used [] number prefix here in cc

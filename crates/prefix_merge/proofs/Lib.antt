@@ -1,0 +1,9 @@
+pub mod AnyLemmas
+pub mod EndingLemmas
+pub mod GrowthLemmas
+pub mod InsertionLemmas
+pub mod PrefixLemmas
+pub mod PruningLemmas
+pub mod RemovalLemmas
+pub mod StartLemmas
+pub mod UndoneLemmas

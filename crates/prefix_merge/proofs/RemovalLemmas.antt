@@ -1,0 +1,257 @@
+-- A line that leaves a merged network.
+use Rattle.std.proofs.Common.{◌≡◌, ◌≢◌, ◌⊎◌, ◌∙◌, ◌↔◌, sym, ap, refl, subst, inl, inr, ℕ, zero, suc, ◌+◌, ◌≤◌, ◌==◌, Bool, true, false, not, ◌||◌, cond, IsTrue, length, List, [], ◌∷◌, ◌++◌, map, arith}
+use Rattle.std.specs.Prelude.{Contains, Option, Some, None, count_by, is_some}
+use Rattle.std.specs.HashMap.{HashMap}
+use Rattle.std.specs.List.{filter, flat_map, list_any, range_with_len}
+use Rattle.std.specs.List.Sorted.{IsPermutation}
+use Rattle.std.specs.Option.{option_and_then}
+use Rattle.std.proofs.lemmas.List.Elements.{filter-append}
+use Rattle.scalar_expr.proofs.Bags.{filter_permuted}
+use Rattle.automaton.specs.declared.network.End.{End}
+use Rattle.automaton.specs.declared.network.State.{State}
+use Rattle.automaton.specs.Changes.{RemovesEnd, without_end, without_numbered}
+use Rattle.automaton.specs.NetworkLines.{Ending, HasEndings, ending_at, endings_by}
+use Rattle.automaton.specs.Networks.{IsAt, IsNetwork}
+use Rattle.automaton.specs.Prefixes.{Prefix, beginnings}
+use Rattle.automaton.specs.States.{Net, ends_at, ends_in, entry_at, entry_in, is_used, root_at, root_by, state_at}
+use Rattle.automaton.proofs.ChangeLemmas.{gone_entry, reads_alike, removes_end_network}
+use Rattle.automaton.proofs.CountLemmas.{bit, count-cons}
+use Rattle.automaton.proofs.NumberLemmas.{are_same_or_not, is_other, same_number}
+use Rattle.automaton.proofs.SlotLemmas.{KeepsEntries, at_kept, at_one, at_used, entry_there}
+use Rattle.prefix_merge.specs.Growth.{AreUsedBelow, IsTable}
+use Rattle.prefix_merge.specs.Merging.{HasEnd, HasOwnNumbers, IsMerged, IsUsedBy, ends_numbered}
+use Rattle.prefix_merge.specs.Pruning.{IsPruned, IsPruning}
+use Rattle.prefix_merge.specs.Removal.{Removes}
+use Rattle.prefix_merge.proofs.AnyLemmas.{none_unused}
+use Rattle.prefix_merge.proofs.EndingLemmas.{ends_none}
+use Rattle.prefix_merge.proofs.GrowthLemmas.{any_end}
+use Rattle.prefix_merge.proofs.PrefixLemmas.{at_beginning}
+
+-- whether an end has another number
+abbrev other_end : ℕ → End → Bool
+other_end number end = not (end.number == number)
+
+-- ends without those of a number
+none_numbered : (number : ℕ) (ends : List End) → count_by (λ (e : End). e.number == number) ends ≡ 0 → without_numbered number ends ≡ ends
+none_numbered number [] none = refl
+none_numbered number (end ∷ ends) none = go (none_numbered number ends) (end.number == number) refl
+  where
+    go : (count_by (λ (e : End). e.number == number) ends ≡ 0 → without_numbered number ends ≡ ends) → (b : Bool) → (end.number == number) ≡ b → cond (not b) (end ∷ without_numbered number ends) (without_numbered number ends) ≡ end ∷ ends
+    go rest true is =
+        let counted = count-cons (λ (e : End). e.number == number) end ends in let one : bit (end.number == number) ≡ 1 = ap bit is in absurd (omega (arith, none, counted, one))
+    go rest false is = let counted = count-cons (λ (e : End). e.number == number) end ends in ap (λ es. end ∷ es) (rest (omega (arith, none, counted)))
+
+counted_other : (number other : ℕ) (ends : List End) → (number ≡ other → ⊥) → count_by (λ (e : End). e.number == other) (without_numbered number ends) ≡ count_by (λ (e : End). e.number == other) ends
+counted_other number other [] ne = refl
+counted_other number other (end ∷ ends) ne = go (counted_other number other ends ne) (end.number == number) refl ∙ sym (count-cons (λ (e : End). e.number == other) end ends)
+  where
+    go : count_by (λ (e : End). e.number == other) (without_numbered number ends) ≡ count_by (λ (e : End). e.number == other) ends → (b : Bool) → (end.number == number) ≡ b
+        → count_by (λ (e : End). e.number == other) (cond (not b) (end ∷ without_numbered number ends) (without_numbered number ends)) ≡ bit (end.number == other) + count_by (λ (e : End). e.number == other) ends
+    go rest true is =
+        let same = same_number end.number number is in
+        let zero' : bit (end.number == other) ≡ 0 = ap bit (is_other end.number other (λ e. ne (sym same ∙ e))) in
+        omega (arith, rest, zero')
+    go rest false is = count-cons (λ (e : End). e.number == other) end (without_numbered number ends) ∙ ap (λ n. bit (end.number == other) + n) rest
+
+counted_gone : (number : ℕ) (ends : List End) → count_by (λ (e : End). e.number == number) (without_numbered number ends) ≡ 0
+counted_gone number [] = refl
+counted_gone number (end ∷ ends) = go (counted_gone number ends) (end.number == number) refl
+  where
+    go : count_by (λ (e : End). e.number == number) (without_numbered number ends) ≡ 0 → (b : Bool) → (end.number == number) ≡ b
+        → count_by (λ (e : End). e.number == number) (cond (not b) (end ∷ without_numbered number ends) (without_numbered number ends)) ≡ 0
+    go rest true is = rest
+    go rest false is =
+        let counted = count-cons (λ (e : End). e.number == number) end (without_numbered number ends) in
+        let zero' : bit (end.number == number) ≡ 0 = ap bit is in
+        omega (arith, rest, counted, zero')
+
+-- some end is left where one has another number
+any_left : (number : ℕ) (ends : List End) → list_any any_end (without_numbered number ends) ≡ list_any (other_end number) ends
+any_left number [] = refl
+any_left number (end ∷ ends) = go (any_left number ends) (not (end.number == number))
+  where
+    go : list_any any_end (without_numbered number ends) ≡ list_any (other_end number) ends → (b : Bool) → list_any any_end (cond b (end ∷ without_numbered number ends) (without_numbered number ends)) ≡ (b || list_any (other_end number) ends)
+    go rest true = refl
+    go rest false = rest
+
+-- the lines of the ends but that of a number
+abbrev other_ending : ℕ → Ending → Bool
+other_ending number ending = not (ending.number == number)
+
+lines_left : (number : ℕ) (prefix : Prefix) (ends : List End) → map (ending_at prefix) (without_numbered number ends) ≡ filter (other_ending number) (map (ending_at prefix) ends)
+lines_left number prefix [] = refl
+lines_left number prefix (end ∷ ends) = go (lines_left number prefix ends) (not (end.number == number))
+  where
+    go : map (ending_at prefix) (without_numbered number ends) ≡ filter (other_ending number) (map (ending_at prefix) ends) → (b : Bool)
+        → map (ending_at prefix) (cond b (end ∷ without_numbered number ends) (without_numbered number ends))
+        ≡ cond b (ending_at prefix end ∷ filter (other_ending number) (map (ending_at prefix) ends)) (filter (other_ending number) (map (ending_at prefix) ends))
+    go rest true = ap (λ es. ending_at prefix end ∷ es) rest
+    go rest false = rest
+
+filter-flat_map : {X Y : Type 0} (p : Y → Bool) (f : X → List Y) (xs : List X) → filter p (flat_map f xs) ≡ flat_map (λ x. filter p (f x)) xs
+filter-flat_map p f [] = refl
+filter-flat_map p f (x ∷ xs) = filter-append p (f x) (flat_map f xs) ∙ ap (λ ys. filter p (f x) ++ ys) (filter-flat_map p f xs)
+
+flat_map_each : {X Y : Type 0} (f g : X → List Y) → ((x : X) → f x ≡ g x) → (xs : List X) → flat_map f xs ≡ flat_map g xs
+flat_map_each f g same [] = refl
+flat_map_each f g same (x ∷ xs) = λ i. same x i ++ flat_map_each f g same xs i
+
+-- the end leaves
+module _ (old middle : Net) (state end : ℕ) (network : IsNetwork old) (merged : IsMerged old) (own : HasOwnNumbers old) (has : 1 ≤ ends_numbered old end state) (removes : RemovesEnd state end old middle) where
+  middle_entry : (number : ℕ) → entry_at middle number ≡ entry_at old number
+  middle_entry = reads_alike entry_in old middle state (ap entry_in removes.here ∙ gone_entry end (state_at old state)) removes.others
+
+  pub middle_used : (number : ℕ) → is_used middle number ≡ is_used old number
+  middle_used number = sym (entry_there (state_at middle number)) ∙ ap is_some (middle_entry number) ∙ entry_there (state_at old number)
+
+  ends_without : (slot : Option State) → ends_in (without_end end slot) ≡ without_numbered end (ends_in slot)
+  ends_without None = refl
+  ends_without (Some present) = refl
+
+  middle_ends : (number : ℕ) → ends_at middle number ≡ without_numbered end (ends_at old number)
+  middle_ends number = by_number (are_same_or_not number state)
+    where
+      zero_else : (n : ℕ) → ends_numbered old end number ≡ n → (number ≡ state → ⊥) → n ≡ 0
+      zero_else zero is ne = refl
+      zero_else (suc n) is ne = absurd (ne (own.apart end number state (omega (arith, is)) has))
+
+      by_number : (number ≡ state) ⊎ (number ≡ state → ⊥) → ends_at middle number ≡ without_numbered end (ends_at old number)
+      by_number (inl same) = ap (ends_at middle) same ∙ ap ends_in removes.here ∙ ends_without (state_at old state) ∙ ap (λ n. without_numbered end (ends_at old n)) (sym same)
+      by_number (inr ne) = ap ends_in (removes.others number ne) ∙ sym (none_numbered end (ends_at old number) (zero_else (ends_numbered old end number) refl ne))
+
+  pub state_used : is_used old state ≡ true
+  state_used = by_use (is_used old state) refl
+    where
+      by_use : (b : Bool) → is_used old state ≡ b → b ≡ true
+      by_use true used = refl
+      by_use false free = let none = none_unused old end state free in absurd (omega (arith, none, has))
+
+  on : KeepsEntries old middle
+  on number e is = middle_entry number ∙ is
+
+  off : KeepsEntries middle old
+  off number e is = sym (middle_entry number) ∙ is
+
+  pub end_pruning : (prefix : Prefix) → IsAt old state prefix → IsPruning middle prefix state middle
+  end_pruning prefix here = record {
+    left = record { network = removes_end_network state end old middle removes network; stay = λ number used. refl; ends = λ number. refl; places = refl };
+    here = at_kept old middle on state prefix here;
+    apart = λ number other p at_number at_other. merged.apart number other p (at_kept middle old off number p at_number) (at_kept middle old off other p at_other);
+    needed = λ number p at_number. by_use p (merged.needed number p (at_kept middle old off number p at_number));
+  }
+    where
+      by_use : (p : Prefix) → IsUsedBy old any_end p → (IsUsedBy middle any_end p) ⊎ (Contains (beginnings prefix) p)
+      by_use p use' = by_number (are_same_or_not use'.last state)
+        where
+          by_number : (use'.last ≡ state) ⊎ (use'.last ≡ state → ⊥) → (IsUsedBy middle any_end p) ⊎ (Contains (beginnings prefix) p)
+          by_number (inl same) = inr (subst (λ whole. Contains (beginnings whole) p) (at_one old state use'.whole prefix (subst (λ n. IsAt old n use'.whole) same use'.here) here) use'.begins)
+          by_number (inr ne) = inl (record {
+            last = use'.last;
+            whole = use'.whole;
+            here = at_kept old middle on use'.last use'.whole use'.here;
+            ends = subst (λ ends. IsTrue (list_any any_end ends)) (sym (ap ends_in (removes.others use'.last ne))) use'.ends;
+            begins = use'.begins;
+          })
+
+  -- and the states that it alone used
+  module _ (new : Net) (pruned : IsPruned middle new) where
+    new_entry : (number : ℕ) → IsTrue (is_used new number) → entry_at new number ≡ entry_at old number
+    new_entry number used = pruned.left.stay number used ∙ middle_entry number
+
+    new_keeps : KeepsEntries new old
+    new_keeps number e is = let used : is_used new number ≡ true = sym (entry_there (state_at new number)) ∙ ap is_some is in sym (new_entry number used) ∙ is
+
+    new_ends : (number : ℕ) → ends_at new number ≡ without_numbered end (ends_at old number)
+    new_ends number = pruned.left.ends number ∙ middle_ends number
+
+    used_before : (number : ℕ) → is_used new number ≡ true → is_used old number ≡ true
+    used_before number used = sym (entry_there (state_at old number)) ∙ ap is_some (sym (new_entry number used)) ∙ entry_there (state_at new number) ∙ used
+
+    at_new : (number : ℕ) (p : Prefix) → is_used new number ≡ true → IsAt old number p → IsAt new number p
+    at_new number p used here =
+        let place = pruned.left.network.places number used in
+        subst (IsAt new number) (at_one old number place.0 p (at_kept new old new_keeps number place.0 place.1) here) place.1
+
+    any_new : (number : ℕ) → list_any any_end (ends_at new number) ≡ list_any (other_end end) (ends_at old number)
+    any_new number = ap (list_any any_end) (new_ends number) ∙ any_left end (ends_at old number)
+
+    -- an end stands at a state that is there
+    used_by_ends : (number : ℕ) → IsTrue (list_any any_end (ends_at new number)) → is_used new number ≡ true
+    used_by_ends number some = by_use (is_used new number) refl
+      where
+        by_use : (b : Bool) → is_used new number ≡ b → b ≡ true
+        by_use true used = refl
+        by_use false free = let no : false ≡ true = sym (ap (list_any any_end) (ends_none new number free)) ∙ some in cc
+
+    states_are : (number : ℕ) (p : Prefix) → IsAt old number p → IsTrue (is_used new number) ↔ IsUsedBy old (other_end end) p
+    states_are number p here = (fore, back)
+      where
+        fore : IsTrue (is_used new number) → IsUsedBy old (other_end end) p
+        fore used =
+            let use' = pruned.merged.needed number p (at_new number p used here) in
+            record { last = use'.last; whole = use'.whole; here = at_kept new old new_keeps use'.last use'.whole use'.here; ends = sym (any_new use'.last) ∙ use'.ends; begins = use'.begins }
+
+        back : IsUsedBy old (other_end end) p → IsTrue (is_used new number)
+        back use' =
+            let last_used = used_by_ends use'.last (any_new use'.last ∙ use'.ends) in
+            let there = at_beginning new use'.last use'.whole p (at_new use'.last use'.whole last_used use'.here) use'.begins in
+            let same = merged.apart there.0 number p (at_kept new old new_keeps there.0 p there.1) here in
+            subst (λ n. IsTrue (is_used new n)) same (at_used new there.0 p there.1)
+
+    numbered_same : (number other : ℕ) → (other ≡ end → ⊥) → ends_numbered new other number ≡ ends_numbered old other number
+    numbered_same number other ne = ap (count_by (λ (e : End). e.number == other)) (new_ends number) ∙ counted_other end other (ends_at old number) (λ e. ne (sym e))
+
+    numbered_gone : (number : ℕ) → ends_numbered new end number ≡ 0
+    numbered_gone number = ap (count_by (λ (e : End). e.number == end)) (new_ends number) ∙ counted_gone end (ends_at old number)
+
+    gone_not : (number other : ℕ) → 1 ≤ ends_numbered new other number → other ≡ end → ⊥
+    gone_not number other some same = let none : ends_numbered new other number ≡ 0 = ap (λ n. ends_numbered new n number) same ∙ numbered_gone number in absurd (omega (arith, none, some))
+
+    ends_are : (other : ℕ) → HasEnd new other ↔ ((HasEnd old other) × (other ≢ end))
+    ends_are other = (
+      (λ (some : HasEnd new other). ((some.0, subst (λ n. 1 ≤ n) (numbered_same some.0 other (gone_not some.0 other some.1)) some.1), gone_not some.0 other some.1)),
+      λ (some : (HasEnd old other) × (other ≢ end)). (some.0.0, subst (λ n. 1 ≤ n) (sym (numbered_same some.0.0 other some.1)) some.0.1),
+    )
+
+    pub numbers_kept : HasOwnNumbers new
+    numbers_kept = record {
+      one = λ number at_state. elim (are_same_or_not number end) [
+        | inl same ↦ (let none : ends_numbered new number at_state ≡ 0 = ap (λ n. ends_numbered new n at_state) same ∙ numbered_gone at_state in omega (arith, none))
+        | inr ne ↦ subst (λ n. n ≤ 1) (sym (numbered_same at_state number ne)) (own.one number at_state)
+      ];
+      apart = λ number at_state other here there.
+          own.apart number at_state other (subst (λ n. 1 ≤ n) (numbered_same at_state number (gone_not at_state number here)) here) (subst (λ n. 1 ≤ n) (numbered_same other number (gone_not other number there)) there);
+    }
+
+    endings_are : (endings : List Ending) → HasEndings old endings → HasEndings new (filter (other_ending end) endings)
+    endings_are endings had = record {
+      places = had.places;
+      are_places = λ number used. at_new number (had.places number) used (had.are_places number (used_before number used));
+      same = subst (λ es. IsPermutation es (filter (other_ending end) endings)) (sym left) (filter_permuted (other_ending end) (endings_by had.places old) endings had.same);
+    }
+      where
+        after : ℕ → List Ending
+        after number = map (ending_at (had.places number)) (ends_at new number)
+
+        before : ℕ → List Ending
+        before number = map (ending_at (had.places number)) (ends_at old number)
+
+        left : endings_by had.places new ≡ filter (other_ending end) (endings_by had.places old)
+        left =
+            ap (λ n. flat_map after (range_with_len 0 n)) (pruned.left.places ∙ removes.places)
+            ∙ flat_map_each after (λ number. filter (other_ending end) (before number))
+            (λ number. ap (map (ending_at (had.places number))) (new_ends number) ∙ lines_left end (had.places number) (ends_at old number)) (range_with_len 0 (length old))
+            ∙ sym (filter-flat_map (other_ending end) before (range_with_len 0 (length old)))
+
+    -- so the line has left
+    pub line_removed : Removes end old new
+    line_removed = record { stay = new_entry; states = states_are; endings = endings_are; ends = ends_are }
+
+  -- the table and the numbers that are used stay while the end leaves
+  pub middle_table : {S : Type 0} (table : HashMap ℕ ℕ S) → IsTable table old → IsTable table middle
+  middle_table table is stream number =
+      let same : root_at middle number ≡ root_at old number = ap (option_and_then root_by) (middle_entry number) in
+      ((λ found. same ∙ (is stream number).0 found), λ root. (is stream number).1 (sym same ∙ root))
+
+  pub middle_below : (bound : ℕ) → AreUsedBelow old bound → AreUsedBelow middle bound
+  middle_below bound below number lt = middle_used number ∙ below number lt

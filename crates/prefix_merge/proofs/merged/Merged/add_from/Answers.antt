@@ -1,0 +1,27 @@
+use Rattle.std.proofs.Common.{subst, sym}
+use Rattle.automaton.specs.States.{Net}
+use Rattle.automaton.proofs.SlotLemmas.{at_used}
+use Rattle.prefix_merge.specs.Insertion.{Inserts}
+use Rattle.prefix_merge.specs.Merging.{HasEnd}
+use Rattle.prefix_merge.proofs.InsertionLemmas.{grown_from, line_inserted, line_kept}
+use Rattle.prefix_merge.proofs.merged.Merged.add_from.Goals as goal
+
+-- the state is there
+pub grow-requires-clause-tip : goal.grow-requires-clause-tip
+grow-requires-clause-tip c = at_used c.self.inside.network c.reach-reached.result.state _ c.reach-reached.ensures.reached.here
+
+-- the line has come
+pub invariant_of-self-2 : goal.invariant_of-self-2
+invariant_of-self-2 c =
+    let old = c.self.inside.network in
+    let keeps = c.self.invariant in
+    let fresh = subst (λ (net : Net). HasEnd net c.args.end → ⊥) (sym c.self.view_is) c.requires.end in
+    let grown = grown_from old c.grow.new.network c.args.line.now c.reach-reached.result.state c.reach-reached.result.place c.args.end keeps.network keeps.merged c.reach-reached.ensures.reached c.in_ok-self-inside.ensures.grown in
+    line_kept c.self.inside.roots c.in_ok-self-inside.field-0 old old c.grow.new.network c.args.line.now c.args.end grown fresh keeps.roots c.in_ok-self-inside.ensures.bound c.self.inside.roots c.self.inside.lowest keeps
+
+pub returns-clause-inserted : goal.returns-clause-inserted
+returns-clause-inserted c =
+    let old = c.self.inside.network in
+    let keeps = c.self.invariant in
+    let grown = grown_from old c.grow.new.network c.args.line.now c.reach-reached.result.state c.reach-reached.result.place c.args.end keeps.network keeps.merged c.reach-reached.ensures.reached c.in_ok-self-inside.ensures.grown in
+    subst (λ (net : Net). Inserts c.args.line.now c.args.end net c.grow.new.network) c.self.view_is (line_inserted old old c.grow.new.network c.args.line.now c.args.end grown)

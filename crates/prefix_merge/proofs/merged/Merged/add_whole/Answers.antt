@@ -1,0 +1,28 @@
+use Rattle.std.proofs.Common.{◌≡◌, ℕ, subst, sym}
+use Rattle.std.specs.Prelude.{Some}
+use Rattle.automaton.specs.States.{Net, root_at}
+use Rattle.prefix_merge.specs.Insertion.{Inserts}
+use Rattle.prefix_merge.specs.Merging.{HasEnd}
+use Rattle.prefix_merge.proofs.InsertionLemmas.{grown_whole, line_inserted, line_kept, table_more}
+use Rattle.prefix_merge.proofs.merged.Merged.add_whole.Goals as goal
+
+-- the line has come
+pub invariant_of-self-in-Ok : goal.invariant_of-self-in-Ok
+invariant_of-self-in-Ok c =
+    let old = c.self.inside.network in
+    let keeps = c.self.invariant in
+    let fresh = subst (λ (net : Net). HasEnd net c.args.end → ⊥) (sym c.self.view_is) c.requires.end in
+    let no_root = subst (λ (net : Net). (n : ℕ) → root_at net n ≡ Some c.args.line.now.root → ⊥) (sym c.self.view_is) c.requires.root in
+    let planted = c.in-Ok.ensures.planted in
+    let grown = grown_whole old c.plant.new.network planted.0 c.args.line.now c.free_number-number.result c.args.end keeps.network keeps.merged no_root c.free_number-number.ensures planted.1 planted.2 in
+    let roots = table_more c.self.inside.roots c.insert.new.self old planted.0 c.args.line.now.root c.free_number-number.result keeps.roots no_root c.free_number-number.ensures.free planted.1 c.in_ok-insert.ensures.updates.0 in
+    line_kept c.insert.new.self c.in-Ok.bound old planted.0 c.plant.new.network c.args.line.now c.args.end grown fresh roots c.in-Ok.ensures.bound c.self.inside.roots c.self.inside.lowest keeps
+
+pub returns-in-Ok-clause-inserted : goal.returns-in-Ok-clause-inserted
+returns-in-Ok-clause-inserted c =
+    let old = c.self.inside.network in
+    let keeps = c.self.invariant in
+    let no_root = subst (λ (net : Net). (n : ℕ) → root_at net n ≡ Some c.args.line.now.root → ⊥) (sym c.self.view_is) c.requires.root in
+    let planted = c.in-Ok.ensures.planted in
+    let grown = grown_whole old c.plant.new.network planted.0 c.args.line.now c.free_number-number.result c.args.end keeps.network keeps.merged no_root c.free_number-number.ensures planted.1 planted.2 in
+    subst (λ (net : Net). Inserts c.args.line.now c.args.end net c.plant.new.network) c.self.view_is (line_inserted old planted.0 c.plant.new.network c.args.line.now c.args.end grown)

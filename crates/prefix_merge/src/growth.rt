@@ -1,0 +1,126 @@
+//! Networks that grow by a line.
+ghost use Rattle.std.specs.Prelude.{◌≡◌, ◌≤◌, ℕ, IfOk, IsTrue, OnErr, Some, [], drop, false, length, max, ◌+◌, take};
+ghost use Rattle.automaton.specs.Changes.{RemovesState};
+ghost use Rattle.automaton.specs.States.{Net, edges_at, is_used, root_at};
+ghost use Rattle.prefix_merge.specs.Growth.{AreUsedBelow, Grows, Plants, Reaches, end_of};
+ghost use Rattle.prefix_merge.specs.Merging.{IsLowestFree};
+
+use automaton::{End, Line, Network};
+use event_types::{Copied, Memory};
+use std::alloc::Global;
+
+// The state to which the first hops of a line lead, and how many they are.
+#[derive(Drop)]
+pub(crate) struct Reached {
+    pub(crate) state: usize,
+    pub(crate) place: usize,
+}
+
+// How far a line comes through states that are there.
+pub(crate) fn reach(network: &Network, root: usize, line: &Line) -> Reached
+    requires { root_at network.now root ≡ Some line.now.root }
+    ensures reached { Reaches network.now line.now result.state result.place }
+    ensures place { result.place ≤ length line.now.hops }
+{
+    let mut state = root;
+    let mut place = 0;
+    while place < line.hops.len() {
+        match network.next(state, line.hops.get(place)) {
+            Some(next) => {
+                state = next;
+                place += 1;
+            }
+            None => return Reached { state, place },
+        }
+    }
+    Reached { state, place }
+}
+
+// The lowest number that no state has, which isn't below this one.
+pub(crate) fn free_number(network: &Network, from: usize) -> usize
+    requires { AreUsedBelow network.now from }
+    ensures { IsLowestFree network.now result }
+{
+    let mut number = from;
+    while number < network.places() && network.used(number) {
+        number += 1;
+    }
+    number
+}
+
+// Adds the states of a line's hops from a place on, and its end. Gives a number below which each is used.
+pub(crate) fn grow(
+    alloc: Global,
+    network: &mut Network,
+    from: usize,
+    tip: usize,
+    line: &Line,
+    place: usize,
+    end: usize,
+) -> Result<usize, Memory>
+    requires tip { IsTrue (is_used network.old tip) }
+    requires from { AreUsedBelow network.old from }
+    requires place { place ≤ length line.now.hops }
+    ensures grown { IfOk result (λ bound. Grows tip (drop place line.now.hops) (end_of line.now end) network.old network.new) }
+    ensures bound { IfOk result (λ bound. AreUsedBelow network.new bound) }
+    ensures kept { OnErr result (network.new ≡ network.old) }
+{
+    if place == line.hops.len() {
+        let step = line.last.copied(alloc)?;
+        let end = End {
+            step,
+            out: line.out,
+            number: end,
+        };
+        network.add_end(tip, end)?;
+        return Ok(from);
+    }
+    let number = free_number(network, from);
+    let places = network.places();
+    network.add_hop(alloc, number, tip, line.hops.get(place))?;
+    match grow(alloc, network, number, number, line, place + 1, end) {
+        Ok(bound) => Ok(bound),
+        Err(fault) => {
+            take_back(network, number, places);
+            Err(fault)
+        }
+    }
+}
+
+// Adds the root state of a line, the states of its hops and its end.
+pub(crate) fn plant(
+    alloc: Global,
+    network: &mut Network,
+    number: usize,
+    line: &Line,
+    end: usize,
+) -> Result<usize, Memory>
+    requires { IsLowestFree network.old number }
+    ensures planted { IfOk result (λ bound. Plants number line.now end network.old network.new) }
+    ensures bound { IfOk result (λ bound. AreUsedBelow network.new bound) }
+    ensures kept { OnErr result (network.new ≡ network.old) }
+{
+    let places = network.places();
+    network.add_root(alloc, number, line.root)?;
+    match grow(alloc, network, number, number, line, 0, end) {
+        Ok(bound) => Ok(bound),
+        Err(fault) => {
+            take_back(network, number, places);
+            Err(fault)
+        }
+    }
+}
+
+// Takes a state away that came when there were so many places.
+fn take_back(network: &mut Network, number: usize, places: usize)
+    requires used { IsTrue (is_used network.old number) }
+    requires last { edges_at network.old number ≡ [] }
+    requires next { number ≤ places }
+    requires places { length network.old ≡ max places (number + 1) }
+    ensures { (left : Net) × RemovesState number network.old left × (network.new ≡ take places left) }
+{
+    network.remove_state(number);
+    if number == places {
+        network.shrink();
+    }
+}

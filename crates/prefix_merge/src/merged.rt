@@ -1,0 +1,133 @@
+//! Networks that lines come to and leave.
+ghost use Rattle.std.specs.Prelude.{◌≡◌, ℕ, [], OnErr, OnOk, Some};
+ghost use Rattle.automaton.specs.States.{root_at};
+ghost use Rattle.prefix_merge.specs.Insertion.{Inserts};
+ghost use Rattle.prefix_merge.specs.Merging.{HasEnd, IsMerged};
+ghost use Rattle.prefix_merge.specs.Removal.{Removes};
+
+use crate::growth::{free_number, grow, plant, reach};
+use crate::pruning::{Roots, holder, prune};
+use automaton::{Line, Network};
+use event_types::Memory;
+use std::alloc::Global;
+use std::collections::HashMap;
+use std::marker::Model;
+
+/// A network in which no two states have one prefix and each state is used by an end.
+///
+/// `SELECT a FROM A NEXT {c} B` and `SELECT b FROM A NEXT {c} B` have two ends at one waiting state.
+#[derive(Drop)]
+pub struct Merged {
+    network: Network,
+    roots: Roots,
+    // No number below it is free.
+    lowest: usize,
+}
+
+impl Model for Merged {
+    ghost use Rattle.std.specs.Prelude.{List, Option};
+    ghost use Rattle.automaton.specs.declared.network.State.{State};
+
+    ghost Value = { List (Option State) };
+
+    ghost use Rattle.std.specs.Coded.{coded_list, coded_option};
+    ghost use Rattle.automaton.specs.contracts.network.State as state;
+
+    ghost coded = { coded_list (coded_option state.the_row.coded) };
+
+    ghost use Rattle.prefix_merge.specs.Growth.{Keeps};
+
+    ghost view = { λ m. m.network };
+
+    ghost invariant = { λ m. Keeps m.roots m.lowest m.network };
+}
+
+impl Merged {
+    /// No states and no ends. Takes no memory.
+    pub fn new(alloc: Global) -> Merged
+        ensures { result ≡ [] }
+    {
+        Merged {
+            network: Network::new(alloc),
+            roots: HashMap::new(alloc),
+            lowest: 0,
+        }
+    }
+
+    /// The network. Takes no memory.
+    pub fn network(&self) -> &Network
+        ensures value { result.now ≡ self.now }
+        ensures merged { IsMerged self.now }
+    {
+        &self.network
+    }
+
+    /// Adds the states of a line's prefixes that aren't there, and its end with this number.
+    pub fn insert(&mut self, alloc: Global, line: &Line, end: usize) -> Result<(), Memory>
+        requires { ¬ HasEnd self.old end }
+        ensures inserted { OnOk result (Inserts line.now end self.old self.new) }
+        ensures kept { OnErr result (self.new ≡ self.old) }
+    {
+        match self.roots.get(&line.root).copied() {
+            Some(root) => self.add_from(alloc, root, line, end),
+            None => self.add_whole(alloc, line, end),
+        }
+    }
+
+    /// Takes the end with this number away, and the states that no other end uses. Takes no memory.
+    pub fn remove(&mut self, end: usize)
+        requires { HasEnd self.old end }
+        ensures { Removes end self.old self.new }
+    {
+        let state = holder(&self.network, end);
+        self.network.remove_end(state, end);
+        self.lowest = prune(&mut self.network, &mut self.roots, self.lowest, state);
+    }
+
+    // Adds a line whose root state is there.
+    fn add_from(
+        &mut self,
+        alloc: Global,
+        root: usize,
+        line: &Line,
+        end: usize,
+    ) -> Result<(), Memory>
+        requires end { ¬ HasEnd self.old end }
+        requires root { root_at self.old root ≡ Some line.now.root }
+        ensures inserted { OnOk result (Inserts line.now end self.old self.new) }
+        ensures kept { OnErr result (self.new ≡ self.old) }
+    {
+        let reached = reach(&self.network, root, line);
+        self.lowest = grow(
+            alloc,
+            &mut self.network,
+            self.lowest,
+            reached.state,
+            line,
+            reached.place,
+            end,
+        )?;
+        Ok(())
+    }
+
+    // Adds a line whose root state isn't there.
+    fn add_whole(&mut self, alloc: Global, line: &Line, end: usize) -> Result<(), Memory>
+        requires end { ¬ HasEnd self.old end }
+        requires root { (number : ℕ) → ¬ (root_at self.old number ≡ Some line.now.root) }
+        ensures inserted { OnOk result (Inserts line.now end self.old self.new) }
+        ensures kept { OnErr result (self.new ≡ self.old) }
+    {
+        let number = free_number(&self.network, self.lowest);
+        self.roots.insert(line.root, number)?;
+        match plant(alloc, &mut self.network, number, line, end) {
+            Ok(bound) => {
+                self.lowest = bound;
+                Ok(())
+            }
+            Err(fault) => {
+                self.roots.remove(&line.root);
+                Err(fault)
+            }
+        }
+    }
+}

@@ -1,0 +1,77 @@
+//! Networks that states leave which no end uses.
+ghost use Rattle.std.specs.Prelude.{◌≡◌, ◌≤◌, ◌==◌, ℕ, [], IsTrue, None, false, if◌then◌else◌, nat_eq};
+ghost use Rattle.std.specs.List.{list_any};
+ghost use Rattle.std.specs.HashMap.{get};
+ghost use Rattle.automaton.specs.Networks.{IsNetwork};
+ghost use Rattle.automaton.specs.Prefixes.{Prefix};
+ghost use Rattle.automaton.specs.States.{Net, edges_at, ends_at, is_used, tells};
+ghost use Rattle.prefix_merge.specs.Growth.{AreUsedBelow, IsTable};
+ghost use Rattle.prefix_merge.specs.Merging.{HasEnd, ends_numbered};
+ghost use Rattle.prefix_merge.specs.Pruning.{IsPruned, IsPruning, IsWanted};
+
+use automaton::{End, Network};
+use event_types::StreamId;
+use std::collections::HashMap;
+
+// The number of the root state of each stream that has one.
+pub(crate) type Roots = HashMap<StreamId, usize>;
+
+// The state at which the end with this number stands.
+pub(crate) fn holder(network: &Network, number: usize) -> usize
+    requires { HasEnd network.now number }
+    ensures { 1 ≤ ends_numbered network.now number result }
+{
+    for state in 0..network.places() {
+        if network.used(state) && has_end(network.ends(state).as_slice(), number) {
+            return state;
+        }
+    }
+    unreachable!()
+}
+
+// Whether one of the ends has this number.
+fn has_end(ends: &[End], number: usize) -> bool
+    ensures { result ≡ list_any (λ end. end.number == number) ends.now }
+{
+    ends.iter().any(|end| end.number == number)
+}
+
+// Whether an edge leads on from a state, or an end stands there.
+fn is_wanted(network: &Network, state: usize) -> bool
+    requires { IsTrue (is_used network.now state) }
+    ensures wanted { IsTrue result → IsWanted network.now state }
+    ensures unwanted { result ≡ false → (edges_at network.now state ≡ []) × (ends_at network.now state ≡ []) }
+{
+    network.edges(state).len() != 0 || network.ends(state).len() != 0
+}
+
+// Forgets the root state of a stream, where it is one's.
+fn forget(roots: &mut Roots, stream: Option<StreamId>)
+    ensures { (other : ℕ) → get nat_eq roots.new other ≡ (if tells other stream then None else get nat_eq roots.old other) }
+{
+    if let Some(stream) = stream {
+        roots.remove(&stream);
+    }
+}
+
+// Takes a state away that leads nowhere, then the one before it, as long as no edge leads on from there and
+// no end stands there. Gives a number below which each is used, where this was one.
+pub(crate) fn prune(network: &mut Network, roots: &mut Roots, bound: usize, tip: usize) -> usize
+    requires used { IsTrue (is_used network.old tip) }
+    requires network { IsNetwork network.old }
+    ensures pruned { (whole : Net) (prefix : Prefix) → IsPruning whole prefix tip network.old → IsPruned whole network.new }
+    ensures roots { IsTable roots.old network.old → IsTable roots.new network.new }
+    ensures below { AreUsedBelow network.old bound → AreUsedBelow network.new result }
+{
+    if is_wanted(network, tip) {
+        return bound;
+    }
+    forget(roots, network.root(tip));
+    let before = network.before(tip);
+    network.remove_state(tip);
+    let bound = bound.min(tip);
+    match before {
+        Some(before) => prune(network, roots, bound, before),
+        None => bound,
+    }
+}
