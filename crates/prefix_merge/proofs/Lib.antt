@@ -1,7 +1,9 @@
 pub mod AnyLemmas
+pub mod ContainLemmas
 pub mod EndingLemmas
 pub mod GrowthLemmas
 pub mod InsertionLemmas
+pub mod LawLemmas
 pub mod PrefixLemmas
 pub mod PruningLemmas
 pub mod RemovalLemmas

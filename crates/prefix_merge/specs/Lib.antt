@@ -1,5 +1,6 @@
 pub mod Growth
 pub mod Insertion
+pub mod Laws
 pub mod Merging
 pub mod Pruning
 pub mod Removal

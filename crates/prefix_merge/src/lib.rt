@@ -5,7 +5,9 @@
 #![tactic(auto)]
 
 mod growth;
+mod laws;
 mod merged;
 mod pruning;
 
+pub use laws::{lines_are_its_own, lines_come_in_turn, states_are_counted, states_are_prefixes};
 pub use merged::Merged;

@@ -1,0 +1,22 @@
+//! Laws over merged networks.
+ghost use Rattle.prefix_merge.specs.Laws.{LinesAreItsOwn, LinesComeInTurn, StatesAreCounted, StatesArePrefixes};
+
+/// The states of a merged network are exactly the prefixes that its ends use.
+pub fn states_are_prefixes()
+    ensures { StatesArePrefixes }
+{}
+
+/// A merged network has as many states as its lines have distinct prefixes, roots included.
+pub fn states_are_counted()
+    ensures { StatesAreCounted }
+{}
+
+/// A merged network has the lines of its ends, so a layout that fits them fits it.
+pub fn lines_are_its_own()
+    ensures { LinesAreItsOwn }
+{}
+
+/// Lines that are inserted one after another make a network that has exactly these lines.
+pub fn lines_come_in_turn()
+    ensures { LinesComeInTurn }
+{}
