@@ -11,3 +11,6 @@ mod pruning;
 
 pub use laws::{lines_are_its_own, lines_come_in_turn, states_are_counted, states_are_prefixes};
 pub use merged::Merged;
+
+#[cfg(test)]
+mod tests;
