@@ -5,6 +5,7 @@ use Rattle.cay_host.specs.Told.{Told}
 use Rattle.cayuga_run.specs.declared.status.Status.{Status}
 use Rattle.cayuga_run.specs.declared.status.Status.TheVariants.{Done, Usage, BadQuery, Cycle, BadEvent, OutOfOrder, AttachFault, ReadFault, WriteFault, TooMuch, Memory}
 use Rattle.cayuga_run.specs.Answers.{Answers}
+use Rattle.cayuga_run.specs.Blaming.{BlamesHost}
 use Rattle.cayuga_run.specs.Outcome.{DidNothing, Outcome}
 use Rattle.cayuga_run.specs.RunOutcome.{RunOutcome}
 use Rattle.cayuga_run.specs.Works.{Work, Nothing, Reports, Writes, has_side}
@@ -13,8 +14,8 @@ use Rattle.cayuga_run.proofs.RunAnswers.{complete_by, decided, refused_by}
 use Rattle.cayuga_run.proofs.WritingAnswers.{writing_complete_by, writing_decided, writing_refused_by}
 
 -- words that ask for nothing
-without_work : (limit : ℕ) (old new : Told) (status : Status) → DidNothing old new status → ((side : Side) → new.attached side ≡ false) → Answers Nothing limit old new status
-without_work limit old new Usage same sides = record {
+without_work : (limit : ℕ) (old new : Told) (status : Status) → DidNothing old new status → BlamesHost old new status → ((side : Side) → new.attached side ≡ false) → Answers Nothing limit old new status
+without_work limit old new Usage same blames sides = record {
   usage = λ other. (λ e. refl, λ e. refl);
   usage_does = λ e. same;
   done = λ e. cc;
@@ -27,12 +28,13 @@ without_work limit old new Usage same sides = record {
   read_fault = λ side e. cc;
   write_fault = λ e. cc;
   memory = λ e. cc;
+  blames = blames;
   sides = λ side e. sides side;
   refused = tt;
   determined = tt;
   complete = tt;
 }
-without_work limit old new Memory same sides = record {
+without_work limit old new Memory same blames sides = record {
   usage = λ other. absurd (other refl);
   usage_does = λ e. cc;
   done = λ e. cc;
@@ -45,25 +47,26 @@ without_work limit old new Memory same sides = record {
   read_fault = λ side e. cc;
   write_fault = λ e. cc;
   memory = λ e. same;
+  blames = blames;
   sides = λ side e. sides side;
   refused = tt;
   determined = tt;
   complete = tt;
 }
-without_work limit old new Done same sides = absurd same
-without_work limit old new (BadQuery line why) same sides = absurd same
-without_work limit old new (Cycle names) same sides = absurd same
-without_work limit old new (BadEvent line why) same sides = absurd same
-without_work limit old new (OutOfOrder line at seen) same sides = absurd same
-without_work limit old new (AttachFault side) same sides = absurd same
-without_work limit old new (ReadFault side) same sides = absurd same
-without_work limit old new WriteFault same sides = absurd same
-without_work limit old new (TooMuch most) same sides = absurd same
+without_work limit old new Done same blames sides = absurd same
+without_work limit old new (BadQuery line why) same blames sides = absurd same
+without_work limit old new (Cycle names) same blames sides = absurd same
+without_work limit old new (BadEvent line why) same blames sides = absurd same
+without_work limit old new (OutOfOrder line at seen) same blames sides = absurd same
+without_work limit old new (AttachFault side) same blames sides = absurd same
+without_work limit old new (ReadFault side) same blames sides = absurd same
+without_work limit old new WriteFault same blames sides = absurd same
+without_work limit old new (TooMuch most) same blames sides = absurd same
 
 -- the answers, by what is asked for
-pub answers : (work : Work) (limit : ℕ) (old new : Told) (status : Status) → Outcome work limit old new status → ((side : Side) → has_side work side ≡ false → new.attached side ≡ false) → Answers work limit old new status
-answers Nothing limit old new status o sides = without_work limit old new status o (λ side. sides side refl)
-answers (Reports run) limit old new status o sides = record {
+pub answers : (work : Work) (limit : ℕ) (old new : Told) (status : Status) → Outcome work limit old new status → BlamesHost old new status → ((side : Side) → has_side work side ≡ false → new.attached side ≡ false) → Answers work limit old new status
+answers Nothing limit old new status o blames sides = without_work limit old new status o blames (λ side. sides side refl)
+answers (Reports run) limit old new status o blames sides = record {
   usage = λ other. (λ e. absurd (subst (RunOutcome run limit old new) e o), λ e. cc);
   usage_does = λ e. absurd (subst (RunOutcome run limit old new) e o);
   done = λ e. subst (RunOutcome run limit old new) e o;
@@ -76,12 +79,13 @@ answers (Reports run) limit old new status o sides = record {
   read_fault = λ side e. subst (RunOutcome run limit old new) e o;
   write_fault = λ e. subst (RunOutcome run limit old new) e o;
   memory = λ e. subst (RunOutcome run limit old new) e o;
+  blames = blames;
   sides = sides;
   refused = refused_by run limit old new status o;
   determined = decided run limit old new status o;
   complete = complete_by run limit old new status o;
 }
-answers (Writes writing) limit old new status o sides = record {
+answers (Writes writing) limit old new status o blames sides = record {
   usage = λ other. (λ e. absurd (subst (WritingOutcome writing old new) e o), λ e. cc);
   usage_does = λ e. absurd (subst (WritingOutcome writing old new) e o);
   done = λ e. subst (WritingOutcome writing old new) e o;
@@ -94,6 +98,7 @@ answers (Writes writing) limit old new status o sides = record {
   read_fault = λ side e. subst (WritingOutcome writing old new) e o;
   write_fault = λ e. subst (WritingOutcome writing old new) e o;
   memory = λ e. subst (WritingOutcome writing old new) e o;
+  blames = blames;
   sides = sides;
   refused = writing_refused_by writing old new status o;
   determined = writing_decided writing old new status o;

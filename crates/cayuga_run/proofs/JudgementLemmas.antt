@@ -4,7 +4,7 @@ use Rattle.std.proofs.lemmas.List.{take-append-le}
 use Rattle.cel_lexer.specs.Bytes.{is_line_feed}
 use Rattle.catalogue.specs.declared.fault.QueryFault.TheVariants.{TooLong}
 use Rattle.catalogue.specs.Filing.{long, most_bytes}
-use Rattle.catalogue.specs.Judgement.{Judges, Refused, Verdict, file}
+use Rattle.catalogue.specs.Judgement.{Accepted, Accepts, Judged, Judges, Refused, Verdict, file}
 use Rattle.catalogue.proofs.VerdictLemmas.{one_verdict}
 use Rattle.cayuga_run.specs.Expected.{OneStatus, expected_of}
 
@@ -22,3 +22,9 @@ past_limit bytes rest v more longer judged =
     let cut : take most_bytes (bytes ++ rest) ≡ take most_bytes bytes = take-append-le most_bytes bytes rest (omega (arith, more)) in
     let first : Judges (bytes ++ rest) (too_long (take most_bytes bytes)) = subst (λ t. Judges (bytes ++ rest) (too_long t)) cut (file (long longer)) in
     subst (Judges (bytes ++ rest)) (one_verdict bytes (too_long (take most_bytes bytes)) v (file (long more)) judged) first
+
+-- it isn't accepted
+pub not_past : (bytes : List ℕ) (judged : Judged) → most_bytes < length bytes → Accepts bytes judged → ⊥
+not_past bytes judged more accepts =
+    let same : Accepted judged ≡ too_long (take most_bytes bytes) = one_verdict bytes (Accepted judged) (too_long (take most_bytes bytes)) accepts (file (long more)) in
+    cc

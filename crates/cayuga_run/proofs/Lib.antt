@@ -1,7 +1,9 @@
 pub mod AnswerLemmas
+pub mod BlamingLemmas
 pub mod GrowingLemmas
+pub mod HearingLemmas
 pub mod JudgementLemmas
-pub mod ProgramLemmas
+pub mod OutcomeLemmas
 pub mod RefusedLemmas
 pub mod RunAnswers
 pub mod RunLemmas
@@ -9,3 +11,4 @@ pub mod WordingLemmas
 pub mod WorkLemmas
 pub mod WritingAnswers
 pub mod WritingLemmas
+pub mod WroteLemmas

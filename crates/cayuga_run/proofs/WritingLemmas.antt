@@ -1,15 +1,16 @@
 -- From accepted queries and what was written to the outcome of a writing.
-use Rattle.std.proofs.Common.{◌≡◌, subst, ℕ, List, Option, Some, None, IfSome}
+use Rattle.std.proofs.Common.{◌≡◌, sym, subst, ℕ, List, [], Option, Some, None, IfSome}
+use Rattle.cay_host.specs.declared.side.Side.TheVariants.{Queries}
 use Rattle.cay_host.specs.Faults.{Rose}
 use Rattle.cay_host.specs.Files.{file_of}
-use Rattle.cay_host.specs.Output.{Wrote, WrotePart}
+use Rattle.cay_host.specs.Output.{SameButOutput, Wrote, WrotePart}
 use Rattle.cay_host.specs.Told.{Told}
 use Rattle.catalogue.specs.Judgement.{Accepts, Judged}
 use Rattle.cayuga_run.specs.declared.status.Status.{Status}
 use Rattle.cayuga_run.specs.declared.status.Status.TheVariants.{Done, Usage, BadQuery, Cycle, BadEvent, OutOfOrder, AttachFault, ReadFault, WriteFault, TooMuch, Memory}
 use Rattle.cayuga_run.specs.Accepting.{IsAccepted}
 use Rattle.cayuga_run.specs.Begun.{HasAccepted}
-use Rattle.cayuga_run.specs.Finishing.{WritesText}
+use Rattle.cayuga_run.specs.WritingText.{WritesText}
 use Rattle.cayuga_run.specs.Refusing.{AreNotAccepted}
 use Rattle.cayuga_run.specs.Works.{Writing}
 use Rattle.cayuga_run.specs.WritingOutcome.{WritingOutcome}
@@ -36,24 +37,25 @@ writing_fails writing old new (TooMuch most) fails = fails
 
 -- the text of the accepted queries, written as far as the host took it
 pub writing_ends : (writing : Writing) (judged : Judged) (text : List ℕ) (old mid new : Told) (status : Status)
-    → HasAccepted writing.queries judged old mid → text ≡ writing.text_of judged → WritesText text mid new status → WritingOutcome writing old new status
-writing_ends writing judged text old mid new Done has same writes = record {
+    → HasAccepted writing.queries judged old mid → text ≡ writing.text_of judged → WritesText text mid new status → SameButOutput mid new → WritingOutcome writing old new status
+writing_ends writing judged text old mid new Done has same writes kept = record {
   there = has.there;
   text = accepted_so (file_of writing.queries old.files) judged (λ c. Wrote (writing.text_of c) old new) has.accepts (Wrote-after has.silent (subst (λ t. Wrote t mid new) same writes));
 }
-writing_ends writing judged text old mid new WriteFault has same writes =
+writing_ends writing judged text old mid new WriteFault has same writes kept =
     let part = subst (λ t. WrotePart t mid new) same writes.1 in
     record {
       cause = subst (λ n. Rose n new.write_faults) has.write_faults writes.0;
       there = has.there;
+      others = subst (λ f. IfSome (f Queries) (λ (rest : List ℕ). rest ≡ [])) (sym kept.left) has.read;
       text = accepted_so (file_of writing.queries old.files) judged (λ c. WrotePart (writing.text_of c) old new) has.accepts (part.0, part.1, Wrote-after has.silent part.2);
     }
-writing_ends writing judged text old mid new Memory has same writes = absurd writes
-writing_ends writing judged text old mid new (BadQuery line why) has same writes = absurd writes
-writing_ends writing judged text old mid new (Cycle names) has same writes = absurd writes
-writing_ends writing judged text old mid new (AttachFault side) has same writes = absurd writes
-writing_ends writing judged text old mid new (ReadFault side) has same writes = absurd writes
-writing_ends writing judged text old mid new Usage has same writes = writes
-writing_ends writing judged text old mid new (BadEvent line why) has same writes = writes
-writing_ends writing judged text old mid new (OutOfOrder line at seen) has same writes = writes
-writing_ends writing judged text old mid new (TooMuch most) has same writes = writes
+writing_ends writing judged text old mid new Memory has same writes kept = absurd writes
+writing_ends writing judged text old mid new (BadQuery line why) has same writes kept = absurd writes
+writing_ends writing judged text old mid new (Cycle names) has same writes kept = absurd writes
+writing_ends writing judged text old mid new (AttachFault side) has same writes kept = absurd writes
+writing_ends writing judged text old mid new (ReadFault side) has same writes kept = absurd writes
+writing_ends writing judged text old mid new Usage has same writes kept = writes
+writing_ends writing judged text old mid new (BadEvent line why) has same writes kept = writes
+writing_ends writing judged text old mid new (OutOfOrder line at seen) has same writes kept = writes
+writing_ends writing judged text old mid new (TooMuch most) has same writes kept = writes

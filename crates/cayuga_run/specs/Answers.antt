@@ -11,6 +11,7 @@ use Rattle.catalogue.specs.Judgement.{Verdict, Judges}
 use Rattle.monitor.specs.declared.refusal.Refusal.TheVariants.{HasFault, IsOutOfOrder}
 use Rattle.cayuga_run.specs.declared.status.Status.{Status}
 use Rattle.cayuga_run.specs.declared.status.Status.TheVariants.{Done, Usage, BadQuery, Cycle, BadEvent, OutOfOrder, AttachFault, ReadFault, WriteFault, TooMuch, Memory}
+use Rattle.cayuga_run.specs.Blaming.{BlamesHost}
 use Rattle.cayuga_run.specs.Expected.{AnswersRefused, IsExpected, IsExpectedOrFault, IsExpectedOrMemory, IsExpectedWriting, IsSteady}
 use Rattle.cayuga_run.specs.Refusing.{AreNotAttached, AreNotRead, IsBadQuery, IsCycle, OfQueries}
 use Rattle.cayuga_run.specs.RunOutcome.{AreThere, IsAttachFault, IsDone, IsMemory, IsReadFault, IsRefused, IsTooMuch, IsWriteFault, OfFiles}
@@ -33,6 +34,8 @@ pub record Answers (work : Work) (limit : ℕ) (old new : Told) (status : Status
   pub read_fault : (side : Side) → status ≡ ReadFault side → ByWork work ⊥ (λ run. IsReadFault side run limit old new) (λ writing. (side ≡ Queries) × AreNotRead writing.queries old new)
   pub write_fault : status ≡ WriteFault → ByWork work ⊥ (λ run. IsWriteFault run limit old new) (λ writing. IsPartlyWritten writing old new)
   pub memory : status ≡ Memory → ByWork work (new ≡ old) (λ run. IsMemory run limit old new) (λ writing. KeepsOutput old new)
+  -- a fault of the host is the answer
+  pub blames : BlamesHost old new status
   -- no side is attached that the work doesn't have
   pub sides : (side : Side) → has_side work side ≡ false → new.attached side ≡ false
   -- a refused query text decides the answer whatever the events, unless the queries couldn't be attached or read or there was no memory

@@ -1,19 +1,27 @@
 -- A job whose queries are accepted. No public clause cites this module.
-use Rattle.std.specs.Prelude.{◌≡◌, ◌≤◌, ℕ, List, true, false}
-use Rattle.cay_host.specs.declared.side.Side.TheVariants.{Queries}
+use Rattle.std.specs.Prelude.{◌≡◌, ℕ, List, [], true, false, IfSome}
+use Rattle.cay_host.specs.declared.side.Side.TheVariants.{Queries, Events}
 use Rattle.cay_host.specs.Files.{lacks}
 use Rattle.cay_host.specs.Output.{KeepsOutput}
 use Rattle.cay_host.specs.Told.{Told}
 use Rattle.catalogue.specs.Judgement.{Accepts, Judged}
 use Rattle.cayuga_run.specs.Refusing.{OfQueries}
 
--- the queries were attached and read, their text is accepted as this, and nothing else was done
+-- the queries were attached and read to their end, their text is accepted as this, and nothing else was done
 pub record HasAccepted (queries : List ℕ) (judged : Judged) (old new : Told) : Type 0 where
   pub there : lacks queries old.files ≡ false
   pub accepts : OfQueries queries old (λ text. Accepts text judged)
   pub attached : new.attached Queries ≡ true
   pub attach_faults : new.attach_faults ≡ old.attach_faults
-  pub read_faults : old.read_faults ≤ new.read_faults
+  pub read_faults : new.read_faults ≡ old.read_faults
   pub write_faults : new.write_faults ≡ old.write_faults
+  pub read : IfSome (new.left Queries) (λ rest. rest ≡ [])
+  pub events : new.left Events ≡ old.left Events
   pub files : new.files ≡ old.files
   pub silent : KeepsOutput old new
+
+-- the queries that were attached were read to their end, and their text is accepted as this
+pub record HasRead (judged : Judged) (old new : Told) : Type 0 where
+  pub accepts : IfSome (old.left Queries) (λ text. Accepts text judged)
+  pub read_faults : new.read_faults ≡ old.read_faults
+  pub read : IfSome (new.left Queries) (λ rest. rest ≡ [])

@@ -1,8 +1,9 @@
 pub mod Accepting
 pub mod Answers
 pub mod Begun
+pub mod Blaming
 pub mod Expected
-pub mod Finishing
+pub mod HearingOutcome
 pub mod Laws
 pub mod Number
 pub mod Outcome
@@ -10,7 +11,9 @@ pub mod QueryFailing
 pub mod Refusing
 pub mod Reports
 pub mod RunOutcome
+pub mod StoppedWriting
 pub mod Taking
 pub mod Wording
 pub mod Works
 pub mod WritingOutcome
+pub mod WritingText

@@ -1,5 +1,5 @@
 -- What is told where the queries weren't accepted.
-use Rattle.std.specs.Prelude.{◌≡◌, ℕ, List, true, false, IfSome}
+use Rattle.std.specs.Prelude.{◌≡◌, ℕ, List, [], true, false, IfSome}
 use Rattle.cay_host.specs.declared.side.Side.{Side}
 use Rattle.cay_host.specs.declared.side.Side.TheVariants.{Queries, Events}
 use Rattle.cay_host.specs.Faults.{Rose}
@@ -32,16 +32,24 @@ abbrev pub StoppedAt : Side → Told → Type 0
 StoppedAt Queries new = (new.attached Queries ≡ false) × (new.attached Events ≡ false)
 StoppedAt Events new = (new.attached Queries ≡ true) × (new.attached Events ≡ false)
 
--- the queries couldn't be attached: the count of attach faults rose, or the host tells that it has no such file
+-- nothing is left of the side before this one, and nothing was read of the one after it
+abbrev pub ReadsUpTo : Side → Told → Told → Type 0
+ReadsUpTo Queries old new = new.left Events ≡ old.left Events
+ReadsUpTo Events old new = IfSome (new.left Queries) (λ rest. rest ≡ [])
+
+-- the queries couldn't be attached: the count of attach faults rose, or the host tells that it has no such file; nothing was read or written
 pub record AreNotAttached (queries : List ℕ) (old new : Told) : Type 0 where
   pub cause : lacks queries old.files ≡ false → Rose old.attach_faults new.attach_faults
   pub stopped : StoppedAt Queries new
+  pub unread : new.left Queries ≡ old.left Queries
+  pub others : ReadsUpTo Queries old new
   pub silent : KeepsOutput old new
 
--- a read of the queries failed: nothing was attached or written after it
+-- a read of the queries failed: the events weren't attached or read, and nothing was written
 pub record StoppedInQueries (queries : List ℕ) (old new : Told) : Type 0 where
   pub there : lacks queries old.files ≡ false
   pub events : new.attached Events ≡ false
+  pub others : ReadsUpTo Queries old new
   pub silent : KeepsOutput old new
 
 -- the count of read faults rose, and the queries are attached

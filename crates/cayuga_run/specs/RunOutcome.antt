@@ -5,7 +5,7 @@ use Rattle.cay_host.specs.declared.side.Side.{Side}
 use Rattle.cay_host.specs.declared.side.Side.TheVariants.{Queries, Events}
 use Rattle.cay_host.specs.Faults.{Rose}
 use Rattle.cay_host.specs.Files.{file_of, lacks}
-use Rattle.cay_host.specs.Output.{Wrote, WrotePart, KeepsOutput}
+use Rattle.cay_host.specs.Output.{Wrote, KeepsOutput}
 use Rattle.cay_host.specs.Told.{Told}
 use Rattle.monitor.specs.declared.refusal.Refusal.{Refusal}
 use Rattle.monitor.specs.declared.refusal.Refusal.TheVariants.{HasFault, IsOutOfOrder}
@@ -14,8 +14,9 @@ use Rattle.cayuga_run.specs.declared.status.Status.TheVariants.{Done, Usage, Bad
 use Rattle.catalogue.specs.Judgement.{Verdict, Accepted, Refused, Circle, Judges}
 use Rattle.cayuga_run.specs.Accepting.{IsAccepted}
 use Rattle.monitor.specs.Owing.{WroteFront}
-use Rattle.cayuga_run.specs.Refusing.{IsBadQuery, IsCycle, OfQueries, StoppedAt, StoppedInQueries}
+use Rattle.cayuga_run.specs.Refusing.{IsBadQuery, IsCycle, OfQueries, ReadsUpTo, StoppedAt, StoppedInQueries}
 use Rattle.cayuga_run.specs.Reports.{refused_in, report_of_closed, report_of_heard}
+use Rattle.cayuga_run.specs.StoppedWriting.{StoppedWriting}
 use Rattle.cayuga_run.specs.Works.{Run, name_of}
 
 -- where the host tells both files
@@ -54,16 +55,19 @@ pub record IsTooMuch (run : Run) (limit : ℕ) (old new : Told) : Type 0 where
 abbrev pub QueriesAccepted : Run → Told → Type 0
 QueriesAccepted run old = (lacks run.queries old.files ≡ false) × OfQueries run.queries old (λ queries. IsAccepted queries (λ judged. Unit {0}))
 
--- the side couldn't be attached: the count of attach faults rose, or the host tells that it has no such file
+-- the side couldn't be attached: the count of attach faults rose, or the host tells that it has no such file; nothing was read of it or after it, and nothing was written
 pub record IsAttachFault (side : Side) (run : Run) (old new : Told) : Type 0 where
   pub cause : lacks (name_of run side) old.files ≡ false → Rose old.attach_faults new.attach_faults
   pub stopped : StoppedAt side new
   pub accepted : side ≡ Events → QueriesAccepted run old
+  pub unread : new.left side ≡ old.left side
+  pub others : ReadsUpTo side old new
   pub silent : KeepsOutput old new
 
 -- a read of the events failed: no line of the bytes that were taken is refused, and the report of the epochs that they close was written
 pub record StoppedInEvents (run : Run) (limit : ℕ) (old new : Told) : Type 0 where
   pub there : AreThere run old
+  pub others : ReadsUpTo Events old new
   pub text : OfFiles run old (λ queries events. IsAccepted queries (λ judged. (taken : List ℕ)
       × (Some events ≡ prepend_known taken (new.left Events)) × (length taken ≤ limit) × (refused_in judged taken false ≡ None) × Wrote (report_of_closed judged taken false) old new))
 
@@ -74,11 +78,12 @@ pub record IsReadFault (side : Side) (run : Run) (limit : ℕ) (old new : Told) 
   pub queries : side ≡ Queries → StoppedInQueries run.queries old new
   pub events : side ≡ Events → StoppedInEvents run limit old new
 
--- the count of write faults rose, and a proper prefix of the report of the closed epochs was written
+-- the count of write faults rose, and the report was written up to a proper prefix of the rows that the last piece or the end of the events adds
 pub record IsWriteFault (run : Run) (limit : ℕ) (old new : Told) : Type 0 where
   pub cause : Rose old.write_faults new.write_faults
   pub there : AreThere run old
-  pub text : OfFiles run old (λ queries events. IsAccepted queries (λ judged. WrotePart (report_of_closed judged (take limit events) (is_whole limit events)) old new))
+  pub others : ReadsUpTo Events old new
+  pub text : OfFiles run old (λ queries events. IsAccepted queries (λ judged. StoppedWriting judged limit (Some events) old new))
 
 -- what was written before memory was wanting: a front of the report of the closed epochs, and nothing where the query text is refused
 abbrev pub MemoryText : Verdict → ℕ → List ℕ → Told → Told → Type 0

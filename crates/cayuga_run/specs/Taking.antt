@@ -1,5 +1,5 @@
 -- How the reading of a side ended.
-use Rattle.std.specs.Prelude.{◌≡◌, ℕ, ◌+◌, ◌≤◌, List, [], length, IfSome}
+use Rattle.std.specs.Prelude.{◌≡◌, ⊤, ℕ, ◌+◌, ◌≤◌, List, [], length, IfSome}
 use Rattle.cay_host.specs.declared.side.Side.{Side}
 use Rattle.cay_host.specs.Faults.{Rose}
 use Rattle.cay_host.specs.Told.{Told}
@@ -11,3 +11,8 @@ abbrev pub EndsAs : End → ℕ → List ℕ → Side → Told → Told → Type
 EndsAs Whole limit bytes side old new = (length bytes ≤ limit) × IfSome (new.left side) (λ rest. rest ≡ [])
 EndsAs More limit bytes side old new = length bytes ≡ limit + 1
 EndsAs Failed limit bytes side old new = (length bytes ≤ limit) × Rose old.read_faults new.read_faults
+
+-- the count of read faults is the same, unless a read failed
+abbrev pub BlamesReading : End → Told → Told → Type 0
+BlamesReading Failed old new = ⊤
+BlamesReading other old new = new.read_faults ≡ old.read_faults

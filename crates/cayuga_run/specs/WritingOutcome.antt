@@ -1,5 +1,6 @@
 -- What the writing of a text about queries has done, by its status.
 use Rattle.std.specs.Prelude.{◌≡◌, false}
+use Rattle.cay_host.specs.declared.side.Side.TheVariants.{Events}
 use Rattle.cay_host.specs.Faults.{Rose}
 use Rattle.cay_host.specs.Files.{lacks}
 use Rattle.cay_host.specs.Output.{Wrote, WrotePart}
@@ -7,7 +8,7 @@ use Rattle.cay_host.specs.Told.{Told}
 use Rattle.cayuga_run.specs.declared.status.Status.{Status}
 use Rattle.cayuga_run.specs.declared.status.Status.TheVariants.{Done, WriteFault}
 use Rattle.cayuga_run.specs.Accepting.{IsAccepted}
-use Rattle.cayuga_run.specs.Refusing.{AreNotAccepted, OfQueries}
+use Rattle.cayuga_run.specs.Refusing.{AreNotAccepted, OfQueries, ReadsUpTo}
 use Rattle.cayuga_run.specs.Works.{Writing}
 
 -- the query text is accepted, and its text was written
@@ -19,6 +20,7 @@ pub record IsWritten (writing : Writing) (old new : Told) : Type 0 where
 pub record IsPartlyWritten (writing : Writing) (old new : Told) : Type 0 where
   pub cause : Rose old.write_faults new.write_faults
   pub there : lacks writing.queries old.files ≡ false
+  pub others : ReadsUpTo Events old new
   pub text : OfQueries writing.queries old (λ queries. IsAccepted queries (λ judged. WrotePart (writing.text_of judged) old new))
 
 -- the table of the statuses of a writing; where it stopped before, nothing was written

@@ -1,10 +1,11 @@
 //! The queries of a file, attached, read and judged.
-ghost use Rattle.std.specs.Prelude.{◌≡◌, false, true, IfOk, IfErr, IfSome};
+ghost use Rattle.std.specs.Prelude.{◌≡◌, false, true, IfOk, IfErr};
 ghost use Rattle.cay_host.specs.declared.side.Side.TheVariants.{Queries, Events};
 ghost use Rattle.cay_host.specs.Input.{SameButRead};
 ghost use Rattle.catalogue.specs.Catalogued.{judged_of};
 ghost use Rattle.catalogue.specs.Judgement.{Accepts};
-ghost use Rattle.cayuga_run.specs.Begun.{HasAccepted};
+ghost use Rattle.cayuga_run.specs.Begun.{HasAccepted, HasRead};
+ghost use Rattle.cayuga_run.specs.Blaming.{BlamesHost};
 ghost use Rattle.cayuga_run.specs.QueryFailing.{QueriesFail, TextFails};
 ghost use Rattle.cayuga_run.specs.Refusing.{AreNotAccepted};
 
@@ -23,6 +24,7 @@ pub fn accept<H: Host>(alloc: Global, host: &mut H, queries: &str) -> Result<Cat
     requires events { (H.told host.old).attached Events ≡ false }
     ensures accepted { IfOk result (λ catalogue. HasAccepted queries.now (judged_of catalogue) (H.told host.old) (H.told host.new)) }
     ensures fails { IfErr result (AreNotAccepted queries.now (H.told host.old) (H.told host.new)) }
+    ensures blames { IfErr result (BlamesHost (H.told host.old) (H.told host.new)) }
     ensures events { (H.told host.new).attached Events ≡ false }
 {
     if host.attach(Side::Queries, queries).is_err() {
@@ -34,8 +36,9 @@ pub fn accept<H: Host>(alloc: Global, host: &mut H, queries: &str) -> Result<Cat
 // Reads the queries and judges them.
 fn take_queries<H: Host>(alloc: Global, host: &mut H) -> Result<Catalogue, Status>
     requires { (H.told host.old).attached Queries ≡ true }
-    ensures accepted { IfOk result (λ catalogue. IfSome ((H.told host.old).left Queries) (λ text. Accepts text (judged_of catalogue))) }
+    ensures accepted { IfOk result (λ catalogue. HasRead (judged_of catalogue) (H.told host.old) (H.told host.new)) }
     ensures fails { IfErr result (QueriesFail (H.told host.old) (H.told host.new)) }
+    ensures blames { IfErr result (BlamesHost (H.told host.old) (H.told host.new)) }
     ensures same { SameButRead Queries (H.told host.old) (H.told host.new) }
 {
     match take_side(alloc, host, Side::Queries, MOST_QUERY_BYTES) {

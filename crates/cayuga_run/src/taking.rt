@@ -1,9 +1,10 @@
 //! Reading a side whole.
-ghost use Rattle.std.specs.Prelude.{◌≡◌, true, IfOk};
+ghost use Rattle.std.specs.Prelude.{◌≡◌, true, IfOk, MatchResult};
 ghost use Rattle.std.specs.Io.KnownBytes.{prepend_known};
 ghost use Rattle.cay_host.specs.Input.{SameButRead};
-ghost use Rattle.cayuga_run.specs.Taking.{EndsAs};
+ghost use Rattle.cayuga_run.specs.Taking.{BlamesReading, EndsAs};
 
+use crate::pieces::{PIECE, piece_size};
 use cay_host::{Host, Side};
 use event_types::Memory;
 use std::alloc::Global;
@@ -26,9 +27,6 @@ pub struct Taken {
     pub end: End,
 }
 
-/// The most bytes that are read at once.
-const PIECE: usize = 65536;
-
 /// Reads a side to its end, to one byte past the limit, or to a failing read.
 pub fn take_side<H: Host>(
     alloc: Global,
@@ -39,17 +37,13 @@ pub fn take_side<H: Host>(
     requires { (H.told host.old).attached side ≡ true }
     ensures front { IfOk result (λ t. (H.told host.old).left side ≡ prepend_known t.bytes.items ((H.told host.new).left side)) }
     ensures end { IfOk result (λ t. EndsAs t.end limit t.bytes.items side (H.told host.old) (H.told host.new)) }
+    ensures quiet { MatchResult result (λ t. BlamesReading t.end (H.told host.old) (H.told host.new)) (λ none. (H.told host.new).read_faults ≡ (H.told host.old).read_faults) }
     ensures same { SameButRead side (H.told host.old) (H.told host.new) }
 {
     let mut bytes = Vec::new(alloc);
     let mut piece = [0u8; PIECE];
     'pieces: while bytes.len() as u64 <= limit {
-        let room = limit - bytes.len() as u64;
-        let want = if room < PIECE as u64 {
-            room as usize + 1
-        } else {
-            PIECE
-        };
+        let want = piece_size(limit - bytes.len() as u64);
         match host.read(side, &mut piece[..want]) {
             Err(_) => {
                 return Ok(Taken {

@@ -4,6 +4,7 @@ ghost use Rattle.cay_host.specs.declared.side.Side.{Side};
 ghost use Rattle.cay_host.specs.Told.{IsFree};
 ghost use Rattle.command_words.specs.Table.{job, texts_of};
 ghost use Rattle.cayuga_run.specs.Answers.{Answers};
+ghost use Rattle.cayuga_run.specs.Blaming.{BlamesHost};
 ghost use Rattle.cayuga_run.specs.Outcome.{Outcome};
 ghost use Rattle.cayuga_run.specs.Works.{has_side, work_of};
 
@@ -56,6 +57,7 @@ fn do_words<H: Host, L: Ledger>(
 ) -> Status
     requires { IsFree (H.told host.old) }
     ensures outcome { Outcome (work_of (job (texts_of words.now))) limit (H.told host.old) (H.told host.new) result }
+    ensures blames { BlamesHost (H.told host.old) (H.told host.new) result }
     ensures sides { (side : Side) → has_side (work_of (job (texts_of words.now))) side ≡ false → (H.told host.new).attached side ≡ false }
 {
     match job_of(alloc, words) {
@@ -75,6 +77,7 @@ fn do_job<H: Host, L: Ledger>(
 ) -> Status
     requires { IsFree (H.told host.old) }
     ensures outcome { Outcome (work_of (Some job.now)) limit (H.told host.old) (H.told host.new) result }
+    ensures blames { BlamesHost (H.told host.old) (H.told host.new) result }
     ensures sides { (side : Side) → has_side (work_of (Some job.now)) side ≡ false → (H.told host.new).attached side ≡ false }
 {
     match job {

@@ -2,7 +2,8 @@
 ghost use Rattle.std.specs.Prelude.{◌≡◌, false};
 ghost use Rattle.cay_host.specs.declared.side.Side.TheVariants.{Queries, Events};
 ghost use Rattle.cay_host.specs.Output.{SameButOutput};
-ghost use Rattle.cayuga_run.specs.Finishing.{WritesText};
+ghost use Rattle.cayuga_run.specs.Blaming.{BlamesHost};
+ghost use Rattle.cayuga_run.specs.WritingText.{WritesText};
 ghost use Rattle.cayuga_run.specs.Works.{canonical_of};
 ghost use Rattle.cayuga_run.specs.WritingOutcome.{WritingOutcome};
 ghost use Rattle.plan_text.specs.Plan.{plan_of};
@@ -18,6 +19,7 @@ pub fn check<H: Host>(alloc: Global, host: &mut H, queries: &str) -> Status
     requires queries { (H.told host.old).attached Queries ≡ false }
     requires events { (H.told host.old).attached Events ≡ false }
     ensures outcome { WritingOutcome (record { queries = queries.now; text_of = canonical_of }) (H.told host.old) (H.told host.new) result }
+    ensures blames { BlamesHost (H.told host.old) (H.told host.new) result }
     ensures events { (H.told host.new).attached Events ≡ false }
 {
     match accept(alloc, host, queries) {
@@ -34,6 +36,7 @@ pub fn plan<H: Host>(alloc: Global, host: &mut H, queries: &str) -> Status
     requires queries { (H.told host.old).attached Queries ≡ false }
     requires events { (H.told host.old).attached Events ≡ false }
     ensures outcome { WritingOutcome (record { queries = queries.now; text_of = plan_of }) (H.told host.old) (H.told host.new) result }
+    ensures blames { BlamesHost (H.told host.old) (H.told host.new) result }
     ensures events { (H.told host.new).attached Events ≡ false }
 {
     match accept(alloc, host, queries) {
@@ -48,6 +51,7 @@ pub fn plan<H: Host>(alloc: Global, host: &mut H, queries: &str) -> Status
 // Writes a text whole.
 fn write_text<H: Host>(host: &mut H, text: &str) -> Status
     ensures writes { WritesText text.now (H.told host.old) (H.told host.new) result }
+    ensures blames { BlamesHost (H.told host.old) (H.told host.new) result }
     ensures same { SameButOutput (H.told host.old) (H.told host.new) }
 {
     match write_whole(host, text.as_bytes()) {

@@ -1,15 +1,16 @@
 -- Event texts that are read alike are heard alike.
 use Rattle.std.proofs.Common.{◌≡◌, ◌∙◌, ℕ, List, [], ◌∷◌, ◌++◌, Bool, true, false, ◌&&◌, cond, nat_lt, map, refl, ap, subst}
 use Rattle.std.specs.Prelude.{Option, Some, None, Result, Ok, Err, is_none, is_some}
-use Rattle.std.specs.List.{AllZip, filter, last_or}
-use Rattle.std.specs.Option.{option_map_or, option_or}
+use Rattle.std.specs.List.{AllZip, filter}
+use Rattle.std.specs.Option.{option_or}
 use Rattle.semantics.specs.Histories.{Heard}
 use Rattle.stream_schema.specs.Streams.{Entry}
 use Rattle.event_csv.specs.declared.event.Seen.{Seen}
 use Rattle.event_csv.specs.declared.fault.LineFault.{LineFault}
 use Rattle.event_csv.specs.Event.{event as event_in}
 use Rattle.event_csv.specs.Lines.{Line, lines}
-use Rattle.monitor.specs.Hearing.{Reading, before_last, closed, disorder, events_in, heard, heard_from, last_time, refusal_of, refused, refused_from, seen_after}
+use Rattle.epoch_laws.specs.Standing.{closed_part, last_time}
+use Rattle.monitor.specs.Hearing.{Reading, before_last, closed, disorder, events_in, heard, heard_from, refusal_of, refused, refused_from, seen_after}
 use Rattle.monitor.specs.Readings.{found_of, reading_of, readings}
 use Rattle.independence.specs.Enlarging.{AreReadAlike}
 use Rattle.independence.specs.Hearing.{AreOneEvent, AreTheSameEvents}
@@ -89,13 +90,14 @@ module _ (streams others : List Entry) where
       (behind (events_in line.found) (events_in other.found) (heard_from (seen_after line.found) text) (heard_from (seen_after other.found) other_text) (events-alike same.0.found) rest)
 
   -- the same events have one last time, by induction on the histories
-  last-same : (last other_last : Option Heard) (history other_history : List Heard) → option_map_or (λ (seen : Heard). seen.tuple.at) last 0 ≡ option_map_or (λ (seen : Heard). seen.tuple.at) other_last 0
-      → AreTheSameEvents streams others history other_history
-      → option_map_or (λ (seen : Heard). seen.tuple.at) (last_or last history) 0 ≡ option_map_or (λ (seen : Heard). seen.tuple.at) (last_or other_last other_history) 0
-  last-same last other_last [] [] e same = e
-  last-same last other_last [] (other ∷ other_history) e same = absurd same
-  last-same last other_last (seen ∷ history) [] e same = absurd same
-  last-same last other_last (seen ∷ history) (other ∷ other_history) e same = last-same (Some seen) (Some other) history other_history (ap (λ tuple. tuple.at) same.0.tuples_are) same.1
+  last-same : (history other_history : List Heard) → AreTheSameEvents streams others history other_history → last_time history ≡ last_time other_history
+  last-same [] [] same = refl
+  last-same [] (other ∷ other_history) same = absurd same
+  last-same (seen ∷ history) [] same = absurd same
+  last-same (seen ∷ []) (other ∷ []) same = ap (λ tuple. Some tuple.at) same.0.tuples_are
+  last-same (seen ∷ []) (other ∷ next ∷ other_history) same = absurd same.1
+  last-same (seen ∷ next ∷ history) (other ∷ []) same = absurd same.1
+  last-same (seen ∷ next ∷ history) (other ∷ other_next ∷ other_history) same = last-same (next ∷ history) (other_next ∷ other_history) same.1
 
   -- those before a time are the same, by induction on the histories
   before-alike : (time other_time : ℕ) (history other_history : List Heard) → time ≡ other_time → AreTheSameEvents streams others history other_history
@@ -109,13 +111,21 @@ module _ (streams others : List Entry) where
       by-test (nat_lt seen.tuple.at time) (nat_lt other.tuple.at other_time) (seen ∷ filter (λ (s : Heard). nat_lt s.tuple.at time) history) (other ∷ filter (λ (s : Heard). nat_lt s.tuple.at other_time) other_history)
       (filter (λ (s : Heard). nat_lt s.tuple.at time) history) (filter (λ (s : Heard). nat_lt s.tuple.at other_time) other_history) (λ i. nat_lt (at i) (e i)) (same.0, rest) rest
 
+  -- so are the parts before the last epoch
+  part-alike : (time other_time : Option ℕ) (history other_history : List Heard) → time ≡ other_time → AreTheSameEvents streams others history other_history
+      → AreTheSameEvents streams others (closed_part time history) (closed_part other_time other_history)
+  part-alike None None history other_history e same = same
+  part-alike None (Some other_time) history other_history e same = cc
+  part-alike (Some time) None history other_history e same = cc
+  part-alike (Some time) (Some other_time) history other_history e same = let at : time ≡ other_time = cc in before-alike time other_time history other_history at same
+
   -- the same epochs are closed
   closed-alike : (text other_text : List Reading) (ended : Bool) → AllZip AreAlike text other_text → AreTheSameEvents streams others (closed text ended) (closed other_text ended)
   closed-alike text other_text ended same =
       let all = heard-alike None text other_text same in
       by-test (ended && is_none (refused text)) (ended && is_none (refused other_text)) (heard text) (heard other_text) (before_last (heard text)) (before_last (heard other_text))
       (ap (λ refusal. ended && is_none refusal) (refused-same None text other_text same)) all
-      (before-alike (last_time (heard text)) (last_time (heard other_text)) (heard text) (heard other_text) (last-same None None (heard text) (heard other_text) refl all) all)
+      (part-alike (last_time (heard text)) (last_time (heard other_text)) (heard text) (heard other_text) (last-same (heard text) (heard other_text) all) all)
 
   -- an event text, where each line is read alike
   module _ (alike : (line : List ℕ) → AreReadAlike streams others (event_in streams line) (event_in others line)) (events : List ℕ) (ended : Bool) where

@@ -1,44 +1,36 @@
 -- The rows of an epoch that is closed.
-use Rattle.std.proofs.Common.{◌≡◌, ◌∙◌, sym, ap, subst, ℕ, ◌<◌, ◌≤◌, cond, List, [], ◌++◌, length, append_assoc, Option, Some}
-use Rattle.std.specs.List.{All}
+use Rattle.std.proofs.Common.{◌≡◌, ◌∙◌, sym, ap, subst, ℕ, ◌<◌, cond, List, [], ◌++◌, length, append_assoc, Option, Some}
 use Rattle.std.proofs.lemmas.Bool.{lt-ltb}
-use Rattle.std.proofs.lemmas.List.{length-map}
 use Rattle.cay_host.specs.Told.{Told}
 use Rattle.event_types.specs.Tuple.{Row}
 use Rattle.semantics.specs.Histories.{Heard}
 use Rattle.semantics.specs.Programs.{Program}
-use Rattle.semantics.specs.Results.{results}
-use Rattle.evaluation.specs.Hearing.{HasHeard}
-use Rattle.evaluation.specs.Views.{program_of}
-use Rattle.monitor.specs.declared.watched.Watched.{Watched}
-use Rattle.monitor.specs.declared.work.Work.{Work}
-use Rattle.monitor.specs.Batches.{lines_of}
-use Rattle.monitor.specs.Owing.{Owes}
-use Rattle.monitor.specs.Standing.{IsBy, Stands}
-use Rattle.monitor.specs.Watching.{program_over}
-use Rattle.monitor.specs.Working.{closing, is_later, open_rows}
+use Rattle.epoch_engine.specs.Closes.{Closes, KeepsPlan}
+use Rattle.epoch_engine.specs.StandsFor as engines
+use Rattle.epoch_engine.specs.Views as engine
+use Rattle.epoch_engine.proofs.StandsLemmas.{closed_stands}
+use Rattle.catalogue.specs.Catalogued.{Catalogued, IsAccepted, judged_of}
+use Rattle.monitor.specs.Batches.{batch_lines}
+use Rattle.monitor.specs.Standing.{IsPlanned, Stands, lines_over, program_over}
+use Rattle.monitor.specs.Working.{Owes, closing, is_later, open_rows}
 use Rattle.monitor.proofs.BatchLemmas.{batch_at, lines_are}
+use Rattle.monitor.proofs.ResultLemmas.{closing_gives_results}
 
--- the batch is the results at the time, over each history that was heard
-abbrev pub IsBatch : Watched → Work → ℕ → List (List Row) → Type 0
-IsBatch watched work time batch =
-    (declared : ℕ) (history : List Heard) → HasHeard declared history work.evaluator → All (λ event. event.tuple.at ≤ time) history
-    → batch ≡ batch_at (program_of declared watched.queries.now watched.order.now) history time watched.queries.now
-
-module _ (watched : Watched) (work : Work) (time : ℕ) (batch : List (List Row)) (is_open : work.seen ≡ Some time) (is_batch : IsBatch watched work time batch) (history : List Heard) (stands : Stands watched history work) where
-  -- it is that of the events which the work stands for
-  pub batch_is : batch ≡ batch_at (program_over watched) history time watched.queries.now
-  batch_is = is_batch watched.declared history stands.heard (subst (λ o. All (λ (event : Heard). IsBy o event.tuple.at) history) is_open stands.times)
-
-  pub batch_length : length batch ≡ length watched.queries.now
-  batch_length = ap length batch_is ∙ length-map watched.queries.now (λ query. results (program_over watched) history query.stream time)
+module _ (c : Catalogued) (accepted : IsAccepted c) (old new : engine.View) (batch : List (List Row)) (planned : IsPlanned c old) (closes : Closes old new batch) (history : List Heard) (stands : Stands c history old) where
+  -- the batch has the results of the queries over what was heard
+  batch_is : batch ≡ batch_at (program_over c) history closes.time (program_over c).queries
+  batch_is = closing_gives_results accepted.text (judged_of c) old new history batch accepted.accepts planned.layout stands.engine stands.declared closes
 
   -- its lines are the rows of the open epoch
-  pub rows_closed : (new : List ℕ) → new ≡ work.rows.items ++ lines_of watched.queries.now batch → new ≡ work.rows.items ++ open_rows (program_over watched) history work.seen
-  rows_closed new e =
-      let program = program_over watched in
-      e ∙ ap (λ lists. work.rows.items ++ lines_of watched.queries.now lists) batch_is ∙ ap (λ lines. work.rows.items ++ lines) (lines_are program history time watched.queries.now)
-      ∙ ap (λ o. work.rows.items ++ open_rows program history o) (sym is_open)
+  pub rows_closed : (rows put : List ℕ) → put ≡ rows ++ batch_lines (program_over c).queries batch → put ≡ rows ++ open_rows (program_over c) history old.time
+  rows_closed rows put e =
+      let program = program_over c in
+      e ∙ ap (λ lists. rows ++ batch_lines program.queries lists) batch_is ∙ ap (λ lines. rows ++ lines) (lines_are program history closes.time program.queries)
+      ∙ ap (λ o. rows ++ open_rows program history o) (sym closes.was_open)
+
+  -- the engine stands for the same events
+  pub still_stands : KeepsPlan old new → engines.StandsFor new (lines_over c) history
+  still_stands plan = closed_stands old new (lines_over c) history batch stands.engine closes plan
 
 -- a later event closes the open epoch
 closing_is : (program : Program) (history : List Heard) (seen : Option ℕ) (last at : ℕ) → seen ≡ Some last → last < at → closing program history seen at ≡ open_rows program history seen

@@ -1,9 +1,15 @@
 pub mod BatchLemmas
 pub mod ClosedLemmas
 pub mod ClosingLemmas
+pub mod EvaluatedLemmas
+pub mod FeedingLemmas
 pub mod FittingLemmas
+pub mod HearingLemmas
 pub mod OwingLemmas
+pub mod PlanLemmas
 pub mod ReadingLemmas
-pub mod ReportLemmas
+pub mod ResultLemmas
+pub mod SessionLemmas
 pub mod StandingLemmas
+pub mod TakingLemmas
 pub mod WorkingLemmas

@@ -4,7 +4,8 @@ use Rattle.std.proofs.Math.Seq.{take-append-add}
 use Rattle.cay_host.specs.Output.{Wrote, WrotePart}
 use Rattle.cay_host.specs.Told.{Told}
 use Rattle.cay_host.proofs.OutputLemmas.{Wrote-nil, Wrote-append}
-use Rattle.monitor.specs.Owing.{Owes, WroteFront}
+use Rattle.monitor.specs.Owing.{WroteFront}
+use Rattle.monitor.specs.Working.{Owes}
 
 pub Owes-refl : (text : List ℕ) (a : Told) → Owes text text a a
 Owes-refl text a = record { front = []; wrote = Wrote-nil a; all = refl }
@@ -15,10 +16,6 @@ Owes-trans {s} {t} {u} p q = record {
   wrote = Wrote-append p.wrote q.wrote;
   all = append_assoc p.front q.front u ∙ ap (λ r. p.front ++ r) q.all ∙ p.all;
 }
-
--- the first of what is owed is written
-pub Owes-some : {front rest : List ℕ} {a b : Told} → Wrote front a b → Owes (front ++ rest) rest a b
-Owes-some {front} w = record { front = front; wrote = w; all = refl }
 
 -- nothing is owed any more
 pub Owes-all : {text : List ℕ} {a b : Told} → Owes text [] a b → Wrote text a b

@@ -14,7 +14,7 @@ use Rattle.monitor.specs.declared.reading.Next.TheVariants as next
 use Rattle.monitor.specs.Readings.{IsReading, Shows, ShowsLast, heard_of, found_of, reading_of, readings_left}
 
 -- a feed that is given nothing more
-same_left : (fed : Fed) (ended : Bool) → lines_left (fed_more fed []) ended ≡ lines_left fed ended
+pub same_left : (fed : Fed) (ended : Bool) → lines_left (fed_more fed []) ended ≡ lines_left fed ended
 same_left fed ended = ap (λ r. lines_left (record fed { rest = r }) ended) (append-nil fed.rest)
 
 gives_now : (given : List Line) (old new : Fed) (ended : Bool) → Gives given old new → lines_left old ended ≡ given ++ lines_left new ended
@@ -52,7 +52,7 @@ shows_long streams old new number gives long = λ ended.
 
 pub shows_none : (streams : List Entry) (old new : Fed) → Gives [] old new → IsPart new → Shows streams old new next.NotYet
 shows_none streams old new gives part = (
-  part.none,
+  part,
   λ ended. ap (map (reading_of streams)) (gives_now [] old new ended gives),
 )
 

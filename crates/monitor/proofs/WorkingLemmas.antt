@@ -1,26 +1,25 @@
 -- What one more line leaves of the work.
-use Rattle.std.proofs.Common.{◌≡◌, ◌∙◌, sym, ap, refl, subst, ℕ, ◌<◌, ◌≤◌, Bool, false, cond, is_some, List, [], ◌∷◌, ◌++◌, Some, None, length-append, append_assoc, append-nil, arith}
+use Rattle.std.proofs.Common.{◌≡◌, ◌∙◌, sym, ap, refl, subst, ℕ, ◌<◌, ◌≤◌, Bool, true, false, cond, is_some, List, [], ◌∷◌, ◌++◌, Some, None, Ok, Err, Result, length-append, append_assoc, append-nil, arith}
 use Rattle.std.specs.Option.{option_or}
 use Rattle.std.proofs.lemmas.Bool.{lt-ltb}
 use Rattle.std.proofs.lemmas.List.{take-append-le}
 use Rattle.cay_host.specs.Faults.{Rose}
 use Rattle.cay_host.specs.Output.{Wrote, WrotePart}
 use Rattle.cay_host.specs.Told.{Told}
-use Rattle.monitor.specs.declared.refusal.Refusal.{Refusal}
-use Rattle.monitor.specs.declared.refusal.Refusal.TheVariants.{IsOutOfOrder}
-use Rattle.event_csv.specs.declared.event.Seen.{Seen}
-use Rattle.monitor.specs.declared.watched.Watched.{Watched}
-use Rattle.monitor.specs.declared.work.Work.{Work}
-use Rattle.monitor.specs.declared.work.Ended.{Ended}
-use Rattle.monitor.specs.declared.work.Ended.TheVariants as how
 use Rattle.semantics.specs.Histories.{Heard}
 use Rattle.semantics.specs.Programs.{Program}
-use Rattle.monitor.specs.Hearing.{Reading, disorder, refusal_of, refused_from, seen_after, events_in}
-use Rattle.monitor.specs.Owing.{Owes, WroteFront}
+use Rattle.catalogue.specs.Catalogued.{Catalogued}
+use Rattle.event_csv.specs.declared.event.Seen.{Seen}
+use Rattle.monitor.specs.declared.fault.SessionFault.{SessionFault}
+use Rattle.monitor.specs.declared.fault.SessionFault.TheVariants as fault
+use Rattle.monitor.specs.declared.refusal.Refusal.{Refusal}
+use Rattle.monitor.specs.declared.refusal.Refusal.TheVariants.{IsOutOfOrder}
+use Rattle.monitor.specs.declared.work.Work.{Work}
+use Rattle.monitor.specs.Hearing.{Reading, disorder, refusal_of, refused_from, heard_from, seen_after, events_in}
+use Rattle.monitor.specs.Owing.{WroteFront}
 use Rattle.monitor.specs.Readings.{heard_of}
-use Rattle.monitor.specs.Working.{Advances, Ends, FailsBy, RefusesBy, closing, closes, open_rows, rows_left, left_of, line_of, GoesOn, Takes}
-use Rattle.monitor.specs.Standing.{Stands}
-use Rattle.monitor.specs.Watching.{program_over}
+use Rattle.monitor.specs.Standing.{Stands, program_over}
+use Rattle.monitor.specs.Working.{Advances, Ends, FailsBy, GoesOn, Owes, RefusesBy, Stops, Takes, closing, closes, left_of, line_of, open_rows, rows_left}
 use Rattle.monitor.proofs.OwingLemmas.{Owes-refl, Owes-trans, Owes-all, part_after, front_after, front_none, all_written}
 
 pub late_is : (line at seen : ℕ) → at < seen → disorder line (Some seen) at ≡ Some (IsOutOfOrder line at seen)
@@ -41,37 +40,37 @@ front_of_more {rows} {a} {b} more part =
 
 module _ (program : Program) (ended : Bool) (lines : List Reading) (history : List Heard) where
   -- a refused line owes nothing but the rows
-  refused_left : (line : Reading) (work : Work) (refusal : Refusal) → refusal_of line.number work.seen line.found ≡ Some refusal → work.rows.items ≡ left_of program ended (line ∷ lines) history work
+  refused_left : (line : Reading) (work : Work) (refusal : Refusal) → refusal_of line.number work.engine.time line.found ≡ Some refusal → work.rows.items ≡ left_of program ended (line ∷ lines) history work
   refused_left line work refusal e =
       sym (append-nil work.rows.items)
       ∙ ap (λ o. work.rows.items ++ cond (is_some o) []
-      (cond (closes work.seen line.found) (open_rows program history work.seen) [] ++ rows_left program ended lines (seen_after line.found) (history ++ events_in line.found))) (sym e)
+      (cond (closes work.engine.time line.found) (open_rows program history work.engine.time) [] ++ rows_left program ended lines (seen_after line.found) (history ++ events_in line.found))) (sym e)
 
-  refused_first : (line : Reading) (work : Work) (refusal : Refusal) → refusal_of line.number work.seen line.found ≡ Some refusal → refused_from work.seen (line ∷ lines) ≡ Some refusal
+  refused_first : (line : Reading) (work : Work) (refusal : Refusal) → refusal_of line.number work.engine.time line.found ≡ Some refusal → refused_from work.engine.time (line ∷ lines) ≡ Some refusal
   refused_first line work refusal e = ap (λ o. option_or o (refused_from (seen_after line.found) lines)) e
 
   -- the work ends with a refusal
-  pub refuses : (line : Reading) (work : Work) (refusal : Refusal) (a b : Told) (end : Ended)
-      → refusal_of line.number work.seen line.found ≡ Some refusal → RefusesBy work.rows.items refusal a b end → Ends program ended (line ∷ lines) history work a b end
-  refuses line work refusal a b how.Whole e by = absurd by
-  refuses line work refusal a b (how.Refused other) e by =
+  pub refuses : (line : Reading) (work : Work) (refusal : Refusal) (a b : Told) (stop : SessionFault)
+      → refusal_of line.number work.engine.time line.found ≡ Some refusal → RefusesBy work.rows.items refusal a b stop → Stops program ended (line ∷ lines) history work a b stop
+  refuses line work refusal a b (fault.Refused other) e by =
       (refused_first line work refusal e ∙ ap Some (sym by.0), subst (λ t. Wrote t a b) (refused_left line work refusal e) by.1)
-  refuses line work refusal a b how.WriteFault e by = (by.0, subst (λ t. WrotePart t a b) (refused_left line work refusal e) by.1)
-  refuses line work refusal a b how.Memory e by = subst (λ t. WroteFront t a b) (refused_left line work refusal e) by
+  refuses line work refusal a b (fault.TooMuch limit) e by = absurd by
+  refuses line work refusal a b fault.WriteFault e by = (by.0, subst (λ t. WrotePart t a b) (refused_left line work refusal e) by.1)
+  refuses line work refusal a b fault.Memory e by = subst (λ t. WroteFront t a b) (refused_left line work refusal e) by
 
   -- the rows that an event leaves
   abbrev rest_after : Seen → List ℕ
   rest_after event = rows_left program ended lines (Some event.tuple.at) (history ++ heard_of event ∷ [])
 
   -- an event in time closes the open epoch where it is later, and goes on
-  timely_left : (number : ℕ) (event : Seen) (work : Work) → disorder number work.seen event.tuple.at ≡ None
-      → work.rows.items ++ (closing program history work.seen event.tuple.at ++ rest_after event) ≡ left_of program ended (line_of number event ∷ lines) history work
-  timely_left number event work e = ap (λ o. work.rows.items ++ cond (is_some o) [] (closing program history work.seen event.tuple.at ++ rest_after event)) (sym e)
+  timely_left : (number : ℕ) (event : Seen) (work : Work) → disorder number work.engine.time event.tuple.at ≡ None
+      → work.rows.items ++ (closing program history work.engine.time event.tuple.at ++ rest_after event) ≡ left_of program ended (line_of number event ∷ lines) history work
+  timely_left number event work e = ap (λ o. work.rows.items ++ cond (is_some o) [] (closing program history work.engine.time event.tuple.at ++ rest_after event)) (sym e)
 
   -- the work goes on behind an event in time
-  pub goes_on : (number : ℕ) (event : Seen) (old new : Work) (rows : List ℕ) (a b : Told) → disorder number old.seen event.tuple.at ≡ None
-      → ((rest : List ℕ) → Owes (old.rows.items ++ (closing program history old.seen event.tuple.at ++ rest)) (rows ++ rest) a b)
-      → new.rows.items ≡ rows → new.seen ≡ Some event.tuple.at
+  pub goes_on : (number : ℕ) (event : Seen) (old new : Work) (rows : List ℕ) (a b : Told) → disorder number old.engine.time event.tuple.at ≡ None
+      → ((rest : List ℕ) → Owes (old.rows.items ++ (closing program history old.engine.time event.tuple.at ++ rest)) (rows ++ rest) a b)
+      → new.rows.items ≡ rows → new.engine.time ≡ Some event.tuple.at
       → Advances program ended (line_of number event ∷ lines) lines history (history ++ heard_of event ∷ []) old new a b
   goes_on number event old new rows a b e owes same seen =
       let rest = rest_after event in
@@ -80,29 +79,33 @@ module _ (program : Program) (ended : Bool) (lines : List Reading) (history : Li
       record {
         owes = subst (λ t. Owes (left_of program ended (line_of number event ∷ lines) history old) t a b) to (subst (λ t. Owes t (rows ++ rest) a b) (timely_left number event old e) (owes rest));
         refused = ap (λ o. option_or o (refused_from (Some event.tuple.at) lines)) e ∙ ap (λ s. refused_from s lines) (sym seen);
+        hears =
+            ap (λ o. history ++ cond (is_some o) [] (heard_of event ∷ heard_from (Some event.tuple.at) lines)) e
+            ∙ sym (append_assoc history (heard_of event ∷ []) (heard_from (Some event.tuple.at) lines))
+            ∙ ap (λ s. (history ++ heard_of event ∷ []) ++ heard_from s lines) (sym seen);
       }
 
   -- the work ends where rows can't be made or written
-  pub fails : (number : ℕ) (event : Seen) (work : Work) (a b : Told) (end : Ended) → disorder number work.seen event.tuple.at ≡ None
-      → FailsBy (work.rows.items ++ closing program history work.seen event.tuple.at) a b end → Ends program ended (line_of number event ∷ lines) history work a b end
-  fails number event work a b end e by = cases end by
+  pub fails : (number : ℕ) (event : Seen) (work : Work) (a b : Told) (stop : SessionFault) → disorder number work.engine.time event.tuple.at ≡ None
+      → FailsBy (work.rows.items ++ closing program history work.engine.time event.tuple.at) a b stop → Stops program ended (line_of number event ∷ lines) history work a b stop
+  fails number event work a b stop e by = cases stop by
     where
       rest : List ℕ
       rest = rest_after event
 
-      same : (work.rows.items ++ closing program history work.seen event.tuple.at) ++ rest ≡ left_of program ended (line_of number event ∷ lines) history work
-      same = append_assoc work.rows.items (closing program history work.seen event.tuple.at) rest ∙ timely_left number event work e
+      same : (work.rows.items ++ closing program history work.engine.time event.tuple.at) ++ rest ≡ left_of program ended (line_of number event ∷ lines) history work
+      same = append_assoc work.rows.items (closing program history work.engine.time event.tuple.at) rest ∙ timely_left number event work e
 
-      cases : (end : Ended) → FailsBy (work.rows.items ++ closing program history work.seen event.tuple.at) a b end → Ends program ended (line_of number event ∷ lines) history work a b end
-      cases how.Whole by = absurd by
-      cases (how.Refused other) by = absurd by
-      cases how.WriteFault by = (by.0, subst (λ t. WrotePart t a b) same (part_of_more rest by.1))
-      cases how.Memory by = subst (λ t. WroteFront t a b) same (front_of_more rest by)
+      cases : (stop : SessionFault) → FailsBy (work.rows.items ++ closing program history work.engine.time event.tuple.at) a b stop → Stops program ended (line_of number event ∷ lines) history work a b stop
+      cases (fault.Refused other) by = absurd by
+      cases (fault.TooMuch limit) by = absurd by
+      cases fault.WriteFault by = (by.0, subst (λ t. WrotePart t a b) same (part_of_more rest by.1))
+      cases fault.Memory by = subst (λ t. WroteFront t a b) same (front_of_more rest by)
 
   -- the work ends with no memory, once the open epoch was closed
-  pub no_memory : (number : ℕ) (event : Seen) (old : Work) (rows : List ℕ) (a b : Told) → disorder number old.seen event.tuple.at ≡ None
-      → ((rest : List ℕ) → Owes (old.rows.items ++ (closing program history old.seen event.tuple.at ++ rest)) (rows ++ rest) a b)
-      → Ends program ended (line_of number event ∷ lines) history old a b how.Memory
+  pub no_memory : (number : ℕ) (event : Seen) (old : Work) (rows : List ℕ) (a b : Told) → disorder number old.engine.time event.tuple.at ≡ None
+      → ((rest : List ℕ) → Owes (old.rows.items ++ (closing program history old.engine.time event.tuple.at ++ rest)) (rows ++ rest) a b)
+      → Stops program ended (line_of number event ∷ lines) history old a b fault.Memory
   no_memory number event old rows a b e owes =
       subst (λ t. WroteFront t a b) (timely_left number event old e) (front_after (owes _) (front_none _ b))
 
@@ -110,52 +113,47 @@ rose_after : (a b c : ℕ) → a ≤ b → Rose b c → Rose a c
 rose_after a b c up rose = omega (arith, up, rose)
 
 -- the work goes on, and then ends
-pub advances_ends : (program : Program) (ended : Bool) (lines others : List Reading) (history heard : List Heard) (old new : Work) (a b c : Told) (end : Ended)
+pub advances_stops : (program : Program) (ended : Bool) (lines others : List Reading) (history heard : List Heard) (old new : Work) (a b c : Told) (stop : SessionFault)
+    → a.write_faults ≤ b.write_faults → Advances program ended lines others history heard old new a b → Stops program ended others heard new b c stop → Stops program ended lines history old a c stop
+advances_stops program ended lines others history heard old new a b c (fault.Refused refusal) up more stops = (more.refused ∙ stops.0, Owes-all (Owes-trans more.owes (all_written stops.1)))
+advances_stops program ended lines others history heard old new a b c (fault.TooMuch limit) up more stops = absurd stops
+advances_stops program ended lines others history heard old new a b c fault.WriteFault up more stops = (rose_after _ _ _ up stops.0, part_after more.owes stops.1)
+advances_stops program ended lines others history heard old new a b c fault.Memory up more stops = front_after more.owes stops
+
+pub advances_ends : (program : Program) (ended : Bool) (lines others : List Reading) (history heard : List Heard) (old new : Work) (a b c : Told) (end : Result (Unit {0}) SessionFault)
     → a.write_faults ≤ b.write_faults → Advances program ended lines others history heard old new a b → Ends program ended others heard new b c end → Ends program ended lines history old a c end
-advances_ends program ended lines others history heard old new a b c how.Whole up more ends = (more.refused ∙ ends.0, Owes-all (Owes-trans more.owes (all_written ends.1)))
-advances_ends program ended lines others history heard old new a b c (how.Refused refusal) up more ends = (more.refused ∙ ends.0, Owes-all (Owes-trans more.owes (all_written ends.1)))
-advances_ends program ended lines others history heard old new a b c how.WriteFault up more ends = (rose_after _ _ _ up ends.0, part_after more.owes ends.1)
-advances_ends program ended lines others history heard old new a b c how.Memory up more ends = front_after more.owes ends
+advances_ends program ended lines others history heard old new a b c (Ok done) up more ends = (more.refused ∙ ends.0, Owes-all (Owes-trans more.owes (all_written ends.1)))
+advances_ends program ended lines others history heard old new a b c (Err stop) up more ends = advances_stops program ended lines others history heard old new a b c stop up more ends
 
 advances_trans : {program : Program} {ended : Bool} {first second third : List Reading} {h i j : List Heard} {x y z : Work} {a b c : Told}
     → Advances program ended first second h i x y a b → Advances program ended second third i j y z b c → Advances program ended first third h j x z a c
-advances_trans p q = record { owes = Owes-trans p.owes q.owes; refused = p.refused ∙ q.refused }
+advances_trans p q = record { owes = Owes-trans p.owes q.owes; refused = p.refused ∙ q.refused; hears = p.hears ∙ q.hears }
 
 -- the lines under another name
-pub ends_same : (program : Program) (ended : Bool) (lines others : List Reading) (history : List Heard) (work : Work) (a b : Told) (end : Ended)
+pub stops_same : (program : Program) (ended : Bool) (lines others : List Reading) (history : List Heard) (work : Work) (a b : Told) (stop : SessionFault)
+    → others ≡ lines → Stops program ended lines history work a b stop → Stops program ended others history work a b stop
+stops_same program ended lines others history work a b stop e stops = subst (λ l. Stops program ended l history work a b stop) (sym e) stops
+
+pub ends_same : (program : Program) (ended : Bool) (lines others : List Reading) (history : List Heard) (work : Work) (a b : Told) (end : Result (Unit {0}) SessionFault)
     → others ≡ lines → Ends program ended lines history work a b end → Ends program ended others history work a b end
 ends_same program ended lines others history work a b end e ends = subst (λ l. Ends program ended l history work a b end) (sym e) ends
 
--- where the text hasn't ended, no line is left
-pub unended_ends : (program : Program) (ended : Bool) (lines : Bool → List Reading) (history : List Heard) (work : Work) (a b : Told) (end : Ended)
-    → ended ≡ false → lines false ≡ [] → Ends program false [] history work a b end → Ends program ended (lines ended) history work a b end
-unended_ends program ended lines history work a b end e none ends =
-    subst (λ b'. Ends program b' (lines b') history work a b end) (sym e) (ends_same program false [] (lines false) history work a b end none ends)
-
--- the work has gone nowhere yet
-pub goes_nowhere : (watched : Watched) (lines : Bool → List Reading) (history : List Heard) (work : Work) (a : Told) → Stands watched history work → GoesOn watched lines lines history work work a a
-goes_nowhere watched lines history work a stands =
-    record { heard = history; stands = stands; advances = λ ended. record { owes = Owes-refl _ a; refused = refl } }
-
 -- the work goes on, and on
-pub goes_further : {watched : Watched} {first second third : Bool → List Reading} {history : List Heard} {x y z : Work} {a b c : Told}
-    → GoesOn watched first second history x y a b → ((heard : List Heard) → Stands watched heard y → GoesOn watched second third heard y z b c) → GoesOn watched first third history x z a c
+pub goes_further : {c : Catalogued} {first second third : List Reading} {history : List Heard} {x y z : Work} {a b d : Told}
+    → GoesOn c first second history x y a b → ((heard : List Heard) → Stands c heard y.engine → GoesOn c second third heard y z b d) → GoesOn c first third history x z a d
 goes_further p more =
     let q = more p.heard p.stands in
-    record { heard = q.heard; stands = q.stands; advances = λ ended. advances_trans (p.advances ended) (q.advances ended) }
+    record { heard = q.heard; stands = q.stands; advances = advances_trans p.advances q.advances }
 
 -- an event was taken, and the lines are others
-pub took : {watched : Watched} {line : Reading} {history : List Heard} {old new : Work} {a b : Told} (lines others : Bool → List Reading)
-    → ((ended : Bool) → lines ended ≡ line ∷ others ended) → Takes watched line history old new a b → GoesOn watched lines others history old new a b
-took {watched} {line} {history} {old} {new} {a} {b} lines others shows takes = record {
+pub took : {c : Catalogued} {line : Reading} {history : List Heard} {old new : Work} {a b : Told} (lines others : List Reading)
+    → lines ≡ line ∷ others → Takes c line history old new a b → GoesOn c lines others history old new a b
+took {c} {line} {history} {old} {new} {a} {b} lines others shows takes = record {
   heard = history ++ events_in line.found;
   stands = takes.stands;
-  advances = λ ended. subst (λ ls. Advances (program_over watched) ended ls (others ended) history (history ++ events_in line.found) old new a b) (sym (shows ended)) (takes.advances ended (others ended));
+  advances = subst (λ ls. Advances (program_over c) false ls others history (history ++ events_in line.found) old new a b) (sym shows) (takes.advances false others);
 }
 
--- the work goes on, nothing changes, and then it ends
-pub over_ends : (program : Program) (ended : Bool) (lines others rest : List Reading) (history heard : List Heard) (first old new : Work) (a b c d : Told) (end : Ended)
-    → a.write_faults ≤ b.write_faults → Advances program ended lines others history heard first old a b → others ≡ rest → new ≡ old → c ≡ b → Ends program ended rest heard new c d end → Ends program ended lines history first a d end
-over_ends program ended lines others rest history heard first old new a b c d end up more e f h ends =
-    advances_ends program ended lines others history heard first old a b d end up more
-    (ends_same program ended rest others heard old b d end e (subst (λ w. Ends program ended rest heard w b d end) f (subst (λ t. Ends program ended rest heard new t d end) h ends)))
+-- the rows that it owes then are all
+pub nothing_left : (program : Program) (history : List Heard) (work : Work) → work.rows.items ≡ left_of program false [] history work
+nothing_left program history work = sym (append-nil work.rows.items)

@@ -2,11 +2,11 @@
 use Rattle.std.specs.Prelude.{ℕ, List, [], ◌∷◌, ◌++◌}
 use Rattle.std.specs.List.{flat_map}
 use Rattle.event_types.specs.Tuple.{Row}
+use Rattle.semantics.specs.Programs.{Query}
 use Rattle.semantics.specs.Report.{line}
-use Rattle.evaluation.specs.declared.query.Query.{Query}
 
 -- the result lines of the tuples, which are given query by query
-abbrev pub lines_of : List Query → List (List Row) → List ℕ
-lines_of [] lists = []
-lines_of (query ∷ queries) [] = []
-lines_of (query ∷ queries) (tuples ∷ lists) = flat_map (line query.name.now) tuples ++ lines_of queries lists
+abbrev pub batch_lines : List Query → List (List Row) → List ℕ
+batch_lines [] lists = []
+batch_lines (query ∷ queries) [] = []
+batch_lines (query ∷ queries) (tuples ∷ lists) = flat_map (line query.name) tuples ++ batch_lines queries lists

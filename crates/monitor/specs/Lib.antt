@@ -1,9 +1,13 @@
+pub mod BatchLaws
 pub mod Batches
+pub mod Evaluated
+pub mod Feeding
 pub mod Fitting
 pub mod Hearing
 pub mod Owing
 pub mod Readings
-pub mod Reports
+pub mod Sessions
+pub mod SessionCode
 pub mod Standing
-pub mod Watching
+pub mod Taking
 pub mod Working

@@ -1,11 +1,11 @@
--- The lines that are left of an event text, as they are read.
+-- The lines of an event text, and those that are left of one, as they are read.
 use Rattle.std.specs.Prelude.{◌≡◌, ℕ, Bool, true, false, List, [], ◌∷◌, map, Ok, Err, Result}
 use Rattle.stream_schema.specs.Streams.{Entry}
 use Rattle.semantics.specs.Histories.{Heard}
 use Rattle.event_csv.specs.declared.event.Seen.{Seen}
 use Rattle.event_csv.specs.declared.fault.LineFault.{LineFault}
 use Rattle.event_csv.specs.Event.{event}
-use Rattle.event_csv.specs.Fed.{Fed, lines_left}
+use Rattle.event_csv.specs.Fed.{Fed, IsPart, lines_left}
 use Rattle.event_csv.specs.Lines.{Line, lines}
 use Rattle.monitor.specs.declared.reading.Next.{Next}
 use Rattle.monitor.specs.declared.reading.Next.TheVariants as next
@@ -15,6 +15,7 @@ use Rattle.monitor.specs.Hearing.{Reading}
 abbrev pub heard_of : Seen → Heard
 heard_of seen = record { stream = seen.stream; tuple = seen.tuple }
 
+-- the same, or the fault of a line
 abbrev pub found_of : Result Seen LineFault → Result Heard LineFault
 found_of (Ok seen) = Ok (heard_of seen)
 found_of (Err why) = Err why
@@ -35,7 +36,7 @@ readings_left streams feed ended = map (reading_of streams) (lines_left feed end
 abbrev pub Shows : List Entry → Fed → Fed → Next → Type 0
 Shows streams old new (next.Event number seen) = (ended : Bool) → readings_left streams old ended ≡ record { number = number; found = Ok (heard_of seen) } ∷ readings_left streams new ended
 Shows streams old new (next.Fault number why) = (ended : Bool) → (rest : List Reading) × (readings_left streams old ended ≡ record { number = number; found = Err why } ∷ rest)
-Shows streams old new next.NotYet = (lines_left new false ≡ []) × ((ended : Bool) → readings_left streams old ended ≡ readings_left streams new ended)
+Shows streams old new next.NotYet = IsPart new × ((ended : Bool) → readings_left streams old ended ≡ readings_left streams new ended)
 
 -- what is left where the text ends here: one line, or none
 abbrev pub ShowsLast : List Entry → Fed → Next → Type 0

@@ -1,45 +1,52 @@
 //! The work on one event, or on a line that is refused.
-ghost use Rattle.std.specs.Prelude.{◌≡◌, ◌++◌, ◌∷◌, [], ℕ, Bool, List, None, Some, Ok, IfErr, OnOk};
+ghost use Rattle.std.specs.Prelude.{◌≡◌, ◌∷◌, [], ℕ, Bool, IsTrue, List, None, IfErr, OnOk};
 ghost use Rattle.cay_host.specs.Output.{SameButOutput};
 ghost use Rattle.semantics.specs.Histories.{Heard};
+ghost use Rattle.catalogue.specs.Catalogued.{IsAccepted, judged_of};
+ghost use Rattle.epoch_engine.specs.Offers.{IsHeard, IsLate, IsNotAhead, with_tuple};
+ghost use Rattle.monitor.specs.Feeding.{BlamesWriting};
 ghost use Rattle.monitor.specs.Fitting.{Fits};
 ghost use Rattle.monitor.specs.Hearing.{Reading, disorder};
-ghost use Rattle.monitor.specs.Readings.{heard_of};
-ghost use Rattle.monitor.specs.Standing.{IsAtWork, Stands};
-ghost use Rattle.monitor.specs.Watching.{IsWatchable, program_over};
-ghost use Rattle.monitor.specs.Working.{Ends, RefusesBy, Takes, line_of};
+ghost use Rattle.monitor.specs.Standing.{IsAtWork, Stands, program_over};
+ghost use Rattle.monitor.specs.Working.{Blames, RefusesBy, Stops, Takes, line_of};
 
 use crate::closing::close_before;
+use crate::fault::SessionFault;
 use crate::refusal::Refusal;
-use crate::watched::Watched;
-use crate::work::{Ended, Work};
+use crate::work::Work;
 use crate::writing::write_rows;
+use catalogue::Catalogue;
 use cay_host::{Host, Ledger, Steps};
+use epoch_engine::OfferFault;
 use event_csv::Seen;
 use event_types::Memory;
 use std::alloc::Global;
 
-// Hears an event that isn't late.
-fn hear(watched: &Watched<'_>, work: &mut Work, event: Seen) -> Result<(), Memory>
-    requires watchable { IsWatchable watched.now }
-    requires at_work { IsAtWork watched.now work.old }
-    requires fits { Fits watched.now.streams.now event }
-    ensures stands { OnOk result ((number : ℕ) (history : List Heard) → disorder number work.old.seen event.tuple.at ≡ None → Stands watched.now history work.old → Stands watched.now (history ++ heard_of event ∷ []) work.new) }
-    ensures seen { OnOk result (work.new.seen ≡ Some event.tuple.at) }
-    ensures rows { OnOk result (work.new.rows.items ≡ work.old.rows.items) }
-{
-    work.seen = Some(event.tuple.at());
-    work.evaluator.hear(event.stream, event.tuple)
-}
-
-/// Writes the rows and ends the work with that refusal.
-pub fn refuse<H: Host>(host: &mut H, work: &mut Work, refusal: Refusal) -> Ended
+/// Writes the rows, and refuses a line.
+pub fn refuse<H: Host>(host: &mut H, work: &mut Work, refusal: Refusal) -> SessionFault
     ensures by { RefusesBy work.old.rows.items refusal (H.told host.old) (H.told host.new) result }
+    ensures quiet { Blames result (H.told host.old) (H.told host.new) }
     ensures same { SameButOutput (H.told host.old) (H.told host.new) }
 {
     match write_rows(host, &mut work.rows) {
-        Ok(()) => Ended::Refused(refusal),
-        Err(_) => Ended::WriteFault,
+        Ok(()) => SessionFault::Refused(refusal),
+        Err(_) => SessionFault::WriteFault,
+    }
+}
+
+// Offers an event to the engine.
+fn hear(work: &mut Work, event: Seen) -> Result<(), Memory>
+    requires intact { IsTrue work.old.engine.intact }
+    requires heard { IsHeard work.old.engine.layout event.stream event.tuple }
+    requires not_ahead { IsNotAhead work.old.engine.time event.tuple.at }
+    requires in_time { (seen : ℕ) → IsLate work.old.engine.time work.old.engine.closed event.tuple.at seen → ⊥ }
+    ensures heard { OnOk result (work.new.engine ≡ with_tuple work.old.engine event.stream event.tuple) }
+    ensures rows { work.new.rows ≡ work.old.rows }
+{
+    match work.engine.offer(event.stream, event.tuple) {
+        Ok(()) => Ok(()),
+        Err(OfferFault::Memory { .. }) => Err(Memory),
+        Err(OfferFault::OutOfOrder { .. }) => unreachable!(),
     }
 }
 
@@ -47,27 +54,29 @@ pub fn refuse<H: Host>(host: &mut H, work: &mut Work, refusal: Refusal) -> Ended
 fn take_timely<H: Host, L: Ledger>(
     alloc: Global,
     host: &mut H,
-    watched: &Watched<'_>,
+    catalogue: &Catalogue,
     work: &mut Work,
     number: u64,
     event: Seen,
     steps: &mut Steps<L>,
-) -> Result<(), Ended>
-    requires watchable { IsWatchable watched.now }
-    requires at_work { IsAtWork watched.now work.old }
-    requires fits { Fits watched.now.streams.now event }
-    requires timely { disorder number work.old.seen event.tuple.at ≡ None }
-    ensures more { OnOk result ((history : List Heard) → Stands watched.now history work.old → Takes watched.now (line_of number event) history work.old work.new (H.told host.old) (H.told host.new)) }
-    ensures ends { IfErr result (λ how. (ended : Bool) (lines : List Reading) (history : List Heard) → Stands watched.now history work.old → Ends (program_over watched.now) ended (line_of number event ∷ lines) history work.old (H.told host.old) (H.told host.new) how) }
+) -> Result<(), SessionFault>
+    requires at_work { IsAtWork catalogue.now work.old }
+    requires accepted { IsAccepted catalogue.now }
+    requires fits { Fits (judged_of catalogue.now).streams event }
+    requires timely { (number : ℕ) → disorder number work.old.engine.time event.tuple.at ≡ None }
+    ensures more { OnOk result ((history : List Heard) → Stands catalogue.now history work.old.engine → Takes catalogue.now (line_of number event) history work.old work.new (H.told host.old) (H.told host.new)) }
+    ensures at_work { OnOk result (IsAtWork catalogue.now work.new) }
+    ensures stops { IfErr result (λ fault. (ended : Bool) (lines : List Reading) (history : List Heard) → Stands catalogue.now history work.old.engine → Stops (program_over catalogue.now) ended (line_of number event ∷ lines) history work.old (H.told host.old) (H.told host.new) fault) }
+    ensures quiet { BlamesWriting result (H.told host.old) (H.told host.new) }
     ensures same { SameButOutput (H.told host.old) (H.told host.new) }
 {
     let at = event.tuple.at();
-    match close_before(alloc, host, watched, work, at, steps) {
-        Ok(()) => match hear(watched, work, event) {
+    match close_before(alloc, host, catalogue, work, at, steps) {
+        Ok(()) => match hear(work, event) {
             Ok(()) => Ok(()),
-            Err(_) => Err(Ended::Memory),
+            Err(_) => Err(SessionFault::Memory),
         },
-        Err(how) => Err(how),
+        Err(fault) => Err(fault),
     }
 }
 
@@ -75,21 +84,23 @@ fn take_timely<H: Host, L: Ledger>(
 pub fn take_event<H: Host, L: Ledger>(
     alloc: Global,
     host: &mut H,
-    watched: &Watched<'_>,
+    catalogue: &Catalogue,
     work: &mut Work,
     number: u64,
     event: Seen,
     steps: &mut Steps<L>,
-) -> Result<(), Ended>
-    requires watchable { IsWatchable watched.now }
-    requires at_work { IsAtWork watched.now work.old }
-    requires fits { Fits watched.now.streams.now event }
-    ensures more { OnOk result ((history : List Heard) → Stands watched.now history work.old → Takes watched.now (line_of number event) history work.old work.new (H.told host.old) (H.told host.new)) }
-    ensures ends { IfErr result (λ how. (ended : Bool) (lines : List Reading) (history : List Heard) → Stands watched.now history work.old → Ends (program_over watched.now) ended (line_of number event ∷ lines) history work.old (H.told host.old) (H.told host.new) how) }
+) -> Result<(), SessionFault>
+    requires at_work { IsAtWork catalogue.now work.old }
+    requires accepted { IsAccepted catalogue.now }
+    requires fits { Fits (judged_of catalogue.now).streams event }
+    ensures more { OnOk result ((history : List Heard) → Stands catalogue.now history work.old.engine → Takes catalogue.now (line_of number event) history work.old work.new (H.told host.old) (H.told host.new)) }
+    ensures at_work { OnOk result (IsAtWork catalogue.now work.new) }
+    ensures stops { IfErr result (λ fault. (ended : Bool) (lines : List Reading) (history : List Heard) → Stands catalogue.now history work.old.engine → Stops (program_over catalogue.now) ended (line_of number event ∷ lines) history work.old (H.told host.old) (H.told host.new) fault) }
+    ensures quiet { BlamesWriting result (H.told host.old) (H.told host.new) }
     ensures same { SameButOutput (H.told host.old) (H.told host.new) }
 {
     let at = event.tuple.at();
-    match work.seen {
+    match work.engine.open_time() {
         Some(seen) if at < seen => Err(refuse(
             host,
             work,
@@ -99,6 +110,6 @@ pub fn take_event<H: Host, L: Ledger>(
                 seen,
             },
         )),
-        _ => take_timely(alloc, host, watched, work, number, event, steps),
+        _ => take_timely(alloc, host, catalogue, work, number, event, steps),
     }
 }

@@ -1,19 +1,24 @@
-//! The report of queries over an event text, epoch by epoch.
+//! Sessions: the report of queries over an event text, written as its bytes come.
 //!
-//! Contracts see what is watched by its `program_over`, an event text by its `readings`, and a host by
-//! what it tells.
+//! Contracts see a `Session` as its catalogue, its engine, the limit on the bytes of its event text, its
+//! feed, the number of bytes that it was fed, and whether it has ended (`View`).
 #![tactic(auto)]
 
 mod closing;
 mod events;
+mod fault;
+mod laws;
 mod lines;
 mod reading;
 mod refusal;
-mod watched;
+mod session;
 mod work;
 mod writing;
 
-pub use lines::write_report;
+pub use fault::SessionFault;
+pub use laws::closing_gives_results;
 pub use refusal::Refusal;
-pub use watched::Watched;
-pub use work::Ended;
+pub use session::Session;
+
+#[cfg(test)]
+mod tests;

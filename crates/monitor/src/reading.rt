@@ -3,6 +3,7 @@ ghost use Rattle.std.specs.Prelude.{◌≡◌, false, [], IfOk};
 ghost use Rattle.event_csv.specs.Fed.{IsLine, lines_left};
 ghost use Rattle.monitor.specs.Fitting.{FitsNext};
 ghost use Rattle.monitor.specs.Readings.{IsReading, Shows, ShowsLast};
+ghost use Rattle.monitor.specs.Taking.{Gone};
 
 use event_csv::{Feed, Got, LineFault, ReadFail, Seen, read_event};
 use event_types::Memory;
@@ -23,6 +24,7 @@ pub enum Next {
 /// Reads the next line that is neither empty nor the header.
 pub fn next_reading(alloc: Global, streams: &Streams, feed: &mut Feed) -> Result<Next, Memory>
     ensures shows { IfOk result (Shows streams.now feed.old feed.new) }
+    ensures gone { Gone feed.old feed.new }
     ensures fits { IfOk result (FitsNext streams.now) }
 {
     match feed.next_line() {

@@ -6,6 +6,6 @@ use event_csv::LineFault;
 pub enum Refusal {
     /// The line has a fault.
     HasFault { line: u64, why: LineFault },
-    /// Its event is detected before the event of the line before it, which was seen at `seen`.
+    /// Its event is detected at `at`, before the last event, which was detected at `seen`.
     IsOutOfOrder { line: u64, at: u64, seen: u64 },
 }

@@ -4,11 +4,14 @@ ghost use Rattle.std.specs.List.{flat_map};
 ghost use Rattle.cay_host.specs.Faults.{Rose};
 ghost use Rattle.cay_host.specs.Output.{Wrote, WrotePart, SameButOutput};
 ghost use Rattle.semantics.specs.Report.{line};
-ghost use Rattle.monitor.specs.Batches.{lines_of};
-ghost use Rattle.monitor.specs.Owing.{Owes};
+ghost use Rattle.catalogue.specs.Catalogued.{IsAccepted};
+ghost use Rattle.monitor.specs.Batches.{batch_lines};
+ghost use Rattle.monitor.specs.Standing.{program_over};
+ghost use Rattle.monitor.specs.Working.{Owes};
 
+use catalogue::Catalogue;
 use cay_host::{Failed, Host, write_whole};
-use evaluation::{Batch, Query};
+use epoch_engine::Batch;
 use event_types::{Memory, Tuples};
 use result_text::append_rows;
 use std::alloc::Global;
@@ -19,15 +22,17 @@ const FULL: usize = 65536;
 /// Appends the result lines of each query's tuples.
 pub fn put_batch(
     alloc: Global,
-    queries: &[Query<'_>],
+    catalogue: &Catalogue,
     batch: &Batch,
     rows: &mut Vec<u8>,
 ) -> Result<(), Memory>
-    requires { length batch.now ≡ length queries.now }
-    ensures { OnOk result (rows.new.items ≡ rows.old.items ++ lines_of queries.now batch.now) }
+    requires { length batch.now ≡ length catalogue.now.order }
+    ensures put { OnOk result (rows.new.items ≡ rows.old.items ++ batch_lines (program_over catalogue.now).queries batch.now) }
+    ensures accepted { IsAccepted catalogue.now }
 {
-    for (place, query) in queries.iter().enumerate() {
-        put_tuples(alloc, query.name, batch.get(place), rows)?;
+    for number in 0..catalogue.queries() {
+        let name = catalogue.streams().name(catalogue.stream_of(number));
+        put_tuples(alloc, name, batch.get(number), rows)?;
     }
     Ok(())
 }
@@ -47,6 +52,7 @@ fn put_tuples(alloc: Global, name: &str, tuples: &Tuples, rows: &mut Vec<u8>) ->
 /// Writes the rows once there are many. Takes no memory.
 pub fn write_many<H: Host>(host: &mut H, rows: &mut Vec<u8>) -> Result<(), Failed>
     ensures ok { OnOk result ((rest : List ℕ) → Owes (rows.old.items ++ rest) (rows.new.items ++ rest) (H.told host.old) (H.told host.new)) }
+    ensures quiet { OnOk result ((H.told host.new).write_faults ≡ (H.told host.old).write_faults) }
     ensures part { OnErr result (WrotePart rows.old.items (H.told host.old) (H.told host.new)) }
     ensures cause { OnErr result (Rose (H.told host.old).write_faults (H.told host.new).write_faults) }
     ensures same { SameButOutput (H.told host.old) (H.told host.new) }
@@ -62,6 +68,7 @@ pub fn write_many<H: Host>(host: &mut H, rows: &mut Vec<u8>) -> Result<(), Faile
 pub fn write_rows<H: Host>(host: &mut H, rows: &mut Vec<u8>) -> Result<(), Failed>
     ensures ok { OnOk result (Wrote rows.old.items (H.told host.old) (H.told host.new)) }
     ensures taken { OnOk result (rows.new.items ≡ []) }
+    ensures quiet { OnOk result ((H.told host.new).write_faults ≡ (H.told host.old).write_faults) }
     ensures part { OnErr result (WrotePart rows.old.items (H.told host.old) (H.told host.new)) }
     ensures cause { OnErr result (Rose (H.told host.old).write_faults (H.told host.new).write_faults) }
     ensures same { SameButOutput (H.told host.old) (H.told host.new) }

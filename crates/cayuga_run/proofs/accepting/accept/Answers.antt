@@ -1,9 +1,8 @@
-use Rattle.std.proofs.Common.{rules, IfSome}
+use Rattle.std.proofs.Common.{refl, rules}
 use Rattle.std.proofs.lemmas.Result.{IfOk-weaker, IfErr-weaker}
 use Rattle.cay_host.specs.declared.side.Side.TheVariants.{Queries}
 use Rattle.catalogue.specs.Catalogued.{judged_of}
-use Rattle.catalogue.specs.Judgement.{Accepts}
-use Rattle.cayuga_run.specs.Begun.{HasAccepted}
+use Rattle.cayuga_run.specs.Begun.{HasAccepted, HasRead}
 use Rattle.cayuga_run.specs.QueryFailing.{QueriesFail}
 use Rattle.cayuga_run.specs.Refusing.{AreNotAccepted}
 use Rattle.cayuga_run.proofs.RunLemmas.{HasQueries, queries_accepted, queries_fail}
@@ -21,13 +20,14 @@ returns-clause-accepted g c =
       text = search rules;
       attached = search rules;
       events = search rules;
+      unread = search rules;
       attach_faults = search rules;
       read_faults = search rules;
       write_faults = search rules;
       files = search rules;
       silent = record { written = search rules; lines = search rules };
     } in
-    IfOk-weaker c.take_queries.result (λ catalogue. IfSome (mid.left Queries) (λ text. Accepts text (judged_of catalogue))) (λ catalogue. HasAccepted queries (judged_of catalogue) old (told c.take_queries.new.host))
+    IfOk-weaker c.take_queries.result (λ catalogue. HasRead (judged_of catalogue) mid (told c.take_queries.new.host)) (λ catalogue. HasAccepted queries (judged_of catalogue) old (told c.take_queries.new.host))
     (λ catalogue accepts. queries_accepted queries (judged_of catalogue) old mid (told c.take_queries.new.host) has c.take_queries.ensures.same accepts) c.take_queries.ensures.accepted
 
 -- the queries are attached, and weren't accepted
@@ -42,6 +42,7 @@ returns-clause-fails g c =
       text = search rules;
       attached = search rules;
       events = search rules;
+      unread = search rules;
       attach_faults = search rules;
       read_faults = search rules;
       write_faults = search rules;
@@ -50,3 +51,11 @@ returns-clause-fails g c =
     } in
     IfErr-weaker c.take_queries.result (QueriesFail mid (told c.take_queries.new.host)) (AreNotAccepted queries old (told c.take_queries.new.host))
     (λ status fails. queries_fail queries old mid (told c.take_queries.new.host) status has c.take_queries.ensures.same fails) c.take_queries.ensures.fails
+
+-- the queries couldn't be attached
+pub returns-then-is_err-clause-blames : goal.returns-then-is_err-clause-blames
+returns-then-is_err-clause-blames g c = record {
+  attach = λ other. absurd (other Queries refl);
+  read = λ other. c.attach.ensures.same.read_faults;
+  write = λ other. c.attach.ensures.same.write_faults;
+}

@@ -7,6 +7,7 @@ abbrev pub invariant-pieces : goal.invariant-pieces
 invariant-pieces g l = record {
   within : length l.bytes.items ≤ l.limit + 1;
   front : (g.H.Host.told l.initial.host).left l.side ≡ prepend_known l.bytes.items ((g.H.Host.told l.host).left l.side);
+  quiet : (g.H.Host.told l.host).read_faults ≡ (g.H.Host.told l.initial.host).read_faults;
   same : SameButRead l.side (g.H.Host.told l.initial.host) (g.H.Host.told l.host);
 }
 

@@ -20,4 +20,4 @@ returns-in-Ok-print-clause-outcome g c =
     let told = g.H.Host.told in
     let writing : Writing = record { queries = c.args.queries.now; text_of = canonical_of } in
     writing_ends writing (judged_of c.in-Ok.catalogue) _ (told c.args.host.now) (told c.accept.new.host) (told c.write_text.new.host) c.write_text.result
-    c.in-Ok.ensures.accepted (c.as_str.ensures ∙ c.in-Ok-print.ensures.text ∙ ap (λ (file : Filed). canon (map statement_of file.statements)) c.file.ensures.value) c.write_text.ensures.writes
+    c.in-Ok.ensures.accepted (c.as_str.ensures ∙ c.in-Ok-print.ensures.text ∙ ap (λ (file : Filed). canon (map statement_of file.statements)) c.file.ensures.value) c.write_text.ensures.writes c.write_text.ensures.same

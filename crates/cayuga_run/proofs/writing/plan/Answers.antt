@@ -18,4 +18,4 @@ returns-in-Ok-plan-clause-outcome g c =
     let told = g.H.Host.told in
     let writing : Writing = record { queries = c.args.queries.now; text_of = plan_of } in
     writing_ends writing (judged_of c.in-Ok.catalogue) _ (told c.args.host.now) (told c.accept.new.host) (told c.write_text.new.host) c.write_text.result
-    c.in-Ok.ensures.accepted (c.as_str.ensures ∙ c.in-Ok-plan.ensures) c.write_text.ensures.writes
+    c.in-Ok.ensures.accepted (c.as_str.ensures ∙ c.in-Ok-plan.ensures) c.write_text.ensures.writes c.write_text.ensures.same

@@ -1,3 +1,5 @@
+use Rattle.std.proofs.Common.{[], ◌∷◌}
+use Rattle.event_csv.specs.Lines.{Line}
 use Rattle.std.proofs.lemmas.Result.{IfOk-weaker}
 use Rattle.monitor.specs.Readings.{IsReading, Shows}
 use Rattle.monitor.proofs.ReadingLemmas.{shows_line, shows_long, shows_none}
@@ -23,3 +25,10 @@ pub returns-in-NotYet-clause-shows : goal.returns-in-NotYet-clause-shows
 returns-in-NotYet-clause-shows c =
     let taken = rw c.in-NotYet.is at c.next_line.follows.holds-at-none.0 in
     shows_none c.args.streams.now c.args.feed.now c.next_line.follows.lender-at-none taken.0 taken.1
+
+-- it is gone from the feed
+pub returns-in-Line-clause-gone : goal.returns-in-Line-clause-gone
+returns-in-Line-clause-gone c =
+    let taken = rw c.in-Line.is at c.next_line.follows.holds-at-none.0 in
+    let line : Line = record { number = c.in-Line.number; bytes = c.in-Line.bytes.now } in
+    record { lines = line ∷ []; gives = taken.given; feeds = c.next_line.follows.holds-at-none.1 }

@@ -1,11 +1,25 @@
-use Rattle.std.proofs.Common.{length, refl}
-use Rattle.std.proofs.lemmas.Option.{slice_get_read}
-use Rattle.monitor.proofs.BatchLemmas.{put_next}
+use Rattle.std.proofs.Common.{◌∙◌, ◌++◌, ◌<◌, length, ap, sym, arith}
+use Rattle.std.specs.List.{flat_map}
+use Rattle.semantics.specs.Report.{line}
+use Rattle.catalogue.specs.Catalogued.{judged_of}
+use Rattle.catalogue.specs.Judgement.{query_at}
+use Rattle.monitor.specs.Standing.{program_over}
+use Rattle.monitor.proofs.BatchLemmas.{as_many, name_is, put_all, put_next, query_there}
 use Rattle.monitor.proofs.writing.put_batch.Goals as goal
 
 -- the lines of one more query were put
-pub loop-place-preserved : goal.loop-place-preserved
-loop-place-preserved c =
-    let queries = c.args.queries.now in
-    put_next queries c.args.batch.now c.loop-place.place c.index-queries-place.result c.get.result.now c.args.rows.now.items c.loop-place.rows.items c.put_tuples.new.rows.items
-    (slice_get_read queries (length queries) c.loop-place.place c.index-queries-place.result refl c.loop-place-test.true c.index-queries-place.is) c.get.ensures c.in_ok-put_tuples.ensures c.loop-place.invariant
+pub loop-number-preserved : goal.loop-number-preserved
+loop-number-preserved c =
+    let now = c.args.catalogue.now in
+    let number = c.loop-number.number in
+    let less : number < length now.order = omega (arith, c.loop-number-test.true, c.queries-number-end.ensures.value) in
+    let name = name_is now c.streams.ensures.is_accepted number c.stream_of.result c.name-name.result.now less c.stream_of.ensures.value (rw c.streams.ensures.value at c.name-name.ensures) in
+    put_next (program_over now).queries c.args.batch.now number (query_at (judged_of now) number) c.get.result.now c.args.rows.now.items c.loop-number.rows.items c.put_tuples.new.rows.items
+    (query_there now number less) c.get.ensures (c.in_ok-put_tuples.ensures ∙ ap (λ n. c.loop-number.rows.items ++ flat_map (line n) c.get.result.now) (sym name)) c.loop-number.invariant
+
+-- the lines of all queries were put
+pub returns-clause-put : goal.returns-clause-put
+returns-clause-put c =
+    let now = c.args.catalogue.now in
+    let many = as_many now in
+    put_all (program_over now).queries c.args.batch.now c.loop-number.number c.args.rows.now.items c.loop-number.rows.items (omega (arith, many, c.loop-number-test.false, c.queries-number-end.ensures.value)) c.loop-number.invariant

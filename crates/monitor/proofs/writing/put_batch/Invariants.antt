@@ -1,6 +1,7 @@
+use Rattle.monitor.specs.Standing.{program_over}
 use Rattle.monitor.proofs.BatchLemmas.{IsPut}
 use Rattle.monitor.proofs.writing.put_batch.Given as goal
 
 -- the lines of the queries so far were put
-abbrev pub invariant-loop-place : goal.invariant-loop-place
-invariant-loop-place l = IsPut l.queries l.batch l.place l.initial.rows.items l.rows.items
+abbrev pub invariant-loop-number : goal.invariant-loop-number
+invariant-loop-number l = IsPut (program_over l.catalogue).queries l.batch l.number l.initial.rows.items l.rows.items

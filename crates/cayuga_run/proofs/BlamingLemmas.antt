@@ -1,0 +1,21 @@
+-- Counts of faults, from call to call.
+use Rattle.std.proofs.Common.{◌≡◌, ◌∙◌}
+use Rattle.cay_host.specs.Told.{Told}
+use Rattle.cayuga_run.specs.declared.status.Status.{Status}
+use Rattle.cayuga_run.specs.Blaming.{BlamesHost}
+
+-- no call failed
+pub record SameFaults (old new : Told) : Type 0 where
+  pub attach : new.attach_faults ≡ old.attach_faults
+  pub read : new.read_faults ≡ old.read_faults
+  pub write : new.write_faults ≡ old.write_faults
+
+pub blames_none : {a b : Told} (status : Status) → SameFaults a b → BlamesHost a b status
+blames_none status same = record { attach = λ other. same.attach; read = λ other. same.read; write = λ other. same.write }
+
+pub blames_after : {a b c : Told} (status : Status) → SameFaults a b → BlamesHost b c status → BlamesHost a c status
+blames_after status same blames = record {
+  attach = λ other. blames.attach other ∙ same.attach;
+  read = λ other. blames.read other ∙ same.read;
+  write = λ other. blames.write other ∙ same.write;
+}

@@ -1,0 +1,27 @@
+-- How far the report of a run was written where a write failed.
+use Rattle.std.specs.Prelude.{◌≡◌, ◌<◌, ◌≤◌, ℕ, List, ◌++◌, Bool, true, false, length, take, Option, IfSome}
+use Rattle.std.specs.Io.KnownBytes.{prepend_known}
+use Rattle.cay_host.specs.declared.side.Side.TheVariants.{Events}
+use Rattle.cay_host.specs.Output.{Wrote}
+use Rattle.cay_host.specs.Told.{Told}
+use Rattle.catalogue.specs.Judgement.{Judged}
+use Rattle.cayuga_run.specs.Reports.{report_of_closed}
+
+-- all of the earlier text was appended, and a proper prefix of what the later one has beyond it
+pub record WroteUpTo (earlier later : List ℕ) (old new : Told) : Type 0 where
+  pub more : List ℕ
+  pub goes_on : later ≡ earlier ++ more
+  pub size : ℕ
+  pub within : size < length more
+  pub wrote : Wrote (earlier ++ take size more) old new
+
+-- the bytes that were taken of the events have two parts, and the second has at most 65,536 bytes: the report of the epochs that the first part closes was written, and a proper prefix of the rows that the second part within the limit adds, or the end of the text where it has ended behind the first part
+pub record StoppedWriting (judged : Judged) (limit : ℕ) (events : Option (List ℕ)) (old new : Told) : Type 0 where
+  pub before : List ℕ
+  pub piece : List ℕ
+  pub ended : Bool
+  pub taken : events ≡ prepend_known (before ++ piece) (new.left Events)
+  pub within : length before ≤ limit
+  pub few : length piece ≤ 65536
+  pub whole : ended ≡ true → IfSome events (λ text. text ≡ before)
+  pub wrote : WroteUpTo (report_of_closed judged before false) (report_of_closed judged (take limit (before ++ piece)) ended) old new

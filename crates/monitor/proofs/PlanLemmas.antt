@@ -1,0 +1,120 @@
+-- The network and the layout of an engine as those of a catalogue.
+use Rattle.std.proofs.Common.{◌≡◌, ◌∙◌, sym, ap, refl, subst, ℕ, ◌+◌, ◌-◌, ◌<◌, ◌≤◌, ◌==◌, ◌||◌, Bool, false, List, [], ◌∷◌, ◌++◌, map, length, Some, slice_get, arith}
+use Rattle.std.specs.List.{All}
+use Rattle.std.specs.Option.{option_map}
+use Rattle.std.proofs.lemmas.Bool.Decides.{nat_tests}
+use Rattle.std.proofs.lemmas.List.{length-map}
+use Rattle.std.proofs.lemmas.List.Elements.{All-nil, All-cons, All-head, All-tail, All-append, All-weaker}
+use Rattle.std.proofs.lemmas.Option.{get_or_from_slice_get, slice_get-map}
+use Rattle.event_types.specs.declared.kind.Kind.{Kind}
+use Rattle.event_types.specs.Tuple.{Row}
+use Rattle.event_types.specs.Order.{sorted}
+use Rattle.semantics.specs.Kinds.{HasKinds}
+use Rattle.semantics.specs.Programs.{Query}
+use Rattle.semantics.specs.TypedPrograms.{PublishInTurn}
+use Rattle.stream_schema.specs.Schema.{Attr, kinds_of}
+use Rattle.stream_schema.specs.Streams.{Entry, schemas_of}
+use Rattle.automaton.specs.declared.layout.Layout.{Layout}
+use Rattle.automaton.specs.Plain.{IsPlain}
+use Rattle.automaton.specs.States.{Net}
+use Rattle.automaton.specs.Work.{is_in}
+use Rattle.automaton.proofs.PlainLemmas.{plain_has_lines}
+use Rattle.splitter.specs.Laws.{hidden_streams, split_order}
+use Rattle.splitter.specs.Splitting.{parts_of}
+use Rattle.splitter.proofs.NumberingLemmas.{parts_up}
+use Rattle.cel_types.specs.SourceLaws.{kinds_in}
+use Rattle.chains.specs.Chains.{chain_order, first_hidden, order_of}
+use Rattle.chains.specs.Layouts.{IsLayoutOf}
+use Rattle.chains.proofs.ApartLemmas.{range_all}
+use Rattle.chains.proofs.LineLemmas.{get_more}
+use Rattle.epoch_laws.specs.Stands.{Serves}
+use Rattle.epoch_engine.specs.Closes.{Closes, KeepsPlan}
+use Rattle.epoch_engine.specs.Offers.{IsHeard}
+use Rattle.epoch_engine.specs.Starts.{IsNew}
+use Rattle.epoch_engine.specs.Views as engine
+use Rattle.catalogue.specs.Catalogued.{Catalogued, IsAccepted, judged_of}
+use Rattle.catalogue.specs.Chained.{kinds_of_each}
+use Rattle.catalogue.proofs.ProgramLemmas.{accepted_are_programs, declared_are_told}
+use Rattle.event_csv.specs.declared.event.Seen.{Seen}
+use Rattle.monitor.specs.Fitting.{Fits}
+use Rattle.monitor.specs.Standing.{IsPlanned, lines_over, program_over}
+use Rattle.monitor.proofs.BatchLemmas.{as_many}
+
+-- the derived streams of queries have numbers from that of the first on, by induction on the queries
+order_above : (kinds : ℕ → List Kind) (low number : ℕ) (order : List Query) (next : ℕ) → low ≤ number → low ≤ next → PublishInTurn kinds number order → All (λ stream. low ≤ stream) (chain_order order next)
+order_above kinds low number [] next h g turn = All-nil (λ stream. low ≤ stream)
+order_above kinds low number (query ∷ order) next h g turn =
+    let last = (parts_of query.expr next).next in
+    All-append (λ stream. low ≤ stream) (split_order query.expr query.stream next) (chain_order order last)
+    (All-append (λ stream. low ≤ stream) (hidden_streams query.expr next) (query.stream ∷ []) (range_all (λ stream. low ≤ stream) next (last - next) (λ x a b. omega arith))
+    (All-cons (λ stream. low ≤ stream) query.stream [] (omega (arith, turn.0)) (All-nil (λ stream. low ≤ stream))))
+    (order_above kinds low (number + 1) order last (omega arith) (omega (arith, parts_up query.expr next)) turn.2)
+
+other_number : (stream number : ℕ) → stream < number → (stream == number) ≡ false
+other_number stream number less = grind (arith, nat_tests)
+
+none_below : (low stream : ℕ) (numbers : List ℕ) → stream < low → All (λ number. low ≤ number) numbers → is_in numbers stream ≡ false
+none_below low stream [] less all = refl
+none_below low stream (number ∷ numbers) less all =
+    let here : low ≤ number = All-head (λ number. low ≤ number) number numbers all in
+    λ i. other_number stream number (omega (arith, less, here)) i || none_below low stream numbers less (All-tail (λ number. low ≤ number) number numbers all) i
+
+module _ (c : Catalogued) (accepted : IsAccepted c) where
+  -- a declared stream isn't derived
+  not_derived : (stream : ℕ) → stream < length (judged_of c).declared → is_in (order_of (program_over c)) stream ≡ false
+  not_derived stream less =
+      let program = program_over c in
+      let typed = accepted_are_programs accepted.text (judged_of c) accepted.accepts in
+      none_below program.declared stream (order_of program) less
+      (order_above (kinds_in (judged_of c).streams) program.declared program.declared program.order (first_hidden program) (omega arith) (omega arith) typed.in_turn)
+
+  module _ (event : Seen) (fits : Fits (judged_of c).streams event) where
+    -- the event's stream is declared
+    pub is_declared : event.stream < length (judged_of c).declared
+    is_declared = (declared_are_told accepted.text (judged_of c) accepted.accepts event.stream fits.entry fits.there).0 fits.declared
+
+    schema_there : slice_get (schemas_of (judged_of c).streams) event.stream ≡ Some fits.entry.schema
+    schema_there = slice_get-map (λ (entry : Entry). entry.schema) (judged_of c).streams event.stream ∙ ap (option_map (λ (entry : Entry). entry.schema)) fits.there
+
+    -- it has the kinds of its stream
+    pub of_its_kinds : HasKinds (kinds_in (judged_of c).streams event.stream) event.tuple
+    of_its_kinds = fits.kinds ∙ ap kinds_of (sym (get_or_from_slice_get (schemas_of (judged_of c).streams) event.stream fits.entry.schema [] schema_there))
+
+    -- an engine of the catalogue may be offered the event
+    pub may_hear : (now : engine.View) → IsPlanned c now → IsHeard now.layout event.stream event.tuple
+    may_hear now planned = record {
+      kinds = kinds_of fits.entry.schema;
+      known =
+          ap (λ kinds. slice_get kinds event.stream) planned.layout.kinds_are
+          ∙ get_more (kinds_of_each (judged_of c).streams) planned.layout.hidden event.stream (kinds_of fits.entry.schema)
+          (slice_get-map kinds_of (schemas_of (judged_of c).streams) event.stream ∙ ap (option_map kinds_of) schema_there);
+      declared = ap (λ order. is_in order event.stream) planned.layout.order ∙ not_derived event.stream is_declared;
+      of_kinds = fits.kinds;
+    }
+
+-- a batch has a list for each query
+pub batch_count : (c : Catalogued) (old new : engine.View) (batch : List (List Row)) → IsPlanned c old → Closes old new batch → length batch ≡ length c.order
+batch_count c old new batch planned closes =
+    ap length closes.taken.results ∙ length-map old.layout.outs (λ stream. sorted (closes.taken.news stream)) ∙ ap length planned.layout.outs
+    ∙ length-map (program_over c).queries (λ query. query.stream) ∙ as_many c
+
+-- a changed engine of the same network and layout
+pub planned_still : (c : Catalogued) (old new : engine.View) → KeepsPlan old new → IsPlanned c old → IsPlanned c new
+planned_still c old new plan planned = record {
+  network = subst (IsPlain (lines_over c)) (sym plan.network) planned.network;
+  layout = subst (IsLayoutOf (program_over c) (kinds_of_each (judged_of c).streams)) (sym plan.layout) planned.layout;
+}
+
+-- the plain network and a layout of a catalogue serve its lines
+pub plain_serves : (c : Catalogued) (net : Net) (layout : Layout) → IsPlain (lines_over c) net → IsLayoutOf (program_over c) (kinds_of_each (judged_of c).streams) layout → Serves net (lines_over c) layout.order
+plain_serves c net layout plain fits = record {
+  has_lines = plain_has_lines (lines_over c) net plain;
+  in_order = fits.fits.in_order;
+}
+
+-- an engine that was made over them has them
+pub new_planned : (c : Catalogued) (net : Net) (layout : Layout) (now : engine.View) → IsPlain (lines_over c) net → IsLayoutOf (program_over c) (kinds_of_each (judged_of c).streams) layout → IsNew net layout now → IsPlanned c now
+new_planned c net layout now plain fits new = record {
+  network = subst (IsPlain (lines_over c)) (sym new.network) plain;
+  layout = subst (IsLayoutOf (program_over c) (kinds_of_each (judged_of c).streams)) (sym new.same_layout) fits;
+}

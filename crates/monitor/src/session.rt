@@ -1,0 +1,188 @@
+//! Sessions.
+ghost use Rattle.std.specs.Prelude.{◌≡◌, ℕ, [], List, None, false, true, IsTrue, IfErr, IfOk, OnErr, OnOk, take};
+ghost use Rattle.semantics.specs.Histories.{Heard};
+ghost use Rattle.automaton.specs.Plain.{IsPlain};
+ghost use Rattle.chains.specs.Chains.{lines_of};
+ghost use Rattle.chains.specs.Layouts.{IsLayoutOf};
+ghost use Rattle.cay_host.specs.Output.{SameButOutput};
+ghost use Rattle.epoch_engine.specs.StandsFor as engines;
+ghost use Rattle.catalogue.specs.Catalogued.{judged_of};
+ghost use Rattle.catalogue.specs.Chained.{kinds_of_each};
+ghost use Rattle.catalogue.specs.Judgement.{program_of};
+ghost use Rattle.monitor.specs.Feeding.{BlamesWriting, Feeds, Finishes, StopsAtPiece};
+ghost use Rattle.monitor.specs.Sessions.{AreDeclared, KeepsQueries, StandsFor};
+ghost use Rattle.monitor.specs.Standing.{IsPlanned, lines_over};
+
+use crate::fault::SessionFault;
+use crate::lines::{take_lines, take_rest};
+use crate::work::Work;
+use automaton::Network;
+use catalogue::Catalogue;
+use cay_host::{Host, Ledger, Steps};
+use epoch_engine::Engine;
+use event_csv::Feed;
+use event_types::Memory;
+use std::alloc::Global;
+use std::marker::Model;
+
+/// The work of queries on one event text, which may come behind events that the engine has heard: the
+/// text is fed piece by piece, and the rows of each epoch are written once a later event or the end of
+/// the text has closed it.
+#[derive(Drop)]
+pub struct Session {
+    catalogue: Catalogue,
+    work: Work,
+    limit: u64,
+    feed: Feed,
+    fed: u64,
+    ended: bool,
+}
+
+impl Model for Session {
+    ghost use Rattle.monitor.specs.SessionCode.{session_code};
+    ghost use Rattle.monitor.specs.Sessions.{View};
+
+    ghost Value = { View };
+
+    ghost coded = { session_code };
+
+    ghost view = { λ s. record { catalogue = s.catalogue; engine = s.work.engine; limit = s.limit; feed = s.feed; fed = s.fed; ended = s.ended } };
+
+    ghost use Rattle.std.specs.Prelude.{◌≡◌, false};
+    ghost use Rattle.monitor.specs.Standing.{IsGoing};
+
+    ghost invariant = { λ s. s.ended ≡ false → IsGoing s.catalogue s.limit s.feed s.fed s.work };
+}
+
+impl Session {
+    /// A session of these queries, which takes at most so many bytes of an event text. Want of memory
+    /// drops the catalogue.
+    pub fn make(alloc: Global, catalogue: Catalogue, limit: u64) -> Result<Session, Memory>
+        ensures queries { IfOk result (λ session. session.catalogue ≡ catalogue) }
+        ensures limit { IfOk result (λ session. session.limit ≡ limit) }
+        ensures stands { IfOk result (λ session. StandsFor session [] []) }
+    {
+        let engine = engine_of(alloc, &catalogue)?;
+        Ok(Session::over(alloc, catalogue, engine, limit))
+    }
+
+    /// Goes on with an engine that may have been offered events before. Takes no memory.
+    pub fn over(alloc: Global, catalogue: Catalogue, engine: Engine, limit: u64) -> Session
+        requires network { IsPlain (lines_of (program_of (judged_of catalogue))) engine.network }
+        requires layout { IsLayoutOf (program_of (judged_of catalogue)) (kinds_of_each (judged_of catalogue).streams) engine.layout }
+        requires intact { IsTrue engine.intact }
+        requires opened { engine.time ≡ None → engine.closed ≡ None }
+        ensures queries { result.catalogue ≡ catalogue }
+        ensures limit { result.limit ≡ limit }
+        ensures engine { result.engine ≡ engine }
+        ensures going { result.ended ≡ false }
+        ensures stands { (past : List Heard) → AreDeclared (judged_of catalogue) past → engines.StandsFor engine (lines_of (program_of (judged_of catalogue))) past → StandsFor result past [] }
+    {
+        Session {
+            catalogue,
+            work: Work {
+                engine,
+                rows: Vec::new(alloc),
+            },
+            limit,
+            feed: Feed::new(alloc),
+            fed: 0,
+            ended: false,
+        }
+    }
+
+    /// Whether the session has ended: a fault was answered, or its event text has ended.
+    pub fn ended(&self) -> bool
+        ensures { result ≡ self.now.ended }
+    {
+        self.ended
+    }
+
+    /// Hears more bytes of the event text, and writes the rows of the epochs that they close. Any fault
+    /// ends the session.
+    pub fn feed<H: Host, L: Ledger>(
+        &mut self,
+        alloc: Global,
+        host: &mut H,
+        piece: &[u8],
+        steps: &mut Steps<L>,
+    ) -> Result<(), SessionFault>
+        requires { self.old.ended ≡ false }
+        ensures fed { OnOk result ((past : List Heard) (text : List ℕ) → StandsFor self.old past text → Feeds self.old self.new past text piece.now (H.told host.old) (H.told host.new)) }
+        ensures broken { IfErr result (λ fault. (past : List Heard) (text : List ℕ) → StandsFor self.old past text → StopsAtPiece self.old past text piece.now (H.told host.old) (H.told host.new) fault) }
+        ensures going { OnOk result (self.new.ended ≡ false) }
+        ensures ended { OnErr result (self.new.ended ≡ true) }
+        ensures queries { KeepsQueries self.old self.new }
+        ensures quiet { BlamesWriting result (H.told host.old) (H.told host.new) }
+        ensures same { SameButOutput (H.told host.old) (H.told host.new) }
+    {
+        self.ended = true;
+        let within = front_of(piece, self.limit - self.fed);
+        if self.feed.push(within).is_err() {
+            return Err(SessionFault::Memory);
+        }
+        take_lines(
+            alloc,
+            host,
+            &self.catalogue,
+            &mut self.feed,
+            &mut self.work,
+            steps,
+        )?;
+        if within.len() < piece.len() {
+            return Err(SessionFault::TooMuch { limit: self.limit });
+        }
+        self.fed += within.len() as u64;
+        self.ended = false;
+        Ok(())
+    }
+
+    /// Ends the event text, whose last line may lack its LF. Where no line is refused, the last epoch is
+    /// closed, and its rows are written. The session ends, whatever the answer.
+    pub fn finish<H: Host, L: Ledger>(
+        &mut self,
+        alloc: Global,
+        host: &mut H,
+        steps: &mut Steps<L>,
+    ) -> Result<(), SessionFault>
+        requires { self.old.ended ≡ false }
+        ensures finished { (past : List Heard) (text : List ℕ) → StandsFor self.old past text → Finishes self.old past text (H.told host.old) (H.told host.new) result }
+        ensures ended { self.new.ended ≡ true }
+        ensures queries { KeepsQueries self.old self.new }
+        ensures quiet { BlamesWriting result (H.told host.old) (H.told host.new) }
+        ensures same { SameButOutput (H.told host.old) (H.told host.new) }
+    {
+        self.ended = true;
+        take_rest(
+            alloc,
+            host,
+            &self.catalogue,
+            &self.feed,
+            &mut self.work,
+            steps,
+        )
+    }
+}
+
+/// An engine over the plain network of the queries, which has heard nothing.
+pub(crate) fn engine_of(alloc: Global, catalogue: &Catalogue) -> Result<Engine, Memory>
+    ensures planned { IfOk result (IsPlanned catalogue.now) }
+    ensures intact { IfOk result (λ engine. IsTrue engine.intact) }
+    ensures none_closed { IfOk result (λ engine. engine.closed ≡ None) }
+    ensures stands { IfOk result (λ engine. engines.StandsFor engine (lines_over catalogue.now) []) }
+{
+    let network = Network::plain(alloc, catalogue.lines())?;
+    let layout = catalogue.layout().copy(alloc)?;
+    Engine::make(alloc, network, layout)
+}
+
+// The first so many bytes, or all.
+fn front_of(bytes: &[u8], many: u64) -> &[u8]
+    ensures { result.now ≡ take many bytes.now }
+{
+    if (bytes.len() as u64) < many {
+        bytes
+    } else {
+        &bytes[..many as usize]
+    }
+}
