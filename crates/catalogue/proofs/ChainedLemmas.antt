@@ -1,5 +1,5 @@
 -- The lines of an accepted query text.
-use Rattle.std.proofs.Common.{◌≡◌, ◌∙◌, sym, ap, refl, subst, ℕ, zero, suc, ◌+◌, ◌<◌, ◌≤◌, ◌^◌, ◌*◌, length, get_or, take, drop, List, [], ◌∷◌, ◌++◌, map, arith}
+use Rattle.std.proofs.Common.{◌≡◌, ◌∙◌, sym, ap, refl, subst, ℕ, zero, suc, ◌+◌, ◌<◌, ◌^◌, length, get_or, take, drop, List, [], ◌∷◌, ◌++◌, map, arith}
 use Rattle.std.specs.Prelude.{Some, slice_get}
 use Rattle.std.specs.List.{All, range_with_len}
 use Rattle.std.proofs.lemmas.List.{ext_get_or, get_or-map, length-map, length_push}
@@ -13,21 +13,19 @@ use Rattle.algebra.specs.Views.{ex_of}
 use Rattle.stream_schema.specs.Schema.{Attr, kinds_of}
 use Rattle.stream_schema.specs.Streams.{Entry, schemas_of}
 use Rattle.cel_grammar.specs.Trees.{Statement}
-use Rattle.cel_grammar.specs.Views.{statement_of}
-use Rattle.chains.specs.Chains.{chain_end, end_of, first_hidden, outs_of}
+use Rattle.chains.specs.Chains.{chain_end, outs_of}
 use Rattle.chains.specs.declared.chains.Chains.{Chains}
 use Rattle.chains.specs.Widths.{HasWidths}
 use Rattle.chains.specs.Work.{AreChains, kinds_by, work_of}
-use Rattle.chains.proofs.ProgramLemmas.{expressions_of, few_taken, layout_made, lines_made, work_end, work_typed, work_wide}
+use Rattle.chains.proofs.ProgramLemmas.{expressions_of, layout_made, lines_made, work_end, work_typed, work_wide}
 use Rattle.cel_types.specs.SourceLaws.{kinds_in}
 use Rattle.catalogue.specs.Catalogued.{Catalogued, IsAccepted, judged_of, queries_by}
 use Rattle.catalogue.specs.Chained.{AreChained, kinds_of_each}
-use Rattle.catalogue.specs.Filing.{most_bytes}
 use Rattle.catalogue.specs.Judgement.{program_of, query_at}
 use Rattle.catalogue.specs.Tables.{HasPlaces}
 use Rattle.catalogue.specs.Typing.{Publish, none, next, published_by}
+use Rattle.catalogue.proofs.FewLemmas.{numbers_left}
 use Rattle.catalogue.proofs.HeldLemmas.{place_is, place_small, queries_long, sizes, stream_at}
-use Rattle.catalogue.proofs.RoomLemmas.{file_few, published_few, queries_few}
 use Rattle.catalogue.proofs.TurnLemmas.{in_turn}
 use Rattle.catalogue.proofs.WideLemmas.{published_wide}
 
@@ -99,22 +97,13 @@ module _ (c : Catalogued) (accepted : IsAccepted c) (typed : length c.expression
   place_within : (query : ℕ) → query < length places → get_or places query 0 < length c.expressions
   place_within query within = let small = place_small c accepted places placed query (omega (arith, within, placed.long)) in omega (arith, small, typed)
 
-  room : end_of program < 2 ^ 64
-  room =
-      let ss : List Statement = map statement_of c.file.statements in
-      let most : end_of program ≤ first_hidden program + 1024 * length program.order = few_taken program.order (published_few (queries_few accepted.text ss c.file.lines accepted.accepts.file) accepted.accepts.publishes) (first_hidden program) in
-      let many : length ss ≤ most_bytes = file_few accepted.text ss c.file.lines accepted.accepts.file in
-      let queries : length program.order ≡ length c.order = queries_long c accepted in
-      let first : first_hidden program ≡ length c.declared + length program.order = refl in
-      omega (arith, most, many, queries, first, sizes c accepted, length-map c.file.statements statement_of)
-
   asked : Asks c.expressions places (length c.declared) lists
   asked = record {
     typed = work_typed lists program c.expressions same turns;
     wide = work_wide lists program c.expressions same widths;
     given = long;
     placed = All-from_get_or (λ place. place < length c.expressions) places 0 place_within;
-    room = let end = work_end lists program c.expressions same in omega (arith, room, end);
+    room = let end = work_end lists program c.expressions same in omega (arith, numbers_left c accepted, end);
   }
 
   -- each query's stream stands at its place behind the declared ones

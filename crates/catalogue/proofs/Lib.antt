@@ -2,6 +2,7 @@ pub mod ArrangeLemmas
 pub mod ChainedLemmas
 pub mod CountLemmas
 pub mod DeclareLemmas
+pub mod FewLemmas
 pub mod FilingLemmas
 pub mod HeldLemmas
 pub mod LawLemmas

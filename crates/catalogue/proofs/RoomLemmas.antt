@@ -1,4 +1,4 @@
--- Few numbers are taken for hidden streams: a statement has few symbols, and a text has few statements.
+-- The queries of a text are short and few: a statement has few symbols, and a text has few statements.
 use Rattle.std.proofs.Common.{◌≡◌, ap, refl, subst, ℕ, suc, ◌+◌, ◌-◌, ◌≤◌, Bool, true, false, cond, length, List, [], ◌∷◌, arith}
 use Rattle.std.specs.Prelude.{⊤, Ok, Err, Some, slice_get}
 use Rattle.std.specs.List.{All}
@@ -6,12 +6,12 @@ use Rattle.std.specs.Str.{is_utf8}
 use Rattle.std.proofs.lemmas.List.{length-map}
 use Rattle.std.proofs.lemmas.List.Elements.{All-nil, All-cons, All-get_or, All-filter}
 use Rattle.std.proofs.lemmas.Option.{get_or_from_slice_get, slice_get_within}
-use Rattle.semantics.specs.Expressions.{Ex, Read}
+use Rattle.semantics.specs.Expressions.{Ex}
 use Rattle.semantics.specs.Programs.{Query}
 use Rattle.stream_schema.specs.Schema.{Attr}
 use Rattle.stream_schema.specs.Streams.{Entry}
-use Rattle.splitter.specs.Splitting.{Parts, parts_of, source_of}
-use Rattle.chains.proofs.ProgramLemmas.{TakesFew}
+use Rattle.splitter.proofs.FewLemmas.{nodes}
+use Rattle.chains.proofs.ProgramLemmas.{IsShort}
 use Rattle.cel_lexer.specs.Faults.{broken_line, tokens_of}
 use Rattle.cel_lexer.specs.Listing.{Ascend}
 use Rattle.cel_lexer.specs.Tokens.{tokens_behind_mark}
@@ -35,65 +35,61 @@ use Rattle.catalogue.specs.Statements.{is_query, queries_in}
 use Rattle.catalogue.specs.Typing.{Publish}
 use Rattle.catalogue.specs.Typing as typing
 
--- how many NEXTs and FOLDs a source has
-abbrev pub joins : Source → ℕ
-joins (tree.Name a) = 0
-joins (tree.Filter p e) = joins e
-joins (tree.Select items e) = joins e
-joins (tree.Union e f) = joins e + joins f
-joins (tree.Next p e f) = joins e + joins f + 1
-joins (tree.Fold p q aggs e f) = joins e + joins f + 1
+-- how many nodes a source has: its names, its NEXTs and its FOLDs
+abbrev pub nodes_in : Source → ℕ
+nodes_in (tree.Name a) = 1
+nodes_in (tree.Filter p e) = nodes_in e
+nodes_in (tree.Select items e) = nodes_in e
+nodes_in (tree.Union e f) = nodes_in e + nodes_in f
+nodes_in (tree.Next p e f) = nodes_in e + nodes_in f + 1
+nodes_in (tree.Fold p q aggs e f) = nodes_in e + nodes_in f + 1
 
 -- each is a symbol
 mutual
-  source_joins : {ts rest : List Symbol} {e : Source} → IsSource ts e rest → joins e + length rest ≤ length ts
-  source_joins (term h) = term_joins h
-  source_joins (union h k) = omega (arith, source_joins h, term_joins k)
-  source_joins (next h k) = omega (arith, source_joins h, term_joins k)
-  source_joins (next_where h p k) = omega (arith, source_joins h, pred_shorter p, term_joins k)
-  source_joins (fold h p q s k) = omega (arith, source_joins h, pred_shorter p, pred_shorter q, aggs_shorter s, term_joins k)
+  source_nodes : {ts rest : List Symbol} {e : Source} → IsSource ts e rest → nodes_in e + length rest ≤ length ts
+  source_nodes (term h) = term_nodes h
+  source_nodes (union h k) = omega (arith, source_nodes h, term_nodes k)
+  source_nodes (next h k) = omega (arith, source_nodes h, term_nodes k)
+  source_nodes (next_where h p k) = omega (arith, source_nodes h, pred_shorter p, term_nodes k)
+  source_nodes (fold h p q s k) = omega (arith, source_nodes h, pred_shorter p, pred_shorter q, aggs_shorter s, term_nodes k)
 
-  term_joins : {ts rest : List Symbol} {e : Source} → IsTerm ts e rest → joins e + length rest ≤ length ts
-  term_joins of = omega arith
-  term_joins (group h) = omega (arith, source_joins h)
-  term_joins (select i h) = omega (arith, items_shorter i, source_joins h)
-  term_joins (filter p h) = omega (arith, pred_shorter p, term_joins h)
+  term_nodes : {ts rest : List Symbol} {e : Source} → IsTerm ts e rest → nodes_in e + length rest ≤ length ts
+  term_nodes of = omega arith
+  term_nodes (group h) = omega (arith, source_nodes h)
+  term_nodes (select i h) = omega (arith, items_shorter i, source_nodes h)
+  term_nodes (filter p h) = omega (arith, pred_shorter p, term_nodes h)
 
--- a right side takes at most one number
-source_most : (e : Ex) (right : Parts) → (source_of e right).next ≤ right.next + 1
-source_most (Read stream) right = omega arith
-source_most e right = omega arith
-
-gives_few : {streams : List Entry} {e : Source} {schema : List Attr} {x : Ex} → Gives streams e schema x → (first : ℕ) → (parts_of x first).next ≤ first + joins e
-gives_few (source.name a b) first = omega arith
-gives_few (source.filter g m) first = gives_few g first
-gives_few (source.select g m le) first = gives_few g first
-gives_few (source.union {x = x} g h d) first = omega (arith, gives_few g first, gives_few h (parts_of x first).next)
-gives_few (source.next {x = x} {y = y} g h le m) first = omega (arith, gives_few g first, gives_few h (parts_of x first).next, source_most y (parts_of y (parts_of x first).next))
-gives_few (source.fold {x = x} {y = y} g h m n a) first = omega (arith, gives_few g first, gives_few h (parts_of x first).next, source_most y (parts_of y (parts_of x first).next))
+-- its expression has as many
+gives_nodes : {streams : List Entry} {e : Source} {schema : List Attr} {x : Ex} → Gives streams e schema x → nodes x ≡ nodes_in e
+gives_nodes (source.name a b) = refl
+gives_nodes (source.filter g m) = gives_nodes g
+gives_nodes (source.select g m le) = gives_nodes g
+gives_nodes (source.union g h d) = omega (arith, gives_nodes g, gives_nodes h)
+gives_nodes (source.next g h le m) = omega (arith, gives_nodes g, gives_nodes h)
+gives_nodes (source.fold g h m n a) = omega (arith, gives_nodes g, gives_nodes h)
 
 -- the statement has at most 1,024 of them
 abbrev pub HasFew : Statement → Type 0
 HasFew (tree.Stream name columns) = ⊤
-HasFew (tree.Query items e name) = joins e ≤ 1024
+HasFew (tree.Query items e name) = nodes_in e ≤ 1024
 
 statement_few : {ts : List Symbol} {s : Statement} → IsStatement ts s [] → length ts ≤ 1024 → HasFew s
 statement_few (declaration h) few = tt
-statement_few (query i h) few = omega (arith, items_shorter i, source_joins h)
+statement_few (query i h) few = omega (arith, items_shorter i, source_nodes h)
 
 pub say_few : {said : List Sentence} {ss : List Statement} {lines : List ℕ} → Say said ss lines → All HasFew ss
 say_few none = All-nil HasFew
 say_few (more {s = s} {ss = ss} says rest) = All-cons HasFew s ss (statement_few says.read says.small.few) (say_few rest)
 
-query_few : (streams : List Entry) (s : Statement) (schema : List Attr) (x : Ex) → HasFew s → Queries streams s schema x → TakesFew x
-query_few streams (tree.Stream name columns) schema x few q = absurd q
-query_few streams (tree.Query items e name) schema x few q = λ first. let taken = gives_few q first in omega (arith, taken, few)
+query_short : (streams : List Entry) (s : Statement) (schema : List Attr) (x : Ex) → HasFew s → Queries streams s schema x → IsShort x
+query_short streams (tree.Stream name columns) schema x few q = absurd q
+query_short streams (tree.Query items e name) schema x few q = omega (arith, gives_nodes q, few)
 
--- each query takes few numbers
-pub published_few : {queries : List Statement} {streams all : List Entry} {order : List ℕ} {done : List Query} → All HasFew queries → Publish queries streams order all done → All (λ query. TakesFew query.expr) done
-published_few few typing.none = All-nil (λ (q : Query). TakesFew q.expr)
-published_few {queries = queries} few (typing.next {streams = streams} {number = number} {s = s} {more = done} schema x there typed rest) =
-    All-cons (λ (q : Query). TakesFew q.expr) _ done (query_few streams s schema x (at queries number s few there) typed) (published_few few rest)
+-- each query is short
+pub published_short : {queries : List Statement} {streams all : List Entry} {order : List ℕ} {done : List Query} → All HasFew queries → Publish queries streams order all done → All (λ query. IsShort query.expr) done
+published_short few typing.none = All-nil (λ (q : Query). IsShort q.expr)
+published_short {queries = queries} few (typing.next {streams = streams} {number = number} {s = s} {more = done} schema x there typed rest) =
+    All-cons (λ (q : Query). IsShort q.expr) _ done (query_short streams s schema x (at queries number s few there) typed) (published_short few rest)
   where
     at : (xs : List Statement) (place : ℕ) (s : Statement) → All HasFew xs → slice_get xs place ≡ Some s → HasFew s
     at xs place s all e = subst HasFew (get_or_from_slice_get xs place s s e) (All-get_or HasFew xs place s (slice_get_within xs place s e) all)

@@ -1,5 +1,5 @@
 //! Catalogues: query texts that are accepted.
-ghost use Rattle.std.specs.Prelude.{◌≡◌, ◌≢◌, ◌<◌, ◌==◌, ◌++◌, ◌∷◌, [], AllPairs, IfOk, OnOk, length};
+ghost use Rattle.std.specs.Prelude.{◌≡◌, ◌≢◌, ◌<◌, ◌+◌, ◌^◌, ◌==◌, ◌++◌, ◌∷◌, [], AllPairs, IfOk, OnOk, length, sum_by};
 ghost use Rattle.std.specs.List.{All, position_or_len};
 ghost use Rattle.algebra.specs.Views.{ex_of};
 ghost use Rattle.chains.specs.Chains.{lines_of};
@@ -133,7 +133,8 @@ impl Catalogue {
 
     /// The automaton lines of the queries, those of a stream before those that read it.
     pub fn lines(&self) -> &Lines
-        ensures { result.now ≡ lines_of (program_of (judged_of self.now)) }
+        ensures value { result.now ≡ lines_of (program_of (judged_of self.now)) }
+        ensures few { sum_by (λ line. 1 + length line.hops) result.now < 2 ^ 64 }
     {
         &self.chains.lines
     }

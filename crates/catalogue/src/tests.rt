@@ -117,3 +117,34 @@ fn right_side_of_a_sequence_has_a_line_and_a_hidden_stream_of_its_own(
     }
     Ok(())
 }
+
+#[test]
+fn published_stream_begins_lines_of_its_readers_and_is_waited_on(
+    rt: HostRuntime,
+) -> Result<(), Fail> {
+    let text = "STREAM A (x INT); STREAM B (y INT); SELECT * FROM P NEXT (B NEXT P) PUBLISH Q; \
+        SELECT * FROM FILTER {x > 1} A PUBLISH P;";
+    match load(rt.alloc(), text.as_bytes()) {
+        Ok(catalogue) => {
+            let lines = catalogue.lines();
+            assert!(rt; lines.len() == 3);
+            let (read, inner, outer) = (lines.get(0), lines.get(1), lines.get(2));
+            assert_eq!(rt; (read.root, read.hops.len(), read.last.len()), (0, 0, 1));
+            assert_eq!(rt; (inner.root, inner.hops.len(), inner.last.len()), (1, 1, 0));
+            assert_eq!(rt; (outer.root, outer.hops.len(), outer.last.len()), (2, 1, 0));
+            assert_eq!(rt; (read.out, inner.out, outer.out), (2, 4, 3));
+            for hop in inner.hops.as_slice() {
+                assert_eq!(rt; hop.wait.stream, 2);
+            }
+            for hop in outer.hops.as_slice() {
+                assert_eq!(rt; hop.wait.stream, 4);
+            }
+            let layout = catalogue.layout();
+            assert_eq!(rt; layout.order.as_slice(), [2, 4, 3].as_slice());
+            assert_eq!(rt; layout.outs.as_slice(), [3, 2].as_slice());
+            assert_eq!(rt; layout.kinds.len(), 5);
+        }
+        Err(_) => panic!(rt; "refused"),
+    }
+    Ok(())
+}

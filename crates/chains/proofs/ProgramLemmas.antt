@@ -3,6 +3,8 @@ use Rattle.std.proofs.Common.{◌≡◌, ◌∙◌, sym, ap, refl, subst, ℕ, �
 use Rattle.std.specs.List.{All}
 use Rattle.std.proofs.lemmas.List.{length-map}
 use Rattle.std.proofs.lemmas.List.Elements.{All-nil, All-cons, All-head, All-tail}
+use Rattle.std.proofs.lemmas.List.Sums.{sum_by-append}
+use Rattle.std.proofs.lemmas.Nat.{mul-le}
 use Rattle.event_types.specs.declared.kind.Kind.{Kind}
 use Rattle.semantics.specs.Expressions.{Ex}
 use Rattle.semantics.specs.Programs.{Program, Query}
@@ -13,6 +15,7 @@ use Rattle.automaton.specs.declared.line.Line.{Line}
 use Rattle.automaton.specs.Layouts.{LayoutFits}
 use Rattle.splitter.specs.Laws.{split_order}
 use Rattle.splitter.specs.Splitting.{parts_of, split_lines}
+use Rattle.splitter.proofs.FewLemmas.{nodes, numbers_few, size, split_few}
 use Rattle.chains.specs.Chains.{chain_end, chain_lines, chain_order, end_of, first_hidden, lines_of, outs_of}
 use Rattle.chains.specs.declared.chains.Chains.{Chains}
 use Rattle.chains.specs.Layouts.{IsLayoutOf}
@@ -81,12 +84,23 @@ module _ (kinds : List (List Kind)) (program : Program) (expressions : List Expr
       fits = subst (λ (lines : List Line). LayoutFits lines chains.layout) lines_made made.fits;
     }
 
--- where each query takes at most 1,024 numbers for hidden streams
-abbrev pub TakesFew : Ex → Type 0
-TakesFew e = (next : ℕ) → (parts_of e next).next ≤ next + 1024
+-- the expression has at most 1,024 nodes
+abbrev pub IsShort : Ex → Type 0
+IsShort e = nodes e ≤ 1024
 
-pub few_taken : (order : List Query) → All (λ query. TakesFew query.expr) order → (next : ℕ) → chain_end order next ≤ next + 1024 * length order
+-- queries of short expressions take few numbers for hidden streams
+pub few_taken : (order : List Query) → All (λ query. IsShort query.expr) order → (next : ℕ) → chain_end order next ≤ next + 1024 * length order
 few_taken [] all next = omega arith
 few_taken (query ∷ order) all next =
-    let here = All-head (λ (q : Query). TakesFew q.expr) query order all next in
-    let rest = few_taken order (All-tail (λ (q : Query). TakesFew q.expr) query order all) (parts_of query.expr next).next in omega (arith, here, rest)
+    let short : nodes query.expr ≤ 1024 = All-head (λ (q : Query). IsShort q.expr) query order all in
+    let rest = few_taken order (All-tail (λ (q : Query). IsShort q.expr) query order all) (parts_of query.expr next).next in omega (arith, short, numbers_few query.expr next, rest)
+
+-- and have few lines
+pub few_lines : (order : List Query) → All (λ query. IsShort query.expr) order → (next : ℕ) → size (chain_lines order next) ≤ 1048576 * length order
+few_lines [] all next = omega arith
+few_lines (query ∷ order) all next =
+    let short : nodes query.expr ≤ 1024 = All-head (λ (q : Query). IsShort q.expr) query order all in
+    let square = mul-le (nodes query.expr) (nodes query.expr) 1024 1024 short short in
+    let later = (parts_of query.expr next).next in
+    let rest = few_lines order (All-tail (λ (q : Query). IsShort q.expr) query order all) later in
+    let both = sum_by-append (λ (line : Line). 1 + length line.hops) (split_lines query.expr query.stream next) (chain_lines order later) in omega (arith, square, split_few query.expr query.stream next, both, rest)

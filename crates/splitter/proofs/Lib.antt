@@ -1,4 +1,5 @@
 pub mod EachLemmas
+pub mod FewLemmas
 pub mod LawLemmas
 pub mod ListLemmas
 pub mod MeaningLemmas
