@@ -113,14 +113,21 @@ module _ {S : Type 0} (table more : HashMap ℕ ℕ S) (old base : Net) (stream 
         λ has. told_other q apart ∙ (is q n).1 (sym (other_root n ne) ∙ has),
       )
 
+-- no states are merged
+pub none_merged : IsMerged []
+none_merged = record {
+  apart = λ number other prefix here there. absurd (none number prefix here);
+  needed = λ number prefix here. absurd (none number prefix here);
+}
+  where
+    none : (number : ℕ) (prefix : Prefix) → IsAt [] number prefix → ⊥
+    none number prefix here = let no : false ≡ true = at_used [] number prefix here in cc
+
 -- at first there are no states
 pub nothing_kept : {S : Type 0} (table : HashMap ℕ ℕ S) → ((q : ℕ) → get nat_eq table q ≡ None) → Keeps table 0 []
 nothing_kept table empty = record {
   network = whole_none.network;
-  merged = record {
-    apart = λ number other prefix here there. absurd (none number prefix here);
-    needed = λ number prefix here. absurd (none number prefix here);
-  };
+  merged = none_merged;
   numbers = record { one = λ number state. omega arith; apart = λ number state other here there. absurd (omega (arith, here)) };
   roots = λ stream number. (
     (λ has. let no : None ≡ Some number = sym (empty stream) ∙ has in cc),
@@ -128,6 +135,3 @@ nothing_kept table empty = record {
   );
   below = λ number lt. absurd (omega (arith, lt));
 }
-  where
-    none : (number : ℕ) (prefix : Prefix) → IsAt [] number prefix → ⊥
-    none number prefix here = let no : false ≡ true = at_used [] number prefix here in cc

@@ -1,5 +1,6 @@
 pub mod AnyLemmas
 pub mod ContainLemmas
+pub mod CountLemmas
 pub mod EndingLemmas
 pub mod GrowthLemmas
 pub mod InsertionLemmas
@@ -7,5 +8,6 @@ pub mod LawLemmas
 pub mod PrefixLemmas
 pub mod PruningLemmas
 pub mod RemovalLemmas
+pub mod RootLemmas
 pub mod StartLemmas
 pub mod UndoneLemmas

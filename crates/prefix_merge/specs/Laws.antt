@@ -1,10 +1,11 @@
 -- Laws over merged networks.
-use Rattle.std.specs.Prelude.{◌≡◌, ◌≢◌, ◌↔◌, List, [], ◌∷◌, ◌++◌, AllPairs, Contains, count_by, is_some, length, map}
+use Rattle.std.specs.Prelude.{◌≡◌, ◌↔◌, List, [], ◌∷◌, ◌++◌, Contains, count_by, is_some, length, map}
 use Rattle.automaton.specs.declared.line.Line.{Line}
 use Rattle.automaton.specs.NetworkLines.{Ending, HasEndings, HasLines}
 use Rattle.automaton.specs.Plain.{numbered}
 use Rattle.automaton.specs.Prefixes.{Prefix, prefixes}
-use Rattle.automaton.specs.States.{Net}
+use Rattle.automaton.specs.States.{Net, root_in}
+use Rattle.prefix_merge.specs.Counts.{ListPrefixes, is_root}
 use Rattle.prefix_merge.specs.Insertion.{Inserts}
 use Rattle.prefix_merge.specs.Merging.{HasPrefix, IsMerged}
 
@@ -14,12 +15,20 @@ StatesArePrefixes =
     (net : Net) (endings : List Ending) → IsMerged net → HasEndings net endings
     → (prefix : Prefix) → HasPrefix net prefix ↔ Contains (prefixes (map (λ ending. ending.line) endings)) prefix
 
--- a merged network has as many states as its lines have distinct prefixes, roots included
+-- a merged network has as many states as its lines have distinct prefixes
 abbrev pub StatesAreCounted : Type 0
-StatesAreCounted =
-    (net : Net) (endings : List Ending) (distinct : List Prefix) → IsMerged net → HasEndings net endings → AllPairs (λ prefix other. prefix ≢ other) distinct
-    → ((prefix : Prefix) → Contains distinct prefix ↔ Contains (prefixes (map (λ ending. ending.line) endings)) prefix)
-    → count_by is_some net ≡ length distinct
+StatesAreCounted = (net : Net) (lines : List Line) (distinct : List Prefix) → IsMerged net → HasLines net lines → ListPrefixes lines distinct → count_by is_some net ≡ length distinct
+
+-- a list of the lines' distinct prefixes: it has as many prefixes as the network has states, and as many roots as the network has root states
+pub record ListsStates (net : Net) (lines : List Line) : Type 0 where
+  pub distinct : List Prefix
+  pub are : ListPrefixes lines distinct
+  pub states : count_by is_some net ≡ length distinct
+  pub roots : count_by (λ slot. is_some (root_in slot)) net ≡ count_by is_root distinct
+
+-- each merged network that has the lines has such a list
+abbrev pub StatesAreListed : Type 0
+StatesAreListed = (net : Net) (lines : List Line) → IsMerged net → HasLines net lines → ListsStates net lines
 
 -- a merged network has the lines of its endings, and no others
 abbrev pub LinesAreItsOwn : Type 0

@@ -1,5 +1,5 @@
 //! Laws over merged networks.
-ghost use Rattle.prefix_merge.specs.Laws.{LinesAreItsOwn, LinesComeInTurn, StatesAreCounted, StatesArePrefixes};
+ghost use Rattle.prefix_merge.specs.Laws.{LinesAreItsOwn, LinesComeInTurn, StatesAreCounted, StatesAreListed, StatesArePrefixes};
 
 /// The states of a merged network are exactly the prefixes that its ends use.
 pub fn states_are_prefixes()
@@ -9,6 +9,12 @@ pub fn states_are_prefixes()
 /// A merged network has as many states as its lines have distinct prefixes, roots included.
 pub fn states_are_counted()
     ensures { StatesAreCounted }
+{}
+
+/// The distinct prefixes of a merged network's lines are as many as its states, and the roots among them
+/// as many as its root states.
+pub fn states_are_listed()
+    ensures { StatesAreListed }
 {}
 
 /// A merged network has the lines of its ends, so a layout that fits them fits it.

@@ -9,7 +9,10 @@ mod laws;
 mod merged;
 mod pruning;
 
-pub use laws::{lines_are_its_own, lines_come_in_turn, states_are_counted, states_are_prefixes};
+pub use laws::{
+    lines_are_its_own, lines_come_in_turn, states_are_counted, states_are_listed,
+    states_are_prefixes,
+};
 pub use merged::Merged;
 
 #[cfg(test)]

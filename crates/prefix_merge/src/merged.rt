@@ -1,5 +1,7 @@
 //! Networks that lines come to and leave.
-ghost use Rattle.std.specs.Prelude.{◌≡◌, ℕ, [], OnErr, OnOk, Some};
+ghost use Rattle.std.specs.Prelude.{◌≡◌, ◌<◌, ◌↔◌, ℕ, [], IfOk, OnErr, OnOk, Some, length};
+ghost use Rattle.automaton.specs.NetworkLines.{HasEndings, HasLines};
+ghost use Rattle.automaton.specs.Plain.{numbered};
 ghost use Rattle.automaton.specs.States.{root_at};
 ghost use Rattle.prefix_merge.specs.Insertion.{Inserts};
 ghost use Rattle.prefix_merge.specs.Merging.{HasEnd, IsMerged};
@@ -7,7 +9,7 @@ ghost use Rattle.prefix_merge.specs.Removal.{Removes};
 
 use crate::growth::{free_number, grow, plant, reach};
 use crate::pruning::{Roots, holder, prune};
-use automaton::{Line, Network};
+use automaton::{Line, Lines, Network};
 use event_types::Memory;
 use std::alloc::Global;
 use std::collections::HashMap;
@@ -52,6 +54,20 @@ impl Merged {
             roots: HashMap::new(alloc),
             lowest: 0,
         }
+    }
+
+    /// The merged network of lines. The number of a line's end is the line's place, counted from 0.
+    pub fn of(alloc: Global, lines: &Lines) -> Result<Merged, Memory>
+        ensures endings { IfOk result (λ merged. HasEndings merged (numbered 0 lines.now)) }
+        ensures ends { IfOk result (λ merged. (end : ℕ) → HasEnd merged end ↔ (end < length lines.now)) }
+        ensures lines { IfOk result (λ merged. HasLines merged lines.now) }
+        ensures merged { IfOk result IsMerged }
+    {
+        let mut merged = Merged::new(alloc);
+        for place in 0..lines.len() {
+            merged.insert(alloc, lines.get(place), place)?;
+        }
+        Ok(merged)
     }
 
     /// The network. Takes no memory.

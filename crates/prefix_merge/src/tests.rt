@@ -1,6 +1,5 @@
 //! Which prefixes are one, and which numbers states have.
-ghost use Rattle.std.specs.Prelude.{◌≡◌, ◌<◌, ◌↔◌, ℕ, IfOk, length};
-ghost use Rattle.prefix_merge.specs.Merging.{HasEnd};
+ghost use Rattle.std.specs.Prelude.{◌≡◌, IfOk, length};
 
 use crate::Merged;
 use automaton::{Hop, Hops, Line, Lines, Stage, Turn, Wait};
@@ -82,22 +81,11 @@ fn two(alloc: Global, first: Line, second: Line) -> Result<Lines, Memory>
     Ok(lines)
 }
 
-// The merged network of the lines, whose ends have the numbers of their places.
-fn merged(alloc: Global, lines: &Lines) -> Result<Merged, Memory>
-    ensures { IfOk result (λ merged. (end : ℕ) → HasEnd merged end ↔ (end < length lines.now)) }
-{
-    let mut merged = Merged::new(alloc);
-    for end in 0..lines.len() {
-        merged.insert(alloc, lines.get(end), end)?;
-    }
-    Ok(merged)
-}
-
 // How many states two lines from the stream 0 have with one hop each.
 fn states(alloc: Global, first: Hop, second: Hop) -> Result<usize, Memory> {
     let first = line(alloc, 0, only(alloc, first)?);
     let second = line(alloc, 0, only(alloc, second)?);
-    let merged = merged(alloc, &two(alloc, first, second)?)?;
+    let merged = Merged::of(alloc, &two(alloc, first, second)?)?;
     Ok(merged.network().states())
 }
 
@@ -118,6 +106,16 @@ fn conditions_in_another_order_are_one_state(rt: HostRuntime) -> Result<(), Fail
     let alloc = rt.alloc();
     let first = both(alloc, above(0), above(1))?;
     let second = both(alloc, above(1), above(0))?;
+    let states = states(alloc, hop(alloc, first, None)?, hop(alloc, second, None)?)?;
+    assert_eq!(rt; states, 2);
+    Ok(())
+}
+
+#[test]
+fn less_and_the_greater_turned_round_are_one_state(rt: HostRuntime) -> Result<(), Fail> {
+    let alloc = rt.alloc();
+    let first = Pred::Test(Scalar::Event(0), Cmp::Lt, Scalar::Event(1));
+    let second = Pred::Test(Scalar::Event(1), Cmp::Gt, Scalar::Event(0));
     let states = states(alloc, hop(alloc, first, None)?, hop(alloc, second, None)?)?;
     assert_eq!(rt; states, 2);
     Ok(())
@@ -159,7 +157,7 @@ fn lines_that_differ_in_the_last_step_share_all_states(rt: HostRuntime) -> Resul
             .push(Stage::Make(Map { width: 2, parts }))
             .is_ok()
     );
-    let merged = merged(alloc, &two(alloc, first, second)?)?;
+    let merged = Merged::of(alloc, &two(alloc, first, second)?)?;
     let network = merged.network();
     assert_eq!(rt; network.states(), 2);
     assert!(rt; 1 < network.places() && network.used(1));
@@ -183,7 +181,7 @@ fn removed_line_takes_away_the_states_that_it_alone_uses(rt: HostRuntime) -> Res
     let longer = line(alloc, 0, hops);
     let shorter = line(alloc, 0, only(alloc, hop(alloc, above(0), None)?)?);
     let lines = two(alloc, longer, shorter)?;
-    let mut merged = merged(alloc, &lines)?;
+    let mut merged = Merged::of(alloc, &lines)?;
     assert_eq!(rt; merged.network().states(), 3);
     merged.remove(0);
     let network = merged.network();
@@ -201,7 +199,7 @@ fn freed_number_is_taken_again(rt: HostRuntime) -> Result<(), Fail> {
         line(alloc, 5, List::new(alloc)),
         line(alloc, 6, List::new(alloc)),
     )?;
-    let mut merged = merged(alloc, &lines)?;
+    let mut merged = Merged::of(alloc, &lines)?;
     merged.remove(0);
     merged.insert(alloc, &line(alloc, 7, List::new(alloc)), 0)?;
     let network = merged.network();

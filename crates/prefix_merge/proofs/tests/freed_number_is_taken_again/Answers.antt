@@ -3,7 +3,7 @@ use Rattle.prefix_merge.proofs.tests.freed_number_is_taken_again.Goals as goal
 
 -- an end has the number 0
 pub remove-requires : goal.remove-requires
-remove-requires g c = (c.in_ok-merged.ensures 0).1 (omega (arith, c.in_ok-lines.ensures))
+remove-requires g c = (c.in_ok-merged.ensures.ends 0).1 (omega (arith, c.in_ok-lines.ensures))
 
 -- and then none
 pub insert-requires : goal.insert-requires

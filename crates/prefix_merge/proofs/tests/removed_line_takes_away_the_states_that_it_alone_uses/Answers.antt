@@ -3,4 +3,4 @@ use Rattle.prefix_merge.proofs.tests.removed_line_takes_away_the_states_that_it_
 
 -- an end has the number 0
 pub remove-requires : goal.remove-requires
-remove-requires g c = (c.in_ok-merged.ensures 0).1 (omega (arith, c.in_ok-lines.ensures))
+remove-requires g c = (c.in_ok-merged.ensures.ends 0).1 (omega (arith, c.in_ok-lines.ensures))
