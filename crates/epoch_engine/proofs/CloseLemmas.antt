@@ -1,6 +1,6 @@
 -- What stays typed while an epoch is closed, and what the closing promises.
 use Rattle.std.proofs.Common.{◌≡◌, ◌∙◌, sym, ap, refl, subst, inl, inr, ℕ, zero, suc, ◌+◌, ◌==◌, ◌<◌, ◌⊎◌, true, false, cond, length, get_or, set, take, drop, List, [], ◌∷◌, ◌++◌, map, add-one, arith}
-use Rattle.std.specs.Prelude.{Option, Some, None, Contains, slice_get}
+use Rattle.std.specs.Prelude.{Option, Some, None, slice_get}
 use Rattle.std.specs.Option.{option_and_then}
 use Rattle.std.specs.List.{All}
 use Rattle.std.specs.List.Sorted.{IsPermutation}
@@ -19,7 +19,6 @@ use Rattle.instances.specs.declared.instance.Instance.{Instance}
 use Rattle.semantics.specs.Denotation.{streams_of}
 use Rattle.semantics.specs.Kinds.{HasKinds}
 use Rattle.semantics.specs.Programs.{with_stream}
-use Rattle.scalar_expr.proofs.Bags.{permuted_to}
 use Rattle.automaton.specs.Flow.{entering}
 use Rattle.automaton.specs.LineKinds.{TurnGives, WaitGives}
 use Rattle.automaton.specs.Networks.{IsNetwork}
@@ -37,15 +36,13 @@ use Rattle.epoch_laws.proofs.Grows.{epoch_grows, epoch_starts}
 use Rattle.epoch_pass.proofs.TypingLemmas.{passed_kinds, took_kinds}
 use Rattle.epoch_engine.specs.Closes.{ArePurgedWhole}
 use Rattle.epoch_engine.specs.Deriving.{IsDerived, StreamDerived}
-use Rattle.epoch_engine.specs.Flows.{AreLeft, IsLeft}
+use Rattle.epoch_engine.specs.Flows.{AreLeft}
 use Rattle.epoch_engine.specs.Settling.{AreSettled}
-use Rattle.epoch_engine.specs.Tables.{ListsWaits}
 use Rattle.epoch_engine.specs.Typed.{AreTyped, held, instances_in}
 use Rattle.epoch_engine.proofs.DeriveLemmas.{state_flows}
-use Rattle.epoch_engine.proofs.LeftLemmas.{AgainLeft, wait_below}
 use Rattle.epoch_engine.proofs.Lists.{same_or_other}
 use Rattle.epoch_engine.proofs.SettleLemmas.{before_state}
-use Rattle.epoch_engine.proofs.StateLemmas.{at_wait, hop_typed, wait_entry, wait_leaves, wait_typed}
+use Rattle.epoch_engine.proofs.StateLemmas.{at_wait, hop_typed, wait_entry, wait_typed}
 
 -- the streams with one list written anew
 pub written : (lists : List (List Row)) (s : ℕ) (tuples : List Row) → s < length lists → streams_of (set lists s tuples) ≡ with_stream (streams_of lists) s tuples
@@ -80,19 +77,6 @@ module _ (net : Net) (kinds : List (List Kind)) (stores : List (Option Plain)) (
       go t known is (inl same) =
           subst (All (HasKinds known)) (sym (get_or-set_at opened s t tuples [] same there)) (of_kinds known (ap (slice_get kinds) (sym same) ∙ is))
       go t known is (inr other) = subst (All (HasKinds known)) (sym (get_or-set_other opened s t tuples [] other)) (typed.of_kinds t known is)
-
-  -- what leaves the states, once it was found anew for those that wait on the stream
-  pub left_again : (s : ℕ) (tuples : List Row) (lists : List (List ℕ)) (numbers : List ℕ) (old gone : List (List Row)) → s < length kinds → ListsWaits net (length kinds) (length net) lists → numbers ≡ get_or lists s []
-      → AreLeft net (streams_of opened) (held stores) old → AgainLeft net (streams_of (set opened s tuples)) (held stores) numbers old gone → AreLeft net (streams_of (set opened s tuples)) (held stores) gone
-  left_again s tuples lists numbers old gone lt waits is was again' k w at = again' k w at (go (same_or_other w.stream s))
-    where
-      go : (w.stream ≡ s) ⊎ (w.stream ≡ s → ⊥) → Contains numbers k ⊎ IsLeft net (streams_of (set opened s tuples)) (held stores) old k
-      go (inl same) =
-          inl (subst (λ (ns : List ℕ). Contains ns k) (ap (λ m. get_or lists m []) same ∙ sym is) (waits.has k w (wait_below net k w at) at))
-      go (inr other) =
-          inr (permuted_to (was k w at)
-          (wait_leaves net (streams_of opened) (held stores) k w at ∙ ap (λ rows. took w.choose w.fold rows (held stores k)) (sym (get_or-set_other opened s w.stream tuples [] other))
-          ∙ sym (wait_leaves net (streams_of (set opened s tuples)) (held stores) k w at)))
 
   module _ (gone : List (List Row)) (as_many : length gone ≡ length net) (left_is : AreLeft net (streams_of opened) (held stores) gone) (network : IsNetwork net) where
     again_kinds : (w : Wait) (bs es out : List Kind) (fold : Option Turn) → w.fold ≡ fold → WaitGives w bs es out → (rows : List Row) → All (HasKinds out) rows → All (HasKinds bs) (again fold rows)

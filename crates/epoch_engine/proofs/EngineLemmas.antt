@@ -1,7 +1,6 @@
 -- Engines that are made, take a tuple and close an epoch.
 use Rattle.std.proofs.Common.{◌≡◌, ◌∙◌, sym, ap, refl, subst, ℕ, ◌==◌, ◌<◌, Bool, true, false, ◌||◌, length, get_or, set, List, [], ◌∷◌, ◌++◌, map, arith}
 use Rattle.std.specs.Prelude.{IsTrue, Option, Some, None, slice_get}
-use Rattle.std.specs.Option.{option_map, unwrap_or}
 use Rattle.std.specs.List.{All, list_any}
 use Rattle.std.proofs.lemmas.Bool.Decides.{nat_tests}
 use Rattle.std.proofs.lemmas.List.{set-get_or}
@@ -15,24 +14,22 @@ use Rattle.semantics.specs.Denotation.{streams_of}
 use Rattle.semantics.specs.Kinds.{HasKinds}
 use Rattle.automaton.specs.LineKinds.{LineFits}
 use Rattle.automaton.specs.NetworkLines.{NetworkFits}
-use Rattle.automaton.specs.States.{Net, ends_at, state_at, wait_at}
+use Rattle.automaton.specs.States.{Net, wait_at}
 use Rattle.automaton.specs.Work.{is_in}
 use Rattle.automaton.specs.declared.layout.Layout.{Layout}
 use Rattle.automaton.specs.declared.line.Line.{Line}
-use Rattle.automaton.specs.declared.network.End.{End}
-use Rattle.automaton.specs.declared.network.State.{State}
 use Rattle.automaton.specs.declared.wait.Wait.{Wait}
 use Rattle.epoch_laws.specs.Closing.{Stores}
 use Rattle.epoch_engine.specs.Closes.{Closes, IsTaken}
-use Rattle.epoch_engine.specs.Kindings.{AreStatesTyped, EndFits}
+use Rattle.epoch_engine.specs.Kindings.{AreStatesTyped}
 use Rattle.epoch_engine.specs.Running.{IsRunning}
 use Rattle.epoch_engine.specs.Settling.{new_store}
-use Rattle.epoch_engine.specs.Tables.{AreTables, StreamsBelow}
+use Rattle.epoch_engine.specs.Tables.{AreTables}
 use Rattle.epoch_engine.specs.Typed.{held, instances_in}
 use Rattle.epoch_engine.specs.Views.{View, stores_in}
 use Rattle.epoch_engine.specs.declared.tables.Tables.{Tables}
 use Rattle.epoch_engine.proofs.CloseLemmas.{held_in, put_typed}
-use Rattle.epoch_engine.proofs.StateLemmas.{some_is, wait_typed}
+use Rattle.epoch_engine.proofs.StateLemmas.{some_is}
 
 -- a list that was lent and came back as it was
 pub lent_back : {X : Type 0} (lists : List (List X)) (s : ℕ) (old new : List X) → slice_get lists s ≡ Some old → new ≡ old → set lists s new ≡ lists
@@ -55,19 +52,6 @@ offered_running net layout tables stores opened running s known t is of_kinds ol
         let same = some_is known k (sym is ∙ e) in
         let before = subst (All (HasKinds k)) (get_or_from_slice_get opened s old [] got) (running.typed.of_kinds s k e) in
         subst (All (HasKinds k)) (sym put) (All-push (HasKinds k) old t before (subst (λ (ks : List Kind). HasKinds ks t) same of_kinds))
-
--- the streams of a typed network are below their number
-pub streams_below : (kinds : List (List Kind)) (net : Net) → AreStatesTyped kinds net → StreamsBelow net (length kinds)
-streams_below kinds net typed = record {
-  waits = λ n w at. let one = wait_typed kinds net typed.0 typed.1 n w at in slice_get_within kinds w.stream one.event one.known;
-  ends = λ n. go n (state_at net n) refl;
-}
-  where
-    go : (n : ℕ) (o : Option State) → state_at net n ≡ o → All (λ (e : End). e.out < length kinds) (ends_at net n)
-    go n None found = subst (All (λ (e : End). e.out < length kinds)) (sym (ap (λ (o : Option State). unwrap_or (option_map (λ (s : State). s.ends) o) []) found)) (All-nil (λ (e : End). e.out < length kinds))
-    go n (Some state) found =
-        subst (All (λ (e : End). e.out < length kinds)) (sym (ap (λ (o : Option State). unwrap_or (option_map (λ (s : State). s.ends) o) []) found))
-        (All-weaker (EndFits kinds (typed.0.leaving n)) (λ (e : End). e.out < length kinds) (λ e fit. slice_get_within kinds e.out fit.0 fit.2) state.ends (typed.1 n state found).1)
 
 same_number : (m n : ℕ) → (m == n) ≡ true → m ≡ n
 same_number m n e = grind (arith, nat_tests)
@@ -96,8 +80,16 @@ no_instances : (o : Option Wait) → instances_in (new_store o) ≡ []
 no_instances None = refl
 no_instances (Some w) = refl
 
+-- the derived streams and those that are printed have kinds
+pub order_below : (net : Net) (layout : Layout) → NetworkFits net layout → All (λ s. s < length layout.kinds) layout.order
+order_below net layout fits = All-weaker (λ s. IsTrue (list_any (λ (l : Line). l.out == s) fits.0)) (λ s. s < length layout.kinds) (λ s h. out_below layout.kinds fits.0 fits.2.typed s h) layout.order fits.2.only_outs
+
+pub outs_below : (net : Net) (layout : Layout) → NetworkFits net layout → All (λ s. s < length layout.kinds) layout.outs
+outs_below net layout fits =
+    All-weaker (λ s. IsTrue (is_in layout.order s)) (λ s. s < length layout.kinds) (λ s h. member_below (length layout.kinds) layout.order (order_below net layout fits) s h) layout.outs fits.2.printed
+
 -- the parts of a new engine
-pub made_running : (net : Net) (layout : Layout) (tables : Tables) (stores : List (Option Plain)) (opened : List (List Row)) → NetworkFits net layout → AreStatesTyped layout.kinds net → AreTables net (length layout.kinds) tables
+pub made_running : (net : Net) (layout : Layout) (tables : Tables) (stores : List (Option Plain)) (opened : List (List Row)) → NetworkFits net layout → AreStatesTyped layout.kinds net → AreTables net layout tables
     → (length stores ≡ length net) × ((n : ℕ) → get_or stores n None ≡ new_store (wait_at net n)) → (length opened ≡ length layout.kinds) × ((s : ℕ) → get_or opened s [] ≡ []) → IsRunning net layout tables stores opened
 made_running net layout tables stores opened fits typed tables_are has empty = record {
   lines = fits.0;
@@ -111,12 +103,9 @@ made_running net layout tables stores opened fits typed tables_are has empty = r
     of_kinds = λ s known is. subst (All (HasKinds known)) (sym (empty.1 s)) (All-nil (HasKinds known));
   };
   tables_are = tables_are;
-  order = below;
-  outs = All-weaker (λ s. IsTrue (is_in layout.order s)) (λ s. s < length layout.kinds) (λ s h. member_below (length layout.kinds) layout.order below s h) layout.outs fits.2.printed;
+  order = order_below net layout fits;
+  outs = outs_below net layout fits;
 }
-  where
-    below : All (λ s. s < length layout.kinds) layout.order
-    below = All-weaker (λ s. IsTrue (list_any (λ (l : Line). l.out == s) fits.0)) (λ s. s < length layout.kinds) (λ s h. out_below layout.kinds fits.0 fits.2.typed s h) layout.order fits.2.only_outs
 
 -- its stores are empty
 pub made_empty : (net : Net) (stores : List (Option Plain)) → ((n : ℕ) → get_or stores n None ≡ new_store (wait_at net n)) → (n : ℕ) → get_or (map instances_in stores) n [] ≡ []

@@ -1,8 +1,10 @@
 -- What leaves states, from what is stored and heard.
-use Rattle.std.proofs.Common.{◌≡◌, ◌∙◌, sym, ap, subst, ℕ, ◌<◌, length, List, []}
-use Rattle.std.specs.Prelude.{Option, Some, None, slice_get}
+use Rattle.std.proofs.Common.{◌≡◌, ◌∙◌, sym, ap, refl, subst, ℕ, ◌<◌, IsTrue, length, List, []}
+use Rattle.std.specs.Prelude.{Option, Some, None, is_some, slice_get}
+use Rattle.std.specs.Option.{option_and_then, option_map, unwrap_or}
 use Rattle.std.specs.List.{All}
 use Rattle.std.specs.List.Sorted.{IsPermutation}
+use Rattle.std.proofs.lemmas.List.Elements.{All-nil, All-weaker}
 use Rattle.std.proofs.lemmas.Option.{get_or_from_slice_get, slice_get_within}
 use Rattle.event_types.specs.declared.kind.Kind.{Kind}
 use Rattle.event_types.specs.Tuple.{Row}
@@ -11,14 +13,60 @@ use Rattle.instances.specs.declared.instance.Instance.{Instance}
 use Rattle.semantics.specs.Denotation.{streams_of}
 use Rattle.semantics.specs.Kinds.{HasKinds}
 use Rattle.scalar_expr.proofs.Bags.{permuted_to}
-use Rattle.automaton.specs.States.{Net, wait_at}
+use Rattle.automaton.specs.States.{Net, ends_at, entry_at, is_used, root_by, state_at, wait_at, wait_by}
+use Rattle.automaton.specs.declared.network.End.{End}
+use Rattle.automaton.specs.declared.network.Entry.{Entry}
+use Rattle.automaton.specs.declared.network.Entry.TheVariants.{Root, Waiting}
+use Rattle.automaton.specs.declared.network.State.{State}
 use Rattle.automaton.specs.declared.wait.Wait.{Wait}
 use Rattle.epoch_laws.specs.Closing.{leaves}
 use Rattle.epoch_laws.specs.Epochs.{took}
 use Rattle.epoch_pass.specs.Suits.{WaitSuits}
 use Rattle.epoch_pass.proofs.TypingLemmas.{waits_suit}
+use Rattle.epoch_engine.specs.Kindings.{AreStatesTyped, EndFits}
+use Rattle.epoch_engine.specs.Tables.{StreamsBelow, reads_at, reads_by}
 use Rattle.epoch_engine.specs.Typed.{AreTyped, IsStoreOf, held, instances_in}
-use Rattle.epoch_engine.proofs.StateLemmas.{some_is, wait_leaves, wait_typed}
+use Rattle.epoch_engine.proofs.LeftLemmas.{state_below}
+use Rattle.epoch_engine.proofs.StateLemmas.{root_typed, some_is, wait_leaves, wait_typed}
+
+-- a number that a state has is below that of all places
+pub used_below : (net : Net) (n : ℕ) → IsTrue (is_used net n) → n < length net
+used_below net n used = go (state_at net n) refl used
+  where
+    go : (o : Option State) → state_at net n ≡ o → IsTrue (is_some o) → n < length net
+    go None e used = absurd (cc)
+    go (Some state) e used = state_below net n state e
+
+-- the streams of a typed network are below their number
+pub streams_below : (kinds : List (List Kind)) (net : Net) → AreStatesTyped kinds net → StreamsBelow net (length kinds)
+streams_below kinds net typed = record { reads = λ n s at. reads n s at (state_at net n) refl; ends = λ n. go n (state_at net n) refl }
+  where
+    by_entry : (n s : ℕ) (state : State) → state_at net n ≡ Some state → reads_at net n ≡ Some s → (e : Entry) → state.entry ≡ e → s < length kinds
+    by_entry n s state found at (Root r) is =
+        let known = root_typed kinds net typed.0 typed.1 n r (ap (option_and_then root_by) (entry_is n state found (Root r) is)) in
+        subst (λ (m : ℕ). m < length kinds) (some_is r s (sym (ap (option_map reads_by) (entry_is n state found (Root r) is)) ∙ at)) (slice_get_within kinds r (typed.0.leaving n) known)
+      where
+        entry_is : (n : ℕ) (state : State) → state_at net n ≡ Some state → (e : Entry) → state.entry ≡ e → entry_at net n ≡ Some e
+        entry_is n state found e is = ap (option_map (λ (s : State). s.entry)) found ∙ ap Some is
+    by_entry n s state found at (Waiting before hop) is =
+        let one = wait_typed kinds net typed.0 typed.1 n hop.wait (ap (option_and_then wait_by) (entry_is n state found (Waiting before hop) is)) in
+        subst (λ (m : ℕ). m < length kinds) (some_is hop.wait.stream s (sym (ap (option_map reads_by) (entry_is n state found (Waiting before hop) is)) ∙ at)) (slice_get_within kinds hop.wait.stream one.event one.known)
+      where
+        entry_is : (n : ℕ) (state : State) → state_at net n ≡ Some state → (e : Entry) → state.entry ≡ e → entry_at net n ≡ Some e
+        entry_is n state found e is = ap (option_map (λ (s : State). s.entry)) found ∙ ap Some is
+
+    reads : (n s : ℕ) → reads_at net n ≡ Some s → (o : Option State) → state_at net n ≡ o → s < length kinds
+    reads n s at None e = absurd (none_some (sym (ap (λ (o : Option State). option_map reads_by (option_map (λ (x : State). x.entry) o)) e) ∙ at))
+      where
+        none_some : None ≡ Some s → ⊥
+        none_some e = cc
+    reads n s at (Some state) e = by_entry n s state e at state.entry refl
+
+    go : (n : ℕ) (o : Option State) → state_at net n ≡ o → All (λ (e : End). e.out < length kinds) (ends_at net n)
+    go n None found = subst (All (λ (e : End). e.out < length kinds)) (sym (ap (λ (o : Option State). unwrap_or (option_map (λ (s : State). s.ends) o) []) found)) (All-nil (λ (e : End). e.out < length kinds))
+    go n (Some state) found =
+        subst (All (λ (e : End). e.out < length kinds)) (sym (ap (λ (o : Option State). unwrap_or (option_map (λ (s : State). s.ends) o) []) found))
+        (All-weaker (EndFits kinds (typed.0.leaving n)) (λ (e : End). e.out < length kinds) (λ e fit. slice_get_within kinds e.out fit.0 fit.2) state.ends (typed.1 n state found).1)
 
 module _ (net : Net) (kinds : List (List Kind)) (stores : List (Option Plain)) (opened : List (List Row)) (typed : AreTyped net kinds stores opened) where
   -- the stream of a wait is there

@@ -3,7 +3,7 @@ use Rattle.std.proofs.Common.{◌≡◌, ◌∙◌, sym, ap, refl, subst, inl, i
 use Rattle.std.specs.Prelude.{Contains, OnErr, OnOk, Result, Ok, Err}
 use Rattle.std.proofs.lemmas.Bool.Decides.{nat_tests}
 use Rattle.std.proofs.lemmas.List.{length-append, map-append, take_more}
-use Rattle.std.proofs.lemmas.List.Elements.{Contains-append_left, Contains-push, Contains-push_cases}
+use Rattle.std.proofs.lemmas.List.Elements.{Contains-append_cases, Contains-append_left, Contains-append_right, Contains-push, Contains-push_cases}
 
 same_number : (m n : ℕ) → (m == n) ≡ true → m ≡ n
 same_number m n e = grind (arith, nat_tests)
@@ -57,6 +57,27 @@ module _ {X : Type 0} where
   pub push_default : (d : X) (n : ℕ) (xs new : List X) → (length xs ≡ n) × ((k : ℕ) → get_or xs k d ≡ d) → new ≡ xs ++ d ∷ [] → (length new ≡ n + 1) × ((k : ℕ) → get_or new k d ≡ d)
   push_default d n xs new h e = (ap length e ∙ length-append xs (d ∷ []) ∙ ap (λ m. m + 1) h.0, λ k. ap (λ l. get_or l k d) e ∙ default_more d xs h.1 k)
 
+-- a number is in a list or not
+pub contains_or_not : (xs : List ℕ) (n : ℕ) → Contains xs n ⊎ (Contains xs n → ⊥)
+contains_or_not [] n = inr (λ c. absurd (omega arith))
+contains_or_not (x ∷ xs) n = go (same_or_other x n) (contains_or_not xs n)
+  where
+    one : Contains (x ∷ []) n → x ≡ n
+    one c = first (Contains-push_cases [] x n c)
+      where
+        first : Contains [] n ⊎ (x ≡ n) → x ≡ n
+        first (inl c) = absurd (omega arith)
+        first (inr same) = same
+
+    either : (x ≡ n → ⊥) → (Contains xs n → ⊥) → Contains (x ∷ []) n ⊎ Contains xs n → ⊥
+    either other absent (inl c) = other (one c)
+    either other absent (inr c) = absent c
+
+    go : (x ≡ n) ⊎ (x ≡ n → ⊥) → Contains xs n ⊎ (Contains xs n → ⊥) → Contains (x ∷ xs) n ⊎ (Contains (x ∷ xs) n → ⊥)
+    go (inl same) rest = inl (subst (Contains (x ∷ xs)) same (Contains-append_left (x ∷ []) xs x (Contains-push [] x)))
+    go (inr other) (inl c) = inl (Contains-append_right (x ∷ []) xs n c)
+    go (inr other) (inr absent) = inr (λ c. either other absent (Contains-append_cases (x ∷ []) xs n c))
+
 -- one more item of a list that is mapped
 pub map_more : {X Y : Type 0} (f : X → Y) (xs : List X) (i : ℕ) (d : X) → i < length xs → map f (take (i + 1) xs) ≡ map f (take i xs) ++ f (get_or xs i d) ∷ []
 map_more f xs i d lt = ap (map f) (take_more xs i d lt) ∙ map-append f (take i xs) (get_or xs i d ∷ [])
@@ -65,6 +86,19 @@ map_more f xs i d lt = ap (map f) (take_more xs i d lt) ∙ map-append f (take i
 pub on_ok : {T E : Type 0} (r : Result T E) (P Q : Type 0) → (P → Q) → OnOk r P → OnOk r Q
 on_ok (Ok x) P Q f h = f h
 on_ok (Err e) P Q f h = h
+
+pub on_ok_both : {T E : Type 0} (r : Result T E) (P Q R : Type 0) → (P → Q → R) → OnOk r P → OnOk r Q → OnOk r R
+on_ok_both (Ok x) P Q R f p q = f p q
+on_ok_both (Err e) P Q R f p q = p
+
+pub on_err_by : {T E : Type 0} (r : Result T E) (P Q : Type 0) → (P → Q) → OnErr r P → OnErr r Q
+on_err_by (Ok x) P Q f h = h
+on_err_by (Err e) P Q f h = f h
+
+-- what holds may be promised of an Ok
+pub ok_holds : {T E : Type 0} (r : Result T E) (P : Type 0) → P → OnOk r P
+ok_holds (Ok x) P holds = holds
+ok_holds (Err e) P holds = tt
 
 -- what holds may be promised of an Err
 pub on_err : {T E : Type 0} (r : Result T E) (P : Type 0) → P → OnErr r P

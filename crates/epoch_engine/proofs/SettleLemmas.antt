@@ -1,5 +1,5 @@
 -- The stores of the waiting states are taken over an epoch.
-use Rattle.std.proofs.Common.{◌≡◌, ◌∙◌, sym, ap, refl, subst, inl, inr, ℕ, ◌+◌, ◌<◌, ◌⊎◌, nat_lt, Bool, true, false, cond, length, get_or, set, List, [], arith}
+use Rattle.std.proofs.Common.{◌≡◌, ◌∙◌, sym, ap, refl, subst, inl, inr, ℕ, ◌+◌, ◌<◌, ◌⊎◌, nat_lt, Bool, true, false, cond, length, get_or, set, take, List, [], arith}
 use Rattle.std.specs.Prelude.{Option, Some, None, Contains, is_some, slice_get}
 use Rattle.std.specs.Option.{option_and_then, option_map, unwrap_or}
 use Rattle.std.specs.List.{All, filter_map}
@@ -12,7 +12,7 @@ use Rattle.event_types.specs.declared.kind.Kind.{Kind}
 use Rattle.event_types.specs.Tuple.{Row}
 use Rattle.instances.specs.Plain.{Plain}
 use Rattle.instances.specs.declared.instance.Instance.{Instance}
-use Rattle.semantics.specs.Denotation.{streams_of}
+use Rattle.semantics.specs.Denotation.{Streams, streams_of}
 use Rattle.semantics.specs.Scalars.{Pr}
 use Rattle.instances.specs.Alive.{is_alive}
 use Rattle.instances.specs.Bounds.{alive_instances}
@@ -34,14 +34,14 @@ use Rattle.epoch_laws.proofs.Bags.{filter_map_permuted}
 use Rattle.epoch_pass.specs.Suits.{StepSuits}
 use Rattle.epoch_pass.proofs.TypingLemmas.{steps_suit, waits_suit}
 use Rattle.epoch_engine.specs.Flows.{AreLeft, flowing}
-use Rattle.epoch_engine.specs.Settling.{AreSettledBelow, IsSettled, IsSettledAt, SettlesAt, StoreSettles, settled_from}
+use Rattle.epoch_engine.specs.Settling.{AreSettledIn, IsSettled, IsSettledAt, SettlesAt, StoreSettles, settled_from}
 use Rattle.epoch_engine.specs.Tables.{IsBefore, if_below}
 use Rattle.epoch_engine.specs.Typed.{AreTyped, IsStoreOf, held, instances_in}
 use Rattle.epoch_engine.proofs.DeriveLemmas.{Flows, state_flows}
 use Rattle.epoch_engine.proofs.EdgeLemmas.{before_edge}
 use Rattle.epoch_engine.proofs.FlowLemmas.{stream_below}
 use Rattle.epoch_engine.proofs.LeftLemmas.{state_below, wait_below}
-use Rattle.epoch_engine.proofs.Lists.{below_or_last}
+use Rattle.epoch_engine.proofs.Lists.{contains_more, contains_this, more_contains, same_or_other}
 use Rattle.epoch_engine.proofs.StateLemmas.{AtWait, at_wait, hop_typed, some_is, wait_entry, wait_leaves, wait_typed}
 
 -- a state to which an edge leads has a state before it
@@ -100,6 +100,13 @@ settled_slot time net opened gone n w b stores slot new lt got at_w at_b h x c s
     let done = h store (sym (get_or_from_slice_get stores n slot None got) ∙ is) in
     subst (λ (o : Option Plain). IsSettled time x (settled_from net opened gone n x c store.instances) o) (sym (get_or-set_at stores n n new None refl lt))
     (subst (λ (y : Wait). IsSettled time y (settled_from net opened gone n y c store.instances) new) same_w (subst (λ (m : ℕ). IsSettled time w (settled_from net opened gone n w m store.instances) new) same_b done))
+
+-- no state is settled yet
+pub settle_none : (time : ℕ) (net : Net) (news : Streams) (stores : List (Option Plain)) → AreSettledIn [] time net news stores stores
+settle_none time net news stores = record { as_many = refl; settled = λ k w c at. absurd (no_number k c); others = λ k absent. refl; none = λ k at. refl }
+  where
+    no_number : (k : ℕ) → Contains [] k → ⊥
+    no_number k c = absurd (omega arith)
 
 module _ (net : Net) (kinds : List (List Kind)) (stores : List (Option Plain)) (opened : List (List Row)) (typed : AreTyped net kinds stores opened) (gone : List (List Row)) (as_many : length gone ≡ length net)
     (left_is : AreLeft net (streams_of opened) (held stores) gone) (network : IsNetwork net) where
@@ -161,15 +168,32 @@ module _ (net : Net) (kinds : List (List Kind)) (stores : List (Option Plain)) (
       ∙ ap (λ (o : Option Plain). stepped w.choose w.fold (news w.stream) (filter_map (pass (step_at net n)) (leaves net news (held stores) at.before)) (instances_in o)) found.1 in
       (done.0, done.1, done.2, subst (λ (after : List Instance). IsPermutation done.0.instances (alive_instances time w.choose after)) (sym after) (purged_permuted time w.choose _ _ done.0.instances perm done.3))
 
-  -- one more state is settled
-  pub settle_more : (time n : ℕ) (old new : List (Option Plain)) → get_or old n None ≡ get_or stores n None → AreSettledBelow n time net (streams_of opened) stores old
-      → ((k : ℕ) → (k ≡ n → ⊥) → get_or new k None ≡ get_or old k None) → IsSettledAt time net opened gone n (get_or old n None) (get_or new n None) → AreSettledBelow (n + 1) time net (streams_of opened) stores new
-  settle_more time n old new is h others this k w lt at = go (below_or_last k n lt)
+  -- one more of the listed states is settled
+  pub settle_more : (time : ℕ) (numbers : List ℕ) (i n : ℕ) (old new : List (Option Plain)) → i < length numbers → n ≡ get_or numbers i 0 → (Contains (take i numbers) n → ⊥)
+      → AreSettledIn (take i numbers) time net (streams_of opened) stores old → length new ≡ length old → ((k : ℕ) → (k ≡ n → ⊥) → get_or new k None ≡ get_or old k None)
+      → IsSettledAt time net opened gone n (get_or old n None) (get_or new n None) → (wait_at net n ≡ None → new ≡ old) → AreSettledIn (take (i + 1) numbers) time net (streams_of opened) stores new
+  settle_more time numbers i n old new lt is_n once h many others this none = record {
+    as_many = many ∙ h.as_many;
+    settled = λ k w c at. go k w at (same_or_other k n) (listed k (more_contains numbers i 0 k lt c));
+    others = λ k absent. kept k absent (same_or_other k n);
+    none = λ k at. same k at (same_or_other k n);
+  }
     where
-      go : (k < n) ⊎ (k ≡ n) → IsSettled time w (stores_after net (streams_of opened) (held stores) k) (get_or new k None)
-      go (inl less) =
-          let other : k ≡ n → ⊥ = λ e. absurd (omega arith) in
-          subst (IsSettled time w (stores_after net (streams_of opened) (held stores) k)) (sym (others k other)) (h k w less at)
-      go (inr same) =
-          let at_n = subst (λ (m : ℕ). wait_at net m ≡ Some w) same at in
-          subst (λ (m : ℕ). IsSettled time w (stores_after net (streams_of opened) (held stores) m) (get_or new m None)) (sym same) (settled_at time n (get_or old n None) (get_or new n None) is this w at_n)
+      listed : (k : ℕ) → Contains (take i numbers) k ⊎ (get_or numbers i 0 ≡ k) → Contains (take i numbers) k ⊎ (n ≡ k)
+      listed k (inl c) = inl c
+      listed k (inr same) = inr (is_n ∙ same)
+
+      go : (k : ℕ) (w : Wait) → wait_at net k ≡ Some w → (k ≡ n) ⊎ (k ≡ n → ⊥) → Contains (take i numbers) k ⊎ (n ≡ k) → IsSettled time w (stores_after net (streams_of opened) (held stores) k) (get_or new k None)
+      go k w at (inl is) c =
+          subst (λ (m : ℕ). IsSettled time w (stores_after net (streams_of opened) (held stores) m) (get_or new m None)) (sym is)
+          (settled_at time n (get_or old n None) (get_or new n None) (h.others n once) this w (subst (λ (m : ℕ). wait_at net m ≡ Some w) is at))
+      go k w at (inr other) (inl c) = subst (IsSettled time w (stores_after net (streams_of opened) (held stores) k)) (sym (others k other)) (h.settled k w c at)
+      go k w at (inr other) (inr is) = absurd (other (sym is))
+
+      kept : (k : ℕ) → (Contains (take (i + 1) numbers) k → ⊥) → (k ≡ n) ⊎ (k ≡ n → ⊥) → get_or new k None ≡ get_or stores k None
+      kept k absent (inl is) = absurd (absent (subst (Contains (take (i + 1) numbers)) (sym (is ∙ is_n)) (contains_this numbers i 0 lt)))
+      kept k absent (inr other) = others k other ∙ h.others k (λ c. absent (contains_more numbers i 0 k lt c))
+
+      same : (k : ℕ) → wait_at net k ≡ None → (k ≡ n) ⊎ (k ≡ n → ⊥) → get_or new k None ≡ get_or stores k None
+      same k at (inl is) = ap (λ (l : List (Option Plain)). get_or l k None) (none (subst (λ (m : ℕ). wait_at net m ≡ None) is at)) ∙ h.none k at
+      same k at (inr other) = others k other ∙ h.none k at

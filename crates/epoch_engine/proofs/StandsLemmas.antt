@@ -12,7 +12,7 @@ use Rattle.event_types.specs.Tuple.{Row, IsSound}
 use Rattle.event_types.proofs.SortLemmas.{sort_permuted}
 use Rattle.semantics.specs.Denotation.{Streams, streams_of}
 use Rattle.semantics.specs.Histories.{Heard, heard_on}
-use Rattle.automaton.specs.States.{Net}
+use Rattle.automaton.specs.States.{Net, wait_at}
 use Rattle.automaton.specs.declared.layout.Layout.{Layout}
 use Rattle.automaton.specs.declared.line.Line.{Line}
 use Rattle.epoch_laws.specs.Closing.{ArePurged, Stores, stores_after}
@@ -23,6 +23,7 @@ use Rattle.epoch_laws.specs.Stands.{Serves}
 use Rattle.epoch_laws.specs.Times.{during}
 use Rattle.epoch_laws.proofs.Bags.{permuted_is}
 use Rattle.epoch_laws.proofs.Standing.{close_stands, offer_stands, start_stands}
+use Rattle.prefix_merge.specs.Merging.{IsMerged}
 use Rattle.epoch_engine.specs.Closes.{Closes, KeepsPlan}
 use Rattle.epoch_engine.specs.Offers.{IsHeard, IsLate, IsNotAhead, with_tuple}
 use Rattle.epoch_engine.specs.StandsFor.{StandsFor}
@@ -40,6 +41,8 @@ new_stands net layout lines engine serves new =
     let order : engine.layout.order ≡ layout.order = ap (λ (l : Layout). l.order) new.same_layout in
     let stores : (λ _. []) ≡ stores_in engine = λ i n. sym (new.stores n) i in
     let opened : (λ _. []) ≡ streams_of engine.opened = λ i s. sym (new.opened s) i in record {
+      merged = subst IsMerged (sym new.network) new.merged;
+      none_elsewhere = λ number none. new.stores number;
       serves = subst (λ (n : Net). Serves n lines engine.layout.order) (sym new.network) (subst (Serves net lines) (sym order) serves);
       as_many = new.as_many ∙ ap (λ (l : Layout). length l.kinds) (sym new.same_layout);
       stands =
@@ -71,6 +74,8 @@ may_follow None (Some last) at ahead late = above last at (λ le. late last (le,
 pub offered_stands : (engine : View) (lines : List Line) (history : List Heard) (stream : ℕ) (tuple : Row) → StandsFor engine lines history → IsHeard engine.layout stream tuple → IsSound tuple → IsNotAhead engine.time tuple.at
     → ((seen : ℕ) → IsLate engine.time engine.closed tuple.at seen → ⊥) → StandsFor (with_tuple engine stream tuple) lines (history ++ record { stream = stream; tuple = tuple } ∷ [])
 offered_stands engine lines history stream tuple stands heard sound ahead late = record {
+  merged = stands.merged;
+  none_elsewhere = stands.none_elsewhere;
   serves = stands.serves;
   as_many = length-set engine.opened stream more ∙ stands.as_many;
   stands =
@@ -111,6 +116,9 @@ module _ (old new : View) (lines : List Line) (history : List Heard) (batch : Li
           ((close_stands old.network lines old.layout.order (stores_in old) closes.time (streams_of old.opened) closes.taken.news old.closed history stands.serves open_stands closes.taken.epoch (stores_in new) purged).0
           s)
 
+  none_there : (number : ℕ) → wait_at old.network number ≡ None → stores_in new number ≡ []
+  none_there number none = closes.taken.others number none ∙ stands.none_elsewhere number none
+
   -- an engine that closed its epoch
   pub closed_stands : KeepsPlan old new → StandsFor new lines history
   closed_stands plan =
@@ -118,6 +126,8 @@ module _ (old new : View) (lines : List Line) (history : List Heard) (batch : Li
       let none : (λ _. []) ≡ streams_of new.opened = λ i s. sym (closes.emptied s) i in
       let after =
       (close_stands old.network lines old.layout.order (stores_in old) closes.time (streams_of old.opened) closes.taken.news old.closed history stands.serves open_stands closes.taken.epoch (stores_in new) purged).1 in record {
+        merged = subst IsMerged (sym plan.network) stands.merged;
+        none_elsewhere = λ number none. none_there number (ap (λ (n : Net). wait_at n number) (sym plan.network) ∙ none);
         serves = subst (λ (n : Net). Serves n lines new.layout.order) (sym plan.network) (subst (Serves old.network lines) order stands.serves);
         as_many = closes.as_many ∙ stands.as_many ∙ ap (λ (l : Layout). length l.kinds) (sym plan.layout);
         stands =

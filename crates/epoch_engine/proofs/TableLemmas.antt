@@ -1,5 +1,5 @@
 -- The tables of a network grow state by state.
-use Rattle.std.proofs.Common.{◌≡◌, ◌∙◌, sym, ap, refl, subst, inl, inr, ℕ, ◌+◌, ◌==◌, ◌<◌, ◌⊎◌, nat_lt, Bool, true, false, cond, length, get_or, set, take, List, [], ◌∷◌, ◌++◌, map, append_assoc, append-nil, arith}
+use Rattle.std.proofs.Common.{◌≡◌, ◌∙◌, sym, ap, refl, subst, inl, inr, ℕ, ◌+◌, ◌==◌, ◌<◌, ◌⊎◌, IsTrue, nat_lt, Bool, true, false, cond, length, get_or, set, take, List, [], ◌∷◌, ◌++◌, map, append_assoc, append-nil, arith}
 use Rattle.std.specs.Prelude.{Option, Some, None, Contains, is_some}
 use Rattle.std.specs.Option.{option_and_then, option_map, unwrap_or}
 use Rattle.std.specs.List.{All, filter, flat_map, range_with_len}
@@ -15,11 +15,12 @@ use Rattle.automaton.specs.declared.network.End.{End}
 use Rattle.automaton.specs.declared.network.State.{State}
 use Rattle.automaton.specs.declared.wait.Wait.{Wait}
 use Rattle.epoch_engine.specs.declared.tables.EndPlace.{EndPlace}
-use Rattle.epoch_engine.specs.Tables.{Found, IsBefore, ListsEnds, ListsWaits, ends_among, ends_on_at, found_at, if_below}
+use Rattle.epoch_engine.specs.Tables.{Found, IsBefore, IsUnbound, ListsBounded, ListsEnds, ListsReaders, ends_among, ends_on_at, found_at, if_below, reads_at}
 use Rattle.epoch_engine.proofs.EdgeLemmas.{before_edge, edge_before}
-use Rattle.epoch_engine.proofs.LeftLemmas.{state_below, wait_below}
+use Rattle.epoch_engine.proofs.LeftLemmas.{state_below}
 use Rattle.epoch_engine.proofs.Lists.{below_or_last, same_or_other}
-use Rattle.epoch_engine.proofs.StateLemmas.{at_wait, some_is}
+use Rattle.epoch_engine.proofs.ReachLemmas.{read_state}
+use Rattle.epoch_engine.proofs.StateLemmas.{some_is}
 
 -- a number stands at these places, and nothing else was changed
 pub record Noted (places : List ℕ) (number : ℕ) (old new : List (Option ℕ)) : Type 0 where
@@ -72,7 +73,7 @@ no_edges net n h = go (state_at net n) h
 
 -- nothing is noted for it
 pub note_nothing : (net : Net) (n : ℕ) (list : List (Option ℕ)) → is_some (state_at net n) ≡ false → Noted (edges_at net n) n list list
-note_nothing net n list h = record { as_many = refl; noted = λ p c. absurd (no_edge p (subst (λ (ns : List ℕ). Contains ns p) (no_edges net n h) c)); others = λ p no. refl }
+note_nothing net n list h = record { as_many = refl; noted = λ p c. absurd (no_edge p (subst (λ (ns : List ℕ). Contains ns p) (no_edges net n h) c)); others = λ p absent. refl }
 
 -- edges lead to states
 pub edges_below : (net : Net) → IsNetwork net → (n : ℕ) (edges : List ℕ) (m : ℕ) → edges ≡ edges_at net n → m ≡ length net → All (λ p. p < m) edges
@@ -80,60 +81,70 @@ edges_below net network n edges m e same k d lt =
     let there = subst (λ (ns : List ℕ). Contains ns (get_or edges k d)) e (Contains-get_or edges k d lt) in
     let below = before_below net (get_or edges k d) n (edge_before net network n (get_or edges k d) there) in omega (arith, same)
 
-pub no_wait : (net : Net) (n : ℕ) → is_some (state_at net n) ≡ false → (w : Wait) → wait_at net n ≡ Some w → ⊥
-no_wait net n h w at = let found = at_wait net n w at in true_false (sym (ap is_some found.found) ∙ h)
-  where
-    true_false : true ≡ false → ⊥
-    true_false e = cc
-
-module _ (net : Net) (streams n : ℕ) (lists : List (List ℕ)) (h : ListsWaits net streams n lists) where
-  -- the numbers of the streams, where the next number has no wait
-  pub waits_same : ((w : Wait) → wait_at net n ≡ Some w → ⊥) → ListsWaits net streams (n + 1) lists
-  waits_same none = record { as_many = h.as_many; has = λ k w lt at. go k w at (below_or_last k n lt); below = h.below }
+module _ (net : Net) (streams n : ℕ) (lists : List (List ℕ)) (h : ListsReaders net streams n lists) where
+  -- the numbers of the streams, where no state has the next number
+  pub readers_same : is_some (state_at net n) ≡ false → ListsReaders net streams (n + 1) lists
+  readers_same unused = record { as_many = h.as_many; has = λ k s lt at. go k s at (below_or_last k n lt); reads = h.reads }
     where
-      go : (k : ℕ) (w : Wait) → wait_at net k ≡ Some w → (k < n) ⊎ (k ≡ n) → Contains (get_or lists w.stream []) k
-      go k w at (inl lt) = h.has k w lt at
-      go k w at (inr same) = absurd (none w (subst (λ (m : ℕ). wait_at net m ≡ Some w) same at))
+      true_false : true ≡ false → ⊥
+      true_false e = cc
 
-  -- and where it has one
-  pub waits_more : (w : Wait) → wait_at net n ≡ Some w → w.stream < streams → ListsWaits net streams (n + 1) (set lists w.stream (get_or lists w.stream [] ++ n ∷ []))
-  waits_more w at_n below = record {
-    as_many = length-set lists w.stream more ∙ h.as_many;
-    has = λ k x lt at. has k x at (below_or_last k n lt) (same_or_other x.stream w.stream);
-    below = λ s. all s (same_or_other s w.stream);
+      none : (s : ℕ) → reads_at net n ≡ Some s → ⊥
+      none s at = let found = read_state net n s at in true_false (sym (ap is_some found.1) ∙ unused)
+
+      go : (k s : ℕ) → reads_at net k ≡ Some s → (k < n) ⊎ (k ≡ n) → Contains (get_or lists s []) k
+      go k s at (inl lt) = h.has k s lt at
+      go k s at (inr same) = absurd (none s (subst (λ (m : ℕ). reads_at net m ≡ Some s) same at))
+
+  -- and where one has it
+  pub readers_put : (r : ℕ) → reads_at net n ≡ Some r → r < streams → ListsReaders net streams (n + 1) (set lists r (get_or lists r [] ++ n ∷ []))
+  readers_put r at_n below = record {
+    as_many = length-set lists r more ∙ h.as_many;
+    has = λ k s lt at. has k s at (below_or_last k n lt) (same_or_other s r);
+    reads = λ s. all s (same_or_other s r);
   }
     where
       more : List ℕ
-      more = get_or lists w.stream [] ++ n ∷ []
+      more = get_or lists r [] ++ n ∷ []
 
-      there : w.stream < length lists
+      there : r < length lists
       there = omega (arith, h.as_many)
 
-      at_this : (s : ℕ) → s ≡ w.stream → get_or (set lists w.stream more) s [] ≡ more
-      at_this s same = get_or-set_at lists w.stream s more [] same there
+      at_this : (s : ℕ) → s ≡ r → get_or (set lists r more) s [] ≡ more
+      at_this s same = get_or-set_at lists r s more [] same there
 
-      has : (k : ℕ) (x : Wait) → wait_at net k ≡ Some x → (k < n) ⊎ (k ≡ n) → (x.stream ≡ w.stream) ⊎ (x.stream ≡ w.stream → ⊥) → Contains (get_or (set lists w.stream more) x.stream []) k
-      has k x at (inl lt) (inl same) =
-          subst (λ (ns : List ℕ). Contains ns k) (sym (at_this x.stream same))
-          (Contains-append_left (get_or lists w.stream []) (n ∷ []) k (subst (λ (s : ℕ). Contains (get_or lists s []) k) same (h.has k x lt at)))
-      has k x at (inl lt) (inr other) = subst (λ (ns : List ℕ). Contains ns k) (sym (get_or-set_other lists w.stream x.stream more [] other)) (h.has k x lt at)
-      has k x at (inr last) (inl same) =
-          subst (λ (ns : List ℕ). Contains ns k) (sym (at_this x.stream same)) (subst (Contains more) (sym last) (Contains-push (get_or lists w.stream []) n))
-      has k x at (inr last) (inr other) =
-          absurd (other (ap (λ (y : Wait). y.stream) (some_is x w (sym (subst (λ (m : ℕ). wait_at net m ≡ Some x) last at) ∙ at_n))))
+      has : (k s : ℕ) → reads_at net k ≡ Some s → (k < n) ⊎ (k ≡ n) → (s ≡ r) ⊎ (s ≡ r → ⊥) → Contains (get_or (set lists r more) s []) k
+      has k s at (inl lt) (inl same) =
+          subst (λ (ns : List ℕ). Contains ns k) (sym (at_this s same))
+          (Contains-append_left (get_or lists r []) (n ∷ []) k (subst (λ (m : ℕ). Contains (get_or lists m []) k) same (h.has k s lt at)))
+      has k s at (inl lt) (inr other) = subst (λ (ns : List ℕ). Contains ns k) (sym (get_or-set_other lists r s more [] other)) (h.has k s lt at)
+      has k s at (inr last) (inl same) =
+          subst (λ (ns : List ℕ). Contains ns k) (sym (at_this s same)) (subst (Contains more) (sym last) (Contains-push (get_or lists r []) n))
+      has k s at (inr last) (inr other) = absurd (other (some_is s r (sym (subst (λ (m : ℕ). reads_at net m ≡ Some s) last at) ∙ at_n)))
 
-      all : (s : ℕ) → (s ≡ w.stream) ⊎ (s ≡ w.stream → ⊥) → All (λ m. m < length net) (get_or (set lists w.stream more) s [])
+      all : (s : ℕ) → (s ≡ r) ⊎ (s ≡ r → ⊥) → All (λ m. reads_at net m ≡ Some s) (get_or (set lists r more) s [])
       all s (inl same) =
-          subst (All (λ m. m < length net)) (sym (at_this s same)) (All-push (λ m. m < length net) (get_or lists w.stream []) n (h.below w.stream) (wait_below net n w at_n))
-      all s (inr other) = subst (All (λ m. m < length net)) (sym (get_or-set_other lists w.stream s more [] other)) (h.below s)
+          subst (All (λ m. reads_at net m ≡ Some s)) (sym (at_this s same))
+          (All-push (λ m. reads_at net m ≡ Some s) (get_or lists r []) n (subst (λ (t : ℕ). All (λ m. reads_at net m ≡ Some s) (get_or lists t [])) same (h.reads s)) (at_n ∙ ap Some (sym same)))
+      all s (inr other) = subst (All (λ m. reads_at net m ≡ Some s)) (sym (get_or-set_other lists r s more [] other)) (h.reads s)
+
+module _ (net : Net) (n : ℕ) (list : List ℕ) (h : ListsBounded net n list) where
+  -- one bounded state more
+  pub bounded_put : (w : Wait) → wait_at net n ≡ Some w → ListsBounded net (n + 1) (list ++ n ∷ [])
+  bounded_put w at_n = record { waits = All-push (λ m. IsTrue (is_some (wait_at net m))) list n h.waits (ap is_some at_n); has = λ k x lt at. go k x at (below_or_last k n lt) }
+    where
+      kept : (k : ℕ) (x : Wait) → Contains list k ⊎ IsUnbound x.choose → Contains (list ++ n ∷ []) k ⊎ IsUnbound x.choose
+      kept k x (inl c) = inl (Contains-append_left list (n ∷ []) k c)
+      kept k x (inr unbound) = inr unbound
+
+      go : (k : ℕ) (x : Wait) → wait_at net k ≡ Some x → (k < n) ⊎ (k ≡ n) → Contains (list ++ n ∷ []) k ⊎ IsUnbound x.choose
+      go k x at (inl lt) = kept k x (h.has k x lt at)
+      go k x at (inr same) = inl (subst (Contains (list ++ n ∷ [])) (sym same) (Contains-push list n))
 
 -- ends that were put
 abbrev pub PutEnds : Net → ℕ → List End → List (List EndPlace) → List (List EndPlace) → Type 0
 PutEnds net n ends old new =
     (length new ≡ length old) × ((s : ℕ) → s < length old → map (found_at net) (get_or new s []) ≡ map (found_at net) (get_or old s []) ++ ends_among s n ends)
-
-pub put_none : (net : Net) (n : ℕ) (lists : List (List EndPlace)) → PutEnds net n [] lists lists
-put_none net n lists = (refl, λ s lt. sym (append-nil (map (found_at net) (get_or lists s []))))
 
 is_not : (a b : ℕ) → (a == b) ≡ false → a ≡ b → ⊥
 is_not a b e same = grind (arith, nat_tests)

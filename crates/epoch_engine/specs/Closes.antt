@@ -15,12 +15,13 @@ use Rattle.epoch_engine.specs.Views.{View, stores_in}
 abbrev pub ArePurgedWhole : ℕ → Net → Stores → Stores → Type 0
 ArePurgedWhole time net stores kept = (number : ℕ) (wait : Wait) → wait_at net number ≡ Some wait → IsPermutation (kept number) (alive_instances time wait.choose (stores number))
 
--- the epoch of a time over stores and open tuples: its tuples `news` are those that were heard and derived, the batch has those of each printed stream in their order, and the stores are stepped through the epoch and purged for the next time
+-- the epoch of a time over stores and open tuples: its tuples `news` are those that were heard and derived, the batch has those of each printed stream in their order, the stores are stepped through the epoch and purged for the next time, and where no state waits what is stored is the same
 pub record IsTaken (net : Net) (layout : Layout) (time : ℕ) (stores : Stores) (heard : Streams) (after : Stores) (batch : List (List Row)) : Type 0 where
   pub news : Streams
   pub epoch : IsEpoch net layout.order stores heard news
   pub results : batch ≡ map (λ stream. sorted (news stream)) layout.outs
   pub purged : ArePurgedWhole (time + 1) net (stores_after net news stores) after
+  pub others : (number : ℕ) → wait_at net number ≡ None → after number ≡ stores number
 
 -- an engine closed its open epoch: the epoch was taken, none is open now and no tuple is, and its time is the last closed one
 pub record Closes (old new : View) (batch : List (List Row)) : Type 0 where

@@ -20,10 +20,6 @@ IsLeft net news stores gone number = IsPermutation (slice_index_or gone number [
 abbrev pub AreLeft : Net → Streams → Stores → List (List Row) → Type 0
 AreLeft net news stores gone = (number : ℕ) (wait : Wait) → wait_at net number ≡ Some wait → IsLeft net news stores gone number
 
--- the same of those below a number
-abbrev pub AreLeftBelow : ℕ → Net → Streams → Stores → List (List Row) → Type 0
-AreLeftBelow bound net news stores gone = (number : ℕ) (wait : Wait) → number < bound → wait_at net number ≡ Some wait → IsLeft net news stores gone number
-
 -- what left a state: at a root the tuples of its stream, at a waiting state what is remembered
 abbrev pub flowing_by : Option ℕ → Streams → List Row → List Row
 flowing_by None news gone = gone

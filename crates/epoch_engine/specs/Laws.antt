@@ -1,19 +1,27 @@
 -- Laws of engines over the histories for which they stand.
-use Rattle.std.specs.Prelude.{◌≡◌, ℕ, List, [], ◌∷◌, ◌++◌, map}
+use Rattle.std.specs.Prelude.{◌≡◌, ℕ, ◌-◌, ◌^◌, List, [], ◌∷◌, ◌++◌, map, min}
+use Rattle.std.specs.List.Sorted.{IsPermutation}
 use Rattle.event_types.specs.Order.{sorted}
 use Rattle.event_types.specs.Tuple.{Row, IsSound}
 use Rattle.semantics.specs.Histories.{Heard}
+use Rattle.automaton.specs.Networks.{IsAt}
+use Rattle.automaton.specs.Prefixes.{Prefix, After}
 use Rattle.automaton.specs.States.{Net}
 use Rattle.automaton.specs.declared.layout.Layout.{Layout}
+use Rattle.automaton.specs.declared.line.Hop.{Hop}
 use Rattle.automaton.specs.declared.line.Line.{Line}
 use Rattle.epoch_laws.specs.Histories.{streams_over}
+use Rattle.epoch_laws.specs.Instances.{bindings_of}
+use Rattle.epoch_laws.specs.Standing.{closed_part}
 use Rattle.epoch_laws.specs.Stands.{Serves}
 use Rattle.epoch_laws.specs.Times.{during}
 use Rattle.epoch_engine.specs.Closes.{Closes, KeepsPlan}
+use Rattle.epoch_engine.specs.Counts.{CountsAlive, alive_over, stored_in}
 use Rattle.epoch_engine.specs.Offers.{IsHeard, IsLate, IsNotAhead, with_tuple}
 use Rattle.epoch_engine.specs.StandsFor.{StandsFor}
 use Rattle.epoch_engine.specs.Starts.{IsNew}
-use Rattle.epoch_engine.specs.Views.{View}
+use Rattle.epoch_engine.specs.Trims.{Trims}
+use Rattle.epoch_engine.specs.Views.{View, stores_in}
 
 -- a new engine stands for the empty history
 abbrev pub NewStands : Type 0
@@ -34,3 +42,17 @@ abbrev pub BatchIsStreams : Type 0
 BatchIsStreams =
     (old new : View) (lines : List Line) (history : List Heard) (batch : List (List Row)) → StandsFor old lines history → (closes : Closes old new batch)
     → batch ≡ map (λ stream. sorted (during closes.time (streams_over lines old.layout.order history stream))) old.layout.outs
+
+-- an engine whose stores were purged stands for the same history, and each store has, up to order, exactly the bindings that wait and are alive after the closed part of the history
+pub record TrimmedStands : Type 0 where
+  pub stands : (old new : View) (lines : List Line) (history : List Heard) → StandsFor old lines history → Trims old new → StandsFor new lines history
+  pub exact :
+      (old new : View) (lines : List Line) (history : List Heard) → StandsFor old lines history → Trims old new
+      → (number : ℕ) (prefix : Prefix) (hop : Hop) → IsAt new.network number (After prefix hop)
+      → IsPermutation (bindings_of (stores_in new number)) (alive_over lines old.layout.order (closed_part old.time history) (After prefix hop))
+
+-- an engine whose stores were purged has as many instances as bindings wait and are alive
+abbrev pub TrimmedIsCounted : Type 0
+TrimmedIsCounted =
+    (old new : View) (lines : List Line) (history : List Heard) → StandsFor old lines history → Trims old new
+    → CountsAlive lines old.layout.order (closed_part old.time history) (min (stored_in new) (2 ^ 64 - 1))

@@ -16,6 +16,6 @@ pub record IsRunning (net : Net) (layout : Layout) (tables : Tables) (stores : L
   pub lines : List Line
   pub serves : Serves net lines layout.order
   pub typed : AreTyped net layout.kinds stores opened
-  pub tables_are : AreTables net (length layout.kinds) tables
+  pub tables_are : AreTables net layout tables
   pub order : All (λ stream. stream < length layout.kinds) layout.order
   pub outs : All (λ stream. stream < length layout.kinds) layout.outs

@@ -1,5 +1,5 @@
 -- What a caller has to see to before the store of a state is taken over an epoch, and what then holds.
-use Rattle.std.specs.Prelude.{◌≡◌, ℕ, ◌<◌, IsTrue, List, [], length, Option, Some, None, slice_index_or}
+use Rattle.std.specs.Prelude.{◌≡◌, ℕ, ◌<◌, IsTrue, List, [], length, Option, Some, None, Contains, slice_index_or}
 use Rattle.std.specs.List.{All, filter_map}
 use Rattle.std.specs.List.Sorted.{IsPermutation}
 use Rattle.event_types.specs.Tuple.{Row}
@@ -50,15 +50,21 @@ IsSettledAt time net opened gone number old new =
     (wait : Wait) (before : ℕ) (store : Plain) → wait_at net number ≡ Some wait → before_at net number ≡ Some before → old ≡ Some store
     → IsSettled time wait (settled_from net opened gone number wait before store.instances) new
 
--- each waiting state below a number has the store after the epoch, purged for a time
-abbrev pub AreSettledBelow : ℕ → ℕ → Net → Streams → List (Option Plain) → List (Option Plain) → Type 0
-AreSettledBelow bound time net news old new =
-    (number : ℕ) (wait : Wait) → number < bound → wait_at net number ≡ Some wait → IsSettled time wait (stores_after net news (held old) number) (slice_index_or new number None)
-
--- the same of each waiting state
+-- each waiting state has the store after the epoch, purged for a time
 abbrev pub AreSettled : ℕ → Net → Streams → List (Option Plain) → List (Option Plain) → Type 0
 AreSettled time net news old new =
     (number : ℕ) (wait : Wait) → wait_at net number ≡ Some wait → IsSettled time wait (stores_after net news (held old) number) (slice_index_or new number None)
+
+-- where no state waits, what is stored is the same
+abbrev pub KeepsOthers : Net → List (Option Plain) → List (Option Plain) → Type 0
+KeepsOthers net old new = (number : ℕ) → wait_at net number ≡ None → slice_index_or new number None ≡ slice_index_or old number None
+
+-- the waiting states with these numbers are settled, and all other stores are the same
+pub record AreSettledIn (numbers : List ℕ) (time : ℕ) (net : Net) (news : Streams) (old new : List (Option Plain)) : Type 0 where
+  pub as_many : length new ≡ length old
+  pub settled : (number : ℕ) (wait : Wait) → Contains numbers number → wait_at net number ≡ Some wait → IsSettled time wait (stores_after net news (held old) number) (slice_index_or new number None)
+  pub others : (number : ℕ) → (Contains numbers number → ⊥) → slice_index_or new number None ≡ slice_index_or old number None
+  pub none : KeepsOthers net old new
 
 -- the empty store of a wait
 abbrev pub new_store : Option Wait → Option Plain

@@ -3,11 +3,13 @@ use Rattle.std.specs.Prelude.{◌≡◌, ℕ, true, [], length, None}
 use Rattle.semantics.specs.Denotation.{streams_of}
 use Rattle.automaton.specs.States.{Net}
 use Rattle.automaton.specs.declared.layout.Layout.{Layout}
+use Rattle.prefix_merge.specs.Merging.{IsMerged}
 use Rattle.epoch_engine.specs.Views.{View, stores_in}
 
--- an engine over this network and this layout, with empty stores, an empty list of open tuples for each stream, no open epoch and no closed one, and intact
+-- an engine over this merged network and this layout, with empty stores, an empty list of open tuples for each stream, no open epoch and no closed one, and intact
 pub record IsNew (net : Net) (layout : Layout) (engine : View) : Type 0 where
   pub network : engine.network ≡ net
+  pub merged : IsMerged net
   pub same_layout : engine.layout ≡ layout
   pub stores : (number : ℕ) → stores_in engine number ≡ []
   pub opened : (stream : ℕ) → streams_of engine.opened stream ≡ []

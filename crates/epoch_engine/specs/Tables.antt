@@ -1,16 +1,32 @@
 -- Tables of the states and the ends of a network by stream.
-use Rattle.std.specs.Prelude.{◌≡◌, ℕ, ◌<◌, ◌==◌, nat_lt, if◌then◌else◌, List, [], length, map, Option, Some, None, Contains, slice_get, slice_index_or}
+use Rattle.std.specs.Prelude.{◌≡◌, ℕ, ◌<◌, ◌≤◌, ◌==◌, ◌⊎◌, true, IsTrue, is_some, nat_lt, if◌then◌else◌, List, [], length, map, Option, Some, None, Contains, slice_get, slice_index_or}
+use Rattle.std.specs.Option.{option_map}
 use Rattle.std.specs.List.{All, filter, flat_map, range_with_len}
+use Rattle.event_types.specs.Tuple.{Row}
+use Rattle.instances.specs.Alive.{is_alive}
+use Rattle.semantics.specs.Scalars.{Pr}
 use Rattle.automaton.specs.Networks.{IsNetwork}
-use Rattle.automaton.specs.States.{Net, before_at, ends_at, wait_at}
+use Rattle.automaton.specs.States.{Net, before_at, ends_at, entry_at, wait_at}
+use Rattle.automaton.specs.declared.layout.Layout.{Layout}
 use Rattle.automaton.specs.declared.network.End.{End}
+use Rattle.automaton.specs.declared.network.Entry.{Entry}
+use Rattle.automaton.specs.declared.network.Entry.TheVariants.{Root, Waiting}
 use Rattle.automaton.specs.declared.wait.Wait.{Wait}
 use Rattle.epoch_engine.specs.declared.tables.EndPlace.{EndPlace}
 use Rattle.epoch_engine.specs.declared.tables.Tables.{Tables}
 
--- each stream on which a state waits, and each of an end, is below a number
+-- the stream that a state reads: at a root its own, at a waiting state that on which it waits
+abbrev pub reads_by : Entry → ℕ
+reads_by (Root stream) = stream
+reads_by (Waiting before hop) = hop.wait.stream
+
+-- that of the state with a number
+abbrev pub reads_at : Net → ℕ → Option ℕ
+reads_at net number = option_map reads_by (entry_at net number)
+
+-- each stream that a state reads, and each of an end, is below a number
 pub record StreamsBelow (net : Net) (streams : ℕ) : Type 0 where
-  pub waits : (number : ℕ) (wait : Wait) → wait_at net number ≡ Some wait → wait.stream < streams
+  pub reads : (number stream : ℕ) → reads_at net number ≡ Some stream → stream < streams
   pub ends : (number : ℕ) → All (λ end. end.out < streams) (ends_at net number)
 
 -- the number, where it is below another
@@ -23,11 +39,25 @@ pub record IsBefore (net : Net) (bound : ℕ) (before : List (Option ℕ)) : Typ
   pub as_many : length before ≡ length net
   pub each : (number : ℕ) → slice_index_or before number None ≡ if_below bound (before_at net number)
 
--- the lists of streams have each waiting state below a number under its stream, and states alone
-pub record ListsWaits (net : Net) (streams bound : ℕ) (lists : List (List ℕ)) : Type 0 where
+-- the lists of streams have each state below a number under the stream that it reads, and no other states
+pub record ListsReaders (net : Net) (streams bound : ℕ) (lists : List (List ℕ)) : Type 0 where
   pub as_many : length lists ≡ streams
-  pub has : (number : ℕ) (wait : Wait) → number < bound → wait_at net number ≡ Some wait → Contains (slice_index_or lists wait.stream []) number
-  pub below : (stream : ℕ) → All (λ number. number < length net) (slice_index_or lists stream [])
+  pub has : (number stream : ℕ) → number < bound → reads_at net number ≡ Some stream → Contains (slice_index_or lists stream []) number
+  pub reads : (stream : ℕ) → All (λ number. reads_at net number ≡ Some stream) (slice_index_or lists stream [])
+
+-- no bound of the condition expires
+abbrev pub IsUnbound : List Pr → Type 0
+IsUnbound choose = (time : ℕ) (binding : Row) → is_alive time choose binding ≡ true
+
+-- the list has each waiting state below a number whose condition has a bound that may expire, and waiting states alone
+pub record ListsBounded (net : Net) (bound : ℕ) (list : List ℕ) : Type 0 where
+  pub waits : All (λ number. IsTrue (is_some (wait_at net number))) list
+  pub has : (number : ℕ) (wait : Wait) → number < bound → wait_at net number ≡ Some wait → Contains list number ⊎ IsUnbound wait.choose
+
+-- no stream stands in these after its place in the list
+pub record AreLast (outs last : List ℕ) (streams : ℕ) : Type 0 where
+  pub as_many : length last ≡ streams
+  pub each : (place : ℕ) → place < length outs → place ≤ slice_index_or last (slice_index_or outs place 0) 0
 
 -- an end with the number of its state
 pub record Found : Type 0 where
@@ -51,9 +81,11 @@ pub record ListsEnds (net : Net) (streams bound : ℕ) (lists : List (List EndPl
   pub as_many : length lists ≡ streams
   pub has : (stream : ℕ) → stream < streams → map (found_at net) (slice_index_or lists stream []) ≡ flat_map (ends_on_at net stream) (range_with_len 0 bound)
 
--- the tables have all of the network
-pub record AreTables (net : Net) (streams : ℕ) (tables : Tables) : Type 0 where
+-- the tables have all of the network and the layout
+pub record AreTables (net : Net) (layout : Layout) (tables : Tables) : Type 0 where
   pub network : IsNetwork net
   pub before : IsBefore net (length net) tables.before
-  pub waiting : ListsWaits net streams (length net) tables.waiting
-  pub ends : ListsEnds net streams (length net) tables.ends
+  pub readers : ListsReaders net (length layout.kinds) (length net) tables.readers
+  pub ends : ListsEnds net (length layout.kinds) (length net) tables.ends
+  pub bounded : ListsBounded net (length net) tables.bounded
+  pub last : AreLast layout.outs tables.last (length layout.kinds)

@@ -1,30 +1,39 @@
 //! The engine.
-ghost use Rattle.std.specs.Prelude.{◌≡◌, ℕ, false, true, IfNone, IfOk, IfSome, IsSome, IsTrue, OnErr, OnOk};
+ghost use Rattle.std.specs.Prelude.{◌≡◌, ◌<◌, ◌-◌, ◌^◌, ℕ, [], ◌∷◌, ◌++◌, false, length, min, slice_index_or, slice_set, true, IfErr, IfNone, IfOk, IfSome, IsSome, IsTrue, OnErr, OnOk};
 ghost use Rattle.automaton.specs.NetworkLines.{NetworkFits};
 ghost use Rattle.epoch_engine.specs.Closes.{Closes, KeepsPlan, KeepsTimes};
+ghost use Rattle.epoch_engine.specs.Counts.{stored_in};
 ghost use Rattle.epoch_engine.specs.Offers.{IsAnswer, IsHeard, IsLate, IsNotAhead, with_tuple};
+ghost use Rattle.epoch_engine.specs.Reach.{AreTouched};
 ghost use Rattle.epoch_engine.specs.Starts.{IsNew};
+ghost use Rattle.epoch_engine.specs.Trims.{Trims};
 
 use crate::batch::Batch;
 use crate::closing::take_epoch;
 use crate::fault::OfferFault;
 use crate::flow::{Lists, Stores};
+use crate::marks::Marks;
+use crate::reach::Reach;
 use crate::settling::empty_stores;
 use crate::tables::{Tables, empty_lists};
+use crate::trimming::{purge_all, stored};
 use automaton::{Layout, Network};
 use cay_host::{Ledger, Steps};
 use event_types::{Memory, StreamId, Tuple};
+use prefix_merge::Merged;
 use std::alloc::Global;
 use std::marker::Model;
 
 /// The bindings that wait at the states of a network, and the tuples of the open epoch.
 #[derive(Drop)]
 pub struct Engine {
-    network: Network,
+    merged: Merged,
     layout: Layout,
     tables: Tables,
     stores: Stores,
     opened: Lists,
+    touched: Marks,
+    reach: Reach,
     time: Option<u64>,
     closed: Option<u64>,
     intact: bool,
@@ -40,30 +49,37 @@ impl Model for Engine {
     ghost coded = { view_code };
 
     ghost use Rattle.std.specs.Prelude.{IsTrue, map};
+    ghost use Rattle.epoch_engine.specs.Reach.{IsReady};
     ghost use Rattle.epoch_engine.specs.Running.{IsRunning};
     ghost use Rattle.epoch_engine.specs.Typed.{instances_in};
 
-    ghost view = { λ e. record { network = e.network; layout = e.layout; stores = map instances_in e.stores; opened = e.opened; time = e.time; closed = e.closed; intact = e.intact } };
+    ghost view = { λ e. record { network = e.merged; layout = e.layout; stores = map instances_in e.stores; opened = e.opened; time = e.time; closed = e.closed; intact = e.intact } };
 
-    ghost invariant = { λ e. IsTrue e.intact → IsRunning e.network e.layout e.tables e.stores e.opened };
+    ghost invariant = { λ e. IsTrue e.intact → IsRunning e.merged e.layout e.tables e.stores e.opened × IsReady e.merged e.layout e.opened e.touched e.reach };
 }
 
 impl Engine {
-    /// An engine over a network and a layout that fit it, which has heard nothing. Want of memory drops
+    /// An engine over a merged network and a layout that fit, which has heard nothing. Want of memory drops
     /// both.
-    pub fn make(alloc: Global, network: Network, layout: Layout) -> Result<Engine, Memory>
-        requires { NetworkFits network layout }
-        ensures { IfOk result (λ engine. IsNew network layout engine) }
+    pub fn make(alloc: Global, merged: Merged, layout: Layout) -> Result<Engine, Memory>
+        requires { NetworkFits merged layout }
+        ensures { IfOk result (λ engine. IsNew merged layout engine) }
     {
-        let tables = Tables::make(alloc, &network, layout.kinds.len())?;
-        let stores = empty_stores(alloc, &network)?;
-        let opened = empty_lists(alloc, layout.kinds.len())?;
+        let network = merged.network();
+        let tables = Tables::make(alloc, network, &layout)?;
+        let stores = empty_stores(alloc, network)?;
+        let streams = layout.kinds.len();
+        let opened = empty_lists(alloc, streams)?;
+        let touched = Marks::make(alloc, streams)?;
+        let reach = Reach::make(alloc, network.places(), streams)?;
         Ok(Engine {
-            network,
+            merged,
             layout,
             tables,
             stores,
             opened,
+            touched,
+            reach,
             time: None,
             closed: None,
             intact: true,
@@ -87,13 +103,31 @@ impl Engine {
     pub fn network(&self) -> &Network
         ensures { result.now ≡ self.now.network }
     {
-        &self.network
+        self.merged.network()
     }
 
     pub fn layout(&self) -> &Layout
         ensures { result.now ≡ self.now.layout }
     {
         &self.layout
+    }
+
+    /// The number of the instances that are stored, or 2^64-1 where there are more. Takes no memory.
+    pub fn live(&self) -> u64
+        ensures { result ≡ min (stored_in self.now) (2 ^ 64 - 1) }
+    {
+        stored(&self.stores)
+    }
+
+    /// Takes out each instance that no event after the last closed epoch can match, as far as the bounds on
+    /// DUR tell. Takes no memory.
+    pub fn trim(&mut self)
+        requires { IsTrue self.old.intact }
+        ensures { Trims self.old self.new }
+    {
+        if let Some(time) = self.closed {
+            purge_all(self.merged.network(), &mut self.stores, time);
+        }
     }
 
     /// Takes a tuple of a declared stream. Its detection time opens an epoch where none is open.
@@ -108,7 +142,7 @@ impl Engine {
         let at = tuple.at();
         match late(self.time, self.closed, at) {
             Some(seen) => Err(OfferFault::OutOfOrder { at, seen, tuple }),
-            None => match self.opened.get_mut(stream).push(tuple) {
+            None => match hear(&mut self.opened, &mut self.touched, stream, tuple) {
                 Ok(()) => {
                     self.time = Some(at);
                     Ok(())
@@ -135,11 +169,13 @@ impl Engine {
         self.intact = false;
         let batch = take_epoch(
             alloc,
-            &self.network,
+            self.merged.network(),
             &self.layout,
             &self.tables,
             &mut self.stores,
             &mut self.opened,
+            &mut self.touched,
+            &mut self.reach,
             time,
             steps,
         )?;
@@ -147,6 +183,26 @@ impl Engine {
         self.closed = Some(time);
         self.intact = true;
         Ok(batch)
+    }
+}
+
+// Puts a tuple behind those of its stream, which is marked. Want of memory hands it back.
+fn hear(
+    opened: &mut Lists,
+    touched: &mut Marks,
+    stream: StreamId,
+    tuple: Tuple,
+) -> Result<(), Tuple>
+    requires stream { stream < length opened.old }
+    requires touched { AreTouched (length opened.old) opened.old touched.old }
+    ensures ok { OnOk result (opened.new ≡ slice_set opened.old stream (slice_index_or opened.old stream [] ++ tuple ∷ [])) }
+    ensures handed_back { IfErr result (λ back. back ≡ tuple) }
+    ensures kept { OnErr result (opened.new ≡ opened.old) }
+    ensures touched { AreTouched (length opened.old) opened.new touched.new }
+{
+    match touched.mark(stream) {
+        Ok(()) => opened.get_mut(stream).push(tuple),
+        Err(_) => Err(tuple),
     }
 }
 

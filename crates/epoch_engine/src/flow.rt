@@ -1,19 +1,24 @@
 //! What leaves the states in an epoch.
-ghost use Rattle.std.specs.Prelude.{◌≡◌, ℕ, ◌<◌, ◌⊎◌, [], ◌++◌, Some, Contains, length, IfOk, OnOk};
+ghost use Rattle.std.specs.Prelude.{◌≡◌, ℕ, ◌<◌, ◌⊎◌, [], ◌++◌, Some, Contains, length, slice_index_or, IfOk, IsTrue, OnOk};
 ghost use Rattle.std.specs.List.{All, flat_map};
 ghost use Rattle.std.specs.List.Sorted.{IsPermutation};
 ghost use Rattle.semantics.specs.Denotation.{streams_of};
-ghost use Rattle.automaton.specs.States.{wait_at};
+ghost use Rattle.automaton.specs.Networks.{IsNetwork};
+ghost use Rattle.automaton.specs.States.{is_used, wait_at};
 ghost use Rattle.automaton.specs.declared.wait.Wait.{Wait};
 ghost use Rattle.epoch_laws.specs.Closing.{leaves};
-ghost use Rattle.epoch_engine.specs.Flows.{AreLeft, EndSuits, IsFlowing, IsLeft, flowing, given_at};
+ghost use Rattle.epoch_engine.specs.Flows.{EndSuits, IsFlowing, flowing, given_at};
+ghost use Rattle.epoch_engine.specs.Reach.{AreTouched, IsMet, MeetsAll, ReachFits, ReachesMore};
+ghost use Rattle.epoch_engine.specs.Tables.{ListsReaders};
 ghost use Rattle.epoch_engine.specs.Typed.{AreTyped, held};
 
-use crate::tables::{EndPlace, add};
+use crate::marks::Marks;
+use crate::reach::Reach;
+use crate::tables::EndPlace;
 use automaton::Network;
 use cay_host::{Ledger, Steps};
 use epoch_pass::{add_passed, leaving};
-use event_types::{KindLists, List, Memory, Tuples};
+use event_types::{KindLists, List, Memory, Numbers, Tuples};
 use instances::PlainStore;
 use std::alloc::Global;
 
@@ -55,46 +60,90 @@ fn leaving_state<L: Ledger>(
     }
 }
 
-/// What leaves each waiting state, by its number.
-pub(crate) fn leaving_states<L: Ledger>(
+// Remembers what leaves the state with a number, and marks what that reaches.
+fn meet<L: Ledger>(
     alloc: Global,
     network: &Network,
     kinds: &KindLists,
+    number: usize,
     stores: &Stores,
     opened: &Lists,
+    reach: &mut Reach,
     steps: &mut Steps<L>,
-) -> Result<Lists, Memory>
-    requires { AreTyped network.now kinds.now stores.now opened.now }
-    ensures { IfOk result (λ gone. (length gone ≡ length network.now) × AreLeft network.now (streams_of opened.now) (held stores.now) gone) }
+) -> Result<(), Memory>
+    requires used { IsTrue (is_used network.now number) }
+    requires network { IsNetwork network.now }
+    requires typed { AreTyped network.now kinds.now stores.now opened.now }
+    requires fits { ReachFits (length network.now) (length kinds.now) reach.old }
+    ensures more { OnOk result (ReachesMore reach.old reach.new) }
+    ensures met { OnOk result (IsMet network.now stores.now opened.now reach.new number) }
+    ensures others { OnOk result ((other : ℕ) → (other ≡ number → ⊥) → slice_index_or reach.new.gone other [] ≡ slice_index_or reach.old.gone other []) }
 {
-    let mut gone = List::new(alloc);
-    for number in 0..network.places() {
-        let tuples = leaving_state(alloc, network, kinds, number, stores, opened, steps)?;
-        add(&mut gone, tuples)?;
+    reach.settling.mark(number)?;
+    *reach.gone.get_mut(number) = leaving_state(
+        alloc, network, kinds, number, stores, opened, steps,
+    )?;
+    if tuples_of(network, number, opened, &reach.gone).len() == 0 {
+        return Ok(());
     }
-    Ok(gone)
+    reach.spread(network, number)
 }
 
-/// Finds anew what leaves these waiting states.
-pub(crate) fn leave_again<L: Ledger>(
+/// Remembers what leaves these states, and marks what that reaches.
+pub(crate) fn meet_all<L: Ledger>(
     alloc: Global,
     network: &Network,
     kinds: &KindLists,
     numbers: &[usize],
     stores: &Stores,
     opened: &Lists,
-    gone: &mut Lists,
+    reach: &mut Reach,
     steps: &mut Steps<L>,
 ) -> Result<(), Memory>
+    requires network { IsNetwork network.now }
     requires typed { AreTyped network.now kinds.now stores.now opened.now }
-    requires numbers { All (λ number. number < length network.now) numbers.now }
-    requires as_many { length gone.old ≡ length network.now }
-    ensures left { OnOk result ((number : ℕ) (wait : Wait) → wait_at network.now number ≡ Some wait → Contains numbers.now number ⊎ IsLeft network.now (streams_of opened.now) (held stores.now) gone.old number → IsLeft network.now (streams_of opened.now) (held stores.now) gone.new number) }
-    ensures as_many { length gone.new ≡ length gone.old }
+    requires numbers { All (λ number. IsTrue (is_used network.now number)) numbers.now }
+    requires fits { ReachFits (length network.now) (length kinds.now) reach.old }
+    ensures more { OnOk result (ReachesMore reach.old reach.new) }
+    ensures met { OnOk result (MeetsAll network.now stores.now opened.now numbers.now reach.old reach.new) }
 {
     for number in numbers {
-        *gone.get_mut(*number) = leaving_state(
-            alloc, network, kinds, *number, stores, opened, steps,
+        meet(alloc, network, kinds, *number, stores, opened, reach, steps)?;
+    }
+    Ok(())
+}
+
+/// The same of all states that read a stream that has tuples.
+pub(crate) fn meet_heard<L: Ledger>(
+    alloc: Global,
+    network: &Network,
+    kinds: &KindLists,
+    readers: &List<Numbers>,
+    stores: &Stores,
+    opened: &Lists,
+    touched: &Marks,
+    reach: &mut Reach,
+    steps: &mut Steps<L>,
+) -> Result<(), Memory>
+    requires network { IsNetwork network.now }
+    requires typed { AreTyped network.now kinds.now stores.now opened.now }
+    requires readers { ListsReaders network.now (length kinds.now) (length network.now) readers.now }
+    requires touched { AreTouched (length kinds.now) opened.now touched.now }
+    requires fits { ReachFits (length network.now) (length kinds.now) reach.old }
+    requires none_gone { (number : ℕ) → slice_index_or reach.old.gone number [] ≡ [] }
+    ensures more { OnOk result (ReachesMore reach.old reach.new) }
+    ensures met { OnOk result ((number : ℕ) → IsMet network.now stores.now opened.now reach.new number) }
+{
+    for stream in touched.numbers.as_slice() {
+        meet_all(
+            alloc,
+            network,
+            kinds,
+            readers.get(*stream).as_slice(),
+            stores,
+            opened,
+            reach,
+            steps,
         )?;
     }
     Ok(())
@@ -135,6 +184,18 @@ fn add_given<L: Ledger>(
     let end = network.ends(place.state).get(place.place);
     let tuples = tuples_of(network, place.state, opened, gone);
     add_passed(alloc, out, end.step.as_slice(), tuples.as_slice(), steps)
+}
+
+/// Drops the tuples of these numbers, and keeps their room. Takes no memory.
+pub(crate) fn clear(lists: &mut Lists, numbers: &[usize])
+    requires numbers { All (λ number. number < length lists.old) numbers.now }
+    requires others { (place : ℕ) → (slice_index_or lists.old place [] ≡ []) ⊎ Contains numbers.now place }
+    ensures as_many { length lists.new ≡ length lists.old }
+    ensures empty { (place : ℕ) → slice_index_or lists.new place [] ≡ [] }
+{
+    for number in numbers {
+        lists.get_mut(*number).clear();
+    }
 }
 
 /// What left a state.

@@ -1,5 +1,5 @@
 //! Laws of engines over the histories for which they stand.
-ghost use Rattle.epoch_engine.specs.Laws.{BatchIsStreams, ClosedStands, NewStands, OfferedStands};
+ghost use Rattle.epoch_engine.specs.Laws.{BatchIsStreams, ClosedStands, NewStands, OfferedStands, TrimmedIsCounted, TrimmedStands};
 
 /// A new engine stands for the empty history.
 pub fn new_stands()
@@ -19,4 +19,15 @@ pub fn closed_stands()
 /// The batch of an epoch has exactly what the printed streams have at its time over the history.
 pub fn batch_is_streams()
     ensures { BatchIsStreams }
+{}
+
+/// An engine whose stores were purged stands for the same history, and each store has exactly the bindings that
+/// wait and are alive.
+pub fn trimmed_stands()
+    ensures { TrimmedStands }
+{}
+
+/// The instances of an engine whose stores were purged are as many as the bindings that wait and are alive.
+pub fn trimmed_is_counted()
+    ensures { TrimmedIsCounted }
 {}

@@ -5,18 +5,21 @@
 #![tactic(auto)]
 
 mod batch;
+mod bounds;
 mod closing;
 mod engine;
 mod fault;
 mod flow;
 mod laws;
+mod marks;
+mod reach;
 mod settling;
 mod tables;
+mod trimming;
 
 pub use batch::Batch;
 pub use engine::Engine;
 pub use fault::OfferFault;
-pub use laws::{batch_is_streams, closed_stands, new_stands, offered_stands};
-
-#[cfg(test)]
-mod tests;
+pub use laws::{
+    batch_is_streams, closed_stands, new_stands, offered_stands, trimmed_is_counted, trimmed_stands,
+};

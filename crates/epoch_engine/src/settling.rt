@@ -5,11 +5,13 @@ ghost use Rattle.semantics.specs.Denotation.{streams_of};
 ghost use Rattle.automaton.specs.Networks.{IsNetwork};
 ghost use Rattle.automaton.specs.States.{wait_at};
 ghost use Rattle.epoch_engine.specs.Flows.{AreLeft};
-ghost use Rattle.epoch_engine.specs.Settling.{AreSettled, IsSettled, IsSettledAt, Settles, SettlesAt, new_store, settled_from};
+ghost use Rattle.epoch_engine.specs.Reach.{ReachFits};
+ghost use Rattle.epoch_engine.specs.Settling.{AreSettledIn, IsSettled, IsSettledAt, Settles, SettlesAt, new_store, settled_from};
 ghost use Rattle.epoch_engine.specs.Tables.{IsBefore};
 ghost use Rattle.epoch_engine.specs.Typed.{AreTyped, held};
 
 use crate::flow::{Lists, Stores, tuples_of};
+use crate::reach::Reach;
 use crate::tables::add;
 use automaton::{Network, Wait};
 use cay_host::{Ledger, Steps};
@@ -47,28 +49,36 @@ fn empty_store(
     }
 }
 
-/// Takes the store of each waiting state over the epoch of this time.
-pub(crate) fn settle_states<L: Ledger>(
+/// Takes the stores of the waiting states with these numbers over the epoch of this time.
+pub(crate) fn settle_marked<L: Ledger>(
     alloc: Global,
     network: &Network,
     kinds: &KindLists,
     before: &List<Option<usize>>,
     stores: &mut Stores,
     opened: &Lists,
-    gone: &Lists,
+    reach: &Reach,
     time: u64,
     steps: &mut Steps<L>,
 ) -> Result<(), Memory>
+    requires network { IsNetwork network.now }
     requires typed { AreTyped network.now kinds.now stores.old opened.now }
-    requires left { AreLeft network.now (streams_of opened.now) (held stores.old) gone.now }
-    requires as_many { length gone.now ≡ length network.now }
+    requires left { AreLeft network.now (streams_of opened.now) (held stores.old) reach.now.gone }
+    requires fits { ReachFits (length network.now) (length kinds.now) reach.now }
     requires before { IsBefore network.now (length network.now) before.now }
-    ensures settled { OnOk result (AreSettled (time + 1) network.now (streams_of opened.now) stores.old stores.new) }
-    ensures as_many { OnOk result (length stores.new ≡ length stores.old) }
+    ensures { OnOk result (AreSettledIn reach.now.settling.numbers (time + 1) network.now (streams_of opened.now) stores.old stores.new) }
 {
-    for number in 0..network.places() {
+    for number in reach.settling.numbers.as_slice() {
         settle_at(
-            alloc, network, number, before, stores, opened, gone, time, steps,
+            alloc,
+            network,
+            *number,
+            before,
+            stores,
+            opened,
+            &reach.gone,
+            time,
+            steps,
         )?;
     }
     Ok(())
@@ -93,6 +103,7 @@ fn settle_at<L: Ledger>(
     requires settles { SettlesAt network.now opened.now gone.now number (slice_index_or stores.old number None) }
     ensures as_many { length stores.new ≡ length stores.old }
     ensures others { (other : ℕ) → (other ≡ number → ⊥) → slice_index_or stores.new other None ≡ slice_index_or stores.old other None }
+    ensures none { wait_at network.now number ≡ None → stores.new ≡ stores.old }
     ensures settled { OnOk result (IsSettledAt (time + 1) network.now opened.now gone.now number (slice_index_or stores.old number None) (slice_index_or stores.new number None)) }
 {
     if !network.used(number) {

@@ -1,10 +1,12 @@
 //! Tables of the states and the ends of a network by stream.
-ghost use Rattle.std.specs.Prelude.{◌≡◌, ℕ, ◌+◌, ◌<◌, ◌∷◌, ◌++◌, [], None, Some, Contains, IfOk, OnOk, length, map, slice_index_or, slice_set};
+ghost use Rattle.std.specs.Prelude.{◌≡◌, ℕ, ◌+◌, ◌<◌, ◌∷◌, ◌++◌, [], None, Some, Contains, IfOk, IsTrue, OnOk, length, map, slice_index_or, slice_set};
 ghost use Rattle.std.specs.List.{All};
 ghost use Rattle.automaton.specs.Networks.{IsNetwork};
-ghost use Rattle.epoch_engine.specs.Tables.{AreTables, IsBefore, ListsEnds, ListsWaits, StreamsBelow, ends_on_at, found_at};
+ghost use Rattle.automaton.specs.States.{is_used};
+ghost use Rattle.epoch_engine.specs.Tables.{AreLast, AreTables, IsBefore, ListsBounded, ListsEnds, ListsReaders, StreamsBelow, ends_on_at, found_at, reads_at};
 
-use automaton::Network;
+use crate::bounds::has_bound;
+use automaton::{Layout, Network};
 use event_types::{List, Memory, Numbers};
 use std::alloc::Global;
 
@@ -18,28 +20,37 @@ pub struct EndPlace {
 /// The places of ends.
 pub type EndPlaces = List<EndPlace>;
 
-/// The number of the state before each state, by its number, and for each stream the numbers of the
-/// states that wait on it and the places of its ends.
+/// The number of the state before each state, by its number; for each stream the numbers of the states
+/// that read it, and the places of its ends; the numbers of the waiting states whose conditions have bounds
+/// on DUR; and for each stream the last place at which it is printed, counted from 0.
 #[derive(Drop)]
 pub struct Tables {
     pub before: List<Option<usize>>,
-    pub waiting: List<Numbers>,
+    pub readers: List<Numbers>,
     pub ends: List<EndPlaces>,
+    pub bounded: Numbers,
+    pub last: Numbers,
 }
 
 impl Tables {
-    /// The tables of a network over so many streams.
-    pub(crate) fn make(alloc: Global, network: &Network, streams: usize) -> Result<Tables, Memory>
-        requires { StreamsBelow network.now streams }
-        ensures { IfOk result (λ tables. AreTables network.now streams tables) }
+    /// The tables of a network and a layout.
+    pub(crate) fn make(alloc: Global, network: &Network, layout: &Layout) -> Result<Tables, Memory>
+        requires below { StreamsBelow network.now (length layout.now.kinds) }
+        requires outs { All (λ stream. stream < length layout.now.kinds) layout.now.outs }
+        ensures { IfOk result (λ tables. AreTables network.now layout.now tables) }
     {
+        let streams = layout.kinds.len();
         let before = before_each(alloc, network)?;
-        let waiting = waiting_on(alloc, network, streams)?;
+        let readers = readers_of(alloc, network, streams)?;
         let ends = ends_of(alloc, network, streams)?;
+        let bounded = bounded_states(alloc, network)?;
+        let last = last_places(alloc, &layout.outs, streams)?;
         Ok(Tables {
             before,
-            waiting,
+            readers,
             ends,
+            bounded,
+            last,
         })
     }
 }
@@ -50,7 +61,7 @@ fn before_each(alloc: Global, network: &Network) -> Result<List<Option<usize>>, 
     ensures network { IsNetwork network.now }
 {
     let places = network.places();
-    let mut before = without(alloc, places)?;
+    let mut before = filled(alloc, places, None)?;
     for number in 0..places {
         note_edges(&mut before, network, number);
     }
@@ -69,17 +80,6 @@ fn note_edges(before: &mut List<Option<usize>>, network: &Network, number: usize
     }
 }
 
-// So many places without a number.
-fn without(alloc: Global, count: usize) -> Result<List<Option<usize>>, Memory>
-    ensures { IfOk result (λ list. (length list ≡ count) × ((place : ℕ) → slice_index_or list place None ≡ None)) }
-{
-    let mut list = List::new(alloc);
-    for _ in 0..count {
-        add(&mut list, None)?;
-    }
-    Ok(list)
-}
-
 // Writes a number to each of these places.
 fn note(list: &mut List<Option<usize>>, places: &[usize], number: usize)
     requires { All (λ place. place < length list.old) places.now }
@@ -92,32 +92,81 @@ fn note(list: &mut List<Option<usize>>, places: &[usize], number: usize)
     }
 }
 
-// For each stream the numbers of the states that wait on it.
-fn waiting_on(alloc: Global, network: &Network, streams: usize) -> Result<List<Numbers>, Memory>
+// For each stream the numbers of the states that read it.
+fn readers_of(alloc: Global, network: &Network, streams: usize) -> Result<List<Numbers>, Memory>
     requires { StreamsBelow network.now streams }
-    ensures { IfOk result (λ lists. ListsWaits network.now streams (length network.now) lists) }
+    ensures { IfOk result (λ lists. ListsReaders network.now streams (length network.now) lists) }
 {
     let mut lists = empty_lists(alloc, streams)?;
     for number in 0..network.places() {
-        put_wait(&mut lists, network, number)?;
+        put_reader(&mut lists, network, number)?;
     }
     Ok(lists)
 }
 
-// Puts the number of a waiting state at its stream.
-fn put_wait(lists: &mut List<Numbers>, network: &Network, number: usize) -> Result<(), Memory>
+// Puts the number of a state at the stream that it reads.
+fn put_reader(lists: &mut List<Numbers>, network: &Network, number: usize) -> Result<(), Memory>
     requires number { number < length network.now }
     requires below { StreamsBelow network.now (length lists.old) }
-    requires lists { ListsWaits network.now (length lists.old) number lists.old }
-    ensures { OnOk result (ListsWaits network.now (length lists.old) (number + 1) lists.new) }
+    requires lists { ListsReaders network.now (length lists.old) number lists.old }
+    ensures { OnOk result (ListsReaders network.now (length lists.old) (number + 1) lists.new) }
+{
+    if !network.used(number) {
+        return Ok(());
+    }
+    put(lists, stream_read(network, number), number)
+}
+
+// The stream that a state reads.
+fn stream_read(network: &Network, number: usize) -> usize
+    requires { IsTrue (is_used network.now number) }
+    ensures { reads_at network.now number ≡ Some result }
+{
+    match network.root(number) {
+        Some(stream) => stream,
+        None => match network.wait(number) {
+            Some(wait) => wait.stream,
+            None => unreachable!(),
+        },
+    }
+}
+
+// The numbers of the waiting states whose conditions have bounds.
+fn bounded_states(alloc: Global, network: &Network) -> Result<Numbers, Memory>
+    ensures { IfOk result (λ list. ListsBounded network.now (length network.now) list) }
+{
+    let mut list = List::new(alloc);
+    for number in 0..network.places() {
+        put_bounded(&mut list, network, number)?;
+    }
+    Ok(list)
+}
+
+// Puts the number of a state at the end, if it waits under a condition with a bound.
+fn put_bounded(list: &mut Numbers, network: &Network, number: usize) -> Result<(), Memory>
+    requires number { number < length network.now }
+    requires list { ListsBounded network.now number list.old }
+    ensures { OnOk result (ListsBounded network.now (number + 1) list.new) }
 {
     if !network.used(number) {
         return Ok(());
     }
     match network.wait(number) {
-        Some(wait) => put(lists, wait.stream, number),
-        None => Ok(()),
+        Some(wait) if has_bound(&wait.choose) => add(list, number),
+        _ => Ok(()),
     }
+}
+
+// For each stream the last place at which it stands.
+fn last_places(alloc: Global, outs: &Numbers, streams: usize) -> Result<Numbers, Memory>
+    requires { All (λ stream. stream < streams) outs.now }
+    ensures { IfOk result (λ last. AreLast outs.now last streams) }
+{
+    let mut last = filled(alloc, streams, 0)?;
+    for (place, stream) in outs.as_slice().iter().enumerate() {
+        *last.get_mut(*stream) = place;
+    }
+    Ok(last)
 }
 
 // For each stream the places of its ends.
@@ -153,6 +202,17 @@ fn put_ends(lists: &mut List<EndPlaces>, network: &Network, number: usize) -> Re
         )?;
     }
     Ok(())
+}
+
+// So many times the item.
+pub(crate) fn filled<T: Copy>(alloc: Global, count: usize, item: T) -> Result<List<T>, Memory>
+    ensures { IfOk result (λ list. (length list ≡ count) × ((place : ℕ) → slice_index_or list place item ≡ item)) }
+{
+    let mut list = List::new(alloc);
+    for _ in 0..count {
+        add(&mut list, item)?;
+    }
+    Ok(list)
 }
 
 // So many empty lists.

@@ -1,38 +1,58 @@
-use Rattle.std.proofs.Common.{◌∙◌, sym, ap, refl, subst, ◌<◌, ◌++◌, ◌∷◌, [], ℕ, List, map, set}
+use Rattle.std.proofs.Common.{◌∙◌, sym, ap, refl, subst, ◌<◌, ◌++◌, ◌∷◌, [], ℕ, List, get_or, map}
 use Rattle.std.specs.Prelude.{Some, slice_get}
-use Rattle.std.proofs.lemmas.Option.{get_or_from_slice_get, slice_get_within}
+use Rattle.std.proofs.lemmas.Option.{slice_get-get_or, slice_get_within}
 use Rattle.event_types.specs.Tuple.{Row}
+use Rattle.automaton.specs.Work.{is_in}
 use Rattle.epoch_engine.specs.Offers.{IsLate, with_tuple}
+use Rattle.epoch_engine.specs.Reach.{AreTouched}
 use Rattle.epoch_engine.specs.Running.{IsRunning}
 use Rattle.epoch_engine.specs.Typed.{instances_in}
 use Rattle.epoch_engine.specs.Views.{View}
-use Rattle.epoch_engine.proofs.EngineLemmas.{lent_back, offered_running}
+use Rattle.epoch_engine.proofs.EngineLemmas.{offered_running}
+use Rattle.epoch_engine.proofs.ReadyLemmas.{ready_heard, ready_same}
 use Rattle.epoch_engine.proofs.engine.Engine.offer.Goals as goal
 
 pub same-self : goal.same-self
 same-self c = refl
 
 -- the stream is there
-pub get_mut-requires : goal.get_mut-requires
-get_mut-requires c =
-    let running = c.self.invariant (ap (λ (v : View). v.intact) c.self.view_is ∙ c.requires.intact) in
+pub hear-requires : goal.hear-requires
+hear-requires c =
+    let e = c.self.inside in
+    let fits = c.self.invariant (ap (λ (v : View). v.intact) c.self.view_is ∙ c.requires.intact) in
     let known = ap (λ (v : View). slice_get v.layout.kinds c.args.stream) c.self.view_is ∙ c.requires.heard.known in
-    let lt = slice_get_within c.self.inside.layout.kinds c.args.stream c.requires.heard.kinds known in
-    subst (λ (n : ℕ). c.args.stream < n) (sym running.typed.as_many_streams) lt
+    let lt = slice_get_within e.layout.kinds c.args.stream c.requires.heard.kinds known in
+    let many = sym fits.0.typed.as_many_streams in record {
+      stream = subst (λ (n : ℕ). c.args.stream < n) many lt;
+      touched = subst (λ (n : ℕ). AreTouched n e.opened e.touched) many fits.1.touches;
+    }
 
--- the tuple has the kinds of its stream
+-- the tuple has the kinds of its stream, which isn't derived
 pub invariant_of-self : goal.invariant_of-self
 invariant_of-self c = λ intact.
     let e = c.self.inside in
-    let known = ap (λ (v : View). slice_get v.layout.kinds c.args.stream) c.self.view_is ∙ c.requires.heard.known in
-    offered_running e.network e.layout e.tables e.stores e.opened (c.self.invariant intact) c.args.stream c.requires.heard.kinds c.args.tuple known c.requires.heard.of_kinds c.get_mut.result.now c.push.new.self
-    c.get_mut.ensures.value c.in-Ok.ensures.ok
+    let s = c.args.stream in
+    let t = c.args.tuple in
+    let fits = c.self.invariant intact in
+    let many = fits.0.typed.as_many_streams in
+    let known = ap (λ (v : View). slice_get v.layout.kinds s) c.self.view_is ∙ c.requires.heard.known in
+    let lt = subst (λ (n : ℕ). s < n) (sym many) (slice_get_within e.layout.kinds s c.requires.heard.kinds known) in
+    let rows = get_or e.opened s [] ++ t ∷ [] in (
+      subst (IsRunning e.merged e.layout e.tables e.stores) (sym c.in-Ok.ensures.ok)
+          (offered_running e.merged e.layout e.tables e.stores e.opened fits.0 s c.requires.heard.kinds t known c.requires.heard.of_kinds (get_or e.opened s []) rows (slice_get-get_or e.opened s [] lt) refl),
+      ready_heard e.merged e.layout e.opened e.touched c.hear.new.touched e.reach s rows fits.1 (ap (λ (v : View). is_in v.layout.order s) c.self.view_is ∙ c.requires.heard.declared) c.hear.new.opened c.in-Ok.ensures.ok
+          (subst (λ (n : ℕ). AreTouched n c.hear.new.opened c.hear.new.touched) many c.hear.ensures.touched),
+    )
 
 -- nothing was changed
 pub invariant_of-self-in-Err : goal.invariant_of-self-in-Err
 invariant_of-self-in-Err c = λ intact.
     let e = c.self.inside in
-    subst (IsRunning e.network e.layout e.tables e.stores) (sym (lent_back e.opened c.args.stream c.get_mut.result.now c.push.new.self c.get_mut.ensures.value c.in-Err.ensures.kept)) (c.self.invariant intact)
+    let fits = c.self.invariant intact in (
+      subst (IsRunning e.merged e.layout e.tables e.stores) (sym c.in-Err.ensures.kept) fits.0,
+      ready_same e.merged e.layout e.opened e.touched c.hear.new.touched e.reach fits.1 c.hear.new.opened c.in-Err.ensures.kept
+          (subst (λ (n : ℕ). AreTouched n c.hear.new.opened c.hear.new.touched) fits.0.typed.as_many_streams c.hear.ensures.touched),
+    )
 
 -- the tuple is late
 pub returns-in-Some-clause-answer : goal.returns-in-Some-clause-answer
@@ -54,12 +74,9 @@ returns-in-Ok-clause-answer c = λ seen late.
 pub returns-in-Ok-clause-ok : goal.returns-in-Ok-clause-ok
 returns-in-Ok-clause-ok c =
     let e = c.self.inside in
-    let s = c.args.stream in
-    let t = c.args.tuple in
-    let put = c.in-Ok.ensures.ok ∙ ap (λ ts. ts ++ t ∷ []) (sym (get_or_from_slice_get e.opened s c.get_mut.result.now [] c.get_mut.ensures.value)) in
-    let view : List Row → ℕ → View =
-    λ ts at. record { network = e.network; layout = e.layout; stores = map instances_in e.stores; opened = set e.opened s ts; time = Some at; closed = e.closed; intact = e.intact } in
-    (λ i. view (put i) (c.at-at.ensures.value i)) ∙ ap (λ (v : View). with_tuple v s t) c.self.view_is
+    let view : List (List Row) → ℕ → View =
+    λ opened at. record { network = e.merged; layout = e.layout; stores = map instances_in e.stores; opened = opened; time = Some at; closed = e.closed; intact = e.intact } in
+    (λ i. view (c.in-Ok.ensures.ok i) (c.at-at.ensures.value i)) ∙ ap (λ (v : View). with_tuple v c.args.stream c.args.tuple) c.self.view_is
 
 pub returns-in-Err-clause-answer : goal.returns-in-Err-clause-answer
 returns-in-Err-clause-answer c = (
@@ -75,5 +92,5 @@ pub returns-in-Err-clause-kept : goal.returns-in-Err-clause-kept
 returns-in-Err-clause-kept c =
     let e = c.self.inside in
     let view : List (List Row) → View =
-    λ opened. record { network = e.network; layout = e.layout; stores = map instances_in e.stores; opened = opened; time = e.time; closed = e.closed; intact = e.intact } in
-    ap view (lent_back e.opened c.args.stream c.get_mut.result.now c.push.new.self c.get_mut.ensures.value c.in-Err.ensures.kept) ∙ c.self.view_is
+    λ opened. record { network = e.merged; layout = e.layout; stores = map instances_in e.stores; opened = opened; time = e.time; closed = e.closed; intact = e.intact } in
+    ap view c.in-Err.ensures.kept ∙ c.self.view_is

@@ -1,0 +1,20 @@
+-- Numbers that are marked. No public clause names this.
+use Rattle.std.specs.Prelude.{◌≡◌, ℕ, ◌<◌, Bool, false, true, List, Contains, length, slice_index_or, take}
+use Rattle.epoch_engine.specs.declared.marks.Marks.{Marks}
+
+-- the marked numbers are exactly those that are listed, and each is listed once
+pub record AreMarks (marks : Marks) : Type 0 where
+  pub listed : (number : ℕ) → slice_index_or marks.flags number false ≡ true → Contains marks.numbers number
+  pub flagged : (number : ℕ) → Contains marks.numbers number → slice_index_or marks.flags number false ≡ true
+  pub once : (place : ℕ) → place < length marks.numbers → Contains (take place marks.numbers) (slice_index_or marks.numbers place 0) → ⊥
+
+-- the flags of these numbers are down, and the others are as they were
+pub record AreLowered (numbers : List ℕ) (old new : List Bool) : Type 0 where
+  pub as_many : length new ≡ length old
+  pub raised : (number : ℕ) → slice_index_or new number false ≡ true → (slice_index_or old number false ≡ true) × (Contains numbers number → ⊥)
+
+-- the same numbers are marked, and maybe more below the same bound
+pub record MarksMore (old new : Marks) : Type 0 where
+  pub are : AreMarks new
+  pub as_many : length new.flags ≡ length old.flags
+  pub kept : (number : ℕ) → Contains old.numbers number → Contains new.numbers number

@@ -1,0 +1,92 @@
+//! Numbers that are marked.
+ghost use Rattle.std.specs.Prelude.{◌≡◌, ℕ, ◌<◌, [], false, true, Contains, length, IfOk, OnOk};
+ghost use Rattle.std.specs.List.{All};
+ghost use Rattle.epoch_engine.specs.Marks.{AreLowered, AreMarks, MarksMore};
+
+use crate::tables::filled;
+use event_types::{List, Memory, Numbers};
+use std::alloc::Global;
+
+/// Numbers below a bound, of which some are marked: for each whether it is, and the marked ones.
+#[derive(Drop)]
+pub struct Marks {
+    pub flags: List<bool>,
+    pub numbers: Numbers,
+}
+
+impl Marks {
+    /// None of the numbers below the bound is marked.
+    pub(crate) fn make(alloc: Global, bound: usize) -> Result<Marks, Memory>
+        ensures are { IfOk result (λ marks. AreMarks marks) }
+        ensures as_many { IfOk result (λ marks. length marks.flags ≡ bound) }
+    {
+        let flags = filled(alloc, bound, false)?;
+        Ok(Marks {
+            flags,
+            numbers: List::new(alloc),
+        })
+    }
+
+    /// Takes no memory.
+    pub(crate) fn is_marked(&self, number: usize) -> bool
+        requires marks { AreMarks self.now }
+        requires number { number < length self.now.flags }
+        ensures marked { result ≡ true → Contains self.now.numbers number }
+        ensures unmarked { result ≡ false → Contains self.now.numbers number → ⊥ }
+    {
+        *self.flags.get(number)
+    }
+
+    /// Want of memory leaves the marks as they are.
+    pub(crate) fn mark(&mut self, number: usize) -> Result<(), Memory>
+        requires marks { AreMarks self.old }
+        requires number { number < length self.old.flags }
+        ensures more { MarksMore self.old self.new }
+        ensures marked { OnOk result (Contains self.new.numbers number) }
+    {
+        if *self.flags.get(number) {
+            return Ok(());
+        }
+        match self.numbers.push(number) {
+            Ok(()) => {
+                *self.flags.get_mut(number) = true;
+                Ok(())
+            }
+            Err(_) => Err(Memory),
+        }
+    }
+
+    /// Marks all of these numbers.
+    pub(crate) fn mark_all(&mut self, numbers: &[usize]) -> Result<(), Memory>
+        requires marks { AreMarks self.old }
+        requires numbers { All (λ number. number < length self.old.flags) numbers.now }
+        ensures more { MarksMore self.old self.new }
+        ensures marked { OnOk result (All (Contains self.new.numbers) numbers.now) }
+    {
+        for number in numbers {
+            self.mark(*number)?;
+        }
+        Ok(())
+    }
+
+    /// Takes each mark away, and keeps the room. Takes no memory.
+    pub(crate) fn clear(&mut self)
+        requires { AreMarks self.old }
+        ensures are { AreMarks self.new }
+        ensures as_many { length self.new.flags ≡ length self.old.flags }
+        ensures none { self.new.numbers ≡ [] }
+    {
+        lower(&mut self.flags, self.numbers.as_slice());
+        self.numbers.clear();
+    }
+}
+
+// Takes down the flags of these numbers.
+fn lower(flags: &mut List<bool>, numbers: &[usize])
+    requires { All (λ number. number < length flags.old) numbers.now }
+    ensures { AreLowered numbers.now flags.old flags.new }
+{
+    for number in numbers {
+        *flags.get_mut(*number) = false;
+    }
+}
