@@ -1,5 +1,5 @@
 -- The rows of an epoch that is closed.
-use Rattle.std.proofs.Common.{◌≡◌, ◌∙◌, sym, ap, subst, ℕ, ◌<◌, cond, List, [], ◌++◌, length, append_assoc, Option, Some}
+use Rattle.std.proofs.Common.{◌≡◌, ◌∙◌, sym, ap, subst, ℕ, ◌<◌, cond, List, [], ◌++◌, append_assoc, Option, Some}
 use Rattle.std.proofs.lemmas.Bool.{lt-ltb}
 use Rattle.cay_host.specs.Told.{Told}
 use Rattle.event_types.specs.Tuple.{Row}

@@ -1,5 +1,5 @@
 -- The report of the closed epochs, written epoch after epoch.
-use Rattle.std.proofs.Common.{◌≡◌, ◌∙◌, sym, ap, refl, subst, ℕ, ◌<◌, Bool, true, false, cond, ◌&&◌, nat_lt, is_some, is_none, List, [], ◌∷◌, ◌++◌, Option, Some, None, Result, Ok, Err, length, length-append, arith, ◌≤◌, append-nil, append_assoc}
+use Rattle.std.proofs.Common.{◌≡◌, ◌∙◌, sym, ap, refl, subst, ℕ, ◌<◌, Bool, true, false, cond, ◌&&◌, nat_lt, is_some, is_none, List, [], ◌∷◌, ◌++◌, Some, None, Result, Ok, Err, length, length-append, arith, ◌≤◌, append-nil, append_assoc}
 use Rattle.std.specs.List.{All, filter}
 use Rattle.std.specs.Option.{option_or}
 use Rattle.std.proofs.lemmas.List.Elements.{filter-append, All-nil, All-cons, All-head, All-tail, All-append, All-weaker}

@@ -13,7 +13,6 @@ use Rattle.semantics.specs.Denotation.{Streams, streams_of}
 use Rattle.semantics.specs.Histories.{Heard}
 use Rattle.semantics.specs.Kinds.{HasKinds}
 use Rattle.semantics.specs.Programs.{Query as Term, declared_streams}
-use Rattle.semantics.specs.TypedPrograms.{PublishInTurn}
 use Rattle.stream_schema.specs.Streams.{stream_names}
 use Rattle.cel_types.specs.SourceLaws.{kinds_in}
 use Rattle.evaluation.specs.declared.query.Query.{Query}

@@ -1,26 +1,27 @@
 -- What a session makes of more bytes, and of the end of the text.
-use Rattle.std.proofs.Common.{◌≡◌, ◌∙◌, sym, ap, refl, subst, ℕ, ◌+◌, ◌-◌, ◌<◌, ◌≤◌, Bool, true, false, List, ◌++◌, [], map, length, min, take, None, Result, Ok, Err, length-append, append-nil, arith}
+use Rattle.std.proofs.Common.{◌≡◌, ◌∙◌, sym, ap, refl, subst, ℕ, ◌+◌, ◌-◌, ◌<◌, ◌≤◌, true, false, List, ◌++◌, [], map, length, min, take, None, Result, Ok, Err, length-append, append-nil, arith}
 use Rattle.std.specs.Result.{OnOk, is_err}
 use Rattle.std.proofs.lemmas.List.{length-take, take_min}
 use Rattle.std.proofs.Math.Seq.{take-length}
 use Rattle.semantics.specs.Histories.{Heard}
 use Rattle.cay_host.specs.Output.{Wrote}
 use Rattle.cay_host.specs.Told.{Told}
-use Rattle.catalogue.specs.Catalogued.{IsAccepted, judged_of}
-use Rattle.event_csv.specs.Fed.{Fed, IsPart, fed_more, feeds_in, feeds_so_far}
+use Rattle.catalogue.specs.Catalogued.{judged_of}
+use Rattle.epoch_engine.specs.StandsFor as engines
+use Rattle.event_csv.specs.Fed.{Fed, IsPart, fed_more}
 use Rattle.monitor.specs.declared.fault.SessionFault.{SessionFault}
 use Rattle.monitor.specs.declared.fault.SessionFault.TheVariants as fault
 use Rattle.monitor.specs.declared.work.Work.{Work}
 use Rattle.monitor.specs.Feeding.{Feeds, Finishes, StopsAt, StopsAtPiece}
-use Rattle.monitor.specs.Hearing.{heard_from, refused_after, refused_from}
+use Rattle.monitor.specs.Hearing.{heard_after, heard_from, refused_after}
 use Rattle.monitor.specs.Owing.{Beyond}
 use Rattle.monitor.specs.Readings.{reading_of, readings_left}
-use Rattle.monitor.specs.Sessions.{StandsFor, View, program_in, readings_in, report_in}
-use Rattle.monitor.specs.Standing.{IsPlanned, Stands}
+use Rattle.monitor.specs.Sessions.{HasFinished, StandsFor, View, program_in, readings_in, report_in}
+use Rattle.monitor.specs.Standing.{IsAtWork, IsThrough, Stands, lines_over}
 use Rattle.monitor.specs.Taking.{Gone}
-use Rattle.monitor.specs.Working.{Ends, Stops, left_of}
+use Rattle.monitor.specs.Working.{Ends, Stops}
 use Rattle.monitor.proofs.ReadingLemmas.{same_left}
-use Rattle.monitor.proofs.SessionLemmas.{cut_within, done_at, given_more, heard_on, later, so_far, stops_at, refused_on}
+use Rattle.monitor.proofs.SessionLemmas.{cut_within, done_at, given_more, heard_on, later, so_far, stops_at}
 use Rattle.monitor.proofs.WorkingLemmas.{ends_same}
 
 -- what holds of a value, where there is one
@@ -78,11 +79,11 @@ module _ (session : View) (past : List Heard) (text : List ℕ) (stands : Stands
     fed_session = record session { engine = worked.engine; feed = feed; fed = session.fed + length piece; ended = false }
 
     -- it was done, and the session stands for the longer text
-    pub feeds : Gone (fed_more session.feed piece) feed → IsPart feed → IsPlanned session.catalogue worked.engine
+    pub feeds : Gone (fed_more session.feed piece) feed → IsPart feed → IsAtWork session.catalogue worked
         → Ends (program_in session) false (later session past text stands piece false) (so_far session past text stands) work a b (Ok tt)
         → Stands session.catalogue (so_far session past text stands ++ heard_from work.engine.time (later session past text stands piece false)) worked.engine
         → Feeds session fed_session past text piece a b
-    feeds gone part planned ends now =
+    feeds gone part at_work ends now =
         let done = done_at session past text stands piece false work same none_owed a b ends.0 ends.1 in
         let all = sym (heard_on session past text stands piece false ∙ ap (λ e. so_far session past text stands ++ heard_from e.time (later session past text stands piece false)) (sym same)) in
         let standing = subst (λ h. Stands session.catalogue h worked.engine) all now in
@@ -92,9 +93,7 @@ module _ (session : View) (past : List Heard) (text : List ℕ) (stands : Stands
             within = rw (length-append text piece) within;
             none_refused = done.0;
             declared = stands.declared;
-            network = planned.network;
-            layout = planned.layout;
-            engine = standing.engine;
+            works = record { intact = at_work.intact; layout = at_work.planned.layout; engine = standing.engine };
             last_is_open = standing.last_is_open;
             counted = ap (λ n. n + length piece) stands.counted ∙ sym (length-append text piece);
             feed = given_more text piece session.feed feed stands.feed gone part;
@@ -102,14 +101,40 @@ module _ (session : View) (past : List Heard) (text : List ℕ) (stands : Stands
           wrote = done.1;
         }
 
-  -- the text has ended
-  pub finishes : (end : Result (Unit {0}) SessionFault) → Ends (program_in session) true (readings_left (judged_of session.catalogue).streams session.feed true) (so_far session past text stands) work a b end → Finishes session past text a b end
-  finishes end ends = cases end (ends_same (program_in session) true (readings_left (judged_of session.catalogue).streams session.feed true) (later session past text stands [] true) (so_far session past text stands) work a b end
-      (ap (map (reading_of (judged_of session.catalogue).streams)) (same_left session.feed true)) ends)
-    where
-      cases : (end : Result (Unit {0}) SessionFault) → Ends (program_in session) true (later session past text stands [] true) (so_far session past text stands) work a b end → Finishes session past text a b end
-      cases (Ok done) ends =
-          subst (λ t. (refused_after past (readings_in session t true) ≡ None) × Beyond Wrote (report_in session past text false) (report_in session past t true) a b) (append-nil text)
-          (done_at session past text stands [] true work same none_owed a b ends.0 ends.1)
-      cases (Err stop) ends =
-          subst (λ t. StopsAt session past text t true a b stop) (append-nil text) (stops_at session past text stands [] true work same none_owed a b stop ends)
+  module _ (worked : Work) where
+    abbrev finished_session : View
+    finished_session = record session { engine = worked.engine; ended = true }
+
+    -- the engine works for all that was heard
+    has_finished : IsThrough session.catalogue worked.engine
+        → engines.StandsFor worked.engine (lines_over session.catalogue) (so_far session past text stands ++ heard_from work.engine.time (readings_left (judged_of session.catalogue).streams session.feed true))
+        → HasFinished finished_session past text
+    has_finished through now =
+        let left = ap (map (reading_of (judged_of session.catalogue).streams)) (same_left session.feed true) in
+        let all : so_far session past text stands ++ heard_from work.engine.time (readings_left (judged_of session.catalogue).streams session.feed true) ≡ heard_after past (readings_in session text true) =
+        ap (λ ls. so_far session past text stands ++ heard_from work.engine.time ls) (sym left)
+        ∙ ap (λ e. so_far session past text stands ++ heard_from e.time (later session past text stands [] true)) same
+        ∙ sym (heard_on session past text stands [] true)
+        ∙ ap (λ t. heard_after past (readings_in session t true)) (append-nil text) in
+        record {
+          works = record { intact = through.intact; layout = through.planned.layout; engine = subst (engines.StandsFor worked.engine (lines_over session.catalogue)) all now };
+          none_open = through.none_open;
+        }
+
+    -- the text has ended
+    pub finishes : (end : Result (Unit {0}) SessionFault) → Ends (program_in session) true (readings_left (judged_of session.catalogue).streams session.feed true) (so_far session past text stands) work a b end
+        → OnOk end (IsThrough session.catalogue worked.engine)
+        → OnOk end (engines.StandsFor worked.engine (lines_over session.catalogue) (so_far session past text stands ++ heard_from work.engine.time (readings_left (judged_of session.catalogue).streams session.feed true)))
+        → Finishes session finished_session past text a b end
+    finishes end ends through now = cases end (ends_same (program_in session) true (readings_left (judged_of session.catalogue).streams session.feed true) (later session past text stands [] true) (so_far session past text stands) work a b end
+        (ap (map (reading_of (judged_of session.catalogue).streams)) (same_left session.feed true)) ends) through now
+      where
+        cases : (end : Result (Unit {0}) SessionFault) → Ends (program_in session) true (later session past text stands [] true) (so_far session past text stands) work a b end
+            → OnOk end (IsThrough session.catalogue worked.engine)
+            → OnOk end (engines.StandsFor worked.engine (lines_over session.catalogue) (so_far session past text stands ++ heard_from work.engine.time (readings_left (judged_of session.catalogue).streams session.feed true)))
+            → Finishes session finished_session past text a b end
+        cases (Ok done) ends through now =
+            let at_end = subst (λ t. (refused_after past (readings_in session t true) ≡ None) × Beyond Wrote (report_in session past text false) (report_in session past t true) a b) (append-nil text)
+            (done_at session past text stands [] true work same none_owed a b ends.0 ends.1) in (at_end.0, at_end.1, has_finished through now)
+        cases (Err stop) ends through now =
+            subst (λ t. StopsAt session past text t true a b stop) (append-nil text) (stops_at session past text stands [] true work same none_owed a b stop ends)

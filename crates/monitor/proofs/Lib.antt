@@ -1,6 +1,7 @@
 pub mod BatchLemmas
 pub mod ClosedLemmas
 pub mod ClosingLemmas
+pub mod CountingLemmas
 pub mod EvaluatedLemmas
 pub mod FeedingLemmas
 pub mod FittingLemmas
@@ -8,6 +9,7 @@ pub mod HearingLemmas
 pub mod OwingLemmas
 pub mod PlanLemmas
 pub mod ReadingLemmas
+pub mod RestLemmas
 pub mod ResultLemmas
 pub mod SessionLemmas
 pub mod StandingLemmas

@@ -1,10 +1,10 @@
 -- The network and the layout of an engine as those of a catalogue.
-use Rattle.std.proofs.Common.{◌≡◌, ◌∙◌, sym, ap, refl, subst, ℕ, ◌+◌, ◌-◌, ◌<◌, ◌≤◌, ◌==◌, ◌||◌, Bool, false, List, [], ◌∷◌, ◌++◌, map, length, Some, slice_get, arith}
+use Rattle.std.proofs.Common.{◌≡◌, ◌∙◌, sym, ap, refl, subst, ℕ, ◌+◌, ◌-◌, ◌<◌, ◌≤◌, ◌==◌, ◌||◌, false, List, [], ◌∷◌, length, Some, slice_get, arith}
 use Rattle.std.specs.List.{All}
 use Rattle.std.specs.Option.{option_map}
 use Rattle.std.proofs.lemmas.Bool.Decides.{nat_tests}
 use Rattle.std.proofs.lemmas.List.{length-map}
-use Rattle.std.proofs.lemmas.List.Elements.{All-nil, All-cons, All-head, All-tail, All-append, All-weaker}
+use Rattle.std.proofs.lemmas.List.Elements.{All-nil, All-cons, All-head, All-tail, All-append}
 use Rattle.std.proofs.lemmas.Option.{get_or_from_slice_get, slice_get-map}
 use Rattle.event_types.specs.declared.kind.Kind.{Kind}
 use Rattle.event_types.specs.Tuple.{Row}
@@ -12,13 +12,13 @@ use Rattle.event_types.specs.Order.{sorted}
 use Rattle.semantics.specs.Kinds.{HasKinds}
 use Rattle.semantics.specs.Programs.{Query}
 use Rattle.semantics.specs.TypedPrograms.{PublishInTurn}
-use Rattle.stream_schema.specs.Schema.{Attr, kinds_of}
+use Rattle.stream_schema.specs.Schema.{kinds_of}
 use Rattle.stream_schema.specs.Streams.{Entry, schemas_of}
 use Rattle.automaton.specs.declared.layout.Layout.{Layout}
-use Rattle.automaton.specs.Plain.{IsPlain}
+use Rattle.automaton.specs.NetworkLines.{HasLines}
 use Rattle.automaton.specs.States.{Net}
 use Rattle.automaton.specs.Work.{is_in}
-use Rattle.automaton.proofs.PlainLemmas.{plain_has_lines}
+use Rattle.prefix_merge.specs.Merging.{IsMerged}
 use Rattle.splitter.specs.Laws.{hidden_streams, split_order}
 use Rattle.splitter.specs.Splitting.{parts_of}
 use Rattle.splitter.proofs.NumberingLemmas.{parts_up}
@@ -101,20 +101,19 @@ batch_count c old new batch planned closes =
 -- a changed engine of the same network and layout
 pub planned_still : (c : Catalogued) (old new : engine.View) → KeepsPlan old new → IsPlanned c old → IsPlanned c new
 planned_still c old new plan planned = record {
-  network = subst (IsPlain (lines_over c)) (sym plan.network) planned.network;
+  merged = subst IsMerged (sym plan.network) planned.merged;
+  lines = subst (λ (net : Net). HasLines net (lines_over c)) (sym plan.network) planned.lines;
   layout = subst (IsLayoutOf (program_over c) (kinds_of_each (judged_of c).streams)) (sym plan.layout) planned.layout;
 }
 
--- the plain network and a layout of a catalogue serve its lines
-pub plain_serves : (c : Catalogued) (net : Net) (layout : Layout) → IsPlain (lines_over c) net → IsLayoutOf (program_over c) (kinds_of_each (judged_of c).streams) layout → Serves net (lines_over c) layout.order
-plain_serves c net layout plain fits = record {
-  has_lines = plain_has_lines (lines_over c) net plain;
-  in_order = fits.fits.in_order;
-}
+-- a network that has the lines of a catalogue, and a layout of it, serve them
+pub lines_serve : (c : Catalogued) (net : Net) (layout : Layout) → HasLines net (lines_over c) → IsLayoutOf (program_over c) (kinds_of_each (judged_of c).streams) layout → Serves net (lines_over c) layout.order
+lines_serve c net layout lines fits = record { has_lines = lines; in_order = fits.fits.in_order }
 
 -- an engine that was made over them has them
-pub new_planned : (c : Catalogued) (net : Net) (layout : Layout) (now : engine.View) → IsPlain (lines_over c) net → IsLayoutOf (program_over c) (kinds_of_each (judged_of c).streams) layout → IsNew net layout now → IsPlanned c now
-new_planned c net layout now plain fits new = record {
-  network = subst (IsPlain (lines_over c)) (sym new.network) plain;
+pub new_planned : (c : Catalogued) (net : Net) (layout : Layout) (now : engine.View) → HasLines net (lines_over c) → IsLayoutOf (program_over c) (kinds_of_each (judged_of c).streams) layout → IsNew net layout now → IsPlanned c now
+new_planned c net layout now lines fits new = record {
+  merged = subst IsMerged (sym new.network) new.merged;
+  lines = subst (λ (n : Net). HasLines n (lines_over c)) (sym new.network) lines;
   layout = subst (IsLayoutOf (program_over c) (kinds_of_each (judged_of c).streams)) (sym new.same_layout) fits;
 }

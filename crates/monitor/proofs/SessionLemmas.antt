@@ -1,6 +1,6 @@
 -- What a session stands for, once more bytes have come.
 use Rattle.std.specs.Option.{IfSome}
-use Rattle.std.proofs.Common.{◌≡◌, ◌∙◌, sym, ap, refl, subst, ℕ, ◌+◌, ◌-◌, ◌<◌, ◌≤◌, Bool, true, false, cond, is_some, List, [], ◌∷◌, ◌++◌, map, length, take, Option, Some, None, Result, Ok, Err, append_assoc, append-nil, arith}
+use Rattle.std.proofs.Common.{◌≡◌, ◌∙◌, sym, ap, refl, subst, ℕ, ◌+◌, ◌-◌, ◌<◌, ◌≤◌, Bool, false, IsTrue, cond, is_some, List, [], ◌∷◌, ◌++◌, map, length, take, Option, Some, None, Result, Ok, Err, append_assoc, append-nil, arith}
 use Rattle.std.specs.List.{All}
 use Rattle.std.proofs.lemmas.List.Elements.{All-nil, All-cons, All-append, All-weaker}
 use Rattle.std.proofs.Math.Seq.{take-append-add}
@@ -8,9 +8,7 @@ use Rattle.std.proofs.lemmas.List.{map-append}
 use Rattle.std.proofs.lemmas.List.Sums.{sum_by-append}
 use Rattle.semantics.specs.Histories.{Heard}
 use Rattle.semantics.specs.Kinds.{HasKinds}
-use Rattle.stream_schema.specs.Streams.{Entry}
 use Rattle.automaton.specs.declared.line.Line as automaton
-use Rattle.automaton.specs.Plain.{IsPlain}
 use Rattle.cel_types.specs.SourceLaws.{kinds_in}
 use Rattle.chains.specs.Chains.{lines_of}
 use Rattle.chains.specs.Layouts.{IsLayoutOf}
@@ -39,7 +37,7 @@ use Rattle.monitor.specs.Readings.{found_of, heard_of, reading_of, readings_left
 use Rattle.monitor.specs.Sessions.{AreDeclared, HasGiven, StandsFor, View, program_in, readings_in, report_in}
 use Rattle.monitor.specs.Standing.{Stands}
 use Rattle.monitor.specs.Taking.{Gone}
-use Rattle.monitor.specs.Working.{Ends, Stops, left_of, rows_left}
+use Rattle.monitor.specs.Working.{Stops, left_of, rows_left}
 use Rattle.monitor.proofs.ClosingLemmas.{rows_left_after}
 use Rattle.monitor.proofs.FittingLemmas.{event_fits}
 use Rattle.monitor.proofs.HearingLemmas.{GoOn, closed_on, go_on}
@@ -131,7 +129,7 @@ module _ (session : View) (past : List Heard) (text : List ℕ) (stands : Stands
   pub engine_stands : IsAccepted session.catalogue → Stands session.catalogue so_far session.engine
   engine_stands accepted = record {
     declared = declared_more session.catalogue accepted past (last_time past) (lines text false) stands.declared;
-    engine = stands.engine;
+    engine = stands.works.engine;
     last_is_open = stands.last_is_open;
   }
 
@@ -161,7 +159,7 @@ module _ (session : View) (past : List Heard) (text : List ℕ) (stands : Stands
         let program = program_in session in
         ap (λ ls. report program (closed_after past ls ended)) readings_on
         ∙ ap (report program) (closed_on past before later ended on)
-        ∙ sym (rows_left_after program ended later so_far stands.engine.stands.never_falls)
+        ∙ sym (rows_left_after program ended later so_far stands.works.engine.stands.never_falls)
         ∙ ap (λ s. report program (before_last so_far) ++ rows_left program ended later s so_far) (sym stands.last_is_open)
 
     module _ (work : Work) (same : work.engine ≡ session.engine) (none_owed : work.rows.items ≡ []) (a b : Told) where
@@ -206,9 +204,9 @@ last_open now ls past stands opened = by_time now.time refl
 
 -- a session that was fed nothing stands for what its engine stands for
 pub begins : (session : View) (past : List Heard) → session.ended ≡ false → session.fed ≡ 0 → session.feed ≡ unfed → AreDeclared (judged_of session.catalogue) past
-    → IsPlain (lines_of (program_in session)) session.engine.network → IsLayoutOf (program_in session) (kinds_of_each (judged_of session.catalogue).streams) session.engine.layout
+    → IsTrue session.engine.intact → IsLayoutOf (program_in session) (kinds_of_each (judged_of session.catalogue).streams) session.engine.layout
     → (session.engine.time ≡ None → session.engine.closed ≡ None) → engines.StandsFor session.engine (lines_of (program_in session)) past → StandsFor session past []
-begins session past going fed feed declared network layout opened stands =
+begins session past going fed feed declared intact layout opened stands =
     let read = reading_of (judged_of session.catalogue).streams in
     let same = sym (append-nil past) ∙ ap (λ ls. heard_after past (map read ls)) (sym (no_lines false)) in
     record {
@@ -216,9 +214,7 @@ begins session past going fed feed declared network layout opened stands =
       within = omega arith;
       none_refused = ap (λ ls. refused_after past (map read ls)) (no_lines false);
       declared = declared;
-      network = network;
-      layout = layout;
-      engine = subst (engines.StandsFor session.engine (lines_of (program_in session))) same stands;
+      works = record { intact = intact; layout = layout; engine = subst (engines.StandsFor session.engine (lines_of (program_in session))) same stands };
       last_is_open = last_open session.engine (lines_of (program_in session)) past stands opened ∙ ap last_time same;
       counted = fed;
       feed = subst (HasGiven []) (sym feed) (record { gives = λ more ended. ap (λ ls. ls ++ lines_left (fed_more unfed more) ended) (sym (no_lines false)); line_feeds = refl; none_held = refl });

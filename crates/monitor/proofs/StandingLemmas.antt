@@ -1,6 +1,5 @@
 -- The events that the work stands for, before and after one more.
 use Rattle.std.proofs.Common.{◌≡◌, ◌∙◌, sym, refl, ap, subst, ℕ, ◌<◌, ◌≤◌, Bool, true, false, cond, nat_lt, IsTrue, length, List, [], ◌∷◌, ◌++◌, Option, Some, None, arith}
-use Rattle.std.specs.List.{All}
 use Rattle.std.proofs.lemmas.Bool.{le-ltb, ltb-false}
 use Rattle.std.proofs.lemmas.List.Elements.{All-nil, All-cons, All-append}
 use Rattle.event_types.specs.Tuple.{IsSound}
@@ -9,7 +8,6 @@ use Rattle.semantics.specs.Kinds.{HasKinds}
 use Rattle.cel_types.specs.SourceLaws.{kinds_in}
 use Rattle.catalogue.specs.Catalogued.{Catalogued, IsAccepted, judged_of}
 use Rattle.epoch_laws.specs.Standing.{last_time}
-use Rattle.epoch_engine.specs.Closes.{KeepsPlan}
 use Rattle.epoch_engine.specs.Offers.{IsHeard, IsLate, IsNotAhead, with_tuple}
 use Rattle.epoch_engine.specs.StandsFor as engines
 use Rattle.epoch_engine.specs.Views as engine
@@ -88,7 +86,7 @@ module _ (c : Catalogued) (accepted : IsAccepted c) (event : Seen) (fits : Fits 
         let still = planned_still c old mid ready.plan planned in
         record {
           intact = subst (λ (now : engine.View). IsTrue now.intact) (sym took) ready.intact;
-          planned = subst (IsPlanned c) (sym took) (record { network = still.network; layout = still.layout });
+          planned = subst (IsPlanned c) (sym took) (record { merged = still.merged; lines = still.lines; layout = still.layout });
           opened = λ none. let some : new.engine.time ≡ Some event.tuple.at = ap (λ (now : engine.View). now.time) took in absurd (cc);
         }
 

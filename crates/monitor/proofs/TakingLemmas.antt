@@ -1,5 +1,5 @@
 -- Lines that are taken from a feed, one after another.
-use Rattle.std.proofs.Common.{◌∙◌, ap, refl, sym, [], ◌++◌, append_assoc}
+use Rattle.std.proofs.Common.{◌∙◌, ap, sym, ◌++◌, append_assoc}
 use Rattle.event_csv.specs.Fed.{Fed, fed_more, lines_left}
 use Rattle.monitor.specs.Taking.{Gone}
 

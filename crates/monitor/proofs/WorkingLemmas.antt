@@ -1,5 +1,5 @@
 -- What one more line leaves of the work.
-use Rattle.std.proofs.Common.{◌≡◌, ◌∙◌, sym, ap, refl, subst, ℕ, ◌<◌, ◌≤◌, Bool, true, false, cond, is_some, List, [], ◌∷◌, ◌++◌, Some, None, Ok, Err, Result, length-append, append_assoc, append-nil, arith}
+use Rattle.std.proofs.Common.{◌≡◌, ◌∙◌, sym, ap, subst, ℕ, ◌<◌, ◌≤◌, Bool, false, cond, is_some, List, [], ◌∷◌, ◌++◌, Some, None, Ok, Err, Result, length-append, append_assoc, append-nil, arith}
 use Rattle.std.specs.Option.{option_or}
 use Rattle.std.proofs.lemmas.Bool.{lt-ltb}
 use Rattle.std.proofs.lemmas.List.{take-append-le}
@@ -20,7 +20,7 @@ use Rattle.monitor.specs.Owing.{WroteFront}
 use Rattle.monitor.specs.Readings.{heard_of}
 use Rattle.monitor.specs.Standing.{Stands, program_over}
 use Rattle.monitor.specs.Working.{Advances, Ends, FailsBy, GoesOn, Owes, RefusesBy, Stops, Takes, closing, closes, left_of, line_of, open_rows, rows_left}
-use Rattle.monitor.proofs.OwingLemmas.{Owes-refl, Owes-trans, Owes-all, part_after, front_after, front_none, all_written}
+use Rattle.monitor.proofs.OwingLemmas.{Owes-trans, Owes-all, part_after, front_after, front_none, all_written}
 
 pub late_is : (line at seen : ℕ) → at < seen → disorder line (Some seen) at ≡ Some (IsOutOfOrder line at seen)
 late_is line at seen less = ap (λ b. cond b (Some (IsOutOfOrder line at seen)) None) (lt-ltb at seen less)

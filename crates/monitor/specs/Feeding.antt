@@ -8,7 +8,7 @@ use Rattle.monitor.specs.declared.fault.SessionFault.{SessionFault}
 use Rattle.monitor.specs.declared.fault.SessionFault.TheVariants.{Refused, TooMuch, WriteFault, Memory}
 use Rattle.monitor.specs.Hearing.{refused_after}
 use Rattle.monitor.specs.Owing.{Beyond, WroteFront}
-use Rattle.monitor.specs.Sessions.{StandsFor, View, readings_in, report_in}
+use Rattle.monitor.specs.Sessions.{HasFinished, StandsFor, View, readings_in, report_in}
 
 -- the session stands for the longer text, and has written exactly the rows of the epochs that the new bytes closed
 pub record Feeds (old new : View) (past : List Heard) (text piece : List ℕ) (before after : Told) : Type 0 where
@@ -36,11 +36,11 @@ StopsAtPiece session past text piece before after (TooMuch limit) =
     × Beyond Wrote (report_in session past text false) (report_in session past heard false) before after
 StopsAtPiece session past text piece before after fault = StopsAt session past text (within_limit session (text ++ piece)) false before after fault
 
--- the text has ended: no line of it is refused, and the rows of the epochs that weren't closed before are written; or why not
-abbrev pub Finishes : View → List Heard → List ℕ → Told → Told → Result (Unit {0}) SessionFault → Type 0
-Finishes session past text before after (Ok done) =
-    (refused_after past (readings_in session text true) ≡ None) × Beyond Wrote (report_in session past text false) (report_in session past text true) before after
-Finishes session past text before after (Err fault) = StopsAt session past text text true before after fault
+-- the text has ended: no line of it is refused, the rows of the epochs that weren't closed before are written, and the engine works for all of it; or why not
+abbrev pub Finishes : View → View → List Heard → List ℕ → Told → Told → Result (Unit {0}) SessionFault → Type 0
+Finishes old new past text before after (Ok done) =
+    (refused_after past (readings_in old text true) ≡ None) × Beyond Wrote (report_in old past text false) (report_in old past text true) before after × HasFinished new past text
+Finishes old new past text before after (Err fault) = StopsAt old past text text true before after fault
 
 -- the count of write faults is the same, unless a failed write is the answer
 abbrev pub BlamesWriting : Result (Unit {0}) SessionFault → Told → Told → Type 0

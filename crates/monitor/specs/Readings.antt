@@ -1,5 +1,5 @@
 -- The lines of an event text, and those that are left of one, as they are read.
-use Rattle.std.specs.Prelude.{◌≡◌, ℕ, Bool, true, false, List, [], ◌∷◌, map, Ok, Err, Result}
+use Rattle.std.specs.Prelude.{◌≡◌, ℕ, Bool, true, List, [], ◌∷◌, map, Ok, Err, Result}
 use Rattle.stream_schema.specs.Streams.{Entry}
 use Rattle.semantics.specs.Histories.{Heard}
 use Rattle.event_csv.specs.declared.event.Seen.{Seen}

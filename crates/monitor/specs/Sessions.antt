@@ -1,15 +1,15 @@
 -- What contracts see of a session, and what it stands for.
-use Rattle.std.specs.Prelude.{◌≡◌, ◌<◌, ◌≤◌, ℕ, Bool, false, List, length, None}
+use Rattle.std.specs.Prelude.{◌≡◌, ◌<◌, ◌≤◌, ℕ, Bool, true, false, IsTrue, List, length, None}
 use Rattle.std.specs.List.{All}
 use Rattle.semantics.specs.Histories.{Heard}
 use Rattle.semantics.specs.Programs.{Program}
 use Rattle.semantics.specs.Report.{report}
 use Rattle.semantics.specs.TypedPrograms.{HaveTheirKinds}
-use Rattle.automaton.specs.Plain.{IsPlain}
 use Rattle.chains.specs.Chains.{lines_of}
 use Rattle.chains.specs.Layouts.{IsLayoutOf}
 use Rattle.epoch_laws.specs.Standing.{last_time}
 use Rattle.epoch_engine.specs.StandsFor as engines
+use Rattle.epoch_engine.specs.Trims.{Trims}
 use Rattle.epoch_engine.specs.Views as engine
 use Rattle.event_csv.specs.Fed.{Fed, Gives, fed_more, feeds_in, feeds_so_far, unfed}
 use Rattle.event_csv.specs.Lines.{lines}
@@ -51,18 +51,36 @@ pub record HasGiven (text : List ℕ) (feed : Fed) : Type 0 where
   pub line_feeds : feeds_so_far feed ≡ feeds_in text
   pub none_held : feeds_in feed.rest ≡ 0
 
--- a session stands for a history of events on declared streams and for the bytes of an event text behind it: the session hasn't ended, has counted the bytes, and they are within the limit; no line of them is refused; its engine, over the plain network and a layout of its queries, stands for all that was heard, with the last epoch open; and its feed has given the lines of the bytes
+-- the engine of a session is intact, has a layout of its queries, and stands for a history over the merged network of their lines
+pub record WorksFor (session : View) (history : List Heard) : Type 0 where
+  pub intact : IsTrue session.engine.intact
+  pub layout : IsLayoutOf (program_in session) (kinds_of_each (judged_of session.catalogue).streams) session.engine.layout
+  pub engine : engines.StandsFor session.engine (lines_of (program_in session)) history
+
+-- a session stands for a history of events on declared streams and for the bytes of an event text behind it: the session hasn't ended, has counted the bytes, and they are within the limit; no line of them is refused; its engine works for all that was heard, with the last epoch open; and its feed has given the lines of the bytes
 pub record StandsFor (session : View) (past : List Heard) (text : List ℕ) : Type 0 where
   pub going : session.ended ≡ false
   pub within : length text ≤ session.limit
   pub none_refused : refused_after past (readings_in session text false) ≡ None
   pub declared : AreDeclared (judged_of session.catalogue) past
-  pub network : IsPlain (lines_of (program_in session)) session.engine.network
-  pub layout : IsLayoutOf (program_in session) (kinds_of_each (judged_of session.catalogue).streams) session.engine.layout
-  pub engine : engines.StandsFor session.engine (lines_of (program_in session)) (heard_after past (readings_in session text false))
+  pub works : WorksFor session (heard_after past (readings_in session text false))
   pub last_is_open : session.engine.time ≡ last_time (heard_after past (readings_in session text false))
   pub counted : session.fed ≡ length text
   pub feed : HasGiven text session.feed
+
+-- the text has ended, and the engine works for all that was heard of the whole text, with no epoch open
+pub record HasFinished (session : View) (past : List Heard) (text : List ℕ) : Type 0 where
+  pub works : WorksFor session (heard_after past (readings_in session text true))
+  pub none_open : session.engine.time ≡ None
+
+-- the stores of the engine were purged, and all else is the same
+pub record TrimsEngine (old new : View) : Type 0 where
+  pub engine : Trims old.engine new.engine
+  pub catalogue : new.catalogue ≡ old.catalogue
+  pub limit : new.limit ≡ old.limit
+  pub feed : new.feed ≡ old.feed
+  pub fed : new.fed ≡ old.fed
+  pub ended : new.ended ≡ old.ended
 
 -- the queries and the limit are the same
 pub record KeepsQueries (old new : View) : Type 0 where

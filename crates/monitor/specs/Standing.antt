@@ -1,9 +1,10 @@
 -- The events that the work stands for, and what holds of the work whatever was heard. No public clause cites this module.
-use Rattle.std.specs.Prelude.{◌≡◌, ◌≤◌, ℕ, false, IsTrue, List, [], None}
+use Rattle.std.specs.Prelude.{◌≡◌, ◌≤◌, ℕ, IsTrue, List, [], None}
 use Rattle.semantics.specs.Histories.{Heard}
 use Rattle.semantics.specs.Programs.{Program}
 use Rattle.automaton.specs.declared.line.Line.{Line}
-use Rattle.automaton.specs.Plain.{IsPlain}
+use Rattle.automaton.specs.NetworkLines.{HasLines}
+use Rattle.prefix_merge.specs.Merging.{IsMerged}
 use Rattle.chains.specs.Chains.{lines_of}
 use Rattle.chains.specs.Layouts.{IsLayoutOf}
 use Rattle.epoch_laws.specs.Standing.{last_time}
@@ -31,9 +32,10 @@ pub record Stands (c : Catalogued) (history : List Heard) (now : engine.View) : 
   pub engine : engines.StandsFor now (lines_over c) history
   pub last_is_open : now.time ≡ last_time history
 
--- the engine's network and layout are those of the catalogue's program
+-- the engine's network is merged, and it and the layout are those of the catalogue's program
 pub record IsPlanned (c : Catalogued) (now : engine.View) : Type 0 where
-  pub network : IsPlain (lines_over c) now.network
+  pub merged : IsMerged now.network
+  pub lines : HasLines now.network (lines_over c)
   pub layout : IsLayoutOf (program_over c) (kinds_of_each (judged_of c).streams) now.layout
 
 -- the engine is intact and planned, and where no epoch is open, none was closed
@@ -49,6 +51,12 @@ pub record HasClosed (c : Catalogued) (old new : engine.View) : Type 0 where
   pub none_open : new.time ≡ None
   pub now_closed : new.closed ≡ old.time
   pub stands : (history : List Heard) → Stands c history old → engines.StandsFor new (lines_over c) history
+
+-- no epoch is open, and the engine is intact and planned
+pub record IsThrough (c : Catalogued) (now : engine.View) : Type 0 where
+  pub intact : IsTrue now.intact
+  pub planned : IsPlanned c now
+  pub none_open : now.time ≡ None
 
 -- an event of this time may be offered, and the engine stands for the same events
 pub record IsReady (c : Catalogued) (at : ℕ) (old new : engine.View) : Type 0 where

@@ -70,6 +70,7 @@ pub fn close_last<H: Host, L: Ledger>(
 ) -> Result<(), SessionFault>
     requires { IsAtWork catalogue.now work.old }
     ensures ends { (history : List Heard) → Stands catalogue.now history work.old.engine → Ends (program_over catalogue.now) true [] history work.old (H.told host.old) (H.told host.new) result }
+    ensures closed { OnOk result (HasClosed catalogue.now work.old.engine work.new.engine) }
     ensures quiet { BlamesWriting result (H.told host.old) (H.told host.new) }
     ensures same { SameButOutput (H.told host.old) (H.told host.new) }
 {

@@ -5,6 +5,7 @@
 #![tactic(auto)]
 
 mod closing;
+mod counting;
 mod events;
 mod fault;
 mod laws;

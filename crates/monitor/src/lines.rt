@@ -3,11 +3,12 @@ ghost use Rattle.std.specs.Prelude.{◌≡◌, ◌++◌, false, true, [], List, 
 ghost use Rattle.cay_host.specs.Output.{SameButOutput};
 ghost use Rattle.semantics.specs.Histories.{Heard};
 ghost use Rattle.catalogue.specs.Catalogued.{IsAccepted, judged_of};
+ghost use Rattle.epoch_engine.specs.StandsFor as engines;
 ghost use Rattle.event_csv.specs.Fed.{IsPart, lines_left};
 ghost use Rattle.monitor.specs.Feeding.{BlamesWriting};
 ghost use Rattle.monitor.specs.Hearing.{heard_from};
 ghost use Rattle.monitor.specs.Readings.{readings_left};
-ghost use Rattle.monitor.specs.Standing.{IsAtWork, Stands, program_over};
+ghost use Rattle.monitor.specs.Standing.{IsAtWork, IsThrough, Stands, lines_over, program_over};
 ghost use Rattle.monitor.specs.Taking.{Gone, Progresses};
 ghost use Rattle.monitor.specs.Working.{Blames, Ends, GoesOn, Stops};
 
@@ -124,6 +125,8 @@ pub fn take_rest<H: Host, L: Ledger>(
     requires at_work { IsAtWork catalogue.now work.old }
     requires none_left { lines_left feed.now false ≡ [] }
     ensures ends { (history : List Heard) → Stands catalogue.now history work.old.engine → Ends (program_over catalogue.now) true (readings_left (judged_of catalogue.now).streams feed.now true) history work.old (H.told host.old) (H.told host.new) result }
+    ensures stands { OnOk result ((history : List Heard) → Stands catalogue.now history work.old.engine → engines.StandsFor work.new.engine (lines_over catalogue.now) (history ++ heard_from work.old.engine.time (readings_left (judged_of catalogue.now).streams feed.now true))) }
+    ensures through { OnOk result (IsThrough catalogue.now work.new.engine) }
     ensures accepted { IsAccepted catalogue.now }
     ensures quiet { BlamesWriting result (H.told host.old) (H.told host.new) }
     ensures same { SameButOutput (H.told host.old) (H.told host.new) }

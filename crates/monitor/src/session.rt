@@ -1,27 +1,32 @@
 //! Sessions.
 ghost use Rattle.std.specs.Prelude.{◌≡◌, ℕ, [], List, None, false, true, IsTrue, IfErr, IfOk, OnErr, OnOk, take};
 ghost use Rattle.semantics.specs.Histories.{Heard};
-ghost use Rattle.automaton.specs.Plain.{IsPlain};
-ghost use Rattle.chains.specs.Chains.{lines_of};
+ghost use Rattle.automaton.specs.NetworkLines.{HasLines};
+ghost use Rattle.chains.specs.Chains.{lines_of, order_of};
 ghost use Rattle.chains.specs.Layouts.{IsLayoutOf};
 ghost use Rattle.cay_host.specs.Output.{SameButOutput};
+ghost use Rattle.prefix_merge.specs.Counts.{CountsPlain, CountsStates};
+ghost use Rattle.prefix_merge.specs.Merging.{IsMerged};
+ghost use Rattle.epoch_laws.specs.Standing.{closed_part};
+ghost use Rattle.epoch_engine.specs.Counts.{CountsAlive};
 ghost use Rattle.epoch_engine.specs.StandsFor as engines;
 ghost use Rattle.catalogue.specs.Catalogued.{judged_of};
 ghost use Rattle.catalogue.specs.Chained.{kinds_of_each};
 ghost use Rattle.catalogue.specs.Judgement.{program_of};
 ghost use Rattle.monitor.specs.Feeding.{BlamesWriting, Feeds, Finishes, StopsAtPiece};
-ghost use Rattle.monitor.specs.Sessions.{AreDeclared, KeepsQueries, StandsFor};
+ghost use Rattle.monitor.specs.Sessions.{AreDeclared, KeepsQueries, StandsFor, TrimsEngine, WorksFor, program_in};
 ghost use Rattle.monitor.specs.Standing.{IsPlanned, lines_over};
 
+use crate::counting::{hops_of, root_states};
 use crate::fault::SessionFault;
 use crate::lines::{take_lines, take_rest};
 use crate::work::Work;
-use automaton::Network;
 use catalogue::Catalogue;
 use cay_host::{Host, Ledger, Steps};
 use epoch_engine::Engine;
 use event_csv::Feed;
 use event_types::Memory;
+use prefix_merge::Merged;
 use std::alloc::Global;
 use std::marker::Model;
 
@@ -68,7 +73,8 @@ impl Session {
 
     /// Goes on with an engine that may have been offered events before. Takes no memory.
     pub fn over(alloc: Global, catalogue: Catalogue, engine: Engine, limit: u64) -> Session
-        requires network { IsPlain (lines_of (program_of (judged_of catalogue))) engine.network }
+        requires merged { IsMerged engine.network }
+        requires lines { HasLines engine.network (lines_of (program_of (judged_of catalogue))) }
         requires layout { IsLayoutOf (program_of (judged_of catalogue)) (kinds_of_each (judged_of catalogue).streams) engine.layout }
         requires intact { IsTrue engine.intact }
         requires opened { engine.time ≡ None → engine.closed ≡ None }
@@ -96,6 +102,39 @@ impl Session {
         ensures { result ≡ self.now.ended }
     {
         self.ended
+    }
+
+    /// The number of states of the merged network of the queries. Takes no memory.
+    pub fn states(&self) -> usize
+        ensures { (history : List Heard) → WorksFor self.now history → CountsStates (lines_of (program_in self.now)) result }
+    {
+        self.work.engine.network().states()
+    }
+
+    /// The number of states that the queries would have if their lines shared no waiting state. Takes no
+    /// memory.
+    pub fn plain_states(&self) -> usize
+        ensures { (history : List Heard) → WorksFor self.now history → CountsPlain (lines_of (program_in self.now)) result }
+    {
+        root_states(self.work.engine.network()).saturating_add(hops_of(self.catalogue.lines()))
+    }
+
+    /// The number of bindings that wait and that a later event can still match by its bounds on DUR, or
+    /// 2^64-1 where there are more. Events of the open epoch don't count. Takes the other bindings out of the
+    /// stores, and no memory.
+    pub fn live(&mut self) -> u64
+        ensures counted { (history : List Heard) → WorksFor self.old history → CountsAlive (lines_of (program_in self.old)) (order_of (program_in self.old)) (closed_part self.old.engine.time history) result }
+        ensures trimmed { IsTrue self.old.engine.intact → TrimsEngine self.old self.new }
+        ensures same { self.old.engine.intact ≡ false → self.new ≡ self.old }
+        ensures ended { self.new.ended ≡ self.old.ended }
+        ensures works { (history : List Heard) → WorksFor self.old history → WorksFor self.new history }
+        ensures stands { (past : List Heard) (text : List ℕ) → StandsFor self.old past text → StandsFor self.new past text }
+    {
+        if !self.work.engine.intact() {
+            return self.work.engine.live();
+        }
+        self.work.engine.trim();
+        self.work.engine.live()
     }
 
     /// Hears more bytes of the event text, and writes the rows of the epochs that they close. Any fault
@@ -146,7 +185,7 @@ impl Session {
         steps: &mut Steps<L>,
     ) -> Result<(), SessionFault>
         requires { self.old.ended ≡ false }
-        ensures finished { (past : List Heard) (text : List ℕ) → StandsFor self.old past text → Finishes self.old past text (H.told host.old) (H.told host.new) result }
+        ensures finished { (past : List Heard) (text : List ℕ) → StandsFor self.old past text → Finishes self.old self.new past text (H.told host.old) (H.told host.new) result }
         ensures ended { self.new.ended ≡ true }
         ensures queries { KeepsQueries self.old self.new }
         ensures quiet { BlamesWriting result (H.told host.old) (H.told host.new) }
@@ -164,16 +203,16 @@ impl Session {
     }
 }
 
-/// An engine over the plain network of the queries, which has heard nothing.
+/// An engine over the merged network of the queries, which has heard nothing.
 pub(crate) fn engine_of(alloc: Global, catalogue: &Catalogue) -> Result<Engine, Memory>
     ensures planned { IfOk result (IsPlanned catalogue.now) }
     ensures intact { IfOk result (λ engine. IsTrue engine.intact) }
     ensures none_closed { IfOk result (λ engine. engine.closed ≡ None) }
     ensures stands { IfOk result (λ engine. engines.StandsFor engine (lines_over catalogue.now) []) }
 {
-    let network = Network::plain(alloc, catalogue.lines())?;
+    let merged = Merged::of(alloc, catalogue.lines())?;
     let layout = catalogue.layout().copy(alloc)?;
-    Engine::make(alloc, network, layout)
+    Engine::make(alloc, merged, layout)
 }
 
 // The first so many bytes, or all.

@@ -1,10 +1,36 @@
 use Rattle.std.proofs.Common.{true, [], ◌∷◌, ◌++◌, refl, Err}
+use Rattle.std.proofs.lemmas.Result.{on_ok_weaker}
 use Rattle.monitor.specs.Readings.{heard_of}
 use Rattle.monitor.specs.Standing.{program_over}
+use Rattle.monitor.specs.Working.{line_of}
+use Rattle.monitor.proofs.RestLemmas.{none_left, one_left, through_closed}
 use Rattle.monitor.proofs.WorkingLemmas.{advances_ends, ends_same, refuses, stops_same}
 use Rattle.monitor.proofs.lines.take_rest.Goals as goal
 
+-- no line was left, and the open epoch was closed
+pub returns-in-Ok-NotYet-clause-stands : goal.returns-in-Ok-NotYet-clause-stands
+returns-in-Ok-NotYet-clause-stands g c =
+    let shows = rw (c.in-Ok-NotYet.field-0-is, c.streams.ensures.value) at c.in-Ok-NotYet.ensures.shows in
+    on_ok_weaker c.close_last.result (λ closed history stands. none_left c.args.catalogue.now history _ c.args.work.now c.close_last.new.work.engine shows (closed.stands history stands)) c.close_last.ensures.closed
+
+pub returns-in-Ok-NotYet-clause-through : goal.returns-in-Ok-NotYet-clause-through
+returns-in-Ok-NotYet-clause-through g c =
+    on_ok_weaker c.close_last.result (through_closed c.args.catalogue.now c.args.work.now.engine c.close_last.new.work.engine c.requires.at_work.planned) c.close_last.ensures.closed
+
 -- the last event was taken, and its epoch was closed
+pub returns-in-Ok-clause-stands : goal.returns-in-Ok-clause-stands
+returns-in-Ok-clause-stands g c =
+    let shows = rw (c.in-Ok-Event.field-0-is, c.streams.ensures.value) at c.in-Ok-Event.ensures.shows in
+    let last = c.close_last-in-Ok in
+    on_ok_weaker last.result
+    (λ closed history stands. let takes = c.in-Ok.ensures.more history stands in
+    one_left c.args.catalogue.now history _ c.args.work.now last.new.work.engine (line_of c.in-Ok-Event.number c.in-Ok-Event.event) c.take_event.new.work _ _ shows takes (closed.stands _ takes.stands)) last.ensures.closed
+
+pub returns-in-Ok-clause-through : goal.returns-in-Ok-clause-through
+returns-in-Ok-clause-through g c =
+    let last = c.close_last-in-Ok in
+    on_ok_weaker last.result (through_closed c.args.catalogue.now c.take_event.new.work.engine last.new.work.engine c.in-Ok.ensures.at_work.planned) last.ensures.closed
+
 pub returns-in-Ok-clause-ends : goal.returns-in-Ok-clause-ends
 returns-in-Ok-clause-ends g c =
     let shows = rw (c.in-Ok-Event.field-0-is, c.streams.ensures.value) at c.in-Ok-Event.ensures.shows in

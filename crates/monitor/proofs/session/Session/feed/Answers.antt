@@ -1,8 +1,6 @@
 use Rattle.std.proofs.Common.{◌≡◌, ◌∙◌, ◌+◌, false, ℕ, List, ap, sym, refl, subst, length}
 use Rattle.std.proofs.lemmas.Result.{err_from_is_err_and}
 use Rattle.semantics.specs.Histories.{Heard}
-use Rattle.catalogue.specs.Catalogued.{judged_of}
-use Rattle.event_csv.specs.Fed.{Fed, fed_more}
 use Rattle.monitor.specs.declared.fault.SessionFault.TheVariants as fault
 use Rattle.monitor.specs.Feeding.{Feeds, StopsAtPiece}
 use Rattle.monitor.specs.Sessions.{StandsFor, View}
@@ -59,6 +57,6 @@ returns-clause-fed g c =
     subst (λ (p : List ℕ). Feeds old new past text p before after) whole
     (feeds _ past text stands c.self.inside.work refl going.none_owed before after within
     (fits_within _ past text stands c.args.piece.now within c.front_of-within.ensures)
-    c.take_lines.new.work c.take_lines.new.feed (rw pushed at c.in_ok-take_lines.ensures.gone) c.in_ok-take_lines.ensures.part c.in_ok-take_lines.ensures.at_work.planned
+    c.take_lines.new.work c.take_lines.new.feed (rw pushed at c.in_ok-take_lines.ensures.gone) c.in_ok-take_lines.ensures.part c.in_ok-take_lines.ensures.at_work
     (rw pushed at c.in_ok-take_lines.ensures.ends (so_far _ past text stands) accepted)
     (rw pushed at c.in_ok-take_lines.ensures.stands (so_far _ past text stands) accepted)))

@@ -1,0 +1,13 @@
+use Rattle.std.proofs.Common.{List, subst}
+use Rattle.semantics.specs.Histories.{Heard}
+use Rattle.chains.specs.Chains.{lines_of}
+use Rattle.prefix_merge.specs.Counts.{CountsStates}
+use Rattle.monitor.specs.Sessions.{View, WorksFor, program_in}
+use Rattle.monitor.proofs.CountingLemmas.{states_counted}
+use Rattle.monitor.proofs.session.Session.states.Goals as goal
+
+-- there are as many states as distinct prefixes
+pub returns : goal.returns
+returns c =
+    subst (λ (s : View). (history : List Heard) → WorksFor s history → CountsStates (lines_of (program_in s)) c.states.result) c.self.view_is
+    (λ history works. states_counted _ history works c.states.result (rw c.network.ensures at c.states.ensures))
