@@ -1,5 +1,5 @@
--- Words that begin with no hyphen.
-use Rattle.std.specs.Prelude.{◌≡◌, ◌==◌, Bool, true, false, not, [], ◌∷◌, None}
+-- Words that begin with no hyphen, and the flag before them.
+use Rattle.std.specs.Prelude.{◌≡◌, ◌==◌, Bool, true, false, not, [], ◌∷◌, None, codes}
 use Rattle.clap.specs.Walk.{Text}
 use Rattle.command_words.specs.Table.{job, job_by}
 
@@ -20,3 +20,8 @@ OneValueIsJob = (action value : Text) → is_plain action ≡ true → is_plain 
 abbrev pub TwoValuesAreJob : Type 0
 TwoValuesAreJob = (action first second : Text) → is_plain action ≡ true → is_plain first ≡ true → is_plain second ≡ true
     → job (action ∷ first ∷ second ∷ []) ≡ job_by false action (first ∷ second ∷ [])
+
+-- the flag before an action with two values is that of the table
+abbrev pub FlaggedValuesAreJob : Type 0
+FlaggedValuesAreJob = (action first second : Text) → is_plain action ≡ true → is_plain first ≡ true → is_plain second ≡ true
+    → job (codes "--stats" ∷ action ∷ first ∷ second ∷ []) ≡ job_by true action (first ∷ second ∷ [])

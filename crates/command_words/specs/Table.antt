@@ -20,16 +20,16 @@ abbrev pub only : List Text → Option Text
 only (value ∷ []) = Some value
 only values = None
 
--- a run has two values, its queries and its events
-abbrev pub run_of : List Text → Option Job
-run_of (queries ∷ events ∷ []) = Some (Run queries events)
-run_of values = None
+-- a run has two values, its queries and its events, and may have the flag
+abbrev pub run_of : Bool → List Text → Option Job
+run_of stats (queries ∷ events ∷ []) = Some (Run queries events stats)
+run_of stats values = None
 
--- the table of the jobs: `run QUERIES EVENTS`, `check QUERIES` and `plan QUERIES`; the flag goes with none of them
+-- the table of the jobs: `run QUERIES EVENTS`, with which the flag may go, `check QUERIES` and `plan QUERIES`
 abbrev pub job_by : Bool → Text → List Text → Option Job
 job_by stats action values =
-    if stats then None
-    else (if bytes_eq action (codes "run") then run_of values
+    if bytes_eq action (codes "run") then run_of stats values
+    else (if stats then None
     else (if bytes_eq action (codes "check") then option_map Check (only values)
     else (if bytes_eq action (codes "plan") then option_map Plan (only values) else None)))
 

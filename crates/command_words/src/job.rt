@@ -4,10 +4,19 @@ use event_types::Text;
 /// A job, with the names of its files.
 #[derive(Drop)]
 pub enum Job {
-    /// Runs the queries over the events, and writes the report: `run QUERIES EVENTS`.
-    Run { queries: Text, events: Text },
+    /// Runs the queries over the events, and writes the report: `run QUERIES EVENTS`. With `--stats` a line
+    /// with the numbers of states and of waiting bindings is asked for too.
+    Run {
+        queries: Text,
+        events: Text,
+        stats: bool,
+    },
     /// Writes the canonical text of the queries: `check QUERIES`.
-    Check { queries: Text },
+    Check {
+        queries: Text,
+    },
     /// Writes a line for each query, in the order of work: `plan QUERIES`.
-    Plan { queries: Text },
+    Plan {
+        queries: Text,
+    },
 }

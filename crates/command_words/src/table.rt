@@ -59,10 +59,10 @@ fn job_given(
 fn job_by(alloc: Global, stats: bool, action: &str, values: &[&str]) -> Result<Option<Job>, Memory>
     ensures { IfOk result (λ asked. asked ≡ job_by stats action.now (texts_of values.now)) }
 {
-    if stats {
+    if action == "run" {
+        run(alloc, stats, values)
+    } else if stats {
         Ok(None)
-    } else if action == "run" {
-        run(alloc, values)
     } else if action == "check" {
         Ok(only(alloc, values)?.map(|queries| Job::Check { queries }))
     } else if action == "plan" {
@@ -73,14 +73,18 @@ fn job_by(alloc: Global, stats: bool, action: &str, values: &[&str]) -> Result<O
 }
 
 // The run of two values.
-fn run(alloc: Global, values: &[&str]) -> Result<Option<Job>, Memory>
-    ensures { IfOk result (λ asked. asked ≡ run_of (texts_of values.now)) }
+fn run(alloc: Global, stats: bool, values: &[&str]) -> Result<Option<Job>, Memory>
+    ensures { IfOk result (λ asked. asked ≡ run_of stats (texts_of values.now)) }
 {
     match values {
         [queries, events] => {
             let queries = Text::make(alloc, queries)?;
             let events = Text::make(alloc, events)?;
-            Ok(Some(Job::Run { queries, events }))
+            Ok(Some(Job::Run {
+                queries,
+                events,
+                stats,
+            }))
         }
         _ => Ok(None),
     }

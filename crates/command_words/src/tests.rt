@@ -7,10 +7,17 @@ use std::test::Fail;
 // What the words ask for, in words.
 fn asked(alloc: Global, words: &[&str]) -> Result<String, Memory> {
     let text = match job_of(alloc, words)? {
-        Some(Job::Run { queries, events }) => format!(in alloc;
-            "run {} over {}",
+        Some(
+            Job::Run {
+                queries,
+                events,
+                stats,
+            },
+        ) => format!(in alloc;
+            "run {} over {}{}",
             queries.as_str(),
-            events.as_str()
+            events.as_str(),
+            if stats { " with stats" } else { "" }
         )?,
         Some(Job::Check { queries }) => format!(in alloc; "check {}", queries.as_str())?,
         Some(Job::Plan { queries }) => format!(in alloc; "plan {}", queries.as_str())?,
@@ -21,8 +28,13 @@ fn asked(alloc: Global, words: &[&str]) -> Result<String, Memory> {
 
 #[test]
 fn an_action_with_its_files_is_a_job(rt: HostRuntime) -> Result<(), Fail> {
-    let rows: [(&[&str], &str); 9] = [
+    let rows: [(&[&str], &str); 13] = [
         (&["run", "q", "e"], "run q over e"),
+        // the flag stands before, between or behind the words of a run
+        (&["--stats", "run", "q", "e"], "run q over e with stats"),
+        (&["run", "--stats", "q", "e"], "run q over e with stats"),
+        (&["run", "q", "--stats", "e"], "run q over e with stats"),
+        (&["run", "q", "e", "--stats"], "run q over e with stats"),
         (&["check", "q"], "check q"),
         (&["plan", "q"], "plan q"),
         // behind `--` each word is a value
@@ -42,7 +54,7 @@ fn an_action_with_its_files_is_a_job(rt: HostRuntime) -> Result<(), Fail> {
 
 #[test]
 fn other_words_are_no_job(rt: HostRuntime) -> Result<(), Fail> {
-    let rows: [&[&str]; 24] = [
+    let rows: [&[&str]; 26] = [
         &[],
         &[""],
         &["walk", "q", "e"],
@@ -55,12 +67,14 @@ fn other_words_are_no_job(rt: HostRuntime) -> Result<(), Fail> {
         &["plan"],
         &["plan", "q", "e"],
         &["--"],
-        // the flag is taken once and with no value, and no action goes with it
+        // the flag is taken once and with no value, and goes with a run alone
         &["--stats"],
-        &["--stats", "run", "q", "e"],
-        &["run", "q", "--stats", "e"],
-        &["run", "q", "e", "--stats"],
-        &["check", "--stats", "q"],
+        &["--stats", "check", "q"],
+        &["check", "q", "--stats"],
+        &["--stats", "plan", "q"],
+        &["plan", "q", "--stats"],
+        &["--stats", "walk", "q", "e"],
+        &["run", "--stats", "q"],
         &["run", "--stats", "--stats", "q", "e"],
         &["run", "--stats=true", "q", "e"],
         // other flags are unknown
