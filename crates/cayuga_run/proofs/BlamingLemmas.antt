@@ -2,6 +2,7 @@
 use Rattle.std.proofs.Common.{◌≡◌, ◌∙◌}
 use Rattle.cay_host.specs.Told.{Told}
 use Rattle.cayuga_run.specs.declared.status.Status.{Status}
+use Rattle.cayuga_run.specs.declared.status.Status.TheVariants.{Done}
 use Rattle.cayuga_run.specs.Blaming.{BlamesHost}
 
 -- no call failed
@@ -19,3 +20,10 @@ blames_after status same blames = record {
   read = λ other. blames.read other ∙ same.read;
   write = λ other. blames.write other ∙ same.write;
 }
+
+pub faults_after : {a b c : Told} → SameFaults a b → SameFaults b c → SameFaults a c
+faults_after first next = record { attach = next.attach ∙ first.attach; read = next.read ∙ first.read; write = next.write ∙ first.write }
+
+-- a job that was done blames no call
+pub none_blamed : {a b : Told} → BlamesHost a b Done → SameFaults a b
+none_blamed blames = record { attach = blames.attach (λ side e. cc); read = blames.read (λ side e. cc); write = blames.write (λ e. cc) }

@@ -21,7 +21,7 @@ use Rattle.monitor.specs.Feeding.{BlamesWriting, Feeds, Finishes, StopsAt, Stops
 use Rattle.monitor.specs.Hearing.{closed}
 use Rattle.monitor.specs.Readings.{reading_of}
 use Rattle.monitor.specs.Owing.{Beyond, WroteFront}
-use Rattle.monitor.specs.Sessions.{KeepsQueries, StandsFor, View, report_in}
+use Rattle.monitor.specs.Sessions.{HasFinished, KeepsQueries, StandsFor, View, report_in}
 use Rattle.cayuga_run.specs.declared.status.Status.TheVariants.{Done, ReadFault}
 use Rattle.cayuga_run.specs.Blaming.{BlamesHost}
 use Rattle.cayuga_run.specs.HearingOutcome.{Hears, HearsAlone, HearsUpTo, TakesEvents, status_of}
@@ -107,7 +107,7 @@ module _ {judged : Judged} {limit taken : ℕ} {session : View} {old now next : 
   }
 
   -- a read failed
-  pub read_failed : next.left ≡ now.left → Rose now.read_faults next.read_faults → SameButRead Events now next → Hears judged limit old next (ReadFault Events)
+  pub read_failed : next.left ≡ now.left → Rose now.read_faults next.read_faults → SameButRead Events now next → Hears judged limit session old next (ReadFault Events)
   read_failed kept rose same =
       let few = take_all limit h.bytes (subst (λ n. length h.bytes ≤ n) h.most h.stands.within) in (
         refl,
@@ -215,19 +215,19 @@ module _ {judged : Judged} {limit : ℕ} {bytes piece : List ℕ} {session : Vie
             let whole : x ≡ (bytes ++ piece) ++ rest = cc in
             whole ∙ ap (λ r. (bytes ++ piece) ++ r) nil ∙ append-nil (bytes ++ piece) ∙ ap (λ p. bytes ++ p) none ∙ append-nil bytes
 
-    stops : (fault : SessionFault) → StopsAt session [] bytes text ended now next fault → Hears judged limit old next (status_of fault)
-    stops (fault.Refused (HasFault line why)) s = record { bytes = bytes ++ piece; ended = ended; heard = heard_up_to (Some (HasFault line why)) s.0 s.1 }
-    stops (fault.Refused (IsOutOfOrder line at seen)) s = record { bytes = bytes ++ piece; ended = ended; heard = heard_up_to (Some (IsOutOfOrder line at seen)) s.0 s.1 }
-    stops (fault.TooMuch most) s = absurd s
-    stops fault.WriteFault s = (subst (λ n. Rose n next.write_faults) t.faults.write s.0, stopped_writing s.1)
-    stops fault.Memory s = record { bytes = bytes ++ piece; ended = ended; takes = takes; wrote = front_beyond t.wrote (beyond WroteFront s) }
+    stops : (after : View) (fault : SessionFault) → StopsAt session [] bytes text ended now next fault → Hears judged limit after old next (status_of fault)
+    stops after (fault.Refused (HasFault line why)) s = record { bytes = bytes ++ piece; ended = ended; heard = heard_up_to (Some (HasFault line why)) s.0 s.1 }
+    stops after (fault.Refused (IsOutOfOrder line at seen)) s = record { bytes = bytes ++ piece; ended = ended; heard = heard_up_to (Some (IsOutOfOrder line at seen)) s.0 s.1 }
+    stops after (fault.TooMuch most) s = absurd s
+    stops after fault.WriteFault s = (subst (λ n. Rose n next.write_faults) t.faults.write s.0, stopped_writing s.1)
+    stops after fault.Memory s = record { bytes = bytes ++ piece; ended = ended; takes = takes; wrote = front_beyond t.wrote (beyond WroteFront s) }
 
   cut_within : take session.limit (bytes ++ piece) ≡ take limit (bytes ++ piece)
   cut_within = ap (λ n. take n (bytes ++ piece)) t.most
 
   -- why the session stopped at the piece, as the outcome
-  pub stops_at_piece : (fault : SessionFault) → StopsAtPiece session [] bytes piece now next fault → Hears judged limit old next (status_of fault)
-  stops_at_piece (fault.TooMuch most) s = (
+  pub stops_at_piece : (after : View) (fault : SessionFault) → StopsAtPiece session [] bytes piece now next fault → Hears judged limit after old next (status_of fault)
+  stops_at_piece after (fault.TooMuch most) s = (
     s.0 ∙ t.most,
     (
       bytes ++ piece,
@@ -235,9 +235,9 @@ module _ {judged : Judged} {limit : ℕ} {bytes piece : List ℕ} {session : Vie
       heard_up_to (take session.limit (bytes ++ piece)) false cut_within (λ e. cc) None s.2 s.3,
     ),
   )
-  stops_at_piece (fault.Refused refusal) s = stops (take session.limit (bytes ++ piece)) false cut_within (λ e. cc) (fault.Refused refusal) s
-  stops_at_piece fault.WriteFault s = stops (take session.limit (bytes ++ piece)) false cut_within (λ e. cc) fault.WriteFault s
-  stops_at_piece fault.Memory s = stops (take session.limit (bytes ++ piece)) false cut_within (λ e. cc) fault.Memory s
+  stops_at_piece after (fault.Refused refusal) s = stops (take session.limit (bytes ++ piece)) false cut_within (λ e. cc) after (fault.Refused refusal) s
+  stops_at_piece after fault.WriteFault s = stops (take session.limit (bytes ++ piece)) false cut_within (λ e. cc) after fault.WriteFault s
+  stops_at_piece after fault.Memory s = stops (take session.limit (bytes ++ piece)) false cut_within (λ e. cc) after fault.Memory s
 
   -- the text has ended
   module _ (none : piece ≡ []) (nil : IfSome (now.left Events) (λ rest. rest ≡ [])) where
@@ -247,8 +247,13 @@ module _ {judged : Judged} {limit : ℕ} {bytes piece : List ℕ} {session : Vie
     cut_whole : bytes ≡ take limit (bytes ++ piece)
     cut_whole = sym (ap (λ p. take limit (bytes ++ p)) none ∙ ap (take limit) (append-nil bytes) ∙ take_all limit bytes (subst (λ n. length bytes ≤ n) t.most t.stands.within))
 
-    pub hears_all : Finishes session [] bytes now next (Ok tt) → Hears judged limit old next Done
-    hears_all s = (bytes ++ piece, heard_up_to bytes true cut_whole (λ e. (none, nil_after)) None s.0 s.1)
+    pub hears_all : (after : View) → KeepsQueries session after → Finishes session after [] bytes now next (Ok tt) → Hears judged limit after old next Done
+    hears_all after keeps s = record {
+      bytes = bytes ++ piece;
+      heard = heard_up_to bytes true cut_whole (λ e. (none, nil_after)) None s.0 s.1;
+      queries = ap judged_of keeps.catalogue ∙ t.queries;
+      finished = subst (HasFinished after []) (sym (ap (λ p. bytes ++ p) none ∙ append-nil bytes)) s.2;
+    }
 
-    pub stops_at_end : (fault : SessionFault) → Finishes session [] bytes now next (Err fault) → Hears judged limit old next (status_of fault)
-    stops_at_end fault s = stops bytes true cut_whole (λ e. (none, nil_after)) fault s
+    pub stops_at_end : (after : View) (fault : SessionFault) → Finishes session after [] bytes now next (Err fault) → Hears judged limit after old next (status_of fault)
+    stops_at_end after fault s = stops bytes true cut_whole (λ e. (none, nil_after)) after fault s

@@ -1,5 +1,6 @@
 pub mod AnswerLemmas
 pub mod BlamingLemmas
+pub mod EndLemmas
 pub mod GrowingLemmas
 pub mod HearingLemmas
 pub mod JudgementLemmas

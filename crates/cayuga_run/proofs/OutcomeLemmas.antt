@@ -1,5 +1,5 @@
 -- From what was heard of the events to the outcome of the run.
-use Rattle.std.proofs.Common.{◌≡◌, ◌∙◌, sym, ap, refl, subst, ℕ, ◌+◌, ◌-◌, ◌<◌, ◌≤◌, List, [], ◌++◌, Bool, true, false, cond, nat_le, ◌&&◌, is_none, Option, Some, None, IfSome, arith, length, take, length-append, append-nil}
+use Rattle.std.proofs.Common.{◌≡◌, ◌∙◌, sym, ap, refl, subst, inl, ℕ, ◌+◌, ◌-◌, ◌<◌, ◌≤◌, List, [], ◌++◌, Bool, true, false, nat_le, ◌&&◌, Option, Some, None, IfSome, arith, length, take, length-append, append-nil}
 use Rattle.std.proofs.lemmas.List.{take_all, take-append-le}
 use Rattle.std.proofs.lemmas.Bool.{le-leb, leb-false, leb-true}
 use Rattle.std.proofs.Math.Seq.{take-append-add}
@@ -11,29 +11,21 @@ use Rattle.cay_host.specs.Faults.{Rose}
 use Rattle.cay_host.specs.Output.{Wrote, KeepsOutput}
 use Rattle.cay_host.specs.Told.{Told}
 use Rattle.semantics.specs.Report.{report}
-use Rattle.catalogue.specs.Judgement.{Verdict, Accepted, Accepts, Judged, Judges, program_of}
+use Rattle.catalogue.specs.Judgement.{Verdict, Accepted, Accepts, Judged, Judges}
 use Rattle.catalogue.proofs.VerdictLemmas.{one_verdict}
 use Rattle.monitor.specs.declared.refusal.Refusal.{Refusal}
-use Rattle.monitor.specs.declared.refusal.Refusal.TheVariants.{HasFault, IsOutOfOrder}
-use Rattle.monitor.specs.Hearing.{Reading, before_last, closed, heard, refused}
+use Rattle.monitor.specs.Hearing.{heard, refused}
 use Rattle.monitor.specs.Owing.{WroteFront}
-use Rattle.monitor.specs.Readings.{readings}
-use Rattle.cayuga_run.specs.declared.status.Status.{Status}
-use Rattle.cayuga_run.specs.declared.status.Status.TheVariants.{Done, Usage, BadQuery, Cycle, BadEvent, OutOfOrder, AttachFault, ReadFault, WriteFault, TooMuch, Memory}
 use Rattle.cayuga_run.specs.Accepting.{IsAccepted}
 use Rattle.cayuga_run.specs.Begun.{HasAccepted}
-use Rattle.cayuga_run.specs.HearingOutcome.{Hears, HearsAlone, HearsFront, HearsRefused, HearsUpTo, TakesEvents}
-use Rattle.cayuga_run.specs.Reports.{refused_in, report_of_closed, report_of_heard}
-use Rattle.cayuga_run.specs.RunOutcome.{AreThere, IsAttachFault, IsDone, IsReadFault, IsRefused, IsTooMuch, IsWriteFault, IsMemory, MemoryText, RunOutcome, is_whole}
+use Rattle.cayuga_run.specs.HearingOutcome.{HearsAlone, HearsFront, HearsRefused, HearsUpTo, TakesEvents}
+use Rattle.cayuga_run.specs.Reports.{refused_in, report_of_closed}
+use Rattle.cayuga_run.specs.RunOutcome.{AreThere, IsAttachFault, IsReadFault, IsRefused, IsTooMuch, IsWriteFault, IsMemory, MemoryText, StoppedBy, is_whole}
 use Rattle.cayuga_run.specs.StoppedWriting.{StoppedWriting}
 use Rattle.cayuga_run.specs.Works.{Run}
 use Rattle.cayuga_run.proofs.GrowingLemmas.{more_bytes, report_grows_with_bytes}
 use Rattle.cayuga_run.proofs.RunLemmas.{Wrote-after}
 use Rattle.cayuga_run.proofs.WroteLemmas.{front_of_more}
-
--- where no line is refused, the end of the text closes all that was heard
-closed_is_heard : (lines : List Reading) → refused lines ≡ None → closed lines true ≡ heard lines
-closed_is_heard lines e = ap (λ o. cond (true && is_none o) (heard lines) (before_last (heard lines))) e
 
 -- the queries are accepted, the events are attached, and nothing was written
 pub record IsReady (run : Run) (judged : Judged) (old mid : Told) : Type 0 where
@@ -79,7 +71,7 @@ not_ready run judged old accepted new has fails same free = record {
 }
 
 -- the claims on both files, from a claim on what was read of them
-of_both : (a b left : Option (List ℕ)) (judged : Judged) (x : List ℕ) (R : Judged → List ℕ → Type 0)
+pub of_both : (a b left : Option (List ℕ)) (judged : Judged) (x : List ℕ) (R : Judged → List ℕ → Type 0)
     → IfSome a (λ queries. Accepts queries judged) → b ≡ prepend_known x left → ((rest : List ℕ) → left ≡ Some rest → R judged (x ++ rest))
     → IfSome a (λ queries. IfSome b (λ events. IsAccepted queries (λ c. R c events)))
 of_both None b left judged x R qe be h = tt
@@ -98,7 +90,7 @@ of_verdict (Some q) b (Some rest) judged x R qe be h =
     (λ v says. subst (λ w. R w (x ++ rest)) (one_verdict q (Accepted judged) v qe says) (h rest refl))
 
 -- at the end nothing is left
-at_end : (o : Option (List ℕ)) (rest : List ℕ) → IfSome o (λ r. r ≡ []) → o ≡ Some rest → rest ≡ []
+pub at_end : (o : Option (List ℕ)) (rest : List ℕ) → IfSome o (λ r. r ≡ []) → o ≡ Some rest → rest ≡ []
 at_end None rest h e = cc
 at_end (Some r) rest h e = cc
 
@@ -155,11 +147,11 @@ module _ (judged : Judged) (limit : ℕ) (bytes rest : List ℕ) where
       (here.0, ap (λ t. report_of_closed judged t whole) e ∙ here.1)
 
 -- nothing is left of the queries
-queries_read : {run : Run} {judged : Judged} {old mid new : Told} → IsReady run judged old mid → HearsAlone mid new → IfSome (new.left Queries) (λ rest. rest ≡ [])
+pub queries_read : {run : Run} {judged : Judged} {old mid new : Told} → IsReady run judged old mid → HearsAlone mid new → IfSome (new.left Queries) (λ rest. rest ≡ [])
 queries_read r alone = subst (λ o. IfSome o (λ (rest : List ℕ). rest ≡ [])) (sym alone.queries) r.read
 
 module _ {run : Run} {limit : ℕ} {judged : Judged} {old mid new : Told} (r : IsReady run judged old mid) where
-  refused_after : (refusal : Refusal) → HearsRefused judged limit refusal mid new → IsRefused refusal run limit old new
+  pub refused_after : (refusal : Refusal) → HearsRefused judged limit refusal mid new → IsRefused refusal run limit old new
   refused_after refusal h = record {
     there = r.there;
     text = of_both _ _ (new.left Events) judged h.bytes
@@ -168,13 +160,13 @@ module _ {run : Run} {limit : ℕ} {judged : Judged} {old mid new : Told} (r : I
         (here.0, Wrote-after r.silent (subst (λ t. Wrote t mid new) here.1 h.heard.wrote)));
   }
 
-  write_fault_after : HearsAlone mid new → Rose mid.write_faults new.write_faults → StoppedWriting judged limit (mid.left Events) mid new → IsWriteFault run limit old new
+  pub write_fault_after : HearsAlone mid new → Rose mid.write_faults new.write_faults → StoppedWriting judged limit (mid.left Events) mid new → IsWriteFault run limit old new
   write_fault_after alone rose s = record {
     cause = subst (λ n. Rose n new.write_faults) r.write_faults rose;
     there = r.there;
     others = queries_read r alone;
-    text = of_both _ _ (new.left Events) judged (s.before ++ s.piece) (λ c e. StoppedWriting c limit (Some e) old new) r.accept (sym r.events ∙ s.taken)
-        (λ rest e. record {
+    text = of_both _ _ (new.left Events) judged (s.before ++ s.piece) (λ c e. StoppedBy run.stats c limit e old new) r.accept (sym r.events ∙ s.taken)
+        (λ rest e. inl (record {
           before = s.before;
           piece = s.piece;
           ended = s.ended;
@@ -189,10 +181,10 @@ module _ {run : Run} {limit : ℕ} {judged : Judged} {old mid new : Told} (r : I
             within = s.wrote.within;
             wrote = Wrote-after r.silent s.wrote.wrote;
           };
-        });
+        }));
   }
 
-  memory_after : HearsFront judged limit mid new → IsMemory run limit old new
+  pub memory_after : HearsFront judged limit mid new → IsMemory run limit old new
   memory_after h = record {
     text = of_verdict _ _ (new.left Events) judged h.bytes (λ v e. MemoryText v limit e old new) r.accept (sym r.events ∙ h.takes.front)
         (λ rest e. let here = report_front judged limit h.bytes rest h.ended (place h.takes rest e) in
@@ -202,25 +194,7 @@ module _ {run : Run} {limit : ℕ} {judged : Judged} {old mid new : Told} (r : I
     no_events = λ e. absurd (let wrong : true ≡ false = sym e ∙ r.there.events in cc);
   }
 
-  done_after : (bytes : List ℕ) → HearsUpTo judged limit bytes true None mid new → IsDone run limit old new
-  done_after bytes h =
-      let all = h.takes.whole refl in
-      record {
-        there = r.there;
-        text = of_both _ _ (new.left Events) judged bytes
-            (λ c e. (length e ≤ limit) × (refused_in c e true ≡ None) × Wrote (report_of_heard c e true) old new) r.accept (sym r.events ∙ h.takes.front)
-            (λ rest e.
-            let same : bytes ++ rest ≡ bytes = ap (λ k. bytes ++ k) (at_end (new.left Events) rest all.1 e) ∙ append-nil bytes in
-            let few = take_all limit bytes all.0 in
-            let clean : refused_in judged bytes true ≡ None = ap (λ t. refused_in judged t true) (sym few) ∙ h.refused in
-            let text : report_of_closed judged (take limit bytes) true ≡ report_of_heard judged bytes true =
-            ap (λ t. report_of_closed judged t true) few ∙ ap (report (program_of judged)) (closed_is_heard (readings judged.streams bytes true) clean) in
-            subst (λ t. (length t ≤ limit) × (refused_in judged t true ≡ None) × Wrote (report_of_heard judged t true) old new) (sym same)
-            (all.0, clean, Wrote-after r.silent (subst (λ t. Wrote t mid new) text h.wrote)));
-        ended = all.1;
-      }
-
-  too_much_after : (bytes : List ℕ) → limit < length bytes → HearsUpTo judged limit bytes false None mid new → IsTooMuch run limit old new
+  pub too_much_after : (bytes : List ℕ) → limit < length bytes → HearsUpTo judged limit bytes false None mid new → IsTooMuch run limit old new
   too_much_after bytes long h = record {
     there = r.there;
     text = of_both _ _ (new.left Events) judged bytes
@@ -235,7 +209,7 @@ module _ {run : Run} {limit : ℕ} {judged : Judged} {old mid new : Told} (r : I
         ));
   }
 
-  read_fault_after : HearsAlone mid new → Rose mid.read_faults new.read_faults → (bytes : List ℕ) → length bytes ≤ limit → HearsUpTo judged limit bytes false None mid new → IsReadFault Events run limit old new
+  pub read_fault_after : HearsAlone mid new → Rose mid.read_faults new.read_faults → (bytes : List ℕ) → length bytes ≤ limit → HearsUpTo judged limit bytes false None mid new → IsReadFault Events run limit old new
   read_fault_after alone rose bytes within h = record {
     cause = subst (λ n. Rose n new.read_faults) r.read_faults rose;
     attached = ap (λ f. f Events) alone.attached ∙ r.events_attached;
@@ -255,17 +229,3 @@ module _ {run : Run} {limit : ℕ} {judged : Judged} {old mid new : Told} (r : I
           ));
     };
   }
-
--- the outcome, by the status
-pub run_hears : (run : Run) (limit : ℕ) (judged : Judged) (old mid new : Told) (status : Status) → IsReady run judged old mid → Hears judged limit mid new status → HearsAlone mid new → RunOutcome run limit old new status
-run_hears run limit judged old mid new Done r h alone = done_after r h.0 h.1
-run_hears run limit judged old mid new Usage r h alone = h
-run_hears run limit judged old mid new (BadQuery line why) r h alone = absurd h
-run_hears run limit judged old mid new (Cycle names) r h alone = absurd h
-run_hears run limit judged old mid new (BadEvent line why) r h alone = refused_after r (HasFault line why) h
-run_hears run limit judged old mid new (OutOfOrder line at seen) r h alone = refused_after r (IsOutOfOrder line at seen) h
-run_hears run limit judged old mid new (AttachFault side) r h alone = absurd h
-run_hears run limit judged old mid new (ReadFault side) r h alone = subst (λ k. IsReadFault k run limit old new) (sym h.0) (read_fault_after r alone h.1 h.2.0 h.2.1 h.2.2)
-run_hears run limit judged old mid new WriteFault r h alone = write_fault_after r alone h.0 h.1
-run_hears run limit judged old mid new (TooMuch most) r h alone = (h.0, too_much_after r h.1.0 h.1.1 h.1.2)
-run_hears run limit judged old mid new Memory r h alone = memory_after r h

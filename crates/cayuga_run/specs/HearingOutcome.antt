@@ -5,12 +5,14 @@ use Rattle.cay_host.specs.declared.side.Side.TheVariants.{Queries, Events}
 use Rattle.cay_host.specs.Faults.{Rose}
 use Rattle.cay_host.specs.Output.{Wrote}
 use Rattle.cay_host.specs.Told.{Told}
+use Rattle.catalogue.specs.Catalogued.{judged_of}
 use Rattle.catalogue.specs.Judgement.{Judged}
 use Rattle.monitor.specs.declared.fault.SessionFault.{SessionFault}
 use Rattle.monitor.specs.declared.fault.SessionFault.TheVariants as fault
 use Rattle.monitor.specs.declared.refusal.Refusal.{Refusal}
 use Rattle.monitor.specs.declared.refusal.Refusal.TheVariants.{HasFault, IsOutOfOrder}
 use Rattle.monitor.specs.Owing.{WroteFront}
+use Rattle.monitor.specs.Sessions.{HasFinished, View}
 use Rattle.cayuga_run.specs.declared.status.Status.{Status}
 use Rattle.cayuga_run.specs.declared.status.Status.TheVariants.{Done, BadEvent, OutOfOrder, ReadFault, WriteFault, TooMuch, Memory}
 use Rattle.cayuga_run.specs.Reports.{refused_in, report_of_closed}
@@ -35,6 +37,13 @@ pub record HearsUpTo (judged : Judged) (limit : ℕ) (bytes : List ℕ) (ended :
   pub refused : refused_in judged (take limit bytes) ended ≡ refusal
   pub wrote : Wrote (report_of_closed judged (take limit bytes) ended) old new
 
+-- all events were taken and heard, none was refused, and their report was written; the session works for all that was heard, with no epoch open
+pub record HearsAll (judged : Judged) (limit : ℕ) (session : View) (old new : Told) : Type 0 where
+  pub bytes : List ℕ
+  pub heard : HearsUpTo judged limit bytes true None old new
+  pub queries : judged_of session.catalogue ≡ judged
+  pub finished : HasFinished session [] bytes
+
 -- a line of the bytes that were taken is refused, and the report before it was written
 pub record HearsRefused (judged : Judged) (limit : ℕ) (refusal : Refusal) (old new : Told) : Type 0 where
   pub bytes : List ℕ
@@ -48,16 +57,16 @@ pub record HearsFront (judged : Judged) (limit : ℕ) (old new : Told) : Type 0 
   pub takes : TakesEvents limit bytes ended old new
   pub wrote : WroteFront (report_of_closed judged (take limit bytes) ended) old new
 
--- what was taken and written, by the status
-abbrev pub Hears : Judged → ℕ → Told → Told → Status → Type 0
-Hears judged limit old new Done = (bytes : List ℕ) × HearsUpTo judged limit bytes true None old new
-Hears judged limit old new (TooMuch most) = (most ≡ limit) × ((bytes : List ℕ) × (limit < length bytes) × HearsUpTo judged limit bytes false None old new)
-Hears judged limit old new (ReadFault side) = (side ≡ Events) × Rose old.read_faults new.read_faults × ((bytes : List ℕ) × (length bytes ≤ limit) × HearsUpTo judged limit bytes false None old new)
-Hears judged limit old new (BadEvent line why) = HearsRefused judged limit (HasFault line why) old new
-Hears judged limit old new (OutOfOrder line at seen) = HearsRefused judged limit (IsOutOfOrder line at seen) old new
-Hears judged limit old new WriteFault = Rose old.write_faults new.write_faults × StoppedWriting judged limit (old.left Events) old new
-Hears judged limit old new Memory = HearsFront judged limit old new
-Hears judged limit old new other = ⊥
+-- what was taken and written, and what the session then works for, by the status
+abbrev pub Hears : Judged → ℕ → View → Told → Told → Status → Type 0
+Hears judged limit session old new Done = HearsAll judged limit session old new
+Hears judged limit session old new (TooMuch most) = (most ≡ limit) × ((bytes : List ℕ) × (limit < length bytes) × HearsUpTo judged limit bytes false None old new)
+Hears judged limit session old new (ReadFault side) = (side ≡ Events) × Rose old.read_faults new.read_faults × ((bytes : List ℕ) × (length bytes ≤ limit) × HearsUpTo judged limit bytes false None old new)
+Hears judged limit session old new (BadEvent line why) = HearsRefused judged limit (HasFault line why) old new
+Hears judged limit session old new (OutOfOrder line at seen) = HearsRefused judged limit (IsOutOfOrder line at seen) old new
+Hears judged limit session old new WriteFault = Rose old.write_faults new.write_faults × StoppedWriting judged limit (old.left Events) old new
+Hears judged limit session old new Memory = HearsFront judged limit old new
+Hears judged limit session old new other = ⊥
 
 -- the sides stay attached as they were, and nothing more is read of the queries
 pub record HearsAlone (old new : Told) : Type 0 where

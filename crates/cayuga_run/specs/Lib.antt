@@ -11,6 +11,8 @@ pub mod QueryFailing
 pub mod Refusing
 pub mod Reports
 pub mod RunOutcome
+pub mod Stats
+pub mod StatsOutcome
 pub mod StoppedWriting
 pub mod Taking
 pub mod Wording

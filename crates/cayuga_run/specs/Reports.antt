@@ -1,5 +1,6 @@
 -- The report of an accepted query text over an event text.
-use Rattle.std.specs.Prelude.{ℕ, List, Bool, Option}
+use Rattle.std.specs.Prelude.{ℕ, List, Bool, true, Option}
+use Rattle.semantics.specs.Histories.{Heard}
 use Rattle.semantics.specs.Report.{report}
 use Rattle.catalogue.specs.Judgement.{Judged, program_of}
 use Rattle.monitor.specs.declared.refusal.Refusal.{Refusal}
@@ -14,6 +15,10 @@ refused_in judged text ended = refused (readings judged.streams text ended)
 abbrev pub report_of_closed : Judged → List ℕ → Bool → List ℕ
 report_of_closed judged text ended = report (program_of judged) (closed (readings judged.streams text ended) ended)
 
--- the report of all that is heard of a whole event text
+-- all that is heard of a whole event text
+abbrev pub heard_in : Judged → List ℕ → List Heard
+heard_in judged text = heard (readings judged.streams text true)
+
+-- the report of all that is heard of an event text
 abbrev pub report_of_heard : Judged → List ℕ → Bool → List ℕ
 report_of_heard judged text ended = report (program_of judged) (heard (readings judged.streams text ended))

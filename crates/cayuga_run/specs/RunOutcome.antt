@@ -1,5 +1,5 @@
 -- What a run has done, by its status.
-use Rattle.std.specs.Prelude.{◌≡◌, ℕ, ◌<◌, ◌≤◌, List, [], Bool, true, false, nat_le, length, take, Some, None, IfSome}
+use Rattle.std.specs.Prelude.{◌≡◌, ◌⊎◌, ℕ, ◌<◌, ◌≤◌, List, [], ◌++◌, Bool, true, false, nat_le, length, take, Some, None, IfSome}
 use Rattle.std.specs.Io.KnownBytes.{prepend_known}
 use Rattle.cay_host.specs.declared.side.Side.{Side}
 use Rattle.cay_host.specs.declared.side.Side.TheVariants.{Queries, Events}
@@ -11,12 +11,13 @@ use Rattle.monitor.specs.declared.refusal.Refusal.{Refusal}
 use Rattle.monitor.specs.declared.refusal.Refusal.TheVariants.{HasFault, IsOutOfOrder}
 use Rattle.cayuga_run.specs.declared.status.Status.{Status}
 use Rattle.cayuga_run.specs.declared.status.Status.TheVariants.{Done, Usage, BadQuery, Cycle, BadEvent, OutOfOrder, AttachFault, ReadFault, WriteFault, TooMuch, Memory}
-use Rattle.catalogue.specs.Judgement.{Verdict, Accepted, Refused, Circle, Judges}
+use Rattle.catalogue.specs.Judgement.{Verdict, Accepted, Refused, Circle, Judged, Judges}
 use Rattle.cayuga_run.specs.Accepting.{IsAccepted}
 use Rattle.monitor.specs.Owing.{WroteFront}
 use Rattle.cayuga_run.specs.Refusing.{IsBadQuery, IsCycle, OfQueries, ReadsUpTo, StoppedAt, StoppedInQueries}
-use Rattle.cayuga_run.specs.Reports.{refused_in, report_of_closed, report_of_heard}
-use Rattle.cayuga_run.specs.StoppedWriting.{StoppedWriting}
+use Rattle.cayuga_run.specs.Reports.{heard_in, refused_in, report_of_closed, report_of_heard}
+use Rattle.cayuga_run.specs.Stats.{ComesBehind}
+use Rattle.cayuga_run.specs.StoppedWriting.{StoppedInStats, StoppedWriting}
 use Rattle.cayuga_run.specs.Works.{Run, name_of}
 
 -- where the host tells both files
@@ -32,11 +33,12 @@ pub record AreThere (run : Run) (old : Told) : Type 0 where
   pub queries : lacks run.queries old.files ≡ false
   pub events : lacks run.events old.files ≡ false
 
--- all events were heard, none was refused, and their report was written
+-- all events were heard, none was refused, and their report was written, and with `--stats` the stats line behind it
 pub record IsDone (run : Run) (limit : ℕ) (old new : Told) : Type 0 where
   pub there : AreThere run old
   pub text : OfFiles run old (λ queries events. IsAccepted queries (λ judged.
-      (length events ≤ limit) × (refused_in judged events true ≡ None) × Wrote (report_of_heard judged events true) old new))
+      (length events ≤ limit) × (refused_in judged events true ≡ None)
+      × ((more : List ℕ) × ComesBehind run.stats judged (heard_in judged events) more × Wrote (report_of_heard judged events true ++ more) old new)))
   pub ended : IfSome (new.left Events) (λ rest. rest ≡ [])
 
 -- that line of the event text, cut at the limit, is refused, and the report of the epochs closed before it was written
@@ -78,14 +80,18 @@ pub record IsReadFault (side : Side) (run : Run) (limit : ℕ) (old new : Told) 
   pub queries : side ≡ Queries → StoppedInQueries run.queries old new
   pub events : side ≡ Events → StoppedInEvents run limit old new
 
--- the count of write faults rose, and the report was written up to a proper prefix of the rows that the last piece or the end of the events adds
+-- the writing stopped in the report, or with `--stats` in the stats line behind it
+abbrev pub StoppedBy : Bool → Judged → ℕ → List ℕ → Told → Told → Type 0
+StoppedBy stats judged limit events old new = StoppedWriting judged limit (Some events) old new ⊎ ((stats ≡ true) × StoppedInStats judged limit events old new)
+
+-- the count of write faults rose, and the report was written up to a proper prefix of the rows that the last piece or the end of the events adds, or whole and with a proper prefix of the stats line
 pub record IsWriteFault (run : Run) (limit : ℕ) (old new : Told) : Type 0 where
   pub cause : Rose old.write_faults new.write_faults
   pub there : AreThere run old
   pub others : ReadsUpTo Events old new
-  pub text : OfFiles run old (λ queries events. IsAccepted queries (λ judged. StoppedWriting judged limit (Some events) old new))
+  pub text : OfFiles run old (λ queries events. IsAccepted queries (λ judged. StoppedBy run.stats judged limit events old new))
 
--- what was written before memory was wanting: a front of the report of the closed epochs, and nothing where the query text is refused
+-- what was written before memory was wanting: a front of the report of the closed epochs, and nothing where the query text is refused; no byte of a stats line is written then
 abbrev pub MemoryText : Verdict → ℕ → List ℕ → Told → Told → Type 0
 MemoryText (Accepted judged) limit events old new = WroteFront (report_of_closed judged (take limit events) (is_whole limit events)) old new
 MemoryText (Refused line why) limit events old new = KeepsOutput old new

@@ -1,11 +1,12 @@
 -- How far the report of a run was written where a write failed.
-use Rattle.std.specs.Prelude.{◌≡◌, ◌<◌, ◌≤◌, ℕ, List, ◌++◌, Bool, true, false, length, take, Option, IfSome}
+use Rattle.std.specs.Prelude.{◌≡◌, ◌<◌, ◌≤◌, ℕ, List, [], ◌++◌, Bool, true, false, length, take, Option, None, Some, IfSome}
 use Rattle.std.specs.Io.KnownBytes.{prepend_known}
 use Rattle.cay_host.specs.declared.side.Side.TheVariants.{Events}
 use Rattle.cay_host.specs.Output.{Wrote}
 use Rattle.cay_host.specs.Told.{Told}
 use Rattle.catalogue.specs.Judgement.{Judged}
-use Rattle.cayuga_run.specs.Reports.{report_of_closed}
+use Rattle.cayuga_run.specs.Reports.{heard_in, refused_in, report_of_closed, report_of_heard}
+use Rattle.cayuga_run.specs.Stats.{AreStats, Stats, stats_line}
 
 -- all of the earlier text was appended, and a proper prefix of what the later one has beyond it
 pub record WroteUpTo (earlier later : List ℕ) (old new : Told) : Type 0 where
@@ -25,3 +26,12 @@ pub record StoppedWriting (judged : Judged) (limit : ℕ) (events : Option (List
   pub few : length piece ≤ 65536
   pub whole : ended ≡ true → IfSome events (λ text. text ≡ before)
   pub wrote : WroteUpTo (report_of_closed judged before false) (report_of_closed judged (take limit (before ++ piece)) ended) old new
+
+-- the events were heard to their end and none was refused: their report was written, and a proper prefix of the stats line
+pub record StoppedInStats (judged : Judged) (limit : ℕ) (events : List ℕ) (old new : Told) : Type 0 where
+  pub within : length events ≤ limit
+  pub none_refused : refused_in judged events true ≡ None
+  pub read : new.left Events ≡ Some []
+  pub stats : Stats
+  pub are : AreStats judged (heard_in judged events) stats
+  pub wrote : WroteUpTo (report_of_heard judged events true) (report_of_heard judged events true ++ stats_line stats) old new

@@ -8,10 +8,11 @@ use Rattle.command_words.specs.declared.job.Job.{Job}
 use Rattle.command_words.specs.declared.job.Job.TheVariants as job
 use Rattle.plan_text.specs.Plan.{plan_of}
 
--- a run of the queries of one file over the events of another, by the names of the files
+-- a run of the queries of one file over the events of another, by the names of the files, and whether its stats line is asked for
 pub record Run : Type 0 where
   pub queries : List ℕ
   pub events : List ℕ
+  pub stats : Bool
 
 -- the file of a run for a side
 abbrev pub name_of : Run → Side → List ℕ
@@ -36,7 +37,7 @@ canonical_of judged = canon judged.statements
 -- the work of a job: a check writes the canonical text, a plan the lines of the queries
 abbrev pub work_of : Option Job → Work
 work_of None = Nothing
-work_of (Some (job.Run queries events)) = Reports (record { queries = queries; events = events })
+work_of (Some (job.Run queries events stats)) = Reports (record { queries = queries; events = events; stats = stats })
 work_of (Some (job.Check queries)) = Writes (record { queries = queries; text_of = canonical_of })
 work_of (Some (job.Plan queries)) = Writes (record { queries = queries; text_of = plan_of })
 

@@ -24,7 +24,7 @@ pub fn hear<H: Host, L: Ledger>(
     requires attached { (H.told host.old).attached Events ≡ true }
     requires stands { StandsFor session.old [] [] }
     requires limit { session.old.limit ≡ limit }
-    ensures hears { Hears (judged_of session.old.catalogue) limit (H.told host.old) (H.told host.new) result }
+    ensures hears { Hears (judged_of session.old.catalogue) limit session.new (H.told host.old) (H.told host.new) result }
     ensures blames { BlamesHost (H.told host.old) (H.told host.new) result }
     ensures alone { HearsAlone (H.told host.old) (H.told host.new) }
 {

@@ -8,6 +8,7 @@ mod hearing;
 mod laws;
 mod pieces;
 mod run;
+mod stats;
 mod status;
 mod taking;
 mod top;

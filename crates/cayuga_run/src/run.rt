@@ -1,29 +1,36 @@
 //! The run of the queries of one file over the events of another.
-ghost use Rattle.std.specs.Prelude.{◌≡◌, false};
+ghost use Rattle.std.specs.Prelude.{◌≡◌, ℕ, List, [], false};
 ghost use Rattle.cay_host.specs.declared.side.Side.TheVariants.{Queries, Events};
+ghost use Rattle.cay_host.specs.Told.{Told};
+ghost use Rattle.catalogue.specs.Catalogued.{judged_of};
+ghost use Rattle.monitor.specs.Sessions.{StandsFor};
+ghost use Rattle.cayuga_run.specs.Begun.{HasAccepted};
 ghost use Rattle.cayuga_run.specs.Blaming.{BlamesHost};
 ghost use Rattle.cayuga_run.specs.RunOutcome.{RunOutcome};
 
 use crate::accepting::accept;
 use crate::hearing::hear;
+use crate::stats::write_stats;
 use crate::status::Status;
 use cay_host::{Host, Ledger, Side, Steps};
 use monitor::Session;
 use std::alloc::Global;
 
 /// Runs the queries over the events. What an epoch brings is written once a later event or the end of
-/// the events has closed it.
+/// the events has closed it. Where all events were heard and stats are asked for, a line of stats stands
+/// behind the report.
 pub fn run<H: Host, L: Ledger>(
     alloc: Global,
     host: &mut H,
     queries: &str,
     events: &str,
+    stats: bool,
     limit: u64,
     steps: &mut Steps<L>,
 ) -> Status
     requires queries { (H.told host.old).attached Queries ≡ false }
     requires events { (H.told host.old).attached Events ≡ false }
-    ensures outcome { RunOutcome (record { queries = queries.now; events = events.now }) limit (H.told host.old) (H.told host.new) result }
+    ensures outcome { RunOutcome (record { queries = queries.now; events = events.now; stats = stats }) limit (H.told host.old) (H.told host.new) result }
     ensures blames { BlamesHost (H.told host.old) (H.told host.new) result }
 {
     let catalogue = match accept(alloc, host, queries) {
@@ -33,8 +40,36 @@ pub fn run<H: Host, L: Ledger>(
     let Ok(mut session) = Session::make(alloc, catalogue, limit) else {
         return Status::Memory;
     };
-    match host.attach(Side::Events, events) {
-        Ok(()) => hear(alloc, host, &mut session, limit, steps),
-        Err(_) => Status::AttachFault(Side::Events),
+    hear_events(alloc, host, &mut session, events, stats, limit, steps)
+}
+
+// Attaches the events and hears them. Where all were heard and stats are asked for, writes their line.
+fn hear_events<H: Host, L: Ledger>(
+    alloc: Global,
+    host: &mut H,
+    session: &mut Session,
+    events: &str,
+    stats: bool,
+    limit: u64,
+    steps: &mut Steps<L>,
+) -> Status
+    requires free { (H.told host.old).attached Events ≡ false }
+    requires stands { StandsFor session.old [] [] }
+    requires limit { session.old.limit ≡ limit }
+    ensures outcome { (queries : List ℕ) (first : Told) → HasAccepted queries (judged_of session.old.catalogue) first (H.told host.old) → RunOutcome (record { queries = queries; events = events.now; stats = stats }) limit first (H.told host.new) result }
+    ensures blames { BlamesHost (H.told host.old) (H.told host.new) result }
+{
+    if host.attach(Side::Events, events).is_err() {
+        return Status::AttachFault(Side::Events);
+    }
+    match hear(alloc, host, session, limit, steps) {
+        Status::Done => {
+            if stats {
+                write_stats(alloc, host, session)
+            } else {
+                Status::Done
+            }
+        }
+        status => status,
     }
 }

@@ -17,6 +17,7 @@ mod jobs;
 mod pieces;
 mod query_texts;
 mod sequence;
+mod stats;
 mod union;
 mod wording;
 
@@ -34,6 +35,14 @@ const ROW: &[u8] = b"Q,10,10,IBM,101,5\n";
 
 /// The job was done.
 const DONE: (u8, &str) = (0, "");
+
+// The declaration of the stream, and what stands from the second line on.
+fn with_line(alloc: Global, line: &str) -> Result<Vec<u8>, AllocError> {
+    let mut text = Vec::new(alloc);
+    text.extend_from_slice(b"STREAM Stock (Name TEXT, Price INT, Volume INT);\n")?;
+    text.extend_from_slice(line.as_bytes())?;
+    Ok(text)
+}
 
 fn host_with(alloc: Global, queries: &[u8], events: &[u8]) -> Result<MemHost, AllocError>
     ensures { IfOk result (λ host. IsFree (mem_told host)) }

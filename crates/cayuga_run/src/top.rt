@@ -18,9 +18,10 @@ use std::alloc::Global;
 /// The most bytes of an event text that the program takes: 2^40.
 const MOST_EVENT_BYTES: u64 = 1 << 40;
 
-/// Does what the words after the program's name ask for. `run QUERIES EVENTS` writes the report of the
-/// queries over the events, of which at most 2^40 bytes are taken. `check QUERIES` writes the canonical
-/// text of the queries, and `plan QUERIES` what each of them publishes and reads.
+/// Does what the words after the program's name ask for. `run [--stats] QUERIES EVENTS` writes the report
+/// of the queries over the events, of which at most 2^40 bytes are taken, and with the flag a line of stats
+/// behind it. `check QUERIES` writes the canonical text of the queries, and `plan QUERIES` what each of them
+/// publishes and reads.
 pub fn cayuga<H: Host, L: Ledger>(
     alloc: Global,
     host: &mut H,
@@ -81,10 +82,14 @@ fn do_job<H: Host, L: Ledger>(
     ensures sides { (side : Side) → has_side (work_of (Some job.now)) side ≡ false → (H.told host.new).attached side ≡ false }
 {
     match job {
-        Job::Run { queries, events } => {
+        Job::Run {
+            queries,
+            events,
+            stats,
+        } => {
             let queries = queries.as_str();
             let events = events.as_str();
-            run(alloc, host, queries, events, limit, steps)
+            run(alloc, host, queries, events, *stats, limit, steps)
         }
         Job::Check { queries } => check(alloc, host, queries.as_str()),
         Job::Plan { queries } => plan(alloc, host, queries.as_str()),

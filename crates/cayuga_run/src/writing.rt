@@ -48,8 +48,8 @@ pub fn plan<H: Host>(alloc: Global, host: &mut H, queries: &str) -> Status
     }
 }
 
-// Writes a text whole.
-fn write_text<H: Host>(host: &mut H, text: &str) -> Status
+/// Writes a text whole.
+pub fn write_text<H: Host>(host: &mut H, text: &str) -> Status
     ensures writes { WritesText text.now (H.told host.old) (H.told host.new) result }
     ensures blames { BlamesHost (H.told host.old) (H.told host.new) result }
     ensures same { SameButOutput (H.told host.old) (H.told host.new) }

@@ -1,15 +1,6 @@
 //! Refusals that a query text or an event line brings.
-use crate::tests::{ALL, DONE, TRADE, expect};
-use std::alloc::{AllocError, Global};
+use crate::tests::{ALL, DONE, TRADE, expect, with_line};
 use std::test::Fail;
-
-// The declaration of the stream, and a second line.
-fn with_line(alloc: Global, line: &str) -> Result<Vec<u8>, AllocError> {
-    let mut text = Vec::new(alloc);
-    text.extend_from_slice(b"STREAM Stock (Name TEXT, Price INT, Volume INT);\n")?;
-    text.extend_from_slice(line.as_bytes())?;
-    Ok(text)
-}
 
 #[test]
 fn queries_that_read_one_another_in_a_circle_are_named(rt: HostRuntime) -> Result<(), Fail> {

@@ -58,6 +58,7 @@ fn a_wrong_word_is_usage(rt: HostRuntime) -> Result<(), Fail> {
     let alloc = rt.alloc();
     expect_text(&rt, alloc, &["check", "q", "e"], HIGH, usage, b"")?;
     expect_text(&rt, alloc, &["plans", "q"], HIGH, usage, b"")?;
+    expect_text(&rt, alloc, &["--stats", "check", "q"], HIGH, usage, b"")?;
     Ok(())
 }
 

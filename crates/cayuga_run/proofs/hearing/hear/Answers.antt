@@ -25,7 +25,7 @@ returns-in-Ok-finish-clause-hears g c =
     let room : length buffer ≤ 65536 = omega (arith, slice) in
     let t = taken_more c.pieces.invariant c.in-Ok.count buffer rest room c.in-Ok.ensures.took c.read.ensures.same c.in-Ok.ensures.quiet in
     let none = ap (λ n. take n (buffer ++ rest)) c.if-count-eq0.true in
-    hears_all t c.finish.ensures.same none (c.in-Ok.ensures.took.end c.if-count-eq0.true) (c.in-Ok-finish.ensures.finished [] c.pieces.invariant.bytes c.pieces.invariant.stands)
+    hears_all t c.finish.ensures.same none (c.in-Ok.ensures.took.end c.if-count-eq0.true) c.finish.new.self c.finish.ensures.queries (c.in-Ok-finish.ensures.finished [] c.pieces.invariant.bytes c.pieces.invariant.stands)
 
 pub returns-in-Err-finish-clause-hears : goal.returns-in-Err-finish-clause-hears
 returns-in-Err-finish-clause-hears g c =
@@ -35,8 +35,8 @@ returns-in-Err-finish-clause-hears g c =
     let room : length buffer ≤ 65536 = omega (arith, slice) in
     let t = taken_more c.pieces.invariant c.in-Ok.count buffer rest room c.in-Ok.ensures.took c.read.ensures.same c.in-Ok.ensures.quiet in
     let none = ap (λ n. take n (buffer ++ rest)) c.if-count-eq0.true in
-    subst (Hears (judged_of c.args.session.now.catalogue) c.args.limit (g.H.Host.told c.args.host.now) (g.H.Host.told c.finish.new.host)) (sym c.status_of.ensures)
-    (stops_at_end t c.finish.ensures.same none (c.in-Ok.ensures.took.end c.if-count-eq0.true) c.in-Err-finish.fault (c.in-Err-finish.ensures.finished [] c.pieces.invariant.bytes c.pieces.invariant.stands))
+    subst (Hears (judged_of c.args.session.now.catalogue) c.args.limit c.finish.new.self (g.H.Host.told c.args.host.now) (g.H.Host.told c.finish.new.host)) (sym c.status_of.ensures)
+    (stops_at_end t c.finish.ensures.same none (c.in-Ok.ensures.took.end c.if-count-eq0.true) c.finish.new.self c.in-Err-finish.fault (c.in-Err-finish.ensures.finished [] c.pieces.invariant.bytes c.pieces.invariant.stands))
 
 -- one more piece was heard
 pub pieces-preserved : goal.pieces-preserved
@@ -90,5 +90,5 @@ returns-in-Err-feed-clause-hears g c =
     let slice = length-take c.piece_size-want.result c.pieces.piece in
     let room : length buffer ≤ 65536 = omega (arith, slice) in
     let t = taken_more c.pieces.invariant c.in-Ok.count buffer rest room c.in-Ok.ensures.took c.read.ensures.same c.in-Ok.ensures.quiet in
-    subst (Hears (judged_of c.args.session.now.catalogue) c.args.limit (g.H.Host.told c.args.host.now) (g.H.Host.told c.feed.new.host)) (sym c.status_of-in-Err-feed.ensures)
-    (stops_at_piece t c.feed.ensures.same c.in-Err-feed.fault (c.in-Err-feed.ensures.broken [] c.pieces.invariant.bytes c.pieces.invariant.stands))
+    subst (Hears (judged_of c.args.session.now.catalogue) c.args.limit c.feed.new.self (g.H.Host.told c.args.host.now) (g.H.Host.told c.feed.new.host)) (sym c.status_of-in-Err-feed.ensures)
+    (stops_at_piece t c.feed.ensures.same c.feed.new.self c.in-Err-feed.fault (c.in-Err-feed.ensures.broken [] c.pieces.invariant.bytes c.pieces.invariant.stands))
