@@ -68,7 +68,7 @@ pub record StandsFor (session : View) (past : List Heard) (text : List ℕ) : Ty
   pub counted : session.fed ≡ length text
   pub feed : HasGiven text session.feed
 
--- the text has ended, and the engine works for all that was heard of the whole text, with no epoch open
+-- the engine works for all that was heard of the whole text, with no epoch open
 pub record HasFinished (session : View) (past : List Heard) (text : List ℕ) : Type 0 where
   pub works : WorksFor session (heard_after past (readings_in session text true))
   pub none_open : session.engine.time ≡ None

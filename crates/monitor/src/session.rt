@@ -119,9 +119,9 @@ impl Session {
         root_states(self.work.engine.network()).saturating_add(hops_of(self.catalogue.lines()))
     }
 
-    /// The number of bindings that wait and that a later event can still match by its bounds on DUR, or
-    /// 2^64-1 where there are more. Events of the open epoch don't count. Takes the other bindings out of the
-    /// stores, and no memory.
+    /// The number of bindings that wait after the closed epochs and that a later event can still match, as far
+    /// as the bounds on DUR tell, or 2^64-1 where there are more. Takes the other bindings out of the stores,
+    /// and no memory.
     pub fn live(&mut self) -> u64
         ensures counted { (history : List Heard) → WorksFor self.old history → CountsAlive (lines_of (program_in self.old)) (order_of (program_in self.old)) (closed_part self.old.engine.time history) result }
         ensures trimmed { IsTrue self.old.engine.intact → TrimsEngine self.old self.new }
