@@ -8,30 +8,36 @@ use Rattle.cay_host.specs.Sides.{with_side}
 use Rattle.cay_host.specs.Told.{Told}
 use Rattle.cay_host.specs.Input.{SameButRead}
 
--- two functions of a side that agree at each side are equal
+-- functions of a side that agree at both agree at each
 each_side : {A : Type 0} (f g : Side → A) → f Queries ≡ g Queries → f Events ≡ g Events → (s : Side) → f s ≡ g s
 each_side f g p q Queries = p
 each_side f g p q Events = q
 
+-- functions of a side that agree at both are equal
 pub side_ext : {A : Type 0} (f g : Side → A) → f Queries ≡ g Queries → f Events ≡ g Events → f ≡ g
 side_ext f g p q = fun_ext (each_side f g p q)
 
+-- with its own value at a side a function is as it was
 pub with_side-same : {A : Type 0} (s : Side) (f : Side → A) → f ≡ with_side s (f s) f
 with_side-same Queries f = side_ext _ _ refl refl
 with_side-same Events f = side_ext _ _ refl refl
 
+-- of two values at a side the later one stays
 pub with_side-twice : {A : Type 0} (s : Side) (x y : A) (f : Side → A) → with_side s y (with_side s x f) ≡ with_side s y f
 with_side-twice Queries x y f = side_ext _ _ refl refl
 with_side-twice Events x y f = side_ext _ _ refl refl
 
+-- no bytes before what is known leave it as it is
 pub prepend_known-nil : (a : Option (List ℕ)) → a ≡ prepend_known [] a
 prepend_known-nil None = refl
 prepend_known-nil (Some x) = refl
 
+-- bytes before bytes before what is known are both before it
 pub prepend_known-append : (bs cs : List ℕ) (a : Option (List ℕ)) → prepend_known bs (prepend_known cs a) ≡ prepend_known (bs ++ cs) a
 prepend_known-append bs cs None = refl
 prepend_known-append bs cs (Some x) = ap Some (sym (append_assoc bs cs x))
 
+-- where nothing changes, nothing but a read does
 pub SameButRead-refl : (s : Side) (a : Told) → SameButRead s a a
 SameButRead-refl s a = record {
   later = omega arith;
@@ -44,6 +50,7 @@ SameButRead-refl s a = record {
   lines = refl;
 }
 
+-- two reads one after the other change what a read does
 pub SameButRead-trans : {s : Side} {a b c : Told} → SameButRead s a b → SameButRead s b c → SameButRead s a c
 SameButRead-trans {s} {a} {b} {c} p q = record {
   later = omega arith;

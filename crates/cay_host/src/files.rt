@@ -4,6 +4,7 @@ ghost use Rattle.cay_host.specs.Files.{find_file};
 ghost use Rattle.cay_host.specs.Input.{Took};
 ghost use Rattle.cay_host.specs.MemHost.{entries, bytes_at, rest_at};
 
+/// A file: the bytes of its name, and its own.
 #[derive(Drop)]
 pub struct File {
     pub name: Vec<u8>,
@@ -21,9 +22,9 @@ pub struct Place {
 pub fn find(files: &[File], name: &[u8]) -> Option<usize>
     ensures { MatchOption result (find_file name.now (entries files.now) ≡ None) (λ i. find_file name.now (entries files.now) ≡ Some (bytes_at files.now i)) }
 {
-    for (i, file) in files.iter().enumerate() {
+    for (index, file) in files.iter().enumerate() {
         if file.name.as_slice() == name {
-            return Some(i);
+            return Some(index);
         }
     }
     None
@@ -49,11 +50,11 @@ pub fn read_at(files: &[File], place: &mut Place, piece: usize, buf: &mut [u8]) 
 }
 
 // The bytes of the file at an index, or none.
-fn bytes_of(files: &[File], i: usize) -> &[u8]
-    ensures { result.now ≡ bytes_at files.now i }
+fn bytes_of(files: &[File], index: usize) -> &[u8]
+    ensures { result.now ≡ bytes_at files.now index }
 {
-    if i < files.len() {
-        files[i].bytes.as_slice()
+    if index < files.len() {
+        files[index].bytes.as_slice()
     } else {
         &[]
     }

@@ -5,5 +5,5 @@ use Rattle.cay_host.proofs.files.find.Goals as goal
 
 pub returns-then-eq : goal.returns-then-eq
 returns-then-eq c =
-    let e : bytes_eq (get_or c.args.files.now c.loop-i.i c.index-files-i.result).name.items c.args.name.now ≡ true = cc in
-    sym c.loop-i.invariant ∙ found_at _ _ _ _ c.loop-i-test.true e
+    let e : bytes_eq (get_or c.args.files.now c.loop-index.index c.index-files-index.result).name.items c.args.name.now ≡ true = cc in
+    sym c.loop-index.invariant ∙ found_at _ _ _ _ c.loop-index-test.true e
