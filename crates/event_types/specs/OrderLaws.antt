@@ -17,11 +17,13 @@ rank (Int x) = 0
 rank Over = 1
 rank (Text x) = 2
 
+-- the number of a value, where it is one
 abbrev number : Value → ℤ
 number (Int x) = x
 number Over = pos 0
 number (Text x) = pos 0
 
+-- the bytes of a value, where it is a text
 abbrev bytes : Value → List ℕ
 bytes (Int x) = []
 bytes Over = []
@@ -31,11 +33,13 @@ bytes (Text x) = x
 abbrev ranked_cmp : Value → Value → Ordering
 ranked_cmp = then_cmp (on rank nat_cmp) (then_cmp (on number int_cmp) (on bytes (slice_cmp nat_cmp)))
 
+-- what ties behind it changes no order
 ordering_then-equal : (o : Ordering) → ordering_then o Equal ≡ o
 ordering_then-equal Less = refl
 ordering_then-equal Equal = refl
 ordering_then-equal Greater = refl
 
+-- which is the order of values
 ranked_is : (x y : Value) → ranked_cmp x y ≡ value_cmp x y
 ranked_is (Int x) (Int y) = ordering_then-equal (int_cmp x y)
 ranked_is (Int x) Over = refl
@@ -47,12 +51,15 @@ ranked_is (Text x) (Int y) = refl
 ranked_is (Text x) Over = refl
 ranked_is (Text x) (Text y) = refl
 
+-- it is total
 ranked_total : IsTotalOrder ranked_cmp
 ranked_total = then_total (on_total rank nat_cmp_total) (then_total (on_total number int_cmp_total) (on_total bytes nat_list_cmp_total))
 
+-- the order of values is total
 pub value_total : IsTotalOrder value_cmp
 value_total = let same : ranked_cmp ≡ value_cmp = λ i x y. ranked_is x y i in subst IsTotalOrder same ranked_total
 
+-- the order of tuples is total
 pub tuple_total : IsTotalOrder tuple_cmp
 tuple_total = then_total (on_total (λ t. t.from) nat_cmp_total) (then_total (on_total (λ t. t.vals) (lists_total value_total)) (on_total (λ t. t.at) nat_cmp_total))
 
@@ -69,6 +76,7 @@ value_exact Over Over e = refl
 value_exact (Text x) (Text y) e = ap Text (exact_bytes x y e)
 value_exact x y e = cc
 
+-- lists that tie are one, where their items that tie are
 pub lists_exact : {X : Type 0} (R : X → X → Ordering) → CmpEqualImpliesEq R → (xs ys : List X) → slice_cmp R xs ys ≡ Equal → xs ≡ ys
 lists_exact R exact [] [] e = refl
 lists_exact R exact [] (y ∷ ys) e = cc
