@@ -3,7 +3,6 @@ use Rattle.std.proofs.Common.{◌≡◌, ◌∙◌, sym, ap, refl, Bool, true, f
 use Rattle.std.specs.declared.cmp.Ordering.{Ordering}
 use Rattle.std.specs.BTreeSet.{BTreeSet}
 use Rattle.std.specs.List.{dedup, dedup_from, list_any}
-use Rattle.std.specs.List.Sorted.{IsStrictlySortedBy}
 use Rattle.std.specs.Ordering.{is_gt, eq_by_cmp}
 use Rattle.std.proofs.lemmas.List.Kept.{IsStrictlySortedBy-dedup}
 use Rattle.std.proofs.lemmas.Map.Lookups.{CmpEqualImpliesEq, btree_set_from_contains}
@@ -12,7 +11,7 @@ use Rattle.semantics.specs.Scalars.{Pr}
 use Rattle.scalar_expr.specs.TermOrder.{pr_cmp}
 use Rattle.scalar_expr.specs.TermOrderLaws.{pr_total}
 use Rattle.scalar_expr.proofs.TermOrderLemmas.{pr_exact}
-use Rattle.scalar_expr.specs.Canonical.{distinct_parts}
+use Rattle.scalar_expr.specs.Canonical.{AreCanonical, distinct_parts}
 use Rattle.scalar_expr.specs.CanonicalLaws.{is_part}
 use Rattle.scalar_expr.proofs.CanonicalLaws.{tied}
 use Rattle.scalar_expr.proofs.SortedLemmas.{sort_sorted}
@@ -59,12 +58,13 @@ part_stays : (parts : List Pr) (p : Pr) → is_part (distinct_parts parts) p ≡
 part_stays parts p =
     let test = eq_by_cmp pr_cmp p in any_dedup pr_cmp pr_exact test (sort_by pr_cmp parts) ∙ any_sort pr_cmp pr_exact test parts
 
-strictly_sorted : (parts : List Pr) → IsStrictlySortedBy pr_cmp (distinct_parts parts)
-strictly_sorted parts = IsStrictlySortedBy-dedup pr_total (λ p q. refl) (sort_by pr_cmp parts) (sort_sorted pr_cmp pr_total parts)
+-- parts in their canonical order, each once, are so
+pub distinct_parts-canonical : (parts : List Pr) → AreCanonical (distinct_parts parts)
+distinct_parts-canonical parts = IsStrictlySortedBy-dedup pr_total (λ p q. refl) (sort_by pr_cmp parts) (sort_sorted pr_cmp pr_total parts)
 
 -- the same parts have one form
 pub same_form : (parts others : List Pr) → ((p : Pr) → is_part parts p ≡ is_part others p) → distinct_parts parts ≡ distinct_parts others
 same_form parts others same =
     let mine : BTreeSet Pr = record { keys = distinct_parts parts } in
     let theirs : BTreeSet Pr = record { keys = distinct_parts others } in
-    btree_set_from_contains pr_total mine theirs (strictly_sorted parts) (strictly_sorted others) (λ p. part_stays parts p ∙ same p ∙ sym (part_stays others p)) pr_exact
+    btree_set_from_contains pr_total mine theirs (distinct_parts-canonical parts) (distinct_parts-canonical others) (λ p. part_stays parts p ∙ same p ∙ sym (part_stays others p)) pr_exact

@@ -1,6 +1,7 @@
 -- The canonical form of a predicate: a sorted list of parts without doubles, which are all to hold.
 use Rattle.std.specs.Prelude.{if◌then◌else◌, List, [], ◌∷◌, ◌++◌}
 use Rattle.std.specs.List.{dedup}
+use Rattle.std.specs.List.Sorted.{IsStrictlySortedBy}
 use Rattle.std.specs.Ordering.{is_gt, eq_by_cmp}
 use Rattle.event_types.specs.declared.comparison.Cmp.{Cmp}
 use Rattle.event_types.specs.declared.comparison.Cmp.TheVariants as cmp
@@ -40,6 +41,10 @@ conjuncts (Not p) = Not p ∷ []
 -- parts in their canonical order, each once
 abbrev pub distinct_parts : List Pr → List Pr
 distinct_parts parts = dedup (eq_by_cmp pr_cmp) (sort_by pr_cmp parts)
+
+-- the parts ascend in the canonical order: each is below all that come after it, so none stands twice
+abbrev pub AreCanonical : List Pr → Type 0
+AreCanonical parts = IsStrictlySortedBy pr_cmp parts
 
 -- the canonical form (this project's profile)
 abbrev pub canonical : Pr → List Pr

@@ -79,9 +79,11 @@ words_decide x y r s = refl
 sc_cmp_by_words : (x y : Sc) → on words words_cmp x y ≡ sc_cmp x y
 sc_cmp_by_words x y = (λ i. words_cmp (sym (append-nil (words x)) i) (sym (append-nil (words y)) i)) ∙ words_decide x y [] [] ∙ then-equal (sc_cmp x y)
 
+-- the order of scalars is total: of two one is below the other or they tie, and scalars that tie compare alike with a third
 pub sc_total : IsTotalOrder sc_cmp
 sc_total = let same : on words words_cmp ≡ sc_cmp = λ i x y. sc_cmp_by_words x y i in subst IsTotalOrder same (on_total words (lists_total value_total))
 
+-- so is the same order of the program's scalars
 pub scalar_total : IsTotalOrder scalar_cmp
 scalar_total = on_total sc_of sc_total
 
@@ -109,8 +111,10 @@ pr_cmp_by_words : (p q : Pr) → on pr_words words_cmp p q ≡ pr_cmp p q
 pr_cmp_by_words p q =
     (λ i. words_cmp (sym (append-nil (pr_words p)) i) (sym (append-nil (pr_words q)) i)) ∙ pr_words_decide p q [] [] ∙ then-equal (pr_cmp p q)
 
+-- the order of predicates is total
 pub pr_total : IsTotalOrder pr_cmp
 pr_total = let same : on pr_words words_cmp ≡ pr_cmp = λ i p q. pr_cmp_by_words p q i in subst IsTotalOrder same (on_total pr_words (lists_total value_total))
 
+-- so is the same order of the program's predicates
 pub pred_total : IsTotalOrder pred_cmp
 pred_total = on_total pr_of pr_total

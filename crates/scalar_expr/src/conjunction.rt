@@ -1,7 +1,7 @@
 //! Conjunctions.
 ghost use Rattle.std.specs.Prelude.{◌≡◌, ◌<◌, ◌++◌, ◌↔◌, length, map, slice_get, IfOk, IsTrue, OnOk};
 ghost use Rattle.std.specs.Option.{option_map};
-ghost use Rattle.scalar_expr.specs.Canonical.{distinct_parts};
+ghost use Rattle.scalar_expr.specs.Canonical.{AreCanonical, distinct_parts};
 ghost use Rattle.scalar_expr.specs.Classes.{class_of, class_seen};
 ghost use Rattle.scalar_expr.specs.Views.{pr_of};
 
@@ -22,6 +22,7 @@ impl Model for Conj {
     ghost use Rattle.std.specs.Prelude.{List, map};
     ghost use Rattle.semantics.specs.Codes.{conj_code};
     ghost use Rattle.semantics.specs.Scalars.{Pr};
+    ghost use Rattle.scalar_expr.specs.Canonical.{AreCanonical};
     ghost use Rattle.scalar_expr.specs.Views.{pr_of};
 
     ghost Value = { List Pr };
@@ -29,6 +30,8 @@ impl Model for Conj {
     ghost coded = { conj_code };
 
     ghost view = { λ c. map pr_of c.parts.items };
+
+    ghost invariant = { λ c. AreCanonical (map pr_of c.parts.items) };
 }
 
 impl Conj {
@@ -50,7 +53,8 @@ impl Conj {
     }
 
     pub fn size(&self) -> usize
-        ensures { result ≡ length self.now }
+        ensures value { result ≡ length self.now }
+        ensures canonical { AreCanonical self.now }
     {
         self.parts.len()
     }

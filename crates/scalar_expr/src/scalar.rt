@@ -4,7 +4,7 @@ use event_types::{List, Value};
 /// A scalar over an event and a binding: `$1.Price + 1` is `Add` of `Binding(1)` and `Lit` of 1, where
 /// `Price` is the second attribute of the left schema.
 ///
-/// Attributes are places of a tuple, counted from 0. A literal is never OVER.
+/// Attributes are places of a tuple, counted from 0. No literal in a query's text is OVER.
 #[derive(Drop)]
 pub enum Scalar {
     Lit(Value),
