@@ -9,4 +9,6 @@ pub mod SourceSound
 pub mod SourceComplete
 pub mod StatementComplete
 pub mod Whole
+pub mod Fronts
+pub mod Files
 pub mod StatementSound

@@ -1,11 +1,13 @@
 -- What holds of the grammar.
-use Rattle.std.specs.Prelude.{◌≡◌, true, false, List, [], ◌∷◌}
+use Rattle.std.specs.Prelude.{◌≡◌, ◌↔◌, ℕ, true, false, List, [], ◌∷◌, map}
+use Rattle.std.specs.List.{All}
 use Rattle.cel_grammar.specs.Symbols.{Symbol}
 use Rattle.cel_grammar.specs.Symbols as the
 use Rattle.cel_grammar.specs.Parens.{holds_test}
 use Rattle.cel_grammar.specs.Predicates.{IsPred}
 use Rattle.cel_grammar.specs.Scalars.{IsScalar}
 use Rattle.cel_grammar.specs.Sources.{IsSource}
+use Rattle.cel_grammar.specs.Sentences.{IsSmall, Placed, Say, sentences}
 use Rattle.cel_grammar.specs.Statements.{IsFile, IsStatement}
 use Rattle.cel_grammar.specs.Trees.{Pred, Scalar, Source, Statement}
 
@@ -33,3 +35,9 @@ OneFile = (ts : List Symbol) (ss others : List Statement) → IsFile ts ss → I
 pub record ParenLaw : Type 0 where
   pub predicate : (ts rest : List Symbol) (p : Pred) → IsPred ts p (the.Close ∷ rest) → holds_test 0 ts ≡ true
   pub scalar : (ts rest : List Symbol) (x : Scalar) → IsScalar ts x (the.Close ∷ rest) → holds_test 0 ts ≡ false
+
+-- the sentences of some symbols are statements, each within the limits, exactly where the symbols are a file of these statements and each sentence is within the limits
+abbrev pub SentencesAreAFile : Type 0
+SentencesAreAFile =
+    (symbols : List Placed) (statements : List Statement)
+    → ((lines : List ℕ) × Say (sentences symbols) statements lines) ↔ (IsFile (map (λ placed. placed.symbol) symbols) statements × All (λ sentence. IsSmall sentence.symbols) (sentences symbols))

@@ -1,4 +1,5 @@
--- Reading statements from left to right. The number bounds how deep the calls go.
+-- Reading statements from left to right. No public clause cites this module. The number bounds how
+-- deep the calls go.
 use Rattle.std.specs.Prelude.{ℕ, zero, suc, List, [], ◌∷◌, None}
 use Rattle.event_types.specs.declared.kind.Kind.TheVariants as kind
 use Rattle.cel_grammar.specs.Symbols.{Symbol}
@@ -30,7 +31,7 @@ abbrev pub publish_at : List Symbol → Read (List ℕ)
 publish_at (the.Publish ∷ the.Name a ∷ ts) = done a ts
 publish_at ts = None
 
--- a declaration or a query
+-- a declaration or a query; proofs alone cite it
 unfoldable pub statement_at : ℕ → List Symbol → Read Statement
 statement_at n (the.Stream ∷ the.Name a ∷ the.Open ∷ ts) =
     columns_at n ts >>= λ cs. close_at cs.1 >>= done (Stream a cs.0)

@@ -5,7 +5,7 @@
 //! `proofs/`, for the parser.
 #![tactic(auto)]
 
-ghost use Rattle.grammar_laws.specs.Laws.{OneFile, OnePred, OneScalar, OneSource, OneStatement, ParenLaw};
+ghost use Rattle.grammar_laws.specs.Laws.{OneFile, OnePred, OneScalar, OneSource, OneStatement, ParenLaw, SentencesAreAFile};
 
 /// Symbols have at most one reading.
 pub fn one_reading()
@@ -20,4 +20,10 @@ pub fn one_reading()
 /// scalar's.
 pub fn parentheses_tell()
     ensures { ParenLaw }
+{}
+
+/// What stands up to each semicolon is a statement within the limits exactly where all of the symbols
+/// are a file of these statements, and none of its sentences goes beyond the limits.
+pub fn sentences_are_a_file()
+    ensures { SentencesAreAFile }
 {}
