@@ -45,7 +45,7 @@ abbrev pub without_edge : ℕ → Option State → Option State
 without_edge next None = None
 without_edge next (Some state) = Some (record { entry = state.entry; edges = without_number next state.edges; ends = state.ends })
 
--- the state without the end of this number
+-- the state without the ends of this number
 abbrev pub without_end : ℕ → Option State → Option State
 without_end number None = None
 without_end number (Some state) = Some (record { entry = state.entry; edges = state.edges; ends = without_numbered number state.ends })
@@ -69,7 +69,7 @@ pub record AddsEnd (state : ℕ) (end : End) (old new : Net) : Type 0 where
   pub others : (other : ℕ) → other ≢ state → state_at new other ≡ state_at old other
   pub places : length new ≡ length old
 
--- the end of this number leaves a state
+-- each end of this number leaves a state
 pub record RemovesEnd (state number : ℕ) (old new : Net) : Type 0 where
   pub here : state_at new state ≡ without_end number (state_at old state)
   pub others : (other : ℕ) → other ≢ state → state_at new other ≡ state_at old other

@@ -29,7 +29,7 @@ pub struct Line {
     pub out: StreamId,
 }
 
-/// Lines, those of a stream before those that read it.
+/// The lines of a query, or of a set of queries.
 pub type Lines = List<Line>;
 
 impl Hop {
