@@ -62,7 +62,8 @@ fn pass_made<L: Ledger>(
     }
 }
 
-/// Adds what the tuples are after the stages, of those that pass them.
+/// Adds what the tuples are after the stages, of those that pass them. After want of memory some may be
+/// added.
 pub fn add_passed<L: Ledger>(
     alloc: Global,
     out: &mut Tuples,

@@ -76,7 +76,7 @@ fn link(alloc: Global, store: &mut PlainStore, tuple: Tuple) -> Result<(), Memor
     ensures condition { store.new.condition ≡ store.old.condition }
 {
     let instance = Instance { tuple };
-    store.ready(alloc, &instance)?;
+    store.ready(&instance)?;
     match Bead::make(alloc, instance) {
         Ok(bead) => {
             store.link(bead);
@@ -141,7 +141,7 @@ fn link_again<L: Ledger>(
 
 /// Takes the store of a wait over an epoch of this time: `tuples` are those of its stream, `before`
 /// those that come to the step into its state, and `leaving` those that leave the wait. What no event
-/// after that time can match is taken out.
+/// after that time can match is taken out. After want of memory the store may be changed in part.
 pub fn settle<L: Ledger>(
     alloc: Global,
     store: &mut PlainStore,

@@ -14,7 +14,8 @@ use instances::Instance;
 use scalar_expr::holds;
 use std::alloc::Global;
 
-/// Adds what the tuple makes of the instances that the reader gives.
+/// Adds what the tuple makes of the instances that the reader gives. After want of memory some of it may be
+/// added.
 pub fn add_met<L: Ledger>(
     alloc: Global,
     out: &mut Tuples,

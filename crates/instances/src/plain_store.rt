@@ -14,7 +14,8 @@ use std::marker::Model;
 
 /// A store that looks at each of its instances.
 ///
-/// It is walked by a purge only where its oldest instance may have expired.
+/// It keeps a time before which no instance starts. A purge walks it only where an instance of that start
+/// would have expired.
 #[derive(Drop)]
 pub struct PlainStore {
     chain: Chain<Instance>,
@@ -81,7 +82,7 @@ impl Waiting for PlainStore {
         Ok(copies)
     }
 
-    fn ready(&mut self, _alloc: Global, _instance: &Instance) -> Result<(), Memory> {
+    fn ready(&mut self, _instance: &Instance) -> Result<(), Memory> {
         Ok(())
     }
 

@@ -47,7 +47,7 @@ fn store_of(
     for (from, at) in times {
         let tuple = tuple(rt, alloc, *from, *at);
         let instance = Instance { tuple };
-        store.ready(alloc, &instance)?;
+        store.ready(&instance)?;
         match Bead::make(alloc, instance) {
             Ok(bead) => store.link(bead),
             Err(_) => return Err(Memory),

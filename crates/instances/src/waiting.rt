@@ -47,7 +47,7 @@ pub trait Waiting {
         ensures { IfOk result (λ copies. IsPermutation copies (instances self.now)) };
 
     /// Makes room for an instance with this key.
-    fn ready(&mut self, alloc: Global, instance: &Instance) -> Result<(), Memory>
+    fn ready(&mut self, instance: &Instance) -> Result<(), Memory>
         requires { BindingFits (key self.old) instance.now.tuple }
         ensures ok { OnOk result (IsReady (key self.old) (ready_keys self.new) instance.now.tuple) }
         ensures more_ready { All (Contains (ready_keys self.new)) (ready_keys self.old) }
