@@ -20,6 +20,7 @@ use std::marker::Model;
 /// `SELECT a FROM A NEXT {c} B` and `SELECT b FROM A NEXT {c} B` have two ends at one waiting state.
 #[derive(Drop)]
 pub struct Merged {
+    alloc: Global,
     network: Network,
     roots: Roots,
     // No number below it is free.
@@ -50,6 +51,7 @@ impl Merged {
         ensures { result ≡ [] }
     {
         Merged {
+            alloc,
             network: Network::new(alloc),
             roots: HashMap::new(alloc),
             lowest: 0,
@@ -65,7 +67,7 @@ impl Merged {
     {
         let mut merged = Merged::new(alloc);
         for place in 0..lines.len() {
-            merged.insert(alloc, lines.get(place), place)?;
+            merged.insert(lines.get(place), place)?;
         }
         Ok(merged)
     }
@@ -79,14 +81,14 @@ impl Merged {
     }
 
     /// Adds the states of a line's prefixes that aren't there, and its end with this number.
-    pub fn insert(&mut self, alloc: Global, line: &Line, end: usize) -> Result<(), Memory>
+    pub fn insert(&mut self, line: &Line, end: usize) -> Result<(), Memory>
         requires { ¬ HasEnd self.old end }
         ensures inserted { OnOk result (Inserts line.now end self.old self.new) }
         ensures kept { OnErr result (self.new ≡ self.old) }
     {
         match self.roots.get(&line.root).copied() {
-            Some(root) => self.add_from(alloc, root, line, end),
-            None => self.add_whole(alloc, line, end),
+            Some(root) => self.add_from(root, line, end),
+            None => self.add_whole(line, end),
         }
     }
 
@@ -101,13 +103,7 @@ impl Merged {
     }
 
     // Adds a line whose root state is there.
-    fn add_from(
-        &mut self,
-        alloc: Global,
-        root: usize,
-        line: &Line,
-        end: usize,
-    ) -> Result<(), Memory>
+    fn add_from(&mut self, root: usize, line: &Line, end: usize) -> Result<(), Memory>
         requires end { ¬ HasEnd self.old end }
         requires root { root_at self.old root ≡ Some line.now.root }
         ensures inserted { OnOk result (Inserts line.now end self.old self.new) }
@@ -115,7 +111,7 @@ impl Merged {
     {
         let reached = reach(&self.network, root, line);
         self.lowest = grow(
-            alloc,
+            self.alloc,
             &mut self.network,
             self.lowest,
             reached.state,
@@ -127,7 +123,7 @@ impl Merged {
     }
 
     // Adds a line whose root state isn't there.
-    fn add_whole(&mut self, alloc: Global, line: &Line, end: usize) -> Result<(), Memory>
+    fn add_whole(&mut self, line: &Line, end: usize) -> Result<(), Memory>
         requires end { ¬ HasEnd self.old end }
         requires root { (number : ℕ) → ¬ (root_at self.old number ≡ Some line.now.root) }
         ensures inserted { OnOk result (Inserts line.now end self.old self.new) }
@@ -135,7 +131,7 @@ impl Merged {
     {
         let number = free_number(&self.network, self.lowest);
         self.roots.insert(line.root, number)?;
-        match plant(alloc, &mut self.network, number, line, end) {
+        match plant(self.alloc, &mut self.network, number, line, end) {
             Ok(bound) => {
                 self.lowest = bound;
                 Ok(())

@@ -201,7 +201,7 @@ fn freed_number_is_taken_again(rt: HostRuntime) -> Result<(), Fail> {
     )?;
     let mut merged = Merged::of(alloc, &lines)?;
     merged.remove(0);
-    merged.insert(alloc, &line(alloc, 7, List::new(alloc)), 0)?;
+    merged.insert(&line(alloc, 7, List::new(alloc)), 0)?;
     let network = merged.network();
     assert_eq!(rt; network.states(), 2);
     assert_eq!(rt; network.places(), 2);
