@@ -1,10 +1,11 @@
 -- The canonical text of what some text reads as is read again. No public clause cites it.
-use Rattle.std.proofs.Common.{◌≡◌, ◌∙◌, ℕ, zero, suc, ◌+◌, Bool, true, false, List, [], ◌∷◌, ◌++◌, length, map, refl, sym, ap, subst, arith}
+use Rattle.std.proofs.Common.{◌≡◌, ◌∙◌, ℕ, ◌+◌, Bool, true, false, List, [], ◌∷◌, ◌++◌, map, refl, sym, ap, subst}
 use Rattle.std.specs.Prelude.{Ok, Err, if◌then◌else◌}
 use Rattle.std.specs.Str.{is_utf8}
-use Rattle.cel_lexer.specs.Faults.{broken_line, tokens_of}
-use Rattle.cel_lexer.specs.Listing.{Listing, spelling}
-use Rattle.cel_lexer.specs.Tokens.{Lexed, mark_len, tokens_behind_mark, tokens_from}
+use Rattle.std.proofs.lemmas.Str.{IsUtf8-from_is_utf8, is_utf8-from_IsUtf8}
+use Rattle.cel_lexer.specs.Faults.{broken_line}
+use Rattle.cel_lexer.specs.Listing.{spelling}
+use Rattle.cel_lexer.specs.Tokens.{mark_len, tokens_behind_mark, tokens_from}
 use Rattle.cel_lexer.specs.declared.fault.LexFault.TheVariants as fault
 use Rattle.cel_lexer.specs.declared.token.Token.{Token}
 use Rattle.cel_grammar.specs.Symbols.{Symbol}
@@ -17,6 +18,7 @@ use Rattle.cel_print.specs.Spelled.{canon}
 use Rattle.cel_print.specs.Laws.{canonical, lines_from}
 use Rattle.cel_print.proofs.Best.{best, small}
 use Rattle.cel_print.proofs.Cutting.{placed}
+use Rattle.cel_print.proofs.Encoded.{canon_utf8}
 use Rattle.cel_print.proofs.Good.{Good, AllGood}
 use Rattle.cel_print.proofs.GoodTrees.{statement_good}
 use Rattle.cel_print.proofs.Lines.{EachGood, end_on, file_cut, on_line, on_lines}
@@ -100,21 +102,22 @@ no_mark (Stream a cs ∷ ss) = refl
 no_mark (Query items e a ∷ ss) = refl
 
 -- the tokens of a text are sound
-tokens_sound : (text : List ℕ) (tokens : List Token) (utf8 : Bool) → (if utf8 then tokens_behind_mark text else Err (fault.NotUtf8 (broken_line text))) ≡ Ok tokens → AllSound text tokens
-tokens_sound text tokens true e = from_sound text (mark_len text) 1 [] text tokens refl e
-tokens_sound text tokens false e = absurd cc
+tokens_sound : (text : List ℕ) (tokens : List Token) (utf8 : Bool) → is_utf8 text ≡ utf8 → (if utf8 then tokens_behind_mark text else Err (fault.NotUtf8 (broken_line text))) ≡ Ok tokens → AllSound text tokens
+tokens_sound text tokens true is e = from_sound text (mark_len text) 1 [] text tokens (IsUtf8-from_is_utf8 text is) refl e
+tokens_sound text tokens false is e = absurd cc
 
 -- statements that a text reads as
 printable_of : (text : List ℕ) (ss : List Statement) (lines : List ℕ) → ReadsAs text ss lines → AllPrintable ss
 unfolding placed_of
-printable_of text ss lines h = all_said h.said (sentences_good text h.tokens (tokens_sound text h.tokens (is_utf8 text) h.all))
+printable_of text ss lines h = all_said h.said (sentences_good text h.tokens (tokens_sound text h.tokens (is_utf8 text) refl h.all))
 
 -- the canonical text reads as them
-pub read_again : (text : List ℕ) (ss : List Statement) (lines : List ℕ) → ReadsAs text ss lines → is_utf8 (canon ss) ≡ true → ReadsAs (canon ss) ss (lines_from 1 ss)
+pub read_again : (text : List ℕ) (ss : List Statement) (lines : List ℕ) → ReadsAs text ss lines → ReadsAs (canon ss) ss (lines_from 1 ss)
 unfolding placed_of
-read_again text ss lines h utf8 =
+read_again text ss lines h =
     let printable = printable_of text ss lines h in
     let cut = file_cut (canon ss) 1 ss (each_good ss printable) [] refl in
+    let utf8 : is_utf8 (canon ss) ≡ true = is_utf8-from_IsUtf8 (canon ss) (canon_utf8 ss (each_good ss printable)) in
     record {
       tokens = cut.tokens;
       all = rw utf8 (ap (λ (n : ℕ). tokens_from n 1 0 (canon ss)) (no_mark ss) ∙ cut.all);

@@ -1,6 +1,6 @@
 -- The words of a text are cut off one after another. No public clause cites it.
-use Rattle.std.proofs.Common.{◌≡◌, ◌∙◌, ℕ, zero, suc, ◌+◌, ◌-◌, ◌<◌, ◌^◌, Bool, true, false, List, [], ◌∷◌, ◌++◌, length, map, take, drop, refl, sym, ap, subst, arith, append_assoc, length-append, add-zero}
-use Rattle.std.specs.Prelude.{Ok, ◌==◌, ◌||◌, codes, decimal, if◌then◌else◌, slice_range}
+use Rattle.std.proofs.Common.{◌≡◌, ◌∙◌, ℕ, suc, ◌+◌, ◌-◌, true, false, List, [], ◌∷◌, ◌++◌, length, map, take, drop, refl, ap, arith, length-append, add-zero}
+use Rattle.std.specs.Prelude.{Ok, slice_range}
 use Rattle.std.proofs.Math.Seq.{take-append_seam}
 use Rattle.std.proofs.lemmas.Bool.Decides.{nat_tests}
 use Rattle.cel_lexer.specs.Bytes.{is_comment_byte, is_line_feed}
@@ -8,15 +8,10 @@ use Rattle.cel_lexer.specs.Listing.{spelling}
 use Rattle.cel_lexer.specs.Tokens.{Lexed, before, line_after, tokens_from}
 use Rattle.cel_lexer.specs.declared.token.Token.{Token}
 use Rattle.cel_grammar.specs.Symbols.{Symbol}
-use Rattle.cel_grammar.specs.Symbols as the
 use Rattle.cel_grammar.specs.Sentences.{Placed}
 use Rattle.cel_grammar.specs.Spellings.{symbol_of}
-use Rattle.cel_print.specs.Words.{Word, Of, Negative, symbols}
-use Rattle.cel_print.specs.Spelled as spelled
-use Rattle.cel_print.specs.Spelled.{joins_left, joins_right, is_call, space, text_behind, word_spelling}
-use Rattle.cel_print.proofs.Bytes.{passes, both_true, IsStop}
-use Rattle.cel_print.proofs.Good.{Good, AllGood}
-use Rattle.cel_print.proofs.Pieces.{IsCut, cut_of, end, minus, number, number_no_dash}
+use Rattle.cel_print.proofs.Bytes.{passes, both_true}
+use Rattle.cel_print.proofs.Pieces.{IsCut}
 
 -- a token as a symbol with its line
 abbrev pub placed : List ℕ → Token → Placed

@@ -1,10 +1,11 @@
 -- Symbols that tokens are. No public clause cites it.
 use Rattle.std.proofs.Common.{◌≡◌, ℕ, ◌≤◌, ◌<◌, ◌^◌, Bool, true, false, List, [], ◌∷◌, length}
+use Rattle.std.specs.Str.{IsUtf8}
 use Rattle.cel_lexer.specs.Bytes.{is_comment_byte, is_first, is_letter, is_word_byte}
 use Rattle.cel_lexer.specs.Words.{is_keyword}
 use Rattle.cel_grammar.specs.Symbols.{Symbol}
 use Rattle.cel_grammar.specs.Symbols as the
-use Rattle.cel_print.specs.Words.{Word, Of, Negative, symbols, within}
+use Rattle.cel_print.specs.Words.{Word, Of, symbols, within}
 use Rattle.cel_print.proofs.Bytes.{passes}
 
 -- a word that is a name
@@ -18,7 +19,7 @@ pub record IsName (a : List ℕ) : Type 0 where
 abbrev pub Good : Symbol → Type 0
 Good (the.Name a) = IsName a
 Good (the.Number n) = n < 2 ^ 127
-Good (the.Quoted t) = passes is_comment_byte t ≡ true
+Good (the.Quoted t) = (passes is_comment_byte t ≡ true) × IsUtf8 t
 Good the.End = ⊥
 Good t = Unit {0}
 

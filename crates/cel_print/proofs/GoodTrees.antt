@@ -1,5 +1,5 @@
 -- The canonical words of a tree have the names, numbers and texts of the symbols that read as it.
-use Rattle.std.proofs.Common.{◌≡◌, ℕ, zero, suc, ℤ, pos, negsuc, Bool, true, false, List, [], ◌∷◌, refl, arith, ◌<◌, ◌^◌}
+use Rattle.std.proofs.Common.{ℕ, zero, suc, Bool, true, false, List, [], ◌∷◌, ◌<◌, ◌^◌}
 use Rattle.std.specs.Prelude.{if◌then◌else◌}
 use Rattle.event_types.specs.declared.kind.Kind.{Kind}
 use Rattle.event_types.specs.declared.kind.Kind.TheVariants as kind
@@ -12,13 +12,10 @@ use Rattle.cel_grammar.specs.Scalars.{negative, IsAttribute, bare, of_first, of_
 use Rattle.cel_grammar.specs.Predicates as pred
 use Rattle.cel_grammar.specs.Sources as source
 use Rattle.cel_grammar.specs.Statements as statement
-use Rattle.cel_print.specs.declared.places.ScalarPlace.{ScalarPlace}
 use Rattle.cel_print.specs.declared.places.ScalarPlace.TheVariants as scalar_place
-use Rattle.cel_print.specs.declared.places.PredPlace.{PredPlace}
 use Rattle.cel_print.specs.declared.places.PredPlace.TheVariants as pred_place
-use Rattle.cel_print.specs.declared.places.SourcePlace.{SourcePlace}
 use Rattle.cel_print.specs.declared.places.SourcePlace.TheVariants as source_place
-use Rattle.cel_print.specs.Words.{Word, Of, Negative, symbols, within}
+use Rattle.cel_print.specs.Words.{Word, Of}
 use Rattle.cel_print.specs.ScalarWords.{takes_sum, takes_product, number_words, scalar_words}
 use Rattle.cel_print.specs.PredicateWords.{takes_or, takes_and, pred_words}
 use Rattle.cel_print.specs.SourceWords.{is_own_name, named_words, item_words, items_words, aggs_words, condition_words, takes_link, source_words}

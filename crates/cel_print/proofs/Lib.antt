@@ -21,7 +21,7 @@ pub mod Literals
 pub mod Pieces
 pub mod Cutting
 pub mod Lines
+pub mod Encoded
 pub mod Sounds
 pub mod Best
 pub mod Again
-pub mod Outcomes

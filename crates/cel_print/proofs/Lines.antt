@@ -1,6 +1,6 @@
 -- The lines of a canonical text are cut into their symbols. No public clause cites it.
-use Rattle.std.proofs.Common.{◌≡◌, ◌∙◌, ℕ, zero, suc, ◌+◌, ◌-◌, ◌<◌, ◌^◌, Bool, true, false, List, [], ◌∷◌, ◌++◌, length, map, refl, sym, ap, subst, arith, append_assoc, length-append}
-use Rattle.std.specs.Prelude.{Ok, ◌||◌, codes, decimal, if◌then◌else◌}
+use Rattle.std.proofs.Common.{◌≡◌, ◌∙◌, ℕ, ◌+◌, Bool, true, false, List, [], ◌∷◌, ◌++◌, length, map, refl, sym, ap, subst, append_assoc, length-append}
+use Rattle.std.specs.Prelude.{◌||◌, codes, decimal, if◌then◌else◌}
 use Rattle.cel_lexer.specs.Tokens.{tokens_from}
 use Rattle.cel_grammar.specs.Symbols.{Symbol}
 use Rattle.cel_grammar.specs.Symbols as the
@@ -11,7 +11,7 @@ use Rattle.cel_print.specs.StatementWords.{statement_words}
 use Rattle.cel_print.specs.Spelled.{joins_left, joins_right, is_call, space, text_behind, text_of, word_spelling, line_of, canon}
 use Rattle.cel_print.specs.Laws.{canonical}
 use Rattle.cel_print.proofs.Bytes.{IsStop}
-use Rattle.cel_print.proofs.Good.{Good, AllGood}
+use Rattle.cel_print.proofs.Good.{AllGood}
 use Rattle.cel_print.proofs.Pieces.{IsCut, cut_of, end, minus, number, number_no_dash}
 use Rattle.cel_print.proofs.Cutting.{Cut, token_first, blank_first, feed_first}
 
@@ -90,7 +90,7 @@ word_cut source line (Negative n) words tail later good stop cut =
     (token_cut source line (the.Number n) (decimal n) tail _ (number n tail good.1.0 (stop refl)) cut)
 
 -- the symbols behind a word are good
-later_good : (word : Word) (words : List Word) → AllGood (symbols (word ∷ words)) → AllGood (symbols words)
+pub later_good : (word : Word) (words : List Word) → AllGood (symbols (word ∷ words)) → AllGood (symbols words)
 later_good (Of s) words good = good.1
 later_good (Negative n) words good = good.1.1
 
@@ -107,7 +107,7 @@ words_cut source line left (word ∷ words) tail later good stop cut =
     regroup a b c d = simp append_assoc
 
 -- the text of words is their text behind an opening parenthesis
-first_text : (words : List Word) → text_behind (Of the.Open) words ≡ text_of words
+pub first_text : (words : List Word) → text_behind (Of the.Open) words ≡ text_of words
 first_text [] = refl
 first_text (word ∷ words) = refl
 

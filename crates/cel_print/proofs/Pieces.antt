@@ -1,8 +1,8 @@
 -- The spelling of a symbol is cut off as it. No public clause cites it.
-use Rattle.std.proofs.Common.{◌≡◌, ◌∙◌, ℕ, zero, suc, ◌+◌, ◌-◌, ◌<◌, ◌≤◌, ◌^◌, pos, Bool, true, false, List, [], ◌∷◌, ◌++◌, length, take, drop, refl, sym, ap, subst, arith, append_assoc, length-append, nat_lt}
-use Rattle.std.specs.Prelude.{◌==◌, ◌&&◌, codes, decimal, nat_le, take_while, if◌then◌else◌}
+use Rattle.std.proofs.Common.{◌≡◌, ◌∙◌, ℕ, suc, ◌+◌, ◌-◌, ◌<◌, ◌^◌, pos, Bool, true, false, List, [], ◌∷◌, ◌++◌, length, take, refl, ap, arith, length-append, nat_lt}
+use Rattle.std.specs.Prelude.{◌==◌, ◌&&◌, codes, decimal, nat_le, if◌then◌else◌}
 use Rattle.std.specs.Char.{is_ascii_digit}
-use Rattle.std.specs.Str.Parse.{AllDigits, IsNumeral, digits_value}
+use Rattle.std.specs.Str.Parse.{AllDigits, digits_value}
 use Rattle.std.specs.Char.{digit_value}
 use Rattle.std.proofs.lemmas.Str.Parse.{digit_from_value}
 use Rattle.std.proofs.Math.Seq.{take-append_seam}
@@ -12,7 +12,7 @@ use Rattle.event_types.specs.declared.comparison.Cmp.TheVariants as cmp
 use Rattle.cel_lexer.specs.Bytes.{is_blank, is_comment_byte, is_first, is_letter, is_word_byte}
 use Rattle.cel_lexer.specs.Words.{is_keyword, word_piece}
 use Rattle.cel_lexer.specs.Numbers.{number_piece}
-use Rattle.cel_lexer.specs.Literals.{literal_piece, literal_rest}
+use Rattle.cel_lexer.specs.Literals.{literal_piece}
 use Rattle.cel_lexer.specs.Signs.{is_long_sign, is_side, is_sign}
 use Rattle.cel_lexer.specs.Pieces.{piece_of}
 use Rattle.cel_lexer.specs.declared.token.What.{What}
@@ -180,7 +180,7 @@ cut_of the.Min rest good stop = keyword the.Min _ _ rest refl refl refl refl ref
 cut_of the.Max rest good stop = keyword the.Max _ _ rest refl refl refl refl refl (stop refl)
 cut_of (the.Name a) rest good stop = name a rest good (stop refl)
 cut_of (the.Number n) rest good stop = number n rest good (stop refl)
-cut_of (the.Quoted t) rest good stop = text t rest good (stop refl)
+cut_of (the.Quoted t) rest good stop = text t rest good.0 (stop refl)
 cut_of the.Dollar1 rest good stop = sign what.Mark the.Dollar1 _ rest (λ line at follows. refl) refl refl (omega arith)
 cut_of the.Dollar2 rest good stop = sign what.Mark the.Dollar2 _ rest (λ line at follows. refl) refl refl (omega arith)
 cut_of the.Dollar rest good stop = sign what.Mark the.Dollar _ rest (λ line at follows. rw (stops is_side rest no_side (stop refl)) refl) refl refl (omega arith)

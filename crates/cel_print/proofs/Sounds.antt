@@ -1,8 +1,8 @@
 -- The symbols of a text's tokens. No public clause cites it.
-use Rattle.std.proofs.Common.{◌≡◌, ◌∙◌, ℕ, zero, suc, ◌+◌, ◌-◌, ◌<◌, ◌≤◌, ◌^◌, pos, Bool, true, false, List, [], ◌∷◌, ◌++◌, length, map, take, drop, refl, sym, ap, subst, arith, append_assoc, length-append, add-one, nat_lt}
-use Rattle.std.specs.Prelude.{cond, Ok, Err, Option, Some, None, ◌==◌, ◌&&◌, codes, nat_le, take_while, if◌then◌else◌}
+use Rattle.std.proofs.Common.{◌≡◌, ◌∙◌, ℕ, zero, suc, ◌+◌, ◌-◌, ◌<◌, ◌^◌, pos, Bool, true, false, List, [], ◌∷◌, ◌++◌, length, take, refl, sym, ap, subst, arith, append_assoc, length-append, add-one, nat_lt}
+use Rattle.std.specs.Prelude.{cond, Ok, Err, Option, Some, None, ◌==◌, ◌&&◌, nat_le, take_while, if◌then◌else◌}
 use Rattle.std.specs.Char.{is_ascii_digit}
-use Rattle.std.specs.Str.{bytes_eq}
+use Rattle.std.specs.Str.{IsUtf8, bytes_eq}
 use Rattle.std.specs.Str.Parse.{digits_value}
 use Rattle.std.proofs.lemmas.Bool.{eqb-true}
 use Rattle.std.proofs.lemmas.Bool.Decides.{nat_tests}
@@ -23,10 +23,11 @@ use Rattle.cel_lexer.proofs.Lines.{lines_in}
 use Rattle.cel_lexer.proofs.PieceLemmas.{take_run}
 use Rattle.cel_grammar.specs.Symbols.{Symbol}
 use Rattle.cel_grammar.specs.Symbols as the
-use Rattle.cel_grammar.specs.Spellings.{Entry, entry, looked_up, keyword_entries, sign_entries, mark_entries, symbol_of, undoubled, inside}
+use Rattle.cel_grammar.specs.Spellings.{Entry, looked_up, keyword_entries, sign_entries, mark_entries, symbol_of, undoubled}
 use Rattle.cel_print.proofs.Bytes.{passes, both_true, run_passes}
 use Rattle.cel_print.proofs.Cutting.{slice_is}
-use Rattle.cel_print.proofs.Good.{IsName, Good}
+use Rattle.cel_print.proofs.Encoded.{cut_ascii, literal_utf8, undoubled_utf8}
+use Rattle.cel_print.proofs.Good.{Good}
 
 -- a symbol that a token is
 abbrev pub Sound : Symbol → Type 0
@@ -116,20 +117,24 @@ undoubled_passes p (b ∷ c ∷ s) h =
     (λ _. rw parts.0 (undoubled_passes p s (both_true (p c) (passes p s) parts.1).1))
     (λ _. rw parts.0 (undoubled_passes p (c ∷ s) parts.1))
 
--- a literal's text stays on its line
-literal_sound : (rest : List ℕ) (n : ℕ) → literal_rest rest ≡ Some n → Sound (symbol_of what.Quoted (take (n + 1) (39 ∷ rest)))
-literal_sound rest n e =
+-- a literal's text stays on its line, and is UTF-8
+literal_sound : (rest : List ℕ) (n : ℕ) → IsUtf8 rest → literal_rest rest ≡ Some n → Sound (symbol_of what.Quoted (take (n + 1) (39 ∷ rest)))
+literal_sound rest n utf8 e =
     let closes = literal-closes rest n e in
-    rw add-one (undoubled_passes is_comment_byte (take (length (take (suc n) (39 ∷ rest)) - 2) (take n rest)) (take_passes is_comment_byte (length (take (suc n) (39 ∷ rest)) - 2) (take n rest) (lines_pass (take n rest) closes.one_line)))
+    let text : List ℕ = take (length (take (suc n) (39 ∷ rest)) - 2) (take n rest) in
+    rw add-one (
+      undoubled_passes is_comment_byte text (take_passes is_comment_byte (length (take (suc n) (39 ∷ rest)) - 2) (take n rest) (lines_pass (take n rest) closes.one_line)),
+      undoubled_utf8 [] text (literal_utf8 rest n e utf8),
+    )
 
 -- what stands at the front
 AtFront : List ℕ → List ℕ → List ℕ → Type 0
 AtFront source front s = source ≡ front ++ s
 
 -- the pieces of a text, by what its first bytes are
-pub piece_sound : (source front : List ℕ) (b : ℕ) (rest : List ℕ) (line : ℕ) (follows : ℕ → Lexed) (tokens : List Token) → source ≡ front ++ (b ∷ rest) → ((n : ℕ) (ts : List Token) → follows n ≡ Ok ts → AllSound source ts)
+pub piece_sound : (source front : List ℕ) (b : ℕ) (rest : List ℕ) (line : ℕ) (follows : ℕ → Lexed) (tokens : List Token) → IsUtf8 source → source ≡ front ++ (b ∷ rest) → ((n : ℕ) (ts : List Token) → follows n ≡ Ok ts → AllSound source ts)
     → with_piece (piece_of (b ∷ rest)) line (length front) follows ≡ Ok tokens → AllSound source tokens
-piece_sound source front b rest line follows tokens whole later =
+piece_sound source front b rest line follows tokens utf8 whole later =
     choose (λ p. with_piece p line at follows ≡ Ok tokens → AllSound source tokens) (is_blank b) _ _ (λ _ e. later 0 tokens e) (λ _.
     choose (λ p. with_piece p line at follows ≡ Ok tokens → AllSound source tokens) ((b == 45) && is_first (λ next. next == 45) rest) _ _ (λ _ e. later _ tokens e) (λ _.
     choose (λ p. with_piece p line at follows ≡ Ok tokens → AllSound source tokens) (is_letter b) _ _ (λ letter.
@@ -164,16 +169,20 @@ piece_sound source front b rest line follows tokens whole later =
         before_sound source (record { what = kind; line = line; begin = length front; end = length front + n }) (follows (n - 1)) tokens (λ ts k. later (n - 1) ts k)
         (rw (slice_is source front (b ∷ rest) n whole ∙ is) sound) e
 
+    -- what stands behind the quote
+    behind : (b == 39) ≡ true → IsUtf8 rest
+    behind quote = (cut_ascii front b rest (omega (arith, eqb-true b 39 quote)) (subst IsUtf8 whole utf8)).1
+
     literal : (o : Option ℕ) → literal_rest rest ≡ o → (b == 39) ≡ true → with_piece (literal_piece o) line (length front) follows ≡ Ok tokens → AllSound source tokens
-    literal (Some n) is quote e = lexed what.Quoted (n + 1) _ refl (rw (eqb-true b 39 quote) (literal_sound rest n is)) e
+    literal (Some n) is quote e = lexed what.Quoted (n + 1) _ refl (rw (eqb-true b 39 quote) (literal_sound rest n (behind quote) is)) e
     literal None is quote e = absurd cc
 
 -- the tokens of a source from a place on
-pub from_sound : (source : List ℕ) (n line : ℕ) (front s : List ℕ) (tokens : List Token) → source ≡ front ++ s → tokens_from n line (length front) s ≡ Ok tokens → AllSound source tokens
+pub from_sound : (source : List ℕ) (n line : ℕ) (front s : List ℕ) (tokens : List Token) → IsUtf8 source → source ≡ front ++ s → tokens_from n line (length front) s ≡ Ok tokens → AllSound source tokens
 unfolding tokens_from
-from_sound source n line front [] tokens whole e = let same : [] ≡ tokens = cc in subst (AllSound source) same tt
-from_sound source zero line front (b ∷ rest) tokens whole e =
-    piece_sound source front b rest line (λ n. tokens_from n (line_after b line) (length front + 1) rest) tokens whole
-    (λ n ts k. from_sound source n (line_after b line) (front ++ (b ∷ [])) rest ts (whole ∙ sym (append_assoc front (b ∷ []) rest)) (ap (λ (at : ℕ). tokens_from n (line_after b line) at rest) (length-append front (b ∷ [])) ∙ k)) e
-from_sound source (suc n) line front (b ∷ rest) tokens whole e =
-    from_sound source n (line_after b line) (front ++ (b ∷ [])) rest tokens (whole ∙ sym (append_assoc front (b ∷ []) rest)) (ap (λ (at : ℕ). tokens_from n (line_after b line) at rest) (length-append front (b ∷ [])) ∙ e)
+from_sound source n line front [] tokens utf8 whole e = let same : [] ≡ tokens = cc in subst (AllSound source) same tt
+from_sound source zero line front (b ∷ rest) tokens utf8 whole e =
+    piece_sound source front b rest line (λ n. tokens_from n (line_after b line) (length front + 1) rest) tokens utf8 whole
+    (λ n ts k. from_sound source n (line_after b line) (front ++ (b ∷ [])) rest ts utf8 (whole ∙ sym (append_assoc front (b ∷ []) rest)) (ap (λ (at : ℕ). tokens_from n (line_after b line) at rest) (length-append front (b ∷ [])) ∙ k)) e
+from_sound source (suc n) line front (b ∷ rest) tokens utf8 whole e =
+    from_sound source n (line_after b line) (front ++ (b ∷ [])) rest tokens utf8 (whole ∙ sym (append_assoc front (b ∷ []) rest)) (ap (λ (at : ℕ). tokens_from n (line_after b line) at rest) (length-append front (b ∷ [])) ∙ e)

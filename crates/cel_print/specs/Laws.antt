@@ -1,6 +1,5 @@
 -- What holds of the canonical text.
-use Rattle.std.specs.Prelude.{◌≡◌, true, ℕ, ◌+◌, ◌-◌, ◌≤◌, max, List, [], ◌∷◌, length}
-use Rattle.std.specs.Str.{is_utf8}
+use Rattle.std.specs.Prelude.{ℕ, ◌+◌, ◌-◌, ◌≤◌, max, List, [], ◌∷◌, length}
 use Rattle.cel_grammar.specs.Sentences.{ReadsAs}
 use Rattle.cel_grammar.specs.Symbols.{Symbol}
 use Rattle.cel_grammar.specs.Symbols as the
@@ -38,6 +37,6 @@ abbrev pub lines_from : ℕ → List Statement → List ℕ
 lines_from line [] = []
 lines_from line (statement ∷ statements) = line ∷ lines_from (line + 1) statements
 
--- where some text reads as statements, their canonical text, if it is UTF-8, reads as them, each on a line of its own
+-- where some text reads as statements, their canonical text reads as them, each on a line of its own
 abbrev pub CanonicalIsRead : Type 0
-CanonicalIsRead = (text : List ℕ) (statements : List Statement) (lines : List ℕ) → ReadsAs text statements lines → is_utf8 (canon statements) ≡ true → ReadsAs (canon statements) statements (lines_from 1 statements)
+CanonicalIsRead = (text : List ℕ) (statements : List Statement) (lines : List ℕ) → ReadsAs text statements lines → ReadsAs (canon statements) statements (lines_from 1 statements)

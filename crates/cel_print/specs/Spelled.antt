@@ -60,11 +60,11 @@ abbrev pub word_spelling : Word → List ℕ
 word_spelling (Of symbol) = spelling symbol
 word_spelling (Negative n) = 45 ∷ decimal n
 
--- the parentheses of what may not stand as it is
+-- the opening parenthesis of what may not stand as it is, and nothing before what may
 abbrev pub opening : Bool → List ℕ
 opening bare = if bare then [] else codes "("
 
--- the parentheses of what may not stand as it is
+-- the closing parenthesis of what may not stand as it is, and nothing behind what may
 abbrev pub closing : Bool → List ℕ
 closing bare = if bare then [] else codes ")"
 

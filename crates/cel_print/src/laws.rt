@@ -7,7 +7,8 @@ pub fn canonical_is_best()
     ensures { CanonicalIsBest }
 {}
 
-/// The canonical text of what a text reads as is read as the same statements.
+/// The canonical text of what a text reads as is read as the same statements, each on a line of its
+/// own.
 pub fn canonical_is_read()
     ensures { CanonicalIsRead }
 {}

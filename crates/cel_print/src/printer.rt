@@ -1,6 +1,5 @@
 //! The canonical text of files.
-ghost use Rattle.std.specs.Prelude.{◌≡◌, ◌<◌, ◌++◌, IfOk, OnOk, true, Some, length, map, option_map, slice_get};
-ghost use Rattle.std.specs.Str.{is_utf8};
+ghost use Rattle.std.specs.Prelude.{◌≡◌, ◌<◌, ◌++◌, IfOk, OnOk, Some, length, map, option_map, slice_get};
 ghost use Rattle.cel_grammar.specs.Sentences.{ReadsAs};
 ghost use Rattle.cel_grammar.specs.Views.{statement_of};
 ghost use Rattle.cel_print.specs.Laws.{lines_from};
@@ -36,8 +35,7 @@ pub fn print_one(alloc: Global, file: &File, i: usize) -> Result<Text, Memory>
 
 // These bytes as a text, which they are where each part of them came from a text.
 fn text_of(alloc: Global, bytes: &[u8]) -> Result<Text, Memory>
-    ensures same { IfOk result (λ text. text ≡ bytes.now) }
-    ensures utf8 { IfOk result (λ text. is_utf8 text ≡ true) }
+    ensures { IfOk result (λ text. text ≡ bytes.now) }
 {
     match str::from_utf8(bytes) {
         Ok(text) => Text::make(alloc, text),

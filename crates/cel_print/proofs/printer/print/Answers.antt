@@ -1,14 +1,13 @@
-use Rattle.std.proofs.Common.{◌≡◌, ◌∙◌, ℕ, true, List, add-one, arith, map, subst, sym}
-use Rattle.std.specs.Str.{is_utf8}
+use Rattle.std.proofs.Common.{◌≡◌, ◌∙◌, ℕ, List, add-one, arith, map, subst, sym}
 use Rattle.std.proofs.lemmas.Grind.{common_steps}
 use Rattle.std.proofs.lemmas.List.Folds.{flat_map-map}
+use Rattle.std.proofs.lemmas.Result.{IfOk-weaker}
 use Rattle.cel_grammar.specs.Views.{statement_of}
 use Rattle.cel_grammar.specs.Sentences.{ReadsAs}
 use Rattle.cel_grammar.specs.Trees.{Statement}
 use Rattle.cel_print.specs.Laws.{lines_from}
 use Rattle.cel_print.specs.Spelled.{canon, line_of}
 use Rattle.cel_print.proofs.Again.{read_again}
-use Rattle.cel_print.proofs.Outcomes.{ok_both}
 use Rattle.cel_print.proofs.Lists.{lines_more}
 use Rattle.cel_print.proofs.printer.print.Goals as goal
 
@@ -25,9 +24,7 @@ returns-clause-read_again c =
     let statements : List Statement = map statement_of c.args.file.now.statements in
     let whole : c.as_slice.result.now ≡ canon statements = grind (arith, common_steps, flat_map-map line_of statement_of c.args.file.now.statements) in
     let some = c.size-i-end.ensures.is_read in
-    let P : List ℕ → Type 0 = λ text. text ≡ c.as_slice.result.now in
-    let Q : List ℕ → Type 0 = λ text. is_utf8 text ≡ true in
     let R : List ℕ → Type 0 = λ text. ReadsAs text statements (lines_from 1 statements) in
-    ok_both c.text_of.result P Q R
-    (λ text same utf8. subst R (sym (same ∙ whole)) (read_again some.text statements c.args.file.now.lines some.reads (rw (same ∙ whole) at utf8)))
-    c.text_of.ensures.same c.text_of.ensures.utf8
+    IfOk-weaker c.text_of.result (λ text. text ≡ c.as_slice.result.now) R
+    (λ text same. subst R (sym (same ∙ whole)) (read_again some.text statements c.args.file.now.lines some.reads))
+    c.text_of.ensures
