@@ -6,12 +6,13 @@ pub fn chains_are_in_order()
     ensures { ChainsAreInOrder }
 {}
 
-/// The automaton lines of a program give exactly the streams of the program.
+/// Over events of their streams' kinds the automaton lines of a typed program give exactly the streams of
+/// the program.
 pub fn chains_mean_their_program()
     ensures { ChainsMeanTheirProgram }
 {}
 
-/// So does each query's stream.
+/// Over such events the stream of each query has exactly the tuples that its lines give.
 pub fn queries_are_derived()
     ensures { QueriesAreDerived }
 {}

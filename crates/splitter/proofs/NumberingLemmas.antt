@@ -1,5 +1,5 @@
 -- The numbers of hidden streams.
-use Rattle.std.proofs.Common.{ℕ, ◌^◌, ◌<◌, ◌≤◌, arith}
+use Rattle.std.proofs.Common.{ℕ, ◌^◌, ◌≤◌, arith}
 use Rattle.semantics.specs.Expressions.{Ex, Read, Filter, Select, Union, Next, Fold}
 use Rattle.splitter.specs.Room.{HasRoom}
 use Rattle.splitter.specs.Splitting.{Parts, parts_of, source_of}
@@ -19,7 +19,7 @@ parts_up (Next p e f) next = omega (arith, parts_up e next, parts_up f (parts_of
 parts_up (Fold p q m e f) next = omega (arith, parts_up e next, parts_up f (parts_of e next).next, source_up f (parts_of f (parts_of e next).next))
 
 -- where there is room at the end there is room for each
-pub room_for : (e : Ex) (next : ℕ) → (parts_of e next).next < 2 ^ 64 → HasRoom e next
+pub room_for : (e : Ex) (next : ℕ) → (parts_of e next).next ≤ 2 ^ 64 → HasRoom e next
 room_for (Read stream) next room = tt
 room_for (Filter p e) next room = room_for e next room
 room_for (Select m e) next room = room_for e next room

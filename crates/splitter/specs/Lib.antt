@@ -1,4 +1,5 @@
 pub mod Laws
+pub mod Numbers
 pub mod Room
 pub mod Splitting
 pub mod Stages

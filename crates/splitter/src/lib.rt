@@ -1,6 +1,6 @@
 //! Expressions as left-deep automaton lines.
 //!
-//! Contracts see a `Namer` as the next number that it hands out.
+//! Contracts see a `Namer` as the next number that it hands out, which is 2^64 where none is left.
 #![tactic(auto)]
 
 mod laws;

@@ -1,5 +1,5 @@
 //! Expressions as lines.
-ghost use Rattle.std.specs.Prelude.{◌≡◌, ◌≢◌, ◌<◌, ◌^◌, ◌++◌, IfOk, OnErr, OnOk};
+ghost use Rattle.std.specs.Prelude.{◌≡◌, ◌≢◌, ◌<◌, ◌≤◌, ◌^◌, ◌++◌, IfOk, OnErr, OnOk};
 ghost use Rattle.semantics.specs.Reading.{ReadsOnly};
 ghost use Rattle.algebra.specs.Views.{ex_of};
 ghost use Rattle.splitter.specs.Room.{HasRoom};
@@ -22,16 +22,16 @@ pub fn split(alloc: Global, expr: &Expr, out: StreamId, namer: &mut Namer) -> Re
     requires unread { ReadsOnly (λ stream. stream ≢ out) (ex_of expr.now) }
     requires above { out < namer.old }
     requires fresh { ReadsOnly (λ stream. stream < namer.old) (ex_of expr.now) }
-    requires room { (parts_of (ex_of expr.now) namer.old).next < 2 ^ 64 }
+    requires room { (parts_of (ex_of expr.now) namer.old).next ≤ 2 ^ 64 }
     ensures value { IfOk result (λ lines. lines ≡ split_lines (ex_of expr.now) out namer.old) }
     ensures next { OnOk result (namer.new ≡ (parts_of (ex_of expr.now) namer.old).next) }
     ensures kept { OnErr result (namer.new ≡ namer.old) }
 {
-    let mut next = namer.next();
+    let mut ahead = namer.same();
     let mut lines = List::new(alloc);
-    let own = open_lines(alloc, expr, &mut next, &mut lines)?;
+    let own = open_lines(alloc, expr, &mut ahead, &mut lines)?;
     publish_each(&mut lines, own, out)?;
-    namer.go_on(next);
+    *namer = ahead;
     Ok(lines)
 }
 
@@ -40,35 +40,35 @@ pub fn split(alloc: Global, expr: &Expr, out: StreamId, namer: &mut Namer) -> Re
 fn open_lines(
     alloc: Global,
     expr: &Expr,
-    next: &mut StreamId,
+    namer: &mut Namer,
     hidden: &mut Lines,
 ) -> Result<Vec<Open>, Memory>
-    requires { HasRoom (ex_of expr.now) next.old }
-    ensures value { IfOk result (λ lines. lines.items ≡ (parts_of (ex_of expr.now) next.old).open_lines) }
-    ensures hidden { OnOk result (hidden.new ≡ hidden.old ++ (parts_of (ex_of expr.now) next.old).hidden) }
-    ensures next { OnOk result (next.new ≡ (parts_of (ex_of expr.now) next.old).next) }
+    requires { HasRoom (ex_of expr.now) namer.old }
+    ensures value { IfOk result (λ lines. lines.items ≡ (parts_of (ex_of expr.now) namer.old).open_lines) }
+    ensures hidden { OnOk result (hidden.new ≡ hidden.old ++ (parts_of (ex_of expr.now) namer.old).hidden) }
+    ensures next { OnOk result (namer.new ≡ (parts_of (ex_of expr.now) namer.old).next) }
 {
     match expr {
         Expr::Read(stream) => read_line(alloc, *stream),
         Expr::Filter(condition, inner) => {
-            let mut lines = open_lines(alloc, inner, next, hidden)?;
+            let mut lines = open_lines(alloc, inner, namer, hidden)?;
             keep_each(alloc, &mut lines, condition)?;
             Ok(lines)
         }
         Expr::Select(projection, inner) => {
-            let mut lines = open_lines(alloc, inner, next, hidden)?;
+            let mut lines = open_lines(alloc, inner, namer, hidden)?;
             make_each(alloc, &mut lines, projection)?;
             Ok(lines)
         }
         Expr::Union(left, right) => {
-            let mut lines = open_lines(alloc, left, next, hidden)?;
-            let mut more = open_lines(alloc, right, next, hidden)?;
+            let mut lines = open_lines(alloc, left, namer, hidden)?;
+            let mut more = open_lines(alloc, right, namer, hidden)?;
             lines.append(&mut more)?;
             Ok(lines)
         }
         Expr::Next(condition, left, right) => {
-            let mut lines = open_lines(alloc, left, next, hidden)?;
-            let stream = right_stream(alloc, right, next, hidden)?;
+            let mut lines = open_lines(alloc, left, namer, hidden)?;
+            let stream = right_stream(alloc, right, namer, hidden)?;
             let wait = Wait {
                 stream,
                 choose: condition.copy(alloc)?,
@@ -78,8 +78,8 @@ fn open_lines(
             Ok(lines)
         }
         Expr::Fold(choose, on, set, left, right) => {
-            let mut lines = open_lines(alloc, left, next, hidden)?;
-            let stream = right_stream(alloc, right, next, hidden)?;
+            let mut lines = open_lines(alloc, left, namer, hidden)?;
+            let stream = right_stream(alloc, right, namer, hidden)?;
             let turn = Turn {
                 on: on.copy(alloc)?,
                 set: set.copy(alloc)?,
@@ -100,22 +100,21 @@ fn open_lines(
 fn right_stream(
     alloc: Global,
     expr: &Expr,
-    next: &mut StreamId,
+    namer: &mut Namer,
     hidden: &mut Lines,
 ) -> Result<StreamId, Memory>
-    requires room { HasRoom (ex_of expr.now) next.old }
-    requires last { (source_of (ex_of expr.now) (parts_of (ex_of expr.now) next.old)).next < 2 ^ 64 }
-    ensures value { IfOk result (λ stream. stream ≡ (source_of (ex_of expr.now) (parts_of (ex_of expr.now) next.old)).stream) }
-    ensures hidden { OnOk result (hidden.new ≡ hidden.old ++ (source_of (ex_of expr.now) (parts_of (ex_of expr.now) next.old)).hidden) }
-    ensures next { OnOk result (next.new ≡ (source_of (ex_of expr.now) (parts_of (ex_of expr.now) next.old)).next) }
+    requires room { HasRoom (ex_of expr.now) namer.old }
+    requires last { (source_of (ex_of expr.now) (parts_of (ex_of expr.now) namer.old)).next ≤ 2 ^ 64 }
+    ensures value { IfOk result (λ stream. stream ≡ (source_of (ex_of expr.now) (parts_of (ex_of expr.now) namer.old)).stream) }
+    ensures hidden { OnOk result (hidden.new ≡ hidden.old ++ (source_of (ex_of expr.now) (parts_of (ex_of expr.now) namer.old)).hidden) }
+    ensures next { OnOk result (namer.new ≡ (source_of (ex_of expr.now) (parts_of (ex_of expr.now) namer.old)).next) }
 {
     match expr {
         Expr::Read(stream) => Ok(*stream),
         _ => {
-            let lines = open_lines(alloc, expr, next, hidden)?;
-            let stream = *next;
+            let lines = open_lines(alloc, expr, namer, hidden)?;
+            let stream = namer.hand_out();
             publish_each(hidden, lines, stream)?;
-            *next = stream + 1;
             Ok(stream)
         }
     }

@@ -1,5 +1,5 @@
 //! The lines of expressions, by hand.
-ghost use Rattle.std.specs.Prelude.{◌≡◌, ◌<◌, ◌^◌, [], ◌∷◌, IfOk, pos};
+ghost use Rattle.std.specs.Prelude.{◌≡◌, ◌≤◌, ◌^◌, [], ◌∷◌, IfOk, pos};
 ghost use Rattle.event_types.specs.declared.comparison.Cmp.TheVariants.{Lt};
 ghost use Rattle.event_types.specs.declared.value.Value.TheVariants.{Int};
 ghost use Rattle.semantics.specs.Expressions.{Filter, Fold, Next, Read, Select, Union};
@@ -87,7 +87,7 @@ fn fold(alloc: Global, left: Box<Expr>, right: Box<Expr>) -> Result<Box<Expr>, M
 // The lines of a query over the streams 0 to 2, which publishes the stream 3.
 fn lines_of(alloc: Global, expr: &Expr) -> Result<Lines, Memory>
     requires apart { IsApart (ex_of expr.now) 3 4 }
-    requires room { (parts_of (ex_of expr.now) 4).next < 2 ^ 64 }
+    requires room { (parts_of (ex_of expr.now) 4).next ≤ 2 ^ 64 }
 {
     let mut namer = Namer::new(4);
     split(alloc, expr, 3, &mut namer)
