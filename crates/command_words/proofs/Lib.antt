@@ -1,3 +1,4 @@
 pub mod CommandLemmas
 pub mod PlainLemmas
 pub mod JobLemmas
+pub mod TwiceLemmas

@@ -34,7 +34,7 @@ not_short : (word : Text) → is_plain word ≡ true → short_of word ≡ None
 not_short word plain = ap (λ (rest : Option Text). option_and_then short_of_rest rest) (stripped word plain)
 
 -- nothing waits for a value but a positional
-abbrev is_ready : Waiting → Bool
+abbrev pub is_ready : Waiting → Bool
 is_ready idle = true
 is_ready positional = true
 is_ready waiting = false
@@ -52,7 +52,7 @@ met-plain c positional position word h ready plain =
 met-plain c waiting position word h ready plain = absurd cc
 
 -- between two words, with nothing behind `--`
-abbrev standing : Held → Waiting → ℕ → Walk
+abbrev pub standing : Held → Waiting → ℕ → Walk
 standing h waiting position = record { held = h; waiting = waiting; position = position; is_trailing = false; stopped = None }
 
 -- the walk hands the word to the positional of its position

@@ -1,5 +1,6 @@
--- Words that begin with no hyphen, and the flag before them.
-use Rattle.std.specs.Prelude.{◌≡◌, ◌==◌, Bool, true, false, not, [], ◌∷◌, None, codes}
+-- Words that begin with no hyphen, and the flag among them.
+use Rattle.std.specs.Prelude.{◌≡◌, ◌==◌, Bool, true, false, not, List, [], ◌∷◌, ◌++◌, None, codes}
+use Rattle.std.specs.List.{list_all}
 use Rattle.clap.specs.Walk.{Text}
 use Rattle.command_words.specs.Table.{job, job_by}
 
@@ -21,7 +22,12 @@ abbrev pub TwoValuesAreJob : Type 0
 TwoValuesAreJob = (action first second : Text) → is_plain action ≡ true → is_plain first ≡ true → is_plain second ≡ true
     → job (action ∷ first ∷ second ∷ []) ≡ job_by false action (first ∷ second ∷ [])
 
--- the flag before an action with two values is that of the table
+-- the flag with an action and two values is that of the table, wherever it stands among them
 abbrev pub FlaggedValuesAreJob : Type 0
-FlaggedValuesAreJob = (action first second : Text) → is_plain action ≡ true → is_plain first ≡ true → is_plain second ≡ true
-    → job (codes "--stats" ∷ action ∷ first ∷ second ∷ []) ≡ job_by true action (first ∷ second ∷ [])
+FlaggedValuesAreJob = (action first second : Text) (before after : List Text) → is_plain action ≡ true → is_plain first ≡ true → is_plain second ≡ true
+    → before ++ after ≡ action ∷ first ∷ second ∷ [] → job (before ++ codes "--stats" ∷ after) ≡ job_by true action (first ∷ second ∷ [])
+
+-- the flag twice is no job, where the words before it and between begin with no hyphen, whatever words follow
+abbrev pub TwoFlagsAreNoJob : Type 0
+TwoFlagsAreNoJob = (before between after : List Text) → list_all is_plain before ≡ true → list_all is_plain between ≡ true
+    → job (before ++ codes "--stats" ∷ between ++ codes "--stats" ∷ after) ≡ None
