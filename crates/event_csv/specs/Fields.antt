@@ -18,9 +18,11 @@ line_config = record default_config { terminator = term.Any line_feed }
 unfoldable pub line_fields : List ℕ → Option (List (List ℕ))
 line_fields line = option_map (λ p. p.0) (next_record line_config st.StartRecord [] [] (strip_bom line))
 
+-- `,`
 abbrev pub comma : ℕ
 comma = 44
 
+-- `"`
 abbrev pub quote : ℕ
 quote = 34
 

@@ -1,4 +1,5 @@
 pub mod Event
+pub mod Faults
 pub mod Fed
 pub mod Fields
 pub mod Lines

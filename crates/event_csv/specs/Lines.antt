@@ -15,12 +15,15 @@ pub record Line : Type 0 where
 abbrev pub line_limit : ℕ
 line_limit = 65536
 
+-- there are more bytes than a line may have
 abbrev pub is_long : List ℕ → Bool
 is_long bytes = nat_lt line_limit (length bytes)
 
+-- there is no byte
 abbrev pub is_empty : List ℕ → Bool
 is_empty bytes = length bytes == 0
 
+-- a line feed
 abbrev pub is_feed : ℕ → Bool
 is_feed byte = byte == line_feed
 
@@ -28,7 +31,7 @@ is_feed byte = byte == line_feed
 abbrev pub pieces_of : List ℕ → List (List ℕ)
 pieces_of text = slice_split is_feed text
 
--- the pieces that are lines: each that a line feed ends, and the last one where the text ends behind it or it is too long already
+-- the pieces that are lines: each that a line feed ends, and the last one where it is too long already, or the text ends behind it and it isn't empty
 abbrev pub line_pieces : Bool → List (List ℕ) → List (List ℕ)
 line_pieces ended [] = []
 line_pieces ended (last ∷ []) = if is_long last || (ended && not (is_empty last)) then last ∷ [] else []

@@ -1,27 +1,17 @@
 -- The numbers and times that fields write.
+use Rattle.std.specs.Char.{is_ascii_digit}
 use Rattle.std.specs.List.{list_all}
-use Rattle.std.specs.Prelude.{ℕ, ℤ, pos, neg_ℤ, ◌+◌, ◌*◌, ◌-◌, Bool, ◌&&◌, ◌==◌, nat_le, List, [], ◌∷◌, length, Option, Some, None, option_map, if◌then◌else◌}
+use Rattle.std.specs.Prelude.{ℕ, ℤ, pos, neg_ℤ, Bool, ◌&&◌, ◌==◌, nat_le, List, [], ◌∷◌, length, Option, Some, None, option_map, if◌then◌else◌}
+use Rattle.std.specs.Str.Parse.{digits_value}
 
--- an ASCII digit
-abbrev pub is_digit : ℕ → Bool
-is_digit byte = nat_le 48 byte && nat_le byte 57
-
+-- each byte is an ASCII digit
 abbrev pub are_digits : List ℕ → Bool
-are_digits bytes = list_all is_digit bytes
-
--- the number that digits write behind those of n
-abbrev pub number_after : ℕ → List ℕ → ℕ
-number_after n [] = n
-number_after n (digit ∷ more) = number_after (n * 10 + (digit - 48)) more
-
--- the number that digits write
-abbrev pub number_of : List ℕ → ℕ
-number_of digits = number_after 0 digits
+are_digits bytes = list_all is_ascii_digit bytes
 
 -- the number that one digit or more write, where it is at most `most`
 abbrev pub number_up_to : ℕ → List ℕ → Option ℕ
 number_up_to most bytes =
-    if nat_le 1 (length bytes) && (are_digits bytes && nat_le (number_of bytes) most) then Some (number_of bytes) else None
+    if nat_le 1 (length bytes) && (are_digits bytes && nat_le (digits_value 10 bytes) most) then Some (digits_value 10 bytes) else None
 
 -- a time: one digit or more, with a value of at most 2^64-1
 abbrev pub time_of : List ℕ → Option ℕ

@@ -1,4 +1,5 @@
-//! Laws of the lines of a text.
+//! Laws of the lines of a text, and of what they say.
+ghost use Rattle.event_csv.specs.Faults.{LinesHaveTheirFirstFault};
 ghost use Rattle.event_csv.specs.Fed.{LinesStay};
 ghost use Rattle.event_csv.specs.Rounds.{PiecesGiveTheLines, RoundsGiveTheLines};
 
@@ -11,4 +12,10 @@ pub fn lines_stay()
 pub fn pieces_give_the_lines_of_the_text()
     ensures pushed { PiecesGiveTheLines }
     ensures taken { RoundsGiveTheLines }
+{}
+
+/// A line is refused with the first fault of the table that it has; one that has none is the event that
+/// its fields say.
+pub fn lines_have_their_first_fault()
+    ensures { LinesHaveTheirFirstFault }
 {}

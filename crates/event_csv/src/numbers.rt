@@ -1,6 +1,7 @@
 //! The numbers and times that fields write.
 ghost use Rattle.std.specs.Prelude.{◌≡◌, ◌≤◌, ◌<◌, length, true, Some, None, MatchOption, if◌then◌else◌};
-ghost use Rattle.event_csv.specs.Numbers.{are_digits as digits_test, int_of, negative_of, number_of, number_up_to, positive_of, time_of};
+ghost use Rattle.std.specs.Str.Parse.{digits_value};
+ghost use Rattle.event_csv.specs.Numbers.{are_digits as digits_test, int_of, negative_of, number_up_to, positive_of, time_of};
 
 /// The time that a field writes.
 pub(crate) fn time(field: &[u8]) -> Option<u64>
@@ -70,7 +71,7 @@ const SHORT: usize = 19;
 // The number that few bytes write, where each is a digit.
 fn short(text: &[u8]) -> Option<u64>
     requires { length text.now ≤ 19 }
-    ensures { result ≡ (if digits_test text.now then Some (number_of text.now) else None) }
+    ensures { result ≡ (if digits_test text.now then Some (digits_value 10 text.now) else None) }
 {
     let mut number: u64 = 0;
     for byte in text {
@@ -104,7 +105,7 @@ fn are_digits(text: &[u8]) -> bool
 fn magnitude(digits: &[u8], most: u128) -> Option<u128>
     requires digits { digits_test digits.now ≡ true }
     requires room { 9 ≤ most }
-    ensures { MatchOption result (most < number_of digits.now) (λ number. (number ≡ number_of digits.now) × (number ≤ most)) }
+    ensures { MatchOption result (most < digits_value 10 digits.now) (λ number. (number ≡ digits_value 10 digits.now) × (number ≤ most)) }
 {
     let mut number: u128 = 0;
     for byte in digits {

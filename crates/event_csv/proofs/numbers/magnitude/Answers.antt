@@ -16,6 +16,7 @@ returns-then-most-digit c =
     let i = c.loop-byte.byte-index in
     let s = c.args.digits.now in
     let whole = c.loop-byte.invariant.1 in
-    let step = one-more c.loop-byte.number s i c.loop-byte-test.true in
+    let digit = digit-at s i c.requires.digits c.loop-byte-test.true in
+    let step = one-more c.loop-byte.number s i c.loop-byte-test.true digit.0 digit.1 in
     let least = more (c.loop-byte.number * 10 + (get_or s i 0 - 48)) (drop (i + 1) s) in
     omega (arith, whole, step, least, c.if-most-digit.true)
