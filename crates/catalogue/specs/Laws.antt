@@ -21,11 +21,11 @@ pub record SameFile (statements others : List Statement) (lines other_lines : Li
 abbrev pub OneFile : Type 0
 OneFile = (text : List ℕ) (ss others : List Statement) (lines other_lines : List ℕ) → IsFile text ss lines → IsFile text others other_lines → SameFile ss others lines other_lines
 
--- it has at most one fault as a file
+-- a text has at most one fault as a file
 abbrev pub OneFileFault : Type 0
 OneFileFault = (text : List ℕ) (line other_line : ℕ) (why other : QueryFault) → FailsAsFile text line why → FailsAsFile text other_line other → SameFault line other_line why other
 
--- and it has none where it is a file
+-- a text that is a file has no fault as one
 abbrev pub FileOrFault : Type 0
 FileOrFault = (text : List ℕ) (ss : List Statement) (lines : List ℕ) (line : ℕ) (why : QueryFault) → IsFile text ss lines → FailsAsFile text line why → ⊥
 
@@ -33,7 +33,7 @@ FileOrFault = (text : List ℕ) (ss : List Statement) (lines : List ℕ) (line :
 abbrev pub OneNameFault : Type 0
 OneNameFault = (ss : List Statement) (lines : List ℕ) (line other_line : ℕ) (why other : QueryFault) → length lines ≡ length ss → FailInNames ss lines line why → FailInNames ss lines other_line other → SameFault line other_line why other
 
--- and none where they are sound
+-- where the names of statements are sound, none has a fault
 abbrev pub SoundOrFault : Type 0
 SoundOrFault = (ss : List Statement) (lines : List ℕ) (line : ℕ) (why : QueryFault) → length lines ≡ length ss → AreSound ss → FailInNames ss lines line why → ⊥
 
@@ -41,6 +41,6 @@ SoundOrFault = (ss : List Statement) (lines : List ℕ) (line : ℕ) (why : Quer
 abbrev pub OneCycleOfNames : Type 0
 OneCycleOfNames = (ss : List Statement) (names others : List (List ℕ)) → HaveCycle ss names → HaveCycle ss others → names ≡ others
 
--- and none where they have an order
+-- queries that have an order have no cycle
 abbrev pub OrderOrCycle : Type 0
 OrderOrCycle = (ss : List Statement) (order : List ℕ) (names : List (List ℕ)) → IsOrder (reads_in ss) order → HaveCycle ss names → ⊥

@@ -12,7 +12,7 @@ use Rattle.catalogue.specs.Statements.{queries_in, query_names}
 abbrev pub AcceptedArePrograms : Type 0
 AcceptedArePrograms = (text : List ℕ) (judged : Judged) → Accepts text judged → IsProgram (kinds_in judged.streams) (program_of judged)
 
--- its projections have the widths of their sources
+-- the projections of an accepted text have the widths of their sources
 abbrev pub AcceptedAreWidePrograms : Type 0
 AcceptedAreWidePrograms = (text : List ℕ) (judged : Judged) → Accepts text judged → IsWideProgram (kinds_in judged.streams) (program_of judged)
 
@@ -32,7 +32,7 @@ AllAreWorkedOn = (text : List ℕ) (judged : Judged) → Accepts text judged →
 abbrev pub QueriesHaveTheirNames : Type 0
 QueriesHaveTheirNames = (text : List ℕ) (judged : Judged) → Accepts text judged → (number : ℕ) → number < length judged.order → (query_at judged number).name ≡ slice_index_or (query_names judged.statements) number []
 
--- and so has the stream that it publishes
+-- the stream that a query publishes has the name of the query's statement
 abbrev pub StreamsHaveTheirNames : Type 0
 StreamsHaveTheirNames =
     (text : List ℕ) (judged : Judged) → Accepts text judged → (number : ℕ) → number < length judged.order → slice_get (stream_names judged.streams) (query_at judged number).stream ≡ Some (query_at judged number).name
@@ -41,6 +41,6 @@ StreamsHaveTheirNames =
 abbrev pub DeclaredComeFirst : Type 0
 DeclaredComeFirst = (text : List ℕ) (judged : Judged) → Accepts text judged → take (length judged.declared) judged.streams ≡ judged.declared
 
--- and they are those that the table tells to be declared
+-- a stream is told to be declared exactly where it is one of the first, declared streams
 abbrev pub DeclaredAreTold : Type 0
 DeclaredAreTold = (text : List ℕ) (judged : Judged) → Accepts text judged → (stream : ℕ) (entry : Entry) → slice_get judged.streams stream ≡ Some entry → (entry.declared ≡ true) ↔ (stream < length judged.declared)

@@ -11,11 +11,11 @@ use Rattle.catalogue.specs.Typing.{Declare, FailToDeclare, FailToPublish, Publis
 abbrev pub OneDeclaration : Type 0
 OneDeclaration = (ss : List Statement) (streams others : List Entry) → Declare ss streams → Declare ss others → streams ≡ others
 
--- their declarations have at most one first fault
+-- the declarations of statements have at most one first fault
 abbrev pub OneDeclareFault : Type 0
 OneDeclareFault = (ss : List Statement) (lines : List ℕ) (line other_line : ℕ) (f g : TypeFault) → FailToDeclare ss lines line f → FailToDeclare ss lines other_line g → (line ≡ other_line) × (f ≡ g)
 
--- and none where they declare streams
+-- statements that declare streams have no fault in their declarations
 abbrev pub DeclaredOrFault : Type 0
 DeclaredOrFault = (ss : List Statement) (streams : List Entry) (lines : List ℕ) (line : ℕ) (f : TypeFault) → Declare ss streams → FailToDeclare ss lines line f → ⊥
 
@@ -23,11 +23,11 @@ DeclaredOrFault = (ss : List Statement) (streams : List Entry) (lines : List ℕ
 abbrev pub OnePublication : Type 0
 OnePublication = (queries : List Statement) (streams : List Entry) (order : List ℕ) (all others : List Entry) (typed typed_so : List Query) → Publish queries streams order all typed → Publish queries streams order others typed_so → (all ≡ others) × (typed ≡ typed_so)
 
--- they have at most one first fault
+-- queries have at most one first fault
 abbrev pub OnePublishFault : Type 0
 OnePublishFault = (queries : List Statement) (lines : List ℕ) (streams : List Entry) (order : List ℕ) (line other_line : ℕ) (f g : TypeFault) → FailToPublish queries lines streams order line f → FailToPublish queries lines streams order other_line g → (line ≡ other_line) × (f ≡ g)
 
--- and none where they publish
+-- queries that publish have no fault
 abbrev pub PublishedOrFault : Type 0
 PublishedOrFault = (queries : List Statement) (lines : List ℕ) (streams : List Entry) (order : List ℕ) (all : List Entry) (typed : List Query) (line : ℕ) (f : TypeFault) → Publish queries streams order all typed → FailToPublish queries lines streams order line f → ⊥
 
