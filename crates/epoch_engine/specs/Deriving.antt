@@ -1,4 +1,4 @@
--- What the making of derived streams does.
+-- What the making of derived streams does. No public clause cites this module.
 use Rattle.std.specs.Prelude.{◌≡◌, ℕ, List, length, Option, slice_set}
 use Rattle.std.specs.List.Sorted.{IsPermutation}
 use Rattle.event_types.specs.declared.kind.Kind.{Kind}

@@ -1,4 +1,4 @@
--- What leaves the states of a network in an epoch, as far as it is remembered.
+-- What leaves the states of a network in an epoch, as far as it is remembered. No public clause cites this module.
 use Rattle.std.specs.Prelude.{◌≡◌, ℕ, ◌<◌, IsTrue, List, [], length, Option, Some, None, slice_get, slice_index_or}
 use Rattle.std.specs.List.{All, filter_map}
 use Rattle.std.specs.List.Sorted.{IsPermutation}
@@ -25,6 +25,7 @@ abbrev pub flowing_by : Option ℕ → Streams → List Row → List Row
 flowing_by None news gone = gone
 flowing_by (Some stream) news gone = news stream
 
+-- what left the state of a number
 abbrev pub flowing : Net → Streams → List (List Row) → ℕ → List Row
 flowing net news gone number = flowing_by (root_at net number) news (slice_index_or gone number [])
 

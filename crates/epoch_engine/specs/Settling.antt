@@ -1,4 +1,4 @@
--- What a caller has to see to before the store of a state is taken over an epoch, and what then holds.
+-- What a caller has to see to before the store of a state is taken over an epoch, and what then holds. No public clause cites this module.
 use Rattle.std.specs.Prelude.{◌≡◌, ℕ, ◌<◌, IsTrue, List, [], length, Option, Some, None, Contains, slice_index_or}
 use Rattle.std.specs.List.{All, filter_map}
 use Rattle.std.specs.List.Sorted.{IsPermutation}

@@ -1,4 +1,4 @@
--- Tables of the states and the ends of a network by stream.
+-- Tables of the states and the ends of a network by stream. No public clause cites this module.
 use Rattle.std.specs.Prelude.{◌≡◌, ℕ, ◌<◌, ◌≤◌, ◌==◌, ◌⊎◌, true, IsTrue, is_some, nat_lt, if◌then◌else◌, List, [], length, map, Option, Some, None, Contains, slice_get, slice_index_or}
 use Rattle.std.specs.Option.{option_map}
 use Rattle.std.specs.List.{All, filter, flat_map, range_with_len}

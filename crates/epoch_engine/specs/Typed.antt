@@ -1,4 +1,4 @@
--- Stores and tuples of an epoch that a network may take up.
+-- Stores and tuples of an epoch that a network may take up. No public clause cites this module.
 use Rattle.std.specs.Prelude.{◌≡◌, ℕ, List, [], length, Option, Some, None, slice_get, slice_index_or}
 use Rattle.std.specs.List.{All}
 use Rattle.event_types.specs.declared.kind.Kind.{Kind}

@@ -1,6 +1,7 @@
 //! The engine.
 ghost use Rattle.std.specs.Prelude.{◌≡◌, ◌<◌, ◌-◌, ◌^◌, ℕ, [], ◌∷◌, ◌++◌, false, length, min, slice_index_or, slice_set, true, IfErr, IfNone, IfOk, IfSome, IsSome, IsTrue, OnErr, OnOk};
 ghost use Rattle.automaton.specs.NetworkLines.{NetworkFits};
+ghost use Rattle.prefix_merge.specs.Merging.{IsMerged};
 ghost use Rattle.epoch_engine.specs.Closes.{Closes, KeepsPlan, KeepsTimes};
 ghost use Rattle.epoch_engine.specs.Counts.{stored_in};
 ghost use Rattle.epoch_engine.specs.Offers.{IsAnswer, IsHeard, IsLate, IsNotAhead, with_tuple};
@@ -100,12 +101,15 @@ impl Engine {
         self.intact
     }
 
+    /// The merged network. Takes no memory.
     pub fn network(&self) -> &Network
-        ensures { result.now ≡ self.now.network }
+        ensures value { result.now ≡ self.now.network }
+        ensures merged { IsMerged self.now.network }
     {
         self.merged.network()
     }
 
+    /// The layout. Takes no memory.
     pub fn layout(&self) -> &Layout
         ensures { result.now ≡ self.now.layout }
     {

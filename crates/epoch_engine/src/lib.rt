@@ -23,3 +23,6 @@ pub use fault::OfferFault;
 pub use laws::{
     batch_is_streams, closed_stands, new_stands, offered_stands, trimmed_is_counted, trimmed_stands,
 };
+
+#[cfg(test)]
+mod tests;

@@ -1,0 +1,484 @@
+//! Closings, with results that were found by hand from the definitions.
+ghost use Rattle.std.specs.Prelude.{◌≡◌, ◌<◌, [], ◌∷◌, IfOk, IsTrue, pos, replicate};
+ghost use Rattle.event_types.specs.declared.comparison.Cmp.TheVariants as cmp;
+ghost use Rattle.event_types.specs.declared.kind.Kind.TheVariants as kind;
+ghost use Rattle.event_types.specs.declared.value.Value.TheVariants as value;
+ghost use Rattle.semantics.specs.Kinds.{HasKinds};
+ghost use Rattle.semantics.specs.Scalars.{Binding, Dur, Event, Lit, Test};
+ghost use Rattle.automaton.specs.Layouts.{LayoutFits};
+
+use crate::tables::add;
+use crate::{Batch, Engine, OfferFault};
+use automaton::{Hop, Layout, Line, Lines, Turn, Wait};
+use cay_host::{Ledger, Quiet, Steps};
+use event_types::{Kind, KindLists, Kinds, List, Memory, Numbers, StreamId, Tuple, Tuples, Value};
+use prefix_merge::Merged;
+use scalar_expr::{Cmp, Conj, Map, Pred, Scalar, normal};
+use std::alloc::Global;
+use std::process::Abort;
+use std::sync::ledger::Blank;
+use std::test::Fail;
+
+// The declared streams, of one number each: Stock, in which all lines begin, and News, which none reads.
+const STOCK: StreamId = 0;
+
+const NEWS: StreamId = 1;
+
+// The places of the streams that are printed.
+const PAIR: usize = 0;
+
+const FALL: usize = 1;
+
+const NEAR: usize = 2;
+
+const AFTER: usize = 3;
+
+// A row: its start, its detection and its numbers.
+type Row<'a> = (u64, u64, &'a [i128]);
+
+// What is done with an engine, and what is seen then.
+#[derive(Clone, Copy)]
+enum Deed<'a> {
+    // An event of a stream with a number, a start and a detection is taken.
+    Offer(StreamId, i128, u64, u64),
+    // An event of Stock with a start and a detection comes back, as late for this time.
+    Late(u64, u64, u64),
+    // The open epoch is closed, and a printed stream has these rows.
+    Close(usize, &'a [Row<'a>]),
+    // So many bindings are stored once those are taken out that no later event can match.
+    Alive(u64),
+}
+
+// $2.x = $1.x.
+fn equal(alloc: Global) -> Result<Conj, Memory>
+    ensures { IfOk result (λ condition. condition ≡ Test (Event 0) cmp.Eq (Binding 0) ∷ []) }
+{
+    let test = Pred::Test(Scalar::Event(0), Cmp::Eq, Scalar::Binding(0));
+    normal(alloc, test)
+}
+
+// $2.x < $1.x.
+fn lower(alloc: Global) -> Result<Conj, Memory>
+    ensures { IfOk result (λ condition. condition ≡ Test (Event 0) cmp.Lt (Binding 0) ∷ []) }
+{
+    let test = Pred::Test(Scalar::Event(0), Cmp::Lt, Scalar::Binding(0));
+    normal(alloc, test)
+}
+
+// DUR <= 5.
+fn within_five(alloc: Global) -> Result<Conj, Memory>
+    ensures { IfOk result (λ condition. condition ≡ Test Dur cmp.Le (Lit (value.Int (pos 5))) ∷ []) }
+{
+    let test = Pred::Test(Scalar::Dur, Cmp::Le, Scalar::Lit(Value::Int(5)));
+    normal(alloc, test)
+}
+
+// The new binding is the event, whatever it is.
+fn event_again(alloc: Global) -> Result<Turn, Memory>
+    ensures { IfOk result (λ turn. turn ≡ record { on = []; set = record { width = 1; parts = Event 0 ∷ [] } }) }
+{
+    let mut parts = List::new(alloc);
+    add(&mut parts, Scalar::Event(0))?;
+    Ok(Turn {
+        on: normal(alloc, Pred::True)?,
+        set: Map { width: 1, parts },
+    })
+}
+
+// A line that begins in STOCK, has one wait and publishes a stream.
+fn line(
+    alloc: Global,
+    choose: Conj,
+    fold: Option<Turn>,
+    stream: StreamId,
+    out: StreamId,
+) -> Result<Line, Memory>
+    ensures { IfOk result (λ line. line ≡ record { root = 0; hops = record { step = []; wait = record { stream = stream; choose = choose; fold = fold } } ∷ []; last = []; out = out }) }
+{
+    let mut hops = List::new(alloc);
+    let wait = Wait {
+        stream,
+        choose,
+        fold,
+    };
+    let hop = Hop {
+        step: List::new(alloc),
+        wait,
+    };
+    add(&mut hops, hop)?;
+    Ok(Line {
+        root: STOCK,
+        hops,
+        last: List::new(alloc),
+        out,
+    })
+}
+
+// Pair is Stock NEXT {$2.x = $1.x} Stock, Fall is Stock FOLD {$2.x < $.x, TRUE, $2.x AS x} Stock, Near
+// is Stock NEXT {DUR <= 5} Stock, and After is Stock NEXT Pair.
+fn lines(alloc: Global) -> Result<Lines, Memory>
+    ensures { IfOk result (λ lines. LayoutFits lines (record { order = 2 ∷ 3 ∷ 4 ∷ 5 ∷ []; outs = 2 ∷ 3 ∷ 4 ∷ 5 ∷ []; kinds = replicate 1 kind.Int ∷ replicate 1 kind.Int ∷ replicate 2 kind.Int ∷ replicate 1 kind.Int ∷ replicate 2 kind.Int ∷ replicate 3 kind.Int ∷ [] })) }
+{
+    let mut lines = List::new(alloc);
+    add(&mut lines, line(alloc, equal(alloc)?, None, STOCK, 2)?)?;
+    let turn = event_again(alloc)?;
+    add(
+        &mut lines,
+        line(alloc, lower(alloc)?, Some(turn), STOCK, 3)?,
+    )?;
+    add(
+        &mut lines,
+        line(alloc, within_five(alloc)?, None, STOCK, 4)?,
+    )?;
+    let any = normal(alloc, Pred::True)?;
+    add(&mut lines, line(alloc, any, None, 2, 5)?)?;
+    Ok(lines)
+}
+
+// The numbers of the derived streams.
+fn derived(alloc: Global) -> Result<Numbers, Memory>
+    ensures { IfOk result (λ numbers. numbers ≡ 2 ∷ 3 ∷ 4 ∷ 5 ∷ []) }
+{
+    let mut numbers = List::new(alloc);
+    add(&mut numbers, 2)?;
+    add(&mut numbers, 3)?;
+    add(&mut numbers, 4)?;
+    add(&mut numbers, 5)?;
+    Ok(numbers)
+}
+
+// The kinds of so many numbers.
+fn ints(alloc: Global, count: usize) -> Result<Kinds, Memory>
+    ensures { IfOk result (λ kinds. kinds ≡ replicate count kind.Int) }
+{
+    let mut kinds = List::new(alloc);
+    for _ in 0..count {
+        add(&mut kinds, Kind::Int)?;
+    }
+    Ok(kinds)
+}
+
+// The kinds of all streams.
+fn kinds(alloc: Global) -> Result<KindLists, Memory>
+    ensures { IfOk result (λ kinds. kinds ≡ replicate 1 kind.Int ∷ replicate 1 kind.Int ∷ replicate 2 kind.Int ∷ replicate 1 kind.Int ∷ replicate 2 kind.Int ∷ replicate 3 kind.Int ∷ []) }
+{
+    let mut kinds = List::new(alloc);
+    add(&mut kinds, ints(alloc, 1)?)?;
+    add(&mut kinds, ints(alloc, 1)?)?;
+    add(&mut kinds, ints(alloc, 2)?)?;
+    add(&mut kinds, ints(alloc, 1)?)?;
+    add(&mut kinds, ints(alloc, 2)?)?;
+    add(&mut kinds, ints(alloc, 3)?)?;
+    Ok(kinds)
+}
+
+// An engine over the lines, all of whose streams are printed.
+fn engine(alloc: Global) -> Result<Engine, Memory> {
+    let layout = Layout {
+        order: derived(alloc)?,
+        outs: derived(alloc)?,
+        kinds: kinds(alloc)?,
+    };
+    let merged = Merged::of(alloc, &lines(alloc)?)?;
+    Engine::make(alloc, merged, layout)
+}
+
+// Offers an event of one number, which is not ahead of the open epoch.
+fn offer(
+    rt: &impl Abort,
+    alloc: Global,
+    engine: &mut Engine,
+    stream: StreamId,
+    number: i128,
+    from: u64,
+    at: u64,
+) -> Result<(), OfferFault> {
+    let tuple = event(rt, alloc, number, from, at);
+    let layout = engine.layout();
+    assert!(rt; stream < layout.kinds.len());
+    assert!(rt; is_int(layout.kinds.get(stream)));
+    assert!(rt; !layout.order.as_slice().contains(&stream));
+    assert!(rt; engine.intact());
+    if let Some(time) = engine.open_time() {
+        assert!(rt; at <= time);
+    }
+    engine.offer(stream, tuple)
+}
+
+// The event of one number.
+fn event(rt: &impl Abort, alloc: Global, number: i128, from: u64, at: u64) -> Tuple
+    ensures kinds { HasKinds (kind.Int ∷ []) result }
+    ensures at { result.at ≡ at }
+{
+    let mut vals = List::new(alloc);
+    if vals.push(Value::Int(number)).is_err() {
+        panic!(rt; "no memory");
+    }
+    match Tuple::make(vals, from, at) {
+        Ok(event) => event,
+        Err(_) => panic!(rt; "starts after its detection"),
+    }
+}
+
+// Whether these are the kinds of one number.
+fn is_int(kinds: &Kinds) -> bool
+    ensures { IsTrue result → kinds.now ≡ kind.Int ∷ [] }
+{
+    matches!(kinds.as_slice(), [Kind::Int])
+}
+
+// Closes the open epoch.
+fn close<L: Ledger>(
+    rt: &impl Abort,
+    alloc: Global,
+    engine: &mut Engine,
+    blank: Blank,
+) -> Result<Batch, Memory>
+    requires name { blank.name ≡ L.name }
+    requires parts { blank.parts ≡ L.parts }
+    requires some { 0 < blank.parts }
+{
+    let mut steps = Steps::<L>::new(blank);
+    assert!(rt; engine.intact());
+    assert!(rt; engine.open_time().is_some());
+    engine.close(alloc, &mut steps)
+}
+
+// The tuples are these rows.
+fn are(rt: &impl Abort, tuples: &Tuples, rows: &[Row<'_>]) {
+    assert_eq!(rt; tuples.len(), rows.len());
+    for (tuple, row) in tuples.as_slice().iter().zip(rows) {
+        is_row(rt, tuple, *row);
+    }
+}
+
+// The tuple is this row.
+fn is_row(rt: &impl Abort, tuple: &Tuple, row: Row<'_>) {
+    let (from, at, numbers) = row;
+    assert_eq!(rt; (tuple.from(), tuple.at()), (from, at));
+    assert_eq!(rt; tuple.vals().len(), numbers.len());
+    for (value, number) in tuple.vals().as_slice().iter().zip(numbers) {
+        assert!(rt; *value == Value::Int(*number));
+    }
+}
+
+// The open epoch has these rows of a printed stream.
+fn closes_with(
+    rt: &impl Abort,
+    alloc: Global,
+    engine: &mut Engine,
+    place: usize,
+    rows: &[Row<'_>],
+) -> Result<(), Memory> {
+    let batch = close::<Quiet>(rt, alloc, engine, Blank::new(1))?;
+    assert_eq!(rt; batch.len(), 4);
+    assert!(rt; place < batch.len());
+    are(rt, batch.get(place), rows);
+    Ok(())
+}
+
+// An event of Stock is out of order for what was seen, and comes back.
+fn comes_back(rt: &impl Abort, alloc: Global, engine: &mut Engine, from: u64, at: u64, seen: u64) {
+    match offer(rt, alloc, engine, STOCK, 8, from, at) {
+        Err(
+            OfferFault::OutOfOrder {
+                at: offered,
+                seen: met,
+                tuple,
+            },
+        ) => {
+            assert_eq!(rt; (offered, met), (at, seen));
+            is_row(rt, &tuple, (from, at, &[8]));
+        }
+        _ => panic!(rt; "not out of order"),
+    }
+}
+
+// Does one thing with an engine.
+fn does(rt: &impl Abort, alloc: Global, engine: &mut Engine, deed: Deed<'_>) -> Result<(), Memory> {
+    match deed {
+        Deed::Offer(stream, number, from, at) => {
+            assert!(rt; offer(rt, alloc, engine, stream, number, from, at).is_ok());
+        }
+        Deed::Late(from, at, seen) => comes_back(rt, alloc, engine, from, at, seen),
+        Deed::Close(place, rows) => closes_with(rt, alloc, engine, place, rows)?,
+        Deed::Alive(count) => {
+            assert!(rt; engine.intact());
+            engine.trim();
+            assert_eq!(rt; engine.live(), count);
+        }
+    }
+    Ok(())
+}
+
+// Does one thing after another.
+fn goes_through(
+    rt: &impl Abort,
+    alloc: Global,
+    engine: &mut Engine,
+    deeds: &[Deed<'_>],
+) -> Result<(), Memory> {
+    for deed in deeds {
+        does(rt, alloc, engine, *deed)?;
+    }
+    Ok(())
+}
+
+// A new engine goes through the deeds.
+fn expect(rt: &impl Abort, alloc: Global, deeds: &[Deed<'_>]) -> Result<(), Memory> {
+    let mut engine = engine(alloc)?;
+    goes_through(rt, alloc, &mut engine, deeds)
+}
+
+#[test]
+fn event_is_joined_with_its_next_alone(rt: HostRuntime) -> Result<(), Fail> {
+    expect(
+        &rt,
+        rt.alloc(),
+        &[
+            Deed::Offer(STOCK, 7, 1, 1),
+            Deed::Close(PAIR, &[]),
+            Deed::Offer(STOCK, 7, 2, 2),
+            Deed::Close(PAIR, &[(1, 2, &[7, 7])]),
+            Deed::Offer(STOCK, 7, 3, 3),
+            Deed::Close(PAIR, &[(2, 3, &[7, 7])]),
+        ],
+    )?;
+    Ok(())
+}
+
+#[test]
+fn simultaneous_nexts_all_count(rt: HostRuntime) -> Result<(), Fail> {
+    expect(
+        &rt,
+        rt.alloc(),
+        &[
+            Deed::Offer(STOCK, 7, 1, 1),
+            Deed::Close(NEAR, &[]),
+            Deed::Offer(STOCK, 9, 2, 2),
+            Deed::Offer(STOCK, 8, 2, 2),
+            Deed::Offer(STOCK, 9, 2, 2),
+            Deed::Close(NEAR, &[(1, 2, &[7, 8]), (1, 2, &[7, 9]), (1, 2, &[7, 9])]),
+        ],
+    )?;
+    Ok(())
+}
+
+#[test]
+fn fold_gives_each_iteration(rt: HostRuntime) -> Result<(), Fail> {
+    expect(
+        &rt,
+        rt.alloc(),
+        &[
+            Deed::Offer(STOCK, 10, 1, 1),
+            Deed::Close(FALL, &[]),
+            Deed::Offer(STOCK, 9, 2, 2),
+            Deed::Close(FALL, &[(1, 2, &[9])]),
+            Deed::Offer(STOCK, 8, 3, 3),
+            Deed::Close(FALL, &[(1, 3, &[8]), (2, 3, &[8])]),
+        ],
+    )?;
+    Ok(())
+}
+
+// Between the binding, which is detected at 1, and the event lies an epoch of News.
+#[test]
+fn binding_is_met_up_to_its_span(rt: HostRuntime) -> Result<(), Fail> {
+    expect(
+        &rt,
+        rt.alloc(),
+        &[
+            Deed::Offer(STOCK, 7, 1, 1),
+            Deed::Close(NEAR, &[]),
+            Deed::Offer(NEWS, 0, 5, 5),
+            Deed::Close(NEAR, &[]),
+            Deed::Offer(STOCK, 8, 6, 6),
+            Deed::Close(NEAR, &[(1, 6, &[7, 8])]),
+        ],
+    )?;
+    Ok(())
+}
+
+// The binding is taken out by the epoch of News, or it is there still and the event comes too late.
+#[test]
+fn binding_is_not_met_past_its_span(rt: HostRuntime) -> Result<(), Fail> {
+    for between in [5, 6] {
+        expect(
+            &rt,
+            rt.alloc(),
+            &[
+                Deed::Offer(STOCK, 7, 1, 1),
+                Deed::Close(NEAR, &[]),
+                Deed::Offer(NEWS, 0, between, between),
+                Deed::Close(NEAR, &[]),
+                Deed::Offer(STOCK, 8, 7, 7),
+                Deed::Close(NEAR, &[]),
+                Deed::Offer(STOCK, 9, 8, 8),
+                Deed::Close(NEAR, &[(7, 8, &[8, 9])]),
+            ],
+        )?;
+    }
+    Ok(())
+}
+
+// The pair of 2 and 3 starts after the binding of 1.
+#[test]
+fn derived_stream_is_read_in_its_own_epoch(rt: HostRuntime) -> Result<(), Fail> {
+    expect(
+        &rt,
+        rt.alloc(),
+        &[
+            Deed::Offer(STOCK, 5, 1, 1),
+            Deed::Close(AFTER, &[]),
+            Deed::Offer(STOCK, 7, 2, 2),
+            Deed::Close(AFTER, &[]),
+            Deed::Offer(STOCK, 7, 3, 3),
+            Deed::Close(AFTER, &[(1, 3, &[5, 7, 7])]),
+        ],
+    )?;
+    Ok(())
+}
+
+#[test]
+fn late_event_comes_back(rt: HostRuntime) -> Result<(), Fail> {
+    expect(
+        &rt,
+        rt.alloc(),
+        &[
+            Deed::Offer(STOCK, 7, 3, 3),
+            Deed::Late(1, 2, 3),
+            Deed::Close(NEAR, &[]),
+            Deed::Late(2, 3, 3),
+            Deed::Offer(STOCK, 9, 4, 4),
+            Deed::Close(NEAR, &[(3, 4, &[7, 9])]),
+        ],
+    )?;
+    Ok(())
+}
+
+// The event of 1 waits for an equal one, for a lower one, for any within 5 and for a pair. News meets none of
+// these; after the epoch of 6 the third is out of time. The event of 7 meets the first, and waits for all four.
+#[test]
+fn bindings_that_wait_are_counted(rt: HostRuntime) -> Result<(), Fail> {
+    expect(
+        &rt,
+        rt.alloc(),
+        &[
+            Deed::Alive(0),
+            Deed::Offer(STOCK, 7, 1, 1),
+            Deed::Alive(0),
+            Deed::Close(PAIR, &[]),
+            Deed::Alive(4),
+            Deed::Offer(NEWS, 0, 5, 5),
+            Deed::Close(PAIR, &[]),
+            Deed::Alive(4),
+            Deed::Offer(NEWS, 0, 6, 6),
+            Deed::Close(PAIR, &[]),
+            Deed::Alive(3),
+            Deed::Offer(STOCK, 7, 7, 7),
+            Deed::Close(PAIR, &[(1, 7, &[7, 7])]),
+            Deed::Alive(6),
+        ],
+    )?;
+    Ok(())
+}
