@@ -18,7 +18,6 @@ use Rattle.automaton.specs.declared.layout.Layout.{Layout}
 use Rattle.automaton.specs.NetworkLines.{HasLines}
 use Rattle.automaton.specs.States.{Net}
 use Rattle.automaton.specs.Work.{is_in}
-use Rattle.prefix_merge.specs.Merging.{IsMerged}
 use Rattle.splitter.specs.Laws.{hidden_streams, split_order}
 use Rattle.splitter.specs.Splitting.{parts_of}
 use Rattle.splitter.proofs.NumberingLemmas.{parts_up}
@@ -101,7 +100,6 @@ batch_count c old new batch planned closes =
 -- a changed engine of the same network and layout
 pub planned_still : (c : Catalogued) (old new : engine.View) → KeepsPlan old new → IsPlanned c old → IsPlanned c new
 planned_still c old new plan planned = record {
-  merged = subst IsMerged (sym plan.network) planned.merged;
   lines = subst (λ (net : Net). HasLines net (lines_over c)) (sym plan.network) planned.lines;
   layout = subst (IsLayoutOf (program_over c) (kinds_of_each (judged_of c).streams)) (sym plan.layout) planned.layout;
 }
@@ -113,7 +111,6 @@ lines_serve c net layout lines fits = record { has_lines = lines; in_order = fit
 -- an engine that was made over them has them
 pub new_planned : (c : Catalogued) (net : Net) (layout : Layout) (now : engine.View) → HasLines net (lines_over c) → IsLayoutOf (program_over c) (kinds_of_each (judged_of c).streams) layout → IsNew net layout now → IsPlanned c now
 new_planned c net layout now lines fits new = record {
-  merged = subst IsMerged (sym new.network) new.merged;
   lines = subst (λ (n : Net). HasLines n (lines_over c)) (sym new.network) lines;
   layout = subst (IsLayoutOf (program_over c) (kinds_of_each (judged_of c).streams)) (sym new.same_layout) fits;
 }

@@ -86,7 +86,7 @@ module _ (c : Catalogued) (accepted : IsAccepted c) (event : Seen) (fits : Fits 
         let still = planned_still c old mid ready.plan planned in
         record {
           intact = subst (λ (now : engine.View). IsTrue now.intact) (sym took) ready.intact;
-          planned = subst (IsPlanned c) (sym took) (record { merged = still.merged; lines = still.lines; layout = still.layout });
+          planned = subst (IsPlanned c) (sym took) (record { lines = still.lines; layout = still.layout });
           opened = λ none. let some : new.engine.time ≡ Some event.tuple.at = ap (λ (now : engine.View). now.time) took in absurd (cc);
         }
 

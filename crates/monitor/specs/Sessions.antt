@@ -45,7 +45,7 @@ report_in session past text ended = report (program_in session) (closed_after pa
 abbrev pub AreDeclared : Judged → List Heard → Type 0
 AreDeclared judged history = All (λ event. event.stream < length judged.declared) history × HaveTheirKinds (kinds_in judged.streams) history
 
--- a feed has given the lines that a text has so far, has counted its line feeds, and holds what follows the last one
+-- a feed has given the lines that a text has so far, has counted its line feeds, and holds none of them; so the lines that it gives with more bytes are those of the longer text
 pub record HasGiven (text : List ℕ) (feed : Fed) : Type 0 where
   pub gives : Gives (lines text false) (fed_more unfed text) feed
   pub line_feeds : feeds_so_far feed ≡ feeds_in text

@@ -4,7 +4,6 @@ use Rattle.semantics.specs.Histories.{Heard}
 use Rattle.semantics.specs.Programs.{Program}
 use Rattle.automaton.specs.declared.line.Line.{Line}
 use Rattle.automaton.specs.NetworkLines.{HasLines}
-use Rattle.prefix_merge.specs.Merging.{IsMerged}
 use Rattle.chains.specs.Chains.{lines_of}
 use Rattle.chains.specs.Layouts.{IsLayoutOf}
 use Rattle.epoch_laws.specs.Standing.{last_time}
@@ -19,10 +18,11 @@ use Rattle.catalogue.specs.Judgement.{program_of}
 use Rattle.monitor.specs.Sessions.{AreDeclared}
 use Rattle.monitor.specs.declared.work.Work.{Work}
 
--- the program of a catalogue, and its automaton lines
+-- the program of a catalogue
 abbrev pub program_over : Catalogued → Program
 program_over c = program_of (judged_of c)
 
+-- its automaton lines
 abbrev pub lines_over : Catalogued → List Line
 lines_over c = lines_of (program_over c)
 
@@ -32,9 +32,8 @@ pub record Stands (c : Catalogued) (history : List Heard) (now : engine.View) : 
   pub engine : engines.StandsFor now (lines_over c) history
   pub last_is_open : now.time ≡ last_time history
 
--- the engine's network is merged, and it and the layout are those of the catalogue's program
+-- the engine's network has the lines of the catalogue's program, and its layout is one of it
 pub record IsPlanned (c : Catalogued) (now : engine.View) : Type 0 where
-  pub merged : IsMerged now.network
   pub lines : HasLines now.network (lines_over c)
   pub layout : IsLayoutOf (program_over c) (kinds_of_each (judged_of c).streams) now.layout
 

@@ -1,14 +1,13 @@
 //! Sessions.
-ghost use Rattle.std.specs.Prelude.{◌≡◌, ℕ, [], List, None, false, true, IsTrue, IfErr, IfOk, OnErr, OnOk, take};
+ghost use Rattle.std.specs.Prelude.{◌≡◌, ℕ, ◌-◌, ◌^◌, [], List, None, false, min, true, IsTrue, IfErr, IfOk, OnErr, OnOk, take};
 ghost use Rattle.semantics.specs.Histories.{Heard};
 ghost use Rattle.automaton.specs.NetworkLines.{HasLines};
 ghost use Rattle.chains.specs.Chains.{lines_of, order_of};
 ghost use Rattle.chains.specs.Layouts.{IsLayoutOf};
 ghost use Rattle.cay_host.specs.Output.{SameButOutput};
 ghost use Rattle.prefix_merge.specs.Counts.{CountsPlain, CountsStates};
-ghost use Rattle.prefix_merge.specs.Merging.{IsMerged};
 ghost use Rattle.epoch_laws.specs.Standing.{closed_part};
-ghost use Rattle.epoch_engine.specs.Counts.{CountsAlive};
+ghost use Rattle.epoch_engine.specs.Counts.{CountsAlive, stored_in};
 ghost use Rattle.epoch_engine.specs.StandsFor as engines;
 ghost use Rattle.catalogue.specs.Catalogued.{judged_of};
 ghost use Rattle.catalogue.specs.Chained.{kinds_of_each};
@@ -73,7 +72,6 @@ impl Session {
 
     /// Goes on with an engine that may have been offered events before. Takes no memory.
     pub fn over(alloc: Global, catalogue: Catalogue, engine: Engine, limit: u64) -> Session
-        requires merged { IsMerged engine.network }
         requires lines { HasLines engine.network (lines_of (program_of (judged_of catalogue))) }
         requires layout { IsLayoutOf (program_of (judged_of catalogue)) (kinds_of_each (judged_of catalogue).streams) engine.layout }
         requires intact { IsTrue engine.intact }
@@ -106,7 +104,7 @@ impl Session {
 
     /// The number of states of the merged network of the queries. Takes no memory.
     pub fn states(&self) -> usize
-        ensures { (history : List Heard) → WorksFor self.now history → CountsStates (lines_of (program_in self.now)) result }
+        ensures counted { (history : List Heard) → WorksFor self.now history → CountsStates (lines_of (program_in self.now)) result }
     {
         self.work.engine.network().states()
     }
@@ -114,18 +112,20 @@ impl Session {
     /// The number of states that the queries would have if their lines shared no waiting state. Takes no
     /// memory.
     pub fn plain_states(&self) -> usize
-        ensures { (history : List Heard) → WorksFor self.now history → CountsPlain (lines_of (program_in self.now)) result }
+        ensures counted { (history : List Heard) → WorksFor self.now history → CountsPlain (lines_of (program_in self.now)) result }
     {
         root_states(self.work.engine.network()).saturating_add(hops_of(self.catalogue.lines()))
     }
 
     /// The number of bindings that wait after the closed epochs and that a later event can still match, as far
     /// as the bounds on DUR tell, or 2^64-1 where there are more. Takes the other bindings out of the stores,
-    /// and no memory.
+    /// and no memory. Where a closing wanted memory, so that the engine isn't intact, it takes out none and
+    /// counts all that are stored.
     pub fn live(&mut self) -> u64
         ensures counted { (history : List Heard) → WorksFor self.old history → CountsAlive (lines_of (program_in self.old)) (order_of (program_in self.old)) (closed_part self.old.engine.time history) result }
         ensures trimmed { IsTrue self.old.engine.intact → TrimsEngine self.old self.new }
         ensures same { self.old.engine.intact ≡ false → self.new ≡ self.old }
+        ensures stored { self.old.engine.intact ≡ false → result ≡ min (stored_in self.old.engine) (2 ^ 64 - 1) }
         ensures ended { self.new.ended ≡ self.old.ended }
         ensures works { (history : List Heard) → WorksFor self.old history → WorksFor self.new history }
         ensures stands { (past : List Heard) (text : List ℕ) → StandsFor self.old past text → StandsFor self.new past text }

@@ -6,7 +6,7 @@ use Rattle.monitor.proofs.session.Session.over.Goals as goal
 -- the session may go on
 pub invariant_of-result : goal.invariant_of-result
 invariant_of-result c = λ going. record {
-  at_work = record { intact = c.requires.intact; planned = record { merged = c.requires.merged; lines = c.requires.lines; layout = c.requires.layout }; opened = c.requires.opened };
+  at_work = record { intact = c.requires.intact; planned = record { lines = c.requires.lines; layout = c.requires.layout }; opened = c.requires.opened };
   none_owed = c.new.ensures.items;
   within = omega arith;
   counted = subst (λ (feed : Fed). feeds_so_far feed ≤ 0) (sym c.new-2.ensures) (omega arith);

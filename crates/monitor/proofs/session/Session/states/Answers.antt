@@ -8,6 +8,8 @@ use Rattle.monitor.proofs.session.Session.states.Goals as goal
 
 -- there are as many states as distinct prefixes
 pub returns : goal.returns
-returns c =
-    subst (λ (s : View). (history : List Heard) → WorksFor s history → CountsStates (lines_of (program_in s)) c.states.result) c.self.view_is
-    (λ history works. states_counted _ history works c.states.result (rw c.network.ensures at c.states.ensures))
+returns c = record {
+  counted =
+      subst (λ (s : View). (history : List Heard) → WorksFor s history → CountsStates (lines_of (program_in s)) c.states.result) c.self.view_is
+      (λ history works. states_counted _ history works c.states.result (rw c.network.ensures.value at c.states.ensures));
+}
