@@ -1,4 +1,4 @@
--- What a call has done, by the work and the status.
+-- What a call has done, by the work and the status. No public clause cites this module.
 use Rattle.std.specs.Prelude.{◌≡◌, ℕ}
 use Rattle.cay_host.specs.Told.{Told}
 use Rattle.cayuga_run.specs.declared.status.Status.{Status}

@@ -1,4 +1,4 @@
--- How the reading of a side ended.
+-- How the reading of a side ended. No public clause cites this module.
 use Rattle.std.specs.Prelude.{◌≡◌, ⊤, ℕ, ◌+◌, ◌≤◌, List, [], length, IfSome}
 use Rattle.cay_host.specs.declared.side.Side.{Side}
 use Rattle.cay_host.specs.Faults.{Rose}

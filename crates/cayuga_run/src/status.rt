@@ -10,7 +10,7 @@ use event_types::Names;
 /// How a run ended.
 #[derive(Drop)]
 pub enum Status {
-    /// The job was done, and the events were read to their end.
+    /// The job was done; a run has read the events to their end.
     Done,
     /// The words ask for no job.
     Usage,
@@ -20,7 +20,7 @@ pub enum Status {
     Cycle(Names),
     /// An event line has a fault. Lines are counted from 1.
     BadEvent { line: u64, why: LineFault },
-    /// An event is detected before the event of the line before it, which was seen at `seen`.
+    /// An event is detected before the event before it, which was seen at `seen`. Lines are counted from 1.
     OutOfOrder { line: u64, at: u64, seen: u64 },
     /// A file couldn't be opened.
     AttachFault(Side),
