@@ -36,6 +36,16 @@ impl<T> List<T> {
         }
     }
 
+    /// An empty list with room for so many items.
+    pub fn with_room(alloc: Global, items: usize) -> Result<List<T>, Memory>
+        ensures { IfOk result (λ list. list ≡ []) }
+    {
+        match Vec::with_capacity(alloc, items) {
+            Ok(held) => Ok(List { held }),
+            Err(_) => Err(Memory),
+        }
+    }
+
     pub fn len(&self) -> usize
         ensures { result ≡ length self.now }
     {
@@ -166,7 +176,9 @@ pub trait Copied {
 
 impl<T: Copied + Drop> Copied for List<T> {
     fn copied(&self, alloc: Global) -> Result<Self, Memory> {
-        let mut held = Vec::new(alloc);
+        let Ok(mut held) = Vec::with_capacity(alloc, self.held.len()) else {
+            return Err(Memory);
+        };
         'items: for item in &self.held {
             let copy = item.copied(alloc)?;
             if held.push(copy).is_err() {

@@ -1,5 +1,6 @@
 //! Text in UTF-8.
-ghost use Rattle.std.specs.Prelude.{◌≡◌, IfOk, refl, Some};
+ghost use Rattle.std.specs.Prelude.{◌≡◌, ◌≤◌, IfOk, IsUtf8, length, refl, Some};
+ghost use Rattle.event_types.specs.Held.{IsHeld, held_bytes};
 ghost use Rattle.std.specs.Ordering.{nat_cmp};
 ghost use Rattle.std.specs.Str.{bytes_eq};
 ghost use Rattle.std.specs.Hash as fed;
@@ -14,19 +15,33 @@ use std::alloc::Global;
 use std::cmp::Ordering;
 use std::hash::{Hash, Hasher};
 use std::marker::Model;
+use std::str::from_utf8_unchecked;
 
 /// A text that owns its bytes. Texts are ordered by bytes.
 #[derive(Drop)]
 pub struct Text {
-    held: String,
+    held: Held,
 }
 
+// The bytes of a text: few in place, more on the heap.
+#[derive(Drop)]
+enum Held {
+    Short(u8, [u8; SHORT]),
+    Long(Box<String>),
+}
+
+// The most bytes that are held in place.
+const SHORT: usize = 14;
+
 impl Model for Text {
-    ghost use Rattle.std.specs.Prelude.{List, ℕ, string_bytes};
+    ghost use Rattle.std.specs.Prelude.{List, ℕ};
+    ghost use Rattle.event_types.specs.Held.{IsHeld, held_bytes};
 
     ghost Value = { List ℕ };
 
-    ghost view = { λ t. string_bytes t.held };
+    ghost view = { λ t. held_bytes t.held };
+
+    ghost invariant = { λ t. IsHeld t.held };
 }
 
 /// Names of streams, queries or attributes.
@@ -36,8 +51,18 @@ impl Text {
     pub fn make(alloc: Global, source: &str) -> Result<Text, Memory>
         ensures { IfOk result (λ text. text ≡ source.now) }
     {
-        match String::from_str(alloc, source) {
-            Ok(held) => Ok(Text { held }),
+        if source.len() <= SHORT {
+            return Ok(Text {
+                held: short_of(source),
+            });
+        }
+        let Ok(held) = String::from_str(alloc, source) else {
+            return Err(Memory);
+        };
+        match Box::new(alloc, held) {
+            Ok(held) => Ok(Text {
+                held: Held::Long(held),
+            }),
             Err(_) => Err(Memory),
         }
     }
@@ -45,8 +70,30 @@ impl Text {
     pub fn as_str(&self) -> &str
         ensures { result.now ≡ self.now }
     {
-        self.held.as_str()
+        match &self.held {
+            Held::Short(len, bytes) => text_of(&bytes[..*len as usize]),
+            Held::Long(held) => held.as_str(),
+        }
     }
+}
+
+// A short text, held in place.
+fn short_of(source: &str) -> Held
+    requires { length source.now ≤ 14 }
+    ensures held { IsHeld result }
+    ensures bytes { held_bytes result ≡ source.now }
+{
+    let mut bytes = [0u8; SHORT];
+    bytes[..source.len()].copy_from_slice(source.as_bytes());
+    Held::Short(source.len() as u8, bytes)
+}
+
+// The text of bytes that were taken from one.
+fn text_of(bytes: &[u8]) -> &str
+    requires { IsUtf8 bytes.now }
+    ensures { result.now ≡ bytes.now }
+{
+    unsafe { from_utf8_unchecked(bytes) }
 }
 
 impl PartialEq for Text {
@@ -55,7 +102,7 @@ impl PartialEq for Text {
     ghost laws = { partial_equiv_from_equiv nat_list_eq_equiv };
 
     fn eq(&self, other: &Self) -> bool {
-        self.held == other.held
+        self.as_str() == other.as_str()
     }
 }
 
@@ -83,7 +130,7 @@ impl Ord for Text {
     ghost matches_eq = { λ x y. texts_ties x y };
 
     fn cmp(&self, other: &Self) -> Ordering {
-        self.held.cmp(&other.held)
+        self.as_str().cmp(other.as_str())
     }
 }
 

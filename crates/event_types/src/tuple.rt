@@ -137,10 +137,11 @@ impl Ord for Tuple {
     ghost matches_eq = { Prim.search (comparing, rules) };
 
     fn cmp(&self, other: &Tuple) -> Ordering {
-        self.from
-            .cmp(&other.from)
-            .then(self.vals.cmp(&other.vals))
-            .then(self.at.cmp(&other.at))
+        let starts = self.from.cmp(&other.from);
+        if starts.is_ne() {
+            return starts;
+        }
+        self.vals.cmp(&other.vals).then(self.at.cmp(&other.at))
     }
 }
 
