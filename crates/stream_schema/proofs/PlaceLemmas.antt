@@ -10,10 +10,10 @@ shifted : (i n : ℕ) → cond (nat_lt (1 + i) (suc n)) (Some (1 + i)) None ≡ 
 shifted i n = grind (arith, nat_tests)
 
 -- the first place in a list, where the head passes and where it doesn't
-position-here : {X : Type 0} (p : X → Bool) (x : X) (xs : List X) → p x ≡ true → position p (x ∷ xs) ≡ Some 0
+pub position-here : {X : Type 0} (p : X → Bool) (x : X) (xs : List X) → p x ≡ true → position p (x ∷ xs) ≡ Some 0
 position-here p x xs h = rw h (grind (arith, nat_tests))
 
-position-past : {X : Type 0} (p : X → Bool) (x : X) (xs : List X) → p x ≡ false → position p (x ∷ xs) ≡ option_map suc (position p xs)
+pub position-past : {X : Type 0} (p : X → Bool) (x : X) (xs : List X) → p x ≡ false → position p (x ∷ xs) ≡ option_map suc (position p xs)
 position-past p x xs h = rw h (shifted (position_or_len p xs) (length xs))
 
 -- a place that is one further back than another

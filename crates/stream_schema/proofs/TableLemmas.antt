@@ -61,7 +61,7 @@ module _ {A : Type 0} where
   others-apart k [] h = tt
   others-apart k (x ∷ entries) h = (h.0, others-apart k entries h.1)
 
-  names-apart : (entries : List (String A × Stream)) → IsDistinct string_eq (keys_of entries) → IsDistinct bytes_eq (stream_names (streams_of entries))
+  pub names-apart : (entries : List (String A × Stream)) → IsDistinct string_eq (keys_of entries) → IsDistinct bytes_eq (stream_names (streams_of entries))
   unfolding IsDistinct
   names-apart [] h = tt
   names-apart (x ∷ entries) h = (others-apart x.0 entries h.0, names-apart entries h.1)

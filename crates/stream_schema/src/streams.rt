@@ -62,6 +62,21 @@ impl Streams {
         self.table.get_index_of(name)
     }
 
+    /// The same, by one comparison where the name is that of the stream `near`, which may be any number.
+    /// Takes no memory.
+    pub fn find_near(&self, near: StreamId, name: &str) -> Option<StreamId>
+        ensures value { result ≡ number_of name.now self.now }
+        ensures found { IfSome result (λ number. slice_get (stream_names self.now) number ≡ Some name.now) }
+        ensures within { IfSome result (λ number. number < length self.now) }
+        ensures absent { (result ≡ None) ↔ ¬ Contains (stream_names self.now) name.now }
+        ensures distinct { AllPairs (λ x y. x ≢ y) (stream_names self.now) }
+    {
+        if near < self.table.len() && self.name(near) == name {
+            return Some(near);
+        }
+        self.find(name)
+    }
+
     pub fn schema(&self, stream: StreamId) -> &Schema
         requires { stream < length self.now }
         ensures { slice_get (schemas_of self.now) stream ≡ Some result.now }
