@@ -5,8 +5,7 @@ use Rattle.std.specs.HashMap.{HashMap}
 use Rattle.std.specs.List.{filter, flat_map, list_any, range_with_len}
 use Rattle.std.specs.List.Sorted.{IsPermutation}
 use Rattle.std.specs.Option.{option_and_then}
-use Rattle.std.proofs.lemmas.List.Elements.{filter-append}
-use Rattle.scalar_expr.proofs.Bags.{filter_permuted}
+use Rattle.scalar_expr.proofs.Bags.{filter-flat_map, filter_permuted, flat_map_each}
 use Rattle.automaton.specs.declared.network.End.{End}
 use Rattle.automaton.specs.declared.network.State.{State}
 use Rattle.automaton.specs.Changes.{RemovesEnd, without_end, without_numbered}
@@ -87,14 +86,6 @@ lines_left number prefix (end ∷ ends) = go (lines_left number prefix ends) (no
         ≡ cond b (ending_at prefix end ∷ filter (other_ending number) (map (ending_at prefix) ends)) (filter (other_ending number) (map (ending_at prefix) ends))
     go rest true = ap (λ es. ending_at prefix end ∷ es) rest
     go rest false = rest
-
-filter-flat_map : {X Y : Type 0} (p : Y → Bool) (f : X → List Y) (xs : List X) → filter p (flat_map f xs) ≡ flat_map (λ x. filter p (f x)) xs
-filter-flat_map p f [] = refl
-filter-flat_map p f (x ∷ xs) = filter-append p (f x) (flat_map f xs) ∙ ap (λ ys. filter p (f x) ++ ys) (filter-flat_map p f xs)
-
-flat_map_each : {X Y : Type 0} (f g : X → List Y) → ((x : X) → f x ≡ g x) → (xs : List X) → flat_map f xs ≡ flat_map g xs
-flat_map_each f g same [] = refl
-flat_map_each f g same (x ∷ xs) = λ i. same x i ++ flat_map_each f g same xs i
 
 -- the end leaves
 module _ (old middle : Net) (state end : ℕ) (network : IsNetwork old) (merged : IsMerged old) (own : HasOwnNumbers old) (has : 1 ≤ ends_numbered old end state) (removes : RemovesEnd state end old middle) where

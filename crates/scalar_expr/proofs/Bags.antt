@@ -3,6 +3,7 @@ use Rattle.std.proofs.Common.{◌≡◌, ◌∙◌, sym, ap, refl, subst, ℕ, z
 use Rattle.std.specs.List.{filter, flat_map, list_all, list_any, swap}
 use Rattle.std.proofs.Math.ListN.{set}
 use Rattle.std.specs.List.Sorted.{IsPermutation}
+use Rattle.std.proofs.lemmas.List.Elements.{filter-append}
 use Rattle.std.proofs.lemmas.List.Sorted.{list_any-IsPermutation, IsPermutation-refl, IsPermutation-trans, IsPermutation-append_left, IsPermutation-append_right, IsPermutation-append_comm, IsPermutation-keeps}
 
 module _ {X : Type 0} where
@@ -46,10 +47,22 @@ module _ {X Y : Type 0} (f : X → List Y) where
       IsPermutation-keeps xs (λ l. IsPermutation (flat_map f xs) (flat_map f l)) (IsPermutation-refl (flat_map f xs))
       (λ l i j p q s. IsPermutation-trans _ _ _ s (flat_map_exchange l i j p q)) ys h
 
+module _ {X Y : Type 0} where
+  -- what gives the same of each item gives the same list
+  pub flat_map_each : (f g : X → List Y) → ((x : X) → f x ≡ g x) → (xs : List X) → flat_map f xs ≡ flat_map g xs
+  flat_map_each f g same [] = refl
+  flat_map_each f g same (x ∷ xs) = λ i. same x i ++ flat_map_each f g same xs i
+
+  -- what a filter keeps of all that is given is what it keeps of each
+  pub filter-flat_map : (test : Y → Bool) (f : X → List Y) (xs : List X) → filter test (flat_map f xs) ≡ flat_map (λ x. filter test (f x)) xs
+  filter-flat_map test f [] = refl
+  filter-flat_map test f (x ∷ xs) = filter-append test (f x) (flat_map f xs) ∙ ap (λ ys. filter test (f x) ++ ys) (filter-flat_map test f xs)
+
 module _ {X : Type 0} (p : X → Bool) where
-  filter-flat_map : (xs : List X) → filter p xs ≡ flat_map (λ x. cond (p x) (x ∷ []) []) xs
-  filter-flat_map [] = refl
-  filter-flat_map (x ∷ xs) = go (filter-flat_map xs) (p x)
+  -- a filter, as what is given of each item
+  filter-as_flat_map : (xs : List X) → filter p xs ≡ flat_map (λ x. cond (p x) (x ∷ []) []) xs
+  filter-as_flat_map [] = refl
+  filter-as_flat_map (x ∷ xs) = go (filter-as_flat_map xs) (p x)
     where
       go : filter p xs ≡ flat_map (λ x. cond (p x) (x ∷ []) []) xs → (b : Bool) → cond b (x ∷ filter p xs) (filter p xs) ≡ cond b (x ∷ []) [] ++ flat_map (λ x. cond (p x) (x ∷ []) []) xs
       go rest true = ap (λ ys. x ∷ ys) rest
@@ -58,7 +71,7 @@ module _ {X : Type 0} (p : X → Bool) where
   -- what a filter keeps of a bag
   pub filter_permuted : (xs ys : List X) → IsPermutation xs ys → IsPermutation (filter p xs) (filter p ys)
   filter_permuted xs ys h =
-      permuted_from (filter-flat_map xs) (permuted_to (flat_map_permuted (λ x. cond (p x) (x ∷ []) []) xs ys h) (sym (filter-flat_map ys)))
+      permuted_from (filter-as_flat_map xs) (permuted_to (flat_map_permuted (λ x. cond (p x) (x ∷ []) []) xs ys h) (sym (filter-as_flat_map ys)))
 
   -- all pass where none fails
   list_all-any : (xs : List X) → list_all p xs ≡ not (list_any (λ x. not (p x)) xs)

@@ -30,7 +30,7 @@ pub use part::Part;
 pub use predicate::Pred;
 pub use projection::{Map, apply};
 pub use scalar::{Scalar, Scalars};
-pub use truth::holds;
+pub use truth::{compares, holds};
 pub use valuation::value_of;
 
 #[cfg(test)]

@@ -47,15 +47,26 @@ fn is_true(predicate: &Pred, event: &Tuple, binding: Option<&Tuple>) -> bool
     match predicate {
         Pred::True => true,
         Pred::Test(x, cmp, y) => {
-            is_accepted(
+            compares(
                 *cmp,
-                order(value_of(x, event, binding), value_of(y, event, binding)),
+                value_of(x, event, binding),
+                value_of(y, event, binding),
             )
         }
         Pred::And(left, right) => is_true(left, event, binding) && is_true(right, event, binding),
         Pred::Or(left, right) => is_true(left, event, binding) || is_true(right, event, binding),
         Pred::Not(denied) => !is_true(denied, event, binding),
     }
+}
+
+/// Whether two values compare so: numbers by size, texts by bytes. A number and a text never do, nor OVER
+/// with any value.
+///
+/// Takes no memory.
+pub fn compares(cmp: Cmp, x: ValueRef<'_>, y: ValueRef<'_>) -> bool
+    ensures { result ≡ is_met cmp (order_of (seen x.entry) (seen y.entry)) }
+{
+    is_accepted(cmp, order(x, y))
 }
 
 // The order of two values that have one.
