@@ -1,1 +1,4 @@
+pub mod Lending
+pub mod Links
+pub mod Steps
 pub mod Walks

@@ -1,4 +1,7 @@
-pub mod Beads
+pub mod Boxes
 pub mod Heads
 pub mod Items
-pub mod Reading
+pub mod Linked
+pub mod Nodes
+pub mod Owning
+pub mod Sights

@@ -1,24 +1,25 @@
 //! A bead, which holds one value.
 ghost use Rattle.std.specs.Prelude.{◌≡◌, MatchResult};
 
-use crate::chain::{Chain, Node};
+use crate::node::Node;
+use crate::run::Link;
 use std::alloc::Global;
 use std::marker::Model;
 
 /// The memory for one value of a chain, with the value in it.
 #[derive(Drop)]
 pub struct Bead<T> {
-    pub(crate) node: Box<Node<T>>,
+    pub(crate) node: Box<Node<Link, T>>,
 }
 
 impl<T> Model for Bead<T> {
-    ghost use Rattle.inst_chain.specs.Beads.{value_in, is_alone};
+    ghost use Rattle.inst_chain.specs.Linked.{IsAlone};
 
     ghost Value = { T };
 
-    ghost view = { λ b. value_in b.node.value };
+    ghost view = { λ b. b.node.value.value };
 
-    ghost invariant = { λ b. is_alone b.node.value };
+    ghost invariant = { λ b. IsAlone b.node.value };
 }
 
 impl<T: Drop> Bead<T> {
@@ -26,8 +27,12 @@ impl<T: Drop> Bead<T> {
     pub fn make(alloc: Global, value: T) -> Result<Bead<T>, T>
         ensures { MatchResult result (λ bead. bead ≡ value) (λ back. back ≡ value) }
     {
-        let next = Chain::new();
-        match Box::new(alloc, Node { value, next }) {
+        let node = Node {
+            next: None,
+            prev: None,
+            value,
+        };
+        match Box::new(alloc, node) {
             Ok(node) => Ok(Bead { node }),
             Err(refused) => Err(refused.value.value),
         }
@@ -38,7 +43,11 @@ impl<T: Drop> Bead<T> {
         ensures { result ≡ self }
     {
         let Bead { node } = self;
-        let Node { value, next: _next } = Box::into_inner(node);
+        let Node {
+            value,
+            next: _,
+            prev: _,
+        } = Box::into_inner(node);
         value
     }
 }

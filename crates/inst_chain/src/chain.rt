@@ -1,45 +1,23 @@
 //! A chain of beads.
-ghost use Rattle.std.specs.Prelude.{◌≡◌, ◌++◌, ◌∷◌, [], IfNone, List, option_to_list, reverse};
+ghost use Rattle.std.specs.Prelude.{◌≡◌, ◌++◌, ◌∷◌, [], IfNone, None, option_to_list};
 
 use crate::bead::Bead;
+use crate::run::{Run, join, one, pop};
 use std::marker::Model;
 
-/// A chain of beads. Each bead is a box that holds the next one, and is freed once.
-#[cycle(chain)]
+/// A chain of beads. Each bead is a box that leads on to the next one and back to the one before it, and
+/// is freed once.
 pub struct Chain<T> {
-    pub(crate) first: Link<T>,
-}
-
-/// What hangs on a bead.
-#[cycle(chain)]
-#[derive(Drop)]
-pub(crate) enum Link<T> {
-    End,
-    More(Box<Node<T>>),
-}
-
-/// A bead's value and the chain behind it.
-#[cycle(chain)]
-#[derive(Drop)]
-pub(crate) struct Node<T> {
-    pub(crate) value: T,
-    pub(crate) next: Chain<T>,
+    pub(crate) run: Option<Run<T>>,
 }
 
 impl<T> Model for Chain<T> {
-    ghost use Rattle.std.specs.Prelude.{List, ℕ, length};
+    ghost use Rattle.std.specs.Prelude.{List};
+    ghost use Rattle.inst_chain.specs.Items.{items};
 
     ghost Value = { List T };
 
-    ghost use Rattle.inst_chain.specs.Items.{items};
-
-    ghost view = { λ a. items a.first };
-
-    ghost size = { length };
-
-    ghost use Rattle.std.proofs.Common.{arith};
-
-    ghost size_decreases = { λ a h. Prim.grind arith };
+    ghost view = { λ chain. items chain.run };
 }
 
 impl<T: Drop> Chain<T> {
@@ -47,38 +25,36 @@ impl<T: Drop> Chain<T> {
     pub fn new() -> Chain<T>
         ensures { result ≡ [] }
     {
-        Chain { first: Link::End }
+        Chain { run: None }
     }
 
     /// Puts the bead at the back, past all that are there. Takes no memory.
     pub fn link(&mut self, bead: Bead<T>)
         ensures { self.new ≡ self.old ++ bead ∷ [] }
     {
-        let mut passed = Chain::new();
-        self.turn_onto(&mut passed);
-        self.push(bead);
-        passed.turn_onto(self);
+        let Bead { node } = bead;
+        self.put(one(node));
     }
 
-    /// Moves all beads of the other chain to the back. It touches the beads of this chain and none
-    /// of the other, so a chain of one bead is put before a long one at once. Takes no memory.
+    /// Moves all beads of the other chain to the back. It touches one bead of each. Takes no memory.
     pub fn append(&mut self, other: &mut Chain<T>)
         ensures items { self.new ≡ self.old ++ other.old }
         ensures empty { other.new ≡ [] }
     {
-        let mut passed = Chain::new();
-        self.turn_onto(&mut passed);
-        passed.turn_onto(other);
-        std::mem::swap(self, other);
+        if let Some(more) = std::mem::replace(&mut other.run, None) {
+            self.put(more);
+        }
     }
 
-    // Puts the bead at the front.
-    pub(crate) fn push(&mut self, bead: Bead<T>)
-        ensures { self.new ≡ bead ∷ self.old }
+    // Puts the beads at the back.
+    fn put(&mut self, more: Run<T>)
+        ensures { self.new ≡ self.old ++ more }
     {
-        let Bead { mut node } = bead;
-        node.next.first = std::mem::replace(&mut self.first, Link::End);
-        self.first = Link::More(node);
+        let whole = match std::mem::replace(&mut self.run, None) {
+            None => more,
+            Some(run) => join(run, more),
+        };
+        restore(&mut self.run, Some(whole));
     }
 
     // Takes the first bead out.
@@ -86,22 +62,13 @@ impl<T: Drop> Chain<T> {
         ensures items { self.old ≡ option_to_list result ++ self.new }
         ensures none { IfNone result (self.new ≡ []) }
     {
-        match std::mem::replace(&mut self.first, Link::End) {
-            Link::End => None,
-            Link::More(mut node) => {
-                self.first = std::mem::replace(&mut node.next.first, Link::End);
+        match std::mem::replace(&mut self.run, None) {
+            None => None,
+            Some(run) => {
+                let (node, rest) = pop(run);
+                restore(&mut self.run, rest);
                 Some(Bead { node })
             }
-        }
-    }
-
-    // Moves all beads to the front of the other chain, the first one deepest.
-    pub(crate) fn turn_onto(&mut self, other: &mut Chain<T>)
-        ensures empty { self.new ≡ [] }
-        ensures turned { other.new ≡ reverse self.old ++ other.old }
-    {
-        while let Some(bead) = self.pop() {
-            other.push(bead);
         }
     }
 }
@@ -109,15 +76,26 @@ impl<T: Drop> Chain<T> {
 impl<T: Drop> Drop for Chain<T> {
     fn drop(mut self) {
         loop {
-            let Chain { first } = self;
-            match first {
-                Link::End => return,
-                Link::More(node) => {
-                    let Node { value, next } = Box::into_inner(node);
-                    drop(value);
-                    self = next;
+            let Chain { run } = self;
+            match run {
+                None => return,
+                Some(run) => {
+                    let (node, rest) = pop(run);
+                    drop(node);
+                    self = Chain { run: rest };
                 }
             }
         }
+    }
+}
+
+// Puts a run where none is: a run is let go nowhere.
+fn restore<T>(place: &mut Option<Run<T>>, run: Option<Run<T>>)
+    requires { place.old ≡ None }
+    ensures { place.new ≡ run }
+{
+    match std::mem::replace(place, run) {
+        None => {}
+        Some(_run) => unreachable!(),
     }
 }

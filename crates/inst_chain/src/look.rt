@@ -2,22 +2,23 @@
 ghost use Rattle.std.specs.Prelude.{◌≡◌, ◌++◌, [], option_copied, option_to_list};
 ghost use Rattle.inst_chain.specs.Heads.{head};
 
-use crate::chain::{Chain, Link};
+use crate::chain::Chain;
+use crate::sight::{Sight, read, survey};
 use std::marker::Model;
 
 /// A reader of a chain, from the front.
 #[derive(Drop)]
 pub struct Look<'a, T> {
-    at: Option<&'a Chain<T>>,
+    at: Option<Sight<'a, T>>,
 }
 
 impl<'a, T> Model for Look<'a, T> {
     ghost use Rattle.std.specs.Prelude.{List};
-    ghost use Rattle.inst_chain.specs.Reading.{seen};
+    ghost use Rattle.inst_chain.specs.Items.{items};
 
     ghost Value = { List T };
 
-    ghost view = { λ look. seen look.at };
+    ghost view = { λ look. items look.at };
 }
 
 impl<'a, T: Drop> Look<'a, T> {
@@ -33,14 +34,10 @@ impl<'a, T: Drop> Look<'a, T> {
         ensures first { option_copied result ≡ head self.old }
         ensures rest { self.old ≡ option_to_list (option_copied result) ++ self.new }
     {
-        let chain = self.at?;
-        match &chain.first {
-            Link::End => None,
-            Link::More(node) => {
-                self.at = Some(&node.next);
-                Some(&node.value)
-            }
-        }
+        let sight = std::mem::replace(&mut self.at, None)?;
+        let (value, rest) = read(sight);
+        self.at = rest;
+        Some(value)
     }
 }
 
@@ -49,6 +46,11 @@ impl<T: Drop> Chain<T> {
     pub fn look(&self) -> Look<'_, T>
         ensures { result ≡ self.now }
     {
-        Look { at: Some(self) }
+        match &self.run {
+            None => Look { at: None },
+            Some(run) => Look {
+                at: Some(survey(run)),
+            },
+        }
     }
 }

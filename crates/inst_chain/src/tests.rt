@@ -1,9 +1,11 @@
-//! What no clause says: that a bead is made where memory is had.
+//! What no clause says: that a bead is made where memory is had, and that each value is dropped once.
 ghost use Rattle.std.specs.Prelude.{◌≡◌, filter, nat_le};
 
 use crate::{Bead, Chain, Look};
 use std::alloc::Global;
+use std::cell::Cell;
 use std::process::Abort;
+use std::rc::Rc;
 
 // The chain of these values.
 fn chain_of(rt: &impl Abort, alloc: Global, values: &[u64]) -> Chain<u64> {
@@ -24,6 +26,48 @@ fn assert_reads(rt: &impl Abort, chain: &Chain<u64>, want: &[u64]) {
         assert_eq!(rt; look.next().copied(), Some(*value));
     }
     assert!(rt; look.next().is_none(), "past {want:?}");
+}
+
+// A value that counts its drops.
+struct Counted {
+    drops: Rc<Cell<u64>>,
+}
+
+impl Drop for Counted {
+    fn drop(self) {
+        let Counted { drops } = self;
+        drops.set(drops.get().wrapping_add(1));
+    }
+}
+
+// So many counts.
+fn counts_of(rt: &impl Abort, alloc: Global, many: u64) -> Vec<Rc<Cell<u64>>> {
+    let mut counts = Vec::new(alloc);
+    for _ in 0..many {
+        let count = Rc::new(alloc, Cell::new(0)).expect(rt, "no memory for a count");
+        counts.push(count).expect(rt, "no memory for the counts");
+    }
+    counts
+}
+
+// Sees that these are the counts.
+fn assert_counts(rt: &impl Abort, counts: &[Rc<Cell<u64>>], want: &[u64]) {
+    for (count, want) in counts.iter().zip(want) {
+        assert_eq!(rt; count.get(), *want);
+    }
+}
+
+// A chain of one value for each of these counts.
+fn chain_that_counts(rt: &impl Abort, alloc: Global, counts: &[Rc<Cell<u64>>]) -> Chain<Counted> {
+    let mut chain = Chain::new();
+    for count in counts {
+        let drops = Rc::clone(count).expect(rt, "too many owners");
+        match Bead::make(alloc, Counted { drops }) {
+            Ok(bead) => chain.link(bead),
+            Err(_) => panic!(rt; "no memory for a value that counts"),
+        }
+    }
+    chain
 }
 
 // Takes out the numbers below a bound, as a caller proves it.
@@ -76,4 +120,28 @@ fn values_below_a_bound_are_taken_out(rt: HostRuntime) {
     let mut chain = chain_of(&rt, rt.alloc(), &[7, 2, 9, 3, 7]);
     take_below(&mut chain, 7);
     assert_reads(&rt, &chain, &[7, 9, 7]);
+}
+
+#[test]
+fn each_of_five_values_is_dropped_once(rt: HostRuntime) {
+    let alloc = rt.alloc();
+    let first = counts_of(&rt, alloc, 3);
+    let second = counts_of(&rt, alloc, 2);
+    {
+        let mut chain = chain_that_counts(&rt, alloc, &first);
+        let mut other = chain_that_counts(&rt, alloc, &second);
+        chain.append(&mut other);
+        let mut walk = chain.walk();
+        for keeps in [false, true, false, true, false] {
+            if keeps {
+                walk.step();
+            } else {
+                let _ = walk.unlink();
+            }
+        }
+        assert_counts(&rt, &first, &[1, 0, 1]);
+        assert_counts(&rt, &second, &[0, 1]);
+    }
+    assert_counts(&rt, &first, &[1, 1, 1]);
+    assert_counts(&rt, &second, &[1, 1]);
 }

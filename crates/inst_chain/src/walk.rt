@@ -3,7 +3,7 @@ ghost use Rattle.std.specs.Prelude.{◌≡◌, ◌++◌, ◌∷◌, [], List, dr
 ghost use Rattle.inst_chain.specs.Heads.{head};
 
 use crate::bead::Bead;
-use crate::chain::{Chain, Link};
+use crate::chain::Chain;
 use std::marker::Model;
 
 /// A walk along a chain.
@@ -31,19 +31,18 @@ pub trait Walked: Drop {
         ensures { items self.new ≡ passed_items passed ++ items self.old };
 }
 
-/// The beads that a walk has passed.
+/// The beads that a walk has passed. They are a chain of their own until the walk ends.
 #[derive(Drop)]
 pub struct Passed<T> {
-    // the last one first
-    turned: Chain<T>,
+    chain: Chain<T>,
 }
 
 impl<T> Model for Passed<T> {
-    ghost use Rattle.std.specs.Prelude.{List, reverse};
+    ghost use Rattle.std.specs.Prelude.{List};
 
     ghost Value = { List T };
 
-    ghost view = { λ p. reverse p.turned };
+    ghost view = { λ passed. passed.chain };
 }
 
 impl<T: Drop> Walked for Chain<T> {
@@ -56,8 +55,9 @@ impl<T: Drop> Walked for Chain<T> {
     ghost passed_items = { λ passed. passed };
 
     fn put_back(&mut self, passed: Passed<T>) {
-        let Passed { mut turned } = passed;
-        turned.turn_onto(self);
+        let Passed { mut chain } = passed;
+        chain.append(self);
+        std::mem::swap(self, &mut chain);
     }
 }
 
@@ -68,10 +68,10 @@ impl<T: Drop> Chain<T> {
         ensures here { result.chain.now ≡ self.old }
         ensures passed { result.passed ≡ [] }
     {
-        let turned = Chain::new();
+        let chain = Chain::new();
         WalkOn {
             chain: self,
-            passed: Passed { turned },
+            passed: Passed { chain },
         }
     }
 }
@@ -82,10 +82,7 @@ impl<T: Drop> WalkOn<'_, Chain<T>> {
         ensures { option_copied result ≡ head self.now.chain.now }
     {
         let chain: &Chain<T> = &*self.chain;
-        match &chain.first {
-            Link::End => None,
-            Link::More(node) => Some(&node.value),
-        }
+        chain.look().next()
     }
 
     /// Goes on to the next value, and stays where it is past the last. Takes no memory.
@@ -95,7 +92,7 @@ impl<T: Drop> WalkOn<'_, Chain<T>> {
         ensures passed { self.new.passed ≡ self.old.passed ++ take 1 self.old.chain.now }
     {
         if let Some(bead) = self.chain.pop() {
-            self.passed.push(bead);
+            self.passed.chain.link(bead);
         }
     }
 
@@ -117,14 +114,5 @@ impl<C: Walked> Drop for WalkOn<'_, C> {
     {
         let WalkOn { chain, passed } = self;
         chain.put_back(passed);
-    }
-}
-
-impl<T: Drop> Passed<T> {
-    // Puts the bead behind all that were passed.
-    fn push(&mut self, bead: Bead<T>)
-        ensures { self.new ≡ self.old ++ bead ∷ [] }
-    {
-        self.turned.push(bead);
     }
 }
