@@ -2,7 +2,7 @@
 ghost use Rattle.std.specs.Prelude.{◌≡◌, ◌≤◌, ◌^◌, [], ◌∷◌, IfOk, pos};
 ghost use Rattle.event_types.specs.declared.comparison.Cmp.TheVariants.{Lt};
 ghost use Rattle.event_types.specs.declared.value.Value.TheVariants.{Int};
-ghost use Rattle.semantics.specs.Expressions.{Filter, Fold, Next, Read, Select, Union};
+ghost use Rattle.semantics.specs.Expressions.{Filter, Next, Read, Select};
 ghost use Rattle.semantics.specs.Scalars.{Event, Lit, Test};
 ghost use Rattle.scalar_expr.specs.Canonical.{canonical};
 ghost use Rattle.algebra.specs.Views.{ex_of};
@@ -62,26 +62,11 @@ fn select(alloc: Global, place: usize, inner: Box<Expr>) -> Result<Box<Expr>, Me
     Ok(Box::new(alloc, Expr::Select(projection, inner))?)
 }
 
-fn union(alloc: Global, left: Box<Expr>, right: Box<Expr>) -> Result<Box<Expr>, Memory>
-    ensures { IfOk result (λ e. ex_of e.value ≡ Union (ex_of left.value) (ex_of right.value)) }
-{
-    Ok(Box::new(alloc, Expr::Union(left, right))?)
-}
-
 fn next(alloc: Global, left: Box<Expr>, right: Box<Expr>) -> Result<Box<Expr>, Memory>
     ensures { IfOk result (λ e. ex_of e.value ≡ Next [] (ex_of left.value) (ex_of right.value)) }
 {
     let condition = any(alloc)?;
     Ok(Box::new(alloc, Expr::Next(condition, left, right))?)
-}
-
-fn fold(alloc: Global, left: Box<Expr>, right: Box<Expr>) -> Result<Box<Expr>, Memory>
-    ensures { IfOk result (λ e. ex_of e.value ≡ Fold [] [] (record { width = 1; parts = Event 0 ∷ [] }) (ex_of left.value) (ex_of right.value)) }
-{
-    let choose = any(alloc)?;
-    let on = any(alloc)?;
-    let set = attribute(alloc, 0)?;
-    Ok(Box::new(alloc, Expr::Fold(choose, on, set, left, right))?)
 }
 
 // The lines of a query over the streams 0 to 2, which publishes the stream 3.
@@ -120,88 +105,6 @@ fn nested_right_side_is_published_on_a_hidden_stream(rt: HostRuntime) -> Result<
             assert!(rt; is_line(own, 0, &[(0, 4)], 0, 3));
         }
         _ => panic!(rt; "not two lines"),
-    }
-    Ok(())
-}
-
-#[test]
-fn union_on_the_left_makes_two_lines_of_the_query(rt: HostRuntime) -> Result<(), Fail> {
-    let alloc = rt.alloc();
-    let left = union(alloc, read(alloc, 0)?, read(alloc, 1)?)?;
-    let expr = next(alloc, left, read(alloc, 2)?)?;
-    let lines = lines_of(alloc, &expr)?;
-    match lines.as_slice() {
-        [first, second] => {
-            assert!(rt; is_line(first, 0, &[(0, 2)], 0, 3));
-            assert!(rt; is_line(second, 1, &[(0, 2)], 0, 3));
-        }
-        _ => panic!(rt; "not two lines"),
-    }
-    Ok(())
-}
-
-#[test]
-fn union_on_the_right_makes_two_lines_of_a_hidden_stream(rt: HostRuntime) -> Result<(), Fail> {
-    let alloc = rt.alloc();
-    let right = union(alloc, read(alloc, 1)?, read(alloc, 2)?)?;
-    let expr = next(alloc, read(alloc, 0)?, right)?;
-    let lines = lines_of(alloc, &expr)?;
-    match lines.as_slice() {
-        [first, second, own] => {
-            assert!(rt; is_line(first, 1, &[], 0, 4));
-            assert!(rt; is_line(second, 2, &[], 0, 4));
-            assert!(rt; is_line(own, 0, &[(0, 4)], 0, 3));
-        }
-        _ => panic!(rt; "not three lines"),
-    }
-    Ok(())
-}
-
-// The last item isn't the identity, which would be dropped.
-#[test]
-fn select_between_two_nexts_is_the_step_of_the_second_hop(rt: HostRuntime) -> Result<(), Fail> {
-    let alloc = rt.alloc();
-    let pairs = next(alloc, read(alloc, 0)?, read(alloc, 1)?)?;
-    let expr = next(alloc, select(alloc, 1, pairs)?, read(alloc, 2)?)?;
-    let lines = lines_of(alloc, &expr)?;
-    match lines.as_slice() {
-        [own] => assert!(rt; is_line(own, 0, &[(0, 1), (1, 2)], 0, 3)),
-        _ => panic!(rt; "not one line"),
-    }
-    Ok(())
-}
-
-#[test]
-fn filter_on_the_right_of_fold_is_a_line_of_its_own(rt: HostRuntime) -> Result<(), Fail> {
-    let alloc = rt.alloc();
-    let expr = fold(alloc, read(alloc, 0)?, filter(alloc, read(alloc, 1)?)?)?;
-    let lines = lines_of(alloc, &expr)?;
-    match lines.as_slice() {
-        [hidden, own] => {
-            assert!(rt; is_line(hidden, 1, &[], 1, 4));
-            assert!(rt; is_line(own, 0, &[(0, 4)], 0, 3));
-            for hop in own.hops.as_slice() {
-                assert!(rt; hop.wait.fold.is_some());
-            }
-        }
-        _ => panic!(rt; "not two lines"),
-    }
-    Ok(())
-}
-
-#[test]
-fn equal_right_sides_have_hidden_streams_of_their_own(rt: HostRuntime) -> Result<(), Fail> {
-    let alloc = rt.alloc();
-    let left = next(alloc, read(alloc, 0)?, filter(alloc, read(alloc, 1)?)?)?;
-    let expr = next(alloc, left, filter(alloc, read(alloc, 1)?)?)?;
-    let lines = lines_of(alloc, &expr)?;
-    match lines.as_slice() {
-        [first, second, own] => {
-            assert!(rt; is_line(first, 1, &[], 1, 4));
-            assert!(rt; is_line(second, 1, &[], 1, 5));
-            assert!(rt; is_line(own, 0, &[(0, 4), (0, 5)], 0, 3));
-        }
-        _ => panic!(rt; "not three lines"),
     }
     Ok(())
 }
