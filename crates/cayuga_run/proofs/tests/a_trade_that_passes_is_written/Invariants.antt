@@ -1,4 +1,4 @@
-use Rattle.cayuga_run.proofs.tests.words_that_ask_for_no_job_are_usage.Given as goal
+use Rattle.cayuga_run.proofs.tests.a_trade_that_passes_is_written.Given as goal
 
 abbrev pub ghosts-count : goal.ghosts-count
 ghosts-count g a = record { name = a.blank.name; parts = a.blank.parts }
