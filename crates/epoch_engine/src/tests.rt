@@ -1,4 +1,4 @@
-//! Closings, with results that were found by hand from the definitions.
+//! What no results show: events that come back, and how many bindings wait.
 ghost use Rattle.std.specs.Prelude.{◌≡◌, ◌<◌, [], ◌∷◌, IfOk, IsTrue, pos, replicate};
 ghost use Rattle.event_types.specs.declared.comparison.Cmp.TheVariants as cmp;
 ghost use Rattle.event_types.specs.declared.kind.Kind.TheVariants as kind;
@@ -27,11 +27,7 @@ const NEWS: StreamId = 1;
 // The places of the streams that are printed.
 const PAIR: usize = 0;
 
-const FALL: usize = 1;
-
 const NEAR: usize = 2;
-
-const AFTER: usize = 3;
 
 // A row: its start, its detection and its numbers.
 type Row<'a> = (u64, u64, &'a [i128]);
@@ -328,115 +324,6 @@ fn goes_through(
 fn expect(rt: &impl Abort, alloc: Global, deeds: &[Deed<'_>]) -> Result<(), Memory> {
     let mut engine = engine(alloc)?;
     goes_through(rt, alloc, &mut engine, deeds)
-}
-
-#[test]
-fn event_is_joined_with_its_next_alone(rt: HostRuntime) -> Result<(), Fail> {
-    expect(
-        &rt,
-        rt.alloc(),
-        &[
-            Deed::Offer(STOCK, 7, 1, 1),
-            Deed::Close(PAIR, &[]),
-            Deed::Offer(STOCK, 7, 2, 2),
-            Deed::Close(PAIR, &[(1, 2, &[7, 7])]),
-            Deed::Offer(STOCK, 7, 3, 3),
-            Deed::Close(PAIR, &[(2, 3, &[7, 7])]),
-        ],
-    )?;
-    Ok(())
-}
-
-#[test]
-fn simultaneous_nexts_all_count(rt: HostRuntime) -> Result<(), Fail> {
-    expect(
-        &rt,
-        rt.alloc(),
-        &[
-            Deed::Offer(STOCK, 7, 1, 1),
-            Deed::Close(NEAR, &[]),
-            Deed::Offer(STOCK, 9, 2, 2),
-            Deed::Offer(STOCK, 8, 2, 2),
-            Deed::Offer(STOCK, 9, 2, 2),
-            Deed::Close(NEAR, &[(1, 2, &[7, 8]), (1, 2, &[7, 9]), (1, 2, &[7, 9])]),
-        ],
-    )?;
-    Ok(())
-}
-
-#[test]
-fn fold_gives_each_iteration(rt: HostRuntime) -> Result<(), Fail> {
-    expect(
-        &rt,
-        rt.alloc(),
-        &[
-            Deed::Offer(STOCK, 10, 1, 1),
-            Deed::Close(FALL, &[]),
-            Deed::Offer(STOCK, 9, 2, 2),
-            Deed::Close(FALL, &[(1, 2, &[9])]),
-            Deed::Offer(STOCK, 8, 3, 3),
-            Deed::Close(FALL, &[(1, 3, &[8]), (2, 3, &[8])]),
-        ],
-    )?;
-    Ok(())
-}
-
-// Between the binding, which is detected at 1, and the event lies an epoch of News.
-#[test]
-fn binding_is_met_up_to_its_span(rt: HostRuntime) -> Result<(), Fail> {
-    expect(
-        &rt,
-        rt.alloc(),
-        &[
-            Deed::Offer(STOCK, 7, 1, 1),
-            Deed::Close(NEAR, &[]),
-            Deed::Offer(NEWS, 0, 5, 5),
-            Deed::Close(NEAR, &[]),
-            Deed::Offer(STOCK, 8, 6, 6),
-            Deed::Close(NEAR, &[(1, 6, &[7, 8])]),
-        ],
-    )?;
-    Ok(())
-}
-
-// The binding is taken out by the epoch of News, or it is there still and the event comes too late.
-#[test]
-fn binding_is_not_met_past_its_span(rt: HostRuntime) -> Result<(), Fail> {
-    for between in [5, 6] {
-        expect(
-            &rt,
-            rt.alloc(),
-            &[
-                Deed::Offer(STOCK, 7, 1, 1),
-                Deed::Close(NEAR, &[]),
-                Deed::Offer(NEWS, 0, between, between),
-                Deed::Close(NEAR, &[]),
-                Deed::Offer(STOCK, 8, 7, 7),
-                Deed::Close(NEAR, &[]),
-                Deed::Offer(STOCK, 9, 8, 8),
-                Deed::Close(NEAR, &[(7, 8, &[8, 9])]),
-            ],
-        )?;
-    }
-    Ok(())
-}
-
-// The pair of 2 and 3 starts after the binding of 1.
-#[test]
-fn derived_stream_is_read_in_its_own_epoch(rt: HostRuntime) -> Result<(), Fail> {
-    expect(
-        &rt,
-        rt.alloc(),
-        &[
-            Deed::Offer(STOCK, 5, 1, 1),
-            Deed::Close(AFTER, &[]),
-            Deed::Offer(STOCK, 7, 2, 2),
-            Deed::Close(AFTER, &[]),
-            Deed::Offer(STOCK, 7, 3, 3),
-            Deed::Close(AFTER, &[(1, 3, &[5, 7, 7])]),
-        ],
-    )?;
-    Ok(())
 }
 
 #[test]
