@@ -1,0 +1,429 @@
+-- The tuples of an epoch, stream by stream.
+use Rattle.std.proofs.Common.{◌≡◌, ◌∙◌, sym, ap, refl, subst, inl, inr, ℕ, ◌+◌, ◌<◌, ◌==◌, ◌||◌, ◌⊎◌, Bool, true, false, cond, length, get_or, take, drop, List, [], ◌∷◌, ◌++◌, add-one, arith}
+use Rattle.std.specs.Prelude.{Contains, Option, Some, slice_get, sum_by}
+use Rattle.std.proofs.lemmas.List.Sums.{sum_by-cons, sum_by_more}
+use Rattle.std.specs.List.{All}
+use Rattle.std.specs.List.Sorted.{IsPermutation}
+use Rattle.std.proofs.Math.Seq.{drop-cons}
+use Rattle.std.proofs.lemmas.Bool.Decides.{nat_tests}
+use Rattle.std.proofs.lemmas.Grind.{get_or-set_at}
+use Rattle.std.proofs.lemmas.List.{append-nil, get_or-set_other, length-append, length-set, take-append-drop, take_more}
+use Rattle.std.proofs.lemmas.List.Elements.{All-contains, All-contains_itself, All-get_or, All-head, All-tail, All-nil, All-push, All-weaker, Contains-append_cases, Contains-append_left, Contains-append_right, Contains-push, Contains-push_cases}
+use Rattle.std.proofs.lemmas.List.Folds.{list_any-append}
+use Rattle.std.proofs.lemmas.List.Sorted.{All-permutation, IsPermutation-cons, IsPermutation-middle, IsPermutation-refl, IsPermutation-sym, IsPermutation-trans, length_permutation, sum_by-IsPermutation}
+use Rattle.std.proofs.lemmas.Option.{slice_get-get_or}
+use Rattle.std.specs.Ordering.{is_gt}
+use Rattle.std.specs.declared.cmp.Ordering.{Ordering}
+use Rattle.event_types.specs.declared.kind.Kind.{Kind}
+use Rattle.event_types.specs.Order.{put, sorted, tuple_cmp}
+use Rattle.event_types.specs.OrderLaws.{tuple_exact, tuple_total}
+use Rattle.event_types.specs.Tuple.{Row}
+use Rattle.event_types.proofs.SortLemmas.{sort_permuted}
+use Rattle.instances.specs.Plain.{Plain}
+use Rattle.instances.specs.declared.instance.Instance.{Instance}
+use Rattle.semantics.specs.Denotation.{Streams, streams_of}
+use Rattle.semantics.specs.Kinds.{HasKinds}
+use Rattle.semantics.specs.Programs.{with_stream}
+use Rattle.scalar_expr.proofs.Bags.{permuted_from}
+use Rattle.automaton.specs.Networks.{IsNetwork}
+use Rattle.automaton.specs.States.{Net}
+use Rattle.automaton.specs.Work.{IsInOrder, is_in}
+use Rattle.automaton.specs.declared.layout.Layout.{Layout}
+use Rattle.automaton.specs.declared.line.Line.{Line}
+use Rattle.automaton.proofs.WorkLemmas.{or_parts}
+use Rattle.epoch_laws.specs.Closing.{IsEpoch, Stores, published}
+use Rattle.epoch_laws.specs.Stands.{Serves}
+use Rattle.epoch_laws.proofs.Bags.{no_length}
+use Rattle.epoch_laws.proofs.Grows.{epoch_grows, epoch_starts}
+use Rattle.epoch_laws.proofs.Lists.{All_last}
+use Rattle.epoch_draft.specs.Deriving.{AreOpened, AreOrdered, CanDraw, Derives, DrawnUpTo, news_of, opened_of}
+use Rattle.epoch_draft.specs.Drafts.{Adds, DraftFits, Grows}
+use Rattle.epoch_draft.specs.Drawn.{Drawn, Paired}
+use Rattle.epoch_draft.specs.Finding.{waits_on}
+use Rattle.epoch_draft.specs.Held.{held}
+use Rattle.epoch_draft.specs.Meeting.{ListsAll, moves_of_all}
+use Rattle.epoch_draft.specs.Moves.{Move, made_of}
+use Rattle.epoch_draft.specs.Suits.{TupleSuits}
+use Rattle.epoch_draft.specs.Tests.{stream_work, streams_work, tuple_work}
+use Rattle.epoch_draft.specs.Typed.{HaveKinds, IsTyped}
+use Rattle.epoch_draft.specs.declared.draft.Draft.{Draft}
+use Rattle.epoch_draft.specs.declared.draft.Pair.{Pair}
+use Rattle.epoch_draft.proofs.DrawnLemmas.{bound_grows, drawn_comes, made_grows, moves_seen, paired_comes, stream_comes, unbound_grows, with_none}
+use Rattle.epoch_draft.proofs.GoingLemmas.{all_left}
+use Rattle.epoch_draft.proofs.Lists.{same_or_other}
+use Rattle.epoch_draft.proofs.Moves.{equal_number, is_itself}
+use Rattle.epoch_draft.proofs.SuitLemmas.{published_kinds, tuple_suits}
+
+or-true : (a : Bool) → (a || true) ≡ true
+or-true true = refl
+or-true false = refl
+
+or-false : (a : Bool) → (a || false) ≡ a
+or-false true = refl
+or-false false = refl
+
+turned : (m n : ℕ) → (m == n) ≡ false → (n == m) ≡ false
+turned m n e = grind (arith, nat_tests)
+
+other_test : (m n : ℕ) → (m ≡ n → ⊥) → (m == n) ≡ false
+other_test m n ne = grind (arith, nat_tests)
+
+none_in : {X : Type 0} (x : X) → Contains [] x → ⊥
+none_in x c = absurd (omega arith)
+
+-- a listed number is tested to be
+pub in_contains : (xs : List ℕ) (n : ℕ) → Contains xs n → is_in xs n ≡ true
+in_contains [] n c = absurd (none_in n c)
+in_contains (x ∷ xs) n c = go (Contains-append_cases (x ∷ []) xs n c) (in_contains xs n)
+  where
+    first : Contains [] n ⊎ (x ≡ n) → is_in (x ∷ xs) n ≡ true
+    first (inl c) = absurd (none_in n c)
+    first (inr same) = ap (λ m. (n == m) || is_in xs n) same ∙ ap (λ b. b || is_in xs n) (is_itself n)
+
+    go : Contains (x ∷ []) n ⊎ Contains xs n → (Contains xs n → is_in xs n ≡ true) → is_in (x ∷ xs) n ≡ true
+    go (inl c) rest = first (Contains-push_cases [] x n c)
+    go (inr c) rest = ap (λ b. (n == x) || b) (rest c) ∙ or-true (n == x)
+
+-- a number that is tested to be listed is
+pub contains_in : (xs : List ℕ) (n : ℕ) → is_in xs n ≡ true → Contains xs n
+contains_in [] n e = absurd (cc)
+contains_in (x ∷ xs) n e = go (n == x) refl e (contains_in xs n)
+  where
+    go : (b : Bool) → (n == x) ≡ b → (b || is_in xs n) ≡ true → (is_in xs n ≡ true → Contains xs n) → Contains (x ∷ xs) n
+    go true is e rest = subst (Contains (x ∷ xs)) (sym (equal_number n x is)) (Contains-append_left (x ∷ []) xs x (Contains-push [] x))
+    go false is e rest = Contains-append_right (x ∷ []) xs n (rest e)
+
+in_push : (xs : List ℕ) (s t : ℕ) → is_in (xs ++ s ∷ []) t ≡ (is_in xs t || (t == s))
+in_push xs s t = list_any-append (λ n. t == n) xs (s ∷ []) ∙ ap (λ b. is_in xs t || b) (or-false (t == s))
+
+not_in : (xs : List ℕ) (n : ℕ) → (Contains xs n → ⊥) → is_in xs n ≡ false
+not_in xs n absent = go (is_in xs n) refl
+  where
+    go : (b : Bool) → is_in xs n ≡ b → b ≡ false
+    go true e = absurd (absent (contains_in xs n e))
+    go false e = refl
+
+-- a stream of the order isn't done before it is reached
+pub not_done : (lines : List Line) (done : List ℕ) (s : ℕ) (rest : List ℕ) → IsInOrder lines (done ++ (s ∷ rest)) → is_in done s ≡ false
+not_done lines [] s rest ordered = refl
+not_done lines (t ∷ done) s rest ordered = ap (λ b. b || is_in done s) (turned t s apart) ∙ not_done lines done s rest ordered.2
+  where
+    apart : (t == s) ≡ false
+    apart = (or_parts (t == s) (is_in rest t) (or_parts (is_in done t) ((t == s) || is_in rest t) (sym (list_any-append (λ n. t == n) done (s ∷ rest)) ∙ ordered.1)).1).0
+
+-- an item that is put in its place comes to the others
+put_permutes : {X : Type 0} (R : X → X → Ordering) (x : X) (xs : List X) → IsPermutation (put R x xs) (x ∷ xs)
+put_permutes R x [] = IsPermutation-refl (x ∷ [])
+put_permutes R x (y ∷ ys) =
+    elim (is_gt (R x y)) as (λ b. IsPermutation (cond b (y ∷ put R x ys) (x ∷ y ∷ ys)) (x ∷ y ∷ ys)) [
+      | true ↦ IsPermutation-trans _ _ _ (IsPermutation-cons y _ _ (put_permutes R x ys)) (IsPermutation-middle (y ∷ []) x ys)
+      | false ↦ IsPermutation-refl _
+    ]
+
+-- tuples that are put in order are the same tuples
+pub sort_permutes : (xs : List Row) → IsPermutation (sorted xs) xs
+sort_permutes [] = IsPermutation-refl []
+sort_permutes (x ∷ xs) = IsPermutation-trans _ _ _ (put_permutes tuple_cmp x (sorted xs)) (IsPermutation-cons x _ _ (sort_permutes xs))
+
+-- tuples in order stay as they are
+pub sort_twice : (xs : List Row) → sorted (sorted xs) ≡ sorted xs
+sort_twice xs = sort_permuted tuple_cmp tuple_total tuple_exact (sorted xs) xs (sort_permutes xs)
+
+-- tuples of a stream's kinds are suited
+pub rows_suit : (net : Net) → IsNetwork net → (kinds : List (List Kind)) (stores : List (Option Plain)) → IsTyped net kinds stores → (s : ℕ) → s < length kinds → (rows : List Row) → ((known : List Kind) → slice_get kinds s ≡ Some known → All (HasKinds known) rows)
+    → All (TupleSuits net (held stores) s) rows
+rows_suit net network kinds stores typed s lt rows have =
+    let known = get_or kinds s [] in
+    let is = slice_get-get_or kinds s [] lt in
+    All-weaker (HasKinds known) (TupleSuits net (held stores) s) (λ r h. tuple_suits net network kinds stores typed s known is r h) rows (have known is)
+
+-- the open tuples of one stream more
+pub opened_step : (opened : List (List Row)) (done : List ℕ) (s : ℕ) → with_stream (opened_of opened done) s (get_or opened s []) ≡ opened_of opened (done ++ s ∷ [])
+opened_step opened done s = λ i t. each t i
+  where
+    go : (t : ℕ) (b d : Bool) → (t == s) ≡ b → cond b (get_or opened s []) (cond d (get_or opened t []) []) ≡ cond (d || b) (get_or opened t []) []
+    go t true d e = ap (λ k. get_or opened k []) (sym (equal_number t s e)) ∙ sym (ap (λ c. cond c (get_or opened t []) []) (or-true d))
+    go t false d e = sym (ap (λ c. cond c (get_or opened t []) []) (or-false d))
+
+    each : (t : ℕ) → with_stream (opened_of opened done) s (get_or opened s []) t ≡ opened_of opened (done ++ s ∷ []) t
+    each t = go t (t == s) (is_in done t) refl ∙ ap (λ c. cond c (get_or opened t []) []) (sym (in_push done s t))
+
+-- a stream that is not met yet has none of its open tuples
+pub opened_none : (opened : List (List Row)) (done : List ℕ) (s : ℕ) → (Contains done s → ⊥) → opened_of opened done s ≡ []
+opened_none opened done s absent = ap (λ b. cond b (get_or opened s []) []) (not_in done s absent)
+
+-- once each stream with open tuples is met, the open tuples are all news so far
+pub opened_all : (opened made : List (List Row)) (touched : List ℕ) → AreOpened opened touched → opened_of opened touched ≡ news_of opened made []
+opened_all opened made touched are = λ i t. each t i
+  where
+    go : (t : ℕ) (b : Bool) → is_in touched t ≡ b → (get_or opened t [] ≡ []) ⊎ Contains touched t → cond b (get_or opened t []) [] ≡ get_or opened t []
+    go t true e h = refl
+    go t false e (inl none) = sym none
+    go t false e (inr there) = absurd (let yes = in_contains touched t there in cc)
+
+    each : (t : ℕ) → opened_of opened touched t ≡ get_or opened t []
+    each t = go t (is_in touched t) refl (are.all t)
+
+-- no stream is met yet
+pub paired_none : (net : Net) (pairs : List Pair) → pairs ≡ [] → Paired net (λ _. []) pairs
+paired_none net pairs none = record {
+  sound = subst (All (λ (p : Pair). Contains (waits_on net p.stream) p.state × (p.place < length {A = Row} []))) (sym none) (All-nil (λ (p : Pair). Contains (waits_on net p.stream) p.state × (p.place < length {A = Row} [])));
+  listed = λ s k r e n c. absurd (cc);
+}
+
+-- one more of the open streams is met
+pub opened_more : (net : Net) (stores : Stores) (opened : List (List Row)) (touched : List ℕ) (i : ℕ) (old new : Draft) (pairs more : List Pair) → IsNetwork net → i < length touched → (Contains (take i touched) (get_or touched i 0) → ⊥)
+    → Drawn net stores (opened_of opened (take i touched)) old → Paired net (opened_of opened (take i touched)) pairs
+    → Grows net (moves_of_all net stores (get_or touched i 0) (get_or opened (get_or touched i 0) [])) old new → ListsAll net (get_or touched i 0) (get_or opened (get_or touched i 0) []) pairs more
+    → Drawn net stores (opened_of opened (take (i + 1) touched)) new × Paired net (opened_of opened (take (i + 1) touched)) more
+opened_more net stores opened touched i old new pairs more network lt once drawn paired grows lists = (
+  subst (λ (seen : Streams). Drawn net stores seen new) (ap (with_stream seen s) longer ∙ later) (drawn_comes net stores seen s rows old new network drawn grows),
+  subst (λ (seen : Streams). Paired net seen more) later (paired_comes net seen s rows pairs more none paired lists),
+)
+  where
+    s : ℕ
+    s = get_or touched i 0
+
+    rows : List Row
+    rows = get_or opened s []
+
+    seen : Streams
+    seen = opened_of opened (take i touched)
+
+    none : seen s ≡ []
+    none = opened_none opened (take i touched) s once
+
+    longer : seen s ++ rows ≡ rows
+    longer = ap (λ xs. xs ++ rows) none
+
+    later : with_stream seen s rows ≡ opened_of opened (take (i + 1) touched)
+    later = opened_step opened (take i touched) s ∙ ap (opened_of opened) (sym (take_more touched i 0 lt))
+
+-- once all are
+pub opened_drawn : (net : Net) (layout : Layout) (stores : List (Option Plain)) (opened : List (List Row)) (touched : List ℕ) (draft : Draft) (pairs : List Pair) → CanDraw net layout stores opened → AreOpened opened touched
+    → DraftFits (length layout.kinds) (length net) draft → Drawn net (held stores) (opened_of opened touched) draft → Paired net (opened_of opened touched) pairs → DrawnUpTo net layout stores opened [] draft pairs
+opened_drawn net layout stores opened touched draft pairs can are fits drawn paired = record {
+  fits = fits;
+  drawn = subst (λ (seen : Streams). Drawn net (held stores) seen draft) (opened_all opened draft.made touched are) drawn;
+  paired = subst (λ (seen : Streams). Paired net seen pairs) (opened_all opened draft.made touched are) paired;
+  epoch = epoch_starts net (held stores) (streams_of opened) (streams_of opened) (λ s. IsPermutation-refl (get_or opened s []));
+  kinds = can.kinds;
+  ordered = All-nil (λ s. sorted (get_or draft.made s []) ≡ get_or draft.made s []);
+}
+
+-- the tuples once a stream more is done
+news_step : (opened made more : List (List Row)) (done : List ℕ) (s : ℕ) (rows : List Row) → get_or more s [] ≡ rows → ((t : ℕ) → (t == s) ≡ false → is_in done t ≡ true → get_or more t [] ≡ get_or made t []) → with_stream (news_of opened made done) s rows ≡ news_of opened more (done ++ s ∷ [])
+news_step opened made more done s rows is same = λ i t. each t i
+  where
+    go : (t : ℕ) (b d : Bool) → (t == s) ≡ b → is_in done t ≡ d → cond b rows (cond d (get_or made t []) (get_or opened t [])) ≡ cond (d || b) (get_or more t []) (get_or opened t [])
+    go t true true e f = sym (ap (λ k. get_or more k []) (equal_number t s e) ∙ is)
+    go t true false e f = sym (ap (λ k. get_or more k []) (equal_number t s e) ∙ is)
+    go t false true e f = sym (same t e f)
+    go t false false e f = refl
+
+    each : (t : ℕ) → with_stream (news_of opened made done) s rows t ≡ news_of opened more (done ++ s ∷ []) t
+    each t = go t (t == s) (is_in done t) refl refl ∙ ap (λ c. cond c (get_or more t []) (get_or opened t [])) (sym (in_push done s t))
+
+same_sums : (f g : ℕ → ℕ) (xs : List ℕ) → All (λ x. f x ≡ g x) xs → sum_by f xs ≡ sum_by g xs
+same_sums f g [] all = refl
+same_sums f g (x ∷ xs) all =
+    let one = All-head (λ x. f x ≡ g x) x xs all in
+    let more = same_sums f g xs (All-tail (λ x. f x ≡ g x) x xs all) in
+    sum_by-cons f x xs ∙ (λ k. one k + more k) ∙ sym (sum_by-cons g x xs)
+
+module _ (net : Net) (layout : Layout) (stores : List (Option Plain)) (opened : List (List Row)) (can : CanDraw net layout stores opened) (i : ℕ) (lt : i < length layout.order) where
+  abbrev order : List ℕ
+  order = layout.order
+
+  abbrev s : ℕ
+  s = get_or layout.order i 0
+
+  abbrev done : List ℕ
+  done = take i layout.order
+
+  split : order ≡ done ++ (s ∷ drop (i + 1) order)
+  split =
+      sym (take-append-drop i order) ∙ ap (λ xs. take i order ++ xs) (drop-cons order i 0 lt) ∙ ap (λ (k : ℕ). take i order ++ (s ∷ drop k order)) (sym (add-one i))
+
+  serves : Serves net can.lines (done ++ (s ∷ drop (i + 1) order))
+  serves = subst (Serves net can.lines) split can.serves
+
+  underived : get_or opened s [] ≡ []
+  underived = All-get_or (λ t. get_or opened t [] ≡ []) order i 0 lt can.underived
+
+  pub below : s < length layout.kinds
+  below = All-get_or (λ t. t < length layout.kinds) order i 0 lt can.order
+
+  apart : is_in done s ≡ false
+  apart = not_done can.lines done s (drop (i + 1) order) serves.in_order
+
+  -- the stream has no tuples yet
+  unseen : (made : List (List Row)) → news_of opened made done s ≡ []
+  unseen made = ap (λ b. cond b (get_or made s []) (get_or opened s [])) apart ∙ underived
+
+  -- what is made for it suits
+  pub made_suits : (draft : Draft) (pairs : List Pair) → DrawnUpTo net layout stores opened done draft pairs → All (TupleSuits net (held stores) s) (get_or draft.made s [])
+  made_suits draft pairs was =
+      rows_suit net can.network layout.kinds stores can.typed s below (get_or draft.made s [])
+      (λ known is.
+      All-permutation (HasKinds known) (published net (news_of opened draft.made done) (held stores) s) (get_or draft.made s []) (IsPermutation-sym _ _ (was.drawn.made s))
+      (published_kinds net can.network layout.kinds stores can.typed (news_of opened draft.made done) was.kinds s known is))
+
+  -- a stream that isn't due
+  pub idle_step : (draft : Draft) (pairs : List Pair) → get_or draft.made s [] ≡ [] → DrawnUpTo net layout stores opened done draft pairs → DrawnUpTo net layout stores opened (take (i + 1) order) draft pairs
+  idle_step draft pairs idle was =
+      subst (λ (d : List ℕ). DrawnUpTo net layout stores opened d draft pairs) (sym (take_more order i 0 lt)) (record {
+        fits = was.fits;
+        drawn = subst (λ (seen : Streams). Drawn net (held stores) seen draft) same was.drawn;
+        paired = subst (λ (seen : Streams). Paired net seen pairs) same was.paired;
+        epoch =
+            subst (IsEpoch net (done ++ s ∷ []) (held stores) (streams_of opened)) step
+            (epoch_grows net can.lines done s (drop (i + 1) order) (held stores) (streams_of opened) (news_of opened draft.made done) [] serves was.epoch (permuted_from (sym idle) (was.drawn.made s)));
+        kinds = subst (HaveKinds layout.kinds) same was.kinds;
+        ordered = All-push (λ t. sorted (get_or draft.made t []) ≡ get_or draft.made t []) done s was.ordered (ap sorted idle ∙ sym idle);
+      })
+    where
+      step : with_stream (news_of opened draft.made done) s [] ≡ news_of opened draft.made (done ++ s ∷ [])
+      step = news_step opened draft.made draft.made done s [] idle (λ t e f. refl)
+
+      same : news_of opened draft.made done ≡ news_of opened draft.made (done ++ s ∷ [])
+      same =
+          sym (with_none net (held stores) s (news_of opened draft.made done)) ∙ ap (λ (rows : List Row). with_stream (news_of opened draft.made done) s (rows ++ [])) (unseen draft.made) ∙ step
+
+  -- one that is
+  module _ (old new : Draft) (pairs more : List Pair) (was : DrawnUpTo net layout stores opened done old pairs) (derives : Derives net (held stores) s old new pairs more) where
+    abbrev seen : Streams
+    seen = news_of opened old.made done
+
+    abbrev rows : List Row
+    rows = derives.tuples
+
+    abbrev later : Streams
+    later = with_stream seen s rows
+
+    abbrev moves : List Move
+    moves = moves_of_all net (held stores) s rows
+
+    published_rows : IsPermutation rows (published net seen (held stores) s)
+    published_rows = IsPermutation-trans _ _ _ derives.same (was.drawn.made s)
+
+    grown : IsEpoch net (done ++ s ∷ []) (held stores) (streams_of opened) later
+    grown = epoch_grows net can.lines done s (drop (i + 1) order) (held stores) (streams_of opened) seen rows serves was.epoch published_rows
+
+    comes : IsPermutation (moves_seen net (held stores) later) (moves_seen net (held stores) seen ++ moves)
+    comes = subst (λ (ts : List Row). IsPermutation (moves_seen net (held stores) (with_stream seen s (ts ++ rows))) (moves_seen net (held stores) seen ++ moves)) (unseen old.made) (stream_comes net (held stores) s rows seen)
+
+    there : s < length derives.met.made
+    there = let e = derives.grows.fits.made in let f = length-set old.made s [] in omega (arith, e, f, was.fits.made, below)
+
+    own : get_or new.made s [] ≡ rows
+    own = ap (λ (l : List (List Row)). get_or l s []) derives.made ∙ get_or-set_at derives.met.made s s rows [] refl there
+
+    others : (t : ℕ) → (t ≡ s → ⊥) → Adds (made_of t moves) (get_or old.made t []) (get_or new.made t [])
+    others t other =
+        let adds = derives.grows.made t in record {
+          added = adds.added;
+          is =
+              ap (λ (l : List (List Row)). get_or l t []) derives.made ∙ get_or-set_other derives.met.made s t rows [] other ∙ adds.is ∙ ap (λ xs. xs ++ adds.added) (get_or-set_other old.made s t [] [] other);
+          same = adds.same;
+        }
+
+    own_published : IsPermutation rows (published net later (held stores) s)
+    own_published =
+        permuted_from (sym (ap (λ b. cond b rows (seen s)) (is_itself s)))
+        (All_last (λ t. IsPermutation (later t) (published net later (held stores) t)) done s grown.derived)
+
+    made_at : (t : ℕ) → (t ≡ s) ⊎ (t ≡ s → ⊥) → IsPermutation (get_or new.made t []) (published net later (held stores) t)
+    made_at t (inl same) = subst (λ u. IsPermutation (get_or new.made u []) (published net later (held stores) u)) (sym same) (permuted_from own own_published)
+    made_at t (inr other) = made_grows net (held stores) seen later moves t (get_or old.made t []) (get_or new.made t []) comes (was.drawn.made t) (others t other)
+
+    drawn : Drawn net (held stores) later new
+    drawn = record {
+      made = λ t. made_at t (same_or_other t s);
+      bound = λ n b hop at.
+          bound_grows net can.network (held stores) seen later moves n b hop at (get_or old.beads n []) (get_or new.beads n []) comes (was.drawn.bound n b hop at)
+          (permuted_from (ap (λ (l : List (List Instance)). get_or l n []) derives.beads) (derives.grows.bound n));
+      unbound = λ n none.
+          unbound_grows net can.network (held stores) s rows n (get_or old.beads n []) (get_or new.beads n []) none
+          (permuted_from (ap (λ (l : List (List Instance)). get_or l n []) derives.beads) (derives.grows.bound n)) (was.drawn.unbound n none);
+    }
+
+    -- a stream that was done has no more
+    kept : (t : ℕ) → (t == s) ≡ false → is_in done t ≡ true → get_or new.made t [] ≡ get_or old.made t []
+    kept t e f =
+        let before : IsPermutation (later t) (published net later (held stores) t) =
+        All-contains (λ t. IsPermutation (later t) (published net later (held stores) t)) done t (all_left (λ t. IsPermutation (later t) (published net later (held stores) t)) done (s ∷ []) grown.derived) (contains_in done t f) in
+        let is : later t ≡ get_or old.made t [] = ap (λ b. cond b rows (seen t)) e ∙ ap (λ b. cond b (get_or old.made t []) (get_or opened t [])) f in
+        let adds = others t (λ same. absurd (let no = ap (λ k. k == s) same ∙ is_itself s in cc)) in
+        let one : length (published net later (held stores) t) ≡ length (get_or old.made t []) = length_permutation _ _ before ∙ ap length is in
+        let two : length (published net later (held stores) t) ≡ length (get_or new.made t []) = length_permutation _ _ (drawn.made t) in
+        let three : length (get_or new.made t []) ≡ length (get_or old.made t []) + length adds.added = ap length adds.is ∙ length-append (get_or old.made t []) adds.added in
+        adds.is ∙ ap (λ xs. get_or old.made t [] ++ xs) (no_length adds.added (omega (arith, one, two, three))) ∙ append-nil (get_or old.made t [])
+
+    kinds : HaveKinds layout.kinds later
+    kinds t known is = go (t == s) refl
+      where
+        go : (b : Bool) → (t == s) ≡ b → All (HasKinds known) (cond b rows (seen t))
+        go true e =
+            All-permutation (HasKinds known) (published net seen (held stores) s) rows (IsPermutation-sym _ _ published_rows)
+            (published_kinds net can.network layout.kinds stores can.typed seen was.kinds s known (ap (slice_get layout.kinds) (sym (equal_number t s e)) ∙ is))
+        go false e = was.kinds t known is
+
+    step : later ≡ news_of opened new.made (done ++ s ∷ [])
+    step = news_step opened old.made new.made done s rows own kept
+
+    -- a stream that was done is another one
+    apart_from : (t : ℕ) → is_in done t ≡ true → (t == s) ≡ false
+    apart_from t f = go (t == s) refl
+      where
+        go : (b : Bool) → (t == s) ≡ b → b ≡ false
+        go true e = absurd (let no = sym f ∙ ap (is_in done) (equal_number t s e) ∙ apart in cc)
+        go false e = refl
+
+    -- those that were done have their tuples in order, and so has this one
+    ordered : AreOrdered new.made (done ++ s ∷ [])
+    ordered =
+        All-push (λ t. sorted (get_or new.made t []) ≡ get_or new.made t []) done s
+        (All-weaker (Contains done) (λ t. sorted (get_or new.made t []) ≡ get_or new.made t []) each done (All-contains_itself done))
+        (ap sorted own ∙ derives.ordered ∙ sym own)
+      where
+        each : (t : ℕ) → Contains done t → sorted (get_or new.made t []) ≡ get_or new.made t []
+        each t c =
+            let f = in_contains done t c in
+            let same = kept t (apart_from t f) f in
+            ap sorted same ∙ All-contains (λ u. sorted (get_or old.made u []) ≡ get_or old.made u []) done t was.ordered c ∙ sym same
+
+    pub derived_step : DrawnUpTo net layout stores opened (take (i + 1) order) new more
+    derived_step =
+        subst (λ (d : List ℕ). DrawnUpTo net layout stores opened d new more) (sym (take_more order i 0 lt)) (record {
+          fits = subst (λ (m : ℕ). DraftFits m (length net) new) was.fits.made derives.fits;
+          drawn = subst (λ (seen : Streams). Drawn net (held stores) seen new) step drawn;
+          paired = subst (λ (seen : Streams). Paired net seen more) step (paired_comes net seen s rows pairs more (unseen old.made) was.paired derives.lists);
+          epoch = subst (IsEpoch net (done ++ s ∷ []) (held stores) (streams_of opened)) step grown;
+          kinds = subst (HaveKinds layout.kinds) step kinds;
+          ordered = ordered;
+        })
+
+    -- what it adds to the tests
+    pub derived_work : streams_work net (held stores) new.made (take (i + 1) order) ≡ streams_work net (held stores) old.made done + stream_work net (held stores) s (get_or old.made s [])
+    derived_work =
+        sum_by_more work order i 0 lt
+        ∙ (λ k. same_sums work before done same k + mine k)
+      where
+        work : ℕ → ℕ
+        work t = stream_work net (held stores) t (get_or new.made t [])
+
+        before : ℕ → ℕ
+        before t = stream_work net (held stores) t (get_or old.made t [])
+
+        same : All (λ t. work t ≡ before t) done
+        same =
+            All-weaker (Contains done) (λ t. work t ≡ before t) (λ t c. let f = in_contains done t c in ap (stream_work net (held stores) t) (kept t (apart_from t f) f)) done (All-contains_itself done)
+
+        mine : work s ≡ stream_work net (held stores) s (get_or old.made s [])
+        mine = ap (stream_work net (held stores) s) own ∙ sym (sum_by-IsPermutation (tuple_work net (held stores) s) rows (get_or old.made s []) derives.same)
+
+-- a stream that is not marked has no tuples
+pub unmarked_none : (ts : List Row) (marked : List ℕ) (s : ℕ) → (ts ≡ []) ⊎ Contains marked s → (Contains marked s → ⊥) → ts ≡ []
+unmarked_none ts marked s (inl none) absent = none
+unmarked_none ts marked s (inr there) absent = absurd (absent there)

@@ -1,0 +1,253 @@
+-- Drafts that have something more.
+use Rattle.std.proofs.Common.{◌≡◌, ◌∙◌, sym, ap, refl, subst, inl, inr, ℕ, zero, suc, ◌<◌, ◌⊎◌, ◌==◌, Bool, true, false, cond, length, get_or, set, List, [], ◌∷◌, ◌++◌, map, append_assoc, arith}
+use Rattle.std.specs.Prelude.{Contains, Some, None, option_to_list}
+use Rattle.std.specs.List.Sorted.{IsPermutation}
+use Rattle.std.proofs.lemmas.Bool.Decides.{nat_tests}
+use Rattle.std.proofs.lemmas.Grind.{flat_map-append, get_or-set_at}
+use Rattle.std.proofs.lemmas.List.{append-nil, get_or-set_other, length-set, map-append}
+use Rattle.std.proofs.lemmas.List.Sorted.{IsPermutation-append, IsPermutation-append_left, IsPermutation-append_right, IsPermutation-map, IsPermutation-refl, IsPermutation-sym, IsPermutation-to_front, IsPermutation-trans}
+use Rattle.event_types.specs.Tuple.{Row}
+use Rattle.instances.specs.declared.instance.Instance.{Instance}
+use Rattle.scalar_expr.proofs.Bags.{flat_map_permuted, permuted_from, permuted_to}
+use Rattle.automaton.specs.States.{Net, step_at}
+use Rattle.automaton.specs.Steps.{pass}
+use Rattle.automaton.specs.declared.network.End.{End}
+use Rattle.epoch_laws.specs.Instances.{instance_of}
+use Rattle.epoch_laws.proofs.Bags.{permuted_is}
+use Rattle.epoch_draft.specs.Drafts.{Adds, DraftFits, Grows}
+use Rattle.epoch_draft.specs.Marks.{MarksMore}
+use Rattle.epoch_draft.specs.Moves.{Back, Into, Move, Out, Way, bound_by, bound_of, made_by, made_of, moves_on}
+use Rattle.epoch_draft.specs.declared.draft.Draft.{Draft}
+use Rattle.epoch_draft.specs.declared.marks.Marks.{Marks}
+use Rattle.epoch_draft.proofs.Lists.{same_or_other}
+
+-- tuples of one stream
+pub made_fits : (old : Draft) (s : ℕ) (rows : List Row) (due : Marks) → DraftFits (length old.made) (length old.beads) old → MarksMore old.due due → Contains due.numbers s
+    → DraftFits (length old.made) (length old.beads) (record { made = set old.made s rows; beads = old.beads; due = due; reached = old.reached })
+made_fits old s rows due fits more marked = record {
+  made = length-set old.made s rows;
+  beads = refl;
+  due = more.are;
+  due_below = more.as_many ∙ fits.due_below;
+  reached = fits.reached;
+  reached_below = fits.reached_below;
+  due_all = λ t. go t (same_or_other t s);
+  reached_all = fits.reached_all;
+}
+  where
+    kept : (t : ℕ) → (t ≡ s → ⊥) → (get_or old.made t [] ≡ []) ⊎ Contains old.due.numbers t → (get_or (set old.made s rows) t [] ≡ []) ⊎ Contains due.numbers t
+    kept t other (inl none) = inl (get_or-set_other old.made s t rows [] other ∙ none)
+    kept t other (inr there) = inr (more.kept t there)
+
+    go : (t : ℕ) → (t ≡ s) ⊎ (t ≡ s → ⊥) → (get_or (set old.made s rows) t [] ≡ []) ⊎ Contains due.numbers t
+    go t (inl same) = inr (subst (Contains due.numbers) (sym same) marked)
+    go t (inr other) = kept t other (fits.due_all t)
+
+-- beads of one state
+pub beads_fit : (old : Draft) (w : ℕ) (beads : List Instance) (reached : Marks) → DraftFits (length old.made) (length old.beads) old → MarksMore old.reached reached → Contains reached.numbers w
+    → DraftFits (length old.made) (length old.beads) (record { made = old.made; beads = set old.beads w beads; due = old.due; reached = reached })
+beads_fit old w beads reached fits more marked = record {
+  made = refl;
+  beads = length-set old.beads w beads;
+  due = fits.due;
+  due_below = fits.due_below;
+  reached = more.are;
+  reached_below = more.as_many ∙ fits.reached_below;
+  due_all = fits.due_all;
+  reached_all = λ v. go v (same_or_other v w);
+}
+  where
+    kept : (v : ℕ) → (v ≡ w → ⊥) → (get_or old.beads v [] ≡ []) ⊎ Contains old.reached.numbers v → (get_or (set old.beads w beads) v [] ≡ []) ⊎ Contains reached.numbers v
+    kept v other (inl none) = inl (get_or-set_other old.beads w v beads [] other ∙ none)
+    kept v other (inr there) = inr (more.kept v there)
+
+    go : (v : ℕ) → (v ≡ w) ⊎ (v ≡ w → ⊥) → (get_or (set old.beads w beads) v [] ≡ []) ⊎ Contains reached.numbers v
+    go v (inl same) = inr (subst (Contains reached.numbers) (sym same) marked)
+    go v (inr other) = kept v other (fits.reached_all v)
+
+module _ {X : Type 0} where
+  pub adds_none : (old new : List X) → new ≡ old → Adds [] old new
+  adds_none old new e = record { added = []; is = e ∙ sym (append-nil old); same = IsPermutation-refl [] }
+
+  pub adds_same : (a b old new : List X) → IsPermutation a b → Adds a old new → Adds b old new
+  adds_same a b old new h adds = record { added = adds.added; is = adds.is; same = IsPermutation-trans _ _ _ adds.same h }
+
+  pub adds_trans : (a b old mid new : List X) → Adds a old mid → Adds b mid new → Adds (a ++ b) old new
+  adds_trans a b old mid new one two = record {
+    added = one.added ++ two.added;
+    is = two.is ∙ ap (λ xs. xs ++ two.added) one.is ∙ append_assoc old one.added two.added;
+    same = IsPermutation-append one.added a two.added b one.same two.same;
+  }
+
+made_append : (s : ℕ) (a b : List Move) → made_of s (a ++ b) ≡ made_of s a ++ made_of s b
+made_append s a b = flat_map-append (λ (m : Move). made_by s m.tuple m.way) a b
+
+bound_append : (net : Net) (w : ℕ) (a b : List Move) → bound_of net w (a ++ b) ≡ bound_of net w a ++ bound_of net w b
+bound_append net w a b = flat_map-append (λ (m : Move). bound_by net w m.tuple m.way) a b
+
+-- nothing moved
+pub grows_none : (net : Net) (old : Draft) → DraftFits (length old.made) (length net) old → Grows net [] old old
+grows_none net old fits = record {
+  fits = fits;
+  made = λ s. adds_none (get_or old.made s []) (get_or old.made s []) refl;
+  bound = λ w. permuted_is (sym (append-nil (get_or old.beads w [])));
+}
+
+-- the same moves in another order
+pub grows_same : (net : Net) (a b : List Move) (old new : Draft) → IsPermutation a b → Grows net a old new → Grows net b old new
+grows_same net a b old new h grows = record {
+  fits = grows.fits;
+  made = λ s. adds_same (made_of s a) (made_of s b) (get_or old.made s []) (get_or new.made s []) (flat_map_permuted (λ (m : Move). made_by s m.tuple m.way) a b h) (grows.made s);
+  bound = λ w.
+      IsPermutation-trans _ _ _ (grows.bound w)
+      (IsPermutation-append_right (get_or old.beads w []) (map instance_of (bound_of net w a)) (map instance_of (bound_of net w b))
+      (IsPermutation-map instance_of (bound_of net w a) (bound_of net w b) (flat_map_permuted (λ (m : Move). bound_by net w m.tuple m.way) a b h)));
+}
+
+-- moves after moves
+pub grows_trans : (net : Net) (a b : List Move) (old mid new : Draft) → Grows net a old mid → Grows net b mid new → Grows net (a ++ b) old new
+grows_trans net a b old mid new one two = record {
+  fits = subst (λ (m : ℕ). DraftFits m (length net) new) one.fits.made two.fits;
+  made = λ s.
+      subst (λ (rows : List Row). Adds rows (get_or old.made s []) (get_or new.made s [])) (sym (made_append s a b))
+      (adds_trans (made_of s a) (made_of s b) (get_or old.made s []) (get_or mid.made s []) (get_or new.made s []) (one.made s) (two.made s));
+  bound = λ w.
+      let f = bound_of net w in
+      permuted_to
+      (IsPermutation-trans _ _ _ (two.bound w) (IsPermutation-append_left (map instance_of (f b)) (get_or mid.beads w []) (get_or old.beads w [] ++ map instance_of (f a)) (one.bound w)))
+      (append_assoc (get_or old.beads w []) (map instance_of (f a)) (map instance_of (f b))
+      ∙ ap (λ xs. get_or old.beads w [] ++ xs) (sym (map-append instance_of (f a) (f b)))
+      ∙ ap (λ rows. get_or old.beads w [] ++ map instance_of rows) (sym (bound_append net w a b)));
+}
+
+equal_number : (m n : ℕ) → (m == n) ≡ true → m ≡ n
+equal_number m n e = grind (arith, nat_tests)
+
+same_test : (m n : ℕ) → m ≡ n → (m == n) ≡ true
+same_test m n e = grind (arith, nat_tests)
+
+other_test : (m n : ℕ) → (m ≡ n → ⊥) → (m == n) ≡ false
+other_test m n ne = grind (arith, nat_tests)
+
+-- one list of tuples is longer by those of the stream
+made_adds : (s : ℕ) (rows : List Row) (old : List (List Row)) (t : ℕ) → s < length old → (made : List Row) → made ≡ cond (s == t) rows [] → Adds made (get_or old t []) (get_or (set old s (get_or old s [] ++ rows)) t [])
+made_adds s rows old t lt made e = go (same_or_other t s)
+  where
+    go : (t ≡ s) ⊎ (t ≡ s → ⊥) → Adds made (get_or old t []) (get_or (set old s (get_or old s [] ++ rows)) t [])
+    go (inl same) = record {
+      added = rows;
+      is = get_or-set_at old s t (get_or old s [] ++ rows) [] same lt ∙ ap (λ k. get_or old k [] ++ rows) (sym same);
+      same = permuted_is (sym (e ∙ ap (λ b. cond b rows []) (same_test s t (sym same))));
+    }
+    go (inr other) =
+        subst (λ (xs : List Row). Adds xs (get_or old t []) (get_or (set old s (get_or old s [] ++ rows)) t [])) (sym (e ∙ ap (λ b. cond b rows []) (other_test s t (λ eq. other (sym eq)))))
+        (adds_none (get_or old t []) (get_or (set old s (get_or old s [] ++ rows)) t []) (get_or-set_other old s t (get_or old s [] ++ rows) [] other))
+
+-- a tuple that goes out
+pub out_grows : (net : Net) (old new : Draft) (e : End) (x y : Row) → e.out < length old.made → pass e.step x ≡ Some y → length old.beads ≡ length net
+    → new.made ≡ set old.made e.out (get_or old.made e.out [] ++ y ∷ []) → new.beads ≡ old.beads → DraftFits (length old.made) (length old.beads) new → Grows net (moves_on (Out e ∷ []) x) old new
+out_grows net old new e x y lt passes many made beads fits = record {
+  fits = subst (λ (m : ℕ). DraftFits (length old.made) m new) many fits;
+  made = λ t.
+      subst (λ (lists : List (List Row)). Adds (made_of t (moves_on (Out e ∷ []) x)) (get_or old.made t []) (get_or lists t [])) (sym made)
+      (made_adds e.out (y ∷ []) old.made t lt (made_of t (moves_on (Out e ∷ []) x)) (append-nil (cond (e.out == t) (option_to_list (pass e.step x)) []) ∙ ap (λ o. cond (e.out == t) (option_to_list o) []) passes));
+  bound = λ w. permuted_is (ap (λ (lists : List (List Instance)). get_or lists w []) beads ∙ sym (append-nil (get_or old.beads w [])));
+}
+
+-- one that doesn't pass
+pub out_stays : (net : Net) (old : Draft) (e : End) (x : Row) → pass e.step x ≡ None → DraftFits (length old.made) (length net) old → Grows net (moves_on (Out e ∷ []) x) old old
+out_stays net old e x passes fits = record {
+  fits = fits;
+  made = λ t.
+      subst (λ (rows : List Row). Adds rows (get_or old.made t []) (get_or old.made t []))
+      (sym (append-nil (cond (e.out == t) (option_to_list (pass e.step x)) []) ∙ ap (λ o. cond (e.out == t) (option_to_list o) []) passes ∙ none (e.out == t))) (adds_none (get_or old.made t []) (get_or old.made t []) refl);
+  bound = λ w. permuted_is (sym (append-nil (get_or old.beads w [])));
+}
+  where
+    none : (b : Bool) → cond b (option_to_list {X = Row} None) [] ≡ []
+    none true = refl
+    none false = refl
+
+-- one chain is longer by a bead
+bound_adds : (w : ℕ) (y : Row) (old : List (List Instance)) (v : ℕ) → w < length old → (bound : List Row) → bound ≡ cond (w == v) (y ∷ []) []
+    → IsPermutation (get_or (set old w (instance_of y ∷ get_or old w [])) v []) (get_or old v [] ++ map instance_of bound)
+bound_adds w y old v lt bound e = go (same_or_other v w)
+  where
+    go : (v ≡ w) ⊎ (v ≡ w → ⊥) → IsPermutation (get_or (set old w (instance_of y ∷ get_or old w [])) v []) (get_or old v [] ++ map instance_of bound)
+    go (inl same) =
+        permuted_from (get_or-set_at old w v (instance_of y ∷ get_or old w []) [] same lt ∙ ap (λ k. instance_of y ∷ get_or old k []) (sym same))
+        (permuted_to (IsPermutation-sym _ _ (IsPermutation-to_front (get_or old v []) (instance_of y)))
+        (ap (λ rows. get_or old v [] ++ map instance_of rows) (sym (e ∙ ap (λ b. cond b (y ∷ []) []) (same_test w v (sym same))))))
+    go (inr other) =
+        permuted_is (get_or-set_other old w v (instance_of y ∷ get_or old w []) [] other ∙ sym (append-nil (get_or old v []))
+        ∙ ap (λ rows. get_or old v [] ++ map instance_of rows) (sym (e ∙ ap (λ b. cond b (y ∷ []) []) (other_test w v (λ eq. other (sym eq))))))
+
+-- a bead more on some way
+bead_grows : (net : Net) (old new : Draft) (way : Way) (w : ℕ) (x y : Row) → w < length old.beads → ((t : ℕ) → made_by t x way ≡ []) → ((v : ℕ) → bound_by net v x way ≡ cond (w == v) (y ∷ []) []) → length old.beads ≡ length net
+    → new.beads ≡ set old.beads w (instance_of y ∷ get_or old.beads w []) → new.made ≡ old.made → DraftFits (length old.made) (length old.beads) new → Grows net (moves_on (way ∷ []) x) old new
+bead_grows net old new way w x y lt none one many beads made fits = record {
+  fits = subst (λ (m : ℕ). DraftFits (length old.made) m new) many fits;
+  made = λ t.
+      subst (λ (rows : List Row). Adds rows (get_or old.made t []) (get_or new.made t [])) (sym (append-nil (made_by t x way) ∙ none t))
+      (adds_none (get_or old.made t []) (get_or new.made t []) (ap (λ (lists : List (List Row)). get_or lists t []) made));
+  bound = λ v.
+      permuted_from (ap (λ (lists : List (List Instance)). get_or lists v []) beads)
+      (bound_adds w y old.beads v lt (bound_of net v (moves_on (way ∷ []) x)) (append-nil (bound_by net v x way) ∙ one v));
+}
+
+-- a tuple that goes into a state
+pub into_grows : (net : Net) (old new : Draft) (w : ℕ) (x y : Row) → w < length old.beads → pass (step_at net w) x ≡ Some y → length old.beads ≡ length net
+    → new.beads ≡ set old.beads w (instance_of y ∷ get_or old.beads w []) → new.made ≡ old.made → DraftFits (length old.made) (length old.beads) new → Grows net (moves_on (Into w ∷ []) x) old new
+into_grows net old new w x y lt passes many beads made fits =
+    bead_grows net old new (Into w) w x y lt (λ t. refl) (λ v. ap (λ o. cond (w == v) (option_to_list o) []) passes) many beads made fits
+
+-- and one that goes back
+pub back_grows : (net : Net) (old new : Draft) (w : ℕ) (x : Row) → w < length old.beads → length old.beads ≡ length net
+    → new.beads ≡ set old.beads w (instance_of x ∷ get_or old.beads w []) → new.made ≡ old.made → DraftFits (length old.made) (length old.beads) new → Grows net (moves_on (Back w ∷ []) x) old new
+back_grows net old new w x lt many beads made fits = bead_grows net old new (Back w) w x x lt (λ t. refl) (λ v. refl) many beads made fits
+
+-- one that does not pass into a state
+pub into_stays : (net : Net) (old : Draft) (w : ℕ) (x : Row) → pass (step_at net w) x ≡ None → DraftFits (length old.made) (length net) old → Grows net (moves_on (Into w ∷ []) x) old old
+into_stays net old w x passes fits = record {
+  fits = fits;
+  made = λ t. adds_none (get_or old.made t []) (get_or old.made t []) refl;
+  bound = λ v.
+      permuted_is (sym (append-nil (get_or old.beads v []))
+      ∙ ap (λ rows. get_or old.beads v [] ++ map instance_of rows) (sym (append-nil (cond (w == v) (option_to_list (pass (step_at net w) x)) []) ∙ ap (λ o. cond (w == v) (option_to_list o) []) passes ∙ none (w == v))));
+}
+  where
+    none : (b : Bool) → cond b (option_to_list {X = Row} None) [] ≡ []
+    none true = refl
+    none false = refl
+
+-- tuples that are taken out
+pub without_fits : (old : Draft) (s : ℕ) → DraftFits (length old.made) (length old.beads) old → DraftFits (length old.made) (length old.beads) (record { made = set old.made s []; beads = old.beads; due = old.due; reached = old.reached })
+without_fits old s fits = record {
+  made = length-set old.made s [];
+  beads = refl;
+  due = fits.due;
+  due_below = fits.due_below;
+  reached = fits.reached;
+  reached_below = fits.reached_below;
+  due_all = λ t. go t (same_or_other t s) (fits.due_all t);
+  reached_all = fits.reached_all;
+}
+  where
+    kept : (t : ℕ) → (get_or (set old.made s []) t [] ≡ get_or old.made t []) → (get_or old.made t [] ≡ []) ⊎ Contains old.due.numbers t → (get_or (set old.made s []) t [] ≡ []) ⊎ Contains old.due.numbers t
+    kept t e (inl none) = inl (e ∙ none)
+    kept t e (inr there) = inr there
+
+    dropped : (t : ℕ) → t ≡ s → (get_or old.made t [] ≡ []) ⊎ Contains old.due.numbers t → (get_or (set old.made s []) t [] ≡ []) ⊎ Contains old.due.numbers t
+    dropped t same (inl none) = inl (cleared old.made s t same none)
+      where
+        cleared : (lists : List (List Row)) (s t : ℕ) → t ≡ s → get_or lists t [] ≡ [] → get_or (set lists s []) t [] ≡ []
+        cleared [] s t same none = refl
+        cleared (l ∷ lists) zero zero same none = refl
+        cleared (l ∷ lists) zero (suc t) same none = absurd (omega arith)
+        cleared (l ∷ lists) (suc s) zero same none = absurd (omega arith)
+        cleared (l ∷ lists) (suc s) (suc t) same none = cleared lists s t (omega arith) none
+    dropped t same (inr there) = inr there
+
+    go : (t : ℕ) → (t ≡ s) ⊎ (t ≡ s → ⊥) → (get_or old.made t [] ≡ []) ⊎ Contains old.due.numbers t → (get_or (set old.made s []) t [] ≡ []) ⊎ Contains old.due.numbers t
+    go t (inl same) h = dropped t same h
+    go t (inr other) h = kept t (get_or-set_other old.made s t [] [] other) h

@@ -1,0 +1,17 @@
+pub mod Comes
+pub mod DeriveLemmas
+pub mod DraftLemmas
+pub mod DrawnLemmas
+pub mod EdgeLemmas
+pub mod FindLemmas
+pub mod GoingLemmas
+pub mod Lists
+pub mod MarkLemmas
+pub mod MeetLemmas
+pub mod Moves
+pub mod PairLemmas
+pub mod PurgeLemmas
+pub mod SettleLemmas
+pub mod StateLemmas
+pub mod SuitLemmas
+pub mod WorkLemmas

@@ -1,0 +1,309 @@
+-- What the moves of tuples make.
+use Rattle.std.proofs.Common.{◌≡◌, ◌∙◌, sym, ap, refl, ℕ, zero, suc, ◌+◌, ◌<◌, ◌≤◌, ◌==◌, Bool, true, false, cond, length, List, [], ◌∷◌, ◌++◌, map, arith}
+use Rattle.std.specs.Prelude.{Option, Some, None, option_to_list, count_by}
+use Rattle.std.specs.Option.{option_and_then, option_map, unwrap_or}
+use Rattle.std.specs.List.{filter, filter_map, flat_map, range_with_len, cons_option}
+use Rattle.std.specs.List.Sorted.{IsPermutation}
+use Rattle.std.proofs.lemmas.Bool.Decides.{nat_tests}
+use Rattle.std.proofs.lemmas.Grind.{flat_map-append}
+use Rattle.std.proofs.lemmas.List.{append-nil}
+use Rattle.std.proofs.lemmas.List.Sorted.{IsPermutation-trans}
+use Rattle.event_types.specs.Tuple.{Row}
+use Rattle.scalar_expr.proofs.Bags.{flat_map_permuted, permuted_from, permuted_to}
+use Rattle.scalar_expr.proofs.RunsLemmas.{flat_map_same}
+use Rattle.automaton.specs.Flow.{entering}
+use Rattle.automaton.specs.Networks.{IsNetwork}
+use Rattle.automaton.specs.States.{Net, before_at, before_by, edges_at, ends_at, entry_at, step_at, step_by, tells, wait_at, wait_by}
+use Rattle.automaton.specs.Steps.{pass}
+use Rattle.automaton.specs.declared.line.Hop.{Hop}
+use Rattle.automaton.specs.declared.network.End.{End}
+use Rattle.automaton.specs.declared.network.Entry.{Entry}
+use Rattle.automaton.specs.declared.network.Entry.TheVariants.{Root, Waiting}
+use Rattle.automaton.specs.declared.wait.Turn.{Turn}
+use Rattle.automaton.specs.declared.wait.Wait.{Wait}
+use Rattle.automaton.proofs.CountLemmas.{count-cons}
+use Rattle.epoch_laws.specs.Epochs.{again}
+use Rattle.epoch_laws.proofs.Bags.{flat_map_alike, flat_map_parts}
+use Rattle.epoch_laws.proofs.Lists.{every, flat_map-flat_map}
+use Rattle.epoch_pass.proofs.Pairs.{pairs_turned}
+use Rattle.epoch_draft.specs.Moves.{Into, Move, Out, Way, backs_by, backs_in, bound_by, bound_of, made_by, made_of, moves_from, moves_on, moves_over, ways_at}
+
+-- numbers that test as equal are
+pub equal_number : (m n : ℕ) → (m == n) ≡ true → m ≡ n
+equal_number m n e = grind (arith, nat_tests)
+
+-- a number tests as equal to itself
+pub is_itself : (n : ℕ) → (n == n) ≡ true
+is_itself n = grind (arith, nat_tests)
+
+-- a flat map over mapped items
+pub flat_map-map : {X Y Z : Type 0} (g : Y → List Z) (f : X → Y) (xs : List X) → flat_map g (map f xs) ≡ flat_map (λ x. g (f x)) xs
+flat_map-map g f [] = refl
+flat_map-map g f (x ∷ xs) = ap (λ ys. g (f x) ++ ys) (flat_map-map g f xs)
+
+module _ {X Z : Type 0} where
+  pub nothing_of : (xs : List X) → flat_map {X = X} {A = Z} (λ x. []) xs ≡ []
+  nothing_of [] = refl
+  nothing_of (x ∷ xs) = nothing_of xs
+
+  -- what only the items that pass a test give
+  pub tested_of : (p : X → Bool) (g : X → List Z) (xs : List X) → flat_map (λ x. cond (p x) (g x) []) xs ≡ flat_map g (filter p xs)
+  tested_of p g [] = refl
+  tested_of p g (x ∷ xs) = go (tested_of p g xs) (p x)
+    where
+      go : flat_map (λ x. cond (p x) (g x) []) xs ≡ flat_map g (filter p xs) → (b : Bool) → cond b (g x) [] ++ flat_map (λ x. cond (p x) (g x) []) xs ≡ flat_map g (cond b (x ∷ filter p xs) (filter p xs))
+      go rest true = ap (λ zs. g x ++ zs) rest
+      go rest false = rest
+
+  -- one test for all items
+  pub one_test : (b : Bool) (g : X → List Z) (xs : List X) → flat_map (λ x. cond b (g x) []) xs ≡ cond b (flat_map g xs) []
+  one_test true g xs = refl
+  one_test false g xs = nothing_of xs
+
+  pub options_of : (f : X → Option Z) (xs : List X) → flat_map (λ x. option_to_list (f x)) xs ≡ filter_map f xs
+  options_of f [] = refl
+  options_of f (x ∷ xs) = go (options_of f xs) (f x)
+    where
+      go : flat_map (λ x. option_to_list (f x)) xs ≡ filter_map f xs → (o : Option Z) → option_to_list o ++ flat_map (λ x. option_to_list (f x)) xs ≡ cons_option o (filter_map f xs)
+      go rest None = rest
+      go rest (Some z) = ap (λ zs. z ∷ zs) rest
+
+module _ {Z : Type 0} (p : ℕ → Bool) (k : ℕ) (only : (n : ℕ) → p n ≡ true → n ≡ k) (f : ℕ → List Z) where
+  past_none : (a m : ℕ) → k < a → flat_map (λ n. cond (p n) (f n) []) (range_with_len a m) ≡ []
+  past_none a zero lt = refl
+  past_none a (suc m) lt = go (p a) refl (past_none (a + 1) m (omega arith))
+    where
+      go : (b : Bool) → p a ≡ b → flat_map (λ n. cond (p n) (f n) []) (range_with_len (a + 1) m) ≡ [] → cond b (f a) [] ++ flat_map (λ n. cond (p n) (f n) []) (range_with_len (a + 1) m) ≡ []
+      go true e rest = let same = only a e in absurd (omega arith)
+      go false e rest = rest
+
+  -- one number of a range is picked
+  pub picked : p k ≡ true → (a m : ℕ) → a ≤ k → k < a + m → flat_map (λ n. cond (p n) (f n) []) (range_with_len a m) ≡ f k
+  picked there a zero le lt = absurd (omega arith)
+  picked there a (suc m) le lt = go (p a) refl (λ le lt. picked there (a + 1) m le lt)
+    where
+      other : p a ≡ false → a ≡ k → ⊥
+      other e same = let back : p a ≡ true = ap p same ∙ there in cc
+
+      go : (b : Bool) → p a ≡ b → (a + 1 ≤ k → k < (a + 1) + m → flat_map (λ n. cond (p n) (f n) []) (range_with_len (a + 1) m) ≡ f k) → cond b (f a) [] ++ flat_map (λ n. cond (p n) (f n) []) (range_with_len (a + 1) m) ≡ f k
+      go true e rest = let same = only a e in ap (λ zs. f a ++ zs) (past_none (a + 1) m (omega arith)) ∙ append-nil (f a) ∙ ap f same
+      go false e rest = let ne = other e in rest (omega (arith, ne)) (omega (arith, ne))
+
+-- one number of a list is picked as often as it is counted
+picked_none : {Z : Type 0} (k : ℕ) (f : ℕ → List Z) (xs : List ℕ) → count_by (λ x. x == k) xs ≡ 0 → flat_map (λ x. cond (x == k) (f x) []) xs ≡ []
+picked_none k f [] h = refl
+picked_none k f (x ∷ xs) h = go (x == k) (sym (count-cons (λ y. y == k) x xs) ∙ h) (picked_none k f xs)
+  where
+    go : (b : Bool) → cond b 1 0 + count_by (λ y. y == k) xs ≡ 0 → (count_by (λ y. y == k) xs ≡ 0 → flat_map (λ x. cond (x == k) (f x) []) xs ≡ []) → cond b (f x) [] ++ flat_map (λ x. cond (x == k) (f x) []) xs ≡ []
+    go true h rest = absurd (omega arith)
+    go false h rest = rest (omega arith)
+
+picked_once : {Z : Type 0} (k : ℕ) (f : ℕ → List Z) (xs : List ℕ) → count_by (λ x. x == k) xs ≡ 1 → flat_map (λ x. cond (x == k) (f x) []) xs ≡ f k
+picked_once k f [] h = absurd (cc)
+picked_once k f (x ∷ xs) h = go (x == k) refl (sym (count-cons (λ y. y == k) x xs) ∙ h) (picked_once k f xs)
+  where
+    go : (b : Bool) → (x == k) ≡ b → cond b 1 0 + count_by (λ y. y == k) xs ≡ 1 → (count_by (λ y. y == k) xs ≡ 1 → flat_map (λ x. cond (x == k) (f x) []) xs ≡ f k) → cond b (f x) [] ++ flat_map (λ x. cond (x == k) (f x) []) xs ≡ f k
+    go true e h rest = ap (λ zs. f x ++ zs) (picked_none k f xs (omega arith)) ∙ append-nil (f x) ∙ ap f (equal_number x k e)
+    go false e h rest = rest (omega arith)
+
+picked_told : {Z : Type 0} (k : ℕ) (f : ℕ → List Z) (xs : List ℕ) (b : Bool) → count_by (λ x. x == k) xs ≡ cond b 1 0 → flat_map (λ x. cond (x == k) (f x) []) xs ≡ cond b (f k) []
+picked_told k f xs true h = picked_once k f xs h
+picked_told k f xs false h = picked_none k f xs h
+
+-- what the moves of a tuple on ways give
+on_ways : {Z : Type 0} (f : Row → Way → List Z) (ways : List Way) (x : Row) → flat_map (λ (m : Move). f m.tuple m.way) (moves_on ways x) ≡ flat_map (f x) ways
+on_ways f ways x = flat_map-map (λ (m : Move). f m.tuple m.way) (λ (way : Way). record { tuple = x; way = way }) ways
+
+-- what the moves of all tuples that leave a state give
+from_state : {Z : Type 0} (f : Row → Way → List Z) (net : Net) (n : ℕ) (tuples : List Row) → flat_map (λ (m : Move). f m.tuple m.way) (moves_from net n tuples) ≡ flat_map (λ x. flat_map (f x) (ways_at net n)) tuples
+from_state f net n tuples =
+    flat_map-flat_map (λ (m : Move). f m.tuple m.way) (moves_on (ways_at net n)) tuples
+    ∙ flat_map_same (λ x. flat_map (λ (m : Move). f m.tuple m.way) (moves_on (ways_at net n) x)) (λ x. flat_map (f x) (ways_at net n)) tuples
+    (every (λ x. flat_map (λ (m : Move). f m.tuple m.way) (moves_on (ways_at net n) x) ≡ flat_map (f x) (ways_at net n)) (on_ways f (ways_at net n)) tuples)
+
+over_states : {Z : Type 0} (f : Row → Way → List Z) (net : Net) (flow : ℕ → List Row)
+    → flat_map (λ (m : Move). f m.tuple m.way) (moves_over net flow) ≡ flat_map (λ n. flat_map (λ x. flat_map (f x) (ways_at net n)) (flow n)) (range_with_len 0 (length net))
+over_states f net flow =
+    flat_map-flat_map (λ (m : Move). f m.tuple m.way) (λ n. moves_from net n (flow n)) (range_with_len 0 (length net))
+    ∙ flat_map_same (λ n. flat_map (λ (m : Move). f m.tuple m.way) (moves_from net n (flow n))) (λ n. flat_map (λ x. flat_map (f x) (ways_at net n)) (flow n)) (range_with_len 0 (length net))
+    (every (λ n. flat_map (λ (m : Move). f m.tuple m.way) (moves_from net n (flow n)) ≡ flat_map (λ x. flat_map (f x) (ways_at net n)) (flow n)) (λ n. from_state f net n (flow n)) (range_with_len 0 (length net)))
+
+-- for a stream the ways out alone count
+backs_made : (s : ℕ) (x : Row) (n : ℕ) (o : Option Wait) → flat_map (made_by s x) (backs_by n o) ≡ []
+backs_made s x n None = refl
+backs_made s x n (Some w) = go w.fold
+  where
+    go : (fold : Option Turn) → flat_map (made_by s x) (backs_in n fold) ≡ []
+    go None = refl
+    go (Some turn) = refl
+
+made_ways : (net : Net) (s n : ℕ) (x : Row) → flat_map (made_by s x) (ways_at net n) ≡ flat_map (λ e. option_to_list (pass e.step x)) (filter (λ e. e.out == s) (ends_at net n))
+made_ways net s n x =
+    flat_map-append (made_by s x) (map Into (edges_at net n)) (map Out (ends_at net n) ++ backs_by n (wait_at net n))
+    ∙ ap (λ rows. rows ++ flat_map (made_by s x) (map Out (ends_at net n) ++ backs_by n (wait_at net n))) (flat_map-map (made_by s x) Into (edges_at net n) ∙ nothing_of (edges_at net n))
+    ∙ flat_map-append (made_by s x) (map Out (ends_at net n)) (backs_by n (wait_at net n))
+    ∙ ap (λ rows. flat_map (made_by s x) (map Out (ends_at net n)) ++ rows) (backs_made s x n (wait_at net n))
+    ∙ append-nil (flat_map (made_by s x) (map Out (ends_at net n)))
+    ∙ flat_map-map (made_by s x) Out (ends_at net n)
+    ∙ tested_of (λ (e : End). e.out == s) (λ e. option_to_list (pass e.step x)) (ends_at net n)
+
+made_state : (net : Net) (s n : ℕ) (tuples : List Row)
+    → IsPermutation (flat_map (λ x. flat_map (made_by s x) (ways_at net n)) tuples) (flat_map (λ e. filter_map (pass e.step) tuples) (filter (λ e. e.out == s) (ends_at net n)))
+made_state net s n tuples =
+    let ends = filter (λ (e : End). e.out == s) (ends_at net n) in
+    permuted_from
+    (flat_map_same (λ x. flat_map (made_by s x) (ways_at net n)) (λ x. flat_map (λ (e : End). option_to_list (pass e.step x)) ends) tuples
+    (every (λ x. flat_map (made_by s x) (ways_at net n) ≡ flat_map (λ (e : End). option_to_list (pass e.step x)) ends) (made_ways net s n) tuples))
+    (permuted_to (pairs_turned (λ x (e : End). option_to_list (pass e.step x)) tuples ends)
+    (flat_map_same (λ (e : End). flat_map (λ x. option_to_list (pass e.step x)) tuples) (λ (e : End). filter_map (pass e.step) tuples) ends
+    (every (λ (e : End). flat_map (λ x. option_to_list (pass e.step x)) tuples ≡ filter_map (pass e.step) tuples) (λ e. options_of (pass e.step) tuples) ends)))
+
+-- what all moves make for a stream is what its ends give
+pub made_over : (net : Net) (flow : ℕ → List Row) (s : ℕ)
+    → IsPermutation (made_of s (moves_over net flow)) (flat_map (λ n. flat_map (λ e. filter_map (pass e.step) (flow n)) (filter (λ e. e.out == s) (ends_at net n))) (range_with_len 0 (length net)))
+made_over net flow s =
+    permuted_from (over_states (made_by s) net flow)
+    (flat_map_alike (λ n. flat_map (λ x. flat_map (made_by s x) (ways_at net n)) (flow n)) (λ n. flat_map (λ e. filter_map (pass e.step) (flow n)) (filter (λ e. e.out == s) (ends_at net n))) (range_with_len 0 (length net))
+    (every (λ n. IsPermutation (flat_map (λ x. flat_map (made_by s x) (ways_at net n)) (flow n)) (flat_map (λ e. filter_map (pass e.step) (flow n)) (filter (λ e. e.out == s) (ends_at net n))))
+    (λ n. made_state net s n (flow n)) (range_with_len 0 (length net))))
+
+-- what goes back to a state, if it waits so
+abbrev backed : Option Wait → List Row → List Row
+backed None tuples = []
+backed (Some w) tuples = again w.fold tuples
+
+abbrev nothing : List Row
+nothing = []
+
+backs_bound : (net : Net) (w n : ℕ) (x : Row) (o : Option Wait) → flat_map (bound_by net w x) (backs_by n o) ≡ cond (n == w) (backed o (x ∷ [])) []
+backs_bound net w n x None = none (n == w)
+  where
+    none : (b : Bool) → nothing ≡ cond b nothing nothing
+    none true = refl
+    none false = refl
+backs_bound net w n x (Some wait) = go wait.fold
+  where
+    none : (b : Bool) → nothing ≡ cond b nothing nothing
+    none true = refl
+    none false = refl
+
+    go : (fold : Option Turn) → flat_map (bound_by net w x) (backs_in n fold) ≡ cond (n == w) (again fold (x ∷ [])) []
+    go None = none (n == w)
+    go (Some turn) = append-nil (cond (n == w) (x ∷ []) [])
+
+backed_all : (o : Option Wait) (tuples : List Row) → flat_map (λ x. backed o (x ∷ [])) tuples ≡ backed o tuples
+backed_all None tuples = nothing_of tuples
+backed_all (Some w) tuples = go w.fold
+  where
+    same : (tuples : List Row) → flat_map (λ x. x ∷ []) tuples ≡ tuples
+    same [] = refl
+    same (x ∷ tuples) = ap (λ xs. x ∷ xs) (same tuples)
+
+    go : (fold : Option Turn) → flat_map (λ x. again fold (x ∷ [])) tuples ≡ again fold tuples
+    go None = nothing_of tuples
+    go (Some turn) = same tuples
+
+module _ (net : Net) (network : IsNetwork net) (w : ℕ) where
+  -- for a waiting state the edge to it counts, and its own way back
+  bound_ways : (n : ℕ) (x : Row)
+      → flat_map (bound_by net w x) (ways_at net n) ≡ cond (tells n (before_at net w)) (option_to_list (pass (step_at net w) x)) [] ++ cond (n == w) (backed (wait_at net n) (x ∷ [])) []
+  bound_ways n x =
+      flat_map-append (bound_by net w x) (map Into (edges_at net n)) (map Out (ends_at net n) ++ backs_by n (wait_at net n))
+      ∙ ap (λ rows. rows ++ flat_map (bound_by net w x) (map Out (ends_at net n) ++ backs_by n (wait_at net n)))
+      (flat_map-map (bound_by net w x) Into (edges_at net n) ∙ picked_told w (λ k. option_to_list (pass (step_at net k) x)) (edges_at net n) (tells n (before_at net w)) (network.edges n w))
+      ∙ ap (λ rows. cond (tells n (before_at net w)) (option_to_list (pass (step_at net w) x)) [] ++ rows)
+      (flat_map-append (bound_by net w x) (map Out (ends_at net n)) (backs_by n (wait_at net n))
+      ∙ ap (λ rows. rows ++ flat_map (bound_by net w x) (backs_by n (wait_at net n))) (flat_map-map (bound_by net w x) Out (ends_at net n) ∙ nothing_of (ends_at net n))
+      ∙ backs_bound net w n x (wait_at net n))
+
+  bound_state : (n : ℕ) (tuples : List Row)
+      → IsPermutation (flat_map (λ x. flat_map (bound_by net w x) (ways_at net n)) tuples) (cond (tells n (before_at net w)) (filter_map (pass (step_at net w)) tuples) [] ++ cond (n == w) (backed (wait_at net n) tuples) [])
+  bound_state n tuples =
+      let edge = λ (x : Row). cond (tells n (before_at net w)) (option_to_list (pass (step_at net w) x)) [] in
+      let back = λ (x : Row). cond (n == w) (backed (wait_at net n) (x ∷ [])) [] in
+      permuted_from
+      (flat_map_same (λ x. flat_map (bound_by net w x) (ways_at net n)) (λ x. edge x ++ back x) tuples (every (λ x. flat_map (bound_by net w x) (ways_at net n) ≡ edge x ++ back x) (bound_ways n) tuples))
+      (permuted_to (flat_map_parts edge back tuples)
+      (ap (λ rows. rows ++ flat_map back tuples)
+      (one_test (tells n (before_at net w)) (λ x. option_to_list (pass (step_at net w) x)) tuples ∙ ap (λ rows. cond (tells n (before_at net w)) rows []) (options_of (pass (step_at net w)) tuples))
+      ∙ ap (λ rows. cond (tells n (before_at net w)) (filter_map (pass (step_at net w)) tuples) [] ++ rows)
+      (one_test (n == w) (λ x. backed (wait_at net n) (x ∷ [])) tuples ∙ ap (λ rows. cond (n == w) rows []) (backed_all (wait_at net n) tuples))))
+
+  abbrev came : (ℕ → List Row) → ℕ → List Row
+  came flow n = cond (tells n (before_at net w)) (filter_map (pass (step_at net w)) (flow n)) []
+
+  abbrev went : (ℕ → List Row) → ℕ → List Row
+  went flow n = cond (n == w) (backed (wait_at net n) (flow n)) []
+
+  -- what all moves make for a waiting state is what enters it, and what goes back to it
+  pub bound_over : (flow : ℕ → List Row) (before : ℕ) (hop : Hop) → entry_at net w ≡ Some (Waiting before hop) → before < length net → w < length net
+      → IsPermutation (bound_of net w (moves_over net flow)) (entering hop (flow before) ++ again hop.wait.fold (flow w))
+  bound_over flow before hop at lt_b lt_w =
+      permuted_from (over_states (bound_by net w) net flow)
+      (permuted_to
+      (IsPermutation-trans _ _ _
+      (flat_map_alike (λ n. flat_map (λ x. flat_map (bound_by net w x) (ways_at net n)) (flow n)) (λ n. came flow n ++ went flow n) (range_with_len 0 (length net))
+      (every (λ n. IsPermutation (flat_map (λ x. flat_map (bound_by net w x) (ways_at net n)) (flow n)) (came flow n ++ went flow n)) (λ n. bound_state n (flow n)) (range_with_len 0 (length net))))
+      (flat_map_parts (came flow) (went flow) (range_with_len 0 (length net))))
+      (λ i. came_is i ++ went_is i))
+    where
+      told_by : before_at net w ≡ Some before
+      told_by = ap (option_and_then before_by) at
+
+      step_is : step_at net w ≡ hop.step
+      step_is = ap (λ (o : Option Entry). unwrap_or (option_map step_by o) []) at
+
+      wait_is : wait_at net w ≡ Some hop.wait
+      wait_is = ap (option_and_then wait_by) at
+
+      came_is : flat_map (came flow) (range_with_len 0 (length net)) ≡ entering hop (flow before)
+      came_is =
+          picked (λ n. tells n (before_at net w)) before (λ n e. sym (equal_number before n (sym (ap (tells n) told_by) ∙ e))) (λ n. filter_map (pass (step_at net w)) (flow n))
+          (ap (tells before) told_by ∙ is_itself before) 0 (length net) (omega arith) (omega arith)
+          ∙ ap (λ step. filter_map (pass step) (flow before)) step_is
+
+      went_is : flat_map (went flow) (range_with_len 0 (length net)) ≡ again hop.wait.fold (flow w)
+      went_is =
+          picked (λ n. n == w) w (λ n e. equal_number n w e) (λ n. backed (wait_at net n) (flow n)) (is_itself w) 0 (length net) (omega arith) (omega arith)
+          ∙ ap (λ (o : Option Wait). backed o (flow w)) wait_is
+
+  before_none : wait_at net w ≡ None → before_at net w ≡ None
+  before_none none = go (entry_at net w) none
+    where
+      go : (o : Option Entry) → option_and_then wait_by o ≡ None → option_and_then before_by o ≡ None
+      go None e = refl
+      go (Some (Root s)) e = refl
+      go (Some (Waiting before hop)) e = absurd (cc)
+
+  -- nothing comes to a state where none waits
+  pub unbound_over : wait_at net w ≡ None → (flow : ℕ → List Row) → bound_of net w (moves_over net flow) ≡ []
+  unbound_over none flow =
+      over_states (bound_by net w) net flow
+      ∙ flat_map_same (λ n. flat_map (λ x. flat_map (bound_by net w x) (ways_at net n)) (flow n)) (λ n. []) (range_with_len 0 (length net))
+      (every (λ n. flat_map (λ x. flat_map (bound_by net w x) (ways_at net n)) (flow n) ≡ []) at_state (range_with_len 0 (length net)))
+      ∙ nothing_of (range_with_len 0 (length net))
+    where
+      back : (n : ℕ) (x : Row) (b : Bool) → (n == w) ≡ b → cond b (backed (wait_at net n) (x ∷ [])) [] ≡ []
+      back n x true e = ap (λ (o : Option Wait). backed o (x ∷ [])) (ap (wait_at net) (equal_number n w e) ∙ none)
+      back n x false e = refl
+
+      one : (n : ℕ) (x : Row) → flat_map (bound_by net w x) (ways_at net n) ≡ []
+      one n x =
+          bound_ways n x
+          ∙ ap (λ (o : Option ℕ). cond (tells n o) (option_to_list (pass (step_at net w) x)) [] ++ cond (n == w) (backed (wait_at net n) (x ∷ [])) []) (before_none none)
+          ∙ back n x (n == w) refl
+
+      at_state : (n : ℕ) → flat_map (λ x. flat_map (bound_by net w x) (ways_at net n)) (flow n) ≡ []
+      at_state n =
+          flat_map_same (λ x. flat_map (bound_by net w x) (ways_at net n)) (λ x. []) (flow n) (every (λ x. flat_map (bound_by net w x) (ways_at net n) ≡ []) (one n) (flow n)) ∙ nothing_of (flow n)
+
+-- what leaves the states in two parts moves in two parts
+pub moves_parts : (net : Net) (both one two : ℕ → List Row) → ((n : ℕ) → IsPermutation (both n) (one n ++ two n)) → IsPermutation (moves_over net both) (moves_over net one ++ moves_over net two)
+moves_parts net both one two parts =
+    IsPermutation-trans _ _ _
+    (flat_map_alike (λ n. moves_from net n (both n)) (λ n. moves_from net n (one n) ++ moves_from net n (two n)) (range_with_len 0 (length net))
+    (every (λ n. IsPermutation (moves_from net n (both n)) (moves_from net n (one n) ++ moves_from net n (two n))) each (range_with_len 0 (length net))))
+    (flat_map_parts (λ n. moves_from net n (one n)) (λ n. moves_from net n (two n)) (range_with_len 0 (length net)))
+  where
+    each : (n : ℕ) → IsPermutation (moves_from net n (both n)) (moves_from net n (one n) ++ moves_from net n (two n))
+    each n = permuted_to (flat_map_permuted (moves_on (ways_at net n)) (both n) (one n ++ two n) (parts n)) (flat_map-append (moves_on (ways_at net n)) (one n) (two n))

@@ -1,0 +1,65 @@
+use Rattle.std.proofs.Common.{◌≡◌, ◌∙◌, sym, ap, subst, ℕ, ◌+◌, ◌≤◌, [], List, length, get_or, set}
+use Rattle.std.specs.List.{All}
+use Rattle.std.proofs.lemmas.List.{length-set}
+use Rattle.std.proofs.lemmas.List.Sorted.{All-permutation, IsPermutation-sym, sum_by-IsPermutation}
+use Rattle.event_types.specs.Order.{sorted}
+use Rattle.event_types.specs.Tuple.{Row}
+use Rattle.scalar_expr.proofs.Bags.{permuted_from}
+use Rattle.epoch_draft.specs.Deriving.{Derives}
+use Rattle.epoch_draft.specs.Drafts.{DraftFits, Grows, without}
+use Rattle.epoch_draft.specs.Held.{held}
+use Rattle.epoch_draft.specs.Meeting.{ListsAll, moves_of_all}
+use Rattle.epoch_draft.specs.Suits.{TupleSuits}
+use Rattle.epoch_draft.specs.Tests.{stream_work, tuple_work}
+use Rattle.epoch_draft.specs.declared.draft.Draft.{Draft}
+use Rattle.epoch_draft.proofs.DeriveLemmas.{sort_permutes, sort_twice}
+use Rattle.epoch_draft.proofs.Lists.{ok_holds, on_ok_three}
+use Rattle.epoch_draft.proofs.drawing.derive_stream.Goals as goal
+
+pub meet_stream-requires-clause-suits : goal.meet_stream-requires-clause-suits
+meet_stream-requires-clause-suits g c =
+    let suits = TupleSuits c.args.network.now (held c.args.stores.now) c.args.stream in
+    let rows = get_or c.args.draft.now.made c.args.stream [] in
+    let is : c.as_slice.result.now ≡ sorted rows = c.as_slice.ensures ∙ c.put_in_order.ensures ∙ ap sorted c.take_made-tuples.ensures.value in
+    subst (All suits) (sym is) (All-permutation suits rows (sorted rows) (IsPermutation-sym _ _ (sort_permutes rows)) c.requires.suits)
+
+pub returns-clause-derives : goal.returns-clause-derives
+returns-clause-derives g c =
+    let net = c.args.network.now in
+    let stores = held c.args.stores.now in
+    let s = c.args.stream in
+    let old = c.args.draft.now in
+    let met = c.meet_stream.new.draft in
+    let new = c.put_made.new.self in
+    let tuples = c.put_in_order.new.tuples in
+    let rows = get_or old.made s [] in
+    let is : tuples ≡ sorted rows = c.put_in_order.ensures ∙ ap sorted c.take_made-tuples.ensures.value in
+    let grows : Grows net (moves_of_all net stores s tuples) (without old s) met =
+    subst (λ (d : Draft). Grows net (moves_of_all net stores s tuples) d met) c.take_made-tuples.ensures.taken
+    (subst (λ (ts : List Row). Grows net (moves_of_all net stores s ts) c.take_made-tuples.new.self met) c.as_slice.ensures c.in_ok-meet_stream.ensures.grows) in
+    on_ok_three c.put_made.result (new.made ≡ set met.made s tuples) (new.beads ≡ met.beads) (DraftFits (length met.made) (length met.beads) new)
+    (Derives net stores s old new c.args.pairs.now c.meet_stream.new.pairs)
+    (λ made beads fits. record {
+      tuples = tuples;
+      same = permuted_from is (sort_permutes rows);
+      ordered = ap sorted is ∙ sort_twice rows ∙ sym is;
+      met = met;
+      grows = grows;
+      made = made;
+      beads = beads;
+      fits = subst (λ (m : ℕ). DraftFits m (length net) new) (grows.fits.made ∙ length-set old.made s []) (subst (λ (m : ℕ). DraftFits (length met.made) m new) grows.fits.beads fits);
+      lists = subst (λ (ts : List Row). ListsAll net s ts c.args.pairs.now c.meet_stream.new.pairs) c.as_slice.ensures c.in_ok-meet_stream.ensures.lists;
+    }) c.put_made.ensures.made c.put_made.ensures.beads c.put_made.ensures.fits
+
+pub returns-clause-ticks : goal.returns-clause-ticks
+returns-clause-ticks g c =
+    let net = c.args.network.now in
+    let stores = held c.args.stores.now in
+    let s = c.args.stream in
+    let rows = get_or c.args.draft.now.made s [] in
+    let start : ℕ = c.args.steps.now in
+    let end : ℕ = c.meet_stream.new.steps in
+    let is : c.as_slice.result.now ≡ sorted rows = c.as_slice.ensures ∙ c.put_in_order.ensures ∙ ap sorted c.take_made-tuples.ensures.value in
+    let work : stream_work net stores s (sorted rows) ≡ stream_work net stores s rows = sym (sum_by-IsPermutation (tuple_work net stores s) (sorted rows) rows (sort_permutes rows)) in
+    ok_holds c.put_made.result (end ≤ start + stream_work net stores s rows)
+    (subst (λ (n : ℕ). end ≤ start + n) work (subst (λ (ts : List Row). end ≤ start + stream_work net stores s ts) is c.in_ok-meet_stream.ensures.ticks))

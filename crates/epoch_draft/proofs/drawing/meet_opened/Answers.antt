@@ -1,0 +1,76 @@
+use Rattle.std.proofs.Common.{◌≡◌, ◌∙◌, sym, subst, ℕ, ◌+◌, ◌<◌, ◌≤◌, [], List, length, get_or, arith}
+use Rattle.std.specs.List.{All}
+use Rattle.std.proofs.lemmas.List.Elements.{All-get_or}
+use Rattle.std.proofs.lemmas.Option.{get_or_from_slice_get}
+use Rattle.event_types.specs.Tuple.{Row}
+use Rattle.epoch_draft.specs.Deriving.{opened_of}
+use Rattle.epoch_draft.specs.Drafts.{DraftFits, Grows}
+use Rattle.epoch_draft.specs.Drawn.{Drawn, Paired}
+use Rattle.epoch_draft.specs.Held.{held}
+use Rattle.epoch_draft.specs.Meeting.{ListsAll, moves_of_all}
+use Rattle.std.proofs.lemmas.List.Sums.{sum_by_more}
+use Rattle.epoch_draft.specs.Suits.{TupleSuits}
+use Rattle.epoch_draft.specs.Tests.{stream_work}
+use Rattle.epoch_draft.proofs.DeriveLemmas.{opened_drawn, opened_more, paired_none, rows_suit}
+use Rattle.epoch_draft.proofs.DrawnLemmas.{drawn_starts}
+use Rattle.epoch_draft.proofs.Lists.{taken_all}
+use Rattle.epoch_draft.proofs.drawing.meet_opened.Goals as goal
+
+pub loop-stream-init : goal.loop-stream-init
+loop-stream-init g c = record {
+  fits = c.requires.fits;
+  drawn = drawn_starts c.args.network.now (held c.args.stores.now) c.args.draft.now c.requires.none_made c.requires.no_beads;
+  paired = paired_none c.args.network.now c.args.pairs.now c.requires.no_pairs;
+  ticks = omega arith;
+}
+
+pub meet_stream-requires-clause-suits : goal.meet_stream-requires-clause-suits
+meet_stream-requires-clause-suits g c =
+    let can = c.requires.can_draw in
+    let net = c.args.network.now in
+    let stores = c.args.stores.now in
+    let opened = c.args.opened.now in
+    let s = get_or c.args.touched.now c.loop-stream.stream-index 0 in
+    let below : s < length opened = All-get_or (λ s. s < length opened) c.args.touched.now c.loop-stream.stream-index 0 c.loop-stream-test.true c.requires.touched.below in
+    let is : get_or opened s [] ≡ c.as_slice.result.now = get_or_from_slice_get opened s c.get.result.now [] c.get.ensures ∙ sym c.as_slice.ensures in
+    subst (All (TupleSuits net (held stores) s)) is
+    (rows_suit net can.network c.args.layout.now.kinds stores can.typed s (omega (arith, below, can.as_many)) (get_or opened s []) (can.kinds s))
+
+-- one stream more is met
+pub loop-stream-preserved : goal.loop-stream-preserved
+loop-stream-preserved g c =
+    let net = c.args.network.now in
+    let stores = held c.args.stores.now in
+    let opened = c.args.opened.now in
+    let touched = c.args.touched.now in
+    let i = c.loop-stream.stream-index in
+    let s = get_or touched i 0 in
+    let old = c.loop-stream.draft in
+    let new = c.meet_stream.new.draft in
+    let is : c.as_slice.result.now ≡ get_or opened s [] = c.as_slice.ensures ∙ sym (get_or_from_slice_get opened s c.get.result.now [] c.get.ensures) in
+    let grows : Grows net (moves_of_all net stores s (get_or opened s [])) old new = subst (λ (ts : List Row). Grows net (moves_of_all net stores s ts) old new) is c.in_ok-meet_stream.ensures.grows in
+    let lists : ListsAll net s (get_or opened s []) c.loop-stream.pairs c.meet_stream.new.pairs = subst (λ (ts : List Row). ListsAll net s ts c.loop-stream.pairs c.meet_stream.new.pairs) is c.in_ok-meet_stream.ensures.lists in
+    let both =
+    opened_more net stores opened touched i old new c.loop-stream.pairs c.meet_stream.new.pairs c.requires.can_draw.network c.loop-stream-test.true (c.requires.touched.once i c.loop-stream-test.true) c.loop-stream.invariant.drawn
+    c.loop-stream.invariant.paired grows lists in
+    record {
+      fits = subst (λ (m : ℕ). DraftFits m (length net) new) c.loop-stream.invariant.fits.made grows.fits;
+      drawn = both.0;
+      paired = both.1;
+      ticks =
+          let was = c.loop-stream.invariant.ticks in
+          let one = subst (λ (ts : List Row). c.meet_stream.new.steps ≤ c.loop-stream.steps + stream_work net stores s ts) is c.in_ok-meet_stream.ensures.ticks in
+          let more = sum_by_more (λ s. stream_work net stores s (get_or opened s [])) touched i 0 c.loop-stream-test.true in omega (arith, was, one, more);
+    }
+
+-- all are
+pub returns-clause-drawn : goal.returns-clause-drawn
+returns-clause-drawn g c =
+    let net = c.args.network.now in
+    let stores = c.args.stores.now in
+    let opened = c.args.opened.now in
+    let touched = c.args.touched.now in
+    let all = taken_all touched c.loop-stream.stream-index c.loop-stream-test.false in
+    opened_drawn net c.args.layout.now stores opened touched c.loop-stream.draft c.loop-stream.pairs c.requires.can_draw c.requires.touched c.loop-stream.invariant.fits
+    (subst (λ (xs : List ℕ). Drawn net (held stores) (opened_of opened xs) c.loop-stream.draft) all c.loop-stream.invariant.drawn)
+    (subst (λ (xs : List ℕ). Paired net (opened_of opened xs) c.loop-stream.pairs) all c.loop-stream.invariant.paired)

@@ -1,0 +1,20 @@
+use Rattle.std.proofs.Common.{arith}
+use Rattle.epoch_draft.specs.Moves.{Into}
+use Rattle.epoch_draft.proofs.GoingLemmas.{go_more}
+use Rattle.epoch_draft.proofs.WorkLemmas.{ways_more}
+use Rattle.epoch_draft.proofs.going.go_into_all.Goals as goal
+
+-- one state more
+pub loop-state-preserved : goal.loop-state-preserved
+loop-state-preserved g c =
+    let net = c.args.network.now in
+    let states = c.args.states.now in
+    let i = c.loop-state.state-index in
+    let lt = c.loop-state-test.true in
+    let more = ways_more Into net states i 0 lt in
+    let was = c.loop-state.invariant.ticks in
+    let one = c.in_ok-go_into.ensures.ticks in
+    record {
+      grows = go_more Into net states i 0 c.args.tuple.now c.args.draft.now c.loop-state.draft c.go_into.new.draft lt c.loop-state.invariant.grows c.in_ok-go_into.ensures.grows;
+      ticks = omega (arith, more, was, one);
+    }

@@ -1,0 +1,26 @@
+use Rattle.std.proofs.Common.{◌+◌, ◌≤◌, ◌∷◌, [], subst, arith}
+use Rattle.automaton.specs.declared.network.End.{End}
+use Rattle.epoch_draft.specs.Drafts.{Grows}
+use Rattle.epoch_draft.specs.Moves.{Out, moves_on}
+use Rattle.epoch_draft.specs.Work.{keeps}
+use Rattle.epoch_draft.proofs.GoingLemmas.{go_more}
+use Rattle.epoch_draft.proofs.WorkLemmas.{ways_more}
+use Rattle.epoch_draft.proofs.going.go_out_all.Goals as goal
+
+-- one end more
+pub loop-end-preserved : goal.loop-end-preserved
+loop-end-preserved g c =
+    let net = c.args.network.now in
+    let end = c.end-item.result in
+    let ends = c.args.ends.now in
+    let i = c.loop-end.end-index in
+    let lt = c.loop-end-test.true in
+    let more = ways_more Out net ends i end lt in
+    let was = c.loop-end.invariant.ticks in
+    let one = subst (λ (e : End). c.go_out.new.steps ≤ c.loop-end.steps + keeps e.step) c.end-item.is c.in_ok-go_out.ensures.ticks in
+    record {
+      grows =
+          go_more Out net ends i end c.args.tuple.now c.args.draft.now c.loop-end.draft c.go_out.new.draft lt c.loop-end.invariant.grows
+          (subst (λ (e : End). Grows net (moves_on (Out e ∷ []) c.args.tuple.now) c.loop-end.draft c.go_out.new.draft) c.end-item.is (c.in_ok-go_out.ensures.grows net c.loop-end.invariant.grows.fits.beads));
+      ticks = omega (arith, more, was, one);
+    }

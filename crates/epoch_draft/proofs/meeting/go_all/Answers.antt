@@ -1,0 +1,21 @@
+use Rattle.std.proofs.Common.{arith}
+use Rattle.epoch_draft.specs.Finding.{way_of}
+use Rattle.epoch_draft.specs.declared.finding.Target.TheVariants.{Edge}
+use Rattle.epoch_draft.proofs.MeetLemmas.{targets_more}
+use Rattle.epoch_draft.proofs.WorkLemmas.{flat_more}
+use Rattle.epoch_draft.proofs.meeting.go_all.Goals as goal
+
+-- one target more
+pub loop-target-preserved : goal.loop-target-preserved
+loop-target-preserved g c =
+    let net = c.args.network.now in
+    let targets = c.args.targets.now in
+    let i = c.loop-target.target-index in
+    let lt = c.loop-target-test.true in
+    let more = flat_more (way_of net) net targets i (Edge 0) lt in
+    let was = c.loop-target.invariant.ticks in
+    let one = c.in_ok-go.ensures.ticks in
+    record {
+      grows = targets_more (way_of net) net targets i (Edge 0) c.args.tuple.now c.args.draft.now c.loop-target.draft c.go.new.draft lt c.loop-target.invariant.grows c.in_ok-go.ensures.grows;
+      ticks = omega (arith, more, was, one);
+    }

@@ -1,0 +1,62 @@
+use Rattle.std.proofs.Common.{◌≡◌, ◌∙◌, ap, subst, [], List, arith}
+use Rattle.std.specs.Prelude.{sum_by}
+use Rattle.std.proofs.lemmas.List.Sums.{sum_by-cons}
+use Rattle.epoch_draft.specs.Work.{binding_work}
+use Rattle.std.specs.List.{All}
+use Rattle.std.proofs.lemmas.Grind.{flat_map-append}
+use Rattle.std.proofs.lemmas.List.Elements.{All-head, All-tail}
+use Rattle.instances.specs.declared.instance.Instance.{Instance}
+use Rattle.epoch_pass.specs.Pairs.{met, paired}
+use Rattle.epoch_pass.specs.Suits.{WaitSuits}
+use Rattle.epoch_draft.specs.Moves.{Move, moves_from, moves_on, ways_at}
+use Rattle.epoch_draft.specs.Suits.{LeavingSuits}
+use Rattle.epoch_draft.proofs.GoingLemmas.{all_left, all_right}
+use Rattle.epoch_draft.proofs.MeetLemmas.{Follows, follows_more, follows_none, head_none}
+use Rattle.epoch_draft.proofs.meeting.meet_instances.Goals as goal
+
+pub meet_binding-requires-clause-suits : goal.meet_binding-requires-clause-suits
+meet_binding-requires-clause-suits g c =
+    let suits = λ (i : Instance). WaitSuits c.args.wait.now i.tuple c.args.tuple.now in
+    All-head suits c.in-Some.instance.now c.next.new.self (subst (All suits) c.in-Some.ensures.rest c.loop-instance.invariant.suits)
+
+pub meet_binding-requires-clause-leaving : goal.meet_binding-requires-clause-leaving
+meet_binding-requires-clause-leaving g c =
+    let w = c.args.wait.now in
+    let t = c.args.tuple.now in
+    let leaving = LeavingSuits c.args.network.now c.args.state in
+    all_left leaving (paired w c.in-Some.instance.now.tuple t) (met w c.next.new.self t) (subst (λ (is : List Instance). All leaving (met w is t)) c.in-Some.ensures.rest c.loop-instance.invariant.leaving)
+
+pub loop-instance-preserved : goal.loop-instance-preserved
+loop-instance-preserved g c =
+    let net = c.args.network.now in
+    let n = c.args.state in
+    let w = c.args.wait.now in
+    let t = c.args.tuple.now in
+    let i = c.in-Some.instance.now in
+    let rest = c.next.new.self in
+    let suits = λ (i : Instance). WaitSuits w i.tuple t in
+    let leaving = LeavingSuits net n in
+    let all : List Move = moves_from net n (met w c.args.instances t) in
+    let a = moves_from net n (paired w i.tuple t) in
+    let b = moves_from net n (met w rest t) in
+    record {
+      suits = All-tail suits i rest (subst (All suits) c.in-Some.ensures.rest c.loop-instance.invariant.suits);
+      leaving = all_right leaving (paired w i.tuple t) (met w rest t) (subst (λ (is : List Instance). All leaving (met w is t)) c.in-Some.ensures.rest c.loop-instance.invariant.leaving);
+      follows =
+          follows_more net a b all c.args.draft.now c.loop-instance.draft c.meet_binding.new.draft
+          (subst (λ (ms : List Move). Follows net ms all c.args.draft.now c.loop-instance.draft)
+          (ap (λ (is : List Instance). moves_from net n (met w is t)) c.in-Some.ensures.rest ∙ flat_map-append (moves_on (ways_at net n)) (paired w i.tuple t) (met w rest t)) c.loop-instance.invariant.follows)
+          c.in_ok-meet_binding.ensures.grows;
+      ticks = let was = c.loop-instance.invariant.ticks in let one = c.in_ok-meet_binding.ensures.ticks in let work = binding_work net n w t in let all = ap (sum_by work) c.in-Some.ensures.rest ∙ sum_by-cons work i rest in omega (arith, was, one, all);
+    }
+
+pub returns-clause-grows : goal.returns-clause-grows
+returns-clause-grows g c =
+    let net = c.args.network.now in
+    let n = c.args.state in
+    let w = c.args.wait.now in
+    let t = c.args.tuple.now in
+    let all : List Move = moves_from net n (met w c.args.instances t) in
+    let none : c.loop-instance.instances ≡ [] = head_none c.loop-instance.instances c.in_default.ensures.first in
+    follows_none net all c.args.draft.now c.loop-instance.draft
+    (subst (λ (is : List Instance). Follows net (moves_from net n (met w is t)) all c.args.draft.now c.loop-instance.draft) none c.loop-instance.invariant.follows)

@@ -1,0 +1,23 @@
+use Rattle.std.proofs.Common.{◌+◌, ◌≤◌, length}
+use Rattle.std.specs.Prelude.{sum_by}
+use Rattle.epoch_draft.specs.Work.{binding_work}
+use Rattle.std.specs.List.{All}
+use Rattle.instances.specs.declared.instance.Instance.{Instance}
+use Rattle.epoch_pass.specs.Pairs.{met}
+use Rattle.epoch_pass.specs.Suits.{WaitSuits}
+use Rattle.epoch_draft.specs.Moves.{moves_from}
+use Rattle.epoch_draft.specs.Suits.{LeavingSuits}
+use Rattle.epoch_draft.proofs.MeetLemmas.{Follows}
+use Rattle.epoch_draft.proofs.meeting.meet_instances.Given as goal
+
+-- what the tuple makes of the instances that are left is still to leave
+abbrev pub invariant-loop-instance : goal.invariant-loop-instance
+invariant-loop-instance g l = record {
+  suits : All (λ (i : Instance). WaitSuits l.wait i.tuple l.tuple) l.instances;
+  leaving : All (LeavingSuits l.network l.state) (met l.wait l.instances l.tuple);
+  follows : Follows l.network (moves_from l.network l.state (met l.wait l.instances l.tuple)) (moves_from l.network l.state (met l.wait l.initial.instances l.tuple)) l.initial.draft l.draft;
+  ticks : l.steps + sum_by (binding_work l.network l.state l.wait l.tuple) l.instances ≤ l.initial.steps + sum_by (binding_work l.network l.state l.wait l.tuple) l.initial.instances;
+}
+
+abbrev pub decreases-loop-instance : goal.decreases-loop-instance
+decreases-loop-instance g l = length l.instances

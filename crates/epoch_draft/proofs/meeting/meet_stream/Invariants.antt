@@ -1,0 +1,14 @@
+use Rattle.std.proofs.Common.{◌+◌, ◌≤◌, take}
+use Rattle.epoch_draft.specs.Tests.{stream_work}
+use Rattle.epoch_draft.specs.Drafts.{Grows}
+use Rattle.epoch_draft.specs.Held.{held}
+use Rattle.epoch_draft.specs.Meeting.{ListsAll, moves_of_all}
+use Rattle.epoch_draft.proofs.meeting.meet_stream.Given as goal
+
+-- the tuples so far are met and listed
+abbrev pub invariant-loop-place : goal.invariant-loop-place
+invariant-loop-place g l = record {
+  grows : Grows l.network (moves_of_all l.network (held l.stores) l.stream (take l.place l.tuples)) l.initial.draft l.draft;
+  lists : ListsAll l.network l.stream (take l.place l.tuples) l.initial.pairs l.pairs;
+  ticks : l.steps ≤ l.initial.steps + stream_work l.network (held l.stores) l.stream (take l.place l.tuples);
+}

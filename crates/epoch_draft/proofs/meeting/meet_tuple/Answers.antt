@@ -1,0 +1,77 @@
+use Rattle.std.proofs.Common.{sym, subst, ℕ, ◌+◌, ◌≤◌, IsTrue, List}
+use Rattle.std.specs.Prelude.{sum_by}
+use Rattle.std.specs.List.{All, filter, flat_map}
+use Rattle.automaton.specs.States.{is_used}
+use Rattle.epoch_draft.specs.Drafts.{Grows}
+use Rattle.epoch_draft.specs.Finding.{way_of, waits_on, ways_on}
+use Rattle.epoch_draft.specs.Held.{held}
+use Rattle.epoch_draft.specs.Meeting.{moves_met, moves_of}
+use Rattle.epoch_draft.specs.Moves.{moves_on}
+use Rattle.epoch_draft.specs.Suits.{MeetingSuits, WaySuits}
+use Rattle.epoch_draft.specs.declared.finding.Target.{Target}
+use Rattle.epoch_draft.specs.Tests.{tuple_work}
+use Rattle.epoch_draft.specs.Work.{hears, looks, state_work, way_work, ways_work}
+use Rattle.epoch_draft.proofs.Lists.{on_ok}
+use Rattle.epoch_draft.proofs.WorkLemmas.{both_within, found_less}
+use Rattle.epoch_draft.proofs.MeetLemmas.{found_all, found_grows, found_ways, waits_used}
+use Rattle.epoch_draft.proofs.meeting.meet_tuple.Goals as goal
+
+pub go_all-requires-clause-suits : goal.go_all-requires-clause-suits
+go_all-requires-clause-suits g c =
+    let net = c.args.network.now in
+    let t = c.args.tuple.now in
+    subst (All (λ (target : Target). All (WaySuits net t) (way_of net target))) (sym c.as_slice.ensures) (found_ways (WaySuits net t) net c.args.stream t c.in_ok-targets.targets c.in_ok-targets.ensures.finds c.requires.suits.roots)
+
+pub meet_waits-requires-clause-used : goal.meet_waits-requires-clause-used
+meet_waits-requires-clause-used g c =
+    let net = c.args.network.now in
+    let used = λ (n : ℕ). IsTrue (is_used net n) in
+    subst (All used) (sym c.as_slice-2.ensures) (found_all used net c.args.stream c.args.tuple.now c.in_ok-states.states c.in_ok-states.ensures (waits_used net c.args.stream))
+
+pub meet_waits-requires-clause-suits : goal.meet_waits-requires-clause-suits
+meet_waits-requires-clause-suits g c =
+    let net = c.args.network.now in
+    let suits = MeetingSuits net (held c.args.stores.now) c.args.tuple.now in
+    subst (All suits) (sym c.as_slice-2.ensures) (found_all suits net c.args.stream c.args.tuple.now c.in_ok-states.states c.in_ok-states.ensures c.requires.suits.waits)
+
+pub returns-clause-grows : goal.returns-clause-grows
+returns-clause-grows g c =
+    let net = c.args.network.now in
+    let stores = held c.args.stores.now in
+    let s = c.args.stream in
+    let t = c.args.tuple.now in
+    let old = c.args.draft.now in
+    let mid = c.go_all.new.draft in
+    let new = c.meet_waits.new.draft in
+    let targets = c.in_ok-targets.targets in
+    let states = c.in_ok-states.states in
+    on_ok c.meet_waits.result (Grows net (moves_met net stores t c.as_slice-2.result.now) mid new) (Grows net (moves_of net stores s t) old new)
+    (λ two.
+    found_grows net stores s t targets states old mid new c.in_ok-targets.ensures.finds c.in_ok-states.ensures
+    (subst (λ (ts : List Target). Grows net (moves_on (flat_map (way_of net) ts) t) old mid) c.as_slice.ensures c.in_ok-go_all.ensures.grows)
+    (subst (λ (ns : List ℕ). Grows net (moves_met net stores t ns) mid new) c.as_slice-2.ensures two)) c.meet_waits.ensures.grows
+
+-- no more is tested than what is looked up
+pub returns-clause-ticks : goal.returns-clause-ticks
+returns-clause-ticks g c =
+    let net = c.args.network.now in
+    let stores = held c.args.stores.now in
+    let s = c.args.stream in
+    let t = c.args.tuple.now in
+    let targets = c.in_ok-targets.targets in
+    let states = c.in_ok-states.states in
+    let ways = c.in_ok-targets.ensures.finds in
+    let waits = c.in_ok-states.ensures in
+    let start : ℕ = c.args.steps.now in
+    let mid : ℕ = c.go_all.new.steps in
+    let end : ℕ = c.meet_waits.new.steps in
+    let one : mid ≤ start + ways_work net (flat_map (way_of net) targets) =
+    subst (λ (ts : List Target). mid ≤ start + ways_work net (flat_map (way_of net) ts)) c.as_slice.ensures c.in_ok-go_all.ensures.ticks in
+    let looked : ways_work net (flat_map (way_of net) targets) ≤ ways_work net (filter (looks net t) (ways_on net s)) =
+    found_less (way_work net) (looks net t) (flat_map (way_of net) targets) ways.others (ways_on net s) ways.all ways.looked in
+    let heard : sum_by (state_work net stores t) states ≤ sum_by (state_work net stores t) (filter (hears net t) (waits_on net s)) =
+    found_less (state_work net stores t) (hears net t) states waits.others (waits_on net s) waits.all waits.heard in
+    on_ok c.meet_waits.result (end ≤ mid + sum_by (state_work net stores t) c.as_slice-2.result.now) (end ≤ start + tuple_work net stores s t)
+    (λ two.
+    both_within start mid end (ways_work net (flat_map (way_of net) targets)) (sum_by (state_work net stores t) states) (ways_work net (filter (looks net t) (ways_on net s))) (sum_by (state_work net stores t) (filter (hears net t) (waits_on net s))) one
+    (subst (λ (ns : List ℕ). end ≤ mid + sum_by (state_work net stores t) ns) c.as_slice-2.ensures two) looked heard) c.meet_waits.ensures.ticks

@@ -1,0 +1,17 @@
+use Rattle.std.proofs.Common.{◌<◌, length}
+use Rattle.std.proofs.lemmas.List.Elements.{All-get_or}
+use Rattle.epoch_draft.proofs.SettleLemmas.{linked_more, linked_none}
+use Rattle.epoch_draft.proofs.settling.link_all.Goals as goal
+
+pub loop-number-init : goal.loop-number-init
+loop-number-init c = linked_none c.args.beads.now c.args.stores.now
+
+-- one state more
+pub loop-number-preserved : goal.loop-number-preserved
+loop-number-preserved c =
+    let ns = c.args.numbers.now in
+    let i = c.loop-number.number-index in
+    let lt = c.loop-number-test.true in
+    linked_more ns i c.args.beads.now c.loop-number.beads c.args.stores.now c.loop-number.stores c.get_mut.result.now c.link_in.new.slot c.get_mut-in-loop-number.result.now c.link_in.new.beads lt
+    (All-get_or (λ n. n < length c.args.stores.now) ns i 0 lt c.requires.stores) (All-get_or (λ n. n < length c.args.beads.now) ns i 0 lt c.requires.beads) (c.requires.once i lt) c.get_mut.ensures.value
+    c.get_mut-in-loop-number.ensures.value c.link_in.ensures.instances c.link_in.ensures.idle c.link_in.ensures.shape c.loop-number.invariant

@@ -1,0 +1,41 @@
+use Rattle.std.proofs.Common.{◌∙◌, sym, subst, ℕ, ◌<◌, length, get_or, take, List}
+use Rattle.std.specs.Prelude.{Contains}
+use Rattle.std.specs.List.{All}
+use Rattle.epoch_draft.specs.Held.{held}
+use Rattle.epoch_draft.specs.Settling.{AreLinked, AreTaken, PairSuits, tuples_in}
+use Rattle.epoch_draft.specs.declared.draft.Pair.{Pair}
+use Rattle.epoch_draft.proofs.MarkLemmas.{all_below}
+use Rattle.epoch_draft.proofs.SettleLemmas.{pairs_suit, settled}
+use Rattle.epoch_draft.proofs.settling.step.Goals as goal
+
+pub take_all-requires-clause-pairs : goal.take_all-requires-clause-pairs
+take_all-requires-clause-pairs g c =
+    let opened = c.args.opened.now in
+    let draft = c.args.draft.now in
+    subst (All (PairSuits c.args.network.now (tuples_in opened draft.made) (length opened) (held c.args.stores.now))) (sym c.as_slice.ensures)
+    (pairs_suit c.args.network.now c.args._layout.now c.args.stores.now opened draft c.args.pairs.now c.requires.can_draw c.requires.drawn)
+
+pub link_all-requires-clause-stores : goal.link_all-requires-clause-stores
+link_all-requires-clause-stores g c =
+    let fits = c.requires.drawn.fits in
+    subst (λ (m : ℕ). All (λ n. n < m) c.as_slice-2.result.now) (fits.reached_below ∙ sym c.requires.can_draw.typed.as_many ∙ sym c.take_all.ensures.taken.same.as_many)
+    (all_below c.args.draft.now.reached fits.reached c.as_slice-2.result.now c.as_slice-2.ensures)
+
+pub link_all-requires-clause-beads : goal.link_all-requires-clause-beads
+link_all-requires-clause-beads g c =
+    let fits = c.requires.drawn.fits in
+    subst (λ (m : ℕ). All (λ n. n < m) c.as_slice-2.result.now) (fits.reached_below ∙ sym fits.beads) (all_below c.args.draft.now.reached fits.reached c.as_slice-2.result.now c.as_slice-2.ensures)
+
+pub link_all-requires-clause-once : goal.link_all-requires-clause-once
+link_all-requires-clause-once g c =
+    let fits = c.requires.drawn.fits in
+    subst (λ (ns : List ℕ). (place : ℕ) → place < length ns → Contains (take place ns) (get_or ns place 0) → ⊥) (sym c.as_slice-2.ensures) fits.reached.once
+
+pub returns-clause-settled : goal.returns-clause-settled
+returns-clause-settled g c =
+    let net = c.args.network.now in
+    let opened = c.args.opened.now in
+    let draft = c.args.draft.now in
+    settled net c.args._layout.now c.args.stores.now opened draft c.args.pairs.now c.requires.can_draw c.requires.drawn c.take_all.new.stores c.link_all.new.stores
+    (subst (λ (ps : List Pair). AreTaken net (tuples_in opened draft.made) ps c.args.stores.now c.take_all.new.stores) c.as_slice.ensures c.take_all.ensures.taken)
+    (subst (λ (ns : List ℕ). AreLinked ns draft.beads c.take_all.new.stores c.link_all.new.stores) c.as_slice-2.ensures c.link_all.ensures)

@@ -1,0 +1,17 @@
+pub mod Closing
+pub mod Comes
+pub mod Deriving
+pub mod Drafts
+pub mod Drawn
+pub mod Finding
+pub mod Held
+pub mod Kindings
+pub mod Marks
+pub mod Meeting
+pub mod Moves
+pub mod Purging
+pub mod Settling
+pub mod Suits
+pub mod Tests
+pub mod Typed
+pub mod Work

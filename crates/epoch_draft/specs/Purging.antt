@@ -1,0 +1,30 @@
+-- What the purge of stores does.
+use Rattle.std.specs.Prelude.{◌≡◌, ℕ, ◌<◌, ◌⊎◌, true, IsTrue, is_some, List, length, Option, Some, None, Contains, slice_index_or}
+use Rattle.std.specs.Option.{option_map}
+use Rattle.std.specs.List.{All}
+use Rattle.event_types.specs.Tuple.{Row}
+use Rattle.instances.specs.Alive.{is_alive}
+use Rattle.semantics.specs.Scalars.{Pr}
+use Rattle.automaton.specs.States.{Net, wait_at}
+use Rattle.automaton.specs.declared.wait.Wait.{Wait}
+use Rattle.instances.specs.Bounds.{alive_instances}
+use Rattle.instances.specs.Plain.{Plain}
+
+-- a store with those of its instances alone that are alive at a time
+abbrev pub purged_for : ℕ → Plain → Plain
+purged_for time store = record store { instances = alive_instances time store.condition store.instances }
+
+-- the stores with these numbers were purged, and all others are the same
+pub record ArePurgedIn (numbers : List ℕ) (time : ℕ) (old new : List (Option Plain)) : Type 0 where
+  pub as_many : length new ≡ length old
+  pub purged : (number : ℕ) → Contains numbers number → slice_index_or new number None ≡ option_map (purged_for time) (slice_index_or old number None)
+  pub others : (number : ℕ) → (Contains numbers number → ⊥) → slice_index_or new number None ≡ slice_index_or old number None
+
+-- no bound of the condition expires
+abbrev pub IsUnbound : List Pr → Type 0
+IsUnbound choose = (time : ℕ) (binding : Row) → is_alive time choose binding ≡ true
+
+-- the list has each waiting state below a number whose condition has a bound that may expire, and waiting states alone
+pub record ListsBounded (net : Net) (bound : ℕ) (list : List ℕ) : Type 0 where
+  pub waits : All (λ number. IsTrue (is_some (wait_at net number))) list
+  pub has : (number : ℕ) (wait : Wait) → number < bound → wait_at net number ≡ Some wait → Contains list number ⊎ IsUnbound wait.choose

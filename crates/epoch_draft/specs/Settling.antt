@@ -1,0 +1,88 @@
+-- What the second half of a closing does to the stores.
+use Rattle.std.specs.Prelude.{◌≡◌, ℕ, ◌<◌, ◌==◌, not, if◌then◌else◌, IsTrue, List, [], ◌∷◌, ◌++◌, Contains, length, Option, Some, None, option_to_list, slice_get, slice_index_or, sum_by}
+use Rattle.std.specs.Option.{option_map}
+use Rattle.std.specs.List.{All, filter, flat_map}
+use Rattle.std.specs.List.Sorted.{IsPermutation}
+use Rattle.event_types.specs.Tuple.{Row}
+use Rattle.instances.specs.Bounds.{alive_instances}
+use Rattle.instances.specs.Plain.{Plain}
+use Rattle.instances.specs.declared.instance.Instance.{Instance}
+use Rattle.semantics.specs.Denotation.{Streams}
+use Rattle.semantics.specs.Nexts.{is_eligible}
+use Rattle.semantics.specs.Scalars.{Pr}
+use Rattle.scalar_expr.specs.Fits.{AllFit}
+use Rattle.automaton.specs.States.{Net, is_used, wait_at}
+use Rattle.automaton.specs.declared.wait.Wait.{Wait}
+use Rattle.epoch_laws.specs.Closing.{Stores, stores_after}
+use Rattle.epoch_laws.specs.Epochs.{left}
+use Rattle.epoch_draft.specs.Held.{held}
+use Rattle.epoch_draft.specs.declared.draft.Pair.{Pair}
+
+-- whether there is a store, and the condition for which it is made
+abbrev pub shape_of : Option Plain → Option (List Pr)
+shape_of slot = option_map (λ store. store.condition) slot
+
+-- the stores are as many, and made for the same conditions
+pub record SameShapes (old new : List (Option Plain)) : Type 0 where
+  pub as_many : length new ≡ length old
+  pub shapes : (number : ℕ) → shape_of (slice_index_or new number None) ≡ shape_of (slice_index_or old number None)
+
+-- the first list, or the second where the first has no items
+abbrev pub first_of : List Row → List Row → List Row
+first_of [] made = made
+first_of (tuple ∷ tuples) made = tuple ∷ tuples
+
+-- the tuples of each stream: the open ones, or else those that were made
+abbrev pub tuples_in : List (List Row) → List (List Row) → Streams
+tuples_in opened made stream = first_of (slice_index_or opened stream []) (slice_index_or made stream [])
+
+-- the tuple of a pair
+abbrev pub row_at : Streams → Pair → List Row
+row_at news pair = option_to_list (slice_get (news pair.stream) pair.place)
+
+-- the tuples with which a state is listed
+abbrev pub listed_rows : Streams → List Pair → ℕ → List Row
+listed_rows news pairs number = flat_map (λ pair. if pair.state == number then row_at news pair else []) pairs
+
+-- the tests by which these pairs take out what matches
+abbrev pub takes_work : Stores → List Pair → ℕ
+takes_work stores pairs = sum_by (λ pair. length (stores pair.state)) pairs
+
+-- the state and the tuple of a pair are there, and the tuple fits the state's condition with each instance there
+pub record PairSuits (net : Net) (news : Streams) (streams : ℕ) (stores : Stores) (pair : Pair) : Type 0 where
+  pub used : IsTrue (is_used net pair.state)
+  pub stream : pair.stream < streams
+  pub place : pair.place < length (news pair.stream)
+  pub fits : (wait : Wait) (tuple : Row) → wait_at net pair.state ≡ Some wait → slice_get (news pair.stream) pair.place ≡ Some tuple → All (λ instance. AllFit wait.choose tuple (Some instance.tuple)) (stores pair.state)
+
+-- the instances that a tuple matches were taken out at a state
+pub record IsTakenAt (net : Net) (tuple : Row) (number : ℕ) (old new : List (Option Plain)) : Type 0 where
+  pub same : SameShapes old new
+  pub taken : (wait : Wait) → wait_at net number ≡ Some wait → held new number ≡ filter (λ instance. not (is_eligible wait.choose instance.tuple tuple)) (held old number)
+  pub none : wait_at net number ≡ None → held new number ≡ held old number
+  pub others : (other : ℕ) → (other ≡ number → ⊥) → held new other ≡ held old other
+
+-- the instances that the tuples of these pairs match were taken out
+pub record AreTaken (net : Net) (news : Streams) (pairs : List Pair) (old new : List (Option Plain)) : Type 0 where
+  pub same : SameShapes old new
+  pub taken : (number : ℕ) (wait : Wait) → wait_at net number ≡ Some wait → held new number ≡ left wait.choose (listed_rows news pairs number) (held old number)
+  pub none : (number : ℕ) → wait_at net number ≡ None → held new number ≡ held old number
+
+-- the beads of these states were put into their stores, and a store without beads is the same
+pub record AreLinked (numbers : List ℕ) (beads : List (List Instance)) (old new : List (Option Plain)) : Type 0 where
+  pub same : SameShapes old new
+  pub linked : (number : ℕ) → Contains numbers number → (store : Plain) → slice_index_or old number None ≡ Some store → IsPermutation (held new number) (store.instances ++ slice_index_or beads number [])
+  pub idle : (number : ℕ) → slice_index_or beads number [] ≡ [] → slice_index_or new number None ≡ slice_index_or old number None
+  pub others : (number : ℕ) → (Contains numbers number → ⊥) → slice_index_or new number None ≡ slice_index_or old number None
+
+-- each waiting state has the store after the epoch, and all else is the same
+pub record AreSettled (net : Net) (news : Streams) (old new : List (Option Plain)) : Type 0 where
+  pub same : SameShapes old new
+  pub settled : (number : ℕ) (wait : Wait) → wait_at net number ≡ Some wait → IsPermutation (held new number) (stores_after net news (held old) number)
+  pub others : (number : ℕ) → wait_at net number ≡ None → held new number ≡ held old number
+
+-- each waiting state has of the store after the epoch the instances that are alive at a time, and all else is the same
+pub record AreClosed (time : ℕ) (net : Net) (news : Streams) (old new : List (Option Plain)) : Type 0 where
+  pub same : SameShapes old new
+  pub purged : (number : ℕ) (wait : Wait) → wait_at net number ≡ Some wait → IsPermutation (held new number) (alive_instances time wait.choose (stores_after net news (held old) number))
+  pub others : (number : ℕ) → wait_at net number ≡ None → held new number ≡ held old number

@@ -1,0 +1,58 @@
+-- The steps that an epoch may take: the tests of conditions.
+use Rattle.std.specs.Prelude.{ℕ, ◌+◌, Bool, true, List, [], ◌∷◌, Option, Some, None, sum_by}
+use Rattle.event_types.specs.Tuple.{Row}
+use Rattle.instances.specs.declared.instance.Instance.{Instance}
+use Rattle.automaton.specs.States.{Net, step_at, wait_at}
+use Rattle.automaton.specs.declared.step.Stage.{Stage}
+use Rattle.automaton.specs.declared.step.Stage.TheVariants.{Keep, Make}
+use Rattle.automaton.specs.declared.wait.Turn.{Turn}
+use Rattle.automaton.specs.declared.wait.Wait.{Wait}
+use Rattle.epoch_laws.specs.Closing.{Stores}
+use Rattle.epoch_pass.specs.Pairs.{paired}
+use Rattle.epoch_draft.specs.Moves.{Back, Into, Out, Way, ways_at}
+
+-- the tests of a tuple in a step: one for each condition
+abbrev pub keeps : List Stage → ℕ
+keeps [] = 0
+keeps (Keep condition ∷ step) = 1 + keeps step
+keeps (Make m ∷ step) = keeps step
+
+-- the tests of a tuple on a way
+abbrev pub way_work : Net → Way → ℕ
+way_work net (Into next) = keeps (step_at net next)
+way_work net (Out end) = keeps end.step
+way_work net (Back number) = 0
+
+-- the tests of a tuple on all of these ways
+abbrev pub ways_work : Net → List Way → ℕ
+ways_work net ways = sum_by (way_work net) ways
+
+-- the tests of an eligible tuple with a binding: in a FOLD one, of the condition on which the new binding goes on
+abbrev pub turn_work : Option Turn → ℕ
+turn_work None = 0
+turn_work (Some turn) = 1
+
+-- the tests of a tuple with a binding at a wait: whether it is eligible, and then in a FOLD one more
+abbrev pub pair_work : Wait → ℕ
+pair_work wait = 1 + turn_work wait.fold
+
+-- the tests of a tuple with an instance at a state, and of what it makes of it on all ways out
+abbrev pub binding_work : Net → ℕ → Wait → Row → Instance → ℕ
+binding_work net number wait tuple instance = pair_work wait + sum_by (λ made. ways_work net (ways_at net number)) (paired wait instance.tuple tuple)
+
+-- the tests of a tuple with all of these instances at a state, if it waits so
+abbrev pub met_work : Net → ℕ → Option Wait → List Instance → Row → ℕ
+met_work net number None store tuple = 0
+met_work net number (Some wait) store tuple = sum_by (binding_work net number wait tuple) store
+
+-- the tests of a tuple at the state with a number
+abbrev pub state_work : Net → Stores → Row → ℕ → ℕ
+state_work net stores tuple number = met_work net number (wait_at net number) (stores number) tuple
+
+-- whether a way out of a root is looked up by a tuple: each is, since look-ups scan
+abbrev pub looks : Net → Row → Way → Bool
+looks net tuple way = true
+
+-- whether a waiting state is looked up by a tuple: each is, since look-ups scan
+abbrev pub hears : Net → Row → ℕ → Bool
+hears net tuple number = true

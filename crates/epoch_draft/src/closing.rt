@@ -1,0 +1,52 @@
+//! The closing of an epoch in two halves.
+ghost use Rattle.std.specs.Prelude.{◌≡◌, ◌+◌, IfOk, OnErr, length};
+ghost use Rattle.epoch_draft.specs.Closing.{IsClosed};
+ghost use Rattle.epoch_draft.specs.Deriving.{AreOpened, CanDraw};
+ghost use Rattle.epoch_draft.specs.Purging.{ListsBounded};
+
+use crate::draft::{Draft, Lists};
+use crate::drawing::draw;
+use crate::meeting::Stores;
+use crate::settling::settle;
+use automaton::{Layout, Network};
+use cay_host::{Ledger, Steps};
+use event_types::{List, Memory};
+use std::alloc::Global;
+
+/// Closes the epoch of this time: makes all that comes of its open tuples, and then takes the stores over
+/// it. It gives the tuples of the derived streams. `touched` are the streams that have open tuples, and
+/// `bounded` the waiting states whose conditions have a bound on DUR. Want of memory leaves the stores as
+/// they were.
+pub fn close<L: Ledger>(
+    alloc: Global,
+    network: &Network,
+    layout: &Layout,
+    bounded: &[usize],
+    stores: &mut Stores,
+    opened: &Lists,
+    touched: &[usize],
+    time: u64,
+    steps: &mut Steps<L>,
+) -> Result<Lists, Memory>
+    requires can_draw { CanDraw network.now layout.now stores.old opened.now }
+    requires touched { AreOpened opened.now touched.now }
+    requires bounded { ListsBounded network.now (length network.now) bounded.now }
+    ensures closed { IfOk result (λ made. IsClosed (time + 1) network.now layout.now opened.now made stores.old stores.new) }
+    ensures kept { OnErr result (stores.new ≡ stores.old) }
+{
+    let mut draft = Draft::make(alloc, network.places(), layout.kinds.len())?;
+    let mut pairs = List::new(alloc);
+    draw(
+        alloc, network, layout, stores, opened, touched, &mut draft, &mut pairs, steps,
+    )?;
+    settle(
+        network, layout, bounded, stores, opened, &mut draft, &pairs, time, steps,
+    );
+    let Draft {
+        made,
+        beads: _beads,
+        due: _due,
+        reached: _reached,
+    } = draft;
+    Ok(made)
+}

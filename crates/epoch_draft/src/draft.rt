@@ -1,0 +1,142 @@
+//! What an epoch brings, as far as it is made.
+ghost use Rattle.std.specs.Prelude.{◌≡◌, ◌<◌, ◌++◌, ◌∷◌, [], IfOk, OnOk, ℕ, length, slice_index_or, slice_set};
+ghost use Rattle.epoch_laws.specs.Instances.{instance_of};
+ghost use Rattle.epoch_draft.specs.Drafts.{DraftFits, without};
+
+use crate::filling::{add, empty_lists};
+use crate::marks::Marks;
+use event_types::{List, Memory, StreamId, Tuple, Tuples};
+use inst_chain::{Bead, Chain};
+use instances::Instance;
+use std::alloc::Global;
+
+/// Tuples by stream.
+pub type Lists = List<Tuples>;
+
+/// The beads of new instances, by the numbers of their states.
+pub type Beads = List<Chain<Instance>>;
+
+/// What an epoch brings: the tuples of derived streams, the beads of new instances, the streams for which
+/// tuples were made (`due`), and the states for which beads were (`reached`).
+#[derive(Drop)]
+pub struct Draft {
+    pub made: Lists,
+    pub beads: Beads,
+    pub due: Marks,
+    pub reached: Marks,
+}
+
+/// A waiting state and a tuple by which it was found: the state's number, and the tuple's stream and its
+/// place there, counted from 0.
+#[derive(Clone, Copy, Drop)]
+pub struct Pair {
+    pub state: usize,
+    pub stream: StreamId,
+    pub place: usize,
+}
+
+/// Pairs of waiting states and tuples.
+pub type Pairs = List<Pair>;
+
+impl Draft {
+    /// A draft for so many states and streams, in which nothing is made.
+    pub(crate) fn make(alloc: Global, states: usize, streams: usize) -> Result<Draft, Memory>
+        ensures fits { IfOk result (λ draft. DraftFits streams states draft) }
+        ensures none_made { IfOk result (λ draft. (stream : ℕ) → slice_index_or draft.made stream [] ≡ []) }
+        ensures no_beads { IfOk result (λ draft. (state : ℕ) → slice_index_or draft.beads state [] ≡ []) }
+    {
+        let made = empty_lists(alloc, streams)?;
+        let beads = empty_chains(alloc, states)?;
+        let due = Marks::make(alloc, streams)?;
+        let reached = Marks::make(alloc, states)?;
+        Ok(Draft {
+            made,
+            beads,
+            due,
+            reached,
+        })
+    }
+
+    /// Puts a tuple behind those of a stream. After want of memory the draft is of no more use.
+    pub(crate) fn add_made(&mut self, stream: StreamId, tuple: Tuple) -> Result<(), Memory>
+        requires fits { DraftFits (length self.old.made) (length self.old.beads) self.old }
+        requires stream { stream < length self.old.made }
+        ensures made { OnOk result (self.new.made ≡ slice_set self.old.made stream (slice_index_or self.old.made stream [] ++ tuple ∷ [])) }
+        ensures beads { OnOk result (self.new.beads ≡ self.old.beads) }
+        ensures fits { OnOk result (DraftFits (length self.old.made) (length self.old.beads) self.new) }
+    {
+        self.due.mark(stream)?;
+        match self.made.get_mut(stream).push(tuple) {
+            Ok(()) => Ok(()),
+            Err(_) => Err(Memory),
+        }
+    }
+
+    /// Takes the tuples of a stream out. Takes no memory.
+    pub(crate) fn take_made(&mut self, alloc: Global, stream: StreamId) -> Tuples
+        requires fits { DraftFits (length self.old.made) (length self.old.beads) self.old }
+        requires stream { stream < length self.old.made }
+        ensures value { result ≡ slice_index_or self.old.made stream [] }
+        ensures taken { self.new ≡ without self.old stream }
+        ensures fits { DraftFits (length self.old.made) (length self.old.beads) self.new }
+    {
+        std::mem::replace(self.made.get_mut(stream), List::new(alloc))
+    }
+
+    /// Makes these the tuples of a stream. After want of memory the draft is of no more use.
+    pub(crate) fn put_made(&mut self, stream: StreamId, tuples: Tuples) -> Result<(), Memory>
+        requires fits { DraftFits (length self.old.made) (length self.old.beads) self.old }
+        requires stream { stream < length self.old.made }
+        ensures made { OnOk result (self.new.made ≡ slice_set self.old.made stream tuples) }
+        ensures beads { OnOk result (self.new.beads ≡ self.old.beads) }
+        ensures fits { OnOk result (DraftFits (length self.old.made) (length self.old.beads) self.new) }
+    {
+        self.due.mark(stream)?;
+        *self.made.get_mut(stream) = tuples;
+        Ok(())
+    }
+
+    /// Makes a bead of the instance of a tuple for a state. After want of memory the draft is of no more use.
+    pub(crate) fn add_bead(
+        &mut self,
+        alloc: Global,
+        state: usize,
+        tuple: Tuple,
+    ) -> Result<(), Memory>
+        requires fits { DraftFits (length self.old.made) (length self.old.beads) self.old }
+        requires state { state < length self.old.beads }
+        ensures beads { OnOk result (self.new.beads ≡ slice_set self.old.beads state (instance_of tuple ∷ slice_index_or self.old.beads state [])) }
+        ensures made { OnOk result (self.new.made ≡ self.old.made) }
+        ensures fits { OnOk result (DraftFits (length self.old.made) (length self.old.beads) self.new) }
+    {
+        self.reached.mark(state)?;
+        match Bead::make(alloc, Instance { tuple }) {
+            Ok(bead) => {
+                put_first(self.beads.get_mut(state), bead);
+                Ok(())
+            }
+            Err(_) => Err(Memory),
+        }
+    }
+}
+
+// Puts a bead in front of a chain, at once however long it is. Takes no memory.
+fn put_first(chain: &mut Chain<Instance>, bead: Bead<Instance>)
+    ensures { chain.new ≡ bead ∷ chain.old }
+{
+    let mut whole = Chain::new();
+    whole.link(bead);
+    whole.append(chain);
+    std::mem::swap(chain, &mut whole);
+}
+
+// So many empty chains.
+fn empty_chains(alloc: Global, count: usize) -> Result<Beads, Memory>
+    ensures { IfOk result (λ chains. (length chains ≡ count) × ((place : ℕ) → slice_index_or chains place [] ≡ [])) }
+{
+    let mut chains = List::new(alloc);
+    for _ in 0..count {
+        add(&mut chains, Chain::new())?;
+    }
+    Ok(chains)
+}

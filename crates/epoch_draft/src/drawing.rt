@@ -1,0 +1,141 @@
+//! The tuples of an epoch, stream by stream.
+ghost use Rattle.std.specs.Prelude.{◌≡◌, ◌+◌, ◌<◌, ◌≤◌, ℕ, [], OnOk, length, slice_index_or};
+ghost use Rattle.std.specs.List.{All};
+ghost use Rattle.semantics.specs.Denotation.{streams_of};
+ghost use Rattle.automaton.specs.Networks.{IsNetwork};
+ghost use Rattle.epoch_draft.specs.Deriving.{AreOpened, CanDraw, Derives, DrawnUpTo};
+ghost use Rattle.epoch_draft.specs.Drafts.{DraftFits, EndsBelow};
+ghost use Rattle.epoch_draft.specs.Drawn.{Drawn, Paired};
+ghost use Rattle.epoch_draft.specs.Held.{held};
+ghost use Rattle.epoch_draft.specs.Suits.{TupleSuits};
+ghost use Rattle.epoch_draft.specs.Tests.{stream_work, streams_work};
+
+use crate::draft::{Draft, Lists, Pairs};
+use crate::meeting::{Stores, meet_stream};
+use automaton::{Layout, Network};
+use cay_host::{Ledger, Steps};
+use event_types::{Memory, StreamId, put_in_order};
+use std::alloc::Global;
+
+/// Makes all that comes of the open tuples of an epoch. Nothing but the draft and the pairs is changed,
+/// and after want of memory these are of no more use.
+pub fn draw<L: Ledger>(
+    alloc: Global,
+    network: &Network,
+    layout: &Layout,
+    stores: &Stores,
+    opened: &Lists,
+    touched: &[usize],
+    draft: &mut Draft,
+    pairs: &mut Pairs,
+    steps: &mut Steps<L>,
+) -> Result<(), Memory>
+    requires can_draw { CanDraw network.now layout.now stores.now opened.now }
+    requires touched { AreOpened opened.now touched.now }
+    requires fits { DraftFits (length layout.now.kinds) (length network.now) draft.old }
+    requires none_made { (stream : ℕ) → slice_index_or draft.old.made stream [] ≡ [] }
+    requires no_beads { (state : ℕ) → slice_index_or draft.old.beads state [] ≡ [] }
+    requires no_pairs { pairs.old ≡ [] }
+    ensures drawn { OnOk result (DrawnUpTo network.now layout.now stores.now opened.now layout.now.order draft.new pairs.new) }
+    ensures ticks { OnOk result (steps.new ≤ steps.old + (streams_work network.now (held stores.now) opened.now touched.now + streams_work network.now (held stores.now) draft.new.made layout.now.order)) }
+{
+    meet_opened(
+        alloc, network, layout, stores, opened, touched, draft, pairs, steps,
+    )?;
+    derive(alloc, network, layout, stores, opened, draft, pairs, steps)
+}
+
+// Makes what comes of the open tuples themselves.
+fn meet_opened<L: Ledger>(
+    alloc: Global,
+    network: &Network,
+    layout: &Layout,
+    stores: &Stores,
+    opened: &Lists,
+    touched: &[usize],
+    draft: &mut Draft,
+    pairs: &mut Pairs,
+    steps: &mut Steps<L>,
+) -> Result<(), Memory>
+    requires can_draw { CanDraw network.now layout.now stores.now opened.now }
+    requires touched { AreOpened opened.now touched.now }
+    requires fits { DraftFits (length layout.now.kinds) (length network.now) draft.old }
+    requires none_made { (stream : ℕ) → slice_index_or draft.old.made stream [] ≡ [] }
+    requires no_beads { (state : ℕ) → slice_index_or draft.old.beads state [] ≡ [] }
+    requires no_pairs { pairs.old ≡ [] }
+    ensures drawn { OnOk result (DrawnUpTo network.now layout.now stores.now opened.now [] draft.new pairs.new) }
+    ensures ticks { OnOk result (steps.new ≤ steps.old + streams_work network.now (held stores.now) opened.now touched.now) }
+{
+    for stream in touched {
+        meet_stream(
+            alloc,
+            network,
+            stores,
+            draft,
+            pairs,
+            *stream,
+            opened.get(*stream).as_slice(),
+            steps,
+        )?;
+    }
+    Ok(())
+}
+
+// Makes the tuples of the derived streams that are due, in the order of work, and what comes of them.
+fn derive<L: Ledger>(
+    alloc: Global,
+    network: &Network,
+    layout: &Layout,
+    stores: &Stores,
+    opened: &Lists,
+    draft: &mut Draft,
+    pairs: &mut Pairs,
+    steps: &mut Steps<L>,
+) -> Result<(), Memory>
+    requires can_draw { CanDraw network.now layout.now stores.now opened.now }
+    requires drawn { DrawnUpTo network.now layout.now stores.now opened.now [] draft.old pairs.old }
+    ensures drawn { OnOk result (DrawnUpTo network.now layout.now stores.now opened.now layout.now.order draft.new pairs.new) }
+    ensures ticks { OnOk result (steps.new ≤ steps.old + streams_work network.now (held stores.now) draft.new.made layout.now.order) }
+{
+    for stream in layout.order.as_slice() {
+        if !draft.due.is_marked(*stream) {
+            continue;
+        }
+        derive_stream(alloc, network, stores, *stream, draft, pairs, steps)?;
+    }
+    Ok(())
+}
+
+// Puts the tuples of a derived stream in order, and makes what comes of them.
+fn derive_stream<L: Ledger>(
+    alloc: Global,
+    network: &Network,
+    stores: &Stores,
+    stream: StreamId,
+    draft: &mut Draft,
+    pairs: &mut Pairs,
+    steps: &mut Steps<L>,
+) -> Result<(), Memory>
+    requires network { IsNetwork network.now }
+    requires stores { length stores.now ≡ length network.now }
+    requires stream { stream < length draft.old.made }
+    requires below { EndsBelow network.now (length draft.old.made) }
+    requires fits { DraftFits (length draft.old.made) (length network.now) draft.old }
+    requires suits { All (TupleSuits network.now (held stores.now) stream) (slice_index_or draft.old.made stream []) }
+    ensures derives { OnOk result (Derives network.now (held stores.now) stream draft.old draft.new pairs.old pairs.new) }
+    ensures ticks { OnOk result (steps.new ≤ steps.old + stream_work network.now (held stores.now) stream (slice_index_or draft.old.made stream [])) }
+{
+    let mut tuples = draft.take_made(alloc, stream);
+    put_in_order(&mut tuples);
+    meet_stream(
+        alloc,
+        network,
+        stores,
+        draft,
+        pairs,
+        stream,
+        tuples.as_slice(),
+        steps,
+    )?;
+    draft.put_made(stream, tuples)
+}

@@ -1,0 +1,37 @@
+//! The closing of an epoch in two halves, of which the engine will be made. The first half draws: it makes
+//! all tuples, beads and pairs of the epoch, and changes no store. The second half settles: it takes what
+//! was matched out of the stores, puts the beads in and purges, and takes no memory.
+//!
+//! Contracts see each public type as its fields. A `Draft` is the tuples made for each derived stream, the
+//! beads made for each state as a list of instances, and the `Marks` of the streams and the states that have
+//! some. `Marks` are flags by number and the numbers whose flags are up, each once. A `Pair` is the number of
+//! a waiting state and a tuple by its stream and its place there. A `Target` is an edge by the number of the
+//! state it leads to, or an end by its `EndPlace`.
+//!
+//! Nothing runs on this crate yet. Its contracts still lack a bound on the steps of `close`, of which `draw`
+//! and `settle` say parts, and on those of `draw` at want of memory. Look-ups scan all states: an index finds
+//! fewer under the same clauses.
+#![tactic(auto)]
+
+mod closing;
+mod draft;
+mod drawing;
+mod filling;
+mod finding;
+mod going;
+mod laws;
+mod marks;
+mod meeting;
+mod passing;
+mod purging;
+mod settling;
+
+pub use closing::close;
+pub use draft::{Draft, Pair};
+pub use drawing::draw;
+pub use finding::{EndPlace, Target};
+pub use laws::{
+    drawn_comes, drawn_is_after, drawn_is_epoch, drawn_starts, paired_comes, tuple_comes,
+};
+pub use marks::Marks;
+pub use settling::settle;

@@ -1,0 +1,57 @@
+//! Numbers that are marked.
+ghost use Rattle.std.specs.Prelude.{◌≡◌, ℕ, ◌<◌, false, true, Contains, length, IfOk, OnOk};
+ghost use Rattle.epoch_draft.specs.Marks.{AreMarks, MarksMore};
+
+use crate::filling::filled;
+use event_types::{List, Memory, Numbers};
+use std::alloc::Global;
+
+/// Numbers below a bound, of which some are marked: for each whether it is, and the marked ones.
+#[derive(Drop)]
+pub struct Marks {
+    pub flags: List<bool>,
+    pub numbers: Numbers,
+}
+
+impl Marks {
+    /// None of the numbers below the bound is marked.
+    pub(crate) fn make(alloc: Global, bound: usize) -> Result<Marks, Memory>
+        ensures are { IfOk result (λ marks. AreMarks marks) }
+        ensures as_many { IfOk result (λ marks. length marks.flags ≡ bound) }
+    {
+        let flags = filled(alloc, bound, false)?;
+        Ok(Marks {
+            flags,
+            numbers: List::new(alloc),
+        })
+    }
+
+    /// Takes no memory.
+    pub(crate) fn is_marked(&self, number: usize) -> bool
+        requires marks { AreMarks self.now }
+        requires number { number < length self.now.flags }
+        ensures marked { result ≡ true → Contains self.now.numbers number }
+        ensures unmarked { result ≡ false → Contains self.now.numbers number → ⊥ }
+    {
+        *self.flags.get(number)
+    }
+
+    /// After want of memory all that were marked still are.
+    pub(crate) fn mark(&mut self, number: usize) -> Result<(), Memory>
+        requires marks { AreMarks self.old }
+        requires number { number < length self.old.flags }
+        ensures more { MarksMore self.old self.new }
+        ensures marked { OnOk result (Contains self.new.numbers number) }
+    {
+        if *self.flags.get(number) {
+            return Ok(());
+        }
+        match self.numbers.push(number) {
+            Ok(()) => {
+                *self.flags.get_mut(number) = true;
+                Ok(())
+            }
+            Err(_) => Err(Memory),
+        }
+    }
+}

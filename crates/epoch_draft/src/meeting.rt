@@ -1,0 +1,337 @@
+//! What the tuples of a stream make of an epoch.
+ghost use Rattle.std.specs.Prelude.{◌≡◌, ◌+◌, ◌<◌, ◌≤◌, ◌++◌, IfOk, IsTrue, OnOk, Some, length, map, option_to_list, sum_by};
+ghost use Rattle.std.specs.List.{All, flat_map};
+ghost use Rattle.semantics.specs.Nexts.{is_eligible};
+ghost use Rattle.scalar_expr.specs.Fits.{AllFit};
+ghost use Rattle.automaton.specs.Networks.{IsNetwork};
+ghost use Rattle.automaton.specs.States.{is_used, wait_at};
+ghost use Rattle.epoch_pass.specs.Pairs.{followed, met, paired};
+ghost use Rattle.epoch_pass.specs.Suits.{TurnSuits, WaitSuits};
+ghost use Rattle.epoch_draft.specs.Drafts.{DraftFits, EndsBelow, Grows};
+ghost use Rattle.epoch_draft.specs.Finding.{IsTarget, way_of};
+ghost use Rattle.epoch_draft.specs.Held.{held};
+ghost use Rattle.epoch_draft.specs.Meeting.{Lists, ListsAll, met_at, moves_met, moves_of, moves_of_all, pair_of};
+ghost use Rattle.epoch_draft.specs.Moves.{moves_from, moves_on, ways_at};
+ghost use Rattle.epoch_draft.specs.Suits.{LeavingSuits, MeetingSuits, TupleSuits, WaySuits};
+ghost use Rattle.epoch_draft.specs.Tests.{stream_work, tuple_work};
+ghost use Rattle.epoch_draft.specs.Work.{binding_work, pair_work, state_work, turn_work, ways_work};
+
+use crate::draft::{Draft, Pair, Pairs};
+use crate::filling::add;
+use crate::finding::{Target, targets_for, waits_for};
+use crate::going::{go_into, go_out, leave};
+use algebra::{join, rebind};
+use automaton::{Network, Turn, Wait};
+use cay_host::{Ledger, Steps};
+use event_types::{List, Memory, StreamId, Tuple};
+use inst_chain::Look;
+use instances::{Instance, PlainStore, Waiting};
+use scalar_expr::{Conj, holds};
+use std::alloc::Global;
+
+/// A store for each waiting state, by its number.
+pub type Stores = List<Option<PlainStore>>;
+
+// What the tuple makes of the binding, if it is eligible.
+fn pair_up<L: Ledger>(
+    alloc: Global,
+    wait: &Wait,
+    binding: &Tuple,
+    tuple: &Tuple,
+    steps: &mut Steps<L>,
+) -> Result<Option<Tuple>, Memory>
+    requires { WaitSuits wait.now binding.now tuple.now }
+    ensures value { IfOk result (λ made. option_to_list made ≡ paired wait.now binding.now tuple.now) }
+    ensures ticks { steps.new ≤ steps.old + pair_work wait.now }
+{
+    if can_meet(&wait.choose, binding, tuple, steps) {
+        follow(alloc, &wait.fold, binding, tuple, steps)
+    } else {
+        Ok(None)
+    }
+}
+
+// Whether the tuple is eligible for the binding.
+fn can_meet<L: Ledger>(choose: &Conj, binding: &Tuple, tuple: &Tuple, steps: &mut Steps<L>) -> bool
+    requires { AllFit choose.now tuple.now (Some binding.now) }
+    ensures value { result ≡ is_eligible choose.now binding.now tuple.now }
+    ensures ticks { steps.new ≤ steps.old + 1 }
+{
+    binding.at() < tuple.from() && holds(choose, tuple, Some(binding), steps)
+}
+
+// What the tuple, which is eligible, makes of the binding.
+fn follow<L: Ledger>(
+    alloc: Global,
+    fold: &Option<Turn>,
+    binding: &Tuple,
+    tuple: &Tuple,
+    steps: &mut Steps<L>,
+) -> Result<Option<Tuple>, Memory>
+    requires later { binding.now.at < tuple.now.from }
+    requires suited { TurnSuits fold.now binding.now tuple.now }
+    ensures value { IfOk result (λ made. option_to_list made ≡ followed fold.now binding.now tuple.now) }
+    ensures ticks { steps.new ≤ steps.old + turn_work fold.now }
+{
+    match fold {
+        None => Ok(Some(join(alloc, binding, tuple)?)),
+        Some(turn) => {
+            if holds(&turn.on, tuple, Some(binding), steps) {
+                Ok(Some(rebind(alloc, &turn.set, binding, tuple)?))
+            } else {
+                Ok(None)
+            }
+        }
+    }
+}
+
+// What the tuple makes of a binding leaves the state where it waits.
+fn meet_binding<L: Ledger>(
+    alloc: Global,
+    network: &Network,
+    draft: &mut Draft,
+    state: usize,
+    wait: &Wait,
+    binding: &Tuple,
+    tuple: &Tuple,
+    steps: &mut Steps<L>,
+) -> Result<(), Memory>
+    requires network { IsNetwork network.now }
+    requires used { IsTrue (is_used network.now state) }
+    requires wait { wait_at network.now state ≡ Some wait.now }
+    requires below { EndsBelow network.now (length draft.old.made) }
+    requires fits { DraftFits (length draft.old.made) (length network.now) draft.old }
+    requires suits { WaitSuits wait.now binding.now tuple.now }
+    requires leaving { All (LeavingSuits network.now state) (paired wait.now binding.now tuple.now) }
+    ensures grows { OnOk result (Grows network.now (moves_from network.now state (paired wait.now binding.now tuple.now)) draft.old draft.new) }
+    ensures ticks { OnOk result (steps.new ≤ steps.old + (pair_work wait.now + sum_by (λ made. ways_work network.now (ways_at network.now state)) (paired wait.now binding.now tuple.now))) }
+{
+    match pair_up(alloc, wait, binding, tuple, steps)? {
+        Some(made) => leave(alloc, network, draft, state, wait, made, steps),
+        None => Ok(()),
+    }
+}
+
+// The same of all instances that the reader gives.
+fn meet_instances<L: Ledger>(
+    alloc: Global,
+    network: &Network,
+    draft: &mut Draft,
+    state: usize,
+    wait: &Wait,
+    mut instances: Look<'_, Instance>,
+    tuple: &Tuple,
+    steps: &mut Steps<L>,
+) -> Result<(), Memory>
+    requires network { IsNetwork network.now }
+    requires used { IsTrue (is_used network.now state) }
+    requires wait { wait_at network.now state ≡ Some wait.now }
+    requires below { EndsBelow network.now (length draft.old.made) }
+    requires fits { DraftFits (length draft.old.made) (length network.now) draft.old }
+    requires suits { All (λ instance. WaitSuits wait.now instance.tuple tuple.now) instances }
+    requires leaving { All (LeavingSuits network.now state) (met wait.now instances tuple.now) }
+    ensures grows { OnOk result (Grows network.now (moves_from network.now state (met wait.now instances.entry tuple.now)) draft.old draft.new) }
+    ensures ticks { OnOk result (steps.new ≤ steps.old + sum_by (binding_work network.now state wait.now tuple.now) instances.entry) }
+{
+    while let Some(instance) = instances.next() {
+        meet_binding(
+            alloc,
+            network,
+            draft,
+            state,
+            wait,
+            &instance.tuple,
+            tuple,
+            steps,
+        )?;
+    }
+    Ok(())
+}
+
+// What the tuple makes of the instances at a state leaves it.
+fn meet_wait<L: Ledger>(
+    alloc: Global,
+    network: &Network,
+    stores: &Stores,
+    draft: &mut Draft,
+    state: usize,
+    tuple: &Tuple,
+    steps: &mut Steps<L>,
+) -> Result<(), Memory>
+    requires network { IsNetwork network.now }
+    requires used { IsTrue (is_used network.now state) }
+    requires stores { length stores.now ≡ length network.now }
+    requires below { EndsBelow network.now (length draft.old.made) }
+    requires fits { DraftFits (length draft.old.made) (length network.now) draft.old }
+    requires suits { MeetingSuits network.now (held stores.now) tuple.now state }
+    ensures grows { OnOk result (Grows network.now (moves_from network.now state (met_at network.now (held stores.now) tuple.now state)) draft.old draft.new) }
+    ensures ticks { OnOk result (steps.new ≤ steps.old + state_work network.now (held stores.now) tuple.now state) }
+{
+    let Some(wait) = network.wait(state) else {
+        return Ok(());
+    };
+    match stores.get(state) {
+        Some(store) => meet_instances(
+            alloc,
+            network,
+            draft,
+            state,
+            wait,
+            store.candidates(tuple),
+            tuple,
+            steps,
+        ),
+        None => Ok(()),
+    }
+}
+
+// The same at each of these states, which are listed with the tuple's place.
+fn meet_waits<L: Ledger>(
+    alloc: Global,
+    network: &Network,
+    stores: &Stores,
+    draft: &mut Draft,
+    pairs: &mut Pairs,
+    states: &[usize],
+    stream: StreamId,
+    place: usize,
+    tuple: &Tuple,
+    steps: &mut Steps<L>,
+) -> Result<(), Memory>
+    requires network { IsNetwork network.now }
+    requires used { All (λ state. IsTrue (is_used network.now state)) states.now }
+    requires stores { length stores.now ≡ length network.now }
+    requires below { EndsBelow network.now (length draft.old.made) }
+    requires fits { DraftFits (length draft.old.made) (length network.now) draft.old }
+    requires suits { All (MeetingSuits network.now (held stores.now) tuple.now) states.now }
+    ensures grows { OnOk result (Grows network.now (moves_met network.now (held stores.now) tuple.now states.now) draft.old draft.new) }
+    ensures pairs { OnOk result (pairs.new ≡ pairs.old ++ map (pair_of stream place) states.now) }
+    ensures ticks { OnOk result (steps.new ≤ steps.old + sum_by (state_work network.now (held stores.now) tuple.now) states.now) }
+{
+    for state in states {
+        add(
+            pairs,
+            Pair {
+                state: *state,
+                stream,
+                place,
+            },
+        )?;
+        meet_wait(alloc, network, stores, draft, *state, tuple, steps)?;
+    }
+    Ok(())
+}
+
+// A tuple goes to each of these targets.
+fn go_all<L: Ledger>(
+    alloc: Global,
+    network: &Network,
+    draft: &mut Draft,
+    targets: &[Target],
+    tuple: &Tuple,
+    steps: &mut Steps<L>,
+) -> Result<(), Memory>
+    requires targets { All (IsTarget network.now) targets.now }
+    requires below { EndsBelow network.now (length draft.old.made) }
+    requires fits { DraftFits (length draft.old.made) (length network.now) draft.old }
+    requires suits { All (λ target. All (WaySuits network.now tuple.now) (way_of network.now target)) targets.now }
+    ensures grows { OnOk result (Grows network.now (moves_on (flat_map (way_of network.now) targets.now) tuple.now) draft.old draft.new) }
+    ensures ticks { OnOk result (steps.new ≤ steps.old + ways_work network.now (flat_map (way_of network.now) targets.now)) }
+{
+    for target in targets {
+        go(alloc, network, draft, *target, tuple, steps)?;
+    }
+    Ok(())
+}
+
+// A tuple goes to a target.
+fn go<L: Ledger>(
+    alloc: Global,
+    network: &Network,
+    draft: &mut Draft,
+    target: Target,
+    tuple: &Tuple,
+    steps: &mut Steps<L>,
+) -> Result<(), Memory>
+    requires target { IsTarget network.now target }
+    requires below { EndsBelow network.now (length draft.old.made) }
+    requires fits { DraftFits (length draft.old.made) (length network.now) draft.old }
+    requires suits { All (WaySuits network.now tuple.now) (way_of network.now target) }
+    ensures grows { OnOk result (Grows network.now (moves_on (way_of network.now target) tuple.now) draft.old draft.new) }
+    ensures ticks { OnOk result (steps.new ≤ steps.old + ways_work network.now (way_of network.now target)) }
+{
+    match target {
+        Target::Edge(state) => go_into(alloc, network, draft, state, tuple, steps),
+        Target::Exit(place) => {
+            let end = network.ends(place.state).get(place.place);
+            go_out(alloc, draft, end, tuple, steps)
+        }
+    }
+}
+
+// Makes what comes of a tuple of a stream, which stands there at a place.
+fn meet_tuple<L: Ledger>(
+    alloc: Global,
+    network: &Network,
+    stores: &Stores,
+    draft: &mut Draft,
+    pairs: &mut Pairs,
+    stream: StreamId,
+    place: usize,
+    tuple: &Tuple,
+    steps: &mut Steps<L>,
+) -> Result<(), Memory>
+    requires network { IsNetwork network.now }
+    requires stores { length stores.now ≡ length network.now }
+    requires below { EndsBelow network.now (length draft.old.made) }
+    requires fits { DraftFits (length draft.old.made) (length network.now) draft.old }
+    requires suits { TupleSuits network.now (held stores.now) stream tuple.now }
+    ensures grows { OnOk result (Grows network.now (moves_of network.now (held stores.now) stream tuple.now) draft.old draft.new) }
+    ensures lists { OnOk result (Lists network.now stream place tuple.now pairs.old pairs.new) }
+    ensures ticks { OnOk result (steps.new ≤ steps.old + tuple_work network.now (held stores.now) stream tuple.now) }
+{
+    let targets = targets_for(alloc, network, stream, tuple)?;
+    go_all(alloc, network, draft, targets.as_slice(), tuple, steps)?;
+    let states = waits_for(alloc, network, stream, tuple)?;
+    meet_waits(
+        alloc,
+        network,
+        stores,
+        draft,
+        pairs,
+        states.as_slice(),
+        stream,
+        place,
+        tuple,
+        steps,
+    )
+}
+
+/// Makes what comes of the tuples of a stream, and lists them with the waiting states. After want of memory
+/// the draft and the pairs are of no more use.
+pub(crate) fn meet_stream<L: Ledger>(
+    alloc: Global,
+    network: &Network,
+    stores: &Stores,
+    draft: &mut Draft,
+    pairs: &mut Pairs,
+    stream: StreamId,
+    tuples: &[Tuple],
+    steps: &mut Steps<L>,
+) -> Result<(), Memory>
+    requires network { IsNetwork network.now }
+    requires stores { length stores.now ≡ length network.now }
+    requires below { EndsBelow network.now (length draft.old.made) }
+    requires fits { DraftFits (length draft.old.made) (length network.now) draft.old }
+    requires suits { All (TupleSuits network.now (held stores.now) stream) tuples.now }
+    ensures grows { OnOk result (Grows network.now (moves_of_all network.now (held stores.now) stream tuples.now) draft.old draft.new) }
+    ensures lists { OnOk result (ListsAll network.now stream tuples.now pairs.old pairs.new) }
+    ensures ticks { OnOk result (steps.new ≤ steps.old + stream_work network.now (held stores.now) stream tuples.now) }
+{
+    for (place, tuple) in tuples.iter().enumerate() {
+        meet_tuple(
+            alloc, network, stores, draft, pairs, stream, place, tuple, steps,
+        )?;
+    }
+    Ok(())
+}

@@ -1,0 +1,65 @@
+//! Tuples on their way through steps, with the number of tests.
+ghost use Rattle.std.specs.Prelude.{◌≡◌, ◌+◌, ◌≤◌, IfOk};
+ghost use Rattle.automaton.specs.Steps.{pass};
+ghost use Rattle.epoch_draft.specs.Work.{keeps};
+ghost use Rattle.epoch_pass.specs.Suits.{StepSuits};
+
+use automaton::Stage;
+use cay_host::{Ledger, Steps};
+use event_types::{Memory, Tuple};
+use scalar_expr::{apply, holds};
+use std::alloc::Global;
+
+/// What the tuple is after the stages, or nothing where one of them doesn't let it pass.
+pub(crate) fn pass_on<L: Ledger>(
+    alloc: Global,
+    step: &[Stage],
+    tuple: &Tuple,
+    steps: &mut Steps<L>,
+) -> Result<Option<Tuple>, Memory>
+    requires { StepSuits step.now tuple.now }
+    ensures value { IfOk result (λ passed. passed ≡ pass step.now tuple.now) }
+    ensures ticks { steps.new ≤ steps.old + keeps step.now }
+{
+    match step {
+        [] => Ok(Some(tuple.copy(alloc)?)),
+        [Stage::Keep(condition), rest @ ..] => {
+            if holds(condition, tuple, None, steps) {
+                pass_on(alloc, rest, tuple, steps)
+            } else {
+                Ok(None)
+            }
+        }
+        [Stage::Make(projection), rest @ ..] => {
+            let made = apply(alloc, projection, tuple, None, tuple.from(), tuple.at())?;
+            pass_made(alloc, rest, made, steps)
+        }
+    }
+}
+
+// The same of a tuple that is handed over, and so isn't copied.
+fn pass_made<L: Ledger>(
+    alloc: Global,
+    step: &[Stage],
+    tuple: Tuple,
+    steps: &mut Steps<L>,
+) -> Result<Option<Tuple>, Memory>
+    requires { StepSuits step.now tuple }
+    ensures value { IfOk result (λ passed. passed ≡ pass step.now tuple) }
+    ensures ticks { steps.new ≤ steps.old + keeps step.now }
+{
+    match step {
+        [] => Ok(Some(tuple)),
+        [Stage::Keep(condition), rest @ ..] => {
+            if holds(condition, &tuple, None, steps) {
+                pass_made(alloc, rest, tuple, steps)
+            } else {
+                Ok(None)
+            }
+        }
+        [Stage::Make(projection), rest @ ..] => {
+            let made = apply(alloc, projection, &tuple, None, tuple.from(), tuple.at())?;
+            pass_made(alloc, rest, made, steps)
+        }
+    }
+}

@@ -1,0 +1,179 @@
+//! The second half of the closing: what was made of an epoch is put in place. Nothing here takes memory.
+ghost use Rattle.std.specs.Prelude.{◌≡◌, ◌+◌, ◌<◌, ◌≤◌, ◌++◌, [], ℕ, None, Some, Contains, IsPermutation, IsTrue, filter, length, not, slice_index_or, take};
+ghost use Rattle.std.specs.List.{All};
+ghost use Rattle.instances.specs.Plain.{Plain};
+ghost use Rattle.semantics.specs.Nexts.{is_eligible};
+ghost use Rattle.scalar_expr.specs.Fits.{AllFit};
+ghost use Rattle.automaton.specs.States.{is_used, wait_at};
+ghost use Rattle.automaton.specs.declared.wait.Wait.{Wait};
+ghost use Rattle.epoch_draft.specs.Deriving.{CanDraw, DrawnUpTo, news_of};
+ghost use Rattle.epoch_draft.specs.Held.{held, instances_in};
+ghost use Rattle.epoch_draft.specs.Purging.{ListsBounded};
+ghost use Rattle.epoch_draft.specs.Settling.{AreClosed, AreLinked, AreSettled, AreTaken, IsTakenAt, PairSuits, shape_of, takes_work, tuples_in};
+
+use crate::draft::{Beads, Draft, Lists, Pair, Pairs};
+use crate::meeting::Stores;
+use crate::purging::purge_listed;
+use automaton::{Layout, Network};
+use cay_host::{Ledger, Steps};
+use event_types::{StreamId, Tuple, Tuples};
+use inst_chain::Chain;
+use instances::{Instance, PlainStore, Waiting};
+use scalar_expr::Conj;
+
+/// Takes the stores over an epoch of this time that was drawn: what its tuples match is taken out, the new
+/// instances come in, and what no event after that time can match is taken out. Takes no memory.
+pub fn settle<L: Ledger>(
+    network: &Network,
+    layout: &Layout,
+    bounded: &[usize],
+    stores: &mut Stores,
+    opened: &Lists,
+    draft: &mut Draft,
+    pairs: &Pairs,
+    time: u64,
+    steps: &mut Steps<L>,
+)
+    requires can_draw { CanDraw network.now layout.now stores.old opened.now }
+    requires drawn { DrawnUpTo network.now layout.now stores.old opened.now layout.now.order draft.old pairs.now }
+    requires bounded { ListsBounded network.now (length network.now) bounded.now }
+    ensures closed { AreClosed (time + 1) network.now (news_of opened.now draft.old.made layout.now.order) stores.old stores.new }
+    ensures made { draft.new.made ≡ draft.old.made }
+    ensures ticks { steps.new ≤ steps.old + takes_work (held stores.old) pairs.now }
+{
+    step(network, layout, stores, opened, draft, pairs, steps);
+    purge_listed(stores, bounded, time);
+}
+
+// The same without the purge.
+fn step<L: Ledger>(
+    network: &Network,
+    _layout: &Layout,
+    stores: &mut Stores,
+    opened: &Lists,
+    draft: &mut Draft,
+    pairs: &Pairs,
+    steps: &mut Steps<L>,
+)
+    requires can_draw { CanDraw network.now _layout.now stores.old opened.now }
+    requires drawn { DrawnUpTo network.now _layout.now stores.old opened.now _layout.now.order draft.old pairs.now }
+    ensures settled { AreSettled network.now (news_of opened.now draft.old.made _layout.now.order) stores.old stores.new }
+    ensures made { draft.new.made ≡ draft.old.made }
+    ensures ticks { steps.new ≤ steps.old + takes_work (held stores.old) pairs.now }
+{
+    take_all(
+        network,
+        stores,
+        opened,
+        &draft.made,
+        pairs.as_slice(),
+        steps,
+    );
+    link_all(stores, &mut draft.beads, draft.reached.numbers.as_slice());
+}
+
+// Takes out the instances that the tuples of these pairs match.
+fn take_all<L: Ledger>(
+    network: &Network,
+    stores: &mut Stores,
+    opened: &Lists,
+    made: &Lists,
+    pairs: &[Pair],
+    steps: &mut Steps<L>,
+)
+    requires stores { length stores.old ≡ length network.now }
+    requires as_many { length made.now ≡ length opened.now }
+    requires pairs { All (PairSuits network.now (tuples_in opened.now made.now) (length opened.now) (held stores.old)) pairs.now }
+    ensures taken { AreTaken network.now (tuples_in opened.now made.now) pairs.now stores.old stores.new }
+    ensures ticks { steps.new ≤ steps.old + takes_work (held stores.old) pairs.now }
+{
+    for pair in pairs {
+        let tuples = tuples_on(opened, made, pair.stream);
+        take_at(network, stores, pair.state, tuples.get(pair.place), steps);
+    }
+}
+
+// The tuples of a stream in the epoch: the open ones, or else those that were made.
+fn tuples_on<'a>(opened: &'a Lists, made: &'a Lists, stream: StreamId) -> &'a Tuples
+    requires opened { stream < length opened.now }
+    requires made { stream < length made.now }
+    ensures { result.now ≡ tuples_in opened.now made.now stream }
+{
+    let tuples = opened.get(stream);
+    if tuples.len() == 0 {
+        made.get(stream)
+    } else {
+        tuples
+    }
+}
+
+// Takes the instances at a state out that the tuple matches.
+fn take_at<L: Ledger>(
+    network: &Network,
+    stores: &mut Stores,
+    state: usize,
+    tuple: &Tuple,
+    steps: &mut Steps<L>,
+)
+    requires used { IsTrue (is_used network.now state) }
+    requires stores { state < length stores.old }
+    requires fits { (wait : Wait) → wait_at network.now state ≡ Some wait → All (λ instance. AllFit wait.choose tuple.now (Some instance.tuple)) (held stores.old state) }
+    ensures taken { IsTakenAt network.now tuple.now state stores.old stores.new }
+    ensures ticks { steps.new ≤ steps.old + length (held stores.old state) }
+{
+    if let Some(wait) = network.wait(state) {
+        take_in(stores.get_mut(state), &wait.choose, tuple, steps);
+    }
+}
+
+// Takes the instances out of a store that the tuple matches.
+fn take_in<L: Ledger>(
+    slot: &mut Option<PlainStore>,
+    choose: &Conj,
+    tuple: &Tuple,
+    steps: &mut Steps<L>,
+)
+    requires { All (λ instance. AllFit choose.now tuple.now (Some instance.tuple)) (instances_in slot.old) }
+    ensures instances { instances_in slot.new ≡ filter (λ instance. not (is_eligible choose.now instance.tuple tuple.now)) (instances_in slot.old) }
+    ensures shape { shape_of slot.new ≡ shape_of slot.old }
+    ensures ticks { steps.new ≤ steps.old + length (instances_in slot.old) }
+{
+    if let Some(store) = slot {
+        store.take(tuple, choose, steps);
+    }
+}
+
+// Puts the beads of these states into their stores.
+fn link_all(stores: &mut Stores, beads: &mut Beads, numbers: &[usize])
+    requires stores { All (λ number. number < length stores.old) numbers.now }
+    requires beads { All (λ number. number < length beads.old) numbers.now }
+    requires once { (place : ℕ) → place < length numbers.now → Contains (take place numbers.now) (slice_index_or numbers.now place 0) → ⊥ }
+    ensures { AreLinked numbers.now beads.old stores.old stores.new }
+{
+    for number in numbers {
+        link_in(stores.get_mut(*number), beads.get_mut(*number));
+    }
+}
+
+// Puts beads into a store.
+fn link_in(slot: &mut Option<PlainStore>, beads: &mut Chain<Instance>)
+    ensures instances { (store : Plain) → slot.old ≡ Some store → IsPermutation (instances_in slot.new) (store.instances ++ beads.old) }
+    ensures idle { beads.old ≡ [] → slot.new ≡ slot.old }
+    ensures shape { shape_of slot.new ≡ shape_of slot.old }
+{
+    if let Some(store) = slot {
+        link(store, beads);
+    }
+}
+
+// Puts beads into the store.
+fn link(store: &mut PlainStore, beads: &mut Chain<Instance>)
+    ensures instances { IsPermutation store.new.instances (store.old.instances ++ beads.old) }
+    ensures idle { beads.old ≡ [] → store.new ≡ store.old }
+    ensures condition { store.new.condition ≡ store.old.condition }
+{
+    let mut walk = beads.walk();
+    while let Some(bead) = walk.unlink() {
+        store.link(bead);
+    }
+}
