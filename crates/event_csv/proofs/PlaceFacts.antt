@@ -1,5 +1,5 @@
 -- What a feed holds, as a line of it is passed.
-use Rattle.std.proofs.Common.{◌≡◌, ◌∙◌, ℕ, suc, ◌+◌, ◌-◌, ◌<◌, ◌≤◌, ◌^◌, Bool, true, false, cond, List, [], ◌∷◌, ◌++◌, length, take, drop, get_or, refl, sym, ap, subst, max, arith, length-take, ltb-true, ltb-false, append_assoc, eqb-true, length-append, length-drop, get_or-take, get_or-drop}
+use Rattle.std.proofs.Common.{◌≡◌, ◌∙◌, ℕ, suc, ◌+◌, ◌-◌, ◌<◌, ◌≤◌, ◌^◌, Bool, true, false, cond, List, [], ◌∷◌, ◌++◌, length, take, drop, get_or, refl, sym, ap, subst, max, arith, length-take, ltb-true, ltb-false, append_assoc, eqb-true, length-append, length-drop, get_or-take, get_or-drop, slice_index}
 use Rattle.std.proofs.lemmas.List.{drop-append-le, get_or_append_left, drop-drop, drop_more, length-take-le, take-append-drop, take-append-le, take_all}
 use Rattle.std.proofs.lemmas.List.Sums.{count_by-le-length, sum_by-append}
 use Rattle.std.specs.Prelude.{◌==◌, ◌&&◌, ◌||◌, not, nat_lt, slice_get, Some}
@@ -325,3 +325,20 @@ IsPlace-append bytes piece place p room = record {
       let within : place.start ≤ length bytes = omega (arith, p.in_order, p.within) in
       rw (drop-append-le place.start bytes piece within) (HasNumbers-append place.gone (drop place.start bytes) piece p.numbers room);
 }
+
+-- what was sought behind a place isn't there
+pub none-behind : (bytes : List ℕ) (from many : ℕ) → ((k : ℕ) → 0 ≤ k → k < many → (slice_index (drop from bytes) k == 10) ≡ true → ⊥) → NoFeed bytes from (from + many)
+none-behind bytes from many none k le lt = by (is_feed (slice_index bytes k)) refl
+  where
+    by : (d : Bool) → is_feed (slice_index bytes k) ≡ d → is_feed (slice_index bytes k) ≡ false
+    by true e =
+        let at : from + (k - from) ≡ k = omega (arith, le) in
+        let same : slice_index (drop from bytes) (k - from) ≡ slice_index bytes k = get_or-drop from bytes (k - from) 0 ∙ ap (slice_index bytes) at in
+        absurd (none (k - from) (omega arith) (omega (arith, le, lt)) (rw same e))
+    by false e = e
+
+-- what was sought behind a place stands there
+pub feed-behind : (bytes : List ℕ) (from at : ℕ) → (slice_index (drop from bytes) at == 10) ≡ true → is_feed (slice_index bytes (from + at)) ≡ true
+feed-behind bytes from at h =
+    let same : slice_index (drop from bytes) at ≡ slice_index bytes (from + at) = get_or-drop from bytes at 0 in
+    rw same at h

@@ -7,6 +7,7 @@ ghost use Rattle.event_csv.specs.Fed.{Gives, IsLine, Takes, feeds_in, feeds_so_f
 ghost use Rattle.event_csv.specs.Place.{BegunOrShort, IsFeedAt, IsPlace, NoFeed, fed_at, is_skipped as skip_test, met_after};
 
 use crate::got::Got;
+use memchr::memchr;
 
 /// The greatest number of bytes of a line that is read.
 pub(crate) const LINE_LIMIT: usize = 65_536;
@@ -93,12 +94,8 @@ fn feed_from(bytes: &[u8], from: usize) -> Option<usize>
     requires { from ≤ length bytes.now }
     ensures { MatchOption result (NoFeed bytes.now from (length bytes.now)) (λ end. IsFeedAt bytes.now from end) }
 {
-    for at in from..bytes.len() {
-        if bytes[at] == b'\n' {
-            return Some(at);
-        }
-    }
-    None
+    let at = memchr(b'\n', &bytes[from..])?;
+    Some(from + at)
 }
 
 // Passes the line that ends at `end`, and gives it unless it is passed over.
