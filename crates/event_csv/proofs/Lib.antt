@@ -8,6 +8,7 @@ pub mod LineFacts
 pub mod NumberFacts
 pub mod PlaceFacts
 pub mod PlainLines
+pub mod QuickFacts
 pub mod RecordFacts
 pub mod RoundFacts
 pub mod ValueFacts

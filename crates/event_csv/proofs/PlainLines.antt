@@ -31,7 +31,7 @@ both true b h = (refl, h)
 both false b h = cc
 
 -- what a plain byte does within a record
-step-plain : (b : Bool) (c : ℕ) → is_plain c ≡ true → step line_config (field_state b) c ≡ plain_step (c == comma)
+pub step-plain : (b : Bool) (c : ℕ) → is_plain c ≡ true → step line_config (field_state b) c ≡ plain_step (c == comma)
 step-plain true c h =
     let e = not_either (c == quote) (c == line_feed) h in
     by (c == comma) refl

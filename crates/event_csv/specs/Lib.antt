@@ -5,4 +5,5 @@ pub mod Fields
 pub mod Lines
 pub mod Numbers
 pub mod Place
+pub mod Quick
 pub mod Rounds

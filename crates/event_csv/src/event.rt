@@ -9,6 +9,7 @@ ghost use Rattle.event_csv.specs.Fields.{fields_left};
 use crate::fault::{LineFault, ReadFail};
 use crate::fields::{Fields, is_plain, record_of};
 use crate::numbers::{int, time};
+use crate::quick::read_quickly;
 use event_types::{Kind, List, Memory, StreamId, Text, Tuple, Vals, Value};
 use std::alloc::Global;
 use stream_schema::{Schema, Streams};
@@ -26,21 +27,59 @@ pub fn read_event(alloc: Global, streams: &Streams, line: &[u8]) -> Result<Seen,
     ensures ok { IfOk result (λ seen. event streams.now line.now ≡ Ok seen) }
     ensures bad { IfErr result (Tells (event streams.now line.now)) }
 {
+    read_event_near(alloc, streams, 0, line)
+}
+
+/// The same, where the name of the stream `near` is compared before names are looked up. It may be any number: that of
+/// the event before is found soonest where lines of one stream follow one another.
+pub fn read_event_near(
+    alloc: Global,
+    streams: &Streams,
+    near: StreamId,
+    line: &[u8],
+) -> Result<Seen, ReadFail>
+    requires { IsLine line.now }
+    ensures ok { IfOk result (λ seen. event streams.now line.now ≡ Ok seen) }
+    ensures bad { IfErr result (Tells (event streams.now line.now)) }
+{
+    match read_quickly(alloc, streams, near, line) {
+        Some(seen) => Ok(seen),
+        None => read_slowly(alloc, streams, near, line),
+    }
+}
+
+// The event of any line, or its first fault. Out of line, since a reader of `csv` holds a long buffer.
+#[inline(never)]
+fn read_slowly(
+    alloc: Global,
+    streams: &Streams,
+    near: StreamId,
+    line: &[u8],
+) -> Result<Seen, ReadFail>
+    requires { IsLine line.now }
+    ensures ok { IfOk result (λ seen. event streams.now line.now ≡ Ok seen) }
+    ensures bad { IfErr result (Tells (event streams.now line.now)) }
+{
     let Ok(text) = std::str::from_utf8(line) else {
         return Err(ReadFail::Bad(LineFault::NotUtf8));
     };
     if is_plain(line) {
-        return read_fields(alloc, streams, Fields::Line(Some(text)));
+        return read_fields(alloc, streams, near, Fields::Line(Some(text)));
     }
     match record_of(alloc, line) {
         Err(_) => Err(ReadFail::Memory),
         Ok(None) => Err(ReadFail::Bad(LineFault::UnknownStream)),
-        Ok(Some(row)) => read_fields(alloc, streams, Fields::Row(&row, 0)),
+        Ok(Some(row)) => read_fields(alloc, streams, near, Fields::Row(&row, 0)),
     }
 }
 
 // The event of the fields of a line.
-fn read_fields(alloc: Global, streams: &Streams, fields: Fields<'_>) -> Result<Seen, ReadFail>
+fn read_fields(
+    alloc: Global,
+    streams: &Streams,
+    near: StreamId,
+    fields: Fields<'_>,
+) -> Result<Seen, ReadFail>
     ensures ok { IfOk result (λ seen. fields_event streams.now (fields_left fields.entry) ≡ Ok seen) }
     ensures bad { IfErr result (Tells (fields_event streams.now (fields_left fields.entry))) }
 {
@@ -49,18 +88,18 @@ fn read_fields(alloc: Global, streams: &Streams, fields: Fields<'_>) -> Result<S
     let Some(name) = fields.next() else {
         return Err(ReadFail::Bad(LineFault::UnknownStream));
     };
-    let Some(stream) = find_declared(streams, name) else {
+    let Some(stream) = find_declared(streams, near, name) else {
         return Err(ReadFail::Bad(LineFault::UnknownStream));
     };
     read_tuple(alloc, stream, streams.schema(stream), got, fields)
 }
 
-// The number of the declared stream of a name.
-fn find_declared(streams: &Streams, name: &str) -> Option<StreamId>
+/// The number of the declared stream of a name; the stream `near` is tried first.
+pub(crate) fn find_declared(streams: &Streams, near: StreamId, name: &str) -> Option<StreamId>
     ensures within { IfSome result (λ stream. stream < length streams.now) }
     ensures value { declared_stream streams.now (number_of name.now streams.now) ≡ stream_with (schemas_of streams.now) result }
 {
-    let stream = streams.find(name)?;
+    let stream = streams.find_near(near, name)?;
     if streams.declared(stream) {
         Some(stream)
     } else {

@@ -98,7 +98,8 @@ pub(crate) fn is_plain(line: &[u8]) -> bool
     !may_have_mark(line) && has_no_quote(line)
 }
 
-fn may_have_mark(line: &[u8]) -> bool
+/// Whether a line may begin with a mark.
+pub(crate) fn may_have_mark(line: &[u8]) -> bool
     ensures { result ≡ false → strip_bom line.now ≡ line.now }
 {
     match line {

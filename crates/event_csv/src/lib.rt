@@ -12,8 +12,9 @@ mod got;
 mod laws;
 mod numbers;
 mod place;
+mod quick;
 
-pub use event::{Seen, read_event};
+pub use event::{Seen, read_event, read_event_near};
 pub use fault::{LineFault, ReadFail};
 pub use feed::Feed;
 pub use got::Got;

@@ -65,8 +65,8 @@ fn up_to(digits: &[u8], most: u128) -> Option<u128>
     }
 }
 
-// As many digits as write only numbers of 64 bits.
-const SHORT: usize = 19;
+/// As many digits as write only numbers of 64 bits.
+pub(crate) const SHORT: usize = 19;
 
 // The number that few bytes write, where each is a digit.
 fn short(text: &[u8]) -> Option<u64>

@@ -5,7 +5,7 @@ use Rattle.event_csv.specs.Fields.{line_fields, parts_of}
 use Rattle.event_csv.specs.declared.event.Seen.{Seen}
 use Rattle.event_csv.specs.declared.fault.LineFault.{LineFault}
 use Rattle.event_csv.proofs.EventFacts.{event-not_text, event-text}
-use Rattle.event_csv.proofs.event.read_event.Goals as goal
+use Rattle.event_csv.proofs.event.read_slowly.Goals as goal
 
 pub returns-in_default-clause-bad : goal.returns-in_default-clause-bad
 returns-in_default-clause-bad c = event-not_text c.args.streams.now c.args.line.now c.requires.short c.in_default.ensures.cases.0

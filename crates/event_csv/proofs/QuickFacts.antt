@@ -1,0 +1,334 @@
+-- Fields at the front of a text, by the bytes that they end before.
+use Rattle.std.proofs.Common.{◌≡◌, ◌∙◌, ℕ, zero, suc, ◌+◌, ◌*◌, ◌-◌, ◌<◌, ◌≤◌, Bool, true, false, List, [], ◌∷◌, ◌++◌, length, take, drop, get_or, refl, sym, ap, arith, add-one, cond, Bor, IfSome, append-nil, append_assoc, length-append, eq-eqb, eqb-true, ◌^◌, Option, Some, None, Ok, option_map, ltb-true}
+use Rattle.std.specs.Prelude.{◌==◌, ◌&&◌, neg_ℤ, not, nat_le, nat_lt, pos, slice_get}
+use Rattle.std.specs.Char.{digit_value, is_ascii_digit}
+use Rattle.std.specs.List.{list_all}
+use Rattle.std.specs.Str.Parse.{digits_value, digits_value_after}
+use Rattle.std.proofs.Math.Seq.{take-length, take-suc}
+use Rattle.std.proofs.lemmas.Bool.{le-leb, leb-true}
+use Rattle.std.proofs.lemmas.List.{length-map, length-take-le}
+use Rattle.std.proofs.lemmas.List.Folds.{list_all_more}
+use Rattle.std.proofs.lemmas.List.Sums.{sum_by-cons}
+use Rattle.event_csv.specs.Lines.{is_feed}
+use Rattle.csv.specs.Machine.{Read, line_feed, next_record}
+use Rattle.csv.specs.Reading.{strip_bom}
+use Rattle.csv.specs.declared.parser.State.TheVariants as st
+use Rattle.event_csv.specs.Fed.{feeds_in}
+use Rattle.event_csv.specs.Fields.{comma, is_plain, line_config, line_fields, quote}
+use Rattle.event_csv.specs.Event.{Span, declared_stream, fields_event, span_of, stream_with, values_of}
+use Rattle.event_csv.specs.Numbers.{are_digits, int_of, number_up_to, time_of}
+use Rattle.event_types.specs.declared.kind.Kind.{Kind}
+use Rattle.event_types.specs.declared.value.Value.{Value}
+use Rattle.event_types.specs.declared.value.Value.TheVariants as value
+use Rattle.stream_schema.specs.Schema.{Attr, kinds_of}
+use Rattle.stream_schema.specs.Streams.{Entry, number_of, schemas_of}
+use Rattle.event_csv.specs.Quick.{HasDigits, IntFirst, IsFirst, IsPlainEnd, IsQuoteAt, IsQuoted, NumberFirst, SpanFirst, ValueFirst, WriteAll, is_simple, no_quote, read_left}
+use Rattle.event_csv.proofs.PlainLines.{field_state, step-plain}
+use Rattle.event_csv.proofs.ValueFacts.{onto, onto-ok, read-more, values_of-all}
+use Rattle.event_csv.proofs.DigitFacts.{digit-at, digit_value-is}
+
+pub both_true : (a b : Bool) → (a && b) ≡ true → (a ≡ true) × (b ≡ true)
+both_true true b h = (refl, h)
+both_true false b h = cc
+
+pub eq-no : (a b : ℕ) → (a ≡ b → ⊥) → (a == b) ≡ false
+eq-no a b other = by (a == b) refl
+  where
+    by : (d : Bool) → (a == b) ≡ d → (a == b) ≡ false
+    by true e = absurd (other (eqb-true a b e))
+    by false e = e
+
+pub ltb-no : (a b : ℕ) → b ≤ a → nat_lt a b ≡ false
+ltb-no a b le = by (nat_lt a b) refl
+  where
+    by : (d : Bool) → nat_lt a b ≡ d → nat_lt a b ≡ false
+    by true e = absurd (omega (arith, le, ltb-true a b e))
+    by false e = e
+
+-- a digit behind others
+after-snoc : (n : ℕ) (s : List ℕ) (b : ℕ) → digits_value_after 10 n (s ++ b ∷ []) ≡ digits_value_after 10 n s * 10 + digit_value b
+after-snoc n [] b = refl
+after-snoc n (x ∷ s) b = after-snoc (n * 10 + digit_value x) s b
+
+pub value-more : (s : List ℕ) (i n : ℕ) → i < length s → 48 ≤ get_or s i 0 → get_or s i 0 ≤ 57 → digits_value 10 (take i s) ≡ n
+    → digits_value 10 (take (i + 1) s) ≡ n * 10 + (get_or s i 0 - 48)
+value-more s i n h lo hi e =
+    let here : take (i + 1) s ≡ take i s ++ (get_or s i 0 ∷ []) = rw add-one (take-suc s i 0 h) in
+    ap (digits_value_after 10 0) here ∙ after-snoc 0 (take i s) (get_or s i 0) ∙ ap (λ v. v * 10 + digit_value (get_or s i 0)) e
+    ∙ ap (λ d. n * 10 + d) (digit_value-is (get_or s i 0) lo hi)
+
+is-digit : (b : ℕ) → 48 ≤ b → b ≤ 57 → is_ascii_digit b ≡ true
+is-digit b lo hi = rw (le-leb 48 b lo, le-leb b 57 hi) refl
+
+pub digits-more : (s : List ℕ) (i : ℕ) → i < length s → 48 ≤ get_or s i 0 → get_or s i 0 ≤ 57 → are_digits (take i s) ≡ true → are_digits (take (i + 1) s) ≡ true
+digits-more s i h lo hi e = list_all_more is_ascii_digit s i 0 h ∙ rw (e, is-digit (get_or s i 0) lo hi) refl
+
+plain-byte : (b : ℕ) → (b ≡ 34 → ⊥) → (b ≡ 10 → ⊥) → is_plain b ≡ true
+plain-byte b q l = rw (eq-no b 34 q, eq-no b 10 l) refl
+
+simple-byte : (b : ℕ) → (b ≡ 34 → ⊥) → (b ≡ 10 → ⊥) → (b ≡ 44 → ⊥) → is_simple b ≡ true
+simple-byte b q l m = rw (plain-byte b q l, eq-no b 44 m) refl
+
+pub simple-more : (s : List ℕ) (i : ℕ) → i < length s → (get_or s i 0 ≡ 34 → ⊥) → (get_or s i 0 ≡ 10 → ⊥) → (get_or s i 0 ≡ 44 → ⊥) → list_all is_simple (take i s) ≡ true → list_all is_simple (take (i + 1) s) ≡ true
+simple-more s i h q l m e = list_all_more is_simple s i 0 h ∙ rw (e, simple-byte (get_or s i 0) q l m) refl
+
+-- a byte beyond the comma is simple
+pub simple-beyond : (s : List ℕ) (i : ℕ) → i < length s → 44 < get_or s i 0 → list_all is_simple (take i s) ≡ true → list_all is_simple (take (i + 1) s) ≡ true
+simple-beyond s i h beyond e = simple-more s i h (λ q. absurd (omega (arith, beyond, q))) (λ l. absurd (omega (arith, beyond, l))) (λ m. absurd (omega (arith, beyond, m))) e
+
+pub no_quote-more : (s : List ℕ) (i : ℕ) → i < length s → (get_or s i 0 ≡ 34 → ⊥) → list_all no_quote (take i s) ≡ true → list_all no_quote (take (i + 1) s) ≡ true
+no_quote-more s i h q e = list_all_more no_quote s i 0 h ∙ rw (e, eq-no (get_or s i 0) 34 q) refl
+
+-- digits are simple
+digits-simple : (s : List ℕ) → are_digits s ≡ true → list_all is_simple s ≡ true
+digits-simple [] h = refl
+digits-simple (b ∷ s) h =
+    let both = both_true (is_ascii_digit b) (are_digits s) h in
+    let e = both_true (nat_le 48 b) (nat_le b 57) both.0 in
+    let lo : 48 ≤ b = leb-true 48 b e.0 in
+    rw (simple-byte b (λ q. absurd (omega (arith, lo, q))) (λ l. absurd (omega (arith, lo, l))) (λ m. absurd (omega (arith, lo, m)))) (digits-simple s both.1)
+
+-- digits before a comma, or all, end plainly
+pub digits-end : (s : List ℕ) (number i : ℕ) → HasDigits s number i → (i < length s → get_or s i 0 ≡ 44) → IsPlainEnd s i
+digits-end s number i has there = record { within = has.within; simple = digits-simple (take i s) has.digits; ends = there }
+
+pub power-more : (n i d : ℕ) → n < 10 ^ i → d ≤ 9 → n * 10 + d < 10 ^ (i + 1)
+power-more n i d h le = rw add-one (omega arith)
+
+not_true : (b : Bool) → not b ≡ true → b ≡ false
+not_true false h = refl
+not_true true h = cc
+
+-- a simple byte joins a field
+one-before : (c : ℕ) (s : List ℕ) (b : Bool) (before : List (List ℕ)) (field : List ℕ) → is_simple c ≡ true
+    → next_record line_config (field_state b) before field (c ∷ s) ≡ next_record line_config st.InField before (field ++ c ∷ []) s
+unfolding next_record
+one-before c s b before field simple =
+    let both = both_true (is_plain c) (not (c == comma)) simple in
+    rw (step-plain b c both.0, not_true (c == comma) both.1) refl
+
+-- simple bytes and a comma end a field
+plain-run : (s : List ℕ) (i : ℕ) (b : Bool) (before : List (List ℕ)) (field : List ℕ) → i < length s → list_all is_simple (take i s) ≡ true → get_or s i 0 ≡ 44
+    → next_record line_config (field_state b) before field s ≡ next_record line_config st.StartField (before ++ (field ++ take i s) ∷ []) [] (drop (i + 1) s)
+unfolding next_record
+plain-run [] i b before field lt simple there = absurd (omega arith)
+plain-run (c ∷ s) zero b before field lt simple there =
+    let same : c ≡ 44 = there in
+    rw (same, step-plain b 44 refl, append-nil field) refl
+plain-run (c ∷ s) (suc i) b before field lt simple there =
+    let both = both_true (is_simple c) (list_all is_simple (take i s)) simple in
+    let one = both_true (is_plain c) (not (c == comma)) both.0 in
+    let next : suc i + 1 ≡ suc (i + 1) = omega arith in
+    rw (step-plain b c one.0, not_true (c == comma) one.1, next) (
+    plain-run s i true before (field ++ c ∷ []) (omega arith) both.1 there
+    ∙ ap (λ (f : List ℕ). next_record line_config st.StartField (before ++ f ∷ []) [] (drop (i + 1) s)) (append_assoc field (c ∷ []) (take i s))
+    )
+
+-- simple bytes up to the end of the text are a field
+plain-rest : (s : List ℕ) (b : Bool) (before : List (List ℕ)) (field : List ℕ) → list_all is_simple s ≡ true
+    → next_record line_config (field_state b) before field s ≡ Some (before ++ (field ++ s) ∷ [], st.StartRecord, [])
+unfolding next_record
+plain-rest [] true before field simple = rw (append-nil field) refl
+plain-rest [] false before field simple = rw (append-nil field) refl
+plain-rest (c ∷ s) b before field simple =
+    let both = both_true (is_simple c) (list_all is_simple s) simple in
+    let one = both_true (is_plain c) (not (c == comma)) both.0 in
+    rw (step-plain b c one.0, not_true (c == comma) one.1) (
+    plain-rest s true before (field ++ c ∷ []) both.1
+    ∙ ap (λ (f : List ℕ). Some (before ++ f ∷ [], st.StartRecord, [])) (append_assoc field (c ∷ []) s)
+    )
+
+pub first-cut : (s : List ℕ) (i : ℕ) → IsPlainEnd s i → i < length s → IsFirst s (take i s) (Some (drop (i + 1) s))
+first-cut s i h lt = record { reads = λ before. plain-run s i false before [] lt h.simple (h.ends lt) }
+
+pub first-all : (s : List ℕ) (i : ℕ) → IsPlainEnd s i → i ≡ length s → IsFirst s s None
+first-all s i h e =
+    let all : take i s ≡ s = rw e (take-length s) in
+    record { reads = λ before. plain-rest s false before [] (rw all at h.simple) }
+
+-- bytes up to a quote join a quoted field
+quoted-run : (s : List ℕ) (i : ℕ) (before : List (List ℕ)) (field : List ℕ) → i < length s → list_all no_quote (take i s) ≡ true → get_or s i 0 ≡ 34
+    → next_record line_config st.InQuoted before field s ≡ next_record line_config st.AfterQuote before (field ++ take i s) (drop (i + 1) s)
+unfolding next_record
+quoted-run [] i before field lt none there = absurd (omega arith)
+quoted-run (c ∷ s) zero before field lt none there =
+    let same : c ≡ 34 = there in
+    rw (same, append-nil field) refl
+quoted-run (c ∷ s) (suc i) before field lt none there =
+    let both = both_true (no_quote c) (list_all no_quote (take i s)) none in
+    let next : suc i + 1 ≡ suc (i + 1) = omega arith in
+    rw (not_true (c == quote) both.0, next) (
+    quoted-run s i before (field ++ c ∷ []) (omega arith) both.1 there
+    ∙ ap (λ (f : List ℕ). next_record line_config st.AfterQuote before f (drop (i + 1) s)) (append_assoc field (c ∷ []) (take i s))
+    )
+
+after-none : (s : List ℕ) (before : List (List ℕ)) (field : List ℕ) → length s ≡ 0 → next_record line_config st.AfterQuote before field s ≡ Some (before ++ field ∷ [], st.StartRecord, [])
+unfolding next_record
+after-none [] before field none = refl
+after-none (c ∷ s) before field none = absurd (omega arith)
+
+after-comma : (s : List ℕ) (before : List (List ℕ)) (field : List ℕ) → 0 < length s → get_or s 0 0 ≡ 44
+    → next_record line_config st.AfterQuote before field s ≡ next_record line_config st.StartField (before ++ field ∷ []) [] (drop 1 s)
+unfolding next_record
+after-comma [] before field some there = absurd (omega arith)
+after-comma (c ∷ s) before field some there = let same : c ≡ 44 = there in rw same refl
+
+pub quoted-last : (s : List ℕ) (i : ℕ) → IsQuoteAt s i → length (drop (i + 1) s) ≡ 0 → IsQuoted s (take i s) None
+quoted-last s i h none = record { reads = λ before. quoted-run s i before [] h.within h.none h.here ∙ after-none (drop (i + 1) s) before (take i s) none }
+
+pub quoted-cut : (s : List ℕ) (i : ℕ) → IsQuoteAt s i → 0 < length (drop (i + 1) s) → get_or (drop (i + 1) s) 0 0 ≡ 44 → IsQuoted s (take i s) (Some (drop 1 (drop (i + 1) s)))
+quoted-cut s i h some there = record { reads = λ before. quoted-run s i before [] h.within h.none h.here ∙ after-comma (drop (i + 1) s) before (take i s) some there }
+
+-- a quote begins a quoted field
+pub first-quoted : (s field : List ℕ) (left : Option (List ℕ)) → 0 < length s → get_or s 0 0 ≡ 34 → IsQuoted (drop 1 s) field left → IsFirst s field left
+unfolding next_record
+first-quoted [] field left some there h = absurd (omega arith)
+first-quoted (c ∷ s) field left some there h = let same : c ≡ 34 = there in record { reads = λ before. rw same (h.reads before) }
+
+pub some-quoted : (s : List ℕ) (r : Option (Bor (List ℕ) × Option (Bor (List ℕ)))) → 0 < length s → get_or s 0 0 ≡ 34
+    → IfSome r (λ r. IsQuoted (drop 1 s) r.0.now (option_map (λ (t : Bor (List ℕ)). t.now) r.1)) → IfSome r (λ r. IsFirst s r.0.now (option_map (λ (t : Bor (List ℕ)). t.now) r.1))
+some-quoted s None some there h = tt
+some-quoted s (Some r) some there h = first-quoted s r.0.now (option_map (λ (t : Bor (List ℕ)). t.now) r.1) some there h
+
+-- the fields of a line are those from its first byte on
+pub line-fields : (line : List ℕ) (fields : List (List ℕ)) → strip_bom line ≡ line → 0 < length line → feeds_in line ≡ 0
+    → next_record line_config st.StartField [] [] line ≡ Some (fields, st.StartRecord, []) → line_fields line ≡ Some fields
+unfolding line_fields next_record
+line-fields [] fields strip some none reads = absurd (omega arith)
+line-fields (c ∷ line) fields strip some none reads = by (c == line_feed) refl
+  where
+    by : (d : Bool) → (c == line_feed) ≡ d → line_fields (c ∷ line) ≡ Some fields
+    by true e =
+        let count : feeds_in (c ∷ line) ≡ cond (is_feed c) 1 0 + feeds_in line = sum_by-cons (λ x. cond (is_feed x) 1 0) c line in
+        let one : ℕ = 1 in
+        let feed : cond (is_feed c) one 0 ≡ one = rw e refl in
+        absurd (omega (arith, count, feed, none))
+    by false e =
+        let one : next_record line_config st.StartRecord [] [] (c ∷ line) ≡ next_record line_config st.StartField [] [] (c ∷ line) = rw e refl in
+        rw strip (ap (option_map (λ (p : Read). p.0)) (one ∙ reads))
+
+number-up : (most : ℕ) (field : List ℕ) (n : ℕ) → 1 ≤ length field → are_digits field ≡ true → digits_value 10 field ≡ n → n ≤ most → number_up_to most field ≡ Some n
+number-up most field n some digits value le = rw (le-leb 1 (length field) some, digits, value, le-leb n most le) refl
+
+pub time-first : (s : List ℕ) (n : ℕ) (left : Option (List ℕ)) (h : NumberFirst s n left) → time_of h.field ≡ Some n
+time-first s n left h = number-up 18446744073709551615 h.field n h.some h.digits h.value h.fits
+
+int-digits : (field : List ℕ) (n : ℕ) → 1 ≤ length field → are_digits field ≡ true → digits_value 10 field ≡ n → n ≤ 18446744073709551615 → int_of field ≡ Some (pos n)
+int-digits [] n some digits value le = absurd (omega arith)
+int-digits (b ∷ more) n some digits value le =
+    let d = digit-at (b ∷ more) 0 digits (omega arith) in
+    let minus = eq-no b 45 (λ e. absurd (omega (arith, d.0, d.1, e))) in
+    let plus = eq-no b 43 (λ e. absurd (omega (arith, d.0, d.1, e))) in
+    rw (minus, plus) (ap (option_map pos) (number-up 170141183460469231731687303715884105727 (b ∷ more) n some digits value (omega (arith, le))))
+
+-- digits write their number
+pub int-first : (s : List ℕ) (n : ℕ) (left : Option (List ℕ)) → NumberFirst s n left → IntFirst s (pos n) left
+int-first s n left h = record { field = h.field; first = h.first; writes = ap (option_map value.Int) (int-digits h.field n h.some h.digits h.value h.fits) }
+
+-- a sign begins the field of the digits behind it
+signed-first : (sign : ℕ) (s : List ℕ) (n : ℕ) (left : Option (List ℕ)) → is_simple sign ≡ true → (h : NumberFirst s n left) → IsFirst (sign ∷ s) (sign ∷ h.field) left
+signed-first sign s n left simple h = record { reads = λ before. one-before sign s false before [] simple ∙ h.goes_on before (sign ∷ []) }
+
+-- a minus writes the number below zero
+pub minus-first : (s : List ℕ) (n : ℕ) (left : Option (List ℕ)) → 0 < length s → get_or s 0 0 ≡ 45 → NumberFirst (drop 1 s) n left → IntFirst s (neg_ℤ (pos n)) left
+minus-first [] n left some there h = absurd (omega arith)
+minus-first (c ∷ s) n left some there h =
+    let same : c ≡ 45 = there in
+    let writes : int_of (45 ∷ h.field) ≡ Some (neg_ℤ (pos n)) =
+    ap (option_map (λ n. neg_ℤ (pos n))) (number-up 170141183460469231731687303715884105728 h.field n h.some h.digits h.value (omega (arith, h.fits))) in
+    rw same (record { field = 45 ∷ h.field; first = signed-first 45 s n left refl h; writes = ap (option_map value.Int) writes })
+
+-- a plus writes the number
+pub plus-first : (s : List ℕ) (n : ℕ) (left : Option (List ℕ)) → 0 < length s → get_or s 0 0 ≡ 43 → NumberFirst (drop 1 s) n left → IntFirst s (pos n) left
+plus-first [] n left some there h = absurd (omega arith)
+plus-first (c ∷ s) n left some there h =
+    let same : c ≡ 43 = there in
+    let writes : int_of (43 ∷ h.field) ≡ Some (pos n) =
+    ap (option_map pos) (number-up 170141183460469231731687303715884105727 h.field n h.some h.digits h.value (omega (arith, h.fits))) in
+    rw same (record { field = 43 ∷ h.field; first = signed-first 43 s n left refl h; writes = ap (option_map value.Int) writes })
+
+pub number-cut : (s : List ℕ) (n i : ℕ) → HasDigits s n i → (i ≡ 0 → ⊥) → i < length s → get_or s i 0 ≡ 44 → NumberFirst s n (Some (drop (i + 1) s))
+number-cut s n i has some lt there =
+    let size = length-take-le i s has.within in record {
+      field = take i s;
+      first = first-cut s i (digits-end s n i has (λ _. there)) lt;
+      goes_on = λ before begun. plain-run s i true before begun lt (digits-simple (take i s) has.digits) there;
+      some = omega (arith, size, some);
+      digits = has.digits;
+      value = has.value;
+      fits = has.fits;
+    }
+
+pub number-all : (s : List ℕ) (n i : ℕ) → HasDigits s n i → (i ≡ 0 → ⊥) → i ≡ length s → NumberFirst s n None
+number-all s n i has some e =
+    let all : take i s ≡ s = rw e (take-length s) in record {
+      field = s;
+      first = first-all s i (digits-end s n i has (λ lt. absurd (omega (arith, lt, e)))) e;
+      goes_on = λ before begun. plain-rest s true before begun (digits-simple s (rw all at has.digits));
+      some = omega (arith, e, some);
+      digits = rw all at has.digits;
+      value = rw all at has.value;
+      fits = has.fits;
+    }
+
+-- a comma stands first, and then the detection
+pub span-short : (s : List ℕ) (n : ℕ) (left : Option (List ℕ)) → 0 < length s → get_or s 0 0 ≡ 44 → NumberFirst (drop 1 s) n left → SpanFirst s (n, n) left
+span-short s n left some there h =
+    let end : IsPlainEnd s 0 = record { within = omega arith; simple = refl; ends = λ lt. there } in record {
+      start = [];
+      detection = h.field;
+      reads = λ before. (first-cut s 0 end some).reads before ∙ h.first.reads (before ++ [] ∷ []) ∙ ap (read_left left) (append_assoc before ([] ∷ []) (h.field ∷ []));
+      times = rw (time-first (drop 1 s) n left h) refl;
+    }
+
+-- the start, and then the detection
+pub span-long : (s rest : List ℕ) (n m : ℕ) (left : Option (List ℕ)) → NumberFirst s n (Some rest) → NumberFirst rest m left → n ≤ m → SpanFirst s (n, m) left
+span-long s rest n m left h g le =
+    let early : nat_lt m n ≡ false = ltb-no m n le in
+    let some : (length h.field == 0) ≡ false = eq-no (length h.field) 0 (λ e. absurd (omega (arith, h.some, e))) in record {
+      start = h.field;
+      detection = g.field;
+      reads = λ before. h.first.reads before ∙ g.first.reads (before ++ h.field ∷ []) ∙ ap (read_left left) (append_assoc before (h.field ∷ []) (g.field ∷ []));
+      times = rw (some, time-first s n (Some rest) h, time-first rest m left g, early) refl;
+    }
+
+-- these values were read, one of each field so far
+pub record SoFar (kinds : List Kind) (first now : Option (List ℕ)) (vals : List Value) : Type 0 where
+  pub done : List (List ℕ)
+  pub reads : (before : List (List ℕ)) → read_left first before ≡ read_left now (before ++ done)
+  pub values : (more : List (List ℕ)) → values_of 4 kinds (done ++ more) ≡ onto vals (values_of (length vals + 4) (drop (length vals) kinds) more)
+  pub many : length done ≡ length vals
+
+pub none-yet : (kinds : List Kind) (first : Option (List ℕ)) → SoFar kinds first first []
+none-yet kinds first = record { done = []; reads = λ before. ap (read_left first) (sym (append-nil before)); values = λ more. refl; many = refl }
+
+pub one-value : (kinds : List Kind) (first : Option (List ℕ)) (text : List ℕ) (left : Option (List ℕ)) (vals : List Value) (kind : Kind) (value : Value)
+    → SoFar kinds first (Some text) vals → ValueFirst kind text value left → slice_get kinds (length vals) ≡ Some kind → SoFar kinds first left (vals ++ value ∷ [])
+one-value kinds first text left vals kind value so v at =
+    let size = length-append vals (value ∷ []) in
+    let size-done = length-append so.done (v.field ∷ []) in record {
+      done = so.done ++ v.field ∷ [];
+      reads = λ before. so.reads before ∙ v.first.reads (before ++ so.done) ∙ ap (read_left left) (append_assoc before so.done (v.field ∷ []));
+      values = λ more. ap (values_of 4 kinds) (append_assoc so.done (v.field ∷ []) more)
+          ∙ read-more (values_of 4 kinds (so.done ++ v.field ∷ more)) vals kinds kind value (v.field ∷ more) v.field more (length (vals ++ value ∷ [])) (so.values (v.field ∷ more)) refl at (sym v.writes) size;
+      many = omega (arith, size, size-done, so.many);
+    }
+
+pub all-values : (schema : List Attr) (first : Option (List ℕ)) (vals : List Value) → SoFar (kinds_of schema) first None vals → length vals ≡ length schema → WriteAll schema first vals
+all-values schema first vals so many = record {
+  fields = so.done;
+  reads = so.reads;
+  values = ap (values_of 4 (kinds_of schema)) (sym (append-nil so.done)) ∙ so.values [] ∙ ap (onto vals) (values_of-all (length vals + 4) (drop (length vals) (kinds_of schema))) ∙ onto-ok vals;
+  many = so.many ∙ many;
+}
+
+-- a line of a name, the times and the values is an event
+pub quick-event : (streams : List Entry) (fields : List (List ℕ)) (name start detection : List ℕ) (more : List (List ℕ)) (stream : ℕ) (schema : List Attr) (span : Span) (vals : List Value)
+    → fields ≡ name ∷ start ∷ detection ∷ more → declared_stream streams (number_of name streams) ≡ stream_with (schemas_of streams) (Some stream) → slice_get (schemas_of streams) stream ≡ Some schema
+    → span_of start detection ≡ Ok span → values_of 4 (kinds_of schema) more ≡ Ok vals → length more ≡ length schema
+    → fields_event streams fields ≡ Ok (record { stream = stream; tuple = record { vals = vals; from = span.0; at = span.1 } })
+quick-event streams fields name start detection more stream schema span vals e declared got times values many =
+    let found : declared_stream streams (number_of name streams) ≡ Some (stream, kinds_of schema) = declared ∙ ap (option_map (λ s. (stream, kinds_of s))) got in
+    let size = length-map schema (λ a. a.kind) in
+    let same : (length (start ∷ detection ∷ more) + 1 == length (kinds_of schema) + 3) ≡ true = eq-eqb _ _ (omega (arith, size, many)) in
+    rw (e, found, same, times, values) refl

@@ -1,0 +1,89 @@
+-- What stands at the front of the fields of a line that is read quickly. No public contract cites this module.
+use Rattle.std.specs.Prelude.{◌≡◌, ◌==◌, ◌&&◌, ◌<◌, ◌≤◌, ℕ, ℤ, Bool, true, not, List, [], ◌∷◌, ◌++◌, take, length, slice_index, Option, Some, None, Ok}
+use Rattle.std.specs.List.{list_all}
+use Rattle.std.specs.Str.Parse.{digits_value}
+use Rattle.csv.specs.Machine.{Read, next_record}
+use Rattle.csv.specs.declared.parser.State.TheVariants as st
+use Rattle.event_types.specs.declared.kind.Kind.{Kind}
+use Rattle.event_types.specs.declared.kind.Kind.TheVariants as kind
+use Rattle.event_types.specs.declared.value.Value.{Value}
+use Rattle.event_types.specs.declared.value.Value.TheVariants as value
+use Rattle.stream_schema.specs.Schema.{Attr, kinds_of}
+use Rattle.event_csv.specs.Event.{Span, span_of, value_of, values_of}
+use Rattle.event_csv.specs.Fields.{comma, is_plain, line_config, quote}
+use Rattle.event_csv.specs.Numbers.{are_digits}
+
+-- a byte that is no quote, no comma and no line feed
+abbrev pub is_simple : ℕ → Bool
+is_simple c = is_plain c && not (c == comma)
+
+-- a byte that is no quote
+abbrev pub no_quote : ℕ → Bool
+no_quote c = not (c == quote)
+
+-- the record of which these fields were read, where text is left behind a comma, or nothing is left
+abbrev pub read_left : Option (List ℕ) → List (List ℕ) → Option Read
+read_left None fields = Some (fields, st.StartRecord, [])
+read_left (Some text) fields = next_record line_config st.StartField fields [] text
+
+-- a field stands first, and this is left
+pub record IsFirst (text field : List ℕ) (left : Option (List ℕ)) : Type 0 where
+  pub reads : (before : List (List ℕ)) → next_record line_config st.StartField before [] text ≡ read_left left (before ++ field ∷ [])
+
+-- the same of a field whose first quote is gone
+pub record IsQuoted (text field : List ℕ) (left : Option (List ℕ)) : Type 0 where
+  pub reads : (before : List (List ℕ)) → next_record line_config st.InQuoted before [] text ≡ read_left left (before ++ field ∷ [])
+
+-- up to this place each byte is simple, and there a comma stands or the text ends
+pub record IsPlainEnd (text : List ℕ) (end : ℕ) : Type 0 where
+  pub within : end ≤ length text
+  pub simple : list_all is_simple (take end text) ≡ true
+  pub ends : end < length text → slice_index text end ≡ comma
+
+-- the first quote
+pub record IsQuoteAt (text : List ℕ) (end : ℕ) : Type 0 where
+  pub within : end < length text
+  pub none : list_all no_quote (take end text) ≡ true
+  pub here : slice_index text end ≡ quote
+
+-- so many digits, few of them, stand first, and write the number
+pub record HasDigits (text : List ℕ) (number many : ℕ) : Type 0 where
+  pub within : many ≤ length text
+  pub few : many ≤ 19
+  pub digits : are_digits (take many text) ≡ true
+  pub value : digits_value 10 (take many text) ≡ number
+  pub fits : number ≤ 18446744073709551615
+
+-- a field of digits stands first, or ends one that has begun, and writes the number, which has 64 bits
+pub record NumberFirst (text : List ℕ) (number : ℕ) (left : Option (List ℕ)) : Type 0 where
+  pub field : List ℕ
+  pub first : IsFirst text field left
+  pub goes_on : (before : List (List ℕ)) (begun : List ℕ) → next_record line_config st.InField before begun text ≡ read_left left (before ++ (begun ++ field) ∷ [])
+  pub some : 1 ≤ length field
+  pub digits : are_digits field ≡ true
+  pub value : digits_value 10 field ≡ number
+  pub fits : number ≤ 18446744073709551615
+
+-- the fields of the times stand first
+pub record SpanFirst (text : List ℕ) (span : Span) (left : Option (List ℕ)) : Type 0 where
+  pub start : List ℕ
+  pub detection : List ℕ
+  pub reads : (before : List (List ℕ)) → next_record line_config st.StartField before [] text ≡ read_left left (before ++ start ∷ detection ∷ [])
+  pub times : span_of start detection ≡ Ok span
+
+-- a field stands first that writes the value of the kind
+pub record ValueFirst (kind : Kind) (text : List ℕ) (value : Value) (left : Option (List ℕ)) : Type 0 where
+  pub field : List ℕ
+  pub first : IsFirst text field left
+  pub writes : value_of kind field ≡ Some value
+
+-- a field stands first that writes the INT
+abbrev pub IntFirst : List ℕ → ℤ → Option (List ℕ) → Type 0
+IntFirst text number left = ValueFirst kind.Int text (value.Int number) left
+
+-- the fields that are left write the values of the attributes, one each
+pub record WriteAll (schema : List Attr) (left : Option (List ℕ)) (vals : List Value) : Type 0 where
+  pub fields : List (List ℕ)
+  pub reads : (before : List (List ℕ)) → read_left left before ≡ Some (before ++ fields, st.StartRecord, [])
+  pub values : values_of 4 (kinds_of schema) fields ≡ Ok vals
+  pub many : length fields ≡ length schema
