@@ -1,10 +1,12 @@
 //! Result lines: the text of a query's results.
+//!
+//! Contracts see `Rows` as the bytes of its lines.
 #![tactic(auto)]
 
 mod fields;
 mod rows;
 
-pub use rows::{append_rows, row};
+pub use rows::{Rows, row};
 
 #[cfg(test)]
 mod tests;

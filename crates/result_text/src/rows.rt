@@ -1,37 +1,123 @@
 //! The lines of a query's results.
-ghost use Rattle.std.specs.Prelude.{◌≡◌, ◌++◌, IfOk, OnOk};
+ghost use Rattle.std.specs.Prelude.{◌≡◌, ◌++◌, [], IfOk, OnOk};
 ghost use Rattle.std.specs.List.{flat_map};
-ghost use Rattle.csv.specs.Writing.{fields_written, writer_setup};
-ghost use Rattle.result_text.specs.Written.{any_width, bytes_of};
+ghost use Rattle.csv.specs.Writing.{fields_written, writer_setup, writer_under};
+ghost use Rattle.result_text.specs.Written.{IsBetween, any_width, bytes_of};
 ghost use Rattle.semantics.specs.Report.{line};
 
 use crate::fields::{add_time, add_value, end, start};
 use csv::{Writer, WriterBuilder};
 use event_types::{Memory, Text, Tuple};
 use std::alloc::Global;
-use std::{slice, str};
+use std::marker::Model;
+use std::{mem, slice, str};
+
+/// Result lines, one behind another, as one `csv` writer writes them.
+#[derive(Drop)]
+pub struct Rows {
+    alloc: Global,
+    writer: Writer<Vec<u8>>,
+}
+
+impl Model for Rows {
+    ghost use Rattle.std.specs.Prelude.{List, ℕ};
+    ghost use Rattle.csv.specs.Writing.{writer_under};
+    ghost use Rattle.result_text.specs.Written.{IsBetween};
+
+    ghost Value = { List ℕ };
+
+    ghost view = { λ r. (writer_under r.writer).items };
+
+    ghost invariant = { λ r. IsBetween r.writer };
+}
+
+impl Rows {
+    /// No lines. Takes no memory.
+    pub fn new(alloc: Global) -> Rows
+        ensures { result ≡ [] }
+    {
+        Rows {
+            alloc,
+            writer: writer_over(Vec::new(alloc)),
+        }
+    }
+
+    /// The bytes of the lines.
+    pub fn as_slice(&self) -> &[u8]
+        ensures { result.now ≡ self.now }
+    {
+        self.writer.get_ref().as_slice()
+    }
+
+    /// Puts the line of each result of the query `name` behind the lines that are there. Want of memory drops
+    /// all of them.
+    pub fn append(&mut self, name: &str, tuples: &[Tuple]) -> Result<(), Memory>
+        ensures { OnOk result (self.new ≡ self.old ++ flat_map (λ tuple. line name.now tuple) tuples.now) }
+    {
+        match write_rows(&mut self.writer, name, tuples) {
+            Ok(()) => Ok(()),
+            Err(_) => {
+                renew(&mut self.writer, self.alloc);
+                Err(Memory)
+            }
+        }
+    }
+
+    /// Takes the lines away, and keeps their room. Takes no memory. Out of line, since a writer holds a long
+    /// buffer.
+    #[inline(never)]
+    pub fn clear(&mut self)
+        ensures { self.new ≡ [] }
+    {
+        let fresh = writer_over(Vec::new(self.alloc));
+        let full = mem::replace(&mut self.writer, fresh);
+        if let Ok(mut bytes) = full.into_inner() {
+            bytes.clear();
+            self.writer = writer_over(bytes);
+        }
+    }
+}
 
 /// The line of one result of the query `name`, with its LF: `Q,10,10,IBM,101,5`.
 pub fn row(alloc: Global, name: &str, tuple: &Tuple) -> Result<Text, Memory>
     ensures { IfOk result (λ text. text ≡ line name.now tuple.now) }
 {
-    let bytes = append_rows(Vec::new(alloc), name, slice::from_ref(tuple))?;
-    match str::from_utf8(bytes.as_slice()) {
+    let mut rows = Rows::new(alloc);
+    rows.append(name, slice::from_ref(tuple))?;
+    match str::from_utf8(rows.as_slice()) {
         Ok(text) => Text::make(alloc, text),
         Err(_) => Err(Memory),
     }
 }
 
-/// The buffer with the line of each result of the query `name` behind what it held. Want of memory drops it.
-pub fn append_rows(buffer: Vec<u8>, name: &str, tuples: &[Tuple]) -> Result<Vec<u8>, Memory>
-    ensures { IfOk result (λ bytes. bytes.items ≡ buffer.items ++ flat_map (λ tuple. line name.now tuple) tuples.now) }
+// Puts a writer that has written nothing in the place of one that failed. Out of line, since a writer holds a
+// long buffer.
+#[inline(never)]
+fn renew(writer: &mut Writer<Vec<u8>>, alloc: Global)
+    ensures { IsBetween writer.new }
 {
-    let mut writer = WriterBuilder::new().flexible(true).from_writer(buffer);
+    *writer = writer_over(Vec::new(alloc));
+}
+
+// A writer of lines of any width behind the bytes.
+fn writer_over(bytes: Vec<u8>) -> Writer<Vec<u8>>
+    ensures between { IsBetween result }
+    ensures bytes { writer_under result ≡ bytes }
+{
+    WriterBuilder::new().flexible(true).from_writer(bytes)
+}
+
+// Writes the line of each result, and lets no byte wait.
+fn write_rows(writer: &mut Writer<Vec<u8>>, name: &str, tuples: &[Tuple]) -> Result<(), Memory>
+    requires { IsBetween writer.old }
+    ensures bytes { OnOk result ((writer_under writer.new).items ≡ (writer_under writer.old).items ++ flat_map (λ tuple. line name.now tuple) tuples.now) }
+    ensures between { OnOk result (IsBetween writer.new) }
+{
     for tuple in tuples {
-        write_row(&mut writer, name, tuple)?;
+        write_row(writer, name, tuple)?;
     }
-    match writer.into_inner() {
-        Ok(bytes) => Ok(bytes),
+    match writer.flush() {
+        Ok(()) => Ok(()),
         Err(_) => Err(Memory),
     }
 }

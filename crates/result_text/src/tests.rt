@@ -1,5 +1,5 @@
 //! Result lines by hand: quotes, numbers at their ends, and lines behind a buffer.
-use super::{append_rows, row};
+use super::{Rows, row};
 use event_types::{List, Text, Tuple, Value};
 use std::alloc::Global;
 use std::process::Abort;
@@ -33,14 +33,19 @@ fn a_text_is_quoted_exactly_where_it_has_to_be(rt: HostRuntime) -> Result<(), Fa
 }
 
 #[test]
-fn lines_stand_behind_what_the_buffer_held(rt: HostRuntime) -> Result<(), Fail> {
-    let mut buffer = Vec::from_slice(rt.alloc(), b"# ")?;
+fn lines_stand_behind_those_before_and_are_taken_away(rt: HostRuntime) -> Result<(), Fail> {
+    let mut rows = Rows::new(rt.alloc());
     for value in [Value::Int(i128::MIN), Value::Over] {
         let tuple = tuple_of(&rt, rt.alloc(), value)?;
-        buffer = append_rows(buffer, "a,b", slice::from_ref(&tuple))?;
+        rows.append("a,b", slice::from_ref(&tuple))?;
     }
-    let want = "# \"a,b\",7,18446744073709551615,-170141183460469231731687303715884105728\n\
+    let want = "\"a,b\",7,18446744073709551615,-170141183460469231731687303715884105728\n\
         \"a,b\",7,18446744073709551615,OVER\n";
-    assert_eq!(rt; buffer.as_slice(), want.as_bytes());
+    assert_eq!(rt; rows.as_slice(), want.as_bytes());
+    rows.clear();
+    assert_eq!(rt; rows.as_slice().len(), 0);
+    let tuple = tuple_of(&rt, rt.alloc(), Value::Int(1))?;
+    rows.append("Q", slice::from_ref(&tuple))?;
+    assert_eq!(rt; rows.as_slice(), "Q,7,18446744073709551615,1\n".as_bytes());
     Ok(())
 }
