@@ -44,7 +44,7 @@ fits_within session past text stands piece within cut =
     let fits = stands.within in
     omega (arith, size, counted, fits)
 
-module _ (session : View) (past : List Heard) (text : List ℕ) (stands : StandsFor session past text) (work : Work) (same : work.engine ≡ session.engine) (none_owed : work.rows.items ≡ []) (a b : Told) where
+module _ (session : View) (past : List Heard) (text : List ℕ) (stands : StandsFor session past text) (work : Work) (same : work.engine ≡ session.engine) (none_owed : work.rows ≡ []) (a b : Told) where
   module _ (piece within : List ℕ) (cut : within ≡ take (session.limit - session.fed) piece) where
     -- the bytes within the limit
     cut_is : text ++ within ≡ take session.limit (text ++ piece)

@@ -162,7 +162,7 @@ module _ (session : View) (past : List Heard) (text : List ℕ) (stands : Stands
         ∙ sym (rows_left_after program ended later so_far stands.works.engine.stands.never_falls)
         ∙ ap (λ s. report program (before_last so_far) ++ rows_left program ended later s so_far) (sym stands.last_is_open)
 
-    module _ (work : Work) (same : work.engine ≡ session.engine) (none_owed : work.rows.items ≡ []) (a b : Told) where
+    module _ (work : Work) (same : work.engine ≡ session.engine) (none_owed : work.rows ≡ []) (a b : Told) where
       -- what was written of the rows is what the report has beyond the earlier one
       pub beyond : (W : List ℕ → Told → Told → Type 0) → W (left_of (program_in session) ended later so_far work) a b → Beyond W (report_in session past text false) (report_in session past (text ++ piece) ended) a b
       beyond W w = record {

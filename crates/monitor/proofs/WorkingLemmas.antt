@@ -40,10 +40,10 @@ front_of_more {rows} {a} {b} more part =
 
 module _ (program : Program) (ended : Bool) (lines : List Reading) (history : List Heard) where
   -- a refused line owes nothing but the rows
-  refused_left : (line : Reading) (work : Work) (refusal : Refusal) → refusal_of line.number work.engine.time line.found ≡ Some refusal → work.rows.items ≡ left_of program ended (line ∷ lines) history work
+  refused_left : (line : Reading) (work : Work) (refusal : Refusal) → refusal_of line.number work.engine.time line.found ≡ Some refusal → work.rows ≡ left_of program ended (line ∷ lines) history work
   refused_left line work refusal e =
-      sym (append-nil work.rows.items)
-      ∙ ap (λ o. work.rows.items ++ cond (is_some o) []
+      sym (append-nil work.rows)
+      ∙ ap (λ o. work.rows ++ cond (is_some o) []
       (cond (closes work.engine.time line.found) (open_rows program history work.engine.time) [] ++ rows_left program ended lines (seen_after line.found) (history ++ events_in line.found))) (sym e)
 
   refused_first : (line : Reading) (work : Work) (refusal : Refusal) → refusal_of line.number work.engine.time line.found ≡ Some refusal → refused_from work.engine.time (line ∷ lines) ≡ Some refusal
@@ -51,7 +51,7 @@ module _ (program : Program) (ended : Bool) (lines : List Reading) (history : Li
 
   -- the work ends with a refusal
   pub refuses : (line : Reading) (work : Work) (refusal : Refusal) (a b : Told) (stop : SessionFault)
-      → refusal_of line.number work.engine.time line.found ≡ Some refusal → RefusesBy work.rows.items refusal a b stop → Stops program ended (line ∷ lines) history work a b stop
+      → refusal_of line.number work.engine.time line.found ≡ Some refusal → RefusesBy work.rows refusal a b stop → Stops program ended (line ∷ lines) history work a b stop
   refuses line work refusal a b (fault.Refused other) e by =
       (refused_first line work refusal e ∙ ap Some (sym by.0), subst (λ t. Wrote t a b) (refused_left line work refusal e) by.1)
   refuses line work refusal a b (fault.TooMuch limit) e by = absurd by
@@ -64,18 +64,18 @@ module _ (program : Program) (ended : Bool) (lines : List Reading) (history : Li
 
   -- an event in time closes the open epoch where it is later, and goes on
   timely_left : (number : ℕ) (event : Seen) (work : Work) → disorder number work.engine.time event.tuple.at ≡ None
-      → work.rows.items ++ (closing program history work.engine.time event.tuple.at ++ rest_after event) ≡ left_of program ended (line_of number event ∷ lines) history work
-  timely_left number event work e = ap (λ o. work.rows.items ++ cond (is_some o) [] (closing program history work.engine.time event.tuple.at ++ rest_after event)) (sym e)
+      → work.rows ++ (closing program history work.engine.time event.tuple.at ++ rest_after event) ≡ left_of program ended (line_of number event ∷ lines) history work
+  timely_left number event work e = ap (λ o. work.rows ++ cond (is_some o) [] (closing program history work.engine.time event.tuple.at ++ rest_after event)) (sym e)
 
   -- the work goes on behind an event in time
   pub goes_on : (number : ℕ) (event : Seen) (old new : Work) (rows : List ℕ) (a b : Told) → disorder number old.engine.time event.tuple.at ≡ None
-      → ((rest : List ℕ) → Owes (old.rows.items ++ (closing program history old.engine.time event.tuple.at ++ rest)) (rows ++ rest) a b)
-      → new.rows.items ≡ rows → new.engine.time ≡ Some event.tuple.at
+      → ((rest : List ℕ) → Owes (old.rows ++ (closing program history old.engine.time event.tuple.at ++ rest)) (rows ++ rest) a b)
+      → new.rows ≡ rows → new.engine.time ≡ Some event.tuple.at
       → Advances program ended (line_of number event ∷ lines) lines history (history ++ heard_of event ∷ []) old new a b
   goes_on number event old new rows a b e owes same seen =
       let rest = rest_after event in
       let to : rows ++ rest ≡ left_of program ended lines (history ++ heard_of event ∷ []) new =
-      ap (λ r. r ++ rest) (sym same) ∙ ap (λ s. new.rows.items ++ rows_left program ended lines s (history ++ heard_of event ∷ [])) (sym seen) in
+      ap (λ r. r ++ rest) (sym same) ∙ ap (λ s. new.rows ++ rows_left program ended lines s (history ++ heard_of event ∷ [])) (sym seen) in
       record {
         owes = subst (λ t. Owes (left_of program ended (line_of number event ∷ lines) history old) t a b) to (subst (λ t. Owes t (rows ++ rest) a b) (timely_left number event old e) (owes rest));
         refused = ap (λ o. option_or o (refused_from (Some event.tuple.at) lines)) e ∙ ap (λ s. refused_from s lines) (sym seen);
@@ -87,16 +87,16 @@ module _ (program : Program) (ended : Bool) (lines : List Reading) (history : Li
 
   -- the work ends where rows can't be made or written
   pub fails : (number : ℕ) (event : Seen) (work : Work) (a b : Told) (stop : SessionFault) → disorder number work.engine.time event.tuple.at ≡ None
-      → FailsBy (work.rows.items ++ closing program history work.engine.time event.tuple.at) a b stop → Stops program ended (line_of number event ∷ lines) history work a b stop
+      → FailsBy (work.rows ++ closing program history work.engine.time event.tuple.at) a b stop → Stops program ended (line_of number event ∷ lines) history work a b stop
   fails number event work a b stop e by = cases stop by
     where
       rest : List ℕ
       rest = rest_after event
 
-      same : (work.rows.items ++ closing program history work.engine.time event.tuple.at) ++ rest ≡ left_of program ended (line_of number event ∷ lines) history work
-      same = append_assoc work.rows.items (closing program history work.engine.time event.tuple.at) rest ∙ timely_left number event work e
+      same : (work.rows ++ closing program history work.engine.time event.tuple.at) ++ rest ≡ left_of program ended (line_of number event ∷ lines) history work
+      same = append_assoc work.rows (closing program history work.engine.time event.tuple.at) rest ∙ timely_left number event work e
 
-      cases : (stop : SessionFault) → FailsBy (work.rows.items ++ closing program history work.engine.time event.tuple.at) a b stop → Stops program ended (line_of number event ∷ lines) history work a b stop
+      cases : (stop : SessionFault) → FailsBy (work.rows ++ closing program history work.engine.time event.tuple.at) a b stop → Stops program ended (line_of number event ∷ lines) history work a b stop
       cases (fault.Refused other) by = absurd by
       cases (fault.TooMuch limit) by = absurd by
       cases fault.WriteFault by = (by.0, subst (λ t. WrotePart t a b) same (part_of_more rest by.1))
@@ -104,7 +104,7 @@ module _ (program : Program) (ended : Bool) (lines : List Reading) (history : Li
 
   -- the work ends with no memory, once the open epoch was closed
   pub no_memory : (number : ℕ) (event : Seen) (old : Work) (rows : List ℕ) (a b : Told) → disorder number old.engine.time event.tuple.at ≡ None
-      → ((rest : List ℕ) → Owes (old.rows.items ++ (closing program history old.engine.time event.tuple.at ++ rest)) (rows ++ rest) a b)
+      → ((rest : List ℕ) → Owes (old.rows ++ (closing program history old.engine.time event.tuple.at ++ rest)) (rows ++ rest) a b)
       → Stops program ended (line_of number event ∷ lines) history old a b fault.Memory
   no_memory number event old rows a b e owes =
       subst (λ t. WroteFront t a b) (timely_left number event old e) (front_after (owes _) (front_none _ b))
@@ -155,5 +155,5 @@ took {c} {line} {history} {old} {new} {a} {b} lines others shows takes = record 
 }
 
 -- the rows that it owes then are all
-pub nothing_left : (program : Program) (history : List Heard) (work : Work) → work.rows.items ≡ left_of program false [] history work
-nothing_left program history work = sym (append-nil work.rows.items)
+pub nothing_left : (program : Program) (history : List Heard) (work : Work) → work.rows ≡ left_of program false [] history work
+nothing_left program history work = sym (append-nil work.rows)

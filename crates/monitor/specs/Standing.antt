@@ -68,7 +68,7 @@ pub record IsReady (c : Catalogued) (at : ℕ) (old new : engine.View) : Type 0 
 -- the work may go on: no rows wait to be written, the bytes are within the limit, as many line feeds at most came, and what is left is part of one line
 pub record IsGoing (c : Catalogued) (limit : ℕ) (feed : Fed) (fed : ℕ) (work : Work) : Type 0 where
   pub at_work : IsAtWork c work
-  pub none_owed : work.rows.items ≡ []
+  pub none_owed : work.rows ≡ []
   pub within : fed ≤ limit
   pub counted : feeds_so_far feed ≤ fed
   pub part : IsPart feed

@@ -48,7 +48,7 @@ rows_left program ended (line ∷ lines) seen history =
 
 -- what the work still owes of the report
 abbrev pub left_of : Program → Bool → List Reading → List Heard → Work → List ℕ
-left_of program ended lines history work = work.rows.items ++ rows_left program ended lines work.engine.time history
+left_of program ended lines history work = work.rows ++ rows_left program ended lines work.engine.time history
 
 -- some lines were worked on: what they owe is written or owed by the others, the first refused line is the same, and so is all that is heard
 pub record Advances (program : Program) (ended : Bool) (lines others : List Reading) (history heard : List Heard) (old new : Work) (before after : Told) : Type 0 where

@@ -24,11 +24,11 @@ fn close_epoch<L: Ledger>(
 ) -> Result<(), Memory>
     requires at_work { IsAtWork catalogue.now work.old }
     requires opened { IsSome work.old.engine.time }
-    ensures rows { OnOk result ((history : List Heard) → Stands catalogue.now history work.old.engine → work.new.rows.items ≡ work.old.rows.items ++ open_rows (program_over catalogue.now) history work.old.engine.time) }
+    ensures rows { OnOk result ((history : List Heard) → Stands catalogue.now history work.old.engine → work.new.rows ≡ work.old.rows ++ open_rows (program_over catalogue.now) history work.old.engine.time) }
     ensures closed { OnOk result (HasClosed catalogue.now work.old.engine work.new.engine) }
 {
     let batch = work.engine.close(alloc, steps)?;
-    put_batch(alloc, catalogue, &batch, &mut work.rows)
+    put_batch(catalogue, &batch, &mut work.rows)
 }
 
 /// Closes the open epoch where an event of this time comes later.
@@ -42,9 +42,9 @@ pub fn close_before<H: Host, L: Ledger>(
 ) -> Result<(), SessionFault>
     requires at_work { IsAtWork catalogue.now work.old }
     requires timely { (number : ℕ) → disorder number work.old.engine.time at ≡ None }
-    ensures owes { OnOk result ((history : List Heard) → Stands catalogue.now history work.old.engine → (rest : List ℕ) → Owes (work.old.rows.items ++ (closing (program_over catalogue.now) history work.old.engine.time at ++ rest)) (work.new.rows.items ++ rest) (H.told host.old) (H.told host.new)) }
+    ensures owes { OnOk result ((history : List Heard) → Stands catalogue.now history work.old.engine → (rest : List ℕ) → Owes (work.old.rows ++ (closing (program_over catalogue.now) history work.old.engine.time at ++ rest)) (work.new.rows ++ rest) (H.told host.old) (H.told host.new)) }
     ensures ready { OnOk result (IsReady catalogue.now at work.old.engine work.new.engine) }
-    ensures fails { IfErr result (λ fault. (history : List Heard) → Stands catalogue.now history work.old.engine → FailsBy (work.old.rows.items ++ closing (program_over catalogue.now) history work.old.engine.time at) (H.told host.old) (H.told host.new) fault) }
+    ensures fails { IfErr result (λ fault. (history : List Heard) → Stands catalogue.now history work.old.engine → FailsBy (work.old.rows ++ closing (program_over catalogue.now) history work.old.engine.time at) (H.told host.old) (H.told host.new) fault) }
     ensures quiet { BlamesWriting result (H.told host.old) (H.told host.new) }
     ensures same { SameButOutput (H.told host.old) (H.told host.new) }
 {

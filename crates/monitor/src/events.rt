@@ -24,7 +24,7 @@ use std::alloc::Global;
 
 /// Writes the rows, and refuses a line.
 pub fn refuse<H: Host>(host: &mut H, work: &mut Work, refusal: Refusal) -> SessionFault
-    ensures by { RefusesBy work.old.rows.items refusal (H.told host.old) (H.told host.new) result }
+    ensures by { RefusesBy work.old.rows refusal (H.told host.old) (H.told host.new) result }
     ensures quiet { Blames result (H.told host.old) (H.told host.new) }
     ensures same { SameButOutput (H.told host.old) (H.told host.new) }
 {

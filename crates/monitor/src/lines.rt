@@ -37,7 +37,7 @@ pub fn take_lines<H: Host, L: Ledger>(
     ensures ends { (history : List Heard) → Stands catalogue.now history work.old.engine → Ends (program_over catalogue.now) false (readings_left (judged_of catalogue.now).streams feed.old false) history work.old (H.told host.old) (H.told host.new) result }
     ensures stands { OnOk result ((history : List Heard) → Stands catalogue.now history work.old.engine → Stands catalogue.now (history ++ heard_from work.old.engine.time (readings_left (judged_of catalogue.now).streams feed.old false)) work.new.engine) }
     ensures at_work { OnOk result (IsAtWork catalogue.now work.new) }
-    ensures none_owed { OnOk result (work.new.rows.items ≡ []) }
+    ensures none_owed { OnOk result (work.new.rows ≡ []) }
     ensures gone { OnOk result (Gone feed.old feed.new) }
     ensures part { OnOk result (IsPart feed.new) }
     ensures accepted { IsAccepted catalogue.now }

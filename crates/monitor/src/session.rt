@@ -26,6 +26,7 @@ use epoch_engine::Engine;
 use event_csv::Feed;
 use event_types::Memory;
 use prefix_merge::Merged;
+use result_text::Rows;
 use std::alloc::Global;
 use std::marker::Model;
 
@@ -86,7 +87,7 @@ impl Session {
             catalogue,
             work: Work {
                 engine,
-                rows: Vec::new(alloc),
+                rows: Rows::new(alloc),
             },
             limit,
             feed: Feed::new(alloc),

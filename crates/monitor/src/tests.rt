@@ -15,6 +15,7 @@ use epoch_engine::Engine;
 use evaluated::rows_of;
 use event_csv::{Feed, Seen};
 use event_types::Memory;
+use result_text::Rows;
 use std::alloc::Global;
 use std::process::Abort;
 use std::sync::ledger::Blank;
@@ -124,7 +125,7 @@ fn engine_that_heard<L: Ledger>(
 {
     let mut work = Work {
         engine: engine_of(alloc, catalogue)?,
-        rows: Vec::new(alloc),
+        rows: Rows::new(alloc),
     };
     let first = b"Stock,1,1,IBM,10,5\n";
     take(rt, alloc, host, catalogue, &mut work, first, steps)?;
@@ -196,7 +197,7 @@ fn evaluated_rows<L: Ledger>(
     queries: &[u8],
     events: &[u8],
     steps: &mut Steps<L>,
-) -> Result<Vec<u8>, Memory> {
+) -> Result<Rows, Memory> {
     match load(alloc, queries) {
         Ok(catalogue) => rows_of(rt, alloc, &catalogue, events, steps),
         Err(_) => panic!(rt; "refused"),
@@ -236,7 +237,7 @@ fn agree<L: Ledger>(
     let mut steps = Steps::<L>::new(blank);
     let rows = evaluated_rows(rt, alloc, queries, events, &mut steps)?;
     write_all(rt, alloc, host, queries, events, &mut steps)?;
-    assert!(rt; rows.len() > 0);
+    assert!(rt; rows.as_slice().len() > 0);
     assert_eq!(rt; host.written(), rows.as_slice());
     Ok(())
 }

@@ -13,51 +13,43 @@ use catalogue::Catalogue;
 use cay_host::{Failed, Host, write_whole};
 use epoch_engine::Batch;
 use event_types::{Memory, Tuples};
-use result_text::append_rows;
-use std::alloc::Global;
+use result_text::Rows;
 
 /// Rows are written once there are so many bytes of them.
 const FULL: usize = 65536;
 
 /// Appends the result lines of each query's tuples.
-pub fn put_batch(
-    alloc: Global,
-    catalogue: &Catalogue,
-    batch: &Batch,
-    rows: &mut Vec<u8>,
-) -> Result<(), Memory>
+pub fn put_batch(catalogue: &Catalogue, batch: &Batch, rows: &mut Rows) -> Result<(), Memory>
     requires { length batch.now ≡ length catalogue.now.order }
-    ensures put { OnOk result (rows.new.items ≡ rows.old.items ++ batch_lines (program_over catalogue.now).queries batch.now) }
+    ensures put { OnOk result (rows.new ≡ rows.old ++ batch_lines (program_over catalogue.now).queries batch.now) }
     ensures accepted { IsAccepted catalogue.now }
 {
     for number in 0..catalogue.queries() {
         let name = catalogue.streams().name(catalogue.stream_of(number));
-        put_tuples(alloc, name, batch.get(number), rows)?;
+        put_tuples(name, batch.get(number), rows)?;
     }
     Ok(())
 }
 
 // Appends the result lines of a query's tuples.
-fn put_tuples(alloc: Global, name: &str, tuples: &Tuples, rows: &mut Vec<u8>) -> Result<(), Memory>
-    ensures { OnOk result (rows.new.items ≡ rows.old.items ++ flat_map (line name.now) tuples.now) }
+fn put_tuples(name: &str, tuples: &Tuples, rows: &mut Rows) -> Result<(), Memory>
+    ensures { OnOk result (rows.new ≡ rows.old ++ flat_map (line name.now) tuples.now) }
 {
     if tuples.len() == 0 {
         return Ok(());
     }
-    let buffer = std::mem::replace(rows, Vec::new(alloc));
-    *rows = append_rows(buffer, name, tuples.as_slice())?;
-    Ok(())
+    rows.append(name, tuples.as_slice())
 }
 
 /// Writes the rows once there are many. Takes no memory.
-pub fn write_many<H: Host>(host: &mut H, rows: &mut Vec<u8>) -> Result<(), Failed>
-    ensures ok { OnOk result ((rest : List ℕ) → Owes (rows.old.items ++ rest) (rows.new.items ++ rest) (H.told host.old) (H.told host.new)) }
+pub fn write_many<H: Host>(host: &mut H, rows: &mut Rows) -> Result<(), Failed>
+    ensures ok { OnOk result ((rest : List ℕ) → Owes (rows.old ++ rest) (rows.new ++ rest) (H.told host.old) (H.told host.new)) }
     ensures quiet { OnOk result ((H.told host.new).write_faults ≡ (H.told host.old).write_faults) }
-    ensures part { OnErr result (WrotePart rows.old.items (H.told host.old) (H.told host.new)) }
+    ensures part { OnErr result (WrotePart rows.old (H.told host.old) (H.told host.new)) }
     ensures cause { OnErr result (Rose (H.told host.old).write_faults (H.told host.new).write_faults) }
     ensures same { SameButOutput (H.told host.old) (H.told host.new) }
 {
-    if rows.len() < FULL {
+    if rows.as_slice().len() < FULL {
         Ok(())
     } else {
         write_rows(host, rows)
@@ -65,15 +57,15 @@ pub fn write_many<H: Host>(host: &mut H, rows: &mut Vec<u8>) -> Result<(), Faile
 }
 
 /// Writes the rows, and takes them away. Takes no memory.
-pub fn write_rows<H: Host>(host: &mut H, rows: &mut Vec<u8>) -> Result<(), Failed>
-    ensures ok { OnOk result (Wrote rows.old.items (H.told host.old) (H.told host.new)) }
-    ensures taken { OnOk result (rows.new.items ≡ []) }
+pub fn write_rows<H: Host>(host: &mut H, rows: &mut Rows) -> Result<(), Failed>
+    ensures ok { OnOk result (Wrote rows.old (H.told host.old) (H.told host.new)) }
+    ensures taken { OnOk result (rows.new ≡ []) }
     ensures quiet { OnOk result ((H.told host.new).write_faults ≡ (H.told host.old).write_faults) }
-    ensures part { OnErr result (WrotePart rows.old.items (H.told host.old) (H.told host.new)) }
+    ensures part { OnErr result (WrotePart rows.old (H.told host.old) (H.told host.new)) }
     ensures cause { OnErr result (Rose (H.told host.old).write_faults (H.told host.new).write_faults) }
     ensures same { SameButOutput (H.told host.old) (H.told host.new) }
 {
-    write_whole(host, rows)?;
+    write_whole(host, rows.as_slice())?;
     rows.clear();
     Ok(())
 }

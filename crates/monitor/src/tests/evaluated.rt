@@ -13,6 +13,7 @@ use cay_host::{Ledger, Steps};
 use evaluation::{Evaluator, Query};
 use event_csv::{Feed, Seen};
 use event_types::Memory;
+use result_text::Rows;
 use std::alloc::Global;
 use std::process::Abort;
 
@@ -23,10 +24,10 @@ pub fn rows_of<L: Ledger>(
     catalogue: &Catalogue,
     text: &[u8],
     steps: &mut Steps<L>,
-) -> Result<Vec<u8>, Memory> {
+) -> Result<Rows, Memory> {
     let queries = queries_of(alloc, catalogue)?;
     let mut evaluator = Evaluator::make(alloc, catalogue.declared())?;
-    let mut rows = Vec::new(alloc);
+    let mut rows = Rows::new(alloc);
     let mut feed = Feed::new(alloc);
     feed.push(text)?;
     let mut open: Option<u64> = None;
@@ -85,7 +86,7 @@ fn close<L: Ledger>(
     queries: &[Query<'_>],
     evaluator: &mut Evaluator,
     open: Option<u64>,
-    rows: &mut Vec<u8>,
+    rows: &mut Rows,
     steps: &mut Steps<L>,
 ) -> Result<(), Memory>
     requires { IsEvaluated catalogue.now queries.now evaluator.old }
@@ -96,7 +97,7 @@ fn close<L: Ledger>(
     };
     let batch = evaluator.close(alloc, queries, catalogue.order(), time, steps)?;
     assert_eq!(rt; batch.len(), catalogue.queries());
-    put_batch(alloc, catalogue, &batch, rows)
+    put_batch(catalogue, &batch, rows)
 }
 
 // The queries in the order of the file.

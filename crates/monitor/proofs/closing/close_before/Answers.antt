@@ -10,8 +10,8 @@ use Rattle.monitor.proofs.closing.close_before.Goals as goal
 pub returns-in-Ok-write_many-clause-owes : goal.returns-in-Ok-write_many-clause-owes
 returns-in-Ok-write_many-clause-owes g c = λ history stands.
     let work = c.args.work.now in
-    owes_closed (program_over c.args.catalogue.now) history work.engine.time c.in-Some.seen c.args.at (sym c.in-Some.ensures) c.if-seen-at.true work.rows.items c.close_epoch.new.work.rows.items (c.in-Ok.ensures.rows history stands)
-    c.write_many.new.rows.items (g.H.Host.told c.args.host.now) (g.H.Host.told c.write_many.new.host) c.in-Ok-write_many.ensures.ok
+    owes_closed (program_over c.args.catalogue.now) history work.engine.time c.in-Some.seen c.args.at (sym c.in-Some.ensures) c.if-seen-at.true work.rows c.close_epoch.new.work.rows (c.in-Ok.ensures.rows history stands)
+    c.write_many.new.rows (g.H.Host.told c.args.host.now) (g.H.Host.told c.write_many.new.host) c.in-Ok-write_many.ensures.ok
 
 -- a later event may be offered
 pub returns-in-Ok-write_many-clause-ready : goal.returns-in-Ok-write_many-clause-ready
@@ -21,7 +21,7 @@ returns-in-Ok-write_many-clause-ready g c = ready_later c.args.catalogue.now c.i
 pub returns-in-Err-write_many-clause-fails : goal.returns-in-Err-write_many-clause-fails
 returns-in-Err-write_many-clause-fails g c = λ history stands.
     let work = c.args.work.now in
-    let same = closed_rows (program_over c.args.catalogue.now) history work.engine.time c.in-Some.seen c.args.at (sym c.in-Some.ensures) c.if-seen-at.true work.rows.items c.close_epoch.new.work.rows.items (c.in-Ok.ensures.rows history stands) in
+    let same = closed_rows (program_over c.args.catalogue.now) history work.engine.time c.in-Some.seen c.args.at (sym c.in-Some.ensures) c.if-seen-at.true work.rows c.close_epoch.new.work.rows (c.in-Ok.ensures.rows history stands) in
     (c.in-Err-write_many.ensures.cause, subst (λ (t : List ℕ). WrotePart t (g.H.Host.told c.args.host.now) (g.H.Host.told c.write_many.new.host)) same c.in-Err-write_many.ensures.part)
 
 -- the event is of the open epoch

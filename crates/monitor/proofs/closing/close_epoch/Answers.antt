@@ -13,7 +13,7 @@ pub returns-clause-rows : goal.returns-clause-rows
 returns-clause-rows g c =
     on_ok_weaker c.put_batch.result
     (λ put history stands. rows_closed c.args.catalogue.now c.put_batch.ensures.accepted c.args.work.now.engine c.close.new.self c.in_ok-batch.batch c.requires.at_work.planned c.in_ok-batch.ensures.closed history stands
-    c.args.work.now.rows.items c.put_batch.new.rows.items put) c.put_batch.ensures.put
+    c.args.work.now.rows c.put_batch.new.rows put) c.put_batch.ensures.put
 
 -- the epoch is closed
 pub returns-clause-closed : goal.returns-clause-closed

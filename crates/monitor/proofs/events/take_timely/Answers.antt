@@ -29,8 +29,8 @@ returns-in-Ok-hear-clause-more g c = λ history stands.
     let owes = rw c.at-at.ensures.value at c.in-Ok.ensures.owes history stands in
     record {
       stands = stands_more c.args.catalogue.now c.requires.accepted c.args.event c.requires.fits old.engine mid.engine ready c.requires.at_work.planned c.hear.new.work c.in-Ok-hear.ensures.heard history c.at-at.ensures.in_order stands;
-      advances = λ ended lines. goes_on (program_over c.args.catalogue.now) ended lines history c.args.number c.args.event old c.hear.new.work mid.rows.items _ _ (c.requires.timely c.args.number) owes
-          (ap (λ rows. rows.items) c.in-Ok-hear.ensures.rows) (ap (λ (now : engine.View). now.time) c.in-Ok-hear.ensures.heard);
+      advances = λ ended lines. goes_on (program_over c.args.catalogue.now) ended lines history c.args.number c.args.event old c.hear.new.work mid.rows _ _ (c.requires.timely c.args.number) owes
+          c.in-Ok-hear.ensures.rows (ap (λ (now : engine.View). now.time) c.in-Ok-hear.ensures.heard);
     }
 
 -- the work may go on

@@ -14,12 +14,12 @@ loop-number-preserved c =
     let number = c.loop-number.number in
     let less : number < length now.order = omega (arith, c.loop-number-test.true, c.queries-number-end.ensures.value) in
     let name = name_is now c.streams.ensures.is_accepted number c.stream_of.result c.name-name.result.now less c.stream_of.ensures.value (rw c.streams.ensures.value at c.name-name.ensures) in
-    put_next (program_over now).queries c.args.batch.now number (query_at (judged_of now) number) c.get.result.now c.args.rows.now.items c.loop-number.rows.items c.put_tuples.new.rows.items
-    (query_there now number less) c.get.ensures (c.in_ok-put_tuples.ensures ∙ ap (λ n. c.loop-number.rows.items ++ flat_map (line n) c.get.result.now) (sym name)) c.loop-number.invariant
+    put_next (program_over now).queries c.args.batch.now number (query_at (judged_of now) number) c.get.result.now c.args.rows.now c.loop-number.rows c.put_tuples.new.rows
+    (query_there now number less) c.get.ensures (c.in_ok-put_tuples.ensures ∙ ap (λ n. c.loop-number.rows ++ flat_map (line n) c.get.result.now) (sym name)) c.loop-number.invariant
 
 -- the lines of all queries were put
 pub returns-clause-put : goal.returns-clause-put
 returns-clause-put c =
     let now = c.args.catalogue.now in
     let many = as_many now in
-    put_all (program_over now).queries c.args.batch.now c.loop-number.number c.args.rows.now.items c.loop-number.rows.items (omega (arith, many, c.loop-number-test.false, c.queries-number-end.ensures.value)) c.loop-number.invariant
+    put_all (program_over now).queries c.args.batch.now c.loop-number.number c.args.rows.now c.loop-number.rows (omega (arith, many, c.loop-number-test.false, c.queries-number-end.ensures.value)) c.loop-number.invariant

@@ -4,4 +4,4 @@ use Rattle.monitor.proofs.writing.put_batch.Given as goal
 
 -- the lines of the queries so far were put
 abbrev pub invariant-loop-number : goal.invariant-loop-number
-invariant-loop-number l = IsPut (program_over l.catalogue).queries l.batch l.number l.initial.rows.items l.rows.items
+invariant-loop-number l = IsPut (program_over l.catalogue).queries l.batch l.number l.initial.rows l.rows

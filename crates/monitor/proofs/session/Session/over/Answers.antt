@@ -7,7 +7,7 @@ use Rattle.monitor.proofs.session.Session.over.Goals as goal
 pub invariant_of-result : goal.invariant_of-result
 invariant_of-result c = λ going. record {
   at_work = record { intact = c.requires.intact; planned = record { lines = c.requires.lines; layout = c.requires.layout }; opened = c.requires.opened };
-  none_owed = c.new.ensures.items;
+  none_owed = c.new.ensures;
   within = omega arith;
   counted = subst (λ (feed : Fed). feeds_so_far feed ≤ 0) (sym c.new-2.ensures) (omega arith);
   part = subst IsPart (sym c.new-2.ensures) unfed_part;
