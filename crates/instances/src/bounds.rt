@@ -28,8 +28,8 @@ pub fn keep_alive(chain: &mut Chain<Instance>, condition: &Conj, now: u64) -> u6
     oldest
 }
 
-// Whether an event after `now` may meet each bound part with a binding that starts at `from`.
-pub(crate) fn can_be_met(condition: &Conj, now: u64, from: u64) -> bool
+/// Whether an event after `now` may meet each bound part with a binding that starts at `from`.
+pub fn can_be_met(condition: &Conj, now: u64, from: u64) -> bool
     ensures { result ≡ is_alive (now + 1) condition.now (started from) }
 {
     let mut place = 0;

@@ -5,12 +5,14 @@
 #![tactic(auto)]
 
 mod bounds;
+mod contents;
 mod eligibility;
 mod instance;
 mod plain_store;
 mod waiting;
 
-pub use bounds::keep_alive;
+pub use bounds::{can_be_met, keep_alive};
+pub use contents::{add_copies, count_of};
 pub use eligibility::take_eligible;
 pub use instance::{Instance, Instances};
 pub use plain_store::PlainStore;

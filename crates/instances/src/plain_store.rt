@@ -2,11 +2,12 @@
 ghost use Rattle.std.specs.Prelude.{◌≡◌, [], None, IfOk};
 
 use crate::bounds::{can_be_met, keep_alive};
+use crate::contents::{add_copies, count_of};
 use crate::eligibility::take_eligible;
 use crate::instance::{Instance, Instances};
 use crate::waiting::Waiting;
 use cay_host::{Ledger, Steps};
-use event_types::{Copied, List, Memory, Tuple};
+use event_types::{List, Memory, Tuple};
 use inst_chain::{Bead, Chain, Look};
 use scalar_expr::Conj;
 use std::alloc::Global;
@@ -72,13 +73,7 @@ impl Waiting for PlainStore {
 
     fn all(&self, alloc: Global) -> Result<Instances, Memory> {
         let mut copies = List::new(alloc);
-        let mut look = self.chain.look();
-        while let Some(instance) = look.next() {
-            let copy = instance.copied(alloc)?;
-            if copies.push(copy).is_err() {
-                return Err(Memory);
-            }
-        }
+        add_copies(alloc, &mut copies, &self.chain)?;
         Ok(copies)
     }
 
@@ -104,14 +99,6 @@ impl Waiting for PlainStore {
     }
 
     fn count(&self) -> u64 {
-        let mut count = 0;
-        let mut look = self.chain.look();
-        while let Some(_instance) = look.next() {
-            if count == u64::MAX {
-                return count;
-            }
-            count += 1;
-        }
-        count
+        count_of(&self.chain)
     }
 }
