@@ -1,0 +1,14 @@
+pub mod AliveLemmas
+pub mod BucketLemmas
+pub mod CandidateLemmas
+pub mod EqualityLemmas
+pub mod KeyLemmas
+pub mod LeadLemmas
+pub mod MapLemmas
+pub mod OrderLemmas
+pub mod PairLemmas
+pub mod PurgeLemmas
+pub mod SplitLemmas
+pub mod StoreLemmas
+pub mod TakeLemmas
+pub mod WriteLemmas

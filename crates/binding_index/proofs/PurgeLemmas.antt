@@ -1,0 +1,158 @@
+-- The buckets of a store after a purge.
+use Rattle.std.proofs.Common.{◌≡◌, ◌∙◌, sym, ap, refl, subst, ℕ, zero, suc, ◌<◌, ◌≤◌, ◌↔◌, Bool, true, length, get_or, map, take, List, [], ◌∷◌, Any, Contains, arith}
+use Rattle.std.specs.List.{All, IsDistinct, filter, flat_map}
+use Rattle.std.specs.Map.{keys_of}
+use Rattle.std.proofs.lemmas.List.{length-take-le}
+use Rattle.std.proofs.lemmas.List.Elements.{All-nil, All-append, All-contains, All-contains_itself, All-filter, All-head, All-map, All-tail, Contains-append_left, Contains-append_right, filter_passes}
+use Rattle.std.proofs.lemmas.List.Sorted.{All-permutation, Contains-permutation}
+use Rattle.std.proofs.lemmas.Map.Made.{IsDistinct-keys_filter}
+use Rattle.event_types.specs.Order.{sort_by, value_cmp}
+use Rattle.event_types.specs.declared.value.Value.{Value}
+use Rattle.semantics.specs.Scalars.{Pr}
+use Rattle.semantics.specs.Values.{value_at}
+use Rattle.instances.proofs.BoundLemmas.{all_alive}
+use Rattle.instances.specs.Alive.{is_alive}
+use Rattle.instances.specs.Bounds.{alive_instances, started}
+use Rattle.instances.specs.declared.instance.Instance.{Instance}
+use Rattle.binding_index.specs.Buckets.{AreBuckets, AreKeyed, Bucket, IsKeyed, StartFrom, StartsFrom, in_order, instances_at, keys_in_order}
+use Rattle.binding_index.specs.Among.{is_key}
+use Rattle.binding_index.specs.Entries.{has_any, is_live}
+use Rattle.binding_index.proofs.BucketLemmas.{filter_in_order, in_order_permuted, kept_in_order}
+use Rattle.binding_index.proofs.SplitLemmas.{all_live, first_live}
+use Rattle.binding_index.proofs.StoreLemmas.{from_order, to_order}
+use Rattle.binding_index.proofs.WriteLemmas.{keyed_passing, keys_passing, passing, passing_at}
+
+-- what holds of the instances of each bucket holds of all
+all_flat : (P : Instance → Type 0) (bs : List Bucket) → All (λ b. All P b.1) bs → All P (flat_map (λ b. b.1) bs)
+all_flat P [] all = All-nil P
+all_flat P (b ∷ bs) all = All-append P b.1 (flat_map (λ c. c.1) bs) (All-head (λ (c : Bucket). All P c.1) b bs all) (all_flat P bs (All-tail (λ (c : Bucket). All P c.1) b bs all))
+
+-- an instance of a bucket is one of all
+in_flat : (bs : List Bucket) (n : ℕ) (d : Bucket) (x : Instance) → n < length bs → Contains (get_or bs n d).1 x → Contains (flat_map (λ b. b.1) bs) x
+in_flat [] n d x lt h = absurd (omega arith)
+in_flat (b ∷ bs) zero d x lt h = Contains-append_left b.1 (flat_map (λ c. c.1) bs) x h
+in_flat (b ∷ bs) (suc n) d x lt h = Contains-append_right b.1 (flat_map (λ c. c.1) bs) x (in_flat bs n d x (omega arith) h)
+
+-- no instance in order starts before the time before which none of a bucket starts
+pub start_in_order : (oldest : ℕ) (bs : List Bucket) → IsDistinct is_key (keys_of bs) → StartFrom oldest bs → All (λ instance. oldest ≤ instance.tuple.from) (in_order bs)
+start_in_order oldest bs d all = All-permutation (λ instance. oldest ≤ instance.tuple.from) _ _ (in_order_permuted bs d) (all_flat (λ instance. oldest ≤ instance.tuple.from) bs all)
+
+-- each key of buckets
+keys_among : (bs : List Bucket) → All (λ b. Contains (keys_of bs) b.0) bs
+keys_among bs = go bs (All-contains_itself (keys_of bs))
+  where
+    go : (cs : List Bucket) → All (Contains (keys_of bs)) (keys_of cs) → All (λ b. Contains (keys_of bs) b.0) cs
+    go [] all = All-nil _
+    go (c ∷ cs) all = All-cons-here c cs (All-head (Contains (keys_of bs)) c.0 (keys_of cs) all) (go cs (All-tail (Contains (keys_of bs)) c.0 (keys_of cs) all))
+      where
+        All-cons-here : (c : Bucket) (cs : List Bucket) → Contains (keys_of bs) c.0 → All (λ b. Contains (keys_of bs) b.0) cs → All (λ b. Contains (keys_of bs) b.0) (c ∷ cs)
+        All-cons-here c cs one all zero d lt = one
+        All-cons-here c cs one all (suc k) d lt = all k d (omega arith)
+
+-- buckets without those that are empty
+module _ (place : ℕ) (bs : List Bucket) (keyed : AreKeyed place bs) (distinct : IsDistinct is_key (keys_of bs)) where
+  abbrev left : List Bucket
+  left = filter is_live bs
+
+  pub left_distinct : IsDistinct is_key (keys_of left)
+  left_distinct = IsDistinct-keys_filter is_key is_live bs distinct
+
+  pub left_keyed : AreKeyed place left
+  left_keyed = All-filter is_live (IsKeyed place) bs keyed
+
+  -- an instance that has the key
+  abbrev Held : Value → Type 0
+  Held key = Any (λ instance. value_at instance.tuple place ≡ key) (in_order left)
+
+  first_of : (is : List Instance) (key : Value) → has_any is ≡ true → All (λ (instance : Instance). value_at instance.tuple place ≡ key) is → ((x : Instance) → Contains is x → Contains (in_order left) x) → Held key
+  first_of [] key some all into = cc
+  first_of (x ∷ is) key some all into = let h = into x (0, omega arith, refl) in (h.0, x, h.1, h.2, all 0 x (omega arith))
+
+  -- each of their keys was there, and an instance has it
+  left_held : All (λ b. Contains (keys_of bs) b.0 × Held b.0) left
+  left_held k d lt = (
+    All-filter is_live (λ b. Contains (keys_of bs) b.0) bs (keys_among bs) k d lt,
+    first_of (get_or left k d).1 (get_or left k d).0 (filter_passes is_live bs k d lt) (left_keyed k d lt)
+        (λ x h. Contains-permutation _ _ x (in_order_permuted left left_distinct) (in_flat left k d x lt h)),
+  )
+
+  -- and each key that an instance has is theirs
+  held_left : (key : Value) → Held key → Contains (keys_of left) key
+  held_left key h =
+      subst (Contains (keys_of left)) h.4
+      (All-contains (λ instance. Contains (keys_of left) (value_at instance.tuple place)) (in_order left) h.1
+      (All-permutation (λ instance. Contains (keys_of left) (value_at instance.tuple place)) _ _ (in_order_permuted left left_distinct)
+      (all_flat (λ instance. Contains (keys_of left) (value_at instance.tuple place)) left (λ k d lt j e in'. subst (Contains (keys_of left)) (sym (left_keyed k d lt j e in')) (keys_among left k d lt))))
+      (h.0, h.2, h.3))
+
+  -- the keys that stay are those that were ready and that an instance has
+  pub left_ready : (key : Value) → Contains (keys_in_order left) key ↔ (Contains (keys_in_order bs) key × Held key)
+  left_ready key = (
+    λ h. let both = at (from_order left key h) in (to_order bs key both.0, both.1),
+    λ h. to_order left key (held_left key h.1),
+  )
+    where
+      at : Contains (keys_of left) key → Contains (keys_of bs) key × Held key
+      at h = All-contains (λ k. Contains (keys_of bs) k × Held k) (keys_of left) key (All-map (λ k. Contains (keys_of bs) k × Held k) (λ b. b.0) left left_held) h
+
+  -- they are the buckets of a store
+  pub left_buckets : (oldest : ℕ) → StartFrom oldest bs → AreBuckets place (length left) oldest left
+  left_buckets oldest start = record {
+    distinct = left_distinct;
+    keyed = left_keyed;
+    start = All-filter is_live (StartsFrom oldest) bs start;
+    within = omega arith;
+    split = all_live bs;
+  }
+
+-- where nothing expired, the buckets without instances are cut off
+module _ (place live oldest : ℕ) (bs cs : List Bucket) (h : AreBuckets place live oldest bs) (cut : cs ≡ take live bs) where
+  same : left place bs h.keyed h.distinct ≡ cs
+  same = sym (cut ∙ first_live live bs h.split)
+
+  pub cut_buckets : AreBuckets place live oldest cs
+  cut_buckets =
+      let long : length cs ≡ live = ap length cut ∙ length-take-le live bs h.within in
+      subst (λ n. AreBuckets place n oldest cs) long (subst (λ (xs : List Bucket). AreBuckets place (length xs) oldest xs) same (left_buckets place bs h.keyed h.distinct oldest h.start))
+
+  pub cut_in_order : in_order cs ≡ in_order bs
+  cut_in_order = ap in_order (sym same) ∙ kept_in_order bs h.distinct
+
+  pub cut_ready : (key : Value) → Contains (keys_in_order cs) key ↔ (Contains (keys_in_order bs) key × Any (λ instance. value_at instance.tuple place ≡ key) (in_order cs))
+  cut_ready key =
+      subst (λ (xs : List Bucket). Contains (keys_in_order xs) key ↔ (Contains (keys_in_order bs) key × Any (λ instance. value_at instance.tuple place ≡ key) (in_order xs))) same (left_ready place bs h.keyed h.distinct key)
+
+  -- and all instances are still alive
+  pub cut_alive : (time : ℕ) (choose : List Pr) → is_alive time choose (started oldest) ≡ true → in_order cs ≡ alive_instances time choose (in_order bs)
+  cut_alive time choose met = cut_in_order ∙ sym (all_alive time oldest choose (in_order bs) (start_in_order oldest bs h.distinct h.start) met)
+
+-- where instances may have expired, all buckets are walked
+module _ (place live before oldest : ℕ) (test : Instance → Bool) (bs ds cs : List Bucket) (h : AreBuckets place live before bs) (walked : ds ≡ map (passing test) bs) (start : StartFrom oldest ds) (forgotten : cs ≡ filter is_live ds) where
+  walked_keys : keys_of ds ≡ keys_of bs
+  walked_keys = ap keys_of walked ∙ keys_passing test bs
+
+  walked_distinct : IsDistinct is_key (keys_of ds)
+  walked_distinct = subst (λ (ks : List Value). IsDistinct is_key ks) (sym walked_keys) h.distinct
+
+  walked_keyed : AreKeyed place ds
+  walked_keyed = subst (AreKeyed place) (sym walked) (keyed_passing test place bs h.keyed)
+
+  pub walked_buckets : (n : ℕ) → n ≡ length cs → AreBuckets place n oldest cs
+  walked_buckets n long =
+      subst (λ m. AreBuckets place m oldest cs) (sym long) (subst (λ (xs : List Bucket). AreBuckets place (length xs) oldest xs) (sym forgotten) (left_buckets place ds walked_keyed walked_distinct oldest start))
+
+  pub walked_in_order : in_order cs ≡ filter test (in_order bs)
+  walked_in_order =
+      ap in_order forgotten ∙ kept_in_order ds walked_distinct ∙ filter_in_order test bs ds walked_keys (λ k. ap (λ (xs : List Bucket). instances_at xs k) walked ∙ passing_at test bs k)
+
+  pub walked_ready : (key : Value) → Contains (keys_in_order cs) key ↔ (Contains (keys_in_order bs) key × Any (λ instance. value_at instance.tuple place ≡ key) (in_order cs))
+  walked_ready key =
+      subst (λ (ks : List Value). Contains (keys_in_order cs) key ↔ (Contains ks key × Any (λ instance. value_at instance.tuple place ≡ key) (in_order cs))) (ap (sort_by value_cmp) walked_keys)
+      (subst (λ (xs : List Bucket). Contains (keys_in_order xs) key ↔ (Contains (keys_in_order ds) key × Any (λ instance. value_at instance.tuple place ≡ key) (in_order xs))) (sym forgotten) (left_ready place ds walked_keyed walked_distinct key))
+
+-- the key of each instance is ready
+pub all_ready : (place : ℕ) (bs : List Bucket) → IsDistinct is_key (keys_of bs) → AreKeyed place bs → All (λ instance. Contains (keys_in_order bs) (value_at instance.tuple place)) (in_order bs)
+all_ready place bs d keyed =
+    All-permutation (λ instance. Contains (keys_in_order bs) (value_at instance.tuple place)) _ _ (in_order_permuted bs d)
+    (all_flat (λ instance. Contains (keys_in_order bs) (value_at instance.tuple place)) bs
+    (λ k e lt j n in'. subst (Contains (keys_in_order bs)) (sym (keyed k e lt j n in')) (to_order bs (get_or bs k e).0 (keys_among bs k e lt))))

@@ -1,0 +1,203 @@
+-- The buckets of a store, from one call to the next.
+use Rattle.std.proofs.Common.{◌≡◌, ◌∙◌, sym, ap, refl, subst, ℕ, zero, suc, ◌+◌, ◌<◌, ◌≤◌, ◌⊎◌, inl, inr, true, false, length, length-append, get_or, nat_lt, is_some, List, [], ◌∷◌, ◌++◌, Contains, arith}
+use Rattle.std.specs.Prelude.{IfNone, IfOk, IfSome, OnErr, OnOk, Option, Result, Ok, Err, Some, None, min, slice_get}
+use Rattle.std.specs.List.Sorted.{IsPermutation}
+use Rattle.std.specs.List.{All, IsDistinct, flat_map, list_any}
+use Rattle.std.specs.Map.{keys_of, lookup, values_of}
+use Rattle.std.proofs.lemmas.Bool.{cases_eq, le-ltb}
+use Rattle.std.proofs.lemmas.List.{map-append}
+use Rattle.std.proofs.lemmas.List.Elements.{All-nil, All-cons, All-contains_itself, All-push, All-same, All-weaker, Contains-append_left, Contains-append_right, Contains-push}
+use Rattle.std.proofs.lemmas.List.Folds.{list_any-from_Any}
+use Rattle.std.proofs.lemmas.List.Sorted.{All-permutation, Contains-permutation, IsPermutation-sym, list_any-IsPermutation}
+use Rattle.std.proofs.lemmas.Map.Made.{is_some-lookup}
+use Rattle.std.proofs.lemmas.Option.{get_or_from_slice_get}
+use Rattle.event_types.specs.Order.{value_cmp}
+use Rattle.event_types.specs.OrderLaws.{value_total}
+use Rattle.event_types.specs.Tuple.{Row}
+use Rattle.event_types.specs.declared.value.Value.{Value}
+use Rattle.event_types.proofs.SortLemmas.{sort_permutes}
+use Rattle.event_types.specs.declared.value.Value.TheVariants.{Over}
+use Rattle.indexmap.specs.IndexMap.{set_value_at}
+use Rattle.semantics.specs.Values.{value_at}
+use Rattle.instances.specs.declared.instance.Instance.{Instance}
+use Rattle.binding_index.specs.Among.{is_among}
+use Rattle.binding_index.specs.Buckets.{AreBuckets, AreKeyed, AreSame, Bucket, IsKeyed, IsSplit, StartFrom, StartsFrom, in_order, keys_in_order}
+use Rattle.binding_index.specs.Among.{is_key}
+use Rattle.binding_index.specs.Entries.{is_live}
+use Rattle.inst_chain.specs.Heads.{head}
+use Rattle.scalar_expr.proofs.Bags.{permuted_from}
+use Rattle.binding_index.proofs.BucketLemmas.{in_order_permuted, same_distinct, same_in_order}
+use Rattle.binding_index.proofs.EqualityLemmas.{key_itself}
+use Rattle.binding_index.proofs.WriteLemmas.{all_at, all_written, keys_written, none_more, one_more}
+
+-- no bucket
+none : (place oldest : ℕ) → AreBuckets place 0 oldest []
+unfolding IsDistinct
+none place oldest = record {
+  distinct = tt;
+  keyed = λ k d lt. absurd (omega arith);
+  start = λ k d lt. absurd (omega arith);
+  within = omega arith;
+  split = λ k d lt. absurd (omega arith);
+}
+
+pub no_buckets : (place oldest : ℕ) (bs : List Bucket) → bs ≡ [] → AreBuckets place 0 oldest bs
+no_buckets place oldest bs e = subst (AreBuckets place 0 oldest) (sym e) (none place oldest)
+
+-- one bucket was written, and then stands where it should
+pub arranged : (place oldest live : ℕ) (bs : List Bucket) (i : ℕ) (key : Value) (v w : List Instance) (cs : List Bucket) → IsDistinct is_key (keys_of bs) → AreKeyed place bs → StartFrom oldest bs → slice_get bs i ≡ Some (key, v)
+    → IsKeyed place (key, w) → StartsFrom oldest (key, w) → AreSame (set_value_at bs i w) cs → live ≤ length cs → IsSplit live cs → AreBuckets place live oldest cs
+arranged place oldest live bs i key v w cs d keyed start at of_key later same within split = record {
+  distinct = same_distinct (set_value_at bs i w) cs same (subst (λ (ks : List Value). IsDistinct is_key ks) (sym (keys_written bs i w)) d);
+  keyed = All-permutation (IsKeyed place) (set_value_at bs i w) cs same.permuted (all_written (IsKeyed place) bs i key v w at of_key keyed);
+  start = All-permutation (StartsFrom oldest) (set_value_at bs i w) cs same.permuted (all_written (StartsFrom oldest) bs i key v w at later start);
+  within = within;
+  split = split;
+}
+
+-- the value that was read at a place of a tuple
+pub value_is : (row : Row) (vals : List Value) (place : ℕ) (v : Value) → vals ≡ row.vals → slice_get vals place ≡ Some v → value_at row place ≡ v
+value_is row vals place v e at = ap (λ (vs : List Value). get_or vs place Over) (sym e) ∙ get_or_from_slice_get vals place v Over at
+
+-- the value at the place of an entry
+pub value_there : (bs : List Bucket) (i : ℕ) (key : Value) (v w : List Instance) → slice_get bs i ≡ Some (key, v) → slice_get (values_of bs) i ≡ Some w → w ≡ v
+value_there [] i key v w at there = cc
+value_there (b ∷ bs) zero key v w at there = let one : b ≡ (key, v) = cc in let two : b.1 ≡ w = cc in sym two ∙ ap (λ (c : Bucket). c.1) one
+value_there (b ∷ bs) (suc i) key v w at there = value_there bs i key v w at there
+
+-- the keys in their order are those of the buckets
+pub to_order : (bs : List Bucket) (key : Value) → Contains (keys_of bs) key → Contains (keys_in_order bs) key
+to_order bs key h = Contains-permutation (keys_of bs) (keys_in_order bs) key (IsPermutation-sym _ _ (sort_permutes value_cmp value_total (keys_of bs))) h
+
+pub from_order : (bs : List Bucket) (key : Value) → Contains (keys_in_order bs) key → Contains (keys_of bs) key
+from_order bs key h = Contains-permutation (keys_in_order bs) (keys_of bs) key (sort_permutes value_cmp value_total (keys_of bs)) h
+
+-- a key whose bucket stands at a place is ready
+key_there : (bs : List Bucket) (i : ℕ) (key : Value) (v : List Instance) → slice_get bs i ≡ Some (key, v) → Contains (keys_of bs) key
+key_there [] i key v at = cc
+key_there (b ∷ bs) zero key v at = let one : b ≡ (key, v) = cc in (0, omega arith, ap (λ (c : Bucket). c.0) one)
+key_there (b ∷ bs) (suc i) key v at = Contains-append_right (b.0 ∷ []) (keys_of bs) key (key_there bs i key v at)
+
+pub ready_there : (bs : List Bucket) (i : ℕ) (key : Value) (v : List Instance) → slice_get bs i ≡ Some (key, v) → Contains (keys_in_order bs) key
+ready_there bs i key v at = to_order bs key (key_there bs i key v at)
+
+-- a key that is ready is found
+pub not_missing : (bs : List Bucket) (key : Value) → Contains (keys_in_order bs) key → lookup (is_key key) bs ≡ None → ⊥
+not_missing bs key ready missing =
+    let h = from_order bs key ready in
+    let found : list_any (is_key key) (keys_of bs) ≡ true = list_any-from_Any (is_key key) (keys_of bs) (h.0, key, h.1, h.2, key_itself key) in
+    let none : false ≡ list_any (is_key key) (keys_of bs) = ap is_some (sym missing) ∙ is_some-lookup (is_key key) bs in
+    contradiction (none ∙ found)
+  where
+    contradiction : false ≡ true → ⊥
+    contradiction e = cc
+
+-- an empty bucket of a new key, behind all others
+module _ (place live oldest : ℕ) (bs : List Bucket) (key : Value) (h : AreBuckets place live oldest bs) where
+  abbrev new : Bucket
+  new = (key, [])
+
+  pub added : IsDistinct is_key (keys_of (bs ++ new ∷ [])) → AreBuckets place live oldest (bs ++ new ∷ [])
+  added d = record {
+    distinct = d;
+    keyed = All-push (IsKeyed place) bs new h.keyed (All-nil _);
+    start = All-push (StartsFrom oldest) bs new h.start (All-nil _);
+    within = let long = length-append bs (new ∷ []) in let few = h.within in omega (arith, long, few);
+    split = λ n e lt. go n e (cases_eq n (length bs)) (let long = length-append bs (new ∷ []) in omega (arith, long, lt));
+  }
+    where
+      front : (cs : List Bucket) (n : ℕ) (e : Bucket) → n < length cs → get_or (cs ++ new ∷ []) n e ≡ get_or cs n e
+      front [] n e lt = absurd (omega arith)
+      front (c ∷ cs) zero e lt = refl
+      front (c ∷ cs) (suc n) e lt = front cs n e (omega arith)
+
+      back : (cs : List Bucket) (e : Bucket) → get_or (cs ++ new ∷ []) (length cs) e ≡ new
+      back [] e = refl
+      back (c ∷ cs) e = back cs e
+
+      go : (n : ℕ) (e : Bucket) → (n ≡ length bs) ⊎ (n ≡ length bs → ⊥) → n < length bs + 1 → is_live (get_or (bs ++ new ∷ []) n e) ≡ nat_lt n live
+      go n e (inl last) lt = ap (λ m. is_live (get_or (bs ++ new ∷ []) m e)) last ∙ ap is_live (back bs e) ∙ sym (le-ltb n live (let few = h.within in omega (arith, few, last)))
+      go n e (inr other) lt = ap is_live (front bs n e (omega (arith, lt))) ∙ h.split n e (omega (arith, lt))
+
+  -- the keys that were ready are so still, and the new one is
+  pub more_keys : All (Contains (keys_in_order (bs ++ new ∷ []))) (keys_in_order bs)
+  more_keys =
+      All-weaker (Contains (keys_in_order bs)) (Contains (keys_in_order (bs ++ new ∷ [])))
+      (λ k c. to_order (bs ++ new ∷ []) k (subst (λ (ks : List Value). Contains ks k) (sym (map-append _ bs (new ∷ []))) (Contains-append_left (keys_of bs) (key ∷ []) k (from_order bs k c)))) (keys_in_order bs) (All-contains_itself (keys_in_order bs))
+
+  pub new_key : Contains (keys_in_order (bs ++ new ∷ [])) key
+  new_key = to_order (bs ++ new ∷ []) key (subst (λ (ks : List Value). Contains ks key) (sym (map-append _ bs (new ∷ []))) (Contains-push (keys_of bs) key))
+
+-- what is known of a place that was found, and of one that wasn't
+pub found_if : (bs : List Bucket) (key : Value) (v : List Instance) (r : Option ℕ) → is_some r ≡ true → IfSome r (λ place. slice_get bs place ≡ Some (key, v)) → Contains (keys_in_order bs) key
+found_if bs key v None some h = cc
+found_if bs key v (Some place) some h = ready_there bs place key v h
+
+pub missing_if : {P : Type 0} (r : Option ℕ) → is_some r ≡ false → IfNone r P → P
+missing_if None none h = h
+missing_if (Some place) none h = cc
+
+-- copies of all instances are those that stand key by key, up to order
+pub all_permuted : {E : Type 0} (bs : List Bucket) (r : Result (List Instance) E) → IsDistinct is_key (keys_of bs) → IfOk r (λ copies. copies ≡ flat_map (λ b. b.1) bs) → IfOk r (λ copies. IsPermutation copies (in_order bs))
+all_permuted bs (Ok copies) d h = permuted_from h (in_order_permuted bs d)
+all_permuted bs (Err e) d h = h
+
+-- the first of a chain of one bead is that bead
+pub the_bead : (new link look : List Instance) (bead x : Instance) → new ≡ [] → link ≡ new ++ bead ∷ [] → look ≡ link → Some x ≡ head look → x ≡ bead
+the_bead new link look bead x empty linked seen first = let one : Some x ≡ Some bead = first ∙ ap head (seen ∙ linked ∙ ap (λ is. is ++ bead ∷ []) empty) in cc
+
+-- an instance was put before those of its key
+pub linked : (place oldest least from before live : ℕ) (bs : List Bucket) (i : ℕ) (key : Value) (had w : List Instance) (bead : Instance) (cs : List Bucket) → AreBuckets place before oldest bs → slice_get bs i ≡ Some (key, had) → w ≡ bead ∷ had
+    → value_at bead.tuple place ≡ key → least ≡ min oldest from → from ≡ bead.tuple.from → AreSame (set_value_at bs i w) cs → live ≤ length cs → IsSplit live cs → AreBuckets place live least cs
+linked place oldest least from before live bs i key had w bead cs h at is of_key e f same within split =
+    arranged place least live bs i key had w cs h.distinct h.keyed (All-weaker (StartsFrom oldest) (StartsFrom least) (λ b all. All-weaker (λ (n : Instance). oldest ≤ n.tuple.from) (λ (n : Instance). least ≤ n.tuple.from) (λ n le. omega arith) b.1 all) bs h.start) at
+    (All-same (λ (n : Instance). value_at n.tuple place ≡ key) w (bead ∷ had) is (All-cons (λ (n : Instance). value_at n.tuple place ≡ key) bead had of_key (all_at (IsKeyed place) bs i (key, had) at h.keyed)))
+    (All-same (λ (n : Instance). least ≤ n.tuple.from) w (bead ∷ had) is
+    (All-cons (λ (n : Instance). least ≤ n.tuple.from) bead had (omega arith) (All-weaker (λ (n : Instance). oldest ≤ n.tuple.from) (λ (n : Instance). least ≤ n.tuple.from) (λ n le. omega arith) had (all_at (StartsFrom oldest) bs i (key, had) at h.start)))) same within
+    split
+
+pub linked_in_order : (bs : List Bucket) (i : ℕ) (key : Value) (had w : List Instance) (bead : Instance) (cs : List Bucket) → IsDistinct is_key (keys_of bs) → slice_get bs i ≡ Some (key, had) → w ≡ bead ∷ had → AreSame (set_value_at bs i w) cs
+    → IsPermutation (in_order cs) (bead ∷ in_order bs)
+linked_in_order bs i key had w bead cs d at is same =
+    permuted_from (same_in_order (set_value_at bs i w) cs same ∙ ap (λ x. in_order (set_value_at bs i x)) is) (one_more bs i key bead had d at)
+
+-- where there was memory, an empty bucket of a new key was added, and else none
+module _ {X E : Type 0} (place live oldest : ℕ) (bs cs : List Bucket) (key : Value) (h : AreBuckets place live oldest bs) (r : Result X E) (ok : OnOk r (cs ≡ bs ++ (key, []) ∷ [])) (kept : OnErr r (cs ≡ bs)) (d : IsDistinct is_key (keys_of cs)) where
+  grown : (cs ≡ bs ++ (key, []) ∷ []) ⊎ (cs ≡ bs)
+  grown = elim r as (λ (s : Result X E). OnOk s (cs ≡ bs ++ (key, []) ∷ []) → OnErr s (cs ≡ bs) → (cs ≡ bs ++ (key, []) ∷ []) ⊎ (cs ≡ bs)) [ Ok x ↦ λ o k. inl o | Err e ↦ λ o k. inr k ] ok kept
+
+  pub grown_buckets : AreBuckets place live oldest cs
+  grown_buckets = go grown
+    where
+      go : (cs ≡ bs ++ (key, []) ∷ []) ⊎ (cs ≡ bs) → AreBuckets place live oldest cs
+      go (inl e) = subst (AreBuckets place live oldest) (sym e) (added place live oldest bs key h (subst (λ (xs : List Bucket). IsDistinct is_key (keys_of xs)) e d))
+      go (inr e) = subst (AreBuckets place live oldest) (sym e) h
+
+  pub grown_keys : All (Contains (keys_in_order cs)) (keys_in_order bs)
+  grown_keys = go grown
+    where
+      go : (cs ≡ bs ++ (key, []) ∷ []) ⊎ (cs ≡ bs) → All (Contains (keys_in_order cs)) (keys_in_order bs)
+      go (inl e) = subst (λ (xs : List Bucket). All (Contains (keys_in_order xs)) (keys_in_order bs)) (sym e) (more_keys place live oldest bs key h)
+      go (inr e) = subst (λ (xs : List Bucket). All (Contains (keys_in_order xs)) (keys_in_order bs)) (sym e) (All-contains_itself (keys_in_order bs))
+
+  pub grown_in_order : in_order cs ≡ in_order bs
+  grown_in_order = go grown
+    where
+      go : (cs ≡ bs ++ (key, []) ∷ []) ⊎ (cs ≡ bs) → in_order cs ≡ in_order bs
+      go (inl e) = ap in_order e ∙ none_more bs key h.distinct (subst (λ (xs : List Bucket). IsDistinct is_key (keys_of xs)) e d)
+      go (inr e) = ap in_order e
+
+  pub grown_key : OnOk r (Contains (keys_in_order cs) key)
+  grown_key =
+      elim r as (λ (s : Result X E). OnOk s (cs ≡ bs ++ (key, []) ∷ []) → OnOk s (Contains (keys_in_order cs) key)) [
+        | Ok x ↦ λ o. subst (λ (xs : List Bucket). Contains (keys_in_order xs) key) (sym o) (new_key place live oldest bs key h)
+        | Err e ↦ λ o. o
+      ] ok
+
+-- whether a key is ready, as its place was looked for
+pub ready_if : (bs : List Bucket) (key : Value) (v : List Instance) (r : Option ℕ) → IfSome r (λ place. slice_get bs place ≡ Some (key, v)) → IfNone r (lookup (is_key key) bs ≡ None) → is_some r ≡ is_among key (keys_in_order bs)
+ready_if bs key v (Some place) found absent =
+    let h = ready_there bs place key v found in
+    sym (list_any-from_Any (is_key key) (keys_in_order bs) (h.0, key, h.1, h.2, key_itself key))
+ready_if bs key v None found absent =
+    ap is_some (sym absent) ∙ is_some-lookup (is_key key) bs ∙ sym (list_any-IsPermutation (is_key key) (keys_in_order bs) (keys_of bs) (sort_permutes value_cmp value_total (keys_of bs)))

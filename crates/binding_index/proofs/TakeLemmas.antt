@@ -1,0 +1,64 @@
+-- What an event finds among the buckets of a store, and what stays when it takes.
+use Rattle.std.proofs.Common.{◌≡◌, ◌∙◌, sym, ap, subst, ℕ, inl, inr, not, cond, filter, List, []}
+use Rattle.std.specs.Prelude.{Some, slice_get}
+use Rattle.std.specs.List.{IsDistinct}
+use Rattle.std.specs.Map.{keys_of, values_of}
+use Rattle.event_types.specs.Tuple.{Row}
+use Rattle.event_types.specs.declared.value.Value.{Value}
+use Rattle.indexmap.specs.IndexMap.{set_value_at}
+use Rattle.semantics.specs.Nexts.{is_eligible}
+use Rattle.semantics.specs.Scalars.{Pr}
+use Rattle.semantics.specs.Values.{value_at}
+use Rattle.instances.specs.declared.instance.Instance.{Instance}
+use Rattle.instances.specs.Keys.{Key, candidates_of, is_matched, unmatched}
+use Rattle.binding_index.specs.Buckets.{AreKeyed, AreSame, Bucket, Finds, HasNone, in_order, instances_at}
+use Rattle.binding_index.specs.Among.{is_key}
+use Rattle.binding_index.proofs.BucketLemmas.{filter_in_order, same_in_order}
+use Rattle.binding_index.proofs.CandidateLemmas.{all_stay, candidates_are, no_candidates, over_stays, stay_at}
+use Rattle.binding_index.proofs.StoreLemmas.{value_there}
+use Rattle.binding_index.proofs.WriteLemmas.{keys_written, written_at}
+
+module _ (key : Key) (event : Row) (bs : List Bucket) (keyed : AreKeyed key.binding bs) (distinct : IsDistinct is_key (keys_of bs)) where
+  abbrev here : Value
+  here = value_at event key.event
+
+  module _ (k : Value) (is : here ≡ k) where
+    none_is : HasNone bs k → HasNone bs here
+    none_is h = subst (HasNone bs) (sym is) h
+
+    found_is : (place : ℕ) → Finds bs k place → Finds bs here place
+    found_is place h = subst (λ (v : Value). Finds bs v place) (sym is) h
+
+    -- no candidate is found, and all stay
+    pub none_are : HasNone bs k → [] ≡ candidates_of (Some key) event (in_order bs)
+    none_are h = go (none_is h)
+      where
+        go : HasNone bs here → [] ≡ candidates_of (Some key) event (in_order bs)
+        go (inl over) = no_candidates key event bs keyed distinct over
+        go (inr (value, none)) = sym none ∙ candidates_are key event bs keyed distinct value
+
+    pub none_go : (choose : List Pr) → HasNone bs k → in_order bs ≡ unmatched (Some key) choose event (in_order bs)
+    none_go choose h = go (none_is h)
+      where
+        go : HasNone bs here → in_order bs ≡ unmatched (Some key) choose event (in_order bs)
+        go (inl over) = over_stays key event bs keyed choose over
+        go (inr (value, none)) = all_stay key event bs keyed choose value none
+
+    module _ (place : ℕ) (finds : Finds bs k place) (v : List Instance) (there : slice_get (values_of bs) place ≡ Some v) where
+      same : v ≡ instances_at bs here
+      same = value_there bs place here (instances_at bs here) v (found_is place finds).at there
+
+      -- the bucket has the candidates
+      pub found_are : v ≡ candidates_of (Some key) event (in_order bs)
+      found_are = same ∙ candidates_are key event bs keyed distinct (found_is place finds).is_value
+
+      -- and once those for which the event is eligible are taken out of it, they are taken out of all
+      pub found_go : (choose : List Pr) (w : List Instance) (cs : List Bucket) → w ≡ filter (λ (n : Instance). not (is_eligible choose n.tuple event)) v → AreSame (set_value_at bs place w) cs
+          → in_order cs ≡ unmatched (Some key) choose event (in_order bs)
+      found_go choose w cs taken written =
+          let f = found_is place finds in
+          same_in_order (set_value_at bs place w) cs written
+          ∙ filter_in_order (λ n. not (is_matched (Some key) choose event n)) bs (set_value_at bs place w) (keys_written bs place w)
+          (λ q. written_at bs place here (instances_at bs here) w distinct f.at q
+          ∙ ap (λ (x : List Instance). cond (is_key here q) x (instances_at bs q)) (taken ∙ ap (filter (λ (n : Instance). not (is_eligible choose n.tuple event))) same)
+          ∙ sym (stay_at key event bs keyed choose f.is_value q))

@@ -1,0 +1,23 @@
+use Rattle.std.proofs.Common.{rules, arith}
+use Rattle.indexmap.proofs.CallerLemmas.{filter-RetainsPairs}
+use Rattle.binding_index.specs.Entries.{is_live}
+use Rattle.binding_index.specs.Leads.{is_ready_at}
+use Rattle.binding_index.proofs.EqualityLemmas.{distinct_keys}
+use Rattle.binding_index.proofs.LeadLemmas.{keep_more, kept_leads, led_swept}
+use Rattle.binding_index.proofs.directory.Directory.sweep.Goals as goal
+
+pub loop-place-preserved : goal.loop-place-preserved
+loop-place-preserved c =
+    keep_more (λ key number. is_ready_at c.args.stores.now number key) c.self.inside.states.entries c.loop-place.self-inside.states.entries c.loop-place.place c.pair_mut-states.result.0.now c.pair_mut-states.result.1.now c.keep_ready.new.states c.loop-place.invariant c.pair_mut-states.ensures.value c.keep_ready.ensures
+
+-- each key leads to the states where it did and is ready
+pub returns-clause-leads : goal.returns-clause-leads
+returns-clause-leads c =
+    rw (← c.self.view_is) (kept_leads (λ key number. is_ready_at c.args.stores.now number key) c.self.inside.states.entries c.loop-place.self-inside.states.entries c.retain.new.self.entries c.loop-place.place c.loop-place.invariant (omega arith)
+    (filter-RetainsPairs _ is_live _ (λ k v b w g call. search rules) _ _ c.retain.ensures.filtered) (distinct_keys _ c.len-place-end.ensures.unique))
+
+pub returns-clause-led : goal.returns-clause-led
+returns-clause-led c =
+    rw (← c.self.view_is) (led_swept c.self.inside.states.entries c.retain.new.self.entries c.args.stores.now
+    (kept_leads (λ key number. is_ready_at c.args.stores.now number key) c.self.inside.states.entries c.loop-place.self-inside.states.entries c.retain.new.self.entries c.loop-place.place c.loop-place.invariant (omega arith)
+    (filter-RetainsPairs _ is_live _ (λ k v b w g call. search rules) _ _ c.retain.ensures.filtered) (distinct_keys _ c.len-place-end.ensures.unique)))

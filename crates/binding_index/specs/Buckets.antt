@@ -1,0 +1,78 @@
+-- Buckets of instances by key. No public clause names this.
+use Rattle.std.specs.Prelude.{◌≡◌, ℕ, ◌<◌, ◌≤◌, ◌≢◌, ◌⊎◌, Some, slice_get, Bool, true, false, nat_lt, List, [], ◌∷◌, length, slice_index_or}
+use Rattle.std.specs.List.{All, IsDistinct, flat_map}
+use Rattle.std.specs.List.Sorted.{IsPermutation}
+use Rattle.std.specs.Map.{keys_of}
+use Rattle.event_types.specs.Order.{sort_by, value_cmp}
+use Rattle.event_types.specs.declared.value.Value.{Value}
+use Rattle.event_types.specs.declared.value.Value.TheVariants.{Int, Over, Text}
+use Rattle.semantics.specs.Values.{value_at}
+use Rattle.instances.specs.declared.instance.Instance.{Instance}
+use Rattle.binding_index.specs.Among.{is_key}
+use Rattle.binding_index.specs.Entries.{has_any, is_live, items_at}
+
+-- a key, and the instances that have it
+abbrev pub Bucket : Type 0
+Bucket = Value × List Instance
+
+-- whether a value is OVER
+abbrev pub is_over : Value → Bool
+is_over Over = true
+is_over (Int number) = false
+is_over (Text bytes) = false
+
+-- the instances of a key
+abbrev pub instances_at : List Bucket → Value → List Instance
+instances_at buckets key = items_at buckets key
+
+-- the keys in their order
+abbrev pub keys_in_order : List Bucket → List Value
+keys_in_order buckets = sort_by value_cmp (keys_of buckets)
+
+-- the instances key by key
+abbrev pub in_order : List Bucket → List Instance
+in_order buckets = flat_map (instances_at buckets) (keys_in_order buckets)
+
+-- those before a place have instances, and the others none; the one at another place aside
+abbrev pub IsSplitBut : ℕ → ℕ → List Bucket → Type 0
+IsSplitBut place live buckets = (number : ℕ) (d : Bucket) → number ≢ place → number < length buckets → is_live (slice_index_or buckets number d) ≡ nat_lt number live
+
+-- those before a place have instances, and the others none
+abbrev pub IsSplit : ℕ → List Bucket → Type 0
+IsSplit live buckets = (number : ℕ) (d : Bucket) → number < length buckets → is_live (slice_index_or buckets number d) ≡ nat_lt number live
+
+-- each instance of the bucket has its key
+abbrev pub IsKeyed : ℕ → Bucket → Type 0
+IsKeyed place bucket = All (λ instance. value_at instance.tuple place ≡ bucket.0) bucket.1
+
+abbrev pub AreKeyed : ℕ → List Bucket → Type 0
+AreKeyed place buckets = All (IsKeyed place) buckets
+
+-- no instance of the bucket starts before a time
+abbrev pub StartsFrom : ℕ → Bucket → Type 0
+StartsFrom oldest bucket = All (λ instance. oldest ≤ instance.tuple.from) bucket.1
+
+abbrev pub StartFrom : ℕ → List Bucket → Type 0
+StartFrom oldest buckets = All (StartsFrom oldest) buckets
+
+-- what holds of the buckets of a store: no key comes twice, each instance stands under its key and starts no earlier than a time, and the buckets with instances come first
+pub record AreBuckets (place live oldest : ℕ) (buckets : List Bucket) : Type 0 where
+  pub distinct : IsDistinct is_key (keys_of buckets)
+  pub keyed : AreKeyed place buckets
+  pub start : StartFrom oldest buckets
+  pub within : live ≤ length buckets
+  pub split : IsSplit live buckets
+
+-- the bucket of a key that may have candidates stands at a place
+pub record Finds (buckets : List Bucket) (key : Value) (place : ℕ) : Type 0 where
+  pub is_value : is_over key ≡ false
+  pub at : slice_get buckets place ≡ Some (key, instances_at buckets key)
+
+-- a key has no candidates
+abbrev pub HasNone : List Bucket → Value → Type 0
+HasNone buckets key = (is_over key ≡ true) ⊎ ((is_over key ≡ false) × (instances_at buckets key ≡ []))
+
+-- the same buckets, in some order
+pub record AreSame (old new : List Bucket) : Type 0 where
+  pub permuted : IsPermutation old new
+  pub same : (key : Value) → instances_at new key ≡ instances_at old key

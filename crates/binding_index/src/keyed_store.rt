@@ -1,0 +1,144 @@
+//! A store with a key.
+ghost use Rattle.std.specs.Prelude.{◌≡◌, [], All, Contains, IfOk, IsSome, OnOk, Some};
+ghost use Rattle.semantics.specs.Values.{value_at};
+ghost use Rattle.binding_index.specs.Among.{is_among};
+ghost use Rattle.binding_index.specs.KeyParts.{first_key as first_key_of, key_seen};
+
+use crate::buckets::{
+    Buckets, add_bucket, arrange, candidate_place, copy_all, count_all, forget, keep_all_alive,
+    put_before,
+};
+use crate::entries::place_of;
+use crate::key::{KeyPart, first_key};
+use cay_host::{Ledger, Steps};
+use event_types::{Copied, Memory, Tuple, Value};
+use indexmap::IndexMap;
+use inst_chain::{Bead, Chain, Look};
+use instances::{Instance, Instances, Waiting, can_be_met, take_eligible};
+use scalar_expr::Conj;
+use std::alloc::Global;
+use std::marker::Model;
+
+/// A store that looks at the instances of one key alone.
+#[derive(Drop)]
+pub struct KeyedStore {
+    condition: Conj,
+    key: KeyPart,
+    // the instances of each key that is ready
+    buckets: Buckets,
+    // how many buckets have instances; they come first
+    live: usize,
+    // no instance starts before this time
+    oldest: u64,
+}
+
+impl Model for KeyedStore {
+    ghost use Rattle.binding_index.specs.Keyed.{Keyed};
+    ghost use Rattle.binding_index.specs.KeyedCode.{keyed_code};
+
+    ghost Value = { Keyed };
+
+    ghost coded = { keyed_code };
+
+    ghost use Rattle.binding_index.specs.Buckets.{AreBuckets, in_order, keys_in_order};
+    ghost use Rattle.binding_index.specs.KeyParts.{key_seen};
+
+    ghost view = { λ s. record { condition = s.condition; key = key_seen s.key; ready = keys_in_order s.buckets.entries; instances = in_order s.buckets.entries } };
+
+    ghost invariant = { λ s. AreBuckets s.key.binding s.live s.oldest s.buckets.entries };
+}
+
+impl KeyedStore {
+    /// A store for the condition, by its first key part, with no instance.
+    pub fn make(alloc: Global, choose: &Conj) -> Result<KeyedStore, Memory>
+        requires { IsSome (first_key_of choose.now) }
+        ensures condition { IfOk result (λ store. store.condition ≡ choose.now) }
+        ensures key { IfOk result (λ store. first_key_of choose.now ≡ Some store.key) }
+        ensures ready { IfOk result (λ store. store.ready ≡ []) }
+        ensures instances { IfOk result (λ store. store.instances ≡ []) }
+    {
+        let key = first_key(choose).unwrap();
+        let condition = choose.copy(alloc)?;
+        Ok(KeyedStore {
+            condition,
+            key,
+            buckets: IndexMap::new(alloc),
+            live: 0,
+            oldest: u64::MAX,
+        })
+    }
+
+    /// Whether there is room for an instance with this key. Takes no memory.
+    pub fn is_ready(&self, key: &Value) -> bool
+        ensures ready { result ≡ is_among key.now self.now.ready }
+        ensures all_ready { All (λ instance. Contains self.now.ready (value_at instance.tuple self.now.key.binding)) self.now.instances }
+    {
+        place_of(&self.buckets, key).is_some()
+    }
+}
+
+impl Waiting for KeyedStore {
+    ghost condition = { λ store. store.condition };
+
+    ghost key = { λ store. Some store.key };
+
+    ghost instances = { λ store. store.instances };
+
+    ghost ready_keys = { λ store. store.ready };
+
+    fn candidates(&self, event: &Tuple) -> Look<'_, Instance> {
+        let key = event.vals().get(self.key.event);
+        let Some(place) = candidate_place(&self.buckets, key) else {
+            return Look::none();
+        };
+        self.buckets[place].look()
+    }
+
+    fn take<L: Ledger>(&mut self, event: &Tuple, choose: &Conj, steps: &mut Steps<L>) {
+        if let Some(place) = candidate_place(&self.buckets, event.vals().get(self.key.event)) {
+            take_eligible(&mut self.buckets[place], event, choose, steps);
+            self.live = arrange(&mut self.buckets, self.live, place);
+        }
+    }
+
+    fn all(&self, alloc: Global) -> Result<Instances, Memory> {
+        copy_all(alloc, &self.buckets)
+    }
+
+    fn ready(&mut self, instance: &Instance) -> Result<(), Memory> {
+        let key = instance.tuple.vals().get(self.key.binding);
+        if place_of(&self.buckets, key).is_some() {
+            return Ok(());
+        }
+        let key = key.copied(*self.buckets.allocator())?;
+        add_bucket(&mut self.buckets, key)
+    }
+
+    /// Puts the instance in front of those with its key, at once however many there are.
+    fn link(&mut self, bead: Bead<Instance>) {
+        let mut chain = Chain::new();
+        chain.link(bead);
+        if let Some(instance) = chain.look().next() {
+            self.oldest = self.oldest.min(instance.tuple.from());
+            let key = instance.tuple.vals().get(self.key.binding);
+            if let Some(place) = place_of(&self.buckets, key) {
+                put_before(&mut self.buckets[place], &mut chain);
+                self.live = arrange(&mut self.buckets, self.live, place);
+            }
+        }
+    }
+
+    fn purge(&mut self, now: u64) {
+        if can_be_met(&self.condition, now, self.oldest) {
+            self.buckets.truncate(self.live);
+        } else {
+            self.oldest = keep_all_alive(&mut self.buckets, &self.condition, now);
+            forget(&mut self.buckets);
+            self.live = self.buckets.len();
+        }
+    }
+
+    fn count(&self) -> u64 {
+        count_all(&self.buckets)
+    }
+}

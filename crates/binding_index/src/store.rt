@@ -1,0 +1,108 @@
+//! The store of a waiting state.
+ghost use Rattle.std.specs.Prelude.{◌≡◌, [], IfOk};
+ghost use Rattle.binding_index.specs.Among.{is_among};
+ghost use Rattle.binding_index.specs.KeyParts.{first_key as first_key_of};
+ghost use Rattle.binding_index.specs.Stores.{condition_of, instances_of, key_of, ready_of};
+
+use crate::key::first_key;
+use crate::keyed_store::KeyedStore;
+use cay_host::{Ledger, Steps};
+use event_types::{Memory, Tuple, Value};
+use inst_chain::{Bead, Look};
+use instances::{Instance, Instances, PlainStore, Waiting};
+use scalar_expr::Conj;
+use std::alloc::Global;
+
+/// A store with a key where the condition has a key part, and one without where it has none.
+#[derive(Drop)]
+pub enum Store {
+    Plain(PlainStore),
+    Keyed(KeyedStore),
+}
+
+impl Store {
+    /// A store for the condition, with no instance.
+    pub fn make(alloc: Global, choose: &Conj) -> Result<Store, Memory>
+        ensures condition { IfOk result (λ store. condition_of store ≡ choose.now) }
+        ensures key { IfOk result (λ store. key_of store ≡ first_key_of choose.now) }
+        ensures instances { IfOk result (λ store. instances_of store ≡ []) }
+        ensures ready { IfOk result (λ store. ready_of store ≡ []) }
+    {
+        if first_key(choose).is_some() {
+            let store = KeyedStore::make(alloc, choose)?;
+            return Ok(Store::Keyed(store));
+        }
+        let store = PlainStore::make(alloc, choose)?;
+        Ok(Store::Plain(store))
+    }
+
+    /// Whether there is room for an instance with this key. A store without a key has no keys. Takes no
+    /// memory.
+    pub fn is_ready(&self, key: &Value) -> bool
+        ensures { result ≡ is_among key.now (ready_of self.now) }
+    {
+        match self {
+            Store::Plain(_) => false,
+            Store::Keyed(store) => store.is_ready(key),
+        }
+    }
+}
+
+impl Waiting for Store {
+    ghost condition = { λ store. condition_of store };
+
+    ghost key = { λ store. key_of store };
+
+    ghost instances = { λ store. instances_of store };
+
+    ghost ready_keys = { λ store. ready_of store };
+
+    fn candidates(&self, event: &Tuple) -> Look<'_, Instance> {
+        match self {
+            Store::Plain(store) => store.candidates(event),
+            Store::Keyed(store) => store.candidates(event),
+        }
+    }
+
+    fn take<L: Ledger>(&mut self, event: &Tuple, choose: &Conj, steps: &mut Steps<L>) {
+        match self {
+            Store::Plain(store) => store.take(event, choose, steps),
+            Store::Keyed(store) => store.take(event, choose, steps),
+        }
+    }
+
+    fn all(&self, alloc: Global) -> Result<Instances, Memory> {
+        match self {
+            Store::Plain(store) => store.all(alloc),
+            Store::Keyed(store) => store.all(alloc),
+        }
+    }
+
+    fn ready(&mut self, instance: &Instance) -> Result<(), Memory> {
+        match self {
+            Store::Plain(store) => store.ready(instance),
+            Store::Keyed(store) => store.ready(instance),
+        }
+    }
+
+    fn link(&mut self, bead: Bead<Instance>) {
+        match self {
+            Store::Plain(store) => store.link(bead),
+            Store::Keyed(store) => store.link(bead),
+        }
+    }
+
+    fn purge(&mut self, now: u64) {
+        match self {
+            Store::Plain(store) => store.purge(now),
+            Store::Keyed(store) => store.purge(now),
+        }
+    }
+
+    fn count(&self) -> u64 {
+        match self {
+            Store::Plain(store) => store.count(),
+            Store::Keyed(store) => store.count(),
+        }
+    }
+}
