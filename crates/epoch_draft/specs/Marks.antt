@@ -1,5 +1,5 @@
 -- Numbers that are marked.
-use Rattle.std.specs.Prelude.{◌≡◌, ℕ, ◌<◌, false, true, List, Contains, length, slice_index_or, take}
+use Rattle.std.specs.Prelude.{◌≡◌, ℕ, ◌<◌, false, true, Contains, length, slice_index_or, take}
 use Rattle.epoch_draft.specs.declared.marks.Marks.{Marks}
 
 -- the marked numbers are exactly those that are listed, and each is listed once

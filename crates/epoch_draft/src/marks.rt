@@ -1,5 +1,5 @@
 //! Numbers that are marked.
-ghost use Rattle.std.specs.Prelude.{◌≡◌, ℕ, ◌<◌, false, true, Contains, length, IfOk, OnOk};
+ghost use Rattle.std.specs.Prelude.{◌≡◌, ◌<◌, false, true, Contains, length, IfOk, OnOk};
 ghost use Rattle.epoch_draft.specs.Marks.{AreMarks, MarksMore};
 
 use crate::filling::filled;
