@@ -1,0 +1,13 @@
+pub mod BucketLemmas
+pub mod ColumnLemmas
+pub mod FindLemmas
+pub mod HoldingLemmas
+pub mod IdLemmas
+pub mod KeepsLemmas
+pub mod LawLemmas
+pub mod NarrowLemmas
+pub mod RangeLemmas
+pub mod ScanLemmas
+pub mod SpanLemmas
+pub mod TableLemmas
+pub mod TablesLemmas

@@ -1,0 +1,13 @@
+use Rattle.std.proofs.Common.{refl, sym, subst, Some, Contains}
+use Rattle.std.specs.Option.{IsSome}
+use Rattle.std.specs.HashMap as hash
+use Rattle.static_index.specs.Buckets.{equals, ids_in}
+use Rattle.static_index.proofs.BucketLemmas.{equals_exact, kept_by}
+use Rattle.static_index.proofs.hashed.put_hashed.Goals as goal
+
+pub returns-in-Some-clause-kept : goal.returns-in-Some-clause-kept
+returns-in-Some-clause-kept c = λ other n has.
+    let was = c.in-Some.ensures.value in
+    let step = (c.get_mut.follows.holds c.put.new.ids).3 (subst IsSome was refl) in
+    kept_by equals equals_exact ids_in (hash.get equals c.args.buckets.now) (hash.get equals (c.get_mut.follows.lender c.put.new.ids)) c.args.lit.now (Some c.put.new.ids) step.0 n
+    (λ there. c.put.ensures.kept n (subst (λ o. Contains (ids_in o) n) (sym was) there)) other has

@@ -1,0 +1,57 @@
+use Rattle.std.proofs.Common.{◌∙◌, ap, sym, subst, ℕ}
+use Rattle.std.specs.List.{All}
+use Rattle.static_index.specs.Conditions.{Condition, with_condition}
+use Rattle.static_index.specs.Filing.{IsFiled}
+use Rattle.static_index.specs.FixedParts.{fixed_parts}
+use Rattle.static_index.specs.Table.{conditions_of}
+use Rattle.static_index.specs.declared.entry.Entry.{Entry}
+use Rattle.static_index.proofs.KeepsLemmas.{All-insert, apart_all, refiled}
+use Rattle.static_index.proofs.TableLemmas.{conditions_of-insert}
+use Rattle.static_index.proofs.index.StaticIndex.add.Goals as goal
+
+pub invariant_of-self : goal.invariant_of-self
+invariant_of-self c =
+    let old = c.self.inside.filing in
+    let entries = c.self.inside.entries in
+    record {
+      ordered = c.self.invariant.ordered;
+      filed =
+          refiled old c.file.new.self c.args.id entries.entries c.file.ensures.kept
+          (apart_all (λ (e : ℕ × Entry). IsFiled old e.0 e.1) c.args.id entries.entries (rw c.self.view_is c.requires) c.self.invariant.filed);
+    }
+
+pub invariant_of-self-in-Ok : goal.invariant_of-self-in-Ok
+invariant_of-self-in-Ok c =
+    let old = c.self.inside.filing in
+    let new = c.file.new.self in
+    let entries = c.self.inside.entries in
+    let entry : Entry = record { parts = c.in_ok-parts.parts; choice = c.choose-choice.result } in
+    let others = refiled old new c.args.id entries.entries c.file.ensures.kept
+    (apart_all (λ (e : ℕ × Entry). IsFiled old e.0 e.1) c.args.id entries.entries (rw c.self.view_is c.requires) c.self.invariant.filed) in
+    record {
+      ordered = c.in-Ok.ensures.ordered;
+      filed = subst (All (λ (e : ℕ × Entry). IsFiled new e.0 e.1)) (sym c.in-Ok.ensures.entries) (All-insert (λ (e : ℕ × Entry). IsFiled new e.0 e.1) c.args.id entry entries.entries c.in_ok-file.ensures.ok others);
+    }
+
+pub invariant_of-self-in-Err : goal.invariant_of-self-in-Err
+invariant_of-self-in-Err c =
+    let old = c.self.inside.filing in
+    let mid = c.file.new.self in
+    let new = c.forget.new.self in
+    let entries = c.self.inside.entries in
+    let others = refiled old mid c.args.id entries.entries c.file.ensures.kept
+    (apart_all (λ (e : ℕ × Entry). IsFiled old e.0 e.1) c.args.id entries.entries (rw c.self.view_is c.requires) c.self.invariant.filed) in
+    let left = refiled mid new c.args.id entries.entries c.forget.ensures (apart_all (λ (e : ℕ × Entry). IsFiled mid e.0 e.1) c.args.id entries.entries (rw c.self.view_is c.requires) others) in
+    record {
+      ordered = c.in-Err.ensures.ordered;
+      filed = subst (All (λ (e : ℕ × Entry). IsFiled new e.0 e.1)) (sym c.in-Err.ensures.err) left;
+    }
+
+pub returns-in-Ok-clause-ok : goal.returns-in-Ok-clause-ok
+returns-in-Ok-clause-ok c =
+    let one : Condition = record { id = c.args.id; parts = fixed_parts c.args.condition.now } in
+    let entry : Entry = record { parts = c.in_ok-parts.parts; choice = c.choose-choice.result } in
+    ap conditions_of c.in-Ok.ensures.entries
+    ∙ conditions_of-insert c.args.id entry c.self.inside.entries.entries (rw c.self.view_is c.requires)
+    ∙ ap (λ parts. with_condition (record { id = c.args.id; parts = parts }) (conditions_of c.self.inside.entries.entries)) c.in_ok-parts.ensures
+    ∙ ap (with_condition one) c.self.view_is

@@ -1,0 +1,8 @@
+use Rattle.std.proofs.Common.{◌-◌, ◌≤◌}
+use Rattle.static_index.proofs.span.reach.Given as goal
+
+abbrev pub invariant-doublings : goal.invariant-doublings
+invariant-doublings l = 1 ≤ l.reach
+
+abbrev pub decreases-doublings : goal.decreases-doublings
+decreases-doublings l = l.width - l.reach

@@ -1,0 +1,58 @@
+-- Ids in buckets by a literal. No public clause cites it.
+use Rattle.std.specs.Prelude.{◌≡◌, ◌≢◌, ℕ, Bool, true, List, [], Option, Contains}
+use Rattle.std.specs.declared.cmp.Ordering.{Ordering}
+use Rattle.std.specs.BTreeMap as tree
+use Rattle.std.specs.HashMap as hash
+use Rattle.std.specs.BTreeMap.{BTreeMap}
+use Rattle.std.specs.HashMap.{HashMap}
+use denote.Bor.{Bor}
+use Rattle.std.specs.Bound.{bound_map}
+use Rattle.std.specs.Option.{unwrap_or}
+use Rattle.std.specs.List.{flat_map}
+use Rattle.std.specs.BTreeMap.Range.{entries_between}
+use Rattle.std.specs.declared.ops.Bound.{Bound}
+use Rattle.event_types.specs.declared.comparison.Cmp.{Cmp}
+use Rattle.event_types.specs.declared.value.Value.{Value}
+use Rattle.semantics.specs.Truth.{is_met, order_of}
+use Rattle.event_types.specs.contracts.value.ValuePartialEq.TheImpl.{eq-value}
+use Rattle.event_types.specs.contracts.value.ValueOrd.TheImpl.{cmp-value}
+
+-- each id of the one list is in the other
+abbrev pub KeepsIds : List ℕ → List ℕ → Type 0
+KeepsIds old new = (n : ℕ) → Contains old n → Contains new n
+
+-- the same of each id but one
+abbrev pub KeepsOtherIds : ℕ → List ℕ → List ℕ → Type 0
+KeepsOtherIds id old new = (n : ℕ) → n ≢ id → Contains old n → Contains new n
+
+-- whether two literals are one, as the program tests it
+abbrev pub equals : Value → Value → Bool
+equals = eq-value.it
+
+-- the order of two literals, as the program tests it
+abbrev pub ordered : Value → Value → Ordering
+ordered = cmp-value.it
+
+-- the ids in the bucket of a literal, if it has one
+abbrev pub ids_in : Option (List ℕ) → List ℕ
+ids_in found = unwrap_or found []
+
+-- the ids of a literal that is found by its hash
+abbrev pub hashed_ids : {S : Type 0} → HashMap Value (List ℕ) S → Value → List ℕ
+hashed_ids buckets lit = ids_in (hash.get equals buckets lit)
+
+-- the ids of a literal that is found by its place in the order
+abbrev pub ordered_ids : BTreeMap Value (List ℕ) → Value → List ℕ
+ordered_ids buckets lit = ids_in (tree.get ordered buckets lit)
+
+-- each id of a literal with which a value meets a comparison is found
+abbrev pub FindsMet : Cmp → Value → BTreeMap Value (List ℕ) → List ℕ → Type 0
+FindsMet cmp value buckets found = (lit : Value) (n : ℕ) → is_met cmp (order_of value lit) ≡ true → Contains (ordered_ids buckets lit) n → Contains found n
+
+-- a bound that is looked at in place
+abbrev pub bound_seen : Bound (Bor Value) → Bound Value
+bound_seen bound = bound_map (λ x. x.now) bound
+
+-- the ids of the literals between two bounds, by ascending literals
+abbrev pub ids_between : Bound Value → Bound Value → BTreeMap Value (List ℕ) → List ℕ
+ids_between low high buckets = flat_map (λ e. e.1) (entries_between ordered low high buckets.entries)

@@ -1,0 +1,12 @@
+pub mod Buckets
+pub mod Choosing
+pub mod Columns
+pub mod Conditions
+pub mod Filing
+pub mod FixedParts
+pub mod Headings
+pub mod Laws
+pub mod Narrowing
+pub mod Spans
+pub mod Table
+pub mod Tables

@@ -1,0 +1,59 @@
+//! Ids by the literal that an attribute is to equal, found by its hash.
+ghost use Rattle.std.specs.Prelude.{◌≡◌, ◌++◌, Contains, OnOk};
+ghost use Rattle.event_types.specs.declared.value.Value.{Value};
+ghost use Rattle.static_index.specs.Buckets.{KeepsIds, KeepsOtherIds, hashed_ids};
+
+use crate::appending::{append, put, take_out};
+use event_types::{Copied, List, Memory, Numbers, Value};
+use indexmap::IndexMap;
+use std::alloc::Global;
+
+// A bucket of ids for each literal.
+pub(crate) type Hashed = IndexMap<Value, Numbers>;
+
+// Puts an id into the bucket of a literal.
+pub(crate) fn put_hashed(
+    alloc: Global,
+    buckets: &mut Hashed,
+    lit: &Value,
+    id: usize,
+) -> Result<(), Memory>
+    ensures ok { OnOk result (Contains (hashed_ids buckets.new lit.now) id) }
+    ensures kept { (other : Value) → KeepsIds (hashed_ids buckets.old other) (hashed_ids buckets.new other) }
+{
+    if let Some(bucket) = buckets.get_mut(lit) {
+        return put(bucket, id);
+    }
+    let key = lit.copied(alloc)?;
+    let mut bucket = List::new(alloc);
+    put(&mut bucket, id)?;
+    buckets.insert(key, bucket)?;
+    Ok(())
+}
+
+// Takes an id out of the bucket of a literal, and an empty bucket away.
+pub(crate) fn take_hashed(buckets: &mut Hashed, lit: &Value, id: usize)
+    ensures { (other : Value) → KeepsOtherIds id (hashed_ids buckets.old other) (hashed_ids buckets.new other) }
+{
+    let Some(bucket) = buckets.get_mut(lit) else {
+        return;
+    };
+    take_out(bucket, id);
+    if bucket.len() == 0 {
+        let _ = buckets.swap_remove(lit);
+    }
+}
+
+// Puts the ids of a literal's bucket behind those that are there.
+pub(crate) fn collect_hashed(
+    buckets: &Hashed,
+    lit: &Value,
+    found: &mut Numbers,
+) -> Result<(), Memory>
+    ensures { OnOk result (found.new ≡ found.old ++ hashed_ids buckets.now lit.now) }
+{
+    match buckets.get(lit) {
+        Some(ids) => append(found, ids),
+        None => Ok(()),
+    }
+}

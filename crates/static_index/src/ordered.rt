@@ -1,0 +1,145 @@
+//! Ids by the literal that bounds an attribute, found by its place in the order.
+ghost use Rattle.std.specs.Prelude.{◌≡◌, ◌++◌, pos, ◌-ℤ◌, Contains, IfSome, OnOk};
+ghost use Rattle.event_types.specs.declared.value.Value.{Value};
+ghost use Rattle.std.specs.BTreeMap.Range.{IsLeBy, IsLtBy};
+ghost use Rattle.std.specs.Bound.{IsForward};
+ghost use Rattle.static_index.specs.Buckets.{FindsMet, KeepsIds, KeepsOtherIds, bound_seen, ids_between, ordered, ordered_ids};
+ghost use Rattle.static_index.specs.Spans.{FindsNear};
+ghost use Rattle.event_types.specs.declared.comparison.Cmp.TheVariants.{Ge, Le};
+
+use crate::appending::{append, put, take_out};
+use event_types::{Copied, List, Memory, Numbers, Value};
+use std::alloc::Global;
+use std::collections::BTreeMap;
+use std::ops::Bound;
+
+// A bucket of ids for each literal.
+pub(crate) type Ordered = BTreeMap<Value, Numbers>;
+
+// Puts an id into the bucket of a literal.
+pub(crate) fn put_ordered(
+    alloc: Global,
+    buckets: &mut Ordered,
+    lit: &Value,
+    id: usize,
+) -> Result<(), Memory>
+    ensures ok { OnOk result (Contains (ordered_ids buckets.new lit.now) id) }
+    ensures kept { (other : Value) → KeepsIds (ordered_ids buckets.old other) (ordered_ids buckets.new other) }
+{
+    if let Some(bucket) = buckets.get_mut(lit) {
+        return put(bucket, id);
+    }
+    let key = lit.copied(alloc)?;
+    let mut bucket = List::new(alloc);
+    put(&mut bucket, id)?;
+    buckets.insert(key, bucket)?;
+    Ok(())
+}
+
+// Takes an id out of the bucket of a literal, and an empty bucket away.
+pub(crate) fn take_ordered(buckets: &mut Ordered, lit: &Value, id: usize)
+    ensures { (other : Value) → KeepsOtherIds id (ordered_ids buckets.old other) (ordered_ids buckets.new other) }
+{
+    let Some(bucket) = buckets.get_mut(lit) else {
+        return;
+    };
+    take_out(bucket, id);
+    if bucket.len() == 0 {
+        let _ = buckets.remove(lit);
+    }
+}
+
+// Puts the ids of the literals up to a value and of its kind behind those that are there.
+pub(crate) fn collect_up_to(
+    buckets: &Ordered,
+    value: &Value,
+    found: &mut Numbers,
+) -> Result<(), Memory>
+    ensures kept { OnOk result (KeepsIds found.old found.new) }
+    ensures found { OnOk result (FindsMet Ge value.now buckets.now found.new) }
+{
+    let over = Value::Over;
+    match value {
+        Value::Int(_) => collect_range(buckets, Bound::Unbounded, Bound::Included(value), found),
+        Value::Over => Ok(()),
+        Value::Text(_) => collect_range(
+            buckets,
+            Bound::Excluded(&over),
+            Bound::Included(value),
+            found,
+        ),
+    }
+}
+
+// Puts the ids of the literals from a value on and of its kind behind those that are there.
+pub(crate) fn collect_from(
+    buckets: &Ordered,
+    value: &Value,
+    found: &mut Numbers,
+) -> Result<(), Memory>
+    ensures kept { OnOk result (KeepsIds found.old found.new) }
+    ensures found { OnOk result (FindsMet Le value.now buckets.now found.new) }
+{
+    let over = Value::Over;
+    match value {
+        Value::Int(_) => collect_range(
+            buckets,
+            Bound::Included(value),
+            Bound::Excluded(&over),
+            found,
+        ),
+        Value::Over => Ok(()),
+        Value::Text(_) => collect_range(buckets, Bound::Included(value), Bound::Unbounded, found),
+    }
+}
+
+// Puts the ids of the numbers from a reach below a number up to it behind those that are there.
+pub(crate) fn collect_near(
+    buckets: &Ordered,
+    reach: u128,
+    value: &Value,
+    found: &mut Numbers,
+) -> Result<(), Memory>
+    ensures kept { OnOk result (KeepsIds found.old found.new) }
+    ensures found { OnOk result (FindsNear reach value.now buckets.now found.new) }
+{
+    let Value::Int(number) = value else {
+        return Ok(());
+    };
+    let Some(low) = below(number, reach) else {
+        return collect_range(buckets, Bound::Unbounded, Bound::Included(value), found);
+    };
+    let low = Value::Int(low);
+    collect_range(
+        buckets,
+        Bound::Included(&low),
+        Bound::Included(value),
+        found,
+    )
+}
+
+// The number that lies a reach below another; none, where that is no number of 128 bits.
+fn below(number: &i128, reach: u128) -> Option<i128>
+    ensures { IfSome result (λ low. low ≡ number.now -ℤ pos reach) }
+{
+    match i128::try_from(reach) {
+        Ok(reach) => number.checked_sub(reach),
+        Err(_) => None,
+    }
+}
+
+// Puts the ids of the literals between two bounds behind those that are there.
+fn collect_range(
+    buckets: &Ordered,
+    low: Bound<&Value>,
+    high: Bound<&Value>,
+    found: &mut Numbers,
+) -> Result<(), Memory>
+    requires { IsForward (IsLeBy ordered) (IsLtBy ordered) (bound_seen low) (bound_seen high) }
+    ensures { OnOk result (found.new ≡ found.old ++ ids_between (bound_seen low.entry) (bound_seen high.entry) buckets.now) }
+{
+    'buckets: for (_, ids) in buckets.range((low, high)) {
+        append(found, ids)?;
+    }
+    Ok(())
+}
