@@ -1,10 +1,14 @@
 -- Boxes by their places. No public clause names this.
-use Rattle.std.specs.Prelude.{◌≡◌, List, [], ◌∷◌, ◌++◌}
-use denote.RawPtr.{Ptr}
+use Rattle.std.specs.Prelude.{◌≡◌, ℕ, List, [], ◌∷◌, ◌++◌}
+use denote.RawPtr.{Ptr, block_ptr}
 
 -- a box: where it lies, the handle that frees it, and what is in it
 abbrev pub Lodged : Type 0 → Type 0 → Type 0
 Lodged X Z = Ptr × Z × X
+
+-- a block of memory starts at p, so p is not null
+abbrev pub IsStart : Ptr → Type 0
+IsStart p = (b : ℕ) × (p ≡ block_ptr b 0)
 
 -- the first box lies at p, and z frees it
 abbrev pub IsFirst : {X Z : Type 0} → List (Lodged X Z) → Ptr → Z → Type 0

@@ -5,6 +5,7 @@ use crate::node::Node;
 use crate::run::Link;
 use std::alloc::Global;
 use std::marker::Model;
+use std::ptr::null_mut;
 
 /// The memory for one value of a chain, with the value in it.
 #[derive(Drop)]
@@ -28,8 +29,8 @@ impl<T: Drop> Bead<T> {
         ensures { MatchResult result (λ bead. bead ≡ value) (λ back. back ≡ value) }
     {
         let node = Node {
-            next: None,
-            prev: None,
+            next: null_mut(),
+            prev: null_mut(),
             value,
         };
         match Box::new(alloc, node) {

@@ -2,10 +2,10 @@
 //!
 //! Each function with a pointer stands here, in `node` or in `seen`.
 ghost use Rattle.std.specs.Prelude.{◌≡◌, ◌∷◌, [], List};
-ghost use Rattle.inst_chain.specs.Boxes.{Lodged, IsFirst};
+ghost use Rattle.inst_chain.specs.Boxes.{Lodged, IsFirst, HasFirst, IsStart};
 ghost use Rattle.inst_chain.specs.Owning.{boxes_own, boxes_lent};
 
-use std::alloc::Allocator;
+use std::alloc::{Allocator, Global};
 use std::marker::{Model, PhantomData};
 
 /// Where a box lies, and the handle that frees it. It owns nothing but the handle.
@@ -54,6 +54,16 @@ pub(crate) fn unlodge<N, A: Allocator>(spot: Spot<A>, held: Held<N, A>) -> (Box<
         unsafe { Box::from_raw(alloc, at) },
         Held { mark: PhantomData },
     )
+}
+
+/// Shows that the first box starts a block of the heap, and does nothing else.
+pub(crate) fn show_start<N>(held: Held<N, Global>, first: Place) -> Held<N, Global>
+    requires { HasFirst held.boxes first.at }
+    ensures start { IsStart first.at }
+    ensures boxes { result.boxes ≡ held.boxes }
+{
+    let Held { mark: _ } = held;
+    Held { mark: PhantomData }
 }
 
 /// Ends an owner of no box.

@@ -3,30 +3,33 @@ ghost use Rattle.std.specs.Prelude.{◌≡◌, ◌++◌, ◌∷◌, []};
 ghost use Rattle.inst_chain.specs.Items.{items};
 ghost use Rattle.inst_chain.specs.Linked.{IsAlone};
 
-use crate::boxes::{Held, Place, Spot, end, lodge, unlodge};
+use crate::boxes::{Held, Place, Spot, end, lodge, show_start, unlodge};
 use crate::node::{Node, lead_back, lead_on};
 use std::alloc::Global;
 use std::marker::Model;
+use std::ptr::{NonNull, null_mut};
 
-/// Where a bead leads to, if to any.
-pub(crate) type Link = Option<Spot<Global>>;
+/// Where the next bead's box lies, or the one before, and null where there is none.
+pub(crate) type Link = *mut u8;
 
 /// Beads that are linked, of which there is one at least: where the first one lies, and where the last.
 pub(crate) struct Run<T> {
     pub(crate) first: Spot<Global>,
-    last: Spot<Global>,
+    last: Place,
     pub(crate) held: Held<Node<Link, T>, Global>,
 }
 
 impl<T> Model for Run<T> {
-    ghost use Rattle.std.specs.Prelude.{List, None, Some};
+    ghost use Rattle.std.specs.Prelude.{List};
+    ghost use denote.RawPtr.{null_ptr};
+    ghost use Rattle.inst_chain.specs.Boxes.{IsStart};
     ghost use Rattle.inst_chain.specs.Linked.{AreLinked, values};
 
     ghost Value = { List T };
 
     ghost view = { λ r. values r.held.boxes };
 
-    ghost invariant = { λ r. AreLinked None (Some r.first) r.held.boxes (Some r.last) None };
+    ghost invariant = { λ r. IsStart r.first.at × AreLinked null_ptr r.first.at r.held.boxes r.last.at null_ptr };
 }
 
 /// The run of one bead.
@@ -35,11 +38,9 @@ pub(crate) fn one<T: Drop>(node: Box<Node<Link, T>>) -> Run<T>
     ensures { result ≡ node.value.value ∷ [] }
 {
     let (first, held) = lodge(node);
-    Run {
-        first,
-        last: first,
-        held,
-    }
+    let last = Place { at: first.at };
+    let held = show_start(held, last);
+    Run { first, last, held }
 }
 
 /// The beads of both, the last one in front and the first one at the back as neighbours.
@@ -56,8 +57,8 @@ pub(crate) fn join<T: Drop>(front: Run<T>, back: Run<T>) -> Run<T>
         last,
         held: more,
     } = back;
-    let more = lead_back(more, Place { at: right.at }, Some(left));
-    let held = lead_on(held, Place { at: left.at }, Some(right), more);
+    let more = lead_back(more, Place { at: right.at }, left.at);
+    let held = lead_on(held, left, right.at, more);
     Run { first, last, held }
 }
 
@@ -68,16 +69,20 @@ pub(crate) fn pop<T>(run: Run<T>) -> (Box<Node<Link, T>>, Option<Run<T>>)
 {
     let Run { first, last, held } = run;
     let (mut node, held) = unlodge(first, held);
-    match node.next {
+    match NonNull::new(node.next) {
         None => {
             end(held);
             (node, None)
         }
         Some(next) => {
-            node.next = None;
-            let held = lead_back(held, Place { at: next.at }, None);
+            let at = next.as_ptr();
+            node.next = null_mut();
+            let held = lead_back(held, Place { at }, null_mut());
             let rest = Run {
-                first: next,
+                first: Spot {
+                    at,
+                    alloc: first.alloc,
+                },
                 last,
                 held,
             };
