@@ -129,10 +129,14 @@ module _ (test : Value → ℕ → Bool) where
       next : (place : ℕ) → suc place ≡ place + 1
       next place = omega arith
 
+  -- once all were walked
+  pub all_kept : (bs cs : Entries) (n : ℕ) → cs ≡ map (keeping test) (take n bs) ++ drop n bs → length bs ≤ n → cs ≡ map (keeping test) bs
+  all_kept bs cs n e le = e ∙ (λ i. map (keeping test) (take_all n bs le i) ++ drop_of_length-le bs {i = n} le i) ∙ append-nil (map (keeping test) bs)
+
   -- once all were walked and those that lead nowhere are dropped, each key leads to the states that pass
   pub kept_leads : (bs cs ds : Entries) (n : ℕ) → cs ≡ map (keeping test) (take n bs) ++ drop n bs → length bs ≤ n → ds ≡ filter is_live cs → IsDistinct is_key (keys_of bs) → (key : Value) (number : ℕ) → Leads ds key number ↔ (Leads bs key number × (test key number ≡ true))
   kept_leads bs cs ds n e le gone d key number =
-      let whole : cs ≡ map (keeping test) bs = e ∙ (λ i. map (keeping test) (take_all n bs le i) ++ drop_of_length-le bs {i = n} le i) ∙ append-nil (map (keeping test) bs) in
+      let whole : cs ≡ map (keeping test) bs = all_kept bs cs n e le in
       let distinct : IsDistinct is_key (keys_of cs) = subst (λ (ks : List Value). IsDistinct is_key ks) (sym (ap keys_of whole ∙ keys_keeping test bs)) d in
       let items : items_at ds key ≡ filter (test key) (items_at bs key) = ap (λ (xs : Entries). items_at xs key) gone ∙ kept cs distinct key ∙ ap (λ (xs : Entries). items_at xs key) whole ∙ keeping_at test bs key in
       subst (λ (xs : List ℕ). Contains xs number ↔ (Leads bs key number × (test key number ≡ true))) (sym items) (contains_filter (test key) (items_at bs key) number)

@@ -5,6 +5,7 @@ pub mod EqualityLemmas
 pub mod KeyLemmas
 pub mod LeadLemmas
 pub mod MapLemmas
+pub mod OnceLemmas
 pub mod OrderLemmas
 pub mod PairLemmas
 pub mod PurgeLemmas

@@ -69,15 +69,15 @@ there_written (b ∷ bs) zero key v w at = let one : b ≡ (key, v) = cc in ap (
 there_written (b ∷ bs) (suc i) key v w at = there_written bs i key v w at
 
 -- what holds of all buckets, and of the one that is written
-pub all_written : (P : Bucket → Type 0) (bs : List Bucket) (i : ℕ) (key : Value) (v w : List Instance) → slice_get bs i ≡ Some (key, v) → P (key, w) → All P bs → All P (set_value_at bs i w)
-all_written P [] i key v w at one all = All-nil P
-all_written P (b ∷ bs) zero key v w at one all =
+pub all_written : {Y : Type 0} (P : Value × List Y → Type 0) (bs : List (Value × List Y)) (i : ℕ) (key : Value) (v w : List Y) → slice_get bs i ≡ Some (key, v) → P (key, w) → All P bs → All P (set_value_at bs i w)
+all_written {Y} P [] i key v w at one all = All-nil P
+all_written {Y} P (b ∷ bs) zero key v w at one all =
     let same : b ≡ (key, v) = cc in
-    All-cons P (b.0, w) bs (subst (λ (c : Bucket). P (c.0, w)) (sym same) one) (All-tail P b bs all)
-all_written P (b ∷ bs) (suc i) key v w at one all = All-cons P b (set_value_at bs i w) (All-head P b bs all) (all_written P bs i key v w at one (All-tail P b bs all))
+    All-cons P (b.0, w) bs (subst (λ (c : Value × List Y). P (c.0, w)) (sym same) one) (All-tail P b bs all)
+all_written {Y} P (b ∷ bs) (suc i) key v w at one all = All-cons P b (set_value_at bs i w) (All-head P b bs all) (all_written P bs i key v w at one (All-tail P b bs all))
 
 -- what holds of the bucket at a place
-pub all_at : (P : Bucket → Type 0) (bs : List Bucket) (i : ℕ) (b : Bucket) → slice_get bs i ≡ Some b → All P bs → P b
+pub all_at : {Y : Type 0} (P : Value × List Y → Type 0) (bs : List (Value × List Y)) (i : ℕ) (b : Value × List Y) → slice_get bs i ≡ Some b → All P bs → P b
 all_at P bs i b at all = subst P (get_or_from_slice_get bs i b b at) (All-get_or P bs i b (slice_get_within bs i b at) all)
 
 -- the others stand before and behind a place as they did

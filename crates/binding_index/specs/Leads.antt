@@ -1,5 +1,5 @@
 -- The states to which a key leads.
-use Rattle.std.specs.Prelude.{ℕ, ⊤, All, Bool, List, [], Option, Some, None, Contains, length, flat_map, slice_index_or}
+use Rattle.std.specs.Prelude.{ℕ, ◌≢◌, ⊤, All, AllPairs, Bool, List, [], Option, Some, None, Contains, length, flat_map, slice_index_or}
 use Rattle.event_types.specs.declared.value.Value.{Value}
 use Rattle.semantics.specs.Values.{value_at}
 use Rattle.binding_index.specs.Among.{is_among}
@@ -19,6 +19,10 @@ states_at entries key = items_at entries key
 -- how many pairs there are of a key and a state to which it leads
 abbrev pub pairs_of : Entries → ℕ
 pairs_of entries = length (flat_map (λ entry. entry.1) entries)
+
+-- no state stands twice under a key
+abbrev pub StandOnce : Entries → Type 0
+StandOnce entries = All (λ entry. AllPairs (λ state other. state ≢ other) entry.1) entries
 
 -- a key leads to a state
 abbrev pub Leads : Entries → Value → ℕ → Type 0

@@ -1,8 +1,8 @@
 //! The states to which a key leads.
-ghost use Rattle.std.specs.Prelude.{◌≡◌, ℕ, ◌+◌, ◌-◌, ◌^◌, ◌↔◌, ◌⊎◌, [], filter, length, min, true, Contains, IfOk, None, OnErr, OnOk, Some, slice_index_or};
+ghost use Rattle.std.specs.Prelude.{◌≡◌, ◌≢◌, ℕ, ◌+◌, ◌-◌, ◌^◌, ◌↔◌, ◌⊎◌, [], filter, length, min, true, AllPairs, Contains, IfOk, None, OnErr, OnOk, Some, slice_index_or};
 ghost use Rattle.event_types.specs.declared.value.Value.{Value};
 ghost use Rattle.binding_index.specs.Entries.{has_any};
-ghost use Rattle.binding_index.specs.Leads.{AreReady, IsLed, Leads, is_ready_at, pairs_of, states_at};
+ghost use Rattle.binding_index.specs.Leads.{AreReady, IsLed, Leads, StandOnce, is_ready_at, pairs_of, states_at};
 ghost use Rattle.binding_index.specs.declared.store.Store.{Store};
 
 use crate::entries::place_of;
@@ -23,13 +23,13 @@ pub struct Directory {
 
 impl Model for Directory {
     ghost use Rattle.std.specs.Prelude.{◌≡◌, ◌-◌, ◌^◌, min};
-    ghost use Rattle.binding_index.specs.Leads.{Entries, pairs_of};
+    ghost use Rattle.binding_index.specs.Leads.{Entries, StandOnce, pairs_of};
 
     ghost Value = { Entries };
 
     ghost view = { λ d. d.states.entries };
 
-    ghost invariant = { λ d. d.pairs ≡ min (pairs_of d.states.entries) (2 ^ 64 - 1) };
+    ghost invariant = { λ d. (d.pairs ≡ min (pairs_of d.states.entries) (2 ^ 64 - 1)) × StandOnce d.states.entries };
 }
 
 impl Directory {
@@ -43,9 +43,10 @@ impl Directory {
         }
     }
 
-    /// The states to which a key leads. Takes no memory.
+    /// The states to which a key leads, each once. Takes no memory.
     pub fn find(&self, key: &Value) -> &[usize]
-        ensures { result.now ≡ states_at self.now key.now }
+        ensures states { result.now ≡ states_at self.now key.now }
+        ensures once { AllPairs (λ state other. state ≢ other) result.now }
     {
         match self.states.get(key) {
             Some(states) => states.as_slice(),
@@ -95,6 +96,7 @@ fn lead(states: &mut IndexMap<Value, Numbers>, key: &Value, state: usize) -> Res
     ensures added { IfOk result (λ added. pairs_of states.new.entries ≡ pairs_of states.old.entries + added) }
     ensures ok { OnOk result ((other : Value) (number : ℕ) → Leads states.new.entries other number ↔ (Leads states.old.entries other number ⊎ ((key.now ≡ other) × (state ≡ number)))) }
     ensures kept { OnErr result (states.new.entries ≡ states.old.entries) }
+    ensures once { StandOnce states.old.entries → StandOnce states.new.entries }
 {
     if let Some(place) = place_of(states, key) {
         return add(&mut states[place], state);
@@ -114,6 +116,7 @@ fn add(states: &mut Numbers, state: usize) -> Result<u64, Memory>
     ensures added { IfOk result (λ added. length states.new ≡ length states.old + added) }
     ensures ok { OnOk result ((number : ℕ) → Contains states.new number ↔ (Contains states.old number ⊎ (state ≡ number))) }
     ensures kept { OnErr result (states.new ≡ states.old) }
+    ensures once { AllPairs (λ state other. state ≢ other) states.old → AllPairs (λ state other. state ≢ other) states.new }
 {
     if states.as_slice().contains(&state) {
         return Ok(0);
