@@ -1,6 +1,6 @@
 -- No state stands twice under a key, from one call to the next.
-use Rattle.std.proofs.Common.{◌≡◌, ◌∙◌, sym, ap, refl, subst, ℕ, zero, suc, ◌+◌, ◌≢◌, ◌<◌, ◌≤◌, Bool, true, false, drop, filter, length, map, take, get_or, List, [], ◌∷◌, ◌++◌, arith}
-use Rattle.std.specs.Prelude.{All, AllPairs, None, Some, nat_eq, slice_get}
+use Rattle.std.proofs.Common.{◌≡◌, sym, ap, refl, subst, ℕ, ◌≢◌, ◌≤◌, Bool, true, false, drop, filter, length, map, take, get_or, List, [], ◌∷◌, ◌++◌, arith}
+use Rattle.std.specs.Prelude.{AllPairs, None, Some, nat_eq, slice_get}
 use Rattle.std.specs.List.{list_any}
 use Rattle.std.specs.Map.{lookup, values_of}
 use Rattle.std.proofs.lemmas.Bool.{eq-eqb}

@@ -7,7 +7,6 @@ use Rattle.event_types.specs.declared.value.Value.{Value}
 use Rattle.event_types.specs.contracts.value.ValuePartialEq.TheImpl as derived
 use Rattle.indexmap.specs.IndexMap.{IndexMap, insert_entry, set_value_at}
 use Rattle.binding_index.specs.Among.{is_key}
-use Rattle.binding_index.specs.Entries.{has_any, is_live}
 use Rattle.binding_index.specs.Leads.{Entries, pairs_of}
 use Rattle.binding_index.proofs.MapLemmas.{flat_more, put_behind}
 

@@ -1,5 +1,5 @@
 -- Buckets of instances by key. No public clause names this.
-use Rattle.std.specs.Prelude.{◌≡◌, ℕ, ◌<◌, ◌≤◌, ◌≢◌, ◌⊎◌, Some, slice_get, Bool, true, false, nat_lt, List, [], ◌∷◌, length, slice_index_or}
+use Rattle.std.specs.Prelude.{◌≡◌, ℕ, ◌<◌, ◌≤◌, ◌≢◌, ◌⊎◌, Some, slice_get, Bool, true, false, nat_lt, List, [], length, slice_index_or}
 use Rattle.std.specs.List.{All, IsDistinct, flat_map}
 use Rattle.std.specs.List.Sorted.{IsPermutation}
 use Rattle.std.specs.Map.{keys_of}
@@ -9,7 +9,7 @@ use Rattle.event_types.specs.declared.value.Value.TheVariants.{Int, Over, Text}
 use Rattle.semantics.specs.Values.{value_at}
 use Rattle.instances.specs.declared.instance.Instance.{Instance}
 use Rattle.binding_index.specs.Among.{is_key}
-use Rattle.binding_index.specs.Entries.{has_any, is_live, items_at}
+use Rattle.binding_index.specs.Entries.{is_live, items_at}
 
 -- a key, and the instances that have it
 abbrev pub Bucket : Type 0

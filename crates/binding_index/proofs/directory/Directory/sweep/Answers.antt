@@ -25,6 +25,8 @@ returns-clause-led c =
 
 -- the pairs were counted anew, and no key has more states
 pub invariant_of-self : goal.invariant_of-self
-invariant_of-self c =
-    (c.count_pairs-self-inside.ensures, once_swept (λ key number. is_ready_at c.args.stores.now number key) c.self.inside.states.entries c.loop-place.self-inside.states.entries c.retain.new.self.entries c.loop-place.place c.loop-place.invariant (omega arith)
-    (filter-RetainsPairs _ is_live _ (λ k v b w g call. search rules) _ _ c.retain.ensures.filtered) c.self.invariant.1)
+invariant_of-self c = (
+  c.count_pairs-self-inside.ensures,
+  once_swept (λ key number. is_ready_at c.args.stores.now number key) c.self.inside.states.entries c.loop-place.self-inside.states.entries c.retain.new.self.entries c.loop-place.place c.loop-place.invariant (omega arith)
+      (filter-RetainsPairs _ is_live _ (λ k v b w g call. search rules) _ _ c.retain.ensures.filtered) c.self.invariant.1,
+)
