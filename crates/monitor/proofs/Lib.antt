@@ -2,7 +2,6 @@ pub mod BatchLemmas
 pub mod ClosedLemmas
 pub mod ClosingLemmas
 pub mod CountingLemmas
-pub mod EvaluatedLemmas
 pub mod FeedingLemmas
 pub mod FittingLemmas
 pub mod HearingLemmas

@@ -1,6 +1,5 @@
 pub mod BatchLaws
 pub mod Batches
-pub mod Evaluated
 pub mod Feeding
 pub mod Fitting
 pub mod Hearing
