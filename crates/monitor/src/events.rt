@@ -34,7 +34,7 @@ pub fn refuse<H: Host>(host: &mut H, work: &mut Work, refusal: Refusal) -> Sessi
     }
 }
 
-// Offers an event to the engine.
+// Offers an event to the engine, and keeps its stream.
 fn hear(work: &mut Work, event: Seen) -> Result<(), Memory>
     requires intact { IsTrue work.old.engine.intact }
     requires heard { IsHeard work.old.engine.layout event.stream event.tuple }
@@ -43,6 +43,7 @@ fn hear(work: &mut Work, event: Seen) -> Result<(), Memory>
     ensures heard { OnOk result (work.new.engine ≡ with_tuple work.old.engine event.stream event.tuple) }
     ensures rows { work.new.rows ≡ work.old.rows }
 {
+    work.near = event.stream;
     match work.engine.offer(event.stream, event.tuple) {
         Ok(()) => Ok(()),
         Err(OfferFault::Memory { .. }) => Err(Memory),

@@ -100,7 +100,7 @@ fn take_line<H: Host, L: Ledger>(
     ensures blames { IfErr result (λ fault. Blames fault (H.told host.old) (H.told host.new)) }
     ensures same { SameButOutput (H.told host.old) (H.told host.new) }
 {
-    match next_reading(alloc, catalogue.streams(), feed) {
+    match next_reading(alloc, catalogue.streams(), work.near, feed) {
         Err(_) => Err(SessionFault::Memory),
         Ok(Next::NotYet) => Ok(false),
         Ok(Next::Fault(line, why)) => Err(refuse(host, work, Refusal::HasFault { line, why })),
@@ -131,7 +131,7 @@ pub fn take_rest<H: Host, L: Ledger>(
     ensures quiet { BlamesWriting result (H.told host.old) (H.told host.new) }
     ensures same { SameButOutput (H.told host.old) (H.told host.new) }
 {
-    match last_reading(alloc, catalogue.streams(), feed) {
+    match last_reading(alloc, catalogue.streams(), work.near, feed) {
         Err(_) => Err(SessionFault::Memory),
         Ok(Next::NotYet) => close_last(alloc, host, catalogue, work, steps),
         Ok(Next::Fault(number, why)) => Err(refuse(

@@ -5,8 +5,8 @@ ghost use Rattle.monitor.specs.Fitting.{FitsNext};
 ghost use Rattle.monitor.specs.Readings.{IsReading, Shows, ShowsLast};
 ghost use Rattle.monitor.specs.Taking.{Gone};
 
-use event_csv::{Feed, Got, LineFault, ReadFail, Seen, read_event};
-use event_types::Memory;
+use event_csv::{Feed, Got, LineFault, ReadFail, Seen, read_event_near};
+use event_types::{Memory, StreamId};
 use std::alloc::Global;
 use stream_schema::Streams;
 
@@ -21,39 +21,55 @@ pub enum Next {
     NotYet,
 }
 
-/// Reads the next line that is neither empty nor the header.
-pub fn next_reading(alloc: Global, streams: &Streams, feed: &mut Feed) -> Result<Next, Memory>
+/// Reads the next line that is neither empty nor the header; its name is looked for at the stream `near` first.
+pub fn next_reading(
+    alloc: Global,
+    streams: &Streams,
+    near: StreamId,
+    feed: &mut Feed,
+) -> Result<Next, Memory>
     ensures shows { IfOk result (Shows streams.now feed.old feed.new) }
     ensures gone { Gone feed.old feed.new }
     ensures fits { IfOk result (FitsNext streams.now) }
 {
     match feed.next_line() {
-        Got::Line { number, bytes } => read_line(alloc, streams, number, bytes),
+        Got::Line { number, bytes } => read_line(alloc, streams, near, number, bytes),
         Got::Long { number } => Ok(Next::Fault(number, LineFault::LineTooLong)),
         Got::NotYet => Ok(Next::NotYet),
     }
 }
 
-/// Reads the line that is left where the text ends here.
-pub fn last_reading(alloc: Global, streams: &Streams, feed: &Feed) -> Result<Next, Memory>
+/// Reads the line that is left where the text ends here; its name is looked for at the stream `near` first.
+pub fn last_reading(
+    alloc: Global,
+    streams: &Streams,
+    near: StreamId,
+    feed: &Feed,
+) -> Result<Next, Memory>
     requires { lines_left feed.now false ≡ [] }
     ensures shows { IfOk result (ShowsLast streams.now feed.now) }
     ensures fits { IfOk result (FitsNext streams.now) }
 {
     match feed.last_line() {
-        Got::Line { number, bytes } => read_line(alloc, streams, number, bytes),
+        Got::Line { number, bytes } => read_line(alloc, streams, near, number, bytes),
         Got::Long { number } => Ok(Next::Fault(number, LineFault::LineTooLong)),
         Got::NotYet => Ok(Next::NotYet),
     }
 }
 
 // Reads the bytes of a line.
-fn read_line(alloc: Global, streams: &Streams, number: u64, bytes: &[u8]) -> Result<Next, Memory>
+fn read_line(
+    alloc: Global,
+    streams: &Streams,
+    near: StreamId,
+    number: u64,
+    bytes: &[u8],
+) -> Result<Next, Memory>
     requires { IsLine bytes.now }
     ensures reading { IfOk result (IsReading streams.now number bytes.now) }
     ensures fits { IfOk result (FitsNext streams.now) }
 {
-    match read_event(alloc, streams, bytes) {
+    match read_event_near(alloc, streams, near, bytes) {
         Ok(seen) => Ok(Next::Event(number, seen)),
         Err(ReadFail::Bad(why)) => Ok(Next::Fault(number, why)),
         Err(ReadFail::Memory) => Err(Memory),

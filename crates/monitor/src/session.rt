@@ -88,6 +88,7 @@ impl Session {
             work: Work {
                 engine,
                 rows: Rows::new(alloc),
+                near: 0,
             },
             limit,
             feed: Feed::new(alloc),

@@ -37,6 +37,7 @@ fn go_on<L: Ledger>(
     let mut work = Work {
         engine: engine_of(alloc, &catalogue)?,
         rows: Rows::new(alloc),
+        near: 0,
     };
     let mut feed = Feed::new(alloc);
     feed.push(b"Stock,1,1,IBM,10,5\nStock,2,2,IBM,11,6\n")?;

@@ -1,10 +1,13 @@
 //! The work on the events.
 use epoch_engine::Engine;
+use event_types::StreamId;
 use result_text::Rows;
 
-/// What was heard, and the rows of closed epochs that aren't written yet.
+/// What was heard, the rows of closed epochs that aren't written yet, and the stream of the event that was
+/// taken last, where the next line's name is looked for first. Before any event, that is stream 0.
 #[derive(Drop)]
 pub struct Work {
     pub engine: Engine,
     pub rows: Rows,
+    pub near: StreamId,
 }
