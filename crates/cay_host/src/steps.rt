@@ -39,6 +39,7 @@ impl<L: Ledger> Steps<L> {
         Steps { book, share }
     }
 
+    /// Counts one step, for proofs alone: the count holds no bytes when the program runs.
     pub fn tick(&mut self)
         ensures { self.new ≡ self.old + 1 }
     {

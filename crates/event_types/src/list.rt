@@ -46,6 +46,7 @@ impl<T> List<T> {
         }
     }
 
+    /// The number of items.
     pub fn len(&self) -> usize
         ensures { result ≡ length self.now }
     {
@@ -60,6 +61,7 @@ impl<T> List<T> {
         &self.held[place]
     }
 
+    /// The items in their order. Takes no memory.
     pub fn as_slice(&self) -> &[T]
         ensures { result.now ≡ self.now }
     {

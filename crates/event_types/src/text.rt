@@ -48,6 +48,7 @@ impl Model for Text {
 pub type Names = List<Text>;
 
 impl Text {
+    /// The text with the bytes of `source`. Up to 14 bytes stand in place and take no memory.
     pub fn make(alloc: Global, source: &str) -> Result<Text, Memory>
         ensures { IfOk result (λ text. text ≡ source.now) }
     {
@@ -67,6 +68,7 @@ impl Text {
         }
     }
 
+    /// The bytes, which are UTF-8. Takes no memory.
     pub fn as_str(&self) -> &str
         ensures { result.now ≡ self.now }
     {

@@ -63,6 +63,7 @@ impl Tuple {
         Ok(Tuple { vals, from, at })
     }
 
+    /// The values, in the order of the schema's attributes.
     pub fn vals(&self) -> &Vals
         ensures { result.now ≡ self.now.vals }
     {

@@ -8,7 +8,8 @@ use crate::ordering::Reads;
 use event_types::Memory;
 use std::alloc::Global;
 
-// For each query a number that no query before it reads: that of its first reader.
+/// For each query by its number, from 0, that of its first reader, and the number of all queries where none reads it: no
+/// query before its entry reads it.
 pub fn first_readers(alloc: Global, reads: &Reads) -> Result<Vec<usize>, Memory>
     requires { All (λ numbers. All (λ number. number < length reads.now) numbers) reads.now }
     ensures { IfOk result (λ firsts. AreBefore firsts.items reads.now (length reads.now)) }

@@ -6,7 +6,7 @@ use event_types::{List, Memory, Numbers};
 use std::alloc::Global;
 use std::marker::Model;
 
-// Numbers in the order in which they were put, each with a mark.
+/// Numbers in the order in which they were put, each with a mark, by which it is found at once.
 #[derive(Drop)]
 pub struct Marked {
     numbers: Numbers,
@@ -25,6 +25,7 @@ impl Model for Marked {
 }
 
 impl Marked {
+    /// No numbers; those from 0 up to a size can be put.
     pub fn new(alloc: Global, size: usize) -> Result<Marked, Memory>
         ensures { IfOk result (λ marked. marked ≡ record { numbers = []; size = size }) }
     {
@@ -34,6 +35,7 @@ impl Marked {
         })
     }
 
+    /// Whether the number was put, by one look at its mark.
     pub fn has(&self, number: usize) -> bool
         requires { number < self.now.size }
         ensures { result ≡ is_among self.now.numbers number }
@@ -41,7 +43,7 @@ impl Marked {
         self.marks[number]
     }
 
-    // Puts a number at the end. Want of memory leaves them as they were.
+    /// Puts a number at the end. Want of memory leaves them as they were.
     pub fn put(&mut self, number: usize) -> Result<(), Memory>
         requires small { number < self.old.size }
         requires new { is_among self.old.numbers number ≡ false }
@@ -55,6 +57,7 @@ impl Marked {
         Ok(())
     }
 
+    /// The numbers in the order in which they were put.
     pub fn numbers(&self) -> &Numbers
         ensures value { result.now ≡ self.now.numbers }
         ensures distinct { AllPairs (λ x y. x ≢ y) self.now.numbers }
@@ -62,6 +65,7 @@ impl Marked {
         &self.numbers
     }
 
+    /// The numbers in the order in which they were put, without their marks.
     pub fn into_numbers(self) -> Numbers
         ensures value { result ≡ self.numbers }
         ensures distinct { AllPairs (λ x y. x ≢ y) self.numbers }

@@ -9,7 +9,8 @@ use crate::ordering::Reads;
 use event_types::{List, Memory, Numbers};
 use std::alloc::Global;
 
-// The cycle of the walk from the first untaken query.
+/// The cycle of the walk from the first untaken query, by the queries' numbers from 0: each reads the next, and the last
+/// reads the first.
 pub fn cycle_of(
     alloc: Global,
     reads: &Reads,

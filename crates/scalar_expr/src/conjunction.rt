@@ -52,6 +52,7 @@ impl Conj {
         self.parts.as_slice()
     }
 
+    /// The number of parts. Takes no memory.
     pub fn size(&self) -> usize
         ensures value { result ≡ length self.now }
         ensures canonical { AreCanonical self.now }
