@@ -1,5 +1,5 @@
 //! The lines of a query's results.
-ghost use Rattle.std.specs.Prelude.{◌≡◌, ◌++◌, [], IfOk, OnOk};
+ghost use Rattle.std.specs.Prelude.{◌≡◌, ◌++◌, [], IfOk, OnErr, OnOk};
 ghost use Rattle.std.specs.List.{flat_map};
 ghost use Rattle.csv.specs.Writing.{fields_written, writer_setup, writer_under};
 ghost use Rattle.result_text.specs.Written.{IsBetween, any_width, bytes_of};
@@ -52,7 +52,8 @@ impl Rows {
     /// Puts the line of each result of the query `name` behind the lines that are there. Want of memory drops
     /// all of them.
     pub fn append(&mut self, name: &str, tuples: &[Tuple]) -> Result<(), Memory>
-        ensures { OnOk result (self.new ≡ self.old ++ flat_map (λ tuple. line name.now tuple) tuples.now) }
+        ensures appended { OnOk result (self.new ≡ self.old ++ flat_map (λ tuple. line name.now tuple) tuples.now) }
+        ensures emptied { OnErr result (self.new ≡ []) }
     {
         match write_rows(&mut self.writer, name, tuples) {
             Ok(()) => Ok(()),
@@ -94,7 +95,8 @@ pub fn row(alloc: Global, name: &str, tuple: &Tuple) -> Result<Text, Memory>
 // long buffer.
 #[inline(never)]
 fn renew(writer: &mut Writer<Vec<u8>>, alloc: Global)
-    ensures { IsBetween writer.new }
+    ensures between { IsBetween writer.new }
+    ensures empty { (writer_under writer.new).items ≡ [] }
 {
     *writer = writer_over(Vec::new(alloc));
 }
