@@ -1,6 +1,6 @@
 //! What no clause says: that memory is had, and what some lines of real files are read as.
-use super::{Feed, Got, LineFault, ReadFail, Seen, read_event};
-use event_types::{Kind, ValueRef};
+use super::{Feed, Got, LineFault, ReadFail, Seen, read_event, read_event_near};
+use event_types::{Kind, StreamId, ValueRef};
 use std::alloc::Global;
 use std::process::Abort;
 use std::test::Fail;
@@ -21,17 +21,21 @@ fn stock(rt: &impl Abort, alloc: Global) -> Result<Streams, Fail> {
     Ok(streams)
 }
 
-// What the first line of a text is read as.
+// What the first line of a text is read as, by the stream that is near, if one is.
 fn first_event(
     rt: &impl Abort,
     alloc: Global,
+    near: Option<StreamId>,
     text: &[u8],
 ) -> Result<Result<Seen, ReadFail>, Fail> {
     let streams = stock(rt, alloc)?;
     let mut feed = Feed::new(alloc);
     feed.push(text)?;
     match feed.next_line() {
-        Got::Line { number: _, bytes } => Ok(read_event(alloc, &streams, bytes)),
+        Got::Line { number: _, bytes } => match near {
+            None => Ok(read_event(alloc, &streams, bytes)),
+            Some(near) => Ok(read_event_near(alloc, &streams, near, bytes)),
+        },
         _ => panic!(rt; "no line"),
     }
 }
@@ -40,12 +44,13 @@ fn first_event(
 fn assert_event(
     rt: &impl Abort,
     alloc: Global,
+    near: Option<StreamId>,
     text: &str,
     times: (u64, u64),
     name: &str,
     price: i128,
 ) -> Result<(), Fail> {
-    match first_event(rt, alloc, text.as_bytes())? {
+    match first_event(rt, alloc, near, text.as_bytes())? {
         Ok(seen) => {
             assert_eq!(rt; seen.stream, 0, "{text}");
             assert_eq!(rt; (seen.tuple.from(), seen.tuple.at()), times, "{text}");
@@ -81,14 +86,16 @@ fn a_line_is_read_as_an_event(rt: HostRuntime) -> Result<(), Fail> {
         ("Stock,1,1,a\"b,5,6\n", (1, 1), "a\"b", 5),
         ("Stock,1,1,\"a\"b,5,6\n", (1, 1), "ab", 5),
     ] {
-        assert_event(&rt, rt.alloc(), text, times, name, price)?;
+        for near in [None, Some(0), Some(1), Some(2)] {
+            assert_event(&rt, rt.alloc(), near, text, times, name, price)?;
+        }
     }
     Ok(())
 }
 
 // The fault of the first line of a text.
 fn first_fault(rt: &impl Abort, alloc: Global, text: &[u8]) -> Result<Option<LineFault>, Fail> {
-    match first_event(rt, alloc, text)? {
+    match first_event(rt, alloc, None, text)? {
         Err(ReadFail::Bad(fault)) => Ok(Some(fault)),
         _ => Ok(None),
     }
