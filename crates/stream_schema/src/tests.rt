@@ -85,8 +85,12 @@ fn streams_are_numbered_in_the_order_of_addition(rt: HostRuntime) -> Result<(), 
             assert_eq!(rt; streams.name(stream), name);
             assert_eq!(rt; streams.schema(stream).find(name), Some(0));
             assert_eq!(rt; streams.declared(stream), declared);
+            for near in [0, 1, 2] {
+                assert_eq!(rt; streams.find_near(near, name), Some(stream), "{near}");
+            }
         }
     }
     assert_eq!(rt; streams.find("quiet"), None);
+    assert_eq!(rt; streams.find_near(1, "quiet"), None);
     Ok(())
 }
