@@ -48,6 +48,7 @@ impl Schema {
         self.attributes.len()
     }
 
+    /// The name of the attribute at a place, counted from 0. Takes no memory.
     pub fn name(&self, place: usize) -> &str
         requires { place < length self.now }
         ensures { slice_get (names_of self.now) place ≡ Some result.now }
@@ -55,6 +56,7 @@ impl Schema {
         self.attributes.get(place).name.as_str()
     }
 
+    /// The kind of the attribute at a place, counted from 0.
     pub fn kind(&self, place: usize) -> Kind
         requires { place < length self.now }
         ensures { slice_get (kinds_of self.now) place ≡ Some result }

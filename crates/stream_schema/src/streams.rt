@@ -77,6 +77,7 @@ impl Streams {
         self.find(name)
     }
 
+    /// The schema of the stream of this number, counted from 0. Takes no memory.
     pub fn schema(&self, stream: StreamId) -> &Schema
         requires { stream < length self.now }
         ensures { slice_get (schemas_of self.now) stream ≡ Some result.now }
@@ -84,6 +85,7 @@ impl Streams {
         &self.table[stream].schema
     }
 
+    /// The name of the stream of this number, counted from 0. Takes no memory.
     pub fn name(&self, stream: StreamId) -> &str
         requires { stream < length self.now }
         ensures { slice_get (stream_names self.now) stream ≡ Some result.now }
