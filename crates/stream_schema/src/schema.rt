@@ -3,8 +3,9 @@ ghost use Rattle.std.specs.Prelude.{◌≡◌, ◌<◌, ◌↔◌, [], ◌∷◌
 ghost use Rattle.stream_schema.specs.Faults.{Tells};
 ghost use Rattle.stream_schema.specs.Schema.{IsSchema, kinds_of, names_of, place_of};
 
+use crate::attribute::{Attribute, first_place};
 use crate::fault::SchemaFault;
-use event_types::{Copied, Kind, Kinds, List, Memory, Text};
+use event_types::{Copied, Kind, Kinds, List, Memory};
 use std::alloc::Global;
 use std::marker::Model;
 
@@ -53,7 +54,7 @@ impl Schema {
         requires { place < length self.now }
         ensures { slice_get (names_of self.now) place ≡ Some result.now }
     {
-        self.attributes.get(place).name.as_str()
+        self.attributes.get(place).name()
     }
 
     /// The kind of the attribute at a place, counted from 0.
@@ -61,7 +62,7 @@ impl Schema {
         requires { place < length self.now }
         ensures { slice_get (kinds_of self.now) place ≡ Some result }
     {
-        self.attributes.get(place).kind
+        self.attributes.get(place).kind()
     }
 
     /// The kinds of the attributes, in order.
@@ -70,7 +71,7 @@ impl Schema {
     {
         let mut kinds = List::new(alloc);
         for attribute in self.attributes.as_slice() {
-            if kinds.push(attribute.kind).is_err() {
+            if kinds.push(attribute.kind()).is_err() {
                 return Err(Memory);
             }
         }
@@ -100,8 +101,8 @@ impl Schema {
                 count: Schema::MOST + 1,
             });
         }
-        let name = Text::make(self.alloc, name)?;
-        match self.attributes.push(Attribute { name, kind }) {
+        let attribute = Attribute::make(self.alloc, name, kind)?;
+        match self.attributes.push(attribute) {
             Ok(()) => Ok(()),
             Err(_) => Err(SchemaFault::Memory),
         }
@@ -115,37 +116,4 @@ impl Copied for Schema {
             attributes: self.attributes.copied(alloc)?,
         })
     }
-}
-
-// An attribute: its name and its kind.
-#[derive(Drop)]
-struct Attribute {
-    name: Text,
-    kind: Kind,
-}
-
-impl Model for Attribute {
-    ghost use Rattle.stream_schema.specs.Schema.{Attr};
-
-    ghost Value = { Attr };
-
-    ghost view = { λ a. record { name = a.name; kind = a.kind } };
-}
-
-impl Copied for Attribute {
-    fn copied(&self, alloc: Global) -> Result<Self, Memory> {
-        Ok(Attribute {
-            name: self.name.copied(alloc)?,
-            kind: self.kind,
-        })
-    }
-}
-
-// The place of the first attribute of this name.
-fn first_place(attributes: &[Attribute], name: &str) -> Option<usize>
-    ensures { result ≡ place_of name.now attributes.now }
-{
-    attributes
-        .iter()
-        .position(|attribute| name == attribute.name.as_str())
 }

@@ -9,7 +9,7 @@ pub invariant_of-self : goal.invariant_of-self
 invariant_of-self c =
     elim c.match-push.branch [
       | in-Ok w ↦
-          let absent : place_of c.in_ok-name.name c.self.inside.attributes ≡ None = rw (c.in_ok-name.ensures, c.self.view_is) c.requires in
+          let absent : place_of c.in_ok-attribute.attribute.name c.self.inside.attributes ≡ None = rw (c.in_ok-attribute.ensures, c.self.view_is) c.requires in
           let few : length c.self.inside.attributes < 256 = omega (arith, ap length c.self.view_is) in
           rw w.in-Ok.ensures.ok (IsSchema-append c.self.inside.attributes _ c.self.invariant few absent)
       | in-Err w ↦ rw w.in-Err.ensures.kept c.self.invariant
