@@ -2,7 +2,7 @@ use Rattle.std.proofs.Common.{◌∙◌, ◌<◌}
 use Rattle.std.proofs.lemmas.List.Elements.{All-same}
 use Rattle.event_types.specs.Tuple.{Row}
 use Rattle.scalar_expr.proofs.NextsLemmas.{nexts_start_later}
-use Rattle.algebra.proofs.evaluation.add_matches.Goals as goal
+use Rattle.algebra.proofs.matching.add_matches.Goals as goal
 
 -- each of the nexts starts after the binding was detected
 pub add_joined-requires : goal.add_joined-requires

@@ -4,7 +4,7 @@ use Rattle.std.proofs.lemmas.List.Elements.{All-same}
 use Rattle.event_types.specs.Tuple.{Row}
 use Rattle.scalar_expr.specs.Fits.{AllFit}
 use Rattle.scalar_expr.proofs.NextsLemmas.{nexts_keep}
-use Rattle.algebra.proofs.evaluation.goers_of.Goals as goal
+use Rattle.algebra.proofs.iteration.goers_of.Goals as goal
 
 -- what fits each tuple fits each of the nexts
 pub passing-requires : goal.passing-requires

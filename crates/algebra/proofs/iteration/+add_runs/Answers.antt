@@ -2,7 +2,7 @@ use Rattle.std.proofs.Common.{◌∙◌, ◌<◌, ◌-◌, arith, subst, sym}
 use Rattle.event_types.specs.Tuple.{Row}
 use Rattle.algebra.specs.Suits.{SuitsRuns}
 use Rattle.algebra.proofs.FoldLemmas.{All_read, SuitsBranch, goers_start_later, suits_branches}
-use Rattle.algebra.proofs.evaluation.+add_runs.Goals as goal
+use Rattle.algebra.proofs.iteration.+add_runs.Goals as goal
 
 -- the event is a goer, which starts after the binding was detected
 pub rebind-requires-clause-later : goal.rebind-requires-clause-later

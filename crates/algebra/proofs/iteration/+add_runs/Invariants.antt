@@ -1,7 +1,7 @@
 use Rattle.std.proofs.Common.{◌≡◌, ◌++◌, ◌-◌, take}
 use Rattle.std.specs.List.{flat_map}
 use Rattle.algebra.proofs.FoldLemmas.{branch}
-use Rattle.algebra.proofs.evaluation.+add_runs.Given as goal
+use Rattle.algebra.proofs.iteration.+add_runs.Given as goal
 
 -- the events that a run may still have
 abbrev pub decreases-add_runs : goal.decreases-add_runs

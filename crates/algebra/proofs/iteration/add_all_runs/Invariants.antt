@@ -1,7 +1,7 @@
 use Rattle.std.proofs.Common.{◌≡◌, ◌++◌, take}
 use Rattle.std.specs.List.{flat_map}
 use Rattle.semantics.specs.Runs.{runs}
-use Rattle.algebra.proofs.evaluation.add_all_runs.Given as goal
+use Rattle.algebra.proofs.iteration.add_all_runs.Given as goal
 
 -- the runs from the bindings so far were added
 abbrev pub invariant-loop-binding : goal.invariant-loop-binding

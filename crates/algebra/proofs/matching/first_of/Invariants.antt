@@ -1,7 +1,7 @@
 use Rattle.std.proofs.Common.{◌≡◌, take}
 use Rattle.std.specs.List.{filter}
 use Rattle.semantics.specs.Nexts.{is_earliest}
-use Rattle.algebra.proofs.evaluation.first_of.Given as goal
+use Rattle.algebra.proofs.matching.first_of.Given as goal
 
 -- what was found is the earliest ones of the tuples so far
 abbrev pub invariant-loop-tuple : goal.invariant-loop-tuple

@@ -1,5 +1,5 @@
 use Rattle.std.proofs.Common.{◌≡◌, ◌++◌, take}
-use Rattle.algebra.proofs.evaluation.add_vals.Given as goal
+use Rattle.algebra.proofs.matching.add_vals.Given as goal
 
 -- the values so far were added
 abbrev pub invariant-loop-value : goal.invariant-loop-value

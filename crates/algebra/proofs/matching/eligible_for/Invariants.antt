@@ -1,7 +1,7 @@
 use Rattle.std.proofs.Common.{◌≡◌, take}
 use Rattle.std.specs.List.{filter}
 use Rattle.semantics.specs.Nexts.{is_eligible}
-use Rattle.algebra.proofs.evaluation.eligible_for.Given as goal
+use Rattle.algebra.proofs.matching.eligible_for.Given as goal
 
 -- what was found is the eligible ones of the tuples so far
 abbrev pub invariant-loop-tuple : goal.invariant-loop-tuple

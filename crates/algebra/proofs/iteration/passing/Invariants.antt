@@ -3,7 +3,7 @@ use Rattle.std.specs.Prelude.{Some}
 use Rattle.std.specs.List.{filter}
 use Rattle.event_types.specs.Tuple.{Row}
 use Rattle.semantics.specs.Truth.{all_true}
-use Rattle.algebra.proofs.evaluation.passing.Given as goal
+use Rattle.algebra.proofs.iteration.passing.Given as goal
 
 -- what was found is those of the tuples so far for which the condition holds with the binding
 abbrev pub invariant-loop-tuple : goal.invariant-loop-tuple

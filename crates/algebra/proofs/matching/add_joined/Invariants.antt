@@ -1,6 +1,6 @@
 use Rattle.std.proofs.Common.{◌≡◌, ◌++◌, take, map}
 use Rattle.semantics.specs.Denotation.{joined}
-use Rattle.algebra.proofs.evaluation.add_joined.Given as goal
+use Rattle.algebra.proofs.matching.add_joined.Given as goal
 
 -- the binding was added, joined with each of the tuples so far
 abbrev pub invariant-loop-tuple : goal.invariant-loop-tuple

@@ -1,7 +1,7 @@
 use Rattle.std.proofs.Common.{◌≡◌, ◌++◌, take}
 use Rattle.std.specs.List.{flat_map}
 use Rattle.semantics.specs.Denotation.{matches}
-use Rattle.algebra.proofs.evaluation.add_all_matches.Given as goal
+use Rattle.algebra.proofs.matching.add_all_matches.Given as goal
 
 -- the matches of the bindings so far were added
 abbrev pub invariant-loop-binding : goal.invariant-loop-binding

@@ -1,0 +1,156 @@
+//! NEXT: each binding joined with the tuples that are eligible for it and detected first.
+ghost use Rattle.std.specs.Prelude.{◌≡◌, ◌++◌, ◌<◌, IfOk, OnOk, map, Some};
+ghost use Rattle.std.specs.List.{All, filter, flat_map};
+ghost use Rattle.semantics.specs.Denotation.{joined, matches};
+ghost use Rattle.semantics.specs.Nexts.{earliest, is_earliest, is_eligible, nexts};
+ghost use Rattle.scalar_expr.specs.Fits.{AllFit};
+ghost use Rattle.algebra.specs.Suits.{FitsPairs};
+
+use crate::evaluation::add;
+use cay_host::{Ledger, Steps};
+use event_types::{Copied, List, Memory, Tuple, Tuples, Vals};
+use scalar_expr::{Conj, holds};
+use std::alloc::Global;
+
+// Adds the matches of each binding.
+pub(crate) fn add_all_matches<L: Ledger>(
+    alloc: Global,
+    out: &mut Tuples,
+    condition: &Conj,
+    bindings: &[Tuple],
+    tuples: &[Tuple],
+    steps: &mut Steps<L>,
+) -> Result<(), Memory>
+    requires { All (FitsPairs condition.now tuples.now) bindings.now }
+    ensures { OnOk result (out.new ≡ out.old ++ flat_map (matches condition.now tuples.now) bindings.now) }
+{
+    for binding in bindings {
+        add_matches(alloc, out, condition, binding, tuples, steps)?;
+    }
+    Ok(())
+}
+
+// Adds the binding joined with each of its nexts.
+fn add_matches<L: Ledger>(
+    alloc: Global,
+    out: &mut Tuples,
+    condition: &Conj,
+    binding: &Tuple,
+    tuples: &[Tuple],
+    steps: &mut Steps<L>,
+) -> Result<(), Memory>
+    requires { FitsPairs condition.now tuples.now binding.now }
+    ensures { OnOk result (out.new ≡ out.old ++ matches condition.now tuples.now binding.now) }
+{
+    let found = nexts_of(alloc, condition, binding, tuples, steps)?;
+    add_joined(alloc, out, binding, found.as_slice())
+}
+
+// Adds the binding joined with each of the tuples.
+fn add_joined(
+    alloc: Global,
+    out: &mut Tuples,
+    binding: &Tuple,
+    tuples: &[Tuple],
+) -> Result<(), Memory>
+    requires { All (λ tuple. binding.now.at < tuple.from) tuples.now }
+    ensures { OnOk result (out.new ≡ out.old ++ map (joined binding.now) tuples.now) }
+{
+    for tuple in tuples {
+        add(out, join(alloc, binding, tuple)?)?;
+    }
+    Ok(())
+}
+
+/// The values of both, from the start of the left tuple to the detection of the right one.
+pub fn join(alloc: Global, left: &Tuple, right: &Tuple) -> Result<Tuple, Memory>
+    requires { left.now.at < right.now.from }
+    ensures { IfOk result (λ tuple. tuple ≡ joined left.now right.now) }
+{
+    let mut vals = left.vals().copied(alloc)?;
+    add_vals(alloc, &mut vals, right.vals())?;
+    match Tuple::make(vals, left.from(), right.at()) {
+        Ok(tuple) => Ok(tuple),
+        Err(_) => unreachable!(),
+    }
+}
+
+// Adds equal values.
+fn add_vals(alloc: Global, vals: &mut Vals, more: &Vals) -> Result<(), Memory>
+    ensures { OnOk result (vals.new ≡ vals.old ++ more.now) }
+{
+    for value in more.as_slice() {
+        if vals.push(value.copied(alloc)?).is_err() {
+            return Err(Memory);
+        }
+    }
+    Ok(())
+}
+
+// The nexts of a binding.
+pub(crate) fn nexts_of<L: Ledger>(
+    alloc: Global,
+    condition: &Conj,
+    binding: &Tuple,
+    tuples: &[Tuple],
+    steps: &mut Steps<L>,
+) -> Result<Tuples, Memory>
+    requires { FitsPairs condition.now tuples.now binding.now }
+    ensures { IfOk result (λ found. found ≡ nexts condition.now binding.now tuples.now) }
+{
+    let found = eligible_for(alloc, condition, binding, tuples, steps)?;
+    first_of(alloc, found.as_slice())
+}
+
+// The tuples that are eligible for a binding.
+fn eligible_for<L: Ledger>(
+    alloc: Global,
+    condition: &Conj,
+    binding: &Tuple,
+    tuples: &[Tuple],
+    steps: &mut Steps<L>,
+) -> Result<Tuples, Memory>
+    requires { FitsPairs condition.now tuples.now binding.now }
+    ensures { IfOk result (λ found. found ≡ filter (is_eligible condition.now binding.now) tuples.now) }
+{
+    let mut found = List::new(alloc);
+    for tuple in tuples {
+        if can_follow(condition, binding, tuple, steps) {
+            add(&mut found, tuple.copy(alloc)?)?;
+        }
+    }
+    Ok(found)
+}
+
+/// Whether the tuple is eligible for the binding. Takes no memory.
+pub fn can_follow<L: Ledger>(
+    condition: &Conj,
+    binding: &Tuple,
+    tuple: &Tuple,
+    steps: &mut Steps<L>,
+) -> bool
+    requires { AllFit condition.now tuple.now (Some binding.now) }
+    ensures { result ≡ is_eligible condition.now binding.now tuple.now }
+{
+    binding.at() < tuple.from() && holds(condition, tuple, Some(binding), steps)
+}
+
+// The tuples that are detected first.
+fn first_of(alloc: Global, tuples: &[Tuple]) -> Result<Tuples, Memory>
+    ensures { IfOk result (λ found. found ≡ earliest tuples.now) }
+{
+    let mut found = List::new(alloc);
+    for tuple in tuples {
+        if has_none_before(tuples, tuple) {
+            add(&mut found, tuple.copy(alloc)?)?;
+        }
+    }
+    Ok(found)
+}
+
+// Whether none of the tuples is detected before this one.
+fn has_none_before(tuples: &[Tuple], tuple: &Tuple) -> bool
+    ensures { result ≡ is_earliest tuples.now tuple.now }
+{
+    tuples.iter().all(|other| tuple.at() <= other.at())
+}
