@@ -80,6 +80,17 @@ impl<T> List<T> {
         }
     }
 
+    /// Puts the item at the end. Want of memory drops it.
+    pub fn add(&mut self, item: T) -> Result<(), Memory>
+    where
+        T: Drop,
+        ensures ok { OnOk result (self.new ≡ self.old ++ item ∷ []) }
+        ensures kept { OnErr result (self.new ≡ self.old) }
+    {
+        self.held.push(item)?;
+        Ok(())
+    }
+
     /// Takes the item at a place out, counted from 0; those behind it move up. Takes no memory.
     pub fn remove(&mut self, place: usize) -> T
         requires { place < length self.old }

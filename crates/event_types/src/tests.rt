@@ -68,7 +68,7 @@ fn numbers_are_put_at_the_end_sorted_by_size_and_taken_out(rt: HostRuntime) -> R
     let alloc = rt.alloc();
     let mut numbers: Numbers = List::new(alloc);
     for number in [10, 2, 300, 2] {
-        assert!(rt; numbers.push(number).is_ok());
+        assert!(rt; numbers.add(number).is_ok());
     }
     assert_eq!(rt; numbers.as_slice(), [10, 2, 300, 2].as_slice());
     numbers.sort();
