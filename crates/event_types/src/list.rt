@@ -40,10 +40,8 @@ impl<T> List<T> {
     pub fn with_room(alloc: Global, items: usize) -> Result<List<T>, Memory>
         ensures { IfOk result (λ list. list ≡ []) }
     {
-        match Vec::with_capacity(alloc, items) {
-            Ok(held) => Ok(List { held }),
-            Err(_) => Err(Memory),
-        }
+        let held = Vec::with_capacity(alloc, items)?;
+        Ok(List { held })
     }
 
     /// The number of items.
@@ -189,14 +187,9 @@ pub trait Copied {
 
 impl<T: Copied + Drop> Copied for List<T> {
     fn copied(&self, alloc: Global) -> Result<Self, Memory> {
-        let Ok(mut held) = Vec::with_capacity(alloc, self.held.len()) else {
-            return Err(Memory);
-        };
+        let mut held = Vec::with_capacity(alloc, self.held.len())?;
         'items: for item in &self.held {
-            let copy = item.copied(alloc)?;
-            if held.push(copy).is_err() {
-                return Err(Memory);
-            }
+            held.push(item.copied(alloc)?)?;
         }
         Ok(List { held })
     }
