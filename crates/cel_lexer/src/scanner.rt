@@ -25,10 +25,8 @@ pub fn lex(alloc: Global, text: &[u8]) -> Result<Tokens<'_>, LexFault>
             return Err(LexFault::NotUtf8 { line });
         }
     };
-    match cut(alloc, source.as_bytes()) {
-        Ok(items) => Ok(Tokens::over(source, items)),
-        Err(fault) => Err(fault),
-    }
+    let items = cut(alloc, source.as_bytes())?;
+    Ok(Tokens::over(source, items))
 }
 
 // The tokens of a text that is UTF-8.
@@ -56,9 +54,7 @@ fn cut(alloc: Global, text: &[u8]) -> Result<Vec<Token>, LexFault>
                     begin: at,
                     end: at + len,
                 };
-                if found.push(token).is_err() {
-                    return Err(LexFault::Memory);
-                }
+                found.push(token).map_err(|_| LexFault::Memory)?;
                 at += len;
             }
             Piece::BadToken => return Err(LexFault::BadToken { line }),
