@@ -50,9 +50,7 @@ impl Marked {
         ensures ok { OnOk result (self.new ≡ record { numbers = self.old.numbers ++ number ∷ []; size = self.old.size }) }
         ensures room { length self.old.numbers < self.old.size }
     {
-        if self.numbers.push(number).is_err() {
-            return Err(Memory);
-        }
+        self.numbers.add(number)?;
         self.marks[number] = true;
         Ok(())
     }

@@ -59,9 +59,7 @@ fn rest_from(alloc: Global, numbers: &[usize], number: usize) -> Result<Numbers,
     let begin = place_of(numbers, number);
     let mut rest: Numbers = List::new(alloc);
     for other in &numbers[begin..] {
-        if rest.push(*other).is_err() {
-            return Err(Memory);
-        }
+        rest.add(*other)?;
     }
     Ok(rest)
 }
