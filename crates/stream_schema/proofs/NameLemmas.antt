@@ -1,5 +1,5 @@
 -- Where an item of a name stands in a list, and when none has the name.
-use Rattle.std.proofs.Common.{◌≡◌, ◌∙◌, ◌<◌, ℕ, zero, suc, Bool, false, length, List, [], ◌∷◌, refl, subst, sym, ap, map, inl, inr}
+use Rattle.std.proofs.Common.{◌≡◌, ◌∙◌, ◌<◌, ℕ, zero, suc, false, length, List, [], ◌∷◌, refl, subst, sym, ap, map, inl, inr}
 use Rattle.std.specs.Prelude.{Option, Some, None, IfSome, Contains, slice_get, is_some, option_map, position}
 use Rattle.std.specs.List.{AllByRecursion, IsDistinct, list_any}
 use Rattle.std.specs.Str.{bytes_eq}

@@ -71,9 +71,7 @@ impl Schema {
     {
         let mut kinds = List::new(alloc);
         for attribute in self.attributes.as_slice() {
-            if kinds.push(attribute.kind()).is_err() {
-                return Err(Memory);
-            }
+            kinds.add(attribute.kind())?;
         }
         Ok(kinds)
     }
@@ -102,10 +100,8 @@ impl Schema {
             });
         }
         let attribute = Attribute::make(self.alloc, name, kind)?;
-        match self.attributes.push(attribute) {
-            Ok(()) => Ok(()),
-            Err(_) => Err(SchemaFault::Memory),
-        }
+        self.attributes.add(attribute)?;
+        Ok(())
     }
 }
 

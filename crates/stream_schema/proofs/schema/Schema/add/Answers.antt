@@ -3,14 +3,9 @@ use Rattle.std.specs.Prelude.{None}
 use Rattle.stream_schema.specs.Schema.{place_of}
 use Rattle.stream_schema.proofs.SchemaLemmas.{IsSchema-append}
 use Rattle.stream_schema.proofs.schema.Schema.add.Goals as goal
-use Rattle.stream_schema.proofs.schema.Schema.add.Goals.{in-Ok, in-Err}
 
-pub invariant_of-self : goal.invariant_of-self
-invariant_of-self c =
-    elim c.match-push.branch [
-      | in-Ok w ↦
-          let absent : place_of c.in_ok-attribute.attribute.name c.self.inside.attributes ≡ None = rw (c.in_ok-attribute.ensures, c.self.view_is) c.requires in
-          let few : length c.self.inside.attributes < 256 = omega (arith, ap length c.self.view_is) in
-          rw w.in-Ok.ensures.ok (IsSchema-append c.self.inside.attributes _ c.self.invariant few absent)
-      | in-Err w ↦ rw w.in-Err.ensures.kept c.self.invariant
-    ]
+pub invariant_of-self-2 : goal.invariant_of-self-2
+invariant_of-self-2 c =
+    let absent : place_of c.in_ok-attribute.attribute.name c.self.inside.attributes ≡ None = rw (c.in_ok-attribute.ensures, c.self.view_is) c.requires in
+    let few : length c.self.inside.attributes < 256 = omega (arith, ap length c.self.view_is) in
+    rw c.in_ok-add.ensures.ok (IsSchema-append c.self.inside.attributes _ c.self.invariant few absent)
