@@ -67,10 +67,7 @@ fn copy_scalars(alloc: Global, scalars: &[Scalar]) -> Result<Scalars, Memory>
 {
     let mut copies = List::new(alloc);
     'scalars: for scalar in scalars {
-        let copy = copy_scalar(alloc, scalar)?;
-        if copies.push(copy).is_err() {
-            return Err(Memory);
-        }
+        copies.add(copy_scalar(alloc, scalar)?)?;
     }
     Ok(copies)
 }
@@ -105,9 +102,7 @@ fn values_of(
     let mut vals = List::new(alloc);
     'scalars: for scalar in scalars {
         let value = value_of(scalar, event, binding).to_value(alloc)?;
-        if vals.push(value).is_err() {
-            return Err(Memory);
-        }
+        vals.add(value)?;
     }
     Ok(vals)
 }
