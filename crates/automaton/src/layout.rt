@@ -33,9 +33,7 @@ fn copy_numbers(alloc: Global, numbers: &Numbers) -> Result<Numbers, Memory>
 {
     let mut copy = List::new(alloc);
     for number in numbers.as_slice() {
-        if copy.push(*number).is_err() {
-            return Err(Memory);
-        }
+        copy.add(*number)?;
     }
     Ok(copy)
 }
@@ -46,9 +44,7 @@ pub(crate) fn copy_kinds(alloc: Global, kinds: &Kinds) -> Result<Kinds, Memory>
 {
     let mut copy = List::new(alloc);
     for kind in kinds.as_slice() {
-        if copy.push(*kind).is_err() {
-            return Err(Memory);
-        }
+        copy.add(*kind)?;
     }
     Ok(copy)
 }
@@ -59,10 +55,7 @@ fn copy_kind_lists(alloc: Global, lists: &KindLists) -> Result<KindLists, Memory
 {
     let mut copy = List::new(alloc);
     for kinds in lists.as_slice() {
-        let kinds = copy_kinds(alloc, kinds)?;
-        if copy.push(kinds).is_err() {
-            return Err(Memory);
-        }
+        copy.add(copy_kinds(alloc, kinds)?)?;
     }
     Ok(copy)
 }

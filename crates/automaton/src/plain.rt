@@ -121,9 +121,7 @@ pub(crate) fn put_edge(slot: &mut Option<State>, next: usize) -> Result<(), Memo
     ensures kept { OnErr result (slot.new ≡ slot.old) }
 {
     if let Some(state) = slot {
-        if state.edges.push(next).is_err() {
-            return Err(Memory);
-        }
+        state.edges.add(next)?;
     }
     Ok(())
 }
@@ -134,9 +132,7 @@ pub(crate) fn put_end(slot: &mut Option<State>, end: End) -> Result<(), Memory>
     ensures kept { OnErr result (slot.new ≡ slot.old) }
 {
     if let Some(state) = slot {
-        if state.ends.push(end).is_err() {
-            return Err(Memory);
-        }
+        state.ends.add(end)?;
     }
     Ok(())
 }

@@ -64,9 +64,7 @@ fn add_kinds(kinds: &mut Kinds, more: &Kinds) -> Result<(), Memory>
     ensures { OnOk result (kinds.new ≡ kinds.old ++ more.now) }
 {
     for kind in more.as_slice() {
-        if kinds.push(*kind).is_err() {
-            return Err(Memory);
-        }
+        kinds.add(*kind)?;
     }
     Ok(())
 }
@@ -109,10 +107,7 @@ fn kinds_of(alloc: Global, scalars: &[Scalar], kinds: &Kinds) -> Result<Kinds, M
 {
     let mut out = List::new(alloc);
     'scalars: for scalar in scalars {
-        let kind = kind_of(scalar, kinds, None);
-        if out.push(kind).is_err() {
-            return Err(Memory);
-        }
+        out.add(kind_of(scalar, kinds, None))?;
     }
     Ok(out)
 }
