@@ -1,5 +1,5 @@
 //! The plain evaluator: it computes what an expression denotes.
-ghost use Rattle.std.specs.Prelude.{◌≡◌, ◌++◌, ◌∷◌, [], IfOk, OnOk, length, map, None};
+ghost use Rattle.std.specs.Prelude.{◌≡◌, ◌++◌, IfOk, OnOk, length, map, None};
 ghost use Rattle.std.specs.List.{All, filter};
 ghost use Rattle.semantics.specs.Denotation.{denote, selected, streams_of};
 ghost use Rattle.semantics.specs.Truth.{all_true};
@@ -86,22 +86,12 @@ fn add_results<L: Ledger>(
     }
 }
 
-// Puts a tuple at the end.
-pub(crate) fn add(out: &mut Tuples, tuple: Tuple) -> Result<(), Memory>
-    ensures { OnOk result (out.new ≡ out.old ++ tuple ∷ []) }
-{
-    if out.push(tuple).is_err() {
-        return Err(Memory);
-    }
-    Ok(())
-}
-
 // Adds equal tuples.
 fn add_copies(alloc: Global, out: &mut Tuples, tuples: &[Tuple]) -> Result<(), Memory>
     ensures { OnOk result (out.new ≡ out.old ++ tuples.now) }
 {
     for tuple in tuples {
-        add(out, tuple.copy(alloc)?)?;
+        out.add(tuple.copy(alloc)?)?;
     }
     Ok(())
 }
@@ -119,7 +109,7 @@ fn add_filtered<L: Ledger>(
 {
     for tuple in tuples {
         if holds(condition, tuple, None, steps) {
-            add(out, tuple.copy(alloc)?)?;
+            out.add(tuple.copy(alloc)?)?;
         }
     }
     Ok(())
@@ -136,10 +126,8 @@ fn add_selected(
     ensures { OnOk result (out.new ≡ out.old ++ map (selected projection.now.parts) tuples.now) }
 {
     for tuple in tuples {
-        add(
-            out,
-            apply(alloc, projection, tuple, None, tuple.from(), tuple.at())?,
-        )?;
+        let made = apply(alloc, projection, tuple, None, tuple.from(), tuple.at())?;
+        out.add(made)?;
     }
     Ok(())
 }

@@ -6,7 +6,6 @@ ghost use Rattle.semantics.specs.Truth.{all_true};
 ghost use Rattle.scalar_expr.specs.Fits.{Fits};
 ghost use Rattle.algebra.specs.Suits.{FitsPairs, SuitsRuns};
 
-use crate::evaluation::add;
 use crate::matching::nexts_of;
 use cay_host::{Ledger, Steps};
 use event_types::{List, Memory, Tuple, Tuples};
@@ -64,7 +63,7 @@ fn add_runs<L: Ledger>(
     let found = goers_of(alloc, choose, on, binding, tuples, steps)?;
     for event in found.as_slice() {
         let new_binding = rebind(alloc, projection, binding, event)?;
-        add(out, new_binding.copy(alloc)?)?;
+        out.add(new_binding.copy(alloc)?)?;
         add_runs(
             alloc,
             out,
@@ -111,7 +110,7 @@ fn passing<L: Ledger>(
     let mut found = List::new(alloc);
     for tuple in tuples {
         if holds(condition, tuple, Some(binding), steps) {
-            add(&mut found, tuple.copy(alloc)?)?;
+            found.add(tuple.copy(alloc)?)?;
         }
     }
     Ok(found)

@@ -6,7 +6,6 @@ ghost use Rattle.semantics.specs.Nexts.{earliest, is_earliest, is_eligible, next
 ghost use Rattle.scalar_expr.specs.Fits.{AllFit};
 ghost use Rattle.algebra.specs.Suits.{FitsPairs};
 
-use crate::evaluation::add;
 use cay_host::{Ledger, Steps};
 use event_types::{Copied, List, Memory, Tuple, Tuples, Vals};
 use scalar_expr::{Conj, holds};
@@ -57,7 +56,7 @@ fn add_joined(
     ensures { OnOk result (out.new ≡ out.old ++ map (joined binding.now) tuples.now) }
 {
     for tuple in tuples {
-        add(out, join(alloc, binding, tuple)?)?;
+        out.add(join(alloc, binding, tuple)?)?;
     }
     Ok(())
 }
@@ -80,9 +79,7 @@ fn add_vals(alloc: Global, vals: &mut Vals, more: &Vals) -> Result<(), Memory>
     ensures { OnOk result (vals.new ≡ vals.old ++ more.now) }
 {
     for value in more.as_slice() {
-        if vals.push(value.copied(alloc)?).is_err() {
-            return Err(Memory);
-        }
+        vals.add(value.copied(alloc)?)?;
     }
     Ok(())
 }
@@ -116,7 +113,7 @@ fn eligible_for<L: Ledger>(
     let mut found = List::new(alloc);
     for tuple in tuples {
         if can_follow(condition, binding, tuple, steps) {
-            add(&mut found, tuple.copy(alloc)?)?;
+            found.add(tuple.copy(alloc)?)?;
         }
     }
     Ok(found)
@@ -142,7 +139,7 @@ fn first_of(alloc: Global, tuples: &[Tuple]) -> Result<Tuples, Memory>
     let mut found = List::new(alloc);
     for tuple in tuples {
         if has_none_before(tuples, tuple) {
-            add(&mut found, tuple.copy(alloc)?)?;
+            found.add(tuple.copy(alloc)?)?;
         }
     }
     Ok(found)
