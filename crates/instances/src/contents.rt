@@ -16,10 +16,7 @@ pub fn add_copies(
 {
     let mut look = chain.look();
     while let Some(instance) = look.next() {
-        let copy = instance.copied(alloc)?;
-        if copies.push(copy).is_err() {
-            return Err(Memory);
-        }
+        copies.add(instance.copied(alloc)?)?;
     }
     Ok(())
 }
