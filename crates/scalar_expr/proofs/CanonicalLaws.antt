@@ -100,7 +100,7 @@ turned_accepted cmp.Ge Equal = refl
 turned_accepted cmp.Ge Greater = refl
 
 -- a comparison holds where the exchanged one holds of the exchanged operands
-turned_met : (c : Cmp) (v w : Value) → is_met c (order_of w v) ≡ is_met (exchanged c) (order_of v w)
+pub turned_met : (c : Cmp) (v w : Value) → is_met c (order_of w v) ≡ is_met (exchanged c) (order_of v w)
 turned_met c (value.Int x) (value.Int y) = ap (is_accepted c) (int_cmp_total.antisymm y x) ∙ turned_accepted c (int_cmp x y)
 turned_met c (value.Text x) (value.Text y) = ap (is_accepted c) (nat_list_cmp_total.antisymm y x) ∙ turned_accepted c (slice_cmp nat_cmp x y)
 turned_met c value.Over value.Over = refl

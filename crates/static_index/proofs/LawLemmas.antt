@@ -1,50 +1,19 @@
 -- What follows from a condition's truth for its fixed parts.
-use Rattle.std.proofs.Common.{◌≡◌, ◌∙◌, ap, refl, sym, ℕ, ℤ, Bool, true, false, ◌&&◌, List, [], ◌∷◌}
+use Rattle.std.proofs.Common.{◌≡◌, ◌∙◌, refl, sym, ℕ, ℤ, Bool, true, false, ◌&&◌, List, [], ◌∷◌}
 use Rattle.std.specs.Prelude.{Option, Some, None}
-use Rattle.std.specs.declared.cmp.Ordering.{Ordering}
-use Rattle.std.specs.declared.cmp.Ordering.TheVariants.{Less, Equal, Greater}
 use Rattle.std.specs.List.{cons_option}
-use Rattle.std.specs.Ordering.{int_cmp, nat_cmp, ordering_reverse}
-use Rattle.std.specs.Cmp.Lexicographic.{slice_cmp}
-use Rattle.std.proofs.lemmas.Cmp.{int_cmp_total, nat_list_cmp_total}
 use Rattle.event_types.specs.Tuple.{Row}
 use Rattle.event_types.specs.declared.comparison.Cmp.{Cmp}
 use Rattle.event_types.specs.declared.comparison.Cmp.TheVariants as cmp
 use Rattle.event_types.specs.declared.value.Value.{Value}
 use Rattle.event_types.specs.declared.value.Value.TheVariants as value
 use Rattle.semantics.specs.Scalars.{Pr, Test, Lit, Event, Binding, Dur}
-use Rattle.semantics.specs.Truth.{all_true, is_accepted, is_met, order_of, truth}
+use Rattle.semantics.specs.Truth.{all_true, is_met, order_of, truth}
 use Rattle.semantics.specs.Values.{value_at}
 use Rattle.scalar_expr.specs.Classes.{bounded, class_of, exchanged, fixed, keyed}
+use Rattle.scalar_expr.proofs.CanonicalLaws.{turned_met}
 use Rattle.static_index.specs.FixedParts.{all_hold, first_holds, fixed_part_of, fixed_parts, holds_if_any, part_holds}
 use Rattle.static_index.specs.declared.fixed_part.FixedPart.{FixedPart}
-
--- whether an order is accepted does not change where the operands and the comparison turn round
-turned_accepted : (c : Cmp) (o : Ordering) → is_accepted c (ordering_reverse o) ≡ is_accepted (exchanged c) o
-turned_accepted cmp.Eq Less = refl
-turned_accepted cmp.Eq Equal = refl
-turned_accepted cmp.Eq Greater = refl
-turned_accepted cmp.Ne Less = refl
-turned_accepted cmp.Ne Equal = refl
-turned_accepted cmp.Ne Greater = refl
-turned_accepted cmp.Lt Less = refl
-turned_accepted cmp.Lt Equal = refl
-turned_accepted cmp.Lt Greater = refl
-turned_accepted cmp.Le Less = refl
-turned_accepted cmp.Le Equal = refl
-turned_accepted cmp.Le Greater = refl
-turned_accepted cmp.Gt Less = refl
-turned_accepted cmp.Gt Equal = refl
-turned_accepted cmp.Gt Greater = refl
-turned_accepted cmp.Ge Less = refl
-turned_accepted cmp.Ge Equal = refl
-turned_accepted cmp.Ge Greater = refl
-
-turned_met : (c : Cmp) (v w : Value) → is_met c (order_of w v) ≡ is_met (exchanged c) (order_of v w)
-turned_met c (value.Int x) (value.Int y) = ap (is_accepted c) (int_cmp_total.antisymm y x) ∙ turned_accepted c (int_cmp x y)
-turned_met c (value.Text x) (value.Text y) = ap (is_accepted c) (nat_list_cmp_total.antisymm y x) ∙ turned_accepted c (slice_cmp nat_cmp x y)
-turned_met c value.Over value.Over = refl
-turned_met c v w = refl
 
 -- each class of comparison
 fixed_given : (event : Row) (place : ℕ) (c : Cmp) (v : Value) → is_met c (order_of (value_at event place) v) ≡ true → holds_if_any event (fixed_part_of (fixed place c v)) ≡ true
