@@ -10,8 +10,8 @@ use crate::spanning::span_of;
 use crate::tables::Tables;
 use event_types::Cmp;
 
-// An equality, where there is one, of a range that is bounded on both sides the span, of one that is bounded on
-// one side its part, else any part.
+// An equality, where there is one; else the span of two parts that bound a number on both sides, where there are
+// such; else a part of a range, where there is one; else any part.
 pub(crate) fn choose(tables: &Tables, parts: &FixedParts) -> Choice
     ensures best { IsBest result parts.now }
     ensures covers { Covers parts.now result }
