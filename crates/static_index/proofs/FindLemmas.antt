@@ -1,30 +1,25 @@
 -- What is found among entries that are filed.
-use Rattle.std.proofs.Common.{◌≡◌, ◌∙◌, ap, refl, sym, subst, ℕ, suc, ◌<◌, ◌≤◌, inl, inr, Bool, true, false, cond, List, [], ◌∷◌, Contains, arith}
-use Rattle.std.specs.Prelude.{Some, None}
+use Rattle.std.proofs.Common.{◌≡◌, ◌∙◌, ap, refl, sym, subst, ℕ, ◌<◌, inl, inr, Bool, true, false, cond, eqb, List, [], ◌∷◌, Contains, arith}
+use Rattle.std.specs.Prelude.{Some}
 use Rattle.std.specs.declared.cmp.Ordering.TheVariants.{Less}
 use Rattle.std.specs.Ordering.{nat_cmp}
 use Rattle.std.specs.BTreeMap.{BTreeMap, is_at}
-use Rattle.std.specs.List.{All, AllByRecursion, filter}
-use Rattle.std.specs.List.Sorted.{IsNonDecreasingBy, IsSorted, IsStrictlySortedBy}
+use Rattle.std.specs.List.{All, AllByRecursion, dedup, filter}
+use Rattle.std.specs.List.Sorted.{IsSorted, IsStrictlySortedBy}
 use Rattle.std.specs.Map.{keys_of, lookup}
 use Rattle.std.proofs.lemmas.Bool.Decides.{nat_tests}
-use Rattle.std.proofs.lemmas.List.Elements.{All-head, All-tail, recursion_from_All}
-use Rattle.std.proofs.lemmas.List.Sorted.{IsNonDecreasingBy-from_sort}
+use Rattle.std.proofs.lemmas.List.Elements.{All-head, All-tail}
+use Rattle.std.proofs.lemmas.Cmp.{nat_cmp_total}
+use Rattle.std.proofs.lemmas.List.Kept.{IsStrictlySortedBy-dedup, IsStrictlySortedBy-filter}
 use Rattle.event_types.specs.Tuple.{Row}
 use Rattle.static_index.specs.Conditions.{Ascends, Condition, ids_of}
-use Rattle.static_index.specs.Narrowing.{kept_from}
+use Rattle.static_index.specs.Narrowing.{passing}
 use Rattle.static_index.specs.Table.{asked_ids, condition_of, conditions_of, entry_meets, holds_as, meets}
 use Rattle.static_index.specs.declared.entry.Asked.{Asked}
 use Rattle.static_index.specs.declared.entry.Entry.{Entry}
 use Rattle.static_index.proofs.BucketLemmas.{nat_exact}
-use Rattle.static_index.proofs.NarrowLemmas.{In, In_from_Contains, Rises, Up, all_in, kept_is}
+use Rattle.static_index.proofs.NarrowLemmas.{In, In_from_Contains, Rises, all_in, passing_is}
 use Rattle.static_index.proofs.TableLemmas.{Ascends-filter, above_kept, keys_are_ids}
-
--- sorted ids don't fall
-falls_not : (xs : List ℕ) → IsNonDecreasingBy (λ x. x) xs → Up xs
-falls_not [] nd = tt
-falls_not (x ∷ xs) nd =
-    (recursion_from_All (λ y. x ≤ y) xs (λ k d lt. nd 0 (suc k) d (omega arith) (omega arith)), falls_not xs (λ i j d le lt. nd (suc i) (suc j) d (omega arith) (omega arith)))
 
 -- ids that ascend rise
 rises_all : (x : ℕ) (xs : List ℕ) → AllByRecursion (λ y. nat_cmp x y ≡ Less) xs → AllByRecursion (λ y. x < y) xs
@@ -98,11 +93,12 @@ module _ (asked : Asked) (event : Row) where
 
   -- of sorted ids, among which are those of all that hold, exactly these are kept
   pub found_is : (entries : BTreeMap ℕ Entry) (xs : List ℕ) → IsStrictlySortedBy nat_cmp (keys_of entries.entries) → IsSorted nat_cmp xs → All (λ e. holds_as asked event e.1.parts ≡ true → Contains xs e.0) entries.entries
-      → kept_from (meets entries asked event) None xs ≡ asked_ids asked event (conditions_of entries.entries)
+      → passing (meets entries asked event) xs ≡ asked_ids asked event (conditions_of entries.entries)
   found_is entries xs up sorted found =
       let es = entries.entries in
       let ascends = Ascends-filter test (conditions_of es) (subst Ascends (sym (keys_are_ids es)) up) in
-      kept_is (meets entries asked event) xs (listed es) (falls_not xs (IsNonDecreasingBy-from_sort (λ x. x) xs sorted)) (rises (listed es) ascends)
+      let once = IsStrictlySortedBy-dedup nat_cmp_total (λ x y. grind (arith, nat_tests)) xs sorted in
+      passing_is (meets entries asked event) xs (listed es) (rises (passing (meets entries asked event) xs) (IsStrictlySortedBy-filter nat_cmp (meets entries asked event) (dedup eqb xs) once)) (rises (listed es) ascends)
       (λ z there. (listed_met es up z there, listed_found xs es found z there)) (met_listed es)
 
   pub found_ascends : (entries : BTreeMap ℕ Entry) → IsStrictlySortedBy nat_cmp (keys_of entries.entries) → Ascends (asked_ids asked event (conditions_of entries.entries))

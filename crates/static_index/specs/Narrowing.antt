@@ -1,12 +1,12 @@
--- Ids in order, of which those are kept that pass a test. No public clause cites it.
-use Rattle.std.specs.Prelude.{ℕ, Bool, true, not, ◌==◌, ◌&&◌, if◌then◌else◌, List, [], ◌∷◌, Option, Some, None}
+-- Ids of which those are kept that pass a test. No public clause cites it.
+use Rattle.std.specs.Prelude.{ℕ, Bool, true, not, ◌==◌, List, Option, Some, None}
+use Rattle.std.specs.List.{dedup, filter}
 
--- whether an id isn't the last that was kept
+-- whether an id isn't the one before it, if there is one
 abbrev pub is_other : Option ℕ → ℕ → Bool
 is_other None id = true
-is_other (Some last) id = not (last == id)
+is_other (Some last) id = not (id == last)
 
--- the ids that pass, without those that the last one kept equals
-abbrev pub kept_from : (ℕ → Bool) → Option ℕ → List ℕ → List ℕ
-kept_from test last [] = []
-kept_from test last (id ∷ ids) = if is_other last id && test id then id ∷ kept_from test (Some id) ids else kept_from test last ids
+-- the ids that pass, where equal ones that follow one another count once
+abbrev pub passing : (ℕ → Bool) → List ℕ → List ℕ
+passing test ids = filter test (dedup ◌==◌ ids)
