@@ -6,7 +6,7 @@ use Rattle.std.specs.List.{All, IsDistinct, flat_map, list_any}
 use Rattle.std.specs.Map.{keys_of, lookup, values_of}
 use Rattle.std.proofs.lemmas.Bool.{cases_eq, le-ltb}
 use Rattle.std.proofs.lemmas.List.{map-append}
-use Rattle.std.proofs.lemmas.List.Elements.{All-nil, All-cons, All-contains_itself, All-push, All-same, All-weaker, Contains-append_left, Contains-append_right, Contains-push}
+use Rattle.std.proofs.lemmas.List.Elements.{All-nil, All-cons, All-contains_itself, All-push, All-same, All-weaker, Contains-append_cases, Contains-append_left, Contains-append_right, Contains-push}
 use Rattle.std.proofs.lemmas.List.Folds.{list_any-from_Any}
 use Rattle.std.proofs.lemmas.List.Sorted.{All-permutation, Contains-permutation, IsPermutation-sym, list_any-IsPermutation}
 use Rattle.std.proofs.lemmas.Map.Made.{is_some-lookup}
@@ -125,6 +125,15 @@ module _ (place live oldest : ℕ) (bs : List Bucket) (key : Value) (h : AreBuck
       All-weaker (Contains (keys_in_order bs)) (Contains (keys_in_order (bs ++ new ∷ [])))
       (λ k c. to_order (bs ++ new ∷ []) k (subst (λ (ks : List Value). Contains ks k) (sym (map-append _ bs (new ∷ []))) (Contains-append_left (keys_of bs) (key ∷ []) k (from_order bs k c)))) (keys_in_order bs) (All-contains_itself (keys_in_order bs))
 
+  pub no_other_key : (k : Value) → Contains (keys_in_order (bs ++ new ∷ [])) k → Contains (keys_in_order bs) k ⊎ (key ≡ k)
+  no_other_key k c =
+      go (Contains-append_cases (keys_of bs) (key ∷ []) k (subst (λ (ks : List Value). Contains ks k) (map-append _ bs (new ∷ [])) (from_order (bs ++ new ∷ []) k c)))
+    where
+      go : Contains (keys_of bs) k ⊎ Contains (key ∷ []) k → Contains (keys_in_order bs) k ⊎ (key ≡ k)
+      go (inl old) = inl (to_order bs k old)
+      go (inr (zero, lt, is)) = inr is
+      go (inr (suc n, lt, is)) = absurd (omega arith)
+
   pub new_key : Contains (keys_in_order (bs ++ new ∷ [])) key
   new_key = to_order (bs ++ new ∷ []) key (subst (λ (ks : List Value). Contains ks key) (sym (map-append _ bs (new ∷ []))) (Contains-push (keys_of bs) key))
 
@@ -179,6 +188,14 @@ module _ {X E : Type 0} (place live oldest : ℕ) (bs cs : List Bucket) (key : V
       go : (cs ≡ bs ++ (key, []) ∷ []) ⊎ (cs ≡ bs) → All (Contains (keys_in_order cs)) (keys_in_order bs)
       go (inl e) = subst (λ (xs : List Bucket). All (Contains (keys_in_order xs)) (keys_in_order bs)) (sym e) (more_keys place live oldest bs key h)
       go (inr e) = subst (λ (xs : List Bucket). All (Contains (keys_in_order xs)) (keys_in_order bs)) (sym e) (All-contains_itself (keys_in_order bs))
+
+  -- no other key became ready
+  pub grown_only : (k : Value) → Contains (keys_in_order cs) k → Contains (keys_in_order bs) k ⊎ (key ≡ k)
+  grown_only k became = go grown
+    where
+      go : (cs ≡ bs ++ (key, []) ∷ []) ⊎ (cs ≡ bs) → Contains (keys_in_order bs) k ⊎ (key ≡ k)
+      go (inl e) = no_other_key place live oldest bs key h k (subst (λ (xs : List Bucket). Contains (keys_in_order xs) k) e became)
+      go (inr e) = inl (subst (λ (xs : List Bucket). Contains (keys_in_order xs) k) e became)
 
   pub grown_in_order : in_order cs ≡ in_order bs
   grown_in_order = go grown

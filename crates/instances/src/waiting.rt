@@ -1,5 +1,5 @@
 //! Stores of instances.
-ghost use Rattle.std.specs.Prelude.{◌≡◌, ◌↔◌, ◌+◌, ◌≤◌, ◌^◌, ◌-◌, min, ◌∷◌, ℕ, List, Some, Option, length, All, Any, Contains, IfOk, OnErr, OnOk, IsPermutation};
+ghost use Rattle.std.specs.Prelude.{◌≡◌, ◌↔◌, ◌⊎◌, ◌+◌, ◌≤◌, ◌^◌, ◌-◌, min, ◌∷◌, ℕ, List, Some, Option, length, All, Any, Contains, IfOk, OnErr, OnOk, IsPermutation};
 ghost use Rattle.event_types.specs.declared.value.Value.{Value};
 ghost use Rattle.semantics.specs.Scalars.{Pr};
 ghost use Rattle.scalar_expr.specs.Fits.{AllFit};
@@ -51,6 +51,7 @@ pub trait Waiting {
         requires { BindingFits (key self.old) instance.now.tuple }
         ensures ok { OnOk result (IsReady (key self.old) (ready_keys self.new) instance.now.tuple) }
         ensures more_ready { All (Contains (ready_keys self.new)) (ready_keys self.old) }
+        ensures only { (value : Value) → Contains (ready_keys self.new) value → Contains (ready_keys self.old) value ⊎ HasKey (key self.old) instance.now.tuple value }
         ensures kept { OnErr result (ready_keys self.new ≡ ready_keys self.old) }
         ensures same_instances { instances self.new ≡ instances self.old }
         ensures same_condition { condition self.new ≡ condition self.old }
