@@ -1,6 +1,9 @@
 //! The states to which a key leads.
-ghost use Rattle.std.specs.Prelude.{◌≡◌, ◌≢◌, ℕ, ◌+◌, ◌-◌, ◌^◌, ◌↔◌, ◌⊎◌, [], filter, length, min, true, AllPairs, Contains, IfOk, None, OnErr, OnOk, Some, slice_index_or};
+ghost use Rattle.std.specs.Prelude.{◌≡◌, ◌≢◌, ℕ, ◌+◌, ◌-◌, ◌^◌, ◌↔◌, ◌⊎◌, [], filter, length, min, true, All, AllPairs, Contains, IfOk, None, OnErr, OnOk, Some, slice_index_or};
 ghost use Rattle.event_types.specs.declared.value.Value.{Value};
+ghost use Rattle.std.specs.List.{IsDistinct};
+ghost use Rattle.std.specs.Map.{keys_of};
+ghost use Rattle.binding_index.specs.Among.{is_key};
 ghost use Rattle.binding_index.specs.Entries.{has_any};
 ghost use Rattle.binding_index.specs.Leads.{AreReady, IsLed, Leads, StandOnce, is_ready_at, pairs_of, states_at};
 ghost use Rattle.binding_index.specs.declared.store.Store.{Store};
@@ -57,8 +60,11 @@ impl Directory {
     /// The number of pairs of a key and a state to which it leads, or 2^64-1 where there are more. Takes
     /// no memory.
     pub fn pairs(&self) -> u64
-        ensures { result ≡ min (pairs_of self.now) (2 ^ 64 - 1) }
+        ensures count { result ≡ min (pairs_of self.now) (2 ^ 64 - 1) }
+        ensures distinct { IsDistinct is_key (keys_of self.now) }
     {
+        // `len` is called for its clause that no key comes twice
+        let _len = self.states.len();
         self.pairs
     }
 
@@ -73,9 +79,11 @@ impl Directory {
         Ok(())
     }
 
-    /// Lets no key lead to a state any more where it isn't ready in the state's store. Takes no memory.
+    /// Lets no key lead to a state any more where it isn't ready in the state's store, and forgets the keys that
+    /// lead to none. Takes no memory.
     pub fn sweep(&mut self, stores: &[Option<Store>])
         ensures leads { (key : Value) (number : ℕ) → Leads self.new key number ↔ (Leads self.old key number × (is_ready_at stores.now number key ≡ true)) }
+        ensures all_lead { All (λ entry. has_any entry.1 ≡ true) self.new }
         ensures led { (number : ℕ) (store : Store) → slice_index_or stores.now number None ≡ Some store → AreReady store → IsLed self.old number store → IsLed self.new number store }
     {
         for place in 0..self.states.len() {

@@ -1,6 +1,9 @@
-use Rattle.std.proofs.Common.{rules, arith}
+use Rattle.std.proofs.Common.{◌≡◌, sym, subst, ℕ, true, List, rules, arith}
+use Rattle.std.specs.List.{All}
+use Rattle.std.proofs.lemmas.List.Elements.{filter_passes}
+use Rattle.event_types.specs.declared.value.Value.{Value}
 use Rattle.indexmap.proofs.CallerLemmas.{filter-RetainsPairs}
-use Rattle.binding_index.specs.Entries.{is_live}
+use Rattle.binding_index.specs.Entries.{has_any, is_live}
 use Rattle.binding_index.specs.Leads.{is_ready_at}
 use Rattle.binding_index.proofs.EqualityLemmas.{distinct_keys}
 use Rattle.binding_index.proofs.LeadLemmas.{keep_more, kept_leads, led_swept}
@@ -30,3 +33,9 @@ invariant_of-self c = (
   once_swept (λ key number. is_ready_at c.args.stores.now number key) c.self.inside.states.entries c.loop-place.self-inside.states.entries c.retain.new.self.entries c.loop-place.place c.loop-place.invariant (omega arith)
       (filter-RetainsPairs _ is_live _ (λ k v b w g call. search rules) _ _ c.retain.ensures.filtered) c.self.invariant.1,
 )
+
+-- each key that is left leads to a state
+pub returns-clause-all_lead : goal.returns-clause-all_lead
+returns-clause-all_lead c =
+    let kept = filter-RetainsPairs _ is_live _ (λ k v b w g call. search rules) _ _ c.retain.ensures.filtered in
+    subst (All (λ (entry : Value × List ℕ). has_any entry.1 ≡ true)) (sym kept) (filter_passes is_live c.loop-place.self-inside.states.entries)
