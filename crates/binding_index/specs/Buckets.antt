@@ -45,6 +45,7 @@ IsSplit live buckets = (number : ℕ) (d : Bucket) → number < length buckets �
 abbrev pub IsKeyed : ℕ → Bucket → Type 0
 IsKeyed place bucket = All (λ instance. value_at instance.tuple place ≡ bucket.0) bucket.1
 
+-- each instance of each bucket has the bucket's key
 abbrev pub AreKeyed : ℕ → List Bucket → Type 0
 AreKeyed place buckets = All (IsKeyed place) buckets
 
@@ -52,6 +53,7 @@ AreKeyed place buckets = All (IsKeyed place) buckets
 abbrev pub StartsFrom : ℕ → Bucket → Type 0
 StartsFrom oldest bucket = All (λ instance. oldest ≤ instance.tuple.from) bucket.1
 
+-- no instance of any bucket starts before a time
 abbrev pub StartFrom : ℕ → List Bucket → Type 0
 StartFrom oldest buckets = All (StartsFrom oldest) buckets
 

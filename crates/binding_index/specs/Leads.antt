@@ -37,7 +37,7 @@ ready_in (Some store) = ready_of store
 abbrev pub is_ready_at : List (Option Store) → ℕ → Value → Bool
 is_ready_at stores number key = is_among key (ready_in (slice_index_or stores number None))
 
--- the key of each instance of the store is ready: so it is without instances, and each call keeps it so
+-- the key of each instance of the store is ready
 abbrev pub AreReady : Store → Type 0
 AreReady (Plain store) = ⊤
 AreReady (Keyed store) = All (λ instance. Contains store.ready (value_at instance.tuple store.key.binding)) store.instances
