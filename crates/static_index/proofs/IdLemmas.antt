@@ -1,23 +1,22 @@
 -- Ids in lists.
-use Rattle.std.proofs.Common.{◌≡◌, sym, ℕ, zero, suc, ◌≢◌, inl, inr, List, [], ◌∷◌, length, Contains, arith}
-use Rattle.std.specs.Prelude.{Some, slice_get}
-use Rattle.std.specs.List.{remove}
-use Rattle.std.proofs.lemmas.List.Elements.{Contains-append_cases}
-use Rattle.std.proofs.lemmas.List.Sorted.{Contains-permutation, IsPermutation-remove}
-use Rattle.std.proofs.lemmas.Option.{get_or_from_slice_get, slice_get_within}
+use Rattle.std.proofs.Common.{◌≡◌, ◌∙◌, ap, sym, subst, ℕ, zero, suc, ◌≢◌, inl, inr, Bool, true, false, not, cond, eqb, filter, List, [], ◌∷◌, length, Contains, arith}
+use Rattle.std.proofs.lemmas.Bool.{cases_Bool, eqb-true}
+use Rattle.std.proofs.lemmas.List.Elements.{Contains-append_right}
 
-one_is : (x other : ℕ) → Contains (x ∷ []) other → x ≡ other
-one_is x other (zero, lt, is) = is
-one_is x other (suc k, lt, is) = absurd (omega arith)
-
--- the others stay where one is taken out
-pub Contains-remove : (ids : List ℕ) (place id other : ℕ) → slice_get ids place ≡ Some id → other ≢ id → Contains ids other → Contains (remove ids place) other
-Contains-remove ids place id other at apart has =
-    let moved = IsPermutation-remove ids place id (slice_get_within ids place id at) (sym (get_or_from_slice_get ids place id id at)) in
-    elim (Contains-append_cases (id ∷ []) (remove ids place) other (Contains-permutation ids (id ∷ remove ids place) other moved has)) [
-      | inl here ↦ absurd (apart (sym (one_is id other here)))
-      | inr later ↦ later
-    ]
+-- the others stay where one is taken out, by induction on the ids
+pub others_stay : {id : ℕ} (ids new : List ℕ) → new ≡ filter (λ other. not (eqb other id)) ids → (n : ℕ) → n ≢ id → Contains ids n → Contains new n
+others_stay {id} ids new is n apart has = subst (λ (xs : List ℕ). Contains xs n) (sym is) (go ids has)
+  where
+    go : (xs : List ℕ) → Contains xs n → Contains (filter (λ other. not (eqb other id)) xs) n
+    go [] has = has
+    go (x ∷ xs) (zero, lt, same) =
+        let other : not (eqb x id) ≡ true = elim (cases_Bool (eqb x id)) [ inl one ↦ absurd (apart (sym same ∙ eqb-true x id one)) | inr two ↦ ap not two ] in
+        subst (λ (b : Bool). Contains (cond b (x ∷ filter (λ other. not (eqb other id)) xs) (filter (λ other. not (eqb other id)) xs)) n) (sym other) (0, omega arith, same)
+    go (x ∷ xs) (suc k, lt, is) = later (not (eqb x id)) (go xs (k, omega arith, is))
+      where
+        later : (b : Bool) → Contains (filter (λ other. not (eqb other id)) xs) n → Contains (cond b (x ∷ filter (λ other. not (eqb other id)) xs) (filter (λ other. not (eqb other id)) xs)) n
+        later true there = Contains-append_right (x ∷ []) (filter (λ other. not (eqb other id)) xs) n there
+        later false there = there
 
 -- there is none where the list has no length
 pub none_in : (ids : List ℕ) (id : ℕ) → length ids ≡ 0 → Contains ids id → ⊥

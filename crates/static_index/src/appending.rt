@@ -1,6 +1,6 @@
 //! Lists of ids.
-ghost use Rattle.std.specs.Prelude.{◌≡◌, ◌++◌, Contains, OnOk};
-ghost use Rattle.static_index.specs.Buckets.{KeepsIds, KeepsOtherIds};
+ghost use Rattle.std.specs.Prelude.{◌≡◌, ◌==◌, ◌++◌, not, filter, Contains, OnOk};
+ghost use Rattle.static_index.specs.Buckets.{KeepsIds};
 
 use event_types::{Memory, Numbers};
 
@@ -27,14 +27,17 @@ pub(crate) fn append(found: &mut Numbers, ids: &Numbers) -> Result<(), Memory>
     Ok(())
 }
 
-// Takes out an id where it stands first. The others keep their places.
+// Takes out an id wherever it stands. The others keep their order.
 pub(crate) fn take_out(ids: &mut Numbers, id: usize)
-    ensures { KeepsOtherIds id ids.old ids.new }
+    ensures { ids.new ≡ filter (λ other. not (other == id)) ids.old }
 {
+    let mut kept = 0;
     for place in 0..ids.len() {
-        if *ids.get(place) == id {
-            let _ = ids.remove(place);
-            return;
+        let other = *ids.get(place);
+        if other != id {
+            *ids.get_mut(kept) = other;
+            kept += 1;
         }
     }
+    ids.truncate(kept);
 }

@@ -1,5 +1,6 @@
 use Rattle.static_index.specs.declared.column.Column.{Column}
 use Rattle.static_index.proofs.ColumnLemmas.{column_kept}
+use Rattle.static_index.proofs.IdLemmas.{others_stay}
 use Rattle.static_index.proofs.column.Column.take_compared.Goals as goal
 
 pub returns-in-Eq : goal.returns-in-Eq
@@ -20,4 +21,4 @@ returns-in-Lt c = λ label n apart has.
 pub returns-in-Ne : goal.returns-in-Ne
 returns-in-Ne c = λ label n apart has.
     let new : Column = record { equal = c.args.self.now.equal; above = c.args.self.now.above; below = c.args.self.now.below; others = c.take_out.new.ids; spans = c.args.self.now.spans } in
-    column_kept c.args.self.now new n (λ k h. h) (λ k h. h) (λ k h. h) (λ h. c.take_out.ensures n apart h) (λ span h. h) label has
+    column_kept c.args.self.now new n (λ k h. h) (λ k h. h) (λ k h. h) (λ h. others_stay _ _ c.take_out.ensures n apart h) (λ span h. h) label has
