@@ -1,5 +1,6 @@
 use Rattle.std.proofs.Common.{◌∙◌, ap, sym, subst, ℕ}
 use Rattle.std.specs.List.{All}
+use Rattle.static_index.specs.Choosing.{IsBest}
 use Rattle.static_index.specs.Conditions.{Condition, with_condition}
 use Rattle.static_index.specs.Filing.{IsFiled}
 use Rattle.static_index.specs.FixedParts.{fixed_parts}
@@ -18,6 +19,7 @@ invariant_of-self c =
       filed =
           refiled old c.file.new.self c.args.id entries.entries c.file.ensures.kept
           (apart_all (λ (e : ℕ × Entry). IsFiled old e.0 e.1) c.args.id entries.entries (rw c.self.view_is c.requires) c.self.invariant.filed);
+      best = c.self.invariant.best;
     }
 
 pub invariant_of-self-in-Ok : goal.invariant_of-self-in-Ok
@@ -31,6 +33,9 @@ invariant_of-self-in-Ok c =
     record {
       ordered = c.in-Ok.ensures.ordered;
       filed = subst (All (λ (e : ℕ × Entry). IsFiled new e.0 e.1)) (sym c.in-Ok.ensures.entries) (All-insert (λ (e : ℕ × Entry). IsFiled new e.0 e.1) c.args.id entry entries.entries c.in_ok-file.ensures.ok others);
+      best =
+          subst (All (λ (e : ℕ × Entry). IsBest e.1.choice e.1.parts)) (sym c.in-Ok.ensures.entries)
+          (All-insert (λ (e : ℕ × Entry). IsBest e.1.choice e.1.parts) c.args.id entry entries.entries c.choose-choice.ensures.best c.self.invariant.best);
     }
 
 pub invariant_of-self-in-Err : goal.invariant_of-self-in-Err
@@ -45,6 +50,7 @@ invariant_of-self-in-Err c =
     record {
       ordered = c.in-Err.ensures.ordered;
       filed = subst (All (λ (e : ℕ × Entry). IsFiled new e.0 e.1)) (sym c.in-Err.ensures.err) left;
+      best = subst (All (λ (e : ℕ × Entry). IsBest e.1.choice e.1.parts)) (sym c.in-Err.ensures.err) c.self.invariant.best;
     }
 
 pub returns-in-Ok-clause-ok : goal.returns-in-Ok-clause-ok

@@ -1,6 +1,7 @@
 use Rattle.std.proofs.Common.{◌≢◌, ◌∙◌, ap, sym, subst, ℕ}
 use Rattle.std.specs.List.{All}
 use Rattle.std.proofs.lemmas.List.Elements.{All-weaker}
+use Rattle.static_index.specs.Choosing.{IsBest}
 use Rattle.static_index.specs.Conditions.{without}
 use Rattle.static_index.specs.Filing.{IsFiled}
 use Rattle.static_index.specs.Table.{conditions_of}
@@ -17,6 +18,10 @@ invariant_of-self c =
     record {
       ordered = c.in-Some.ensures.ordered;
       filed = subst (All (λ (e : ℕ × Entry). IsFiled new e.0 e.1)) (sym c.in-Some.ensures.entries) left;
+      best =
+          subst (All (λ (e : ℕ × Entry). IsBest e.1.choice e.1.parts)) (sym c.in-Some.ensures.entries)
+          (All-weaker (λ (e : ℕ × Entry). (e.0 ≢ c.args.id) × IsBest e.1.choice e.1.parts) (λ e. IsBest e.1.choice e.1.parts) (λ e h. h.1) _
+          (apart_removed (λ (e : ℕ × Entry). IsBest e.1.choice e.1.parts) c.args.id c.self.inside.entries.entries c.self.invariant.ordered c.self.invariant.best));
     }
 
 pub invariant_of-self-in_default : goal.invariant_of-self-in_default
@@ -27,6 +32,10 @@ invariant_of-self-in_default c =
     record {
       ordered = c.in_default.ensures.ordered;
       filed = subst (All (λ (e : ℕ × Entry). IsFiled old e.0 e.1)) (sym c.in_default.ensures.entries) left;
+      best =
+          subst (All (λ (e : ℕ × Entry). IsBest e.1.choice e.1.parts)) (sym c.in_default.ensures.entries)
+          (All-weaker (λ (e : ℕ × Entry). (e.0 ≢ c.args.id) × IsBest e.1.choice e.1.parts) (λ e. IsBest e.1.choice e.1.parts) (λ e h. h.1) _
+          (apart_removed (λ (e : ℕ × Entry). IsBest e.1.choice e.1.parts) c.args.id c.self.inside.entries.entries c.self.invariant.ordered c.self.invariant.best));
     }
 
 pub returns-in-Some : goal.returns-in-Some
