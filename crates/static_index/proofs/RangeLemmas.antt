@@ -1,5 +1,5 @@
 -- Buckets between two bounds.
-use Rattle.std.proofs.Common.{◌≡◌, ◌∙◌, ap, refl, sym, subst, ℕ, ℤ, pos, ◌-ℤ◌, ◌≤ℤ◌, ◌<ℤ◌, Bool, true, false, not, ◌&&◌, cond, List, [], ◌∷◌, Contains, arith}
+use Rattle.std.proofs.Common.{◌≡◌, ◌∙◌, ap, refl, sym, subst, ℕ, ℤ, pos, ◌-ℤ◌, ◌≤ℤ◌, ◌<ℤ◌, Bool, true, false, not, ◌&&◌, cond, ◌⊎◌, inl, inr, List, [], ◌∷◌, ◌++◌, Contains, arith}
 use Rattle.std.specs.Prelude.{Some}
 use Rattle.std.specs.declared.cmp.Ordering.{Ordering}
 use Rattle.std.specs.declared.cmp.Ordering.TheVariants.{Less, Equal, Greater}
@@ -13,13 +13,13 @@ use Rattle.std.specs.BTreeMap.Range.{range_contains, entries_between}
 use Rattle.std.specs.List.{flat_map}
 use Rattle.std.specs.Map.{lookup}
 use Rattle.std.proofs.lemmas.Int.{ints}
-use Rattle.std.proofs.lemmas.List.Elements.{Contains-append_left, Contains-append_right}
+use Rattle.std.proofs.lemmas.List.Elements.{Contains-append_cases, Contains-append_left, Contains-append_right}
 use Rattle.event_types.specs.declared.comparison.Cmp.{Cmp}
 use Rattle.event_types.specs.declared.comparison.Cmp.TheVariants.{Ge, Le}
 use Rattle.event_types.specs.declared.value.Value.{Value}
 use Rattle.event_types.specs.declared.value.Value.TheVariants as value
 use Rattle.semantics.specs.Truth.{is_met, order_of}
-use Rattle.static_index.specs.Buckets.{ids_in, ordered}
+use Rattle.static_index.specs.Buckets.{IsAmongMet, ids_in, ordered}
 use Rattle.static_index.specs.Spans.{IsNear}
 use Rattle.static_index.proofs.BucketLemmas.{ordered_exact}
 use Rattle.static_index.proofs.IdLemmas.{none_of_nil}
@@ -42,6 +42,70 @@ module _ (low high : Bound Value) (lit : Value) (n : ℕ) where
           subst (λ (b : Bool). Contains (flat_map (λ e. e.1) (cond b (e ∷ entries_between ordered low high es) (entries_between ordered low high es))) n) (sym here)
           (Contains-append_left e.1 (flat_map (λ e. e.1) (entries_between ordered low high es)) n there)
       go false is there rest = kept (range_contains ordered low high e.0) (rest there)
+
+-- an id among those of the buckets between the bounds is in one of them, by induction on the buckets
+module _ (low high : Bound Value) (n : ℕ) where
+  abbrev pub IsOfOne : List (Value × List ℕ) → Type 0
+  IsOfOne es = (bucket : Value × List ℕ) × Contains es bucket × (range_contains ordered low high bucket.0 ≡ true) × Contains bucket.1 n
+
+  pub of_between : (es : List (Value × List ℕ)) → Contains (flat_map (λ e. e.1) (entries_between ordered low high es)) n → IsOfOne es
+  of_between [] has = absurd (none_of_nil n has)
+  of_between (e ∷ es) has = go (range_contains ordered low high e.0) refl has (of_between es)
+    where
+      later : IsOfOne es → IsOfOne (e ∷ es)
+      later one = (one.0, Contains-append_right (e ∷ []) es one.0 one.1, one.2, one.3)
+
+      here : range_contains ordered low high e.0 ≡ true → Contains e.1 n → IsOfOne (e ∷ es)
+      here within has = (e, (0, omega arith, refl), within, has)
+
+      go : (b : Bool) → range_contains ordered low high e.0 ≡ b → Contains (flat_map (λ e. e.1) (cond b (e ∷ entries_between ordered low high es) (entries_between ordered low high es))) n
+          → (Contains (flat_map (λ e. e.1) (entries_between ordered low high es)) n → IsOfOne es) → IsOfOne (e ∷ es)
+      go true is has rest =
+          elim (Contains-append_cases e.1 (flat_map (λ e. e.1) (entries_between ordered low high es)) n has) [
+            | inl first ↦ here is first
+            | inr others ↦ later (rest others)
+          ]
+      go false is has rest = later (rest has)
+
+  -- where what lies between the bounds is met, so is what is found among it
+  pub only_met : (c : Cmp) (value : Value) → ((lit : Value) → range_contains ordered low high lit ≡ true → is_met c (order_of value lit) ≡ true) → (es : List (Value × List ℕ)) (old : List ℕ)
+      → Contains (old ++ flat_map (λ e. e.1) (entries_between ordered low high es)) n → Contains old n ⊎ IsAmongMet c value es n
+  only_met c value met es old has =
+      elim (Contains-append_cases old (flat_map (λ e. e.1) (entries_between ordered low high es)) n has) [
+        | inl before ↦ inl before
+        | inr among ↦ let one = of_between es among in inr (one.0, one.1, met one.0.0 one.2, one.3)
+      ]
+
+not_below : (o : Ordering) → not (is_lt o) ≡ true → is_ge o ≡ true
+not_below Less e = absurd (cc)
+not_below Equal e = refl
+not_below Greater e = refl
+
+first_of : (b c : Bool) → (b && c) ≡ true → b ≡ true
+first_of true c e = refl
+first_of false c e = absurd (cc)
+
+-- literals up to a number, or a text, are reached from above
+pub number_up_to : (x : ℤ) (lit : Value) → range_contains ordered Unbounded (Included (value.Int x)) lit ≡ true → is_met Ge (order_of (value.Int x) lit) ≡ true
+number_up_to x (value.Int y) e = not_below (int_cmp x y) e
+number_up_to x value.Over e = absurd (cc)
+number_up_to x (value.Text y) e = absurd (cc)
+
+pub text_up_to : (x : List ℕ) (lit : Value) → range_contains ordered (Excluded value.Over) (Included (value.Text x)) lit ≡ true → is_met Ge (order_of (value.Text x) lit) ≡ true
+text_up_to x (value.Int y) e = absurd (cc)
+text_up_to x value.Over e = absurd (cc)
+text_up_to x (value.Text y) e = not_below (slice_cmp nat_cmp x y) e
+
+-- literals from a number, or a text, on are reached from below
+pub number_from : (x : ℤ) (lit : Value) → range_contains ordered (Included (value.Int x)) (Excluded value.Over) lit ≡ true → is_met Le (order_of (value.Int x) lit) ≡ true
+number_from x (value.Int y) e = first_of (is_le (int_cmp x y)) true e
+number_from x value.Over e = absurd (cc)
+number_from x (value.Text y) e = absurd (cc)
+
+pub text_from : (x : List ℕ) (lit : Value) → range_contains ordered (Included (value.Text x)) Unbounded lit ≡ true → is_met Le (order_of (value.Text x) lit) ≡ true
+text_from x (value.Int y) e = absurd (cc)
+text_from x value.Over e = absurd (cc)
+text_from x (value.Text y) e = first_of (is_le (slice_cmp nat_cmp x y)) true e
 
 at_least : (o : Ordering) → is_ge o ≡ true → not (is_lt o) ≡ true
 at_least Less e = absurd (cc)

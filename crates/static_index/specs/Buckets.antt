@@ -1,5 +1,5 @@
 -- Ids in buckets by a literal. No public clause cites it.
-use Rattle.std.specs.Prelude.{◌≡◌, ◌≢◌, ℕ, Bool, true, List, [], Option, Contains}
+use Rattle.std.specs.Prelude.{◌≡◌, ◌≢◌, ◌⊎◌, ℕ, Bool, true, List, [], Option, Contains}
 use Rattle.std.specs.declared.cmp.Ordering.{Ordering}
 use Rattle.std.specs.BTreeMap as tree
 use Rattle.std.specs.HashMap as hash
@@ -45,9 +45,17 @@ hashed_ids buckets lit = ids_in (hash.get equals buckets lit)
 abbrev pub ordered_ids : BTreeMap Value (List ℕ) → Value → List ℕ
 ordered_ids buckets lit = ids_in (tree.get ordered buckets lit)
 
+-- an id is in the bucket of a literal with which a value meets a comparison
+abbrev pub IsAmongMet : Cmp → Value → List (Value × List ℕ) → ℕ → Type 0
+IsAmongMet cmp value buckets n = (bucket : Value × List ℕ) × Contains buckets bucket × (is_met cmp (order_of value bucket.0) ≡ true) × Contains bucket.1 n
+
 -- each id of a literal with which a value meets a comparison is found
 abbrev pub FindsMet : Cmp → Value → BTreeMap Value (List ℕ) → List ℕ → Type 0
 FindsMet cmp value buckets found = (lit : Value) (n : ℕ) → is_met cmp (order_of value lit) ≡ true → Contains (ordered_ids buckets lit) n → Contains found n
+
+-- an id that is found was there, or is in the bucket of a literal with which a value meets a comparison
+abbrev pub FindsOnlyMet : Cmp → Value → BTreeMap Value (List ℕ) → List ℕ → List ℕ → Type 0
+FindsOnlyMet cmp value buckets old new = (n : ℕ) → Contains new n → Contains old n ⊎ IsAmongMet cmp value buckets.entries n
 
 -- a bound that is looked at in place
 abbrev pub bound_seen : Bound (Bor Value) → Bound Value

@@ -3,7 +3,7 @@ ghost use Rattle.std.specs.Prelude.{◌≡◌, ◌++◌, pos, ◌-ℤ◌, Contai
 ghost use Rattle.event_types.specs.declared.value.Value.{Value};
 ghost use Rattle.std.specs.BTreeMap.Range.{IsLeBy, IsLtBy};
 ghost use Rattle.std.specs.Bound.{IsForward};
-ghost use Rattle.static_index.specs.Buckets.{FindsMet, KeepsIds, KeepsOtherIds, bound_seen, ids_between, ordered, ordered_ids};
+ghost use Rattle.static_index.specs.Buckets.{FindsMet, FindsOnlyMet, KeepsIds, KeepsOtherIds, bound_seen, ids_between, ordered, ordered_ids};
 ghost use Rattle.static_index.specs.Spans.{FindsNear};
 ghost use Rattle.event_types.specs.declared.comparison.Cmp.TheVariants.{Ge, Le};
 
@@ -57,6 +57,7 @@ pub(crate) fn collect_up_to(
 ) -> Result<(), Memory>
     ensures kept { OnOk result (KeepsIds found.old found.new) }
     ensures found { OnOk result (FindsMet Ge value.now buckets.now found.new) }
+    ensures only { OnOk result (FindsOnlyMet Ge value.now buckets.now found.old found.new) }
 {
     let over = Value::Over;
     match value {
@@ -79,6 +80,7 @@ pub(crate) fn collect_from(
 ) -> Result<(), Memory>
     ensures kept { OnOk result (KeepsIds found.old found.new) }
     ensures found { OnOk result (FindsMet Le value.now buckets.now found.new) }
+    ensures only { OnOk result (FindsOnlyMet Le value.now buckets.now found.old found.new) }
 {
     let over = Value::Over;
     match value {
