@@ -1,24 +1,25 @@
 -- The order of values and of tuples, and tuples in that order.
-use Rattle.std.specs.Prelude.{if◌then◌else◌, List, [], ◌∷◌}
-use Rattle.std.specs.Ordering.{nat_cmp, int_cmp, is_gt, then_cmp, on}
+use Rattle.std.specs.Prelude.{ℕ, if◌then◌else◌, List, [], ◌∷◌}
+use Rattle.std.specs.Ordering.{nat_cmp, int_cmp, is_gt, ordering_then, then_cmp, on}
 use Rattle.std.specs.declared.cmp.Ordering.{Ordering}
-use Rattle.std.specs.declared.cmp.Ordering.TheVariants.{Less, Greater, Equal}
 use Rattle.std.specs.Cmp.Lexicographic.{slice_cmp}
 use Rattle.event_types.specs.declared.value.Value.{Value}
-use Rattle.event_types.specs.declared.value.Value.TheVariants.{Int, Over, Text}
+use Rattle.event_types.specs.declared.value.Value.TheVariants.{Int, Over, Text, Dec}
 use Rattle.event_types.specs.Tuple.{Row}
 
--- numbers by size, then OVER, then texts by bytes
+-- the place of a value's sort in the order: whole numbers, decimals, OVER, texts
+abbrev pub value_place : Value → ℕ
+value_place (Int x) = 0
+value_place (Dec scale units) = 1
+value_place Over = 2
+value_place (Text x) = 3
+
+-- whole numbers by size, then decimals by scale and units, then OVER, then texts by bytes
 abbrev pub value_cmp : Value → Value → Ordering
 value_cmp (Int x) (Int y) = int_cmp x y
-value_cmp (Int x) Over = Less
-value_cmp (Int x) (Text y) = Less
-value_cmp Over (Int y) = Greater
-value_cmp Over Over = Equal
-value_cmp Over (Text y) = Less
-value_cmp (Text x) (Int y) = Greater
-value_cmp (Text x) Over = Greater
+value_cmp (Dec s x) (Dec t y) = ordering_then (nat_cmp s t) (int_cmp x y)
 value_cmp (Text x) (Text y) = slice_cmp nat_cmp x y
+value_cmp x y = nat_cmp (value_place x) (value_place y)
 
 -- by start, then by the values from left to right with the shorter list first, then by detection
 abbrev pub tuple_cmp : Row → Row → Ordering

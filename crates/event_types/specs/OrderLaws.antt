@@ -1,37 +1,35 @@
 -- The order of tuples is total, and tuples that tie are one. No contract cites these; impls of the order and proofs do.
-use Rattle.std.proofs.Common.{◌≡◌, ap, subst, refl, List, [], ◌∷◌, ℕ, ℤ, pos}
+use Rattle.std.proofs.Common.{◌≡◌, ap, subst, refl, true, List, [], ◌∷◌, ℕ, ℤ, pos}
 use Rattle.std.specs.declared.cmp.Ordering.{Ordering}
 use Rattle.std.specs.declared.cmp.Ordering.TheVariants.{Less, Equal, Greater}
-use Rattle.std.specs.Ordering.{nat_cmp, int_cmp, ordering_then, then_cmp, on}
+use Rattle.std.specs.Ordering.{nat_cmp, int_cmp, is_eq, eq_by_cmp, ordering_then, then_cmp, on}
 use Rattle.std.specs.Cmp.{IsTotalOrder}
 use Rattle.std.specs.Cmp.Lexicographic.{slice_cmp}
 use Rattle.std.proofs.lemmas.Cmp.{on_total, then_total, nat_cmp_total, int_cmp_total, nat_list_cmp_total, lists_total}
 use Rattle.std.proofs.lemmas.Map.Lookups.{CmpEqualImpliesEq, exact_unsigned, exact_signed, exact_bytes}
 use Rattle.event_types.specs.declared.value.Value.{Value}
-use Rattle.event_types.specs.declared.value.Value.TheVariants.{Int, Over, Text}
-use Rattle.event_types.specs.Order.{value_cmp, tuple_cmp}
+use Rattle.event_types.specs.declared.value.Value.TheVariants.{Int, Over, Text, Dec}
+use Rattle.event_types.specs.Order.{value_place, value_cmp, tuple_cmp}
 
--- numbers come first, then OVER, then texts
-abbrev rank : Value → ℕ
-rank (Int x) = 0
-rank Over = 1
-rank (Text x) = 2
+-- the scale of a value, where it is a decimal
+abbrev scale : Value → ℕ
+scale (Dec s x) = s
+scale v = 0
 
--- the number of a value, where it is one
+-- the number or the units of a value, where it has them
 abbrev number : Value → ℤ
 number (Int x) = x
-number Over = pos 0
-number (Text x) = pos 0
+number (Dec s x) = x
+number v = pos 0
 
 -- the bytes of a value, where it is a text
 abbrev bytes : Value → List ℕ
-bytes (Int x) = []
-bytes Over = []
 bytes (Text x) = x
+bytes v = []
 
--- the order of values as one by rank, then by number, then by bytes
+-- the order of values as one by place, then by scale, then by number, then by bytes
 abbrev ranked_cmp : Value → Value → Ordering
-ranked_cmp = then_cmp (on rank nat_cmp) (then_cmp (on number int_cmp) (on bytes (slice_cmp nat_cmp)))
+ranked_cmp = then_cmp (on value_place nat_cmp) (then_cmp (on scale nat_cmp) (then_cmp (on number int_cmp) (on bytes (slice_cmp nat_cmp))))
 
 -- what ties behind it changes no order
 ordering_then-equal : (o : Ordering) → ordering_then o Equal ≡ o
@@ -42,18 +40,14 @@ ordering_then-equal Greater = refl
 -- which is the order of values
 ranked_is : (x y : Value) → ranked_cmp x y ≡ value_cmp x y
 ranked_is (Int x) (Int y) = ordering_then-equal (int_cmp x y)
-ranked_is (Int x) Over = refl
-ranked_is (Int x) (Text y) = refl
-ranked_is Over (Int y) = refl
-ranked_is Over Over = refl
-ranked_is Over (Text y) = refl
-ranked_is (Text x) (Int y) = refl
-ranked_is (Text x) Over = refl
+ranked_is (Dec s x) (Dec t y) = ap (ordering_then (nat_cmp s t)) (ordering_then-equal (int_cmp x y))
 ranked_is (Text x) (Text y) = refl
+ranked_is Over Over = refl
+ranked_is x y = refl
 
 -- it is total
 ranked_total : IsTotalOrder ranked_cmp
-ranked_total = then_total (on_total rank nat_cmp_total) (then_total (on_total number int_cmp_total) (on_total bytes nat_list_cmp_total))
+ranked_total = then_total (on_total value_place nat_cmp_total) (then_total (on_total scale nat_cmp_total) (then_total (on_total number int_cmp_total) (on_total bytes nat_list_cmp_total)))
 
 -- the order of values is total
 pub value_total : IsTotalOrder value_cmp
@@ -72,9 +66,20 @@ both_equal Greater p e = cc
 -- values that tie are one
 pub value_exact : CmpEqualImpliesEq value_cmp
 value_exact (Int x) (Int y) e = ap Int (exact_signed x y e)
+value_exact (Dec s x) (Dec t y) e =
+    let both = both_equal (nat_cmp s t) (int_cmp x y) e in λ i. Dec (exact_unsigned s t both.0 i) (exact_signed x y both.1 i)
 value_exact Over Over e = refl
 value_exact (Text x) (Text y) e = ap Text (exact_bytes x y e)
 value_exact x y e = cc
+
+-- so are values that are equal by it
+pub tied_values : (x y : Value) → eq_by_cmp value_cmp x y ≡ true → x ≡ y
+tied_values x y e = value_exact x y (tie (value_cmp x y) e)
+  where
+    tie : (o : Ordering) → is_eq o ≡ true → o ≡ Equal
+    tie Less e = cc
+    tie Equal e = refl
+    tie Greater e = cc
 
 -- lists that tie are one, where their items that tie are
 pub lists_exact : {X : Type 0} (R : X → X → Ordering) → CmpEqualImpliesEq R → (xs ys : List X) → slice_cmp R xs ys ≡ Equal → xs ≡ ys

@@ -9,3 +9,4 @@ abbrev pub seen : ValueRef → Value
 seen (look.Int number) = value.Int number
 seen look.Over = value.Over
 seen (look.Text text) = value.Text text.now
+seen (look.Dec decimal) = value.Dec decimal.scale decimal.units

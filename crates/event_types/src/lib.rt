@@ -5,6 +5,7 @@
 #![tactic(auto)]
 
 mod comparison;
+mod decimal;
 mod kind;
 mod list;
 mod memory;
@@ -13,6 +14,7 @@ mod tuple;
 mod value;
 
 pub use comparison::Cmp;
+pub use decimal::Dec;
 pub use kind::{Kind, KindLists, Kinds};
 pub use list::{Copied, List, Numbers};
 pub use memory::Memory;

@@ -1,6 +1,6 @@
 //! What no clause says: that memory is had, and that the orders are the ones that are meant.
 use crate::{
-    BadSpan, Copied, List, Memory, Numbers, Text, Tuple, Tuples, Vals, Value, ValueRef,
+    BadSpan, Copied, Dec, Kind, List, Memory, Numbers, Text, Tuple, Tuples, Vals, Value, ValueRef,
     put_in_order,
 };
 use std::alloc::Global;
@@ -35,7 +35,9 @@ fn tuple_of(
 }
 
 #[test]
-fn numbers_come_by_size_then_over_then_texts_by_bytes(rt: HostRuntime) -> Result<(), Fail> {
+fn numbers_come_by_size_then_decimals_then_over_then_texts_by_bytes(
+    rt: HostRuntime,
+) -> Result<(), Fail> {
     let rising = list_of(
         &rt,
         rt.alloc(),
@@ -44,6 +46,24 @@ fn numbers_come_by_size_then_over_then_texts_by_bytes(rt: HostRuntime) -> Result
             ValueRef::Int(-1),
             ValueRef::Int(0),
             ValueRef::Int(170141183460469231731687303715884105727),
+            ValueRef::Dec(Dec { scale: 0, units: 7 }),
+            ValueRef::Dec(Dec {
+                scale: 1,
+                units: -170141183460469231731687303715884105728,
+            }),
+            ValueRef::Dec(Dec {
+                scale: 1,
+                units: 170141183460469231731687303715884105727,
+            }),
+            ValueRef::Dec(Dec {
+                scale: 2,
+                units: -1,
+            }),
+            ValueRef::Dec(Dec { scale: 2, units: 0 }),
+            ValueRef::Dec(Dec {
+                scale: 18,
+                units: -9,
+            }),
             ValueRef::Over,
             ValueRef::Text(""),
             ValueRef::Text("10"),
@@ -146,7 +166,15 @@ fn copies_are_equal(rt: HostRuntime) -> Result<(), Fail> {
     let alloc = rt.alloc();
     let text = Text::make(alloc, "café")?;
     assert_eq!(rt; text.copied(alloc)?.as_str(), "café");
-    let looks = [ValueRef::Int(-3), ValueRef::Over, ValueRef::Text("café")];
+    let looks = [
+        ValueRef::Int(-3),
+        ValueRef::Dec(Dec {
+            scale: 2,
+            units: -5,
+        }),
+        ValueRef::Over,
+        ValueRef::Text("café"),
+    ];
     let vals = list_of(&rt, alloc, &looks)?;
     let same = vals.copied(alloc)?;
     assert!(rt; same == vals && same.cmp(&vals).is_eq());
@@ -154,5 +182,18 @@ fn copies_are_equal(rt: HostRuntime) -> Result<(), Fail> {
     let tuple = tuple_of(&rt, alloc, 1, &[4, 5], 3)?.copied(alloc)?;
     assert!(rt; tuple == tuple_of(&rt, alloc, 1, &[4, 5], 3)?);
     assert!(rt; tuple != tuple_of(&rt, alloc, 1, &[4, 5], 4)?);
+    Ok(())
+}
+
+#[test]
+fn kind_is_written_as_in_a_declaration(rt: HostRuntime) -> Result<(), Fail> {
+    for (kind, word) in [
+        (Kind::Int, "INT"),
+        (Kind::Text, "TEXT"),
+        (Kind::Dec(0), "DEC 0"),
+        (Kind::Dec(18), "DEC 18"),
+    ] {
+        assert_eq!(rt; kind.to_string(rt.alloc())?.as_str(), word);
+    }
     Ok(())
 }

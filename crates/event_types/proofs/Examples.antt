@@ -1,0 +1,72 @@
+-- Examples of the order of values, each worked out by hand. No contract cites them.
+use Rattle.std.proofs.Common.{◌≡◌, refl, ◌-◌, ◌^◌, pos, negsuc, [], ◌∷◌}
+use Rattle.std.specs.Prelude.{codes}
+use Rattle.std.specs.declared.cmp.Ordering.TheVariants.{Less, Equal, Greater}
+use Rattle.event_types.specs.declared.value.Value.{Value}
+use Rattle.event_types.specs.declared.value.Value.TheVariants.{Int, Over, Text, Dec}
+use Rattle.event_types.specs.Order.{value_cmp}
+
+-- the ends of the whole numbers
+abbrev largest : Value
+largest = Int (pos (2 ^ 127 - 1))
+
+abbrev least : Value
+least = Int (negsuc (2 ^ 127 - 1))
+
+-- whole numbers by size
+least_is_below_largest : value_cmp least largest ≡ Less
+least_is_below_largest = refl
+
+minus_one_is_below_none : value_cmp (Int (negsuc 0)) (Int (pos 0)) ≡ Less
+minus_one_is_below_none = refl
+
+-- the largest whole number stands before the least decimal
+numbers_come_before_decimals : value_cmp largest (Dec 0 (negsuc (2 ^ 127 - 1))) ≡ Less
+numbers_come_before_decimals = refl
+
+decimals_come_after_numbers : value_cmp (Dec 0 (negsuc (2 ^ 127 - 1))) largest ≡ Greater
+decimals_come_after_numbers = refl
+
+-- the scale comes first: the largest units of scale 1 stand before the least of scale 2
+scale_comes_before_units : value_cmp (Dec 1 (pos (2 ^ 127 - 1))) (Dec 2 (negsuc (2 ^ 127 - 1))) ≡ Less
+scale_comes_before_units = refl
+
+-- and in one scale the units: -0.01 before 0.00, which equals itself
+units_come_by_size : value_cmp (Dec 2 (negsuc 0)) (Dec 2 (pos 0)) ≡ Less
+units_come_by_size = refl
+
+equal_units_tie : value_cmp (Dec 2 (pos 0)) (Dec 2 (pos 0)) ≡ Equal
+equal_units_tie = refl
+
+-- 1.0 and 1.00 are two values
+scales_tell_apart : value_cmp (Dec 1 (pos 10)) (Dec 2 (pos 100)) ≡ Less
+scales_tell_apart = refl
+
+-- OVER stands after each number and each decimal, and before the empty text
+over_comes_after_numbers : value_cmp largest Over ≡ Less
+over_comes_after_numbers = refl
+
+over_comes_after_decimals : value_cmp (Dec 18 (pos (2 ^ 127 - 1))) Over ≡ Less
+over_comes_after_decimals = refl
+
+decimals_come_before_over : value_cmp Over (Dec 18 (pos (2 ^ 127 - 1))) ≡ Greater
+decimals_come_before_over = refl
+
+over_ties_with_over : value_cmp Over Over ≡ Equal
+over_ties_with_over = refl
+
+texts_come_after_over : value_cmp Over (Text []) ≡ Less
+texts_come_after_over = refl
+
+-- texts stand after all, by bytes, a prefix first
+texts_come_after_numbers : value_cmp (Text []) largest ≡ Greater
+texts_come_after_numbers = refl
+
+texts_come_after_decimals : value_cmp (Text []) (Dec 18 (pos (2 ^ 127 - 1))) ≡ Greater
+texts_come_after_decimals = refl
+
+texts_come_by_bytes : value_cmp (Text (codes "10")) (Text (codes "9")) ≡ Less
+texts_come_by_bytes = refl
+
+prefix_comes_first : value_cmp (Text (codes "a")) (Text (codes "a0")) ≡ Less
+prefix_comes_first = refl
