@@ -1,4 +1,5 @@
 pub mod Examples
+pub mod KindLemmas
 pub mod ListLemmas
 pub mod ReadingLemmas
 pub mod ReportLemmas

@@ -1,5 +1,5 @@
 -- The kinds of values, tuples and streams.
-use Rattle.std.specs.Prelude.{◌≡◌, ℕ, ◌<◌, List, map}
+use Rattle.std.specs.Prelude.{◌≡◌, ⊤, ℕ, ◌<◌, List, [], ◌∷◌}
 use Rattle.std.specs.List.{All}
 use Rattle.event_types.specs.declared.kind.Kind.{Kind}
 use Rattle.event_types.specs.declared.kind.Kind.TheVariants as kind
@@ -8,15 +8,32 @@ use Rattle.event_types.specs.declared.value.Value.TheVariants as value
 use Rattle.event_types.specs.Tuple.{Row}
 use Rattle.semantics.specs.Denotation.{Streams}
 
--- the kind of a value; OVER counts as a number
+-- the kind of a value; OVER by itself counts as a whole number
 abbrev pub value_kind : Value → Kind
 value_kind (value.Int number) = kind.Int
 value_kind value.Over = kind.Int
 value_kind (value.Text text) = kind.Text
+value_kind (value.Dec scale units) = kind.Dec scale
+
+-- OVER is of each kind but TEXT
+abbrev pub TakesOver : Kind → Type 0
+TakesOver kind.Text = ⊥
+TakesOver k = ⊤
+
+-- the value is of this kind
+abbrev pub IsOf : Kind → Value → Type 0
+IsOf k value.Over = TakesOver k
+IsOf k v = value_kind v ≡ k
+
+-- the values are of these kinds, one by one
+abbrev pub AreOf : List Kind → List Value → Type 0
+AreOf [] [] = ⊤
+AreOf (k ∷ kinds) (v ∷ vals) = IsOf k v × AreOf kinds vals
+AreOf kinds vals = ⊥
 
 -- the values of the tuple have these kinds, one by one
 abbrev pub HasKinds : List Kind → Row → Type 0
-HasKinds kinds tuple = map value_kind tuple.vals ≡ kinds
+HasKinds kinds tuple = AreOf kinds tuple.vals
 
 -- each tuple of the first so many streams has the kinds of its stream
 abbrev pub HaveKinds : (ℕ → List Kind) → ℕ → Streams → Type 0
