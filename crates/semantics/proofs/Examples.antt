@@ -7,7 +7,7 @@ use Rattle.event_types.specs.declared.comparison.Cmp.TheVariants as cmp
 use Rattle.event_types.specs.declared.value.Value.{Value}
 use Rattle.event_types.specs.declared.value.Value.TheVariants as value
 use Rattle.event_types.specs.Tuple.{Row}
-use Rattle.semantics.specs.Scalars.{Sc, Lit, Event, Binding, Dur, Two, Add, Sub, Mul, Min, Max, Pr, Test, Not}
+use Rattle.semantics.specs.Scalars.{Sc, Lit, Event, Binding, Dur, Two, Add, Sub, Mul, Min, Max, Pr, Test, Not, Op}
 use Rattle.semantics.specs.Values.{val}
 use Rattle.semantics.specs.Truth.{truth}
 use Rattle.semantics.specs.Nexts.{is_eligible, nexts}
@@ -17,7 +17,7 @@ use Rattle.semantics.specs.Denotation.{Streams, denote}
 use Rattle.semantics.specs.Histories.{Heard, times}
 use Rattle.semantics.specs.Programs.{Program, Query}
 use Rattle.semantics.specs.Results.{results}
-use Rattle.semantics.specs.Report.{quoted, line, report}
+use Rattle.semantics.specs.Report.{decimal_text, quoted, line, report}
 
 -- a literal number
 abbrev number : ℕ → Sc
@@ -65,6 +65,84 @@ least_of_over_is_over = refl
 
 greatest_of_two : val (Two Max (number 3) (Lit (value.Int (negsuc 6)))) (tuple 0 1 1) None ≡ value.Int (pos 3)
 greatest_of_two = refl
+
+-- a literal decimal of 2 places, as 150 for 1.50
+abbrev cents : ℕ → Sc
+cents n = Lit (value.Dec 2 (pos n))
+
+-- the value of an operation on two literals
+abbrev of_two : Op → Value → Value → Value
+of_two op x y = val (Two op (Lit x) (Lit y)) (tuple 0 1 1) None
+
+-- sums and differences are of the units: 1.50 + 0.55 is 2.05, and 0.05 - 0.10 is -0.05
+sum_of_decimals : of_two Add (value.Dec 2 (pos 150)) (value.Dec 2 (pos 55)) ≡ value.Dec 2 (pos 205)
+sum_of_decimals = refl
+
+difference_of_decimals : of_two Sub (value.Dec 2 (pos 5)) (value.Dec 2 (pos 10)) ≡ value.Dec 2 (negsuc 4)
+difference_of_decimals = refl
+
+smaller_of_decimals : of_two Min (value.Dec 2 (negsuc 4)) (value.Dec 2 (pos 3)) ≡ value.Dec 2 (negsuc 4)
+smaller_of_decimals = refl
+
+larger_of_decimals : of_two Max (value.Dec 2 (negsuc 4)) (value.Dec 2 (pos 3)) ≡ value.Dec 2 (pos 3)
+larger_of_decimals = refl
+
+-- of two scales, or of a decimal and a whole number, there is none of these
+sum_of_two_scales_is_over : of_two Add (value.Dec 1 (pos 15)) (value.Dec 2 (pos 150)) ≡ value.Over
+sum_of_two_scales_is_over = refl
+
+least_of_two_scales_is_over : of_two Min (value.Dec 1 (pos 15)) (value.Dec 2 (pos 150)) ≡ value.Over
+least_of_two_scales_is_over = refl
+
+sum_with_a_whole_number_is_over : of_two Add (value.Dec 0 (pos 1)) (value.Int (pos 1)) ≡ value.Over
+sum_with_a_whole_number_is_over = refl
+
+-- a product has the places of both: 1.5 * 0.25 is 0.375, and 3 * 0.25 is 0.75
+product_of_decimals : of_two Mul (value.Dec 1 (pos 15)) (value.Dec 2 (pos 25)) ≡ value.Dec 3 (pos 375)
+product_of_decimals = refl
+
+product_with_a_whole_number : of_two Mul (value.Int (pos 3)) (value.Dec 2 (pos 25)) ≡ value.Dec 2 (pos 75)
+product_with_a_whole_number = refl
+
+product_by_a_whole_number : of_two Mul (value.Dec 2 (negsuc 24)) (value.Int (pos 3)) ≡ value.Dec 2 (negsuc 74)
+product_by_a_whole_number = refl
+
+-- 18 places are there, and 19 aren't
+product_of_eighteen_places : of_two Mul (value.Dec 9 (pos 2)) (value.Dec 9 (pos 3)) ≡ value.Dec 18 (pos 6)
+product_of_eighteen_places = refl
+
+product_of_nineteen_places_is_over : of_two Mul (value.Dec 10 (pos 2)) (value.Dec 9 (pos 3)) ≡ value.Over
+product_of_nineteen_places_is_over = refl
+
+-- the ends of the range of the units, and one past them
+largest_units_are_there : of_two Add (value.Dec 2 (pos (2 ^ 127 - 2))) (value.Dec 2 (pos 1)) ≡ value.Dec 2 (pos (2 ^ 127 - 1))
+largest_units_are_there = refl
+
+past_the_largest_units_is_over : of_two Add (value.Dec 2 (pos (2 ^ 127 - 1))) (value.Dec 2 (pos 1)) ≡ value.Over
+past_the_largest_units_is_over = refl
+
+least_units_are_there : of_two Sub (value.Dec 2 (negsuc (2 ^ 127 - 2))) (value.Dec 2 (pos 1)) ≡ value.Dec 2 (negsuc (2 ^ 127 - 1))
+least_units_are_there = refl
+
+past_the_least_units_is_over : of_two Sub (value.Dec 2 (negsuc (2 ^ 127 - 1))) (value.Dec 2 (pos 1)) ≡ value.Over
+past_the_least_units_is_over = refl
+
+least_units_by_product : of_two Mul (value.Dec 1 (negsuc (2 ^ 126 - 1))) (value.Dec 1 (pos 2)) ≡ value.Dec 2 (negsuc (2 ^ 127 - 1))
+least_units_by_product = refl
+
+product_past_the_largest_units_is_over : of_two Mul (value.Dec 1 (pos (2 ^ 126))) (value.Dec 1 (pos 2)) ≡ value.Over
+product_past_the_largest_units_is_over = refl
+
+-- an operation with OVER is OVER
+decimal_with_over_is_over : of_two Mul (value.Dec 2 (pos 0)) value.Over ≡ value.Over
+decimal_with_over_is_over = refl
+
+-- decimals of one scale compare by units, and those of two scales never, `<>` included
+decimals_compare_by_units : truth (Test (cents 150) cmp.Lt (cents 205)) (tuple 0 1 1) None ≡ true
+decimals_compare_by_units = refl
+
+scales_never_compare : truth (Test (cents 150) cmp.Ne (Lit (value.Dec 1 (pos 15)))) (tuple 0 1 1) None ≡ false
+scales_never_compare = refl
 
 -- each comparison with OVER is false
 over_is_not_other_than_one : truth (Test over cmp.Ne (number 1)) (tuple 0 1 1) None ≡ false
@@ -185,6 +263,16 @@ line_of_texts =
     let three = decimal_digit 3 (lit< tt) in
     let values = quoted (codes "a,b") ∷ quoted (codes "say \"x\"") ∷ quoted (codes "plain one") ∷ [] in
     λ i. join_with_byte 44 (codes "Q" ∷ two i ∷ three i ∷ codes "OVER" ∷ values) ++ 10 ∷ []
+
+-- a decimal is written with all its places, with its sign also below 1, and without a point where it has none
+places_are_written : decimal_text 3 (pos 1050) ≡ codes "1.050"
+places_are_written = let one = decimal_digit 1 (lit< tt) in λ i. (((one i ++ 46 ∷ []) ++ 48 ∷ []) ++ 53 ∷ []) ++ 48 ∷ []
+
+sign_is_written_below_one : decimal_text 2 (negsuc 4) ≡ codes "-0.05"
+sign_is_written_below_one = let none = decimal_digit 0 (lit< tt) in λ i. 45 ∷ (((none i ++ 46 ∷ []) ++ 48 ∷ []) ++ 53 ∷ [])
+
+no_point_without_places : decimal_text 0 (negsuc 6) ≡ codes "-7"
+no_point_without_places = let seven = decimal_digit 7 (lit< tt) in λ i. 45 ∷ seven i
 
 line_of_pair : (name : List ℕ) → quoted name ≡ name → line name (pair 7 9 2 3) ≡ (name ++ codes ",2,3,7,9") ++ codes "\n"
 line_of_pair name plain =

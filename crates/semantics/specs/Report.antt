@@ -1,5 +1,5 @@
 -- The text of the results.
-use Rattle.std.specs.Prelude.{ℕ, Bool, ◌||◌, ◌==◌, if◌then◌else◌, List, [], ◌∷◌, ◌++◌, map, codes}
+use Rattle.std.specs.Prelude.{ℕ, zero, suc, ◌+◌, ◌/◌, ◌%◌, ℤ, pos, negsuc, Bool, ◌||◌, ◌==◌, if◌then◌else◌, List, [], ◌∷◌, ◌++◌, map, codes}
 use Rattle.std.specs.List.{flat_map, list_any, join_with_byte}
 use Rattle.std.specs.Fmt.{decimal, signed_decimal}
 use Rattle.event_types.specs.declared.value.Value.{Value}
@@ -21,11 +21,27 @@ doubled text = flat_map (λ byte. if byte == 34 then 34 ∷ 34 ∷ [] else byte 
 abbrev pub quoted : List ℕ → List ℕ
 quoted text = if list_any is_special text then 34 ∷ (doubled text ++ 34 ∷ []) else text
 
--- a value as a field: a number in decimal, OVER as its name, a text in quotes where it has to be
+-- a number without its last so many digits, a point, and these digits
+abbrev pub with_point : ℕ → ℕ → List ℕ
+with_point zero n = decimal n ++ 46 ∷ []
+with_point (suc places) n = with_point places (n / 10) ++ (48 + n % 10) ∷ []
+
+-- the same without the point where no digit follows it
+abbrev pub with_places : ℕ → ℕ → List ℕ
+with_places zero n = decimal n
+with_places places n = with_point places n
+
+-- a decimal: a minus where it is below zero, the whole part without leading zeros, a point, and exactly as many digits as its scale
+abbrev pub decimal_text : ℕ → ℤ → List ℕ
+decimal_text scale (pos n) = with_places scale n
+decimal_text scale (negsuc n) = 45 ∷ with_places scale (suc n)
+
+-- a value as a field: a number in decimal, OVER as its name, a text in quotes where it has to be, a decimal with its places
 abbrev pub value_text : Value → List ℕ
 value_text (value.Int number) = signed_decimal number
 value_text value.Over = codes "OVER"
 value_text (value.Text text) = quoted text
+value_text (value.Dec scale units) = decimal_text scale units
 
 -- a result line: the query's name, the start, the detection and the values, joined by commas, and an LF
 abbrev pub line : List ℕ → Row → List ℕ

@@ -3,7 +3,7 @@ use Rattle.std.specs.Prelude.{ℕ, List}
 use Rattle.event_types.specs.declared.comparison.Cmp.{Cmp}
 use Rattle.event_types.specs.declared.value.Value.{Value}
 
--- an operation on two numbers
+-- an operation on two numbers or decimals
 pub data Op : Type 0 where
   Add : Op
   Sub : Op

@@ -1,5 +1,5 @@
 -- The truth of a predicate over an event and, where one is given, a binding.
-use Rattle.std.specs.Prelude.{Bool, true, false, not, ◌&&◌, ◌||◌, List, Option, Some, None}
+use Rattle.std.specs.Prelude.{◌==◌, if◌then◌else◌, Bool, true, false, not, ◌&&◌, ◌||◌, List, Option, Some, None}
 use Rattle.std.specs.Cmp.Lexicographic.{slice_cmp}
 use Rattle.std.specs.List.{list_all}
 use Rattle.std.specs.declared.cmp.Ordering.{Ordering}
@@ -12,9 +12,10 @@ use Rattle.event_types.specs.Tuple.{Row}
 use Rattle.semantics.specs.Scalars.{Pr, True, Test, And, Or, Not}
 use Rattle.semantics.specs.Values.{val}
 
--- the order of two numbers by size or of two texts by bytes; OVER has none
+-- the order of two numbers by size, of two decimals of one scale by units, or of two texts by bytes; OVER has none
 abbrev pub order_of : Value → Value → Option Ordering
 order_of (value.Int x) (value.Int y) = Some (int_cmp x y)
+order_of (value.Dec s x) (value.Dec t y) = if s == t then Some (int_cmp x y) else None
 order_of (value.Text x) (value.Text y) = Some (slice_cmp nat_cmp x y)
 order_of x y = None
 

@@ -1,5 +1,5 @@
 -- The value of a scalar over an event and, where one is given, a binding.
-use Rattle.std.specs.Prelude.{ℕ, ℤ, pos, negsuc, ◌^◌, ◌+ℤ◌, ◌-ℤ◌, ◌*ℤ◌, Bool, nat_lt, if◌then◌else◌, List, map, Option, Some, None, slice_index_or}
+use Rattle.std.specs.Prelude.{ℕ, ◌+◌, ◌==◌, ℤ, pos, negsuc, ◌^◌, ◌+ℤ◌, ◌-ℤ◌, ◌*ℤ◌, Bool, nat_lt, nat_le, if◌then◌else◌, List, map, Option, Some, None, slice_index_or}
 use Rattle.std.specs.Int.{int_min, int_max}
 use Rattle.event_types.specs.declared.value.Value.{Value}
 use Rattle.event_types.specs.declared.value.Value.TheVariants as value
@@ -23,9 +23,21 @@ result_of Mul x y = x *ℤ y
 result_of Min x y = int_min x y
 result_of Max x y = int_max x y
 
--- an operation on two numbers; with an operand that is no number, as OVER is none, it is OVER
+-- the decimal of these units, and OVER where they are outside that range
+abbrev pub scaled : ℕ → ℤ → Value
+scaled scale z = if is_in_range z then value.Dec scale z else value.Over
+
+-- the product of two decimals: its scale is the sum of theirs, and there is none above 18 places, which is OVER
+abbrev pub product : ℕ → ℤ → ℕ → ℤ → Value
+product s x t y = if nat_le (s + t) 18 then scaled (s + t) (x *ℤ y) else value.Over
+
+-- an operation on two whole numbers, or on the units of two decimals of one scale; a product also of two scales, a whole number counting 0; all else, as an operation with OVER, is OVER
 abbrev pub combined : Op → Value → Value → Value
 combined op (value.Int x) (value.Int y) = clipped (result_of op x y)
+combined Mul (value.Int x) (value.Dec t y) = scaled t (x *ℤ y)
+combined Mul (value.Dec s x) (value.Int y) = scaled s (x *ℤ y)
+combined Mul (value.Dec s x) (value.Dec t y) = product s x t y
+combined op (value.Dec s x) (value.Dec t y) = if s == t then scaled s (result_of op x y) else value.Over
 combined op x y = value.Over
 
 -- the value at a place of a tuple
