@@ -1,11 +1,12 @@
 -- The canonical form keeps the truth, and the same parts have one form.
-use Rattle.std.proofs.Common.{◌≡◌, ◌∙◌, sym, ap, refl, Bool, true, false, not, ◌&&◌, ◌||◌, cond, List, [], ◌∷◌}
-use Rattle.std.specs.Prelude.{Option}
+use Rattle.std.proofs.Common.{◌≡◌, ◌∙◌, sym, ap, refl, ℕ, ◌==◌, Bool, true, false, not, ◌&&◌, ◌||◌, cond, List, [], ◌∷◌, arith}
+use Rattle.std.specs.Prelude.{Option, Some, None}
 use Rattle.std.specs.declared.cmp.Ordering.{Ordering}
 use Rattle.std.specs.declared.cmp.Ordering.TheVariants.{Less, Equal, Greater}
 use Rattle.std.specs.List.{dedup, dedup_from, list_all}
 use Rattle.std.specs.Ordering.{int_cmp, nat_cmp, is_eq, is_gt, eq_by_cmp, ordering_reverse}
 use Rattle.std.specs.Cmp.Lexicographic.{slice_cmp}
+use Rattle.std.proofs.lemmas.Bool.Decides.{nat_tests}
 use Rattle.std.proofs.lemmas.Cmp.{int_cmp_total, nat_list_cmp_total}
 use Rattle.std.proofs.lemmas.List.Folds.{list_all-append}
 use Rattle.std.proofs.lemmas.Map.Lookups.{CmpEqualImpliesEq}
@@ -99,10 +100,20 @@ turned_accepted cmp.Ge Less = refl
 turned_accepted cmp.Ge Equal = refl
 turned_accepted cmp.Ge Greater = refl
 
+-- a test of two numbers is the same either way
+same_either_way : (m n : ℕ) → (n == m) ≡ (m == n)
+same_either_way m n = grind (arith, nat_tests)
+
 -- a comparison holds where the exchanged one holds of the exchanged operands
 pub turned_met : (c : Cmp) (v w : Value) → is_met c (order_of w v) ≡ is_met (exchanged c) (order_of v w)
 turned_met c (value.Int x) (value.Int y) = ap (is_accepted c) (int_cmp_total.antisymm y x) ∙ turned_accepted c (int_cmp x y)
 turned_met c (value.Text x) (value.Text y) = ap (is_accepted c) (nat_list_cmp_total.antisymm y x) ∙ turned_accepted c (slice_cmp nat_cmp x y)
+turned_met c (value.Dec s x) (value.Dec t y) =
+    ap (λ b. is_met c (cond b (Some (int_cmp y x)) None)) (same_either_way s t) ∙ one_scale (s == t)
+  where
+    one_scale : (b : Bool) → is_met c (cond b (Some (int_cmp y x)) None) ≡ is_met (exchanged c) (cond b (Some (int_cmp x y)) None)
+    one_scale true = ap (is_accepted c) (int_cmp_total.antisymm y x) ∙ turned_accepted c (int_cmp x y)
+    one_scale false = refl
 turned_met c value.Over value.Over = refl
 turned_met c v w = refl
 

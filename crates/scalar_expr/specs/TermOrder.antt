@@ -43,7 +43,7 @@ pr_place (And p q) = 2
 pr_place (Or p q) = 3
 pr_place (Not p) = 4
 
--- the order of scalars: numbers by size, texts by bytes, a number before a text
+-- the order of scalars: by variant, literals as values, so that a number stands before a decimal and this before a text
 abbrev pub sc_cmp : Sc → Sc → Ordering
 sc_cmp (Lit v) (Lit w) = value_cmp v w
 sc_cmp (Event i) (Event j) = nat_cmp i j

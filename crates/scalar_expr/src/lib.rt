@@ -5,6 +5,7 @@
 //! width and its scalars as terms.
 #![tactic(auto)]
 
+mod arithmetic;
 mod canonical;
 mod conjunction;
 mod copying;

@@ -3,6 +3,7 @@ ghost use Rattle.std.specs.Prelude.{◌≡◌, ◌+◌};
 ghost use Rattle.std.specs.List.{All, list_all};
 ghost use Rattle.std.specs.Option.{option_copied};
 ghost use Rattle.event_types.specs.Seen.{seen};
+ghost use Rattle.event_types.specs.declared.value.Value.TheVariants as value;
 ghost use Rattle.semantics.specs.Truth.{truth, all_true, order_of, is_met};
 ghost use Rattle.scalar_expr.specs.Fits.{PredFits, AllFit};
 ghost use Rattle.scalar_expr.specs.Views.{pr_of};
@@ -11,7 +12,7 @@ use crate::conjunction::Conj;
 use crate::predicate::Pred;
 use crate::valuation::value_of;
 use cay_host::{Ledger, Steps};
-use event_types::{Cmp, Tuple, ValueRef};
+use event_types::{Cmp, Dec, Tuple, ValueRef};
 use std::cmp::Ordering;
 
 /// Whether all parts hold over an event and a binding.
@@ -59,8 +60,8 @@ fn is_true(predicate: &Pred, event: &Tuple, binding: Option<&Tuple>) -> bool
     }
 }
 
-/// Whether two values compare so: numbers by size, texts by bytes. A number and a text never do, nor OVER
-/// with any value.
+/// Whether two values compare so: numbers by size, decimals of one scale by units, texts by bytes. Values of
+/// two kinds never do, nor OVER with any value.
 ///
 /// Takes no memory.
 pub fn compares(cmp: Cmp, x: ValueRef<'_>, y: ValueRef<'_>) -> bool
@@ -76,7 +77,19 @@ fn order(x: ValueRef<'_>, y: ValueRef<'_>) -> Option<Ordering>
     match (x, y) {
         (ValueRef::Int(x), ValueRef::Int(y)) => Some(x.cmp(&y)),
         (ValueRef::Text(x), ValueRef::Text(y)) => Some(x.cmp(&y)),
+        (ValueRef::Dec(x), ValueRef::Dec(y)) => decimal_order(x, y),
         _ => None,
+    }
+}
+
+// The order of two decimals of one scale, by units.
+fn decimal_order(x: Dec, y: Dec) -> Option<Ordering>
+    ensures { result ≡ order_of (value.Dec x.scale x.units) (value.Dec y.scale y.units) }
+{
+    if x.scale == y.scale {
+        Some(x.units.cmp(&y.units))
+    } else {
+        None
     }
 }
 

@@ -2,11 +2,11 @@
 ghost use Rattle.std.specs.Prelude.{◌≡◌, pos, ◌-ℤ◌};
 ghost use Rattle.std.specs.Option.{option_copied};
 ghost use Rattle.event_types.specs.Seen.{seen};
-ghost use Rattle.semantics.specs.Scalars.{Add, Sub, Mul, Min, Max};
-ghost use Rattle.semantics.specs.Values.{val, combined, span_start};
+ghost use Rattle.semantics.specs.Values.{val, span_start};
 ghost use Rattle.scalar_expr.specs.Fits.{Fits};
 ghost use Rattle.scalar_expr.specs.Views.{sc_of};
 
+use crate::arithmetic::{difference, larger, product, smaller, sum};
 use crate::scalar::Scalar;
 use event_types::{Tuple, ValueRef};
 
@@ -46,63 +46,4 @@ fn span(event: &Tuple, binding: Option<&Tuple>) -> i128
         None => event.from(),
     };
     event.at() as i128 - start as i128
-}
-
-// The sum, or OVER.
-fn sum<'a>(x: ValueRef<'a>, y: ValueRef<'a>) -> ValueRef<'a>
-    ensures { seen result ≡ combined Add (seen x.entry) (seen y.entry) }
-{
-    match (x, y) {
-        (ValueRef::Int(x), ValueRef::Int(y)) => match x.checked_add(y) {
-            Some(z) => ValueRef::Int(z),
-            None => ValueRef::Over,
-        },
-        _ => ValueRef::Over,
-    }
-}
-
-// The difference, or OVER.
-fn difference<'a>(x: ValueRef<'a>, y: ValueRef<'a>) -> ValueRef<'a>
-    ensures { seen result ≡ combined Sub (seen x.entry) (seen y.entry) }
-{
-    match (x, y) {
-        (ValueRef::Int(x), ValueRef::Int(y)) => match x.checked_sub(y) {
-            Some(z) => ValueRef::Int(z),
-            None => ValueRef::Over,
-        },
-        _ => ValueRef::Over,
-    }
-}
-
-// The product, or OVER.
-fn product<'a>(x: ValueRef<'a>, y: ValueRef<'a>) -> ValueRef<'a>
-    ensures { seen result ≡ combined Mul (seen x.entry) (seen y.entry) }
-{
-    match (x, y) {
-        (ValueRef::Int(x), ValueRef::Int(y)) => match x.checked_mul(y) {
-            Some(z) => ValueRef::Int(z),
-            None => ValueRef::Over,
-        },
-        _ => ValueRef::Over,
-    }
-}
-
-// The smaller of two numbers, or OVER.
-fn smaller<'a>(x: ValueRef<'a>, y: ValueRef<'a>) -> ValueRef<'a>
-    ensures { seen result ≡ combined Min (seen x.entry) (seen y.entry) }
-{
-    match (x, y) {
-        (ValueRef::Int(x), ValueRef::Int(y)) => ValueRef::Int(x.min(y)),
-        _ => ValueRef::Over,
-    }
-}
-
-// The larger of two numbers, or OVER.
-fn larger<'a>(x: ValueRef<'a>, y: ValueRef<'a>) -> ValueRef<'a>
-    ensures { seen result ≡ combined Max (seen x.entry) (seen y.entry) }
-{
-    match (x, y) {
-        (ValueRef::Int(x), ValueRef::Int(y)) => ValueRef::Int(x.max(y)),
-        _ => ValueRef::Over,
-    }
 }
