@@ -1,9 +1,8 @@
 -- What is typed may be evaluated.
-use Rattle.std.proofs.Common.{◌≡◌, ◌∙◌, ap, refl, subst, ℕ, zero, suc, ◌<◌, true, false, cond, length, List, [], ◌∷◌, ◌++◌, map, arith}
-use Rattle.std.specs.Prelude.{⊤, Option, Some, None, slice_get, slice_index_or}
+use Rattle.std.proofs.Common.{refl, subst, ℕ, zero, suc, true, false, cond, length, List, [], ◌∷◌, ◌++◌, map}
+use Rattle.std.specs.Prelude.{⊤, Option, Some, None}
 use Rattle.std.specs.List.{All}
 use Rattle.std.proofs.lemmas.List.Elements.{All-nil, All-cons, All-append, All-filter, All-map, All-weaker}
-use Rattle.std.proofs.lemmas.List.{map-append}
 use Rattle.event_types.specs.declared.kind.Kind.{Kind}
 use Rattle.event_types.specs.declared.kind.Kind.TheVariants as kind
 use Rattle.event_types.specs.declared.value.Value.{Value}
@@ -19,7 +18,8 @@ use Rattle.semantics.specs.Expressions.{Ex, Read, Filter, Select, Union, Next, F
 use Rattle.semantics.specs.Denotation.{Streams, denote, selected, joined, matches}
 use Rattle.algebra.specs.Suits.{FitsPairs, Suits, SuitsRuns}
 use Rattle.scalar_expr.proofs.NextsLemmas.{nexts_keep}
-use Rattle.semantics.specs.Kinds.{value_kind, HasKinds, HaveKinds}
+use Rattle.semantics.specs.Kinds.{AreOf, IsOf, HasKinds, HaveKinds}
+use Rattle.semantics.proofs.KindLemmas.{kind_at_place, kinds_append, of_its_kind}
 use Rattle.semantics.specs.Typing.{IsOfKind, IsTyped, AreTyped, AreOfKinds, Gives}
 use Rattle.algebra.proofs.ListLemmas.{All-flat_map}
 
@@ -30,27 +30,28 @@ BindingHasKinds (Some ks) (Some b) = HasKinds ks b
 BindingHasKinds None (Some b) = ⊥
 BindingHasKinds (Some ks) None = ⊥
 
--- a place of these kinds is a place of the values, of its kind
-place : (vs : List Value) (i : ℕ) (k : Kind) → slice_get (map value_kind vs) i ≡ Some k → (i < length vs) × (value_kind (slice_index_or vs i value.Over) ≡ k)
-place [] i k e = cc
-place (v ∷ vs) zero k e = (omega arith, cc)
-place (v ∷ vs) (suc i) k e = let more = place vs i k e in (omega (arith, more.0), more.1)
-
--- an operation gives a number
-combined_int : (o : Op) (x y : Value) → value_kind (combined o x y) ≡ kind.Int
-combined_int o (value.Int x) (value.Int y) = elim (is_in_range (result_of o x y)) as (λ b. value_kind (cond b (value.Int (result_of o x y)) value.Over) ≡ kind.Int) [ true ↦ refl | false ↦ refl ]
-combined_int o x y = refl
+-- an operation on whole numbers gives one, or OVER
+combined_int : (o : Op) (x y : Value) → IsOf kind.Int x → IsOf kind.Int y → IsOf kind.Int (combined o x y)
+combined_int o (value.Int x) (value.Int y) hx hy = elim (is_in_range (result_of o x y)) as (λ b. IsOf kind.Int (cond b (value.Int (result_of o x y)) value.Over)) [ true ↦ refl | false ↦ tt ]
+combined_int o (value.Int x) value.Over hx hy = tt
+combined_int o (value.Int x) (value.Text y) hx hy = cc
+combined_int o (value.Int x) (value.Dec t y) hx hy = cc
+combined_int o value.Over y hx hy = tt
+combined_int o (value.Text x) y hx hy = cc
+combined_int o (value.Dec s x) y hx hy = cc
 
 -- a scalar of a kind fits, and its value is of that kind
-typed_scalar : (s : Sc) (es : List Kind) (bs : Option (List Kind)) (k : Kind) (e : Row) (b : Option Row) → IsOfKind s es bs k → HasKinds es e → BindingHasKinds bs b → Fits s e b × (value_kind (val s e b) ≡ k)
-typed_scalar (Lit v) es bs k e b h he hb = (tt, h)
-typed_scalar (Event i) es bs k e b h he hb = place e.vals i k (ap (λ ks. slice_get ks i) he ∙ h)
+typed_scalar : (s : Sc) (es : List Kind) (bs : Option (List Kind)) (k : Kind) (e : Row) (b : Option Row) → IsOfKind s es bs k → HasKinds es e → BindingHasKinds bs b → Fits s e b × IsOf k (val s e b)
+typed_scalar (Lit v) es bs k e b h he hb = (tt, of_its_kind v k h)
+typed_scalar (Event i) es bs k e b h he hb = kind_at_place es e.vals i k he h
 typed_scalar (Binding i) es None k e b h he hb = absurd h
 typed_scalar (Binding i) es (Some bs) k e None h he hb = absurd hb
-typed_scalar (Binding i) es (Some bs) k e (Some b) h he hb = place b.vals i k (ap (λ ks. slice_get ks i) hb ∙ h)
+typed_scalar (Binding i) es (Some bs) k e (Some b) h he hb = kind_at_place bs b.vals i k hb h
 typed_scalar Dur es bs k e b h he hb = (tt, h)
 typed_scalar (Two o x y) es bs k e b h he hb =
-    (((typed_scalar x es bs kind.Int e b h.0 he hb).0, (typed_scalar y es bs kind.Int e b h.1 he hb).0), combined_int o (val x e b) (val y e b) ∙ h.2)
+    let left = typed_scalar x es bs kind.Int e b h.0 he hb in
+    let right = typed_scalar y es bs kind.Int e b h.1 he hb in
+    ((left.0, right.0), subst (λ j. IsOf j (combined o (val x e b) (val y e b))) h.2 (combined_int o (val x e b) (val y e b) left.1 right.1))
 
 -- a typed predicate fits
 typed_test : (p : Pr) (es : List Kind) (bs : Option (List Kind)) (e : Row) (b : Option Row) → IsTyped p es bs → HasKinds es e → BindingHasKinds bs b → PredFits p e b
@@ -76,11 +77,11 @@ typed_fits (s ∷ m) es bs [] e b h he hb = absurd h
 typed_fits (s ∷ m) es bs (k ∷ ks) e b h he hb = All-cons (λ s. Fits s e b) s m (typed_scalar s es bs k e b h.0 he hb).0 (typed_fits m es bs ks e b h.1 he hb)
 
 -- their values have these kinds
-pub typed_image : (m : List Sc) (es : List Kind) (bs : Option (List Kind)) (ks : List Kind) (e : Row) (b : Option Row) → AreOfKinds m es bs ks → HasKinds es e → BindingHasKinds bs b → map value_kind (map (λ s. val s e b) m) ≡ ks
-typed_image [] es bs [] e b h he hb = refl
+pub typed_image : (m : List Sc) (es : List Kind) (bs : Option (List Kind)) (ks : List Kind) (e : Row) (b : Option Row) → AreOfKinds m es bs ks → HasKinds es e → BindingHasKinds bs b → AreOf ks (map (λ s. val s e b) m)
+typed_image [] es bs [] e b h he hb = tt
 typed_image [] es bs (k ∷ ks) e b h he hb = absurd h
 typed_image (s ∷ m) es bs [] e b h he hb = absurd h
-typed_image (s ∷ m) es bs (k ∷ ks) e b h he hb = λ i. (typed_scalar s es bs k e b h.0 he hb).1 i ∷ typed_image m es bs ks e b h.1 he hb i
+typed_image (s ∷ m) es bs (k ∷ ks) e b h he hb = ((typed_scalar s es bs k e b h.0 he hb).1, typed_image m es bs ks e b h.1 he hb)
 
 -- what holds of each tuple of the list holds of each goer
 goers_keep : (P : Row → Type 0) (p q : List Pr) (rs : List Row) (b : Row) → All P rs → All P (goers p q rs b)
@@ -127,7 +128,7 @@ typed (Next p e f) n kinds out env all h =
       All-flat_map (HasKinds out) (matches p (denote f env)) (denote e env)
           (All-weaker (HasKinds h.0) (λ l. All (HasKinds out) (matches p (denote f env) l))
           (λ l hl. All-map (HasKinds out) (joined l) (nexts p l (denote f env))
-          (All-weaker (HasKinds h.1) (λ r. HasKinds out (joined l r)) (λ r hr. map-append value_kind l.vals r.vals ∙ (λ i. hl i ++ hr i) ∙ h.5) (nexts p l (denote f env)) (nexts_keep (HasKinds h.1) p l (denote f env) two.1)))
+          (All-weaker (HasKinds h.1) (λ r. HasKinds out (joined l r)) (λ r hr. subst (λ ks. HasKinds ks (joined l r)) h.5 (kinds_append h.0 h.1 l.vals r.vals hl hr)) (nexts p l (denote f env)) (nexts_keep (HasKinds h.1) p l (denote f env) two.1)))
           (denote e env) one.1),
     )
 typed (Fold p q m e f) n kinds out env all h =
