@@ -3,6 +3,7 @@
 //! Contracts see `Rows` as the bytes of its lines.
 #![tactic(auto)]
 
+mod decimals;
 mod fields;
 mod rows;
 

@@ -55,7 +55,7 @@ impl Rows {
         ensures appended { OnOk result (self.new ≡ self.old ++ flat_map (λ tuple. line name.now tuple) tuples.now) }
         ensures emptied { OnErr result (self.new ≡ []) }
     {
-        match write_rows(&mut self.writer, name, tuples) {
+        match write_rows(self.alloc, &mut self.writer, name, tuples) {
             Ok(()) => Ok(()),
             Err(_) => {
                 renew(&mut self.writer, self.alloc);
@@ -110,13 +110,18 @@ fn writer_over(bytes: Vec<u8>) -> Writer<Vec<u8>>
 }
 
 // Writes the line of each result, and lets no byte wait.
-fn write_rows(writer: &mut Writer<Vec<u8>>, name: &str, tuples: &[Tuple]) -> Result<(), Memory>
+fn write_rows(
+    alloc: Global,
+    writer: &mut Writer<Vec<u8>>,
+    name: &str,
+    tuples: &[Tuple],
+) -> Result<(), Memory>
     requires { IsBetween writer.old }
     ensures bytes { OnOk result ((writer_under writer.new).items ≡ (writer_under writer.old).items ++ flat_map (λ tuple. line name.now tuple) tuples.now) }
     ensures between { OnOk result (IsBetween writer.new) }
 {
     for tuple in tuples {
-        write_row(writer, name, tuple)?;
+        write_row(alloc, writer, name, tuple)?;
     }
     match writer.flush() {
         Ok(()) => Ok(()),
@@ -125,7 +130,12 @@ fn write_rows(writer: &mut Writer<Vec<u8>>, name: &str, tuples: &[Tuple]) -> Res
 }
 
 // Writes the line of one result.
-fn write_row(writer: &mut Writer<Vec<u8>>, name: &str, tuple: &Tuple) -> Result<(), Memory>
+fn write_row(
+    alloc: Global,
+    writer: &mut Writer<Vec<u8>>,
+    name: &str,
+    tuple: &Tuple,
+) -> Result<(), Memory>
     requires setup { writer_setup writer.old ≡ any_width }
     requires between { fields_written writer.old ≡ 0 }
     ensures bytes { OnOk result (bytes_of writer.new ≡ bytes_of writer.old ++ line name.now tuple.now) }
@@ -136,7 +146,7 @@ fn write_row(writer: &mut Writer<Vec<u8>>, name: &str, tuple: &Tuple) -> Result<
     add_time(writer, tuple.from())?;
     add_time(writer, tuple.at())?;
     for value in tuple.vals().as_slice() {
-        add_value(writer, value)?;
+        add_value(alloc, writer, value)?;
     }
     end(writer)
 }

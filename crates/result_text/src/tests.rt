@@ -49,3 +49,22 @@ fn lines_stand_behind_those_before_and_are_taken_away(rt: HostRuntime) -> Result
     assert_eq!(rt; rows.as_slice(), "Q,7,18446744073709551615,1\n".as_bytes());
     Ok(())
 }
+
+#[test]
+fn a_decimal_has_its_sign_and_all_its_places(rt: HostRuntime) -> Result<(), Fail> {
+    for (scale, units, want) in [
+        (2, 1050, "Q,7,18446744073709551615,10.50\n"),
+        (2, -5, "Q,7,18446744073709551615,-0.05\n"),
+        (2, 0, "Q,7,18446744073709551615,0.00\n"),
+        (0, -7, "Q,7,18446744073709551615,-7\n"),
+        (
+            18,
+            i128::MIN,
+            "Q,7,18446744073709551615,-170141183460469231731.687303715884105728\n",
+        ),
+    ] {
+        let tuple = tuple_of(&rt, rt.alloc(), Value::Dec { scale, units })?;
+        assert_eq!(rt; row(rt.alloc(), "Q", &tuple)?.as_str(), want);
+    }
+    Ok(())
+}
