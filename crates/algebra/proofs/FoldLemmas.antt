@@ -2,14 +2,11 @@
 use Rattle.std.proofs.Common.{◌≡◌, ℕ, zero, suc, ◌<◌, ◌-◌, length, get_or, List, ◌∷◌, arith, ap, subst, sym}
 use Rattle.std.specs.Prelude.{Some}
 use Rattle.std.specs.List.{All, flat_map}
-use Rattle.std.proofs.lemmas.List.Elements.{All-filter, All-same}
+use Rattle.std.proofs.lemmas.List.Elements.{All-same}
 use Rattle.event_types.specs.Tuple.{Row}
 use Rattle.semantics.specs.Scalars.{Sc, Pr}
-use Rattle.semantics.specs.Truth.{all_true}
-use Rattle.semantics.specs.Nexts.{nexts}
 use Rattle.semantics.specs.Runs.{goers, rebound, runs_within}
 use Rattle.scalar_expr.specs.Fits.{Fits}
-use Rattle.scalar_expr.proofs.NextsLemmas.{nexts_start_later}
 use Rattle.algebra.specs.Suits.{FitsPairs, SuitsRuns}
 
 -- the new binding, and the runs from it of at most n events
@@ -29,10 +26,6 @@ runs_within-some (suc n) p q m rs b lt = let e : n ≡ suc n - 1 = omega arith i
 pub suits_branches : (n : ℕ) (p q : List Pr) (m : List Sc) (rs : List Row) (b : Row) → 0 < n → SuitsRuns n p q m rs b → FitsPairs p rs b × FitsPairs q rs b × All (SuitsBranch (n - 1) p q m rs b) (goers p q rs b)
 suits_branches zero p q m rs b lt h = absurd (omega arith)
 suits_branches (suc n) p q m rs b lt h = let e : n ≡ suc n - 1 = omega arith in (h.0, h.1, subst (λ (k : ℕ). All (SuitsBranch k p q m rs b) (goers p q rs b)) e h.2)
-
--- each goer starts after the binding was detected
-pub goers_start_later : (p q : List Pr) (rs : List Row) (b : Row) → All (λ r. b.at < r.from) (goers p q rs b)
-goers_start_later p q rs b = All-filter (λ r. all_true q r (Some b)) (λ r. b.at < r.from) (nexts p b rs) (nexts_start_later p b rs)
 
 -- what holds of each element holds of one that was read
 pub All_read : {X : Type 0} (P : X → Type 0) (xs ys : List X) → xs ≡ ys → All P ys → (i : ℕ) (x : X) → i < length xs → x ≡ get_or xs i x → P x

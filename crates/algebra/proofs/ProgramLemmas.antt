@@ -1,7 +1,6 @@
 -- The queries of a typed program may be evaluated in turn.
-use Rattle.std.proofs.Common.{◌≡◌, sym, subst, ℕ, ◌+◌, ◌==◌, nat_lt, Bool, true, false, cond, List, [], ◌∷◌, map, arith}
+use Rattle.std.proofs.Common.{◌≡◌, sym, subst, ℕ, ◌+◌, ◌==◌, nat_lt, Bool, true, false, cond, List, [], ◌∷◌, map}
 use Rattle.std.specs.List.{All, filter}
-use Rattle.std.proofs.lemmas.Bool.Decides.{nat_tests}
 use Rattle.std.proofs.lemmas.List.Elements.{All-nil, All-cons, All-head, All-tail}
 use Rattle.event_types.specs.declared.kind.Kind.{Kind}
 use Rattle.event_types.specs.Tuple.{Row}
@@ -12,13 +11,11 @@ use Rattle.semantics.specs.Programs.{Query, declared_streams, published, with_st
 use Rattle.semantics.specs.TypedPrograms.{PublishInTurn, HaveTheirKinds}
 use Rattle.algebra.specs.SuitedQueries.{SuitInTurn}
 use Rattle.algebra.proofs.TypingLemmas.{typed}
+use Rattle.event_types.proofs.NumberLemmas.{same_number}
 
 -- each tuple of each stream has the kinds of the stream
 abbrev AllHaveKinds : (ℕ → List Kind) → Streams → Type 0
 AllHaveKinds kinds streams = (stream : ℕ) → All (HasKinds (kinds stream)) (streams stream)
-
-same_number : (m n : ℕ) → (m == n) ≡ true → m ≡ n
-same_number m n e = grind (arith, nat_tests)
 
 -- what was heard on a stream has its kinds
 heard_kinds : (kinds : ℕ → List Kind) (stream : ℕ) (history : List Heard) → HaveTheirKinds kinds history → All (HasKinds (kinds stream)) (heard_on history stream)

@@ -1,5 +1,5 @@
 -- Lines that come to other lines.
-use Rattle.std.proofs.Common.{◌≡◌, ◌∙◌, ap, refl, ℕ, ◌==◌, Bool, true, false, ◌||◌, cond, List, [], ◌∷◌, ◌++◌, append-nil}
+use Rattle.std.proofs.Common.{◌≡◌, ◌∙◌, ap, refl, ℕ, ◌==◌, Bool, true, false, ◌||◌, List, [], ◌∷◌, ◌++◌, append-nil}
 use Rattle.std.specs.List.{All, filter, flat_map}
 use Rattle.std.proofs.lemmas.List.Elements.{filter-append, All-head, All-tail, All-same, All-filter, All-weaker}
 use Rattle.semantics.specs.Denotation.{Streams}
@@ -8,8 +8,10 @@ use Rattle.automaton.specs.declared.line.Line.{Line}
 use Rattle.automaton.specs.Additions.{AreFresh}
 use Rattle.automaton.specs.Flow.{derived, given}
 use Rattle.automaton.specs.Work.{IsInOrder, ReadsNone, completed, is_in}
-use Rattle.automaton.proofs.NumberLemmas.{same_number}
-use Rattle.automaton.proofs.WorkLemmas.{completed_other, or_parts, self_equal}
+use Rattle.event_types.proofs.NumberLemmas.{same_number, self_equal}
+use Rattle.automaton.proofs.WorkLemmas.{completed_other}
+use Rattle.std.proofs.lemmas.Bool.{or_parts}
+use Rattle.semantics.proofs.ReportLemmas.{filter_none}
 
 -- what isn't in either list isn't in both
 pub none_append : (xs ys : List ℕ) (s : ℕ) → is_in xs s ≡ false → is_in ys s ≡ false → is_in (xs ++ ys) s ≡ false
@@ -19,12 +21,6 @@ none_append (x ∷ xs) ys s e f = go (none_append xs ys s) (s == x) e
     go : (is_in xs s ≡ false → is_in ys s ≡ false → is_in (xs ++ ys) s ≡ false) → (b : Bool) → (b || is_in xs s) ≡ false → (b || is_in (xs ++ ys) s) ≡ false
     go rest true e = e
     go rest false e = rest e f
-
--- a list that no item passes
-pub filter_none : {X : Type 0} (p : X → Bool) (xs : List X) → All (λ x. p x ≡ false) xs → filter p xs ≡ []
-filter_none p [] all = refl
-filter_none p (x ∷ xs) all =
-    ap (λ b. cond b (x ∷ filter p xs) (filter p xs)) (All-head (λ x. p x ≡ false) x xs all) ∙ filter_none p xs (All-tail (λ x. p x ≡ false) x xs all)
 
 not_here : (xs : List ℕ) (x s : ℕ) → is_in xs x ≡ false → is_in xs s ≡ true → (x == s) ≡ false
 not_here xs x s e f = go (x == s) refl
@@ -84,6 +80,7 @@ fresh_tail lines s order others more fresh = record {
   apart = All-tail (λ s. is_in more s ≡ false) s order fresh.apart;
 }
 
+-- fresh lines behind lines in order are in order
 pub added_in_order : (lines : List Line) (order : List ℕ) (others : List Line) (more : List ℕ) → IsInOrder lines order → IsInOrder others more → AreFresh lines order others more → IsInOrder (lines ++ others) (order ++ more)
 added_in_order lines [] others more ordered new fresh = new_order lines others more fresh.outs new
 added_in_order lines (s ∷ order) others more ordered new fresh = (
@@ -93,6 +90,7 @@ added_in_order lines (s ∷ order) others more ordered new fresh = (
   added_in_order lines order others more ordered.2 new (fresh_tail lines s order others more fresh),
 )
 
+-- fresh lines give over what the lines gave what they give alone
 pub added_alone : (lines : List Line) (order : List ℕ) (others : List Line) (more : List ℕ) (streams : Streams) → AreFresh lines order others more
     → completed (lines ++ others) (order ++ more) streams ≡ completed others more (completed lines order streams)
 added_alone lines [] others more streams fresh = new_streams lines others more streams fresh.outs
@@ -100,6 +98,7 @@ added_alone lines (s ∷ order) others more streams fresh =
     ap (λ rows. completed (lines ++ others) (order ++ more) (with_stream streams s rows)) (ap (flat_map (given streams)) (old_lines lines others s order fresh.others_outs))
     ∙ added_alone lines order others more (with_stream streams s (derived lines streams s)) (fresh_tail lines s order others more fresh)
 
+-- fresh lines change no stream that the lines gave
 pub added_same : (lines : List Line) (order : List ℕ) (others : List Line) (more : List ℕ) (streams : Streams) → AreFresh lines order others more
     → (stream : ℕ) → is_in more stream ≡ false → completed (lines ++ others) (order ++ more) streams stream ≡ completed lines order streams stream
 added_same lines order others more streams fresh stream e =

@@ -11,7 +11,8 @@ use Rattle.automaton.specs.Networks.{IsAt, IsNetwork}
 use Rattle.automaton.specs.Prefixes.{Prefix, Root, After}
 use Rattle.automaton.specs.States.{Net, before_at, before_by, before_in, edges_at, edges_in, entry_at, entry_in, is_used, root_by, state_at, tells}
 use Rattle.automaton.proofs.CountLemmas.{bit, count-push}
-use Rattle.automaton.proofs.NumberLemmas.{are_same_or_not, is_other, is_same}
+use Rattle.event_types.proofs.NumberLemmas.{is_other, is_same}
+use Rattle.automaton.proofs.NumberLemmas.{are_same_or_not}
 use Rattle.automaton.proofs.SlotLemmas.{KeepsEntries, at_kept, edge_edges, edge_entry, end_edges, end_entry}
 
 -- a state is used where it is entered somehow
@@ -53,6 +54,7 @@ adds_end_network state end old new adds = network_alike old new
     (reads_alike entry_in old new state (ap entry_in adds.here ∙ end_entry end (state_at old state)) adds.others)
     (reads_alike edges_in old new state (ap edges_in adds.here ∙ end_edges end (state_at old state)) adds.others)
 
+-- a state without an end has the same entry
 pub gone_entry : (number : ℕ) (slot : Option State) → entry_in (without_end number slot) ≡ entry_in slot
 gone_entry number None = refl
 gone_entry number (Some state) = refl
@@ -61,6 +63,7 @@ gone_edges : (number : ℕ) (slot : Option State) → edges_in (without_end numb
 gone_edges number None = refl
 gone_edges number (Some state) = refl
 
+-- a network without an end is a network
 pub removes_end_network : (state number : ℕ) (old new : Net) → RemovesEnd state number old new → IsNetwork old → IsNetwork new
 removes_end_network state number old new removes = network_alike old new
     (reads_alike entry_in old new state (ap entry_in removes.here ∙ gone_entry number (state_at old state)) removes.others)
@@ -68,9 +71,11 @@ removes_end_network state number old new removes = network_alike old new
 
 -- a number that no state had
 module _ (old new : Net) (number : ℕ) (free : is_used old number ≡ false) where
+  -- the free place reads as one with no state
   pub free_reads : {X : Type 0} (f : Option State → X) → f (state_at old number) ≡ f None
   free_reads f = ap f (nothing_there (state_at old number) free)
 
+  -- where the entries of the other places are the same, all entries are kept
   pub free_kept : ((other : ℕ) → (other ≡ number → ⊥) → entry_at new other ≡ entry_at old other) → KeepsEntries old new
   free_kept entries other e is = entries other (λ same. let gone : entry_at old number ≡ None = free_reads entry_in in let there : entry_at old number ≡ Some e = ap (entry_at old) (sym same) ∙ is in cc) ∙ is
 
@@ -97,9 +102,11 @@ adds_root_network number stream old new free adds is =
 
 -- a waiting state comes
 module _ (number before : ℕ) (hop : Hop) (old new : Net) (free : is_used old number ≡ false) (used : is_used old before ≡ true) (adds : AddsHop number before hop old new) (is : IsNetwork old) where
+  -- the state before isn't the new one
   pub hop_apart : before ≡ number → ⊥
   hop_apart same = let none : is_used old before ≡ false = ap (is_used old) same ∙ free in absurd (let no : true ≡ false = sym used ∙ none in cc)
 
+  -- each other state has the same entry
   pub hop_entry : (other : ℕ) → (other ≡ number → ⊥) → entry_at new other ≡ entry_at old other
   hop_entry other ne = by_number (are_same_or_not other before)
     where
@@ -107,6 +114,7 @@ module _ (number before : ℕ) (hop : Hop) (old new : Net) (free : is_used old n
       by_number (inl same) = ap (entry_at new) same ∙ ap entry_in adds.edge ∙ edge_entry number (state_at old before) ∙ ap (entry_at old) (sym same)
       by_number (inr nb) = ap entry_in (adds.others other ne nb)
 
+  -- each state but the one before has the same edges
   pub hop_edges : (other : ℕ) → (other ≡ before → ⊥) → edges_at new other ≡ edges_at old other
   hop_edges other nb = by_number (are_same_or_not other number)
     where
@@ -114,6 +122,7 @@ module _ (number before : ℕ) (hop : Hop) (old new : Net) (free : is_used old n
       by_number (inl same) = ap (edges_at new) same ∙ ap edges_in adds.here ∙ sym (free_reads old new number free edges_in) ∙ ap (edges_at old) (sym same)
       by_number (inr ne) = ap edges_in (adds.others other ne nb)
 
+  -- the state before has the edge to the new one too
   pub edges_before : edges_at new before ≡ edges_at old before ++ number ∷ []
   edges_before = ap edges_in adds.edge ∙ edge_edges number (state_at old before) used
 
@@ -155,6 +164,7 @@ module _ (number before : ℕ) (hop : Hop) (old new : Net) (free : is_used old n
           omega (arith, is.edges from next, none last, told last)
       by_numbers (inr nt) (inr ne) = ap (count_by is_next) (hop_edges from nt) ∙ is.edges from next ∙ ap (λ o. bit (tells from o)) (sym (told_other next ne))
 
+  -- a network with one more hop is a network
   pub adds_hop_network : IsNetwork new
   adds_hop_network =
       let place = is.places before used in

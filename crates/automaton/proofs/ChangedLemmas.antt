@@ -1,6 +1,6 @@
 -- Networks that changed, as the code has them.
 use Rattle.std.proofs.Common.{◌≡◌, ◌⊎◌, ◌∙◌, sym, ap, refl, subst, inl, inr, ℕ, ◌+◌, ◌-◌, ◌<◌, ◌≤◌, max, true, false, get_or, length, set, take, [], arith}
-use Rattle.std.specs.Prelude.{Option, Some, None, Result, Ok, Err, OnOk, OnErr, IfSome, is_err, is_some, count_by}
+use Rattle.std.specs.Prelude.{Option, Some, None, Result, Ok, Err, OnOk, OnErr, IfSome, is_some, count_by}
 use Rattle.std.proofs.lemmas.List.{length-set, set-get_or}
 use Rattle.automaton.specs.declared.line.Hop.{Hop}
 use Rattle.automaton.specs.declared.network.End.{End}
@@ -14,7 +14,7 @@ use Rattle.automaton.proofs.ChangeLemmas.{adds_end_network, adds_hop_network, ad
 use Rattle.automaton.proofs.ClearedLemmas.{before_used, none_entered, removes_state_network, told_not}
 use Rattle.automaton.proofs.CountLemmas.{count-set}
 use Rattle.automaton.proofs.GrowingLemmas.{same_read}
-use Rattle.automaton.proofs.NumberLemmas.{other_number}
+use Rattle.event_types.proofs.NumberLemmas.{other_number}
 use Rattle.automaton.proofs.PlacedLemmas.{count_gone, placed_count, placed_here, placed_length, placed_other, shrunk_count, shrunk_reads}
 use Rattle.automaton.proofs.SlotLemmas.{changed_here, changed_other, edge_is_some, end_is_some, used_below}
 
@@ -22,11 +22,6 @@ use Rattle.automaton.proofs.SlotLemmas.{changed_here, changed_other, edge_is_som
 pub either : {T E P Q : Type 0} (result : Result T E) → OnOk result P → OnErr result Q → P ⊎ Q
 either (Ok value) p q = inl p
 either (Err fault) p q = inr q
-
--- it went wrong
-pub failed : {T E Q : Type 0} (result : Result T E) → is_err result ≡ true → OnErr result Q → Q
-failed (Ok value) e q = cc
-failed (Err fault) e q = q
 
 -- what holds of the fields of a network
 abbrev pub Holds : ℕ → Net → Type 0
@@ -51,6 +46,7 @@ module _ (states state : ℕ) (slots : Net) (used : is_used slots state ≡ true
   nothing_put : put ≡ read → set slots state put ≡ slots
   nothing_put same = ap (set slots state) (same ∙ there) ∙ set-get_or slots state None
 
+  -- the count of states is the same with one more end or with none
   pub end_kept : {T E : Type 0} (result : Result T E) (end : End) → OnOk result (put ≡ with_end end read) → OnErr result (put ≡ read) → Holds states (set slots state put)
   end_kept result end ok err = elim (either result ok err) [ inl put_is ↦ came put_is | inr same ↦ subst (Holds states) (sym (nothing_put same)) holds ]
     where
@@ -72,6 +68,7 @@ module _ (states state : ℕ) (slots : Net) (used : is_used slots state ≡ true
     places = length-set slots state put;
   }
 
+  -- it is the same without an end
   pub end_left : (number : ℕ) → put ≡ without_end number read → Holds states (set slots state put)
   end_left number put_is = (
     holds.0 ∙ sym (count-set is_some slots state put None inside (ap is_some (put_is ∙ ap (without_end number) there) ∙ gone_is_some number (state_at slots state))),
@@ -80,6 +77,7 @@ module _ (states state : ℕ) (slots : Net) (used : is_used slots state ≡ true
 
 -- a root state came
 module _ (states number stream : ℕ) (slots new : Net) (state : State) (next : number ≤ length slots) (free : is_used slots number ≡ false) (is : state ≡ record { entry = entry.Root stream; edges = []; ends = [] }) (put : new ≡ placed number (Some state) slots) where
+  -- the new root is added
   pub root_added : AddsRoot number stream slots new
   root_added = subst (AddsRoot number stream slots) (sym put) (record {
     here = placed_here number (Some state) slots next ∙ ap (λ s. Some s) is;
@@ -87,6 +85,7 @@ module _ (states number stream : ℕ) (slots new : Net) (state : State) (next : 
     places = placed_length number (Some state) slots next;
   })
 
+  -- there is one state more
   pub root_held : Holds states slots → Holds (states + 1) new
   root_held holds = (
     ap (λ n. n + 1) holds.0 ∙ sym (ap (count_by is_some) put ∙ placed_count number state slots next free),
@@ -111,6 +110,7 @@ module _ (states number before : ℕ) (hop : Hop) (slots new : Net) (state : Sta
   apart : number ≡ before → ⊥
   apart same = let none : is_used slots before ≡ false = ap (is_used slots) (sym same) ∙ free in absurd (let no : true ≡ false = sym used ∙ none in cc)
 
+  -- the new hop is added
   pub hop_added : AddsHop number before hop slots new
   hop_added = subst (AddsHop number before hop slots) (sym put) (record {
     here = placed_here number (Some state) between still_next ∙ ap (λ s. Some s) is;
@@ -119,6 +119,7 @@ module _ (states number before : ℕ) (hop : Hop) (slots new : Net) (state : Sta
     places = placed_length number (Some state) between still_next ∙ ap (λ n. max n (number + 1)) same_length;
   })
 
+  -- there is one state more
   pub hop_held : Holds states slots → Holds (states + 1) new
   hop_held holds =
       let counted : count_by is_some between ≡ count_by is_some slots = count-set is_some slots before (with_edge number (state_at slots before)) None from_inside (edge_is_some number (state_at slots before)) in
@@ -129,6 +130,7 @@ module _ (states number before : ℕ) (hop : Hop) (slots new : Net) (state : Sta
 
 -- a state left
 module _ (number : ℕ) (slots : Net) (used : is_used slots number ≡ true) (last : edges_at slots number ≡ []) (is : IsNetwork slots) where
+  -- a state before is one of the network
   pub from_below : (before : Option ℕ) → before ≡ before_at slots number → IfSome before (λ from. from < length slots)
   from_below None from = tt
   from_below (Some before) from = used_below slots before (before_used slots is number before (sym from))
@@ -174,6 +176,7 @@ module _ (number : ℕ) (slots : Net) (used : is_used slots number ≡ true) (la
     fewer : count_by is_some (set loose number None) + 1 ≡ count_by is_some slots
     fewer = count_gone number loose (ap is_some (loose_other number not_itself) ∙ used) below ∙ loose_count
 
+    -- the state is removed
     pub state_removed : RemovesState number slots (set loose number None)
     state_removed = record {
       here = changed_here loose number None below;
@@ -183,6 +186,7 @@ module _ (number : ℕ) (slots : Net) (used : is_used slots number ≡ true) (la
       fewer = fewer;
     }
 
+    -- there is one state less
     pub state_left : (states : ℕ) → states ≡ count_by is_some slots → Holds (states - 1) (set loose number None)
     state_left states counted =
         (omega (arith, fewer, counted), removes_state_network number slots (set loose number None) state_removed last is)

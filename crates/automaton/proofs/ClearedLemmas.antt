@@ -13,7 +13,8 @@ use Rattle.automaton.specs.Prefixes.{Prefix, Root, After}
 use Rattle.automaton.specs.States.{Net, before_at, before_by, before_in, edges_at, edges_in, entry_at, entry_in, is_used, root_by, state_at, tells}
 use Rattle.automaton.proofs.ChangeLemmas.{entry_there, something_there}
 use Rattle.automaton.proofs.CountLemmas.{bit, count-has, none_counted}
-use Rattle.automaton.proofs.NumberLemmas.{are_same_or_not, is_other, is_same, same_number}
+use Rattle.event_types.proofs.NumberLemmas.{is_other, is_same, same_number}
+use Rattle.automaton.proofs.NumberLemmas.{are_same_or_not}
 use Rattle.automaton.proofs.WithoutLemmas.{count-gone, count-without}
 
 -- what is counted stands somewhere
@@ -32,13 +33,16 @@ told_one number (Some other) le = go (other == number) refl le
     go true is le = ap (λ n. Some n) (same_number other number is)
     go false is le = absurd (omega arith)
 
+-- a number that is there is told, and counts one
 pub told_so : (number : ℕ) (o : Option ℕ) → o ≡ Some number → bit (tells number o) ≡ 1
 told_so number o is = ap (λ o. bit (tells number o)) is ∙ ap bit (is_same number number refl)
 
+-- another one isn't told
 pub told_not : (number : ℕ) (o : Option ℕ) → (o ≡ Some number → ⊥) → tells number o ≡ false
 told_not number None ne = refl
 told_not number (Some other) ne = is_other other number (λ e. ne (ap (λ n. Some n) e))
 
+-- an entry that has a state before it is that of a waiting state
 pub waiting_before : (o : Option Entry) (before : ℕ) → option_and_then before_by o ≡ Some before → (hop : Hop) × (o ≡ Some (entry.Waiting before hop))
 waiting_before None before e = cc
 waiting_before (Some (entry.Root stream)) before e = cc
@@ -82,6 +86,7 @@ entered_by (Some (entry.Waiting from own)) before hop e f = let same : from ≡ 
 
 -- a state leaves
 module _ (number : ℕ) (old new : Net) (removes : RemovesState number old new) (last : edges_at old number ≡ []) (is : IsNetwork old) where
+  -- what an edge doesn't change is the same at each other place
   pub left_reads : {X : Type 0} (f : Option State → X) → ((slot : Option State) → f (without_edge number slot) ≡ f slot) → (other : ℕ) → (other ≡ number → ⊥) → f (state_at new other) ≡ f (state_at old other)
   left_reads f kept other ne = by_before (before_at old number) refl
     where
@@ -97,9 +102,11 @@ module _ (number : ℕ) (old new : Net) (removes : RemovesState number old new) 
   edge_entry_kept None = refl
   edge_entry_kept (Some state) = refl
 
+  -- each other state has the same entry
   pub left_entry : (other : ℕ) → (other ≡ number → ⊥) → entry_at new other ≡ entry_at old other
   left_entry = left_reads entry_in edge_entry_kept
 
+  -- each other state has the same prefix
   pub left_at : (other : ℕ) (prefix : Prefix) → (other ≡ number → ⊥) → IsAt old other prefix → IsAt new other prefix
   left_at other (Root stream) ne here = ap (option_and_then root_by) (left_entry other ne) ∙ here
   left_at other (After prefix hop) ne here =
@@ -145,6 +152,7 @@ module _ (number : ℕ) (old new : Net) (removes : RemovesState number old new) 
       by_numbers (inr nf) (inr nn) =
           left_reads (λ slot. count_by (λ edge. edge == next) (edges_in slot)) (cut nf nn) from nf ∙ is.edges from next ∙ ap (λ o. bit (tells from o)) (sym (told nn))
 
+  -- a network without a state is a network
   pub removes_state_network : IsNetwork new
   removes_state_network = record {
     places = λ n used.

@@ -13,6 +13,7 @@ abbrev pub bit : Bool → ℕ
 bit b = cond b 1 0
 
 module _ {X : Type 0} (p : X → Bool) where
+  -- one item more counts where it passes
   pub count-cons : (x : X) (xs : List X) → count_by p (x ∷ xs) ≡ cond (p x) 1 0 + count_by p xs
   count-cons x xs = sum_by-cons (λ y. bit (p y)) x xs
 

@@ -19,7 +19,8 @@ use Rattle.automaton.specs.Plain.{numbered}
 use Rattle.automaton.specs.Prefixes.{beginnings, path, prefixes}
 use Rattle.automaton.specs.States.{Net, before_at, before_by, before_in, edges_at, edges_in, ends_at, ends_in, entry_at, entry_in, is_used, root_by, root_in, state_at, tells}
 use Rattle.automaton.proofs.CountLemmas.{bit, count-set}
-use Rattle.automaton.proofs.NumberLemmas.{are_same_or_not, is_other, is_same}
+use Rattle.event_types.proofs.NumberLemmas.{is_other, is_same}
+use Rattle.automaton.proofs.NumberLemmas.{are_same_or_not}
 use Rattle.automaton.proofs.PlaceLemmas.{endings_more, numbered-push, path-ending, path-hops, path-root}
 use Rattle.automaton.proofs.SlotLemmas.{KeepsEntries, at_kept, at_one, at_used, changed_here, changed_other, end_edges, end_ends, end_entry, end_is_some, ended_reads, used_below}
 

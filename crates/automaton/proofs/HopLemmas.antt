@@ -15,7 +15,8 @@ use Rattle.automaton.specs.Plain.{numbered}
 use Rattle.automaton.specs.Prefixes.{Prefix, After, beginnings, hops_of, prefixes}
 use Rattle.automaton.specs.States.{Net, before_at, before_by, before_in, edges_at, edges_in, ends_at, ends_in, entry_at, entry_in, is_used, root_by, root_in, state_at, tells}
 use Rattle.automaton.proofs.CountLemmas.{bit, count-push, count-set}
-use Rattle.automaton.proofs.NumberLemmas.{are_same_or_not, is_other, is_same}
+use Rattle.event_types.proofs.NumberLemmas.{is_other, is_same}
+use Rattle.automaton.proofs.NumberLemmas.{are_same_or_not}
 use Rattle.automaton.proofs.PlaceLemmas.{nothing_before, nothing_edged, endings_kept, entries_kept, none_behind, place_here, places_kept, prefixes_kept, with_place}
 use Rattle.automaton.proofs.SlotLemmas.{at_kept, edge_edges, edge_ends, edge_entry, edge_is_some, hopped_here, hopped_length, hopped_other, hopped_reads, hopped_tip, used_below}
 

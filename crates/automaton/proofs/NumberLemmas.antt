@@ -1,18 +1,6 @@
 -- What tests of numbers say.
-use Rattle.std.proofs.Common.{◌≡◌, ◌⊎◌, inl, inr, ℕ, ◌==◌, Bool, true, false, arith}
-use Rattle.std.proofs.lemmas.Bool.Decides.{nat_tests}
-
-pub same_number : (m n : ℕ) → (m == n) ≡ true → m ≡ n
-same_number m n e = grind (arith, nat_tests)
-
-pub other_number : (m n : ℕ) → (m == n) ≡ false → m ≡ n → ⊥
-other_number m n e same = grind (arith, nat_tests)
-
-pub is_same : (m n : ℕ) → m ≡ n → (m == n) ≡ true
-is_same m n e = grind (arith, nat_tests)
-
-pub is_other : (m n : ℕ) → (m ≡ n → ⊥) → (m == n) ≡ false
-is_other m n ne = grind (arith, nat_tests)
+use Rattle.std.proofs.Common.{◌≡◌, ◌⊎◌, inl, inr, ℕ, ◌==◌, Bool, true, false}
+use Rattle.event_types.proofs.NumberLemmas.{other_number, same_number}
 
 -- two numbers are the same or not
 pub are_same_or_not : (m n : ℕ) → (m ≡ n) ⊎ (m ≡ n → ⊥)

@@ -13,7 +13,8 @@ use Rattle.automaton.specs.Plain.{numbered}
 use Rattle.automaton.specs.Prefixes.{Prefix, Root, After, extended, hops_of, path, root_of}
 use Rattle.automaton.specs.States.{Net, before_at, before_in, edges_at, edges_in, ends_at, ends_in, entry_at, entry_in, is_used, state_at}
 use Rattle.automaton.proofs.CountLemmas.{range_more, range-push, range_same}
-use Rattle.automaton.proofs.NumberLemmas.{are_same_or_not, is_other, is_same}
+use Rattle.event_types.proofs.NumberLemmas.{is_other, is_same}
+use Rattle.automaton.proofs.NumberLemmas.{are_same_or_not}
 use Rattle.automaton.proofs.SlotLemmas.{KeepsEntries, at_kept, entry_there}
 
 -- no state has the number behind all others
@@ -24,6 +25,7 @@ none_behind net = get_or_past net (length net) None (omega arith)
 pub nothing_before : (net : Net) → before_at net (length net) ≡ None
 nothing_before net = ap before_in (none_behind net)
 
+-- past the last place there are no edges
 pub nothing_edged : (net : Net) → edges_at net (length net) ≡ []
 nothing_edged net = ap edges_in (none_behind net)
 
@@ -31,14 +33,17 @@ nothing_edged net = ap edges_in (none_behind net)
 abbrev pub with_place : ℕ → Prefix → (ℕ → Prefix) → ℕ → Prefix
 with_place new prefix places number = cond (number == new) prefix (places number)
 
+-- the new place has the new prefix
 pub place_here : (new : ℕ) (prefix : Prefix) (places : ℕ → Prefix) → with_place new prefix places new ≡ prefix
 place_here new prefix places = ap (λ b. cond b prefix (places new)) (is_same new new refl)
 
+-- each other place has its prefix
 pub place_other : (new : ℕ) (prefix : Prefix) (places : ℕ → Prefix) (number : ℕ) → (number ≡ new → ⊥) → with_place new prefix places number ≡ places number
 place_other new prefix places number ne = ap (λ b. cond b prefix (places number)) (is_other number new ne)
 
 -- one more state, without ends
 module _ (net grown : Net) (longer : length grown ≡ suc (length net)) (entries : (number : ℕ) → (number ≡ length net → ⊥) → entry_at grown number ≡ entry_at net number) where
+  -- growth keeps the entries
   pub entries_kept : KeepsEntries net grown
   entries_kept number e is = entries number (λ same. let gone : entry_at net number ≡ None = ap (entry_at net) same ∙ ap entry_in (none_behind net) in cc) ∙ is
 
@@ -46,6 +51,7 @@ module _ (net grown : Net) (longer : length grown ≡ suc (length net)) (entries
   was_used number ne used = sym (entry_there (state_at net number)) ∙ ap is_some (sym (entries number ne)) ∙ entry_there (state_at grown number) ∙ used
 
   module _ (places : ℕ → Prefix) (are : ArePlaces net places) (prefix : Prefix) (here : IsAt grown (length net) prefix) where
+    -- the places of prefixes are right in the grown network
     pub places_kept : ArePlaces grown (with_place (length net) prefix places)
     places_kept number used = by_number (are_same_or_not number (length net))
       where
@@ -53,6 +59,7 @@ module _ (net grown : Net) (longer : length grown ≡ suc (length net)) (entries
         by_number (inl same) = subst (λ n. IsAt grown n (with_place (length net) prefix places n)) (sym same) (subst (IsAt grown (length net)) (sym (place_here (length net) prefix places)) here)
         by_number (inr ne) = subst (IsAt grown number) (sym (place_other (length net) prefix places number ne)) (at_kept net grown entries_kept number (places number) (are number (was_used number ne used)))
 
+    -- so the prefixes are among those
     pub prefixes_kept : (among : List Prefix) → ((number : ℕ) → is_used net number ≡ true → Contains among (places number)) → Contains among prefix → (number : ℕ) → is_used grown number ≡ true → Contains among (with_place (length net) prefix places number)
     prefixes_kept among each new number used = by_number (are_same_or_not number (length net))
       where
@@ -60,6 +67,7 @@ module _ (net grown : Net) (longer : length grown ≡ suc (length net)) (entries
         by_number (inl same) = subst (λ n. Contains among (with_place (length net) prefix places n)) (sym same) (subst (Contains among) (sym (place_here (length net) prefix places)) new)
         by_number (inr ne) = subst (Contains among) (sym (place_other (length net) prefix places number ne)) (each number (was_used number ne used))
 
+    -- where the ends are the same, so are the endings
     pub endings_kept : ((number : ℕ) → ends_at grown number ≡ ends_at net number) → endings_by (with_place (length net) prefix places) grown ≡ endings_by places net
     endings_kept ends =
         ap (λ n. flat_map after (range_with_len 0 n)) longer ∙ range-push after 0 (length net)
@@ -81,6 +89,7 @@ module _ (net grown : Net) (longer : length grown ≡ suc (length net)) (entries
 
 -- one more end
 module _ (net grown : Net) (same_length : length grown ≡ length net) (places : ℕ → Prefix) (tip : ℕ) (end : End) where
+  -- one more end gives one more ending
   pub endings_more : tip < length net → ends_at grown tip ≡ ends_at net tip ++ end ∷ [] → ((number : ℕ) → (number ≡ tip → ⊥) → ends_at grown number ≡ ends_at net number)
       → IsPermutation (endings_by places grown) (endings_by places net ++ ending_at (places tip) end ∷ [])
   endings_more inside here other =
@@ -105,12 +114,15 @@ extended-hops : (prefix : Prefix) (hops : List Hop) → hops_of (extended prefix
 extended-hops prefix [] = sym (append-nil (hops_of prefix))
 extended-hops prefix (hop ∷ hops) = extended-hops (After prefix hop) hops ∙ append_assoc (hops_of prefix) (hop ∷ []) hops
 
+-- the path of a line begins at its root
 pub path-root : (line : Line) → root_of (path line) ≡ line.root
 path-root line = extended-root (Root line.root) line.hops
 
+-- it has the line's hops
 pub path-hops : (line : Line) → hops_of (path line) ≡ line.hops
 path-hops line = extended-hops (Root line.root) line.hops
 
+-- one more hop is behind the others
 pub extended-push : (prefix : Prefix) (hops : List Hop) (hop : Hop) → extended prefix (hops ++ hop ∷ []) ≡ After (extended prefix hops) hop
 extended-push prefix [] hop = refl
 extended-push prefix (first ∷ hops) hop = extended-push (After prefix first) hops hop

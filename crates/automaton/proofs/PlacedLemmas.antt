@@ -16,6 +16,7 @@ use Rattle.automaton.proofs.NumberLemmas.{are_same_or_not}
 use Rattle.automaton.proofs.SlotLemmas.{changed_here, changed_other, pushed_here, pushed_other}
 
 module _ (number : ℕ) (slot : Option State) (net : Net) (next : number ≤ length net) where
+  -- the place has the slot
   pub placed_here : state_at (placed number slot net) number ≡ slot
   placed_here = go (nat_lt number (length net)) refl
     where
@@ -23,6 +24,7 @@ module _ (number : ℕ) (slot : Option State) (net : Net) (next : number ≤ len
       go true is = changed_here net number slot (grind (arith, nat_tests))
       go false is = let last : number ≡ length net = grind (arith, nat_tests) in ap (state_at (net ++ slot ∷ [])) last ∙ pushed_here net slot
 
+  -- each other place is as it was
   pub placed_other : (other : ℕ) → (other ≡ number → ⊥) → state_at (placed number slot net) other ≡ state_at net other
   placed_other other ne = go (nat_lt number (length net)) refl
     where
@@ -30,6 +32,7 @@ module _ (number : ℕ) (slot : Option State) (net : Net) (next : number ≤ len
       go true is = changed_other net number slot other ne
       go false is = let last : number ≡ length net = grind (arith, nat_tests) in pushed_other net slot other (λ e. ne (e ∙ sym last))
 
+  -- there are as many places as before, or up to this one
   pub placed_length : length (placed number slot net) ≡ max (length net) (number + 1)
   placed_length = go (nat_lt number (length net)) refl
     where
@@ -78,6 +81,7 @@ set_back net number slot lt =
             ∙ changed_here (set net number slot) number (state_at net number) (let e = length-set net number slot in omega arith) ∙ ap (state_at net) (sym same)
         by_number (inr ne) = changed_other (set net number slot) number (state_at net number) k ne ∙ changed_other net number slot k ne
 
+-- an edge that is put and cut again leaves the slot as it was
 pub edge_cut : (slots between : Net) (before next : ℕ) (read edged back cut : Option State) → before < length slots → read ≡ get_or slots before read → edged ≡ with_edge next read → between ≡ set slots before edged
     → back ≡ get_or between before back → cut ≡ without_last back → set between before cut ≡ slots
 edge_cut slots between before next read edged back cut lt read_is edged_is between_is back_is cut_is =
@@ -101,6 +105,7 @@ shrunk_reads net some free number = by_order (cases_lt number (length net - 1))
         none (inl same) = ap (state_at net) same ∙ nothing_there (state_at net (length net - 1)) free
         none (inr ne) = get_or_past net number None (let past : length net ≤ number = omega (arith, le, ne) in past)
 
+-- a last place with no state may go, and the count of states is the same
 pub shrunk_count : (net : Net) → 0 < length net → is_used net (length net - 1) ≡ false → count_by is_some (take (length net - 1) net) ≡ count_by is_some net
 shrunk_count net some free =
     let last : length net - 1 < length net = omega arith in

@@ -18,7 +18,8 @@ use Rattle.automaton.specs.Plain.{numbered}
 use Rattle.automaton.specs.Prefixes.{Root, beginnings, prefixes}
 use Rattle.automaton.specs.States.{Net, before_at, before_by, before_in, edges_in, ends_in, entry_at, entry_in, is_used, root_at, root_by, root_in, state_at, tells}
 use Rattle.automaton.proofs.CountLemmas.{bit, count-has, count-push, none_counted}
-use Rattle.automaton.proofs.NumberLemmas.{are_same_or_not, is_other, same_number}
+use Rattle.event_types.proofs.NumberLemmas.{is_other, same_number}
+use Rattle.automaton.proofs.NumberLemmas.{are_same_or_not}
 use Rattle.automaton.proofs.PlaceLemmas.{nothing_before, endings_kept, none_behind, place_here, places_kept, prefixes_kept, with_place}
 use Rattle.automaton.proofs.SlotLemmas.{at_used, pushed_here, pushed_other, root_place}
 
@@ -58,6 +59,7 @@ module _ (lines : List Line) (stream : ℕ) (net : Net) (whole : IsWhole lines n
   abbrev is_its : Option State → Bool
   is_its slot = tells stream (root_in slot)
 
+  -- where the stream has a root, nothing grows
   pub found_root : (tip : ℕ) → position is_its net ≡ Some tip → IsGrown lines tip (Root stream) net
   found_root tip found =
       let at_tip = position-Some is_its net tip None found in
@@ -98,6 +100,7 @@ module _ (lines : List Line) (stream : ℕ) (net : Net) (whole : IsWhole lines n
           ap (λ n. f (state_at (net ++ new_root ∷ []) n)) same ∙ ap f (pushed_here net new_root) ∙ none ∙ sym (ap f (none_behind net)) ∙ ap (λ n. f (state_at net n)) (sym same)
       by_number (inr ne) = ap f (pushed_other net new_root number ne)
 
+  -- else one root more stands at the end
   pub pushed_root : position is_its net ≡ None → IsGrown lines (length net) (Root stream) (net ++ new_root ∷ [])
   pushed_root absent =
       let grown : Net = net ++ new_root ∷ [] in

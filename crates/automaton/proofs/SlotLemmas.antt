@@ -27,9 +27,11 @@ used_below net number used = by_order (cases_lt number (length net))
 
 -- a state behind all others
 module _ (net : Net) (slot : Option State) where
+  -- the slot that was put stands at the end
   pub pushed_here : state_at (net ++ slot ∷ []) (length net) ≡ slot
   pushed_here = get_or-append_seam net slot [] None
 
+  -- each other place is as it was
   pub pushed_other : (number : ℕ) → (number ≡ length net → ⊥) → state_at (net ++ slot ∷ []) number ≡ state_at net number
   pushed_other number ne = by_order (cases_lt number (length net))
     where
@@ -42,14 +44,17 @@ module _ (net : Net) (slot : Option State) where
 
 -- a slot that is changed
 module _ (net : Net) (tip : ℕ) (slot : Option State) where
+  -- the changed place has the new slot
   pub changed_here : tip < length net → state_at (set net tip slot) tip ≡ slot
   changed_here lt = get_or-set_same net tip slot None lt
 
+  -- each other place is as it was
   pub changed_other : (number : ℕ) → (number ≡ tip → ⊥) → state_at (set net tip slot) number ≡ state_at net number
   changed_other number ne = get_or-set_other net tip number slot None ne
 
 -- a hop
 module _ (net : Net) (tip : ℕ) (hop : Hop) (inside : tip < length net) where
+  -- the new state stands at the end, behind the tip
   pub hopped_here : state_at (hopped tip hop net) (length net) ≡ Some (record { entry = entry.Waiting tip hop; edges = []; ends = [] })
   hopped_here =
       let changed = set net tip (with_edge (length net) (state_at net tip)) in
@@ -62,12 +67,15 @@ module _ (net : Net) (tip : ℕ) (hop : Hop) (inside : tip < length net) where
         let same = length-set net tip (with_edge (length net) (state_at net tip)) in
         pushed_other (set net tip (with_edge (length net) (state_at net tip))) (Some (record { entry = entry.Waiting tip hop; edges = []; ends = [] })) number (λ e. ne (e ∙ same))
 
+    -- each other place but the tip is as it was
     pub hopped_other : (number ≡ tip → ⊥) → state_at (hopped tip hop net) number ≡ state_at net number
     hopped_other nt = hopped_changed ∙ changed_other net tip (with_edge (length net) (state_at net tip)) number nt
 
+  -- the tip has one edge more
   pub hopped_tip : state_at (hopped tip hop net) tip ≡ with_edge (length net) (state_at net tip)
   hopped_tip = hopped_changed tip (λ e. absurd (omega (arith, inside, e))) ∙ changed_here net tip (with_edge (length net) (state_at net tip)) inside
 
+  -- there is one place more
   pub hopped_length : length (hopped tip hop net) ≡ length net + 1
   hopped_length =
       length-append (set net tip (with_edge (length net) (state_at net tip))) (Some (record { entry = entry.Waiting tip hop; edges = []; ends = [] }) ∷ [])
@@ -78,42 +86,51 @@ pub edge_entry : (next : ℕ) (slot : Option State) → entry_in (with_edge next
 edge_entry next None = refl
 edge_entry next (Some state) = refl
 
+-- an edge changes no ends
 pub edge_ends : (next : ℕ) (slot : Option State) → ends_in (with_edge next slot) ≡ ends_in slot
 edge_ends next None = refl
 edge_ends next (Some state) = refl
 
+-- it is the last of the edges
 pub edge_edges : (next : ℕ) (slot : Option State) → is_some slot ≡ true → edges_in (with_edge next slot) ≡ edges_in slot ++ next ∷ []
 edge_edges next None used = cc
 edge_edges next (Some state) used = refl
 
+-- an end changes no entry
 pub end_entry : (end : End) (slot : Option State) → entry_in (with_end end slot) ≡ entry_in slot
 end_entry end None = refl
 end_entry end (Some state) = refl
 
+-- and no edges
 pub end_edges : (end : End) (slot : Option State) → edges_in (with_end end slot) ≡ edges_in slot
 end_edges end None = refl
 end_edges end (Some state) = refl
 
+-- it is the last of the ends
 pub end_ends : (end : End) (slot : Option State) → is_some slot ≡ true → ends_in (with_end end slot) ≡ ends_in slot ++ end ∷ []
 end_ends end None used = cc
 end_ends end (Some state) used = refl
 
+-- an edge makes and takes no state
 pub edge_is_some : (next : ℕ) (slot : Option State) → is_some (with_edge next slot) ≡ is_some slot
 edge_is_some next None = refl
 edge_is_some next (Some state) = refl
 
+-- nor does an end
 pub end_is_some : (end : End) (slot : Option State) → is_some (with_end end slot) ≡ is_some slot
 end_is_some end None = refl
 end_is_some end (Some state) = refl
 
 -- what is read of a slot, where the edge or the end that comes doesn't change it
 module _ {X : Type 0} (f : Option State → X) (net : Net) (tip : ℕ) where
+  -- what an edge doesn't change is the same at each place but the new one
   pub hopped_reads : (hop : Hop) → tip < length net → f (with_edge (length net) (state_at net tip)) ≡ f (state_at net tip) → (number : ℕ) → (number ≡ length net → ⊥) → f (state_at (hopped tip hop net) number) ≡ f (state_at net number)
   hopped_reads hop inside kept number ne = elim (are_same_or_not number tip) [ inl same ↦ at_tip same | inr nt ↦ ap f (hopped_other net tip hop inside number ne nt) ]
     where
       at_tip : number ≡ tip → f (state_at (hopped tip hop net) number) ≡ f (state_at net number)
       at_tip same = ap (λ n. f (state_at (hopped tip hop net) n)) same ∙ ap f (hopped_tip net tip hop inside) ∙ kept ∙ ap (λ n. f (state_at net n)) (sym same)
 
+  -- what an end doesn't change is the same at each place
   pub ended_reads : (end : End) → tip < length net → f (with_end end (state_at net tip)) ≡ f (state_at net tip) → (number : ℕ) → f (state_at (ended tip end net) number) ≡ f (state_at net number)
   ended_reads end inside kept number = elim (are_same_or_not number tip) [ inl same ↦ at_tip same | inr nt ↦ ap f (changed_other net tip (with_end end (state_at net tip)) number nt) ]
     where
@@ -125,11 +142,13 @@ module _ {X : Type 0} (f : Option State → X) (net : Net) (tip : ℕ) where
 abbrev pub KeepsEntries : Net → Net → Type 0
 KeepsEntries net grown = (number : ℕ) (e : Entry) → entry_at net number ≡ Some e → entry_at grown number ≡ Some e
 
+-- an entry that has a root stream is that of a root
 pub root_entry : (o : Option Entry) (stream : ℕ) → option_and_then root_by o ≡ Some stream → o ≡ Some (entry.Root stream)
 root_entry None stream e = cc
 root_entry (Some (entry.Root root)) stream e = let same : root ≡ stream = cc in ap (λ s. Some (entry.Root s)) same
 root_entry (Some (entry.Waiting before hop)) stream e = cc
 
+-- where entries are kept, each state has the same prefix
 pub at_kept : (net grown : Net) → KeepsEntries net grown → (number : ℕ) (prefix : Prefix) → IsAt net number prefix → IsAt grown number prefix
 at_kept net grown keeps number (Root stream) here = ap (option_and_then root_by) (keeps number (entry.Root stream) (root_entry (entry_at net number) stream here))
 at_kept net grown keeps number (After prefix hop) here = (here.0, keeps number (entry.Waiting here.0 hop) here.1, at_kept net grown keeps here.0 prefix here.2)

@@ -36,21 +36,24 @@ stage_one : (stage : Stage) (kinds out other : List Kind) → StageGives stage k
 stage_one (Keep condition) kinds out other h g = sym h.1 ∙ g.1
 stage_one (Make m) kinds out other h g = kinds_are m.parts kinds None out h ∙ sym (kinds_are m.parts kinds None other g)
 
-step_one : (step : List Stage) (kinds out other : List Kind) → StepGives step kinds out → StepGives step kinds other → out ≡ other
+-- so does a step
+pub step_one : (step : List Stage) (kinds out other : List Kind) → StepGives step kinds out → StepGives step kinds other → out ≡ other
 step_one [] kinds out other h g = sym h ∙ g
 step_one (stage ∷ step) kinds out other h g =
     let same = stage_one stage kinds h.0 g.0 h.1 g.1 in
     step_one step g.0 out other (subst (λ (mid : List Kind). StepGives step mid out) same h.2) g.2
 
--- so do a rebind edge and a hop
+-- so does a rebind edge
 turn_one : (turn : Option Turn) (binding event out other : List Kind) → TurnGives turn binding event out → TurnGives turn binding event other → out ≡ other
 turn_one None binding event out other h g = sym h ∙ g
 turn_one (Some turn) binding event out other h g = sym h.2 ∙ g.2
 
-event_one : (events : Option (List Kind)) (event other : List Kind) → events ≡ Some event → events ≡ Some other → event ≡ other
+-- a stream has one list of kinds
+pub event_one : (events : Option (List Kind)) (event other : List Kind) → events ≡ Some event → events ≡ Some other → event ≡ other
 event_one events event other h g = cc
 
-hop_one : (streams : List (List Kind)) (hop : Hop) (kinds out other : List Kind) → HopGives streams hop kinds out → HopGives streams hop kinds other → out ≡ other
+-- so does a hop
+pub hop_one : (streams : List (List Kind)) (hop : Hop) (kinds out other : List Kind) → HopGives streams hop kinds out → HopGives streams hop kinds other → out ≡ other
 hop_one streams hop kinds out other h g =
     let binding = step_one hop.step kinds h.0 g.0 h.2 g.2 in
     let event = event_one (slice_get streams hop.wait.stream) h.1 g.1 h.3 g.3 in

@@ -8,7 +8,7 @@ use Rattle.std.proofs.lemmas.List.{take-append-le, drop-append-le}
 use Rattle.std.proofs.lemmas.Option.{get_or_from_slice_get, slice_get_within}
 use Rattle.automaton.proofs.CountLemmas.{bit, count-cons}
 use Rattle.automaton.proofs.EqualityLemmas.{take_read}
-use Rattle.automaton.proofs.NumberLemmas.{is_other, is_same, same_number}
+use Rattle.event_types.proofs.NumberLemmas.{is_other, is_same, same_number}
 
 module _ {X : Type 0} (keep : X → Bool) where
   -- the items before a place are kept already, and those from there on are as they were
@@ -16,6 +16,7 @@ module _ {X : Type 0} (keep : X → Bool) where
     pub inside : place ≤ length rest
     pub same : take place rest ++ filter keep (drop place rest) ≡ filter keep first
 
+  -- a list is itself without anything
   pub kept_none : (xs : List X) → IsKept xs xs 0
   kept_none xs = record { inside = omega arith; same = refl }
 
@@ -61,6 +62,7 @@ module _ {X : Type 0} (keep : X → Bool) where
 pub is_dropped : (x number : ℕ) → x ≡ number → not (x == number) ≡ false
 is_dropped x number e = ap not (is_same x number e)
 
+-- another number is kept
 pub is_kept : (x number : ℕ) → (x ≡ number → ⊥) → not (x == number) ≡ true
 is_kept x number ne = ap not (is_other x number ne)
 

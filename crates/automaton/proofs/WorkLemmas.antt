@@ -1,10 +1,9 @@
 -- Streams that are made in the order of work.
-use Rattle.std.proofs.Common.{◌≡◌, ◌∙◌, sym, ap, refl, ℕ, ◌==◌, Bool, true, false, ◌||◌, cond, List, [], ◌∷◌}
+use Rattle.std.proofs.Common.{◌≡◌, ◌∙◌, sym, ap, refl, ℕ, ◌==◌, false, cond, List, [], ◌∷◌}
 use Rattle.std.specs.List.{All, filter, filter_map}
 use Rattle.std.proofs.lemmas.List.Elements.{All-nil, All-cons, All-head, All-tail, All-weaker}
 use Rattle.semantics.specs.Denotation.{Streams}
 use Rattle.semantics.specs.Programs.{with_stream}
-use Rattle.scalar_expr.proofs.RunsLemmas.{flat_map_same}
 use Rattle.automaton.specs.declared.line.Hop.{Hop}
 use Rattle.automaton.specs.declared.line.Line.{Line}
 use Rattle.automaton.specs.Flow.{derived, entering, flow, given}
@@ -12,12 +11,9 @@ use Rattle.automaton.specs.Prefixes.{Prefix, Root, After, extended}
 use Rattle.automaton.specs.Steps.{pass}
 use Rattle.automaton.specs.Waits.{chosen}
 use Rattle.automaton.specs.Work.{IsInOrder, ReadsNone, completed, is_in}
-use Rattle.automaton.proofs.NumberLemmas.{is_same}
-
--- both parts of what isn't
-pub or_parts : (a b : Bool) → (a || b) ≡ false → (a ≡ false) × (b ≡ false)
-or_parts true b e = absurd (let no : true ≡ false = e in cc)
-or_parts false b e = (refl, e)
+use Rattle.event_types.proofs.NumberLemmas.{self_equal}
+use Rattle.std.proofs.lemmas.Bool.{or_parts}
+use Rattle.semantics.proofs.ReportLemmas.{flat_map_same}
 
 -- streams that are not worked on stay
 pub completed_other : (lines : List Line) (order : List ℕ) (streams : Streams) (stream : ℕ) → is_in order stream ≡ false → completed lines order streams stream ≡ streams stream
@@ -34,13 +30,11 @@ module _ (streams others : Streams) where
       let here = All-head (λ h. streams h.wait.stream ≡ others h.wait.stream) hop hops all in
       flow_alike (After prefix hop) hops (λ i. chosen hop.wait.choose hop.wait.fold (here i) (entering hop (same i))) (All-tail (λ h. streams h.wait.stream ≡ others h.wait.stream) hop hops all)
 
+  -- a line gives the same over streams that agree on what it reads
   pub given_alike : (line : Line) → streams line.root ≡ others line.root → All (λ hop. streams hop.wait.stream ≡ others hop.wait.stream) line.hops → given streams line ≡ given others line
   given_alike line root hops = ap (filter_map (pass line.last)) (flow_alike (Root line.root) line.hops root hops)
 
--- each derived stream is what its lines give
-pub self_equal : (stream : ℕ) → (stream == stream) ≡ true
-self_equal stream = is_same stream stream refl
-
+-- in an order each stream is what the lines derive
 pub streams_derived : (lines : List Line) (order : List ℕ) (streams : Streams) → IsInOrder lines order → All (λ stream. completed lines order streams stream ≡ derived lines (completed lines order streams) stream) order
 streams_derived lines [] streams ordered = All-nil (λ stream. streams stream ≡ derived lines streams stream)
 streams_derived lines (stream ∷ order) streams ordered =

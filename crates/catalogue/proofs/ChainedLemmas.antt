@@ -127,9 +127,11 @@ module _ (c : Catalogued) (accepted : IsAccepted c) (typed : length c.expression
           ∙ stream_at c accepted query place (sym (place_is c accepted places placed query small)) (place_small c accepted places placed query small) ∙ sym (query_there query small)
 
   module _ (declared : ℕ) (kinds : List (List Kind)) (declared_is : declared ≡ length c.declared) (kinds_are : kinds ≡ lists) where
+    -- the chains are asked for the catalogue's expressions
     pub asks : Asks c.expressions places declared kinds
     asks = subst (λ (s : ℕ × List (List Kind)). Asks c.expressions places s.0 s.1) (λ i. (sym declared_is i, sym kinds_are i)) asked
 
+    -- and made of them
     pub chained : (chains : Chains) → AreChains declared c.expressions places kinds chains → AreChained c chains
     chained chains made =
         let own = subst (λ (s : ℕ × List (List Kind)). AreChains s.0 c.expressions places s.1 chains) (λ i. (declared_is i, kinds_are i)) made in record {

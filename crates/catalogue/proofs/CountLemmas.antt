@@ -9,11 +9,12 @@ use Rattle.stream_schema.specs.Streams.{Entry}
 use Rattle.cel_grammar.specs.Trees.{Statement}
 use Rattle.resubscribe.specs.Laws.{HasEachOnce}
 use Rattle.resubscribe.specs.Order.{IsOrder}
-use Rattle.resubscribe.proofs.AmongLemmas.{Contains-from_among, among-from_Contains, eq_apart}
+use Rattle.resubscribe.proofs.AmongLemmas.{Contains-from_among, among-from_Contains}
 use Rattle.resubscribe.proofs.OrderLemmas.{HasEachOnce-order}
 use Rattle.catalogue.specs.Reading.{numbers_of, reads_in}
 use Rattle.catalogue.specs.Statements.{queries_in, query_names, reads_by}
 use Rattle.catalogue.specs.Typing.{Declare, none, stream, query}
+use Rattle.event_types.proofs.NumberLemmas.{is_other}
 
 -- each statement declares a stream or is a query
 declared_count : {ss : List Statement} {streams : List Entry} → Declare ss streams → length streams + length (queries_in ss) ≡ length ss
@@ -23,7 +24,7 @@ declared_count (query {later = later} {streams = streams} rest) = let e : length
 
 -- distinct numbers are distinct by their test
 pub distinct_by_test : (xs : List ℕ) → AllPairs (λ x y. x ≢ y) xs → IsDistinct ◌==◌ xs
-distinct_by_test xs apart = IsDistinct-from_apart ◌==◌ xs (λ i j d lt within. eq_apart (get_or xs i d) (get_or xs j d) (apart i j d lt within))
+distinct_by_test xs apart = IsDistinct-from_apart ◌==◌ xs (λ i j d lt within. is_other (get_or xs i d) (get_or xs j d) (apart i j d lt within))
 
 -- an order has as many numbers as there are queries
 pub order_count : (reads : List (List ℕ)) (order : List ℕ) → IsOrder reads order → length order ≡ length reads
@@ -33,6 +34,7 @@ order_count reads order is_order =
     let least : length reads ≤ length order = le-length_from_below order (length reads) (λ q small. among-from_Contains order q ((once.all q).1 small)) in
     omega arith
 
+-- the order has as many numbers as there are queries
 pub query_count : (ss : List Statement) (order : List ℕ) → IsOrder (reads_in ss) order → length order ≡ length (queries_in ss)
 query_count ss order is_order = order_count (reads_in ss) order is_order ∙ length-map (queries_in ss) (λ query. numbers_of (query_names ss) (reads_by query))
 

@@ -18,9 +18,10 @@ use Rattle.catalogue.specs.Naming.{name_fault, name_fault_at}
 use Rattle.catalogue.specs.Statements.{name_of, names_in}
 use Rattle.catalogue.specs.Telling.{TellsBad}
 use Rattle.catalogue.specs.Typing.{Adds, Declare, FailToDeclare, FailsInDeclarations, FailsOn, none, stream, query, here, behind}
-use Rattle.catalogue.proofs.NameLemmas.{number_of-absent, or_false_parts}
+use Rattle.catalogue.proofs.NameLemmas.{number_of-absent}
 use Rattle.catalogue.proofs.NamingLemmas.{new-name}
 use Rattle.catalogue.proofs.PlaceLemmas.{name-at, slice_get-within}
+use Rattle.std.proofs.lemmas.Bool.{or_parts}
 
 -- one more statement behind others
 Declare-push : {ss : List Statement} {streams : List Entry} → Declare ss streams → (s : Statement) (new : List Entry) → Adds s streams new → Declare (ss ++ s ∷ []) new
@@ -52,9 +53,9 @@ fails_after (query rest) s later (l ∷ lines) line f fails on_line = query (fai
 pub absent-streams : {ss : List Statement} {streams : List Entry} → Declare ss streams → (name : List ℕ) → is_among (names_in ss) name ≡ false → is_among (stream_names streams) name ≡ false
 absent-streams none name e = refl
 absent-streams (stream {name = own} {streams = streams} first rest) name e =
-    let parts : (bytes_eq name own ≡ false) × (is_among (names_in _) name ≡ false) = or_false_parts (bytes_eq name own) (is_among (names_in _) name) e in
+    let parts : (bytes_eq name own ≡ false) × (is_among (names_in _) name ≡ false) = or_parts (bytes_eq name own) (is_among (names_in _) name) e in
     ap (λ b. b || is_among (stream_names streams) name) parts.0 ∙ absent-streams rest name parts.1
-absent-streams (query {name = own} rest) name e = absent-streams rest name (or_false_parts (bytes_eq name own) (is_among (names_in _) name) e).1
+absent-streams (query {name = own} rest) name e = absent-streams rest name (or_parts (bytes_eq name own) (is_among (names_in _) name) e).1
 
 module _ (ss : List Statement) (place : ℕ) (s : Statement) (there : slice_get ss place ≡ Some s) where
   parts : take place ss ++ s ∷ drop (place + 1) ss ≡ ss

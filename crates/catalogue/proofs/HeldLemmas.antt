@@ -10,7 +10,6 @@ use Rattle.algebra.specs.Views.{ex_of}
 use Rattle.semantics.specs.Expressions.{Read}
 use Rattle.cel_grammar.specs.Views.{statement_of}
 use Rattle.resubscribe.specs.Laws.{HasEachOnce}
-use Rattle.resubscribe.proofs.AmongLemmas.{eq_apart, eq_self}
 use Rattle.resubscribe.proofs.OrderLemmas.{HasEachOnce-order}
 use Rattle.catalogue.specs.Catalogued.{Catalogued, IsAccepted, judged_of, queries_by}
 use Rattle.catalogue.specs.Judgement.{query_at}
@@ -18,6 +17,7 @@ use Rattle.catalogue.specs.Reading.{reads_in}
 use Rattle.catalogue.specs.Tables.{HasPlaces}
 use Rattle.catalogue.proofs.CountLemmas.{order_count, statement_count}
 use Rattle.catalogue.proofs.PartLemmas.{expr_by, expressions_reach, published_count, stream_by, streams_reach}
+use Rattle.event_types.proofs.NumberLemmas.{self_equal, is_other}
 
 -- the first so many of these numbers have their places
 pub record HasFirstPlaces (numbers places : List ℕ) (many : ℕ) : Type 0 where
@@ -48,9 +48,11 @@ module _ (c : Catalogued) (accepted : IsAccepted c) where
   once : HasEachOnce (reads_in (map statement_of c.file.statements)) c.order
   once = HasEachOnce-order (reads_in (map statement_of c.file.statements)) c.order accepted.accepts.in_order
 
+  -- no query stands twice in the order
   pub order_distinct : AllPairs (λ x y. x ≢ y) c.order
   order_distinct = once.distinct
 
+  -- each number is that of a query
   pub order_small : (number : ℕ) → Contains c.order number → number < length c.order
   order_small number stands = subst (λ (n : ℕ). number < n) (sym (order_count (reads_in (map statement_of c.file.statements)) c.order accepted.accepts.in_order)) ((once.all number).0 stands)
 
@@ -58,6 +60,7 @@ module _ (c : Catalogued) (accepted : IsAccepted c) where
   pub sizes : length c.declared + length c.order ≡ length c.file.statements
   sizes = statement_count (map statement_of c.file.statements) c.declared c.order accepted.accepts.declares accepted.accepts.in_order ∙ length-map c.file.statements statement_of
 
+  -- there is a query for each number of the order
   pub queries_long : length (queries_by (length c.declared) c.published c.expressions) ≡ length c.order
   queries_long = published_count accepted.accepts.publishes
 
@@ -91,6 +94,7 @@ module _ (c : Catalogued) (accepted : IsAccepted c) where
         let is : get_or places query 0 ≡ k = ap (λ q. get_or places q 0) (sym here) ∙ placed.there k within in
         (subst (λ p. p < length c.order) (sym is) within, ap (λ p. get_or c.order p 0) is ∙ here)
 
+    -- the place of a query in the order is within it
     pub place_small : get_or places query 0 < length c.order
     place_small = at_place.0
 
@@ -99,8 +103,8 @@ module _ (c : Catalogued) (accepted : IsAccepted c) where
     place_is =
         let small_place : get_or places query 0 < length c.order = at_place.0 in
         position_or_len_is (λ other. query == other) c.order (get_or places query 0) 0 (omega arith)
-        (λ k before. eq_apart query (get_or c.order k 0) (λ same. order_distinct k (get_or places query 0) 0 before at_place.0 (sym same ∙ sym at_place.1)))
-        (λ within. ap (λ n. query == n) at_place.1 ∙ eq_self query)
+        (λ k before. is_other query (get_or c.order k 0) (λ same. order_distinct k (get_or places query 0) 0 before at_place.0 (sym same ∙ sym at_place.1)))
+        (λ within. ap (λ n. query == n) at_place.1 ∙ self_equal query)
 
   module _ (query place : ℕ) (is : place ≡ position_or_len (λ other. query == other) c.order) (within : place < length c.order) where
     -- the query's stream stands at its place among those that are published

@@ -40,22 +40,27 @@ first_none f lines n line why lengths none first =
     let has : f first.place ≡ Some why = first.has in
     cc
 
+-- a file has at most one first fault of a name
 pub one_name_fault : OneNameFault
 one_name_fault ss lines line other_line why other lengths (name h) (name k) = first_same (name_fault_at ss) lines line other_line why other h k
 one_name_fault ss lines line other_line why other lengths (name h) (read none k) = absurd (first_none (name_fault_at ss) lines (length ss) line why lengths none h)
 one_name_fault ss lines line other_line why other lengths (read none h) (name k) = absurd (first_none (name_fault_at ss) lines (length ss) other_line other lengths none k)
 one_name_fault ss lines line other_line why other lengths (read none h) (read none' k) = first_same (read_fault_at ss) lines line other_line why other h k
 
+-- its names are sound or have a fault
 pub sound_or_fault : SoundOrFault
 sound_or_fault ss lines line why lengths sound (name h) = first_none (name_fault_at ss) lines (length ss) line why lengths sound.names h
 sound_or_fault ss lines line why lengths sound (read none h) = first_none (read_fault_at ss) lines (length ss) line why lengths sound.reads h
 
+-- queries have at most one cycle of names
 pub one_cycle_of_names : OneCycleOfNames
 one_cycle_of_names ss names others h k = h.names_are ∙ ap (names_at ss) (one_cycle (reads_in ss) h.cycle k.cycle h.is_cycle k.is_cycle) ∙ sym k.names_are
 
+-- they have an order or a cycle
 pub order_or_cycle : OrderOrCycle
 order_or_cycle ss order names is_order h = not_both (reads_in ss) order h.cycle is_order h.is_cycle
 
+-- a text is at most one file
 pub one_file : OneFile
 one_file text ss others lines other_lines h k = let same = one-reading text ss others lines other_lines h.reads k.reads in record { statements_are = same.statements; lines_are = same.lines }
 
@@ -70,6 +75,7 @@ syntax_same many many = record { lines = refl; faults = refl }
 syntax_same deep deep = record { lines = refl; faults = refl }
 syntax_same bad bad = record { lines = refl; faults = refl }
 
+-- a text has at most one first fault of its form
 pub one_file_fault : OneFileFault
 one_file_fault text line other_line why other (long h) (long k) = record { lines = refl; faults = refl }
 one_file_fault text line other_line why other (long h) (tokens short e o) = absurd (omega arith)
@@ -83,6 +89,7 @@ one_file_fault text line other_line why other (syntax {f = f} short r o) (syntax
 one_file_fault text line other_line why other (tokens short e o) (syntax short' r o') = let e' = r.all in absurd cc
 one_file_fault text line other_line why other (syntax short r o) (tokens short' e o') = let e' = r.all in absurd cc
 
+-- a text is a file or has such a fault
 pub file_or_fault : FileOrFault
 file_or_fault text ss lines line why h (long k) = let short = h.short in omega arith
 file_or_fault text ss lines line why h (tokens short e o) = let e' = h.reads.all in cc

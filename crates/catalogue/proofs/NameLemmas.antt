@@ -1,9 +1,9 @@
 -- Whether a name is among names, and where.
-use Rattle.std.proofs.Common.{◌≡◌, ◌∙◌, ℕ, ◌+◌, ◌<◌, List, [], ◌∷◌, ◌++◌, Bool, true, false, cond, ◌||◌, length, get_or, take, map, refl, sym, ap, inl, inr}
+use Rattle.std.proofs.Common.{◌≡◌, ◌∙◌, ℕ, ◌+◌, ◌<◌, List, [], ◌∷◌, ◌++◌, Bool, false, cond, ◌||◌, length, get_or, take, map, refl, sym, ap, inl, inr}
 use Rattle.std.specs.Prelude.{None, is_some}
 use Rattle.std.specs.List.{list_any}
 use Rattle.std.specs.Str.{bytes_eq}
-use Rattle.std.proofs.lemmas.Bool.{cases_Bool}
+use Rattle.std.proofs.lemmas.Bool.{cases_Bool, or_parts}
 use Rattle.std.proofs.lemmas.List.{map-append, take-map, take_more}
 use Rattle.std.proofs.lemmas.List.Elements.{filter_more}
 use Rattle.stream_schema.specs.Streams.{Entry, number_of, stream_names}
@@ -24,15 +24,11 @@ is_some-number_of name streams = is_some-position (λ (s : Entry). bytes_eq name
 pub number_of-absent : (name : List ℕ) (streams : List Entry) (names : List (List ℕ)) → stream_names streams ≡ names → is_among names name ≡ false → number_of name streams ≡ None
 number_of-absent name streams names same absent = missing (number_of name streams) (is_some-number_of name streams ∙ ap (λ xs. is_among xs name) same ∙ absent)
 
-pub or_false_parts : (a b : Bool) → (a || b) ≡ false → (a ≡ false) × (b ≡ false)
-or_false_parts true b e = cc
-or_false_parts false b e = (refl, e)
-
 -- a name that no statement has is no query's
 pub absent-queries : (statements : List Statement) (name : List ℕ) → is_among (names_in statements) name ≡ false → is_among (query_names statements) name ≡ false
 absent-queries [] name e = refl
 absent-queries (s ∷ statements) name e =
-    let parts : (bytes_eq name (name_of s) ≡ false) × (is_among (names_in statements) name ≡ false) = or_false_parts (bytes_eq name (name_of s)) (is_among (names_in statements) name) e in
+    let parts : (bytes_eq name (name_of s) ≡ false) × (is_among (names_in statements) name ≡ false) = or_parts (bytes_eq name (name_of s)) (is_among (names_in statements) name) e in
     elim (cases_Bool (is_query s)) [
       | inl query ↦ ap (λ b. is_among (names_in (cond b (s ∷ queries_in statements) (queries_in statements))) name) query ∙ ap (λ b. b || is_among (query_names statements) name) parts.0 ∙ absent-queries statements name parts.1
       | inr other ↦ ap (λ b. is_among (names_in (cond b (s ∷ queries_in statements) (queries_in statements))) name) other ∙ absent-queries statements name parts.1
@@ -49,10 +45,12 @@ one_query s = elim (cases_Bool (is_query s)) [
   | inr other ↦ ap (λ b. names_in (cond b (s ∷ []) [])) other ∙ sym (ap (λ b. cond b (name_of s ∷ []) []) other)
 ]
 
+-- the queries so far, with the next statement if it is one
 pub queries_in-more : (statements : List Statement) (place : ℕ) (d : Statement) → place < length statements
     → queries_in (take (place + 1) statements) ≡ queries_in (take place statements) ++ cond (is_query (get_or statements place d)) (get_or statements place d ∷ []) []
 queries_in-more statements place d within = filter_more is_query statements place d within
 
+-- and their names
 pub query_names-more : (statements : List Statement) (place : ℕ) (d : Statement) → place < length statements
     → query_names (take (place + 1) statements) ≡ query_names (take place statements) ++ cond (is_query (get_or statements place d)) (name_of (get_or statements place d) ∷ []) []
 query_names-more statements place d within =

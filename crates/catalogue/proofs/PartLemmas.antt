@@ -102,6 +102,7 @@ streams_reach number [] xs = omega arith
 streams_reach number (s ∷ streams) [] = omega arith
 streams_reach number (s ∷ streams) (x ∷ xs) = let later : length (queries_by (number + 1) streams xs) ≤ length streams = streams_reach (number + 1) streams xs in omega arith
 
+-- there are no more queries than expressions
 pub expressions_reach : (number : ℕ) (streams : List Entry) (expressions : List Expr) → length (queries_by number streams expressions) ≤ length expressions
 expressions_reach number [] xs = omega arith
 expressions_reach number (s ∷ streams) [] = omega arith

@@ -8,21 +8,21 @@ use Rattle.std.proofs.lemmas.List.Elements.{Contains-append_right}
 use Rattle.std.proofs.lemmas.List.FromFn.{get_or-range_with_len, length-range_with_len}
 use Rattle.std.proofs.lemmas.List.Sorted.{Contains-permutation, IsPermutation-cons, IsPermutation-refl, IsPermutation-remove, IsPermutation-sym, IsPermutation-trans}
 use Rattle.std.proofs.lemmas.Map.Keys.{IsDistinct-IsPermutation, apart_from_distinct}
-use Rattle.resubscribe.proofs.AmongLemmas.{eq_apart, eq_self}
 use Rattle.catalogue.proofs.CountLemmas.{distinct_by_test}
+use Rattle.event_types.proofs.NumberLemmas.{self_equal, is_other}
 
 -- the test of two numbers doesn't mind their order
 eq_flips : (x y : ℕ) → (x == y) ≡ (y == x)
 eq_flips x y = elim (cases_eq x y) [
-  | inl same ↦ ap (λ z. x == z) (sym same) ∙ eq_self x ∙ sym (ap (λ z. y == z) same ∙ eq_self y)
-  | inr other ↦ eq_apart x y other ∙ sym (eq_apart y x (λ same. other (sym same)))
+  | inl same ↦ ap (λ z. x == z) (sym same) ∙ self_equal x ∙ sym (ap (λ z. y == z) same ∙ self_equal y)
+  | inr other ↦ is_other x y other ∙ sym (is_other y x (λ same. other (sym same)))
 ]
 
 -- distinct numbers stay so in another order
 apart_permuted : (xs ys : List ℕ) → IsPermutation xs ys → AllPairs (λ x y. x ≢ y) xs → AllPairs (λ x y. x ≢ y) ys
 apart_permuted xs ys moved apart i j d before within same =
     let other : (get_or ys i d == get_or ys j d) ≡ false = apart_from_distinct ◌==◌ ys i j d (IsDistinct-IsPermutation ◌==◌ eq_flips xs ys moved (distinct_by_test xs apart)) before within in
-    let one : (get_or ys i d == get_or ys j d) ≡ true = ap (λ x. x == get_or ys j d) same ∙ eq_self (get_or ys j d) in
+    let one : (get_or ys i d == get_or ys j d) ≡ true = ap (λ x. x == get_or ys j d) same ∙ self_equal (get_or ys j d) in
     cc
 
 later_apart : (x : ℕ) (xs : List ℕ) → AllPairs (λ x y. x ≢ y) (x ∷ xs) → AllPairs (λ x y. x ≢ y) xs

@@ -49,6 +49,7 @@ module _ (ss : List Statement) (place : ℕ) (s : Statement) (there : slice_get 
   pub names-with : take (place + 1) (names_in ss) ≡ take place (names_in ss) ++ name_of s ∷ []
   names-with = names_in-more ss place s within ∙ ap (λ z. take place (names_in ss) ++ name_of z ∷ []) here
 
+  -- the names of the queries so far, with its name if it is one
   pub query_names-with : query_names (take (place + 1) ss) ≡ query_names (take place ss) ++ cond (is_query s) (name_of s ∷ []) []
   query_names-with = query_names-more ss place s within ∙ ap (λ z. query_names (take place ss) ++ cond (is_query z) (name_of z ∷ []) []) here
 

@@ -8,6 +8,7 @@ use Rattle.catalogue.specs.Statements.{is_query, queries_in}
 use Rattle.catalogue.specs.Tables.{ArePlaces}
 use Rattle.catalogue.specs.Typing.{query_lines}
 use Rattle.catalogue.proofs.PlaceLemmas.{queries-with}
+use Rattle.semantics.proofs.ListLemmas.{map-cond}
 
 picked-one : (b : Bool) (l : ℕ) → items_where_true (b ∷ []) (l ∷ []) ≡ cond b (l ∷ []) []
 picked-one true l = refl
@@ -31,10 +32,6 @@ lines-step (t ∷ ss) (l ∷ lines) zero s line there on_line =
 lines-step (t ∷ ss) (l ∷ lines) (suc place) s line there on_line =
     picked-cons (is_query t) (map is_query (take (suc place) ss)) l (take (suc place) lines) (query_lines (take place ss) (take place lines)) (cond (is_query s) (line ∷ []) []) (lines-step ss lines place s line there on_line)
     ∙ ap (λ xs. xs ++ cond (is_query s) (line ∷ []) []) (picked-front (is_query t) (map is_query (take place ss)) l (take place lines))
-
-map-cond : {X Y : Type 0} (f : X → Y) (b : Bool) (x : X) → map f (cond b (x ∷ []) []) ≡ cond b (f x ∷ []) []
-map-cond f true x = refl
-map-cond f false x = refl
 
 -- one more statement, with its place if it is a query
 pub places-with : (ss : List Statement) (lines : List ℕ) (place : ℕ) (s : Statement) (line : ℕ) (old new : List ℕ) → slice_get ss place ≡ Some s → slice_get lines place ≡ Some line

@@ -15,7 +15,6 @@ use Rattle.semantics.specs.Expressions.{Read}
 use Rattle.semantics.specs.Programs.{Query}
 use Rattle.stream_schema.specs.Streams.{Entry, stream_names}
 use Rattle.resubscribe.specs.Laws.{HasEachOnce}
-use Rattle.resubscribe.proofs.AmongLemmas.{eq_apart, eq_self}
 use Rattle.resubscribe.proofs.OrderLemmas.{HasEachOnce-order}
 use Rattle.catalogue.specs.Judgement.{Accepts, Judged, query_at}
 use Rattle.catalogue.specs.Programs.{AcceptedArePrograms, AcceptedAreWidePrograms, AllAreWorkedOn, DeclaredAreTold, DeclaredComeFirst, NumbersAreQueries, QueriesHaveTheirNames, StreamsHaveTheirNames, WorkIsInOrder}
@@ -26,6 +25,7 @@ use Rattle.catalogue.proofs.PartLemmas.{published_count}
 use Rattle.catalogue.proofs.PermutationLemmas.{range_permutes}
 use Rattle.catalogue.proofs.TurnLemmas.{StandsBehind, in_turn, name_in_turn, stands_behind, stream_in_turn, told_declared, told_published}
 use Rattle.catalogue.proofs.WideLemmas.{published_wide}
+use Rattle.event_types.proofs.NumberLemmas.{self_equal, is_other}
 
 -- what is found for each item is what is given
 filter_map-found : {Y : Type 0} (f : ℕ → Option Y) (g : ℕ → Y) (xs : List ℕ) → ((x : ℕ) → Contains xs x → f x ≡ Some (g x)) → filter_map f xs ≡ map g xs
@@ -47,8 +47,8 @@ module _ (text : List ℕ) (judged : Judged) (accepts : Accepts text judged) whe
   place_at : (place : ℕ) → place < length judged.order → position_or_len (λ other. get_or judged.order place 0 == other) judged.order ≡ place
   place_at place within =
       position_or_len_is (λ other. get_or judged.order place 0 == other) judged.order place 0 (omega arith)
-      (λ k before. eq_apart (get_or judged.order place 0) (get_or judged.order k 0) (λ same. once.distinct k place 0 before within (sym same)))
-      (λ inside. eq_self (get_or judged.order place 0))
+      (λ k before. is_other (get_or judged.order place 0) (get_or judged.order k 0) (λ same. once.distinct k place 0 before within (sym same)))
+      (λ inside. self_equal (get_or judged.order place 0))
 
   query_there : (place : ℕ) → place < length judged.order → query_at judged (get_or judged.order place 0) ≡ get_or judged.published place (record { name = []; stream = 0; expr = Read 0 })
   query_there place within = ap (λ p. get_or judged.published p (record { name = []; stream = 0; expr = Read 0 })) (place_at place within)
@@ -124,29 +124,38 @@ module _ (text : List ℕ) (judged : Judged) (accepts : Accepts text judged) whe
         sym (get_or_append_left judged.declared behind_declared.more entry stream first) ∙ ap (λ es. get_or es stream entry) (sym behind_declared.all_are) ∙ get_or_from_slice_get judged.streams stream entry entry there in
         told_declared accepts.declares stream entry (slice_get-get_or judged.declared stream entry first ∙ ap Some own)
 
+-- an accepted text is a program
 pub accepted_are_programs : AcceptedArePrograms
 accepted_are_programs text judged accepts = record { same_queries = same_queries text judged accepts; in_turn = in_turn accepts.publishes }
 
+-- its expressions have widths
 pub accepted_are_wide_programs : AcceptedAreWidePrograms
 accepted_are_wide_programs text judged accepts = record { typed = accepted_are_programs text judged accepts; wide = published_wide accepts.publishes }
 
+-- its work is in order
 pub work_is_in_order : WorkIsInOrder
 work_is_in_order text judged accepts = works text judged accepts
 
+-- the numbers of the order are those of queries
 pub numbers_are_queries : NumbersAreQueries
 numbers_are_queries text judged accepts = numbers text judged accepts
 
+-- each query is worked on
 pub all_are_worked_on : AllAreWorkedOn
 all_are_worked_on text judged accepts = query_count judged.statements judged.order accepts.in_order
 
+-- the queries have the names of their statements
 pub queries_have_their_names : QueriesHaveTheirNames
 queries_have_their_names text judged accepts number within = name_is text judged accepts number within
 
+-- so do the streams
 pub streams_have_their_names : StreamsHaveTheirNames
 streams_have_their_names text judged accepts number within = stream_is text judged accepts number within
 
+-- the declared streams come first
 pub declared_come_first : DeclaredComeFirst
 declared_come_first text judged accepts = declared_first text judged accepts
 
+-- and are told as declared
 pub declared_are_told : DeclaredAreTold
 declared_are_told text judged accepts stream entry there = (told_first text judged accepts stream entry there, first_told text judged accepts stream entry there)

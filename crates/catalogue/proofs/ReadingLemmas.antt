@@ -1,21 +1,22 @@
 -- The names that are read: their fault, and the numbers of their queries.
-use Rattle.std.proofs.Common.{◌≡◌, ◌∙◌, ℕ, List, [], ◌∷◌, ◌++◌, Bool, true, false, not, cond, map, refl, sym, ap, inl, inr, append_assoc}
-use Rattle.std.specs.Prelude.{Option, Some, None, Result, IfOk, position}
+use Rattle.std.proofs.Common.{◌≡◌, ◌∙◌, ℕ, suc, ◌+◌, ◌<◌, List, [], ◌∷◌, ◌++◌, Bool, true, false, not, cond, length, take, drop, get_or, refl, sym, ap, inl, inr}
+use Rattle.std.specs.Prelude.{Option, Some, None, position}
 use Rattle.std.specs.List.{find, prefix_len}
 use Rattle.std.specs.Option.{option_map}
 use Rattle.std.specs.Str.{bytes_eq}
 use Rattle.std.proofs.lemmas.Bool.{cases_Bool}
-use Rattle.std.proofs.lemmas.List.{length-map}
+use Rattle.std.proofs.Math.Seq.{drop-cons}
+use Rattle.std.proofs.lemmas.List.{length-map, take-append-drop, take_more}
 use Rattle.std.proofs.lemmas.List.Elements.{filter_map-append}
-use Rattle.std.proofs.lemmas.Result.{IfOk-weaker}
-use Rattle.event_types.specs.declared.memory.Memory.{Memory}
 use Rattle.stream_schema.specs.Streams.{Entry, number_of, stream_names}
 use Rattle.cel_types.specs.Aggregates.{is_among}
 use Rattle.catalogue.specs.declared.fault.QueryFault.{QueryFault}
 use Rattle.catalogue.specs.declared.fault.QueryFault.TheVariants.{Unknown}
 use Rattle.catalogue.specs.Naming.{read_fault}
 use Rattle.catalogue.specs.Reading.{numbers_of}
+use Rattle.stream_schema.proofs.TableLemmas.{prefix_len-map}
 
+-- a later fault where the name is there, else that it isn't
 abbrev pub fault_by : Bool → List ℕ → Option QueryFault → Option QueryFault
 fault_by there name later = cond there later (Some (Unknown name))
 
@@ -52,6 +53,7 @@ read_fault-first names (x ∷ xs) ys f e = elim (cases_Bool (is_among names x)) 
 pub read_fault-there : (names : List (List ℕ)) (x : List ℕ) → is_among names x ≡ true → read_fault names (x ∷ []) ≡ None
 read_fault-there names x there = read_fault-cons names x [] ∙ ap (λ b. fault_by b x None) there
 
+-- a name that isn't there is the fault
 pub read_fault-absent : (names : List (List ℕ)) (x : List ℕ) → is_among names x ≡ false → read_fault names (x ∷ []) ≡ Some (Unknown x)
 read_fault-absent names x absent = read_fault-cons names x [] ∙ ap (λ b. fault_by b x None) absent
 
@@ -59,28 +61,20 @@ read_fault-absent names x absent = read_fault-cons names x [] ∙ ap (λ b. faul
 pub numbers_of-append : (queries xs ys : List (List ℕ)) → numbers_of queries (xs ++ ys) ≡ numbers_of queries xs ++ numbers_of queries ys
 numbers_of-append queries xs ys = filter_map-append (λ name. position (bytes_eq name) queries) xs ys
 
-prefix_len-map : {X Y : Type 0} (f : X → Y) (p : Y → Bool) (xs : List X) → prefix_len p (map f xs) ≡ prefix_len (λ x. p (f x)) xs
-prefix_len-map f p [] = refl
-prefix_len-map f p (x ∷ xs) = rw (prefix_len-map f p xs) refl
-
 -- the number of a table's stream is the place of its name
 pub number_of-position : (name : List ℕ) (streams : List Entry) → position (bytes_eq name) (stream_names streams) ≡ number_of name streams
 number_of-position name streams = rw (prefix_len-map (λ (s : Entry). s.name) (λ y. not (bytes_eq name y)) streams, length-map streams (λ (s : Entry). s.name)) refl
 
--- a source of two: the first one's fault is its fault
-pub both-first : (names whole xs ys : List (List ℕ)) (first : Option QueryFault) (f : QueryFault) → whole ≡ xs ++ ys → first ≡ read_fault names xs → first ≡ Some f → Some f ≡ read_fault names whole
-both-first names whole xs ys first f parts is some = sym (ap (read_fault names) parts ∙ read_fault-first names xs ys f (sym is ∙ some))
+-- behind names without a fault the next one's fault is that of all
+pub read_fault-at : (names xs : List (List ℕ)) (i : ℕ) (d : List ℕ) (f : QueryFault) → i < length xs → read_fault names (take i xs) ≡ None → read_fault names (get_or xs i d ∷ []) ≡ Some f → read_fault names xs ≡ Some f
+read_fault-at names xs i d f within none some =
+    ap (read_fault names) (sym (take-append-drop i xs)) ∙ read_fault-second names (take i xs) (drop i xs) none
+    ∙ ap (read_fault names) (drop-cons xs i d within) ∙ read_fault-first names (get_or xs i d ∷ []) (drop (suc i) xs) f some
 
--- without one, the second one's
-pub both-second : (names whole xs ys : List (List ℕ)) (first : Option QueryFault) (r : Result (Option QueryFault) Memory) → whole ≡ xs ++ ys → first ≡ read_fault names xs → first ≡ None
-    → IfOk r (λ f. f ≡ read_fault names ys) → IfOk r (λ f. f ≡ read_fault names whole)
-both-second names whole xs ys first r parts is none =
-    IfOk-weaker r (λ f. f ≡ read_fault names ys) (λ f. f ≡ read_fault names whole) (λ f e. e ∙ sym (ap (read_fault names) parts ∙ read_fault-second names xs ys (sym is ∙ none)))
+-- with the next one they have none where it has none
+pub read_fault-more : (names xs : List (List ℕ)) (i : ℕ) (d : List ℕ) → i < length xs → read_fault names (take i xs) ≡ None → read_fault names (get_or xs i d ∷ []) ≡ None → read_fault names (take (i + 1) xs) ≡ None
+read_fault-more names xs i d within none one = ap (read_fault names) (take_more xs i d within) ∙ read_fault-second names (take i xs) (get_or xs i d ∷ []) none ∙ one
 
--- and the numbers of both
-pub both-numbers : (queries whole xs ys : List (List ℕ)) (first : Option QueryFault) (old mid new : List ℕ) (r : Result (Option QueryFault) Memory) → whole ≡ xs ++ ys → first ≡ None → (first ≡ None → mid ≡ old ++ numbers_of queries xs)
-    → IfOk r (λ f. f ≡ None → new ≡ mid ++ numbers_of queries ys) → IfOk r (λ f. f ≡ None → new ≡ old ++ numbers_of queries whole)
-both-numbers queries whole xs ys first old mid new r parts none before =
-    IfOk-weaker r (λ f. f ≡ None → new ≡ mid ++ numbers_of queries ys) (λ f. f ≡ None → new ≡ old ++ numbers_of queries whole)
-    (λ f e absent. e absent ∙ ap (λ ns. ns ++ numbers_of queries ys) (before none) ∙ append_assoc old (numbers_of queries xs) (numbers_of queries ys)
-    ∙ ap (λ ns. old ++ ns) (sym (ap (numbers_of queries) parts ∙ numbers_of-append queries xs ys)))
+-- the numbers of names with the next one's
+pub numbers_of-more : (queries xs : List (List ℕ)) (i : ℕ) (d : List ℕ) → i < length xs → numbers_of queries (take (i + 1) xs) ≡ numbers_of queries (take i xs) ++ numbers_of queries (get_or xs i d ∷ [])
+numbers_of-more queries xs i d within = ap (numbers_of queries) (take_more xs i d within) ∙ numbers_of-append queries (take i xs) (get_or xs i d ∷ [])

@@ -1,18 +1,12 @@
 -- What one more statement reads.
-use Rattle.std.proofs.Common.{◌≡◌, ◌∙◌, ℕ, ◌+◌, ◌≤◌, List, [], ◌∷◌, ◌++◌, Bool, cond, length, take, map, sym, ap, inl, inr}
+use Rattle.std.proofs.Common.{◌≡◌, ◌∙◌, ℕ, ◌+◌, ◌≤◌, List, [], ◌∷◌, ◌++◌, cond, length, take, map, sym, ap}
 use Rattle.std.specs.Prelude.{Some, slice_get}
-use Rattle.std.proofs.lemmas.Bool.{cases_Bool}
 use Rattle.std.proofs.lemmas.List.{map-append, take_all}
 use Rattle.cel_grammar.specs.Trees.{Statement}
 use Rattle.catalogue.specs.Reading.{numbers_of, reads_in}
 use Rattle.catalogue.specs.Statements.{is_query, queries_in, query_names, reads_by}
 use Rattle.catalogue.proofs.PlaceLemmas.{queries-with}
-
-map-one : {X Y : Type 0} (f : X → Y) (b : Bool) (x : X) → map f (cond b (x ∷ []) []) ≡ cond b (f x ∷ []) []
-map-one f b x = elim (cases_Bool b) [
-  | inl hit ↦ ap (λ c. map f (cond c (x ∷ []) [])) hit ∙ sym (ap (λ c. cond c (f x ∷ []) []) hit)
-  | inr miss ↦ ap (λ c. map f (cond c (x ∷ []) [])) miss ∙ sym (ap (λ c. cond c (f x ∷ []) []) miss)
-]
+use Rattle.semantics.proofs.ListLemmas.{map-cond}
 
 -- what the queries so far read, with what the statement reads
 pub reads-with : (ss : List Statement) (place : ℕ) (s : Statement) (queries : List (List ℕ)) → slice_get ss place ≡ Some s → queries ≡ query_names ss
@@ -20,7 +14,7 @@ pub reads-with : (ss : List Statement) (place : ℕ) (s : Statement) (queries : 
     ≡ map (λ query. numbers_of (query_names ss) (reads_by query)) (queries_in (take (place + 1) ss))
 reads-with ss place s queries there same =
     ap (λ xs. map (λ query. numbers_of (query_names ss) (reads_by query)) (queries_in (take place ss)) ++ cond (is_query s) (numbers_of xs (reads_by s) ∷ []) []) same
-    ∙ ap (λ xs. map (λ query. numbers_of (query_names ss) (reads_by query)) (queries_in (take place ss)) ++ xs) (sym (map-one (λ query. numbers_of (query_names ss) (reads_by query)) (is_query s) s))
+    ∙ ap (λ xs. map (λ query. numbers_of (query_names ss) (reads_by query)) (queries_in (take place ss)) ++ xs) (sym (map-cond (λ query. numbers_of (query_names ss) (reads_by query)) (is_query s) s))
     ∙ sym (map-append (λ query. numbers_of (query_names ss) (reads_by query)) (queries_in (take place ss)) (cond (is_query s) (s ∷ []) []))
     ∙ ap (map (λ query. numbers_of (query_names ss) (reads_by query))) (sym (queries-with ss place s there))
 

@@ -77,6 +77,7 @@ statement_few : {ts : List Symbol} {s : Statement} → IsStatement ts s [] → l
 statement_few (declaration h) few = tt
 statement_few (query i h) few = omega (arith, items_shorter i, source_nodes h)
 
+-- each statement of a text has as few parts as the text has bytes
 pub say_few : {said : List Sentence} {ss : List Statement} {lines : List ℕ} → Say said ss lines → All HasFew ss
 say_few none = All-nil HasFew
 say_few (more {s = s} {ss = ss} says rest) = All-cons HasFew s ss (statement_few says.read says.small.few) (say_few rest)
@@ -126,11 +127,13 @@ sound_tokens text tokens e = go (is_utf8 text) e
     go true e = e
     go false e = cc
 
+-- a file has as few statements
 pub file_few : (text : List ℕ) (ss : List Statement) (lines : List ℕ) → IsFile text ss lines → length ss ≤ most_bytes
 file_few text ss lines file =
     let tokens = file.reads.tokens in
     let ascend = tokens-ascend text tokens (sound_tokens text tokens file.reads.all) in
     omega (arith, file.short, say_many file.reads.said, sentences_few (placed_of (record { source = text; items = tokens })), placed_many text tokens, tokens_few 0 (length text) tokens ascend)
 
+-- and its queries as few parts
 pub queries_few : (text : List ℕ) (ss : List Statement) (lines : List ℕ) → IsFile text ss lines → All HasFew (queries_in ss)
 queries_few text ss lines file = All-filter is_query HasFew ss (say_few file.reads.said)

@@ -12,6 +12,7 @@ use Rattle.resubscribe.specs.Laws.{EachReadsNext, ReadsInCircle}
 use Rattle.resubscribe.specs.Order.{reads_of}
 use Rattle.catalogue.specs.Reading.{numbers_of, reads_in}
 use Rattle.catalogue.specs.Statements.{name_of, queries_in, query_names, reads_by}
+use Rattle.semantics.proofs.ListLemmas.{every}
 
 cons_small : (n : ℕ) (o : Option ℕ) (xs : List ℕ) → ((k : ℕ) → o ≡ Some k → k < n) → All (λ x. x < n) xs → All (λ x. x < n) (cons_option o xs)
 cons_small n None xs small all = all
@@ -25,16 +26,14 @@ numbers_small queries (name ∷ names) = cons_small (length queries) (position (
 length_reads : (ss : List Statement) → length (query_names ss) ≡ length (reads_in ss)
 length_reads ss = length-map (queries_in ss) name_of ∙ sym (length-map (queries_in ss) (λ query. numbers_of (query_names ss) (reads_by query)))
 
-everywhere : {X : Type 0} (P : X → Type 0) → ((x : X) → P x) → (xs : List X) → All P xs
-everywhere P h xs = λ k d lt. h _
-
 -- what is read is the number of a query
 pub reads_small : (ss : List Statement) → All (λ numbers. All (λ number. number < length (reads_in ss)) numbers) (reads_in ss)
 reads_small ss =
     All-map (λ numbers. All (λ number. number < length (reads_in ss)) numbers) (λ query. numbers_of (query_names ss) (reads_by query)) (queries_in ss)
-    (everywhere (λ query. All (λ number. number < length (reads_in ss)) (numbers_of (query_names ss) (reads_by query)))
+    (every (λ query. All (λ number. number < length (reads_in ss)) (numbers_of (query_names ss) (reads_by query)))
     (λ query. subst (λ (n : ℕ). All (λ number. number < n) (numbers_of (query_names ss) (reads_by query))) (length_reads ss) (numbers_small (query_names ss) (reads_by query))) (queries_in ss))
 
+-- there is a name for each query
 pub length_names : (ss : List Statement) → length (query_names ss) ≡ length (reads_in ss)
 length_names ss = length_reads ss
 

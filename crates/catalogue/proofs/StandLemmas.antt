@@ -44,6 +44,7 @@ among-there (x ∷ xs) name (suc k, within, same) = ap (λ b. bytes_eq name x ||
 pub stands-from : (xs : List (List ℕ)) (name : List ℕ) → is_among xs name ≡ true → Contains xs name
 stands-from xs name e = Contains-from_any {eq = bytes_eq} (λ a b same. (bytes_eq-Decides a b).0 same) name xs e
 
+-- the image of an item is among the images
 pub Contains-map : {X Y : Type 0} (f : X → Y) (xs : List X) (x : X) → Contains xs x → Contains (map f xs) (f x)
 Contains-map f xs x (k, within, same) = (k, rw (length-map xs f) within, get_or-map f xs k x (f x) within ∙ ap f same)
 
@@ -135,6 +136,7 @@ some_at : (o : Option ℕ) → is_some o ≡ true → (j : ℕ) × (o ≡ Some j
 some_at None e = cc
 some_at (Some j) e = (j, refl)
 
+-- the statement at the number of a query is a query
 pub query_at_number : (ss : List Statement) (number : ℕ) (s : Statement) → slice_get (queries_in ss) number ≡ Some s → is_query s ≡ true
 query_at_number ss number s at =
     let within : number < length (queries_in ss) = slice_get-within (queries_in ss) number s at in

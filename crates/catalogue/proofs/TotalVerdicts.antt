@@ -120,6 +120,7 @@ by_found : (text : List ℕ) (found : Lexed) → length text ≤ most_bytes → 
 by_found text (Ok found) short is = by_reading text short (one-of-both text found is)
 by_found text (Err f) short is = by_tokens text f short is
 
+-- each text has a verdict
 pub some_verdict : SomeVerdict
 some_verdict text = elim (cases_lt most_bytes (length text)) [
   | inl more ↦ (Refused _ _, judgement.file (long more))

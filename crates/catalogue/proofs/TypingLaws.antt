@@ -11,6 +11,7 @@ use Rattle.catalogue.specs.Statements.{name_of}
 use Rattle.catalogue.specs.Typing.{FailToPublish, Publish, published_by, none, stream, query, next, here, behind}
 use Rattle.catalogue.specs.Verdicts.{DeclaredOrFault, OneDeclaration, OneDeclareFault, OnePublication, OnePublishFault, PublishedOrFault}
 
+-- a file declares one table of streams
 pub one_declaration : OneDeclaration
 one_declaration _ _ _ none none = refl
 one_declaration _ _ _ (stream {name = name} {columns = columns} {schema = schema} {later = later} {streams = streams} first rest) (stream {schema = other} {streams = others} first_too rest_too) =
@@ -19,6 +20,7 @@ one_declaration _ _ _ (stream {name = name} {columns = columns} {schema = schema
     λ i. record { name = name; schema = schemas i; declared = true } ∷ more i
 one_declaration _ _ _ (query {later = later} {streams = streams} rest) (query {streams = others} rest_too) = one_declaration later streams others rest rest_too
 
+-- its declarations have at most one first fault
 pub one_declare_fault : OneDeclareFault
 one_declare_fault _ _ _ _ f g (here {name = name} {columns = columns} fails) (here fails_too) = (refl, FailsAsDeclaration-one (tree.Stream name columns) f g fails fails_too)
 one_declare_fault _ _ _ _ f g (here {name = name} {columns = columns} fails) (behind {schema = schema} first rest) = absurd (Declares-no_fault (tree.Stream name columns) schema f first fails)
@@ -26,6 +28,7 @@ one_declare_fault _ _ _ _ f g (behind {name = name} {columns = columns} {schema 
 one_declare_fault _ _ line other_line f g (behind {later = later} {lines = lines} first rest) (behind first_too rest_too) = one_declare_fault later lines line other_line f g rest rest_too
 one_declare_fault _ _ line other_line f g (query {later = later} {lines = lines} rest) (query rest_too) = one_declare_fault later lines line other_line f g rest rest_too
 
+-- they are declared or have a fault
 pub declared_or_fault : DeclaredOrFault
 declared_or_fault _ _ _ line f none fails = elim fails [ ]
 declared_or_fault _ _ _ line f (stream {name = name} {columns = columns} {schema = schema} first rest) (here fails) = Declares-no_fault (tree.Stream name columns) schema f first fails
@@ -36,6 +39,7 @@ declared_or_fault _ _ _ line f (query {later = later} {streams = streams} rest) 
 one_query : (queries : List Statement) (number : ℕ) (s t : Statement) → slice_get queries number ≡ Some s → slice_get queries number ≡ Some t → t ≡ s
 one_query queries number s t there there_too = cc
 
+-- queries publish one table of streams
 pub one_publication : OnePublication
 one_publication queries _ _ _ _ _ _ none none = (refl, refl)
 one_publication queries streams _ all others _ _ (next {number = number} {order = order} {s = s} {more = more} schema x there gives rest) (next {s = t} {more = more_too} other y there_too gives_too rest_too) =
@@ -45,6 +49,7 @@ one_publication queries streams _ all others _ _ (next {number = number} {order 
     let later : (all ≡ others) × (more ≡ more_too) = one_publication queries (streams ++ published_by s schema ∷ []) order all others more more_too rest (subst (λ (es : List Entry). Publish queries es order others more_too) tables rest_too) in
     (later.0, λ i. record { name = name_of (sym same i); stream = length streams; expr = one.1 i } ∷ later.1 i)
 
+-- they have at most one first fault
 pub one_publish_fault : OnePublishFault
 one_publish_fault queries lines streams _ line other_line f g (here {number = number} {s = s} there on_line fails) (here {s = t} there_too on_line_too fails_too) =
     let same : t ≡ s = one_query queries number s t there there_too in
@@ -60,6 +65,7 @@ one_publish_fault queries lines streams _ line other_line f g (behind {number = 
     let tables : streams ++ published_by t other ∷ [] ≡ streams ++ published_by s schema ∷ [] = λ i. streams ++ published_by (same i) (sym one.0 i) ∷ [] in
     one_publish_fault queries lines (streams ++ published_by s schema ∷ []) order line other_line f g rest (subst (λ (es : List Entry). FailToPublish queries lines es order other_line g) tables rest_too)
 
+-- they are published or have a fault
 pub published_or_fault : PublishedOrFault
 published_or_fault queries lines _ _ _ _ line f none fails = elim fails [ ]
 published_or_fault queries lines streams _ _ _ line f (next {number = number} {s = t} schema x there_too gives rest) (here {s = s} there on_line fails) =

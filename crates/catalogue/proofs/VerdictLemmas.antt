@@ -107,5 +107,6 @@ judges_read text (Accepted judged) h = filed h.file (typed h.sound h.in_order (a
 judges_read text (Refused line why) h = refuses_read text line why h
 judges_read text (Circle told) h = filed h.file (cycle h.have_cycle)
 
+-- a text has at most one verdict
 pub one_verdict : OneVerdict
 one_verdict text v w h k = read_one text (judges_read text v h) (judges_read text w k)

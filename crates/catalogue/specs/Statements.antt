@@ -1,5 +1,5 @@
 -- The statements of a file: their names, and what they read.
-use Rattle.std.specs.Prelude.{ℕ, Bool, true, false, List, [], map}
+use Rattle.std.specs.Prelude.{ℕ, Bool, true, false, List, [], ◌∷◌, map, if◌then◌else◌}
 use Rattle.std.specs.List.{filter}
 use Rattle.cel_grammar.specs.Trees.{Statement, Stream, Query}
 use Rattle.cel_types.specs.Statements.{read_names}
@@ -30,3 +30,7 @@ queries_in statements = filter is_query statements
 -- the names that queries publish, by the queries' numbers
 abbrev pub query_names : List Statement → List (List ℕ)
 query_names statements = names_in (queries_in statements)
+
+-- the name that a statement publishes, if it is a query
+abbrev pub published_by : Statement → List (List ℕ)
+published_by statement = if is_query statement then name_of statement ∷ [] else []

@@ -55,7 +55,7 @@ fn declare_one(
     }
 }
 
-// A fault of types on a line.
+/// A fault of types on a line, counted from 1: the same cause with the same names, kinds and places.
 pub fn of_types(fault: TypeFault, line: u64) -> LoadFault
     ensures { TellsBad (λ at why. (at ≡ line) × IsOfTypes fault why) result }
 {

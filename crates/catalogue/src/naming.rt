@@ -1,10 +1,10 @@
 //! The names of statements: none is reserved, and no two are the same.
-ghost use Rattle.std.specs.Prelude.{◌≡◌, ◌++◌, ◌∷◌, [], None, IfErr, IfOk, OnOk, length, map, if◌then◌else◌};
+ghost use Rattle.std.specs.Prelude.{◌≡◌, ◌++◌, ◌∷◌, [], None, IfErr, IfOk, OnOk, length, map};
 ghost use Rattle.cel_grammar.specs.Views.{statement_of};
 ghost use Rattle.stream_schema.specs.Streams.{number_of, stream_names};
 ghost use Rattle.catalogue.specs.First.{HaveNone, IsFirst};
 ghost use Rattle.catalogue.specs.Naming.{name_fault, name_fault_at};
-ghost use Rattle.catalogue.specs.Statements.{is_query, name_of};
+ghost use Rattle.catalogue.specs.Statements.{name_of, published_by};
 ghost use Rattle.catalogue.specs.Tables.{AreNamed};
 ghost use Rattle.catalogue.specs.Telling.{TellsBad};
 
@@ -16,14 +16,15 @@ use event_types::{Memory, Text};
 use std::alloc::Global;
 use stream_schema::{Schema, Streams};
 
-// The statements by name, and the queries among them, each in file order, as streams without attributes.
+/// The statements by name, and the queries among them, each in file order, as streams without attributes. Their numbers
+/// count from 0.
 #[derive(Drop)]
 pub struct Named {
     pub all: Streams,
     pub queries: Streams,
 }
 
-// The names of a file, or its first fault of a name.
+/// The names of a file, or its first fault of a name: each statement's name is compared with those before it.
 pub fn name_all(alloc: Global, file: &File) -> Result<Named, LoadFault>
     ensures ok { IfOk result (AreNamed (map statement_of file.now.statements)) }
     ensures none { OnOk result (HaveNone (name_fault_at (map statement_of file.now.statements)) (length file.now.statements)) }
@@ -66,7 +67,7 @@ fn admit(alloc: Global, named: &mut Named, statement: &Statement) -> Result<(), 
     requires new { number_of (name_of (statement_of statement.now)) named.old.all ≡ None }
     requires new_query { number_of (name_of (statement_of statement.now)) named.old.queries ≡ None }
     ensures all { OnOk result (stream_names named.new.all ≡ stream_names named.old.all ++ name_of (statement_of statement.now) ∷ []) }
-    ensures queries { OnOk result (stream_names named.new.queries ≡ stream_names named.old.queries ++ (if is_query (statement_of statement.now) then name_of (statement_of statement.now) ∷ [] else [])) }
+    ensures queries { OnOk result (stream_names named.new.queries ≡ stream_names named.old.queries ++ published_by (statement_of statement.now)) }
 {
     named.all.add(name(statement), Schema::new(alloc), true)?;
     if is_a_query(statement) {

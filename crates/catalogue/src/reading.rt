@@ -1,13 +1,13 @@
 //! The names that queries read: each is a statement's, and those of queries give the queries' numbers.
-ghost use Rattle.std.specs.Prelude.{◌≡◌, ◌++◌, ◌∷◌, [], None, IfErr, IfOk, OnOk, length, map, if◌then◌else◌};
+ghost use Rattle.std.specs.Prelude.{◌≡◌, ◌++◌, ◌∷◌, [], None, IfErr, IfOk, OnOk, length, map};
 ghost use Rattle.std.specs.List.{cons_option};
 ghost use Rattle.cel_grammar.specs.Views.{source_of, statement_of};
 ghost use Rattle.cel_types.specs.Statements.{read_names};
 ghost use Rattle.stream_schema.specs.Streams.{stream_names};
 ghost use Rattle.catalogue.specs.First.{HaveNone, IsFirst};
 ghost use Rattle.catalogue.specs.Naming.{read_fault, read_fault_at};
-ghost use Rattle.catalogue.specs.Reading.{numbers_of, reads_in};
-ghost use Rattle.catalogue.specs.Statements.{is_query, reads_by};
+ghost use Rattle.catalogue.specs.Reading.{numbers_of, reads_added, reads_in};
+ghost use Rattle.catalogue.specs.Statements.{reads_by};
 ghost use Rattle.catalogue.specs.Tables.{AreNamed};
 ghost use Rattle.catalogue.specs.Telling.{TellsBad};
 
@@ -15,11 +15,13 @@ use crate::fault::{LoadFault, QueryFault};
 use crate::naming::Named;
 use cel_grammar::{Source, Statement};
 use cel_parser::File;
+use cel_types::names_read;
 use event_types::{List, Memory, Numbers, Text};
 use resubscribe::Reads;
 use std::alloc::Global;
 
-// What each query reads, or the first fault of a name that is read.
+/// What each query reads, by the queries' numbers from 0, or the first fault of a name that is read, in file order and then
+/// from left to right.
 pub fn read_all(alloc: Global, file: &File, named: &Named) -> Result<Reads, LoadFault>
     requires { AreNamed (map statement_of file.now.statements) named.now }
     ensures ok { IfOk result (λ reads. reads ≡ reads_in (map statement_of file.now.statements)) }
@@ -46,7 +48,7 @@ fn add_statement(
     reads: &mut Reads,
 ) -> Result<Option<QueryFault>, Memory>
     ensures fault { IfOk result (λ fault. fault ≡ read_fault (stream_names named.now.all) (reads_by (statement_of statement.now))) }
-    ensures reads { IfOk result (λ fault. fault ≡ None → reads.new ≡ reads.old ++ (if is_query (statement_of statement.now) then numbers_of (stream_names named.now.queries) (reads_by (statement_of statement.now)) ∷ [] else [])) }
+    ensures reads { IfOk result (λ fault. fault ≡ None → reads.new ≡ reads.old ++ reads_added (stream_names named.now.queries) (statement_of statement.now)) }
 {
     match statement {
         Statement::Stream { .. } => Ok(None),
@@ -71,29 +73,26 @@ fn add_source(
     ensures fault { IfOk result (λ fault. fault ≡ read_fault (stream_names named.now.all) (read_names (source_of source.now))) }
     ensures numbers { IfOk result (λ fault. fault ≡ None → numbers.new ≡ numbers.old ++ numbers_of (stream_names named.now.queries) (read_names (source_of source.now))) }
 {
-    match source {
-        Source::Name(name) => add_name(alloc, named, name.as_str(), numbers),
-        Source::Filter(_, inner) => add_source(alloc, named, inner, numbers),
-        Source::Select(_, inner) => add_source(alloc, named, inner, numbers),
-        Source::Union(left, right) => {
-            if let Some(fault) = add_source(alloc, named, left, numbers)? {
-                return Ok(Some(fault));
-            }
-            add_source(alloc, named, right, numbers)
-        }
-        Source::Next(_, left, right) => {
-            if let Some(fault) = add_source(alloc, named, left, numbers)? {
-                return Ok(Some(fault));
-            }
-            add_source(alloc, named, right, numbers)
-        }
-        Source::Fold(_, _, _, left, right) => {
-            if let Some(fault) = add_source(alloc, named, left, numbers)? {
-                return Ok(Some(fault));
-            }
-            add_source(alloc, named, right, numbers)
+    let names = names_read(alloc, source)?;
+    add_names(alloc, named, names.as_slice(), numbers)
+}
+
+// Adds the numbers of the queries that have the names, or tells the first name that no statement has.
+fn add_names(
+    alloc: Global,
+    named: &Named,
+    names: &[Text],
+    numbers: &mut Numbers,
+) -> Result<Option<QueryFault>, Memory>
+    ensures fault { IfOk result (λ fault. fault ≡ read_fault (stream_names named.now.all) names.now) }
+    ensures numbers { IfOk result (λ fault. fault ≡ None → numbers.new ≡ numbers.old ++ numbers_of (stream_names named.now.queries) names.now) }
+{
+    for name in names {
+        if let Some(fault) = add_name(alloc, named, name.as_str(), numbers)? {
+            return Ok(Some(fault));
         }
     }
+    Ok(None)
 }
 
 // Adds the number of the query of this name, if it is a query's, or tells that no statement has it.

@@ -5,7 +5,7 @@ ghost use Rattle.catalogue.specs.Statements.{is_query, name_of};
 
 use cel_grammar::Statement;
 
-// The name of the stream that the statement declares or publishes.
+/// The name of the stream that the statement declares or publishes. Takes no memory.
 pub fn name(statement: &Statement) -> &str
     ensures { result.now ≡ name_of (statement_of statement.now) }
 {
@@ -15,7 +15,7 @@ pub fn name(statement: &Statement) -> &str
     }
 }
 
-// Whether the statement is a query.
+/// Whether the statement is a query; else it declares a stream.
 pub fn is_a_query(statement: &Statement) -> bool
     ensures { result ≡ is_query (statement_of statement.now) }
 {

@@ -9,11 +9,13 @@ use Rattle.cay_host.specs.Files.{find_file}
 use Rattle.cay_host.specs.MemHost.{entries, bytes_at}
 use Rattle.std.specs.Str.{bytes_eq}
 
+-- the bytes of the file at a place that is there
 pub bytes_at-get : (files : List File) (i : ℕ) (d : File) → i < length files → (get_or files i d).bytes.items ≡ bytes_at files i
 bytes_at-get [] i d h = absurd (omega arith)
 bytes_at-get (f ∷ files) zero d h = refl
 bytes_at-get (f ∷ files) (suc i) d h = bytes_at-get files i d (omega arith)
 
+-- past the last file there are no bytes
 pub bytes_at-past : (files : List File) (i : ℕ) → length files ≤ i → [] ≡ bytes_at files i
 bytes_at-past [] i h = refl
 bytes_at-past (f ∷ files) zero h = absurd (omega arith)

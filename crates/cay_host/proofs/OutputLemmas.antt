@@ -53,6 +53,7 @@ pub Wrote-next : (all : List ℕ) (i k : ℕ) {a b c : Told}
     → Wrote (take i all) a b → Wrote (take k (take (length all - i) (drop i all))) b c → Wrote (take (i + k) all) a c
 Wrote-next all i k p q = rw (take-add i k all) (Wrote-append p (rw tail_slice at q))
 
+-- nothing changed where nothing was done
 pub SameButOutput-refl : (a : Told) → SameButOutput a a
 SameButOutput-refl a = record {
   later = omega arith;
@@ -63,6 +64,7 @@ SameButOutput-refl a = record {
   left = refl;
 }
 
+-- what two calls left the same is the same after both
 pub SameButOutput-trans : {a b c : Told} → SameButOutput a b → SameButOutput b c → SameButOutput a c
 SameButOutput-trans {a} {b} {c} p q = record {
   later = omega arith;

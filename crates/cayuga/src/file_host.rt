@@ -20,6 +20,7 @@ pub struct FileHost {
 }
 
 impl FileHost {
+    /// A host with no file opened, and no fault counted.
     pub fn new(rt: HostRuntime) -> FileHost
         ensures queries { result.queries ≡ None }
         ensures events { result.events ≡ None }

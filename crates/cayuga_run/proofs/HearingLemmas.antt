@@ -123,6 +123,7 @@ module _ {judged : Judged} {limit taken : ℕ} {session : View} {old now next : 
         ),
       )
 
+  -- a read that failed is blamed on the events
   pub blames_read : SameButRead Events now next → BlamesHost old next (ReadFault Events)
   blames_read same = record {
     attach = λ other. same.attach_faults ∙ h.faults.attach;
@@ -130,10 +131,12 @@ module _ {judged : Judged} {limit taken : ℕ} {session : View} {old now next : 
     write = λ other. same.write_faults ∙ h.faults.write;
   }
 
+  -- a read of the events touches nothing else
   pub alone_read : SameButRead Events now next → HearsAlone old next
   alone_read same = record { attached = same.attached ∙ h.alone.attached; queries = ap (λ f. f Queries) same.others ∙ h.alone.queries }
 
 module _ {judged : Judged} {limit : ℕ} {bytes piece : List ℕ} {session : View} {old now next : Told} (t : HasTaken judged limit bytes piece session old now) (same : SameButOutput now next) where
+  -- nor does a write
   pub alone_written : HearsAlone old next
   alone_written = record { attached = same.attached ∙ t.alone.attached; queries = ap (λ f. f Queries) same.left ∙ t.alone.queries }
 
@@ -247,6 +250,7 @@ module _ {judged : Judged} {limit : ℕ} {bytes piece : List ℕ} {session : Vie
     cut_whole : bytes ≡ take limit (bytes ++ piece)
     cut_whole = sym (ap (λ p. take limit (bytes ++ p)) none ∙ ap (take limit) (append-nil bytes) ∙ take_all limit bytes (subst (λ n. length bytes ≤ n) t.most t.stands.within))
 
+    -- a session that has finished has heard all
     pub hears_all : (after : View) → KeepsQueries session after → Finishes session after [] bytes now next (Ok tt) → Hears judged limit after old next Done
     hears_all after keeps s = record {
       bytes = bytes ++ piece;
@@ -255,5 +259,6 @@ module _ {judged : Judged} {limit : ℕ} {bytes piece : List ℕ} {session : Vie
       finished = subst (HasFinished after []) (sym (ap (λ p. bytes ++ p) none ∙ append-nil bytes)) s.2;
     }
 
+    -- one that stops at the end has its fault's status
     pub stops_at_end : (after : View) (fault : SessionFault) → Finishes session after [] bytes now next (Err fault) → Hears judged limit after old next (status_of fault)
     stops_at_end after fault s = stops bytes true cut_whole (λ e. (none, nil_after)) after fault s

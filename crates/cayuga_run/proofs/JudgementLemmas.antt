@@ -8,6 +8,7 @@ use Rattle.catalogue.specs.Judgement.{Accepted, Accepts, Judged, Judges, Refused
 use Rattle.catalogue.proofs.VerdictLemmas.{one_verdict}
 use Rattle.cayuga_run.specs.Expected.{OneStatus, expected_of}
 
+-- a run has at most one status
 pub one_status : OneStatus
 one_status limit queries events status other a b =
     a.value ∙ ap (λ v. expected_of v limit events) (one_verdict queries a.verdict b.verdict a.judged b.judged) ∙ sym b.value

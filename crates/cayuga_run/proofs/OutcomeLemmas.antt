@@ -151,6 +151,7 @@ pub queries_read : {run : Run} {judged : Judged} {old mid new : Told} → IsRead
 queries_read r alone = subst (λ o. IfSome o (λ (rest : List ℕ). rest ≡ [])) (sym alone.queries) r.read
 
 module _ {run : Run} {limit : ℕ} {judged : Judged} {old mid new : Told} (r : IsReady run judged old mid) where
+  -- a refused line is the outcome of the run
   pub refused_after : (refusal : Refusal) → HearsRefused judged limit refusal mid new → IsRefused refusal run limit old new
   refused_after refusal h = record {
     there = r.there;
@@ -160,6 +161,7 @@ module _ {run : Run} {limit : ℕ} {judged : Judged} {old mid new : Told} (r : I
         (here.0, Wrote-after r.silent (subst (λ t. Wrote t mid new) here.1 h.heard.wrote)));
   }
 
+  -- so is a write that failed
   pub write_fault_after : HearsAlone mid new → Rose mid.write_faults new.write_faults → StoppedWriting judged limit (mid.left Events) mid new → IsWriteFault run limit old new
   write_fault_after alone rose s = record {
     cause = subst (λ n. Rose n new.write_faults) r.write_faults rose;
@@ -184,6 +186,7 @@ module _ {run : Run} {limit : ℕ} {judged : Judged} {old mid new : Told} (r : I
         }));
   }
 
+  -- so is want of memory
   pub memory_after : HearsFront judged limit mid new → IsMemory run limit old new
   memory_after h = record {
     text = of_verdict _ _ (new.left Events) judged h.bytes (λ v e. MemoryText v limit e old new) r.accept (sym r.events ∙ h.takes.front)
@@ -194,6 +197,7 @@ module _ {run : Run} {limit : ℕ} {judged : Judged} {old mid new : Told} (r : I
     no_events = λ e. absurd (let wrong : true ≡ false = sym e ∙ r.there.events in cc);
   }
 
+  -- so are events past the limit
   pub too_much_after : (bytes : List ℕ) → limit < length bytes → HearsUpTo judged limit bytes false None mid new → IsTooMuch run limit old new
   too_much_after bytes long h = record {
     there = r.there;
@@ -209,6 +213,7 @@ module _ {run : Run} {limit : ℕ} {judged : Judged} {old mid new : Told} (r : I
         ));
   }
 
+  -- so is a read that failed
   pub read_fault_after : HearsAlone mid new → Rose mid.read_faults new.read_faults → (bytes : List ℕ) → length bytes ≤ limit → HearsUpTo judged limit bytes false None mid new → IsReadFault Events run limit old new
   read_fault_after alone rose bytes within h = record {
     cause = subst (λ n. Rose n new.read_faults) r.read_faults rose;

@@ -1,11 +1,13 @@
--- A job whose queries are accepted. No public clause cites this module.
-use Rattle.std.specs.Prelude.{◌≡◌, ℕ, List, [], true, false, IfSome}
+-- A job whose queries are accepted, and how its run then ends. No public clause cites this module.
+use Rattle.std.specs.Prelude.{◌≡◌, ℕ, Bool, List, [], true, false, IfSome}
 use Rattle.cay_host.specs.declared.side.Side.TheVariants.{Queries, Events}
 use Rattle.cay_host.specs.Files.{lacks}
 use Rattle.cay_host.specs.Output.{KeepsOutput}
 use Rattle.cay_host.specs.Told.{Told}
 use Rattle.catalogue.specs.Judgement.{Accepts, Judged}
+use Rattle.cayuga_run.specs.declared.status.Status.{Status}
 use Rattle.cayuga_run.specs.Refusing.{OfQueries}
+use Rattle.cayuga_run.specs.RunOutcome.{RunOutcome}
 
 -- the queries were attached and read to their end, their text is accepted as this, and nothing else was done
 pub record HasAccepted (queries : List ℕ) (judged : Judged) (old new : Told) : Type 0 where
@@ -25,3 +27,9 @@ pub record HasRead (judged : Judged) (old new : Told) : Type 0 where
   pub accepts : IfSome (old.left Queries) (λ text. Accepts text judged)
   pub read_faults : new.read_faults ≡ old.read_faults
   pub read : IfSome (new.left Queries) (λ rest. rest ≡ [])
+
+-- how a run over these events ends, whatever queries were accepted before they are attached
+abbrev pub EndsRun : Judged → List ℕ → Bool → ℕ → Told → Told → Status → Type 0
+EndsRun judged events stats limit before after status =
+    (queries : List ℕ) (first : Told) → HasAccepted queries judged first before
+    → RunOutcome (record { queries = queries; events = events; stats = stats }) limit first after status

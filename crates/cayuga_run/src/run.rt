@@ -1,10 +1,9 @@
 //! The run of the queries of one file over the events of another.
-ghost use Rattle.std.specs.Prelude.{◌≡◌, ℕ, List, [], false};
+ghost use Rattle.std.specs.Prelude.{◌≡◌, [], false};
 ghost use Rattle.cay_host.specs.declared.side.Side.TheVariants.{Queries, Events};
-ghost use Rattle.cay_host.specs.Told.{Told};
 ghost use Rattle.catalogue.specs.Catalogued.{judged_of};
 ghost use Rattle.monitor.specs.Sessions.{StandsFor};
-ghost use Rattle.cayuga_run.specs.Begun.{HasAccepted};
+ghost use Rattle.cayuga_run.specs.Begun.{EndsRun};
 ghost use Rattle.cayuga_run.specs.Blaming.{BlamesHost};
 ghost use Rattle.cayuga_run.specs.RunOutcome.{RunOutcome};
 
@@ -56,7 +55,7 @@ fn hear_events<H: Host, L: Ledger>(
     requires free { (H.told host.old).attached Events ≡ false }
     requires stands { StandsFor session.old [] [] }
     requires limit { session.old.limit ≡ limit }
-    ensures outcome { (queries : List ℕ) (first : Told) → HasAccepted queries (judged_of session.old.catalogue) first (H.told host.old) → RunOutcome (record { queries = queries; events = events.now; stats = stats }) limit first (H.told host.new) result }
+    ensures outcome { EndsRun (judged_of session.old.catalogue) events.now stats limit (H.told host.old) (H.told host.new) result }
     ensures blames { BlamesHost (H.told host.old) (H.told host.new) result }
 {
     if host.attach(Side::Events, events).is_err() {

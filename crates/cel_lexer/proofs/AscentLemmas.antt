@@ -59,6 +59,7 @@ from-ascend (suc n) line at (b ∷ rest) h =
     let behind = from-ascend n (line_after b line) (at + 1) rest (omega arith) in
     rw (end, place) at behind
 
+-- the tokens of a text stand one behind another, within the text
 pub tokens-ascend : (text : List ℕ) (items : List Token) → tokens_behind_mark text ≡ Ok items → Ascend 0 (length text) items
 unfolding OkAscend
 tokens-ascend text items e =

@@ -11,6 +11,7 @@ use Rattle.cel_lexer.specs.declared.fault.LexFault.TheVariants as fault
 by_test : List ℕ → Bool → Lexed
 by_test text b = if b then tokens_behind_mark text else Err (fault.NotUtf8 (broken_line text))
 
+-- a text that is UTF-8 has the tokens behind its mark
 pub tokens_of-utf8 : (text : List ℕ) → IsUtf8 text → tokens_of text ≡ tokens_behind_mark text
 unfolding by_test
 tokens_of-utf8 text utf8 = ap (by_test text) (is_utf8-from_IsUtf8 text utf8)
@@ -21,6 +22,7 @@ not_utf8 text broken = elim (cases_Bool (is_utf8 text)) [
   | inr cut ↦ cut
 ]
 
+-- one that isn't is refused on the line of its first broken byte
 pub tokens_of-broken : (text : List ℕ) → ¬ (IsUtf8 text) → tokens_of text ≡ Err (fault.NotUtf8 (broken_line text))
 unfolding by_test
 tokens_of-broken text broken = ap (by_test text) (not_utf8 text broken)

@@ -8,10 +8,12 @@ use Rattle.cel_lexer.proofs.Lines.{lines_in}
 use Rattle.cel_lexer.specs.Bytes.{is_first}
 use Rattle.cel_lexer.specs.Literals.{literal_rest, more}
 
+-- two additions are one of the sum
 pub more-more : (i k : ℕ) (o : Option ℕ) → more i (more k o) ≡ more (i + k) o
 more-more i k None = refl
 more-more i k (Some n) = ap Some (omega arith)
 
+-- adding nothing changes nothing
 pub more-zero : (o : Option ℕ) → more 0 o ≡ o
 more-zero None = refl
 more-zero (Some n) = ap Some (zero-add n)
@@ -124,6 +126,7 @@ all-close (b ∷ next ∷ rest) = elim (cases_Bool (b == 10)) [
   ]
 ]
 
+-- where the rest of a literal has an end, it closes there
 pub literal-closes : (s : List ℕ) (n : ℕ) → literal_rest s ≡ Some n → Closes s n
 unfolding AllClose
 literal-closes s n e = let closes = all-close s in rw e at closes

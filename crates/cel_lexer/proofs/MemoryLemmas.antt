@@ -30,6 +30,7 @@ from_never zero line at (b ∷ rest) e =
     piece_never (piece_of (b ∷ rest)) line at (λ n. tokens_from n (line_after b line) (at + 1) rest) (λ n. from_never n (line_after b line) (at + 1) rest) e
 from_never (suc n) line at (b ∷ rest) e = from_never n (line_after b line) (at + 1) rest e
 
+-- want of memory is no fault of a text
 pub never_memory : (text : List ℕ) → tokens_of text ≡ Err fault.Memory → ⊥
 never_memory text e = elim (cases_Bool (is_utf8 text)) [
   | inl valid ↦ from_never (mark_len text) 1 0 text (rw valid at e)

@@ -2,7 +2,7 @@
 use Rattle.std.proofs.Common.{◌≡◌, ◌∙◌, ℕ, zero, suc, Bool, true, false, List, [], ◌∷◌, length, take, drop, ◌+◌, ◌-◌, ◌<◌, ◌≤◌, refl, sym, ap, arith, add-zero, zero-add, get_or, drop-cons, sub-one, inl, inr, Option, Some, None, pos, nat_lt, nat_le, ◌^◌}
 use Rattle.std.specs.Prelude.{take_while, if◌then◌else◌, ◌==◌, ◌&&◌}
 use Rattle.std.specs.Char.{is_ascii_digit}
-use Rattle.std.proofs.lemmas.Bool.{cases_Bool, eqb-true}
+use Rattle.std.proofs.lemmas.Bool.{cases_Bool, eqb-true, and_parts}
 use Rattle.std.proofs.lemmas.Bool.Decides.{nat_tests}
 use Rattle.std.proofs.lemmas.List.Sums.{take_while-cons}
 use Rattle.cel_lexer.proofs.Lines.{first_line, lines_in}
@@ -94,10 +94,6 @@ sign_ascii : (c : ℕ) → is_sign c ≡ true → c < 128
 unfolding is_sign
 sign_ascii c h = grind (arith, nat_tests)
 
-and_true : (a b : Bool) → (a && b) ≡ true → (a ≡ true) × (b ≡ true)
-and_true true b h = (refl, h)
-and_true false b h = cc
-
 -- a byte that passes a test which no line feed passes is none
 not_line : (p : ℕ → Bool) (b : ℕ) → p b ≡ true → p 10 ≡ false → (b == 10) ≡ false
 not_line p b here ends = elim (cases_Bool (b == 10)) [
@@ -162,10 +158,11 @@ number_fits b rest digit =
     (λ _. run_fits (what.Number (pos value)) is_ascii_digit b rest digit refl digit_ascii)
     (λ _. tt)
 
+-- the piece at the front of a text fits it
 pub piece-fits : (b : ℕ) (rest : List ℕ) → PieceFits (piece_of (b ∷ rest)) (b ∷ rest)
 piece-fits b rest =
     if-both P (is_blank b) _ _ (λ blank. (omega arith, omega arith, add-zero _)) (λ _.
-    if-both P ((b == 45) && is_first (λ next. next == 45) rest) _ _ (λ dashes. dash_fits b rest (eqb-true b 45 (and_true (b == 45) (is_first (λ next. next == 45) rest) dashes).0)) (λ _.
+    if-both P ((b == 45) && is_first (λ next. next == 45) rest) _ _ (λ dashes. dash_fits b rest (eqb-true b 45 (and_parts (b == 45) (is_first (λ next. next == 45) rest) dashes).0)) (λ _.
     if-both P (is_letter b) _ _ (word_fits b rest) (λ _.
     if-both P (is_ascii_digit b) _ _ (number_fits b rest) (λ _.
     if-both P (b == 39) _ _ (λ quote. literal_fits b rest (eqb-true b 39 quote)) (λ _.
@@ -174,9 +171,11 @@ piece-fits b rest =
     P : Piece → Type 0
     P p = PieceFits p (b ∷ rest)
 
+-- so does that of any text that isn't empty
 pub fits-at : (s : List ℕ) → 0 < length s → PieceFits (piece_of s) s
 fits-at [] h = absurd (omega arith)
 fits-at (b ∷ rest) h = piece-fits b rest
 
+-- the first byte ends a line where it is a line feed
 pub first_line-at : (s : List ℕ) (i : ℕ) → i < length s → first_line (drop i s) ≡ (if is_line_feed (get_or s i 0) then 1 else 0)
 first_line-at s i h = rw (drop-cons s i 0) refl

@@ -7,15 +7,18 @@ use Rattle.cel_lexer.specs.Listing.{AreSpans, IsSpan}
 use Rattle.cel_lexer.specs.declared.token.Token.{Token}
 use Rattle.cel_lexer.specs.declared.token.What.{What}
 
+-- no tokens are spans of any text
 pub spans-none : (s : List ℕ) → AreSpans s []
 spans-none s k d h = absurd (omega arith)
 
+-- spans with one more span are spans
 pub spans-push : (s : List ℕ) (ts : List Token) (t : Token) → AreSpans s ts → IsSpan s t → AreSpans s (ts ++ t ∷ [])
 spans-push s [] t old new zero d h = new
 spans-push s [] t old new (suc k) d h = absurd (omega arith)
 spans-push s (u ∷ ts) t old new zero d h = old 0 d (omega arith)
 spans-push s (u ∷ ts) t old new (suc k) d h = spans-push s ts t (λ j e g. old (suc j) e (omega arith)) new k d (omega arith)
 
+-- a token over a part of the text that isn't empty is a span
 pub span-at : (s : List ℕ) (i n line : ℕ) (w : What) → IsUtf8 s → i + n ≤ length s → 0 < n
     → get_or (drop i s) 0 0 < 128 → get_or (drop i s) (n - 1) 0 < 128
     → IsSpan s (record { what = w; line = line; begin = i; end = i + n })

@@ -23,14 +23,17 @@ abbrev pub all_before : List Token → Lexed → Lexed
 all_before [] r = r
 all_before (t ∷ ts) r = before t (all_before ts r)
 
+-- tokens with one more stand before what that one stands before
 pub all_before-append : (ts : List Token) (t : Token) (r : Lexed) → all_before (ts ++ t ∷ []) r ≡ all_before ts (before t r)
 all_before-append [] t r = refl
 all_before-append (u ∷ ts) t r = ap (before u) (all_before-append ts t r)
 
+-- before no tokens stand the tokens themselves
 pub all_before-ok : (ts : List Token) → all_before ts (Ok []) ≡ Ok ts
 all_before-ok [] = refl
 all_before-ok (t ∷ ts) = ap (before t) (all_before-ok ts)
 
+-- before a fault stands the fault
 pub all_before-err : (ts : List Token) (e : LexFault) → all_before ts (Err e) ≡ Err e
 all_before-err [] e = refl
 all_before-err (t ∷ ts) e = ap (before t) (all_before-err ts e)

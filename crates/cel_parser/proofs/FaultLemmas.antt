@@ -137,24 +137,28 @@ same-tokens text tokens others all all_others = cc
 abbrev sentences_of : List ℕ → List Token → List Sentence
 sentences_of text tokens = sentences (placed_of (record { source = text; items = tokens }))
 
+-- a text has at most one reading
 pub one-reading : OneReading
 one-reading text ss others lines other_lines h k =
     let same : h.tokens ≡ k.tokens = same-tokens text h.tokens k.tokens h.all k.all in
     let said = rw same at h.said in
     said-one said k.said
 
+-- a text has at most one fault
 pub one-refusal : OneFault
 one-refusal text e other h k =
     let same : h.tokens ≡ k.tokens = same-tokens text h.tokens k.tokens h.all k.all in
     let explained = rw same at h.explained in
     explains-one explained k.explained
 
+-- no text has a reading and a fault
 pub not-both : NotBoth
 not-both text ss lines e h k =
     let same : h.tokens ≡ k.tokens = same-tokens text h.tokens k.tokens h.all k.all in
     let said = rw same at h.said in
     said-no-fault said 1 e k.explained
 
+-- each text has a reading or a fault
 pub one-of-both : OneOfBoth
 one-of-both text tokens all = elim (told 1 (sentences_of text tokens)) [
   | inl read ↦ inl (record { statements = read.statements; lines = read.lines; reads = record { tokens = tokens; all = all; said = read.said } })

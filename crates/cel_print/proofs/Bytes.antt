@@ -52,24 +52,31 @@ pub stops : (p : ℕ → Bool) (s : List ℕ) → ((c : ℕ) → goes_on c ≡ f
 stops p [] h stop = refl
 stops p (c ∷ s) h stop = h c stop
 
+-- a byte at which a token ends is none of a word
 pub no_word : (c : ℕ) → goes_on c ≡ false → is_word_byte c ≡ false
 no_word c h = grind (arith, nat_tests)
 
+-- nor a digit
 pub no_digit : (c : ℕ) → goes_on c ≡ false → is_ascii_digit c ≡ false
 no_digit c h = grind (arith, nat_tests)
 
+-- nor a mark of a side
 pub no_side : (c : ℕ) → goes_on c ≡ false → is_side c ≡ false
 no_side c h = grind (arith, nat_tests)
 
+-- nor a dash
 pub no_dash : (c : ℕ) → goes_on c ≡ false → (c == 45) ≡ false
 no_dash c h = grind (arith, nat_tests)
 
+-- nor a quote
 pub no_quote : (c : ℕ) → goes_on c ≡ false → (c == 39) ≡ false
 no_quote c h = grind (arith, nat_tests)
 
+-- nor does it make `<` longer
 pub no_less : (c : ℕ) → goes_on c ≡ false → is_long_sign 60 c ≡ false
 no_less c h = grind (arith, nat_tests)
 
+-- nor `>`
 pub no_more : (c : ℕ) → goes_on c ≡ false → is_long_sign 62 c ≡ false
 no_more c h = grind (arith, nat_tests)
 
@@ -85,6 +92,7 @@ digit_is b h = (grind (arith, nat_tests), grind (arith, nat_tests), grind (arith
 pub word_comment : (b : ℕ) → is_word_byte b ≡ true → is_comment_byte b ≡ true
 word_comment b h = grind (arith, nat_tests)
 
+-- a digit may stand in a comment
 pub digit_comment : (b : ℕ) → is_ascii_digit b ≡ true → is_comment_byte b ≡ true
 digit_comment b h = grind (arith, nat_tests)
 

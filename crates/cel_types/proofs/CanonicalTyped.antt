@@ -67,6 +67,7 @@ module _ (event : List Kind) (binding : Option (List Kind)) where
   conjuncts-typed (Or p q) h = All-cons (λ (r : Pr). IsTyped r event binding) (Or p q) [] h (All-nil (λ (r : Pr). IsTyped r event binding))
   conjuncts-typed (Not p) h = All-cons (λ (q : Pr). IsTyped q event binding) (Not p) [] h (All-nil (λ (q : Pr). IsTyped q event binding))
 
+  -- the canonical form of a typed predicate is typed
   pub canonical-typed : (p : Pr) → IsTyped p event binding → AreTyped (canonical p) event binding
   canonical-typed p h =
       let P = λ (q : Pr). IsTyped q event binding in

@@ -27,6 +27,7 @@ two_places (z ∷ xs) (z' ∷ ys) us vs e =
     ]
 
 module _ (columns : List Column) where
+  -- columns have one schema
   pub IsDeclared-one : {schema other : List Attr} → IsDeclared columns schema → IsDeclared columns other → schema ≡ other
   IsDeclared-one d e = d.value ∙ sym e.value
 
@@ -34,10 +35,12 @@ module _ (columns : List Column) where
   distinct_once : (before after : List Attr) (a : Attr) → attrs_of columns ≡ before ++ a ∷ after → AreDistinct (attrs_of columns) → Contains (names_of before) a.name → ⊥
   distinct_once before after a parted distinct there = name_clash before after a (rw parted at distinct) there
 
+  -- columns that have a schema have no fault
   pub IsDeclared-no_fault : {schema : List Attr} {f : TypeFault} → IsDeclared columns schema → FailsToDeclare columns f → ⊥
   IsDeclared-no_fault d (twice before after a parted was there) = distinct_once before after a parted (rw d.value at d.is_schema.distinct) there
   IsDeclared-no_fault d (wide distinct past) = let same = ap length d.value in let few = d.is_schema.narrow in absurd (omega (arith, length-map columns attr_of))
 
+  -- columns have one first fault
   pub FailsToDeclare-one : {f g : TypeFault} → FailsToDeclare columns f → FailsToDeclare columns g → f ≡ g
   FailsToDeclare-one (twice before after a parted was there) (twice before' after' b parted' was' there') =
       elim (two_places before before' after after' (sym parted ∙ parted')) [
@@ -56,10 +59,12 @@ pub Declares-one : (statement : Statement) (schema other : List Attr) → Declar
 Declares-one (Stream name columns) schema other d e = IsDeclared-one columns d e
 Declares-one (Query items source name) schema other d e = absurd d
 
+-- a declaration has one first fault
 pub FailsAsDeclaration-one : (statement : Statement) (f g : TypeFault) → FailsAsDeclaration statement f → FailsAsDeclaration statement g → f ≡ g
 FailsAsDeclaration-one (Stream name columns) f g h h' = FailsToDeclare-one columns h h'
 FailsAsDeclaration-one (Query items source name) f g h h' = absurd h
 
+-- a declaration that has a schema has no fault
 pub Declares-no_fault : (statement : Statement) (schema : List Attr) (f : TypeFault) → Declares statement schema → FailsAsDeclaration statement f → ⊥
 Declares-no_fault (Stream name columns) schema f d h = IsDeclared-no_fault columns d h
 Declares-no_fault (Query items source name) schema f d h = d

@@ -106,6 +106,7 @@ module _ {binding event : List Attr} where
         value = value ∙ rw was.value (sym (rebinding-more a place s k was.assigns at free (slice_get_within binding place x there)));
       }
 
+  -- one more aggregate rebinds what it assigns
   pub rebinds-more : {aggs : List Agg} {agg : Agg} {before after : List Sc} → Rebinds binding event aggs before → Assigns binding event (names_in aggs) agg before after → Rebinds binding event (aggs ++ agg ∷ []) after
   rebinds-more was more = rebinds-one was more.assigns more.terms
 

@@ -65,5 +65,6 @@ meaning-typed scope p u (and {p = q} {q = r} {u = v} {v = w} m n) = (meaning-typ
 meaning-typed scope p u (or {p = q} {q = r} {u = v} {v = w} m n) = (meaning-typed scope q v m, meaning-typed scope r w n)
 meaning-typed scope p u (not {p = q} {u = v} m) = meaning-typed scope q v m
 
+-- a condition that has a meaning is typed in its scope
 pub condition-typed : (scope : Scope) (p : Pred) (u : Pr) → Means scope p u → AreTyped (canonical u) (event_kinds scope) (binding_kinds scope)
 condition-typed scope p u m = canonical-typed (event_kinds scope) (binding_kinds scope) u (meaning-typed scope p u m)

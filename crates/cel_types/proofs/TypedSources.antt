@@ -4,7 +4,6 @@ use Rattle.std.specs.Prelude.{Option, Some, None, slice_get}
 use Rattle.std.specs.List.{range_with_len}
 use Rattle.std.specs.Str.{bytes_eq}
 use Rattle.std.proofs.lemmas.Bool.{cases_Bool}
-use Rattle.std.proofs.lemmas.Bool.Decides.{nat_tests}
 use Rattle.std.proofs.lemmas.List.{append-nil, length-map, map-append}
 use Rattle.std.proofs.lemmas.Option.{get_or_from_slice_get, slice_get_within}
 use Rattle.event_types.specs.declared.kind.Kind.{Kind}
@@ -17,7 +16,7 @@ use Rattle.stream_schema.specs.Schema.{Attr, kinds_of}
 use Rattle.stream_schema.specs.Streams.{Entry, schemas_of}
 use Rattle.cel_grammar.specs.declared.mark.Mark.TheVariants as mark
 use Rattle.cel_grammar.specs.Trees.{Item, Agg, Source, Attr as AttrTree}
-use Rattle.cel_types.specs.Aggregates.{Assign, Assignment, IsAt, assigned, rebinding}
+use Rattle.cel_types.specs.Aggregates.{Assign, Assignment, assigned, rebinding}
 use Rattle.cel_types.specs.Aggregates as aggregates
 use Rattle.cel_types.specs.Items.{Make, all_events}
 use Rattle.cel_types.specs.Items as items
@@ -27,6 +26,7 @@ use Rattle.cel_types.specs.SourceLaws.{kinds_in}
 use Rattle.cel_types.specs.Sources.{Gives, name, filter, select, union, next, fold}
 use Rattle.cel_types.specs.Unions.{difference_from, is_kind, is_same}
 use Rattle.cel_types.proofs.TypedLaws.{term-of_kind, condition-typed}
+use Rattle.event_types.proofs.NumberLemmas.{same_number}
 
 -- terms by place are of kinds by place, by induction on the kinds
 of_kinds-map : (f : ℕ → Sc) (event : List Kind) (binding : Option (List Kind)) (kinds : List Kind) (from : ℕ) → ((i : ℕ) (k : Kind) → slice_get kinds i ≡ Some k → IsOfKind (f (from + i)) event binding k)
@@ -60,10 +60,6 @@ make-typed items.none = tt
 make-typed {schema} (items.all {more = more} {terms = terms} free rest) =
     rw (map-append (λ (a : Attr). a.kind) schema more) (of_kinds-append (all_events schema) terms (kinds_of schema) None (kinds_of schema) (kinds_of more) (all-of_kinds schema) (make-typed rest))
 make-typed {schema} (items.named {x = x} {s = s} {k = k} i free rest) = (term-of_kind (Alone schema) x s k i, make-typed rest)
-
--- the number is the place of an assignment, or another
-same_number : (m n : ℕ) → (m == n) ≡ true → m ≡ n
-same_number m n e = grind (arith, nat_tests)
 
 -- the term at a place of the new binding is of the old one's kind there, by induction on the derivation
 assigned-typed : {binding event : List Attr} {names : List (List ℕ)} {aggs : List Agg} {assignments : List Assignment} → Assign binding event names aggs assignments

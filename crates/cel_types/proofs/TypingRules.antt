@@ -4,11 +4,15 @@ use Rattle.cel_types.specs.Operands as operand
 use Rattle.cel_types.specs.Predicates as predicate
 use Rattle.cel_types.proofs.ScalarSteps.{left_fails, right_fails}
 
+-- the faults of an operand
 pub ruleset operand_rules = (operand.own, operand.not_int)
 
+-- the kinds and the faults of scalars
 pub ruleset scalar_rules = (scalar.number, scalar.quoted, scalar.dur, scalar.two, left_fails, right_fails)
 
+-- the meaning and the faults of a comparison
 pub ruleset test_rules = (predicate.test, predicate.test_left, predicate.test_right, predicate.test_kinds)
 
+-- the meaning and the faults of predicates
 pub ruleset predicate_rules =
     (predicate.true, predicate.and, predicate.or, predicate.not, predicate.and_left, predicate.and_right, predicate.or_left, predicate.or_right, predicate.denied)

@@ -5,7 +5,8 @@ use Rattle.stream_schema.specs.Streams.{Entry, stream_names}
 use Rattle.cel_grammar.specs.Trees.{Source}
 use Rattle.cel_grammar.specs.Trees as tree
 use Rattle.cel_types.specs.declared.sources.Typed.{Typed}
-use Rattle.cel_types.specs.Sources.{Gives}
+use Rattle.cel_types.specs.declared.fault.TypeFault.{TypeFault}
+use Rattle.cel_types.specs.Sources.{FailsToGive, Gives}
 
 -- the source has the schema and the expression that are typed together
 abbrev pub HasType : List Entry → Source → Typed → Type 0
@@ -19,3 +20,19 @@ ReadsStreams streams (tree.Select items e) = ReadsStreams streams e
 ReadsStreams streams (tree.Union e f) = ReadsStreams streams e × ReadsStreams streams f
 ReadsStreams streams (tree.Next p e f) = ReadsStreams streams e × ReadsStreams streams f
 ReadsStreams streams (tree.Fold p q aggs e f) = ReadsStreams streams e × ReadsStreams streams f
+
+-- over the table of streams, whatever it is, a source has this type where the one that it is made of has its type
+abbrev pub TypesOver : Typed → (Source → Source) → Typed → Type 0
+TypesOver inner made typed = (streams : List Entry) (e : Source) → HasType streams e inner → HasType streams (made e) typed
+
+-- it fails so where the one that it is made of has its type
+abbrev pub FailsOver : Typed → (Source → Source) → TypeFault → Type 0
+FailsOver inner made fault = (streams : List Entry) (e : Source) → HasType streams e inner → FailsToGive streams (made e) fault
+
+-- a source has this type where the two that it is made of have theirs
+abbrev pub TypesOverBoth : Typed → Typed → (Source → Source → Source) → Typed → Type 0
+TypesOverBoth left right made typed = (streams : List Entry) (e f : Source) → HasType streams e left → HasType streams f right → HasType streams (made e f) typed
+
+-- it fails so where the two that it is made of have their types
+abbrev pub FailsOverBoth : Typed → Typed → (Source → Source → Source) → TypeFault → Type 0
+FailsOverBoth left right made fault = (streams : List Entry) (e f : Source) → HasType streams e left → HasType streams f right → FailsToGive streams (made e f) fault

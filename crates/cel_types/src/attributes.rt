@@ -5,25 +5,9 @@ ghost use Rattle.stream_schema.specs.Joining.{is_taken};
 ghost use Rattle.stream_schema.specs.Schema.{place_of};
 
 use crate::fault::TypeFault;
-use event_types::{Kind, List, Memory, Text};
+use event_types::{Kind, List, Memory};
 use std::alloc::Global;
-use std::marker::Model;
-use stream_schema::Schema;
-
-/// An attribute: its name and its kind.
-#[derive(Drop)]
-pub struct Attribute {
-    name: Text,
-    kind: Kind,
-}
-
-impl Model for Attribute {
-    ghost use Rattle.stream_schema.specs.Schema.{Attr};
-
-    ghost Value = { Attr };
-
-    ghost view = { λ a. record { name = a.name; kind = a.kind } };
-}
+use stream_schema::{Attribute, Schema, first_place};
 
 /// Attributes, in order.
 pub type Attributes = List<Attribute>;
@@ -32,8 +16,10 @@ pub type Attributes = List<Attribute>;
 pub fn add(alloc: Global, attributes: &mut Attributes, name: &str, kind: Kind) -> Result<(), Memory>
     ensures { OnOk result (attributes.new ≡ attributes.old ++ record { name = name.now; kind = kind } ∷ []) }
 {
-    let name = Text::make(alloc, name)?;
-    if attributes.push(Attribute { name, kind }).is_err() {
+    if attributes
+        .push(Attribute::make(alloc, name, kind)?)
+        .is_err()
+    {
         return Err(Memory);
     }
     Ok(())
@@ -59,7 +45,7 @@ pub fn schema_of(alloc: Global, attributes: &[Attribute]) -> Result<Schema, Type
     }
     let mut schema = Schema::new(alloc);
     for attribute in attributes {
-        put(&mut schema, attribute.name.as_str(), attribute.kind)?;
+        put(&mut schema, attribute.name(), attribute.kind())?;
     }
     Ok(schema)
 }
@@ -74,13 +60,4 @@ fn put(schema: &mut Schema, name: &str, kind: Kind) -> Result<(), Memory>
         Ok(()) => Ok(()),
         Err(_) => Err(Memory),
     }
-}
-
-// The place of the first attribute of this name.
-fn first_place(attributes: &[Attribute], name: &str) -> Option<usize>
-    ensures { result ≡ place_of name.now attributes.now }
-{
-    attributes
-        .iter()
-        .position(|attribute| name == attribute.name.as_str())
 }

@@ -9,6 +9,7 @@ mod elaborating;
 mod fault;
 mod items;
 mod laws;
+mod reading;
 mod scalars;
 mod scope;
 mod source_laws;
@@ -21,6 +22,7 @@ pub use fault::TypeFault;
 pub use laws::{
     declaration_has_one_schema, predicate_has_one_type, scalar_has_one_type, terms_are_typed,
 };
+pub use reading::names_read;
 pub use source_laws::{queries_are_typed, query_has_one_type};
 
 #[cfg(test)]

@@ -6,11 +6,11 @@ ghost use Rattle.cel_grammar.specs.Views.{agg_of, item_of, pred_of, source_of};
 ghost use Rattle.cel_types.specs.Predicates.{Fails, Means};
 ghost use Rattle.cel_types.specs.Scopes.{Iteration};
 ghost use Rattle.cel_types.specs.Sources.{FailsToGive};
-ghost use Rattle.cel_types.specs.Typing.{HasType, ReadsStreams};
+ghost use Rattle.cel_types.specs.Typing.{FailsOver, FailsOverBoth, HasType, ReadsStreams, TypesOver, TypesOverBoth};
 ghost use Rattle.scalar_expr.specs.Canonical.{canonical};
 ghost use Rattle.semantics.specs.Scalars.{Pr};
 ghost use Rattle.stream_schema.specs.Joining.{joined};
-ghost use Rattle.stream_schema.specs.Streams.{Entry, stream_names};
+ghost use Rattle.stream_schema.specs.Streams.{stream_names};
 
 use crate::aggregates::rebind;
 use crate::attributes::schema_of;
@@ -70,8 +70,8 @@ pub fn source(alloc: Global, streams: &Streams, raw: &Source) -> Result<Typed, T
 
 /// The items of a SELECT over what is typed.
 pub fn selected(alloc: Global, inner: Typed, items: &[Item]) -> Result<Typed, TypeFault>
-    ensures ok { IfOk result (λ typed. (streams : List Entry) (e : tree.Source) → HasType streams e inner → HasType streams (tree.Select (map item_of items.now) e) typed) }
-    ensures err { IfErr result (λ fault. fault ≢ TypeFault.Memory → (streams : List Entry) (e : tree.Source) → HasType streams e inner → FailsToGive streams (tree.Select (map item_of items.now) e) fault) }
+    ensures ok { IfOk result (TypesOver inner (tree.Select (map item_of items.now))) }
+    ensures err { IfErr result (λ fault. fault ≢ TypeFault.Memory → FailsOver inner (tree.Select (map item_of items.now)) fault) }
 {
     let width = inner.schema.size();
     let made = make(alloc, &inner.schema, items)?;
@@ -102,8 +102,8 @@ fn read(alloc: Global, streams: &Streams, name: &str) -> Result<Typed, TypeFault
 
 // FILTER over what is typed.
 fn filtered(alloc: Global, inner: Typed, raw: &RawPred) -> Result<Typed, TypeFault>
-    ensures ok { IfOk result (λ typed. (streams : List Entry) (e : tree.Source) → HasType streams e inner → HasType streams (tree.Filter (pred_of raw.now) e) typed) }
-    ensures err { IfErr result (λ fault. fault ≢ TypeFault.Memory → (streams : List Entry) (e : tree.Source) → HasType streams e inner → FailsToGive streams (tree.Filter (pred_of raw.now) e) fault) }
+    ensures ok { IfOk result (TypesOver inner (tree.Filter (pred_of raw.now))) }
+    ensures err { IfErr result (λ fault. fault ≢ TypeFault.Memory → FailsOver inner (tree.Filter (pred_of raw.now)) fault) }
 {
     let condition = condition(alloc, &Scope::Alone(&inner.schema), raw)?;
     with_type(alloc, inner.schema, Expr::Filter(condition, inner.expr))
@@ -111,8 +111,8 @@ fn filtered(alloc: Global, inner: Typed, raw: &RawPred) -> Result<Typed, TypeFau
 
 // UNION of what is typed.
 fn united(alloc: Global, left: Typed, right: Typed) -> Result<Typed, TypeFault>
-    ensures ok { IfOk result (λ typed. (streams : List Entry) (e f : tree.Source) → HasType streams e left → HasType streams f right → HasType streams (tree.Union e f) typed) }
-    ensures err { IfErr result (λ fault. fault ≢ TypeFault.Memory → (streams : List Entry) (e f : tree.Source) → HasType streams e left → HasType streams f right → FailsToGive streams (tree.Union e f) fault) }
+    ensures ok { IfOk result (TypesOverBoth left right tree.Union) }
+    ensures err { IfErr result (λ fault. fault ≢ TypeFault.Memory → FailsOverBoth left right tree.Union fault) }
 {
     if let Some(place) = difference(&left.schema, &right.schema) {
         return Err(TypeFault::UnionMismatch { place });
@@ -122,8 +122,8 @@ fn united(alloc: Global, left: Typed, right: Typed) -> Result<Typed, TypeFault>
 
 // NEXT over what is typed.
 fn followed(alloc: Global, left: Typed, right: Typed, raw: &RawPred) -> Result<Typed, TypeFault>
-    ensures ok { IfOk result (λ typed. (streams : List Entry) (e f : tree.Source) → HasType streams e left → HasType streams f right → HasType streams (tree.Next (pred_of raw.now) e f) typed) }
-    ensures err { IfErr result (λ fault. fault ≢ TypeFault.Memory → (streams : List Entry) (e f : tree.Source) → HasType streams e left → HasType streams f right → FailsToGive streams (tree.Next (pred_of raw.now) e f) fault) }
+    ensures ok { IfOk result (TypesOverBoth left right (tree.Next (pred_of raw.now))) }
+    ensures err { IfErr result (λ fault. fault ≢ TypeFault.Memory → FailsOverBoth left right (tree.Next (pred_of raw.now)) fault) }
 {
     let schema = joined_schema(alloc, &left.schema, &right.schema)?;
     let condition = condition(alloc, &Scope::Sequence(&left.schema, &right.schema), raw)?;
@@ -139,8 +139,8 @@ fn folded(
     on: &RawPred,
     aggs: &[Agg],
 ) -> Result<Typed, TypeFault>
-    ensures ok { IfOk result (λ typed. (streams : List Entry) (e f : tree.Source) → HasType streams e left → HasType streams f right → HasType streams (tree.Fold (pred_of choose.now) (pred_of on.now) (map agg_of aggs.now) e f) typed) }
-    ensures err { IfErr result (λ fault. fault ≢ TypeFault.Memory → (streams : List Entry) (e f : tree.Source) → HasType streams e left → HasType streams f right → FailsToGive streams (tree.Fold (pred_of choose.now) (pred_of on.now) (map agg_of aggs.now) e f) fault) }
+    ensures ok { IfOk result (TypesOverBoth left right (tree.Fold (pred_of choose.now) (pred_of on.now) (map agg_of aggs.now))) }
+    ensures err { IfErr result (λ fault. fault ≢ TypeFault.Memory → FailsOverBoth left right (tree.Fold (pred_of choose.now) (pred_of on.now) (map agg_of aggs.now)) fault) }
 {
     let choose = iterating(alloc, &left.schema, &right.schema, choose)?;
     let on = iterating(alloc, &left.schema, &right.schema, on)?;

@@ -1,6 +1,6 @@
 //! Where the schemas of a UNION differ.
-ghost use Rattle.std.specs.Prelude.{◌≡◌, ◌<◌, ◌≤◌, ◌+◌, ℕ, if◌then◌else◌, length, drop, slice_get, Some, IsTrue, ◌⊎◌};
-ghost use Rattle.cel_types.specs.Unions.{difference_from, is_kind, is_same};
+ghost use Rattle.std.specs.Prelude.{◌≡◌, ◌<◌, ◌≤◌, length, slice_get, Some, IsTrue, ◌⊎◌};
+ghost use Rattle.cel_types.specs.Unions.{TellsDifference, difference_from, is_kind, is_same};
 ghost use Rattle.stream_schema.specs.Schema.{Attr};
 
 use event_types::Kind;
@@ -26,7 +26,7 @@ pub fn difference(left: &Schema, right: &Schema) -> Option<usize>
 fn differs_at(left: &Schema, right: &Schema, place: usize) -> bool
     requires left { place < length left.now }
     requires right { place ≤ length right.now }
-    ensures value { (n : ℕ) → difference_from n (drop place left.now) (drop place right.now) ≡ (if result then Some n else difference_from (n + 1) (drop (place + 1) left.now) (drop (place + 1) right.now)) }
+    ensures value { TellsDifference left.now right.now place result }
     ensures within { IsTrue result ⊎ (place < length right.now) }
 {
     if place == right.size() {

@@ -6,42 +6,30 @@ use Rattle.std.proofs.lemmas.List.Elements.{All-nil, All-cons, All-head, All-tai
 use Rattle.std.proofs.lemmas.List.Folds.{list_any-append}
 use Rattle.semantics.specs.Expressions.{Ex, Read, Filter, Select, Union, Next, Fold}
 use Rattle.semantics.specs.Reading.{ReadsOnly}
-use Rattle.automaton.proofs.WorkLemmas.{self_equal}
 use Rattle.automaton.specs.declared.line.Hop.{Hop}
 use Rattle.automaton.specs.declared.line.Line.{Line}
 use Rattle.automaton.specs.Work.{ReadsNone, is_in}
 use Rattle.splitter.specs.Laws.{IsApart, hidden_streams, split_order}
 use Rattle.splitter.specs.Splitting.{parts_of, published_on, split_lines}
-use Rattle.splitter.proofs.ListLemmas.{every}
+use Rattle.splitter.proofs.LawLemmas.{or_true, range_has}
 use Rattle.splitter.proofs.NumberingLemmas.{parts_up}
-use Rattle.splitter.proofs.OutLemmas.{Within, less_other, more_other, parts_outs}
+use Rattle.splitter.proofs.OutLemmas.{Within, parts_outs}
 use Rattle.splitter.proofs.ReadLemmas.{LineReads, PartsRead, parts_read}
+use Rattle.event_types.proofs.NumberLemmas.{self_equal, less_other, more_other}
+use Rattle.semantics.proofs.ListLemmas.{every}
 
 -- lists of numbers
 pub any_left : {X : Type 0} (p : X → Bool) (xs ys : List X) → list_any p xs ≡ true → list_any p (xs ++ ys) ≡ true
 any_left p xs ys e = list_any-append p xs ys ∙ ap (λ b. b || list_any p ys) e
 
-or_true : (a : Bool) → (a || true) ≡ true
-or_true true = refl
-or_true false = refl
-
+-- what is among the second items is among both
 pub any_right : {X : Type 0} (p : X → Bool) (xs ys : List X) → list_any p ys ≡ true → list_any p (xs ++ ys) ≡ true
 any_right p xs ys e = list_any-append p xs ys ∙ ap (λ b. list_any p xs || b) e ∙ or_true (list_any p xs)
 
+-- what holds of each number of a range holds of all
 pub range_all : (P : ℕ → Type 0) (a many : ℕ) → ((x : ℕ) → a ≤ x → x < a + many → P x) → All P (range_with_len a many)
 range_all P a zero each = All-nil P
 range_all P a (suc many) each = All-cons P a (range_with_len (a + 1) many) (each a (omega arith) (omega arith)) (range_all P (a + 1) many (λ x h g. each x (omega arith) (omega arith)))
-
-range_has : (a many x : ℕ) → a ≤ x → x < a + many → is_in (range_with_len a many) x ≡ true
-range_has a zero x h g = absurd (omega arith)
-range_has a (suc many) x h g = go (λ k. range_has (a + 1) many x k (omega arith)) (x == a) refl
-  where
-    above : (x == a) ≡ false → a + 1 ≤ x
-    above e = grind (arith, nat_tests)
-
-    go : (a + 1 ≤ x → is_in (range_with_len (a + 1) many) x ≡ true) → (b : Bool) → (x == a) ≡ b → (b || is_in (range_with_len (a + 1) many) x) ≡ true
-    go rest true e = refl
-    go rest false e = rest (above e)
 
 -- below a number or not
 pub is_below : (x n : ℕ) → (x < n) ⊎ (n ≤ x)
@@ -88,11 +76,13 @@ module _ (first number next : ℕ) (low : number ≤ first) (up : first ≤ next
   are_apart_too s x (inr a) (inl b) = less_other x s (omega (arith, a.0, b.1))
   are_apart_too s x (inr a) (inr b) = more_other x s (omega (arith, a.1))
 
+  -- an earlier stream is none of later ones
   pub none_later : (xs : List ℕ) (s : ℕ) → All (Later first number next) xs → Earlier first number next s → is_in xs s ≡ false
   none_later [] s all early = refl
   none_later (x ∷ xs) s all early =
       λ i. are_apart s x early (All-head (Later first number next) x xs all) i || none_later xs s (All-tail (Later first number next) x xs all) early i
 
+  -- a later stream is none of earlier ones
   pub none_earlier : (xs : List ℕ) (x : ℕ) → All (Earlier first number next) xs → Later first number next x → is_in xs x ≡ false
   none_earlier [] x all late = refl
   none_earlier (s ∷ xs) x all late =
@@ -109,6 +99,7 @@ module _ (first : ℕ) (e : Ex) (out next : ℕ) (low : out < first) (up : first
   abbrev Late : ℕ → Type 0
   Late = Later first (out + 1) last
 
+  -- the expression stands apart from its own streams
   pub is_apart : IsApart e out next
   is_apart = record {
     unread = reads_weaker (λ s. s < out) (λ s. s ≢ out) (λ s less same. absurd (omega arith)) e reads;
@@ -116,11 +107,13 @@ module _ (first : ℕ) (e : Ex) (out next : ℕ) (low : out < first) (up : first
     fresh = reads_weaker (λ s. s < out) (λ s. s < next) (λ s less. omega arith) e reads;
   }
 
+  -- its streams are earlier ones
   pub order_early : All Early (split_order e out next)
   order_early =
       All-append Early (hidden_streams e next) (out ∷ []) (range_all Early next (last - next) (λ x h g. inr (omega arith, omega (arith, parts_up e next))))
       (All-cons Early out [] (inl (omega arith)) (All-nil Early))
 
+  -- its lines publish earlier ones
   pub outs_early : All (λ line. Early line.out) (split_lines e out next)
   outs_early =
       All-append (λ line. Early line.out) (parts_of e next).hidden (map (published_on out) (parts_of e next).open_lines)
@@ -153,6 +146,7 @@ module _ (first : ℕ) (e : Ex) (out next : ℕ) (low : out < first) (up : first
         early.1;
   }
 
+  -- its lines read none of the later ones
   pub lines_read_none : (more : List ℕ) → All Late more → All (ReadsNone more) (split_lines e out next)
   lines_read_none more late =
       All-append (ReadsNone more) (parts_of e next).hidden (map (published_on out) (parts_of e next).open_lines)
@@ -164,6 +158,7 @@ module _ (first : ℕ) (e : Ex) (out next : ℕ) (low : out < first) (up : first
   pub own_in : is_in (split_order e out next) out ≡ true
   own_in = any_right (λ number. out == number) (hidden_streams e next) (out ∷ []) (ap (λ b. b || false) (self_equal out))
 
+  -- each of its lines publishes one of its streams
   pub outs_in : All (λ line. is_in (split_order e out next) line.out ≡ true) (split_lines e out next)
   outs_in =
       All-append (λ line. is_in (split_order e out next) line.out ≡ true) (parts_of e next).hidden (map (published_on out) (parts_of e next).open_lines)

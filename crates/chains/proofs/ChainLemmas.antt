@@ -14,28 +14,30 @@ use Rattle.semantics.specs.TypedPrograms.{PublishInTurn}
 use Rattle.semantics.specs.Typing.{Gives}
 use Rattle.algebra.proofs.ProgramLemmas.{typed_in_turn}
 use Rattle.automaton.proofs.AdditionLemmas.{added_alone, added_in_order}
-use Rattle.automaton.proofs.NumberLemmas.{is_other, other_number, same_number}
+use Rattle.event_types.proofs.NumberLemmas.{is_other, other_number, same_number, less_other}
 use Rattle.automaton.specs.Additions.{AreFresh}
 use Rattle.automaton.specs.Work.{IsInOrder, completed, is_in}
 use Rattle.splitter.specs.Laws.{hidden_streams, split_order}
 use Rattle.splitter.specs.Splitting.{parts_of, published_on, split_lines}
 use Rattle.splitter.proofs.LawLemmas.{in_order, lines_mean_it}
-use Rattle.splitter.proofs.ListLemmas.{every}
 use Rattle.splitter.proofs.NumberingLemmas.{parts_up}
-use Rattle.splitter.proofs.OutLemmas.{Within, less_other, parts_outs}
+use Rattle.splitter.proofs.OutLemmas.{Within, parts_outs}
 use Rattle.chains.specs.Chains.{chain_lines, chain_order}
 use Rattle.chains.specs.Widths.{HasWidths}
 use Rattle.chains.proofs.ApartLemmas.{Earlier, Later, any_left, any_right, is_apart, is_below, lines_read_none, none_earlier, none_later, order_early, outs_early, outs_in, own_in, range_all}
 use Rattle.chains.proofs.WidthLemmas.{wide_meets}
+use Rattle.semantics.proofs.ListLemmas.{every}
 
 -- a query is typed over the streams before its own, and the others publish behind it
 abbrev IsTurn : (ℕ → List Kind) → Query → List Query → Type 0
 IsTurn kinds query order = Gives query.expr query.stream kinds (kinds query.stream) × PublishInTurn kinds (query.stream + 1) order
 
+-- the first query of those that publish in turn has its turn
 pub is_turn : (kinds : ℕ → List Kind) (number : ℕ) (query : Query) (order : List Query) → PublishInTurn kinds number (query ∷ order) → IsTurn kinds query order
 is_turn kinds number query order h = subst (λ (n : ℕ). Gives query.expr n kinds (kinds n) × PublishInTurn kinds (n + 1) order) (sym h.0) (h.1, h.2)
 
 module _ (kinds : ℕ → List Kind) (first : ℕ) where
+  -- a query in its turn reads streams below its own
   pub reads_below : (query : Query) (order : List Query) → IsTurn kinds query order → ReadsOnly (λ stream. stream < query.stream) query.expr
   reads_below query order turn = reads_first query.stream kinds (kinds query.stream) query.expr turn.0
 

@@ -8,12 +8,11 @@ use Rattle.std.proofs.lemmas.Bool.Decides.{nat_tests}
 use Rattle.std.proofs.lemmas.Option.{slice_get_within}
 use Rattle.std.proofs.lemmas.List.Elements.{All-nil, All-cons, All-head, All-tail, All-weaker}
 use Rattle.event_types.specs.declared.kind.Kind.{Kind}
-use Rattle.automaton.proofs.NumberLemmas.{is_same, same_number}
+use Rattle.event_types.proofs.NumberLemmas.{is_same, same_number, less_other}
 use Rattle.automaton.specs.declared.line.Line.{Line}
 use Rattle.automaton.specs.LineKinds.{LineFits, LineGives}
 use Rattle.splitter.specs.declared.open.Open.{Open}
 use Rattle.splitter.specs.Splitting.{published_on}
-use Rattle.splitter.proofs.OutLemmas.{less_other}
 use Rattle.chains.specs.Growing.{GrowInTurn, grown}
 use Rattle.chains.proofs.LineLemmas.{OpenGives, get_more, get_next, open_more}
 use Rattle.chains.proofs.OneLemmas.{same_line}
@@ -30,16 +29,20 @@ grown_longer line out kinds =
       | false ↦ record { more = []; is = sym (append-nil kinds) }
     ]
 
+-- what is longer than a longer list is longer
 pub longer_twice : (old mid new : List (List Kind)) → IsLonger old mid → IsLonger mid new → IsLonger old new
 longer_twice old mid new a b = record { more = a.more ++ b.more; is = b.is ∙ ap (λ ks. ks ++ b.more) a.is ∙ append_assoc old a.more b.more }
 
+-- kinds that grow in turn are longer
 pub longer : (kinds : List (List Kind)) (lines : List Line) (all : List (List Kind)) → GrowInTurn kinds lines all → IsLonger kinds all
 longer kinds [] all h = record { more = []; is = sym h ∙ sym (append-nil kinds) }
 longer kinds (line ∷ lines) all h = longer_twice kinds (grown line h.0 kinds) all (grown_longer line h.0 kinds) (longer (grown line h.0 kinds) lines all h.3)
 
+-- a longer list has what was there
 pub get_longer : (old new : List (List Kind)) (stream : ℕ) (kinds : List Kind) → IsLonger old new → slice_get old stream ≡ Some kinds → slice_get new stream ≡ Some kinds
 get_longer old new stream kinds long e = ap (λ ks. slice_get ks stream) long.is ∙ get_more old long.more stream kinds e
 
+-- an open line gives the same over a longer list
 pub open_longer : (old new : List (List Kind)) (out : List Kind) (line : Open) → IsLonger old new → OpenGives old out line → OpenGives new out line
 open_longer old new out line long h = subst (λ (ks : List (List Kind)). OpenGives ks out line) (sym long.is) (open_more old long.more out line h)
 
@@ -47,6 +50,7 @@ open_longer old new out line long h = subst (λ (ks : List (List Kind)). OpenGiv
 line_longer : (old new : List (List Kind)) (out : List Kind) (line : Line) → IsLonger old new → LineGives old line out → LineGives new line out
 line_longer old new out line long h = open_longer old new out (record { root = line.root; hops = line.hops; last = line.last }) long h
 
+-- a line that fits, fits a longer list
 pub fits_longer : (old new : List (List Kind)) (line : Line) → IsLonger old new → LineFits old line → LineFits new line
 fits_longer old new line long h = (h.0, line_longer old new h.0 line long h.1, get_longer old new line.out h.0 long h.2)
 
@@ -105,6 +109,7 @@ pub record GrowsFrom (first : List (List Kind)) (lines : List Line) (index : ℕ
   pub rest : (all : List (List Kind)) × GrowInTurn kinds (drop index lines) all
   pub whole : (all : List (List Kind)) → GrowInTurn kinds (drop index lines) all → GrowInTurn first lines all
 
+-- before any line the kinds have grown by none
 pub grows_first : (first : List (List Kind)) (lines : List Line) → ((all : List (List Kind)) × GrowInTurn first lines all) → GrowsFrom first lines 0 first
 grows_first first lines h = record { rest = h; whole = λ all g. g }
 

@@ -14,9 +14,11 @@ use Rattle.chains.specs.Chains.{first_hidden, lines_of, order_of}
 use Rattle.chains.specs.Laws.{IsWideProgram}
 use Rattle.chains.proofs.ChainLemmas.{chain_means, chain_ordered}
 
+-- the lines of a program are in order
 pub ordered : (kinds : ℕ → List Kind) (program : Program) → IsProgram kinds program → IsInOrder (lines_of program) (order_of program)
 ordered kinds program typed = chain_ordered kinds (first_hidden program) program.declared program.order (first_hidden program) typed.in_turn refl (omega arith)
 
+-- they give what the program denotes
 pub meant : (kinds : ℕ → List Kind) (program : Program) (history : List Heard) → IsWideProgram kinds program → HaveTheirKinds kinds history
     → (stream : ℕ) → stream < first_hidden program → completed (lines_of program) (order_of program) (declared_streams program.declared history) stream ≡ env program history stream
 meant kinds program history is all stream less =
@@ -30,6 +32,7 @@ published_below kinds number (query ∷ order) h =
     All-cons (λ q. q.stream < number + length (query ∷ order)) query order (omega (arith, h.0))
     (All-weaker (λ q. q.stream < number + 1 + length order) (λ q. q.stream < number + length (query ∷ order)) (λ q less. omega arith) order (published_below kinds (number + 1) order h.2))
 
+-- so the stream of each query has what the program denotes, in some order
 pub derived_so : (kinds : ℕ → List Kind) (program : Program) (history : List Heard) → IsWideProgram kinds program → HaveTheirKinds kinds history
     → All (λ query. IsPermutation (completed (lines_of program) (order_of program) (declared_streams program.declared history) query.stream) (env program history query.stream)) program.queries
 derived_so kinds program history is all =

@@ -12,7 +12,6 @@ use Rattle.semantics.specs.Programs.{Query}
 use Rattle.semantics.specs.TypedPrograms.{PublishInTurn}
 use Rattle.algebra.specs.declared.expression.Expr.{Expr}
 use Rattle.algebra.specs.Views.{ex_of}
-use Rattle.automaton.proofs.WorkLemmas.{self_equal}
 use Rattle.automaton.specs.declared.layout.Layout.{Layout}
 use Rattle.automaton.specs.declared.line.Line.{Line}
 use Rattle.automaton.specs.Layouts.{LayoutFits}
@@ -30,6 +29,7 @@ use Rattle.chains.proofs.ApartLemmas.{any_left, any_right, is_apart, range_all}
 use Rattle.chains.proofs.ChainLemmas.{chain_has, chain_ordered, chain_outs, is_turn, reads_below}
 use Rattle.chains.proofs.GrowLemmas.{IsLonger, fits_longer, get_longer, grow_fits, grow_has, grow_same, longer, longer_twice}
 use Rattle.chains.proofs.SplitLemmas.{GrowBy, some_lines, split_typed}
+use Rattle.event_types.proofs.NumberLemmas.{self_equal}
 
 -- the stream of the lines has a line
 abbrev HasLine : List Line → ℕ → Type 0
@@ -80,6 +80,7 @@ module _ (declared : ℕ) (expressions : List Expr) (places : List ℕ) (kinds :
         outs_are = outs_are;
       }
 
+  -- before any query there are no lines
   pub leads_start : Typed (work_of declared expressions) declared → Wide (work_of declared expressions) → (next : ℕ) (lines : List Line) (order outs : List ℕ) → next ≡ length kinds → lines ≡ [] → order ≡ [] → outs ≡ map (λ at. declared + at) places
       → Leads declared expressions places kinds 0 next lines (record { order = order; outs = outs; kinds = kinds })
   leads_start typed wide next lines order outs next_is no_lines no_order outs_are =
@@ -123,6 +124,7 @@ module _ (declared : ℕ) (expressions : List Expr) (places : List ℕ) (kinds :
       pub query_apart : IsApart e out next
       query_apart = is_apart (declared + length expressions) e out next low leads.up (reads_below (kinds_by kinds) (declared + length expressions) query later (is_turn (kinds_by kinds) out query later typed_here))
 
+      -- the streams of a query have numbers below 2^64
       pub query_room : chain_end (work_of declared expressions) (declared + length expressions) < 2 ^ 64 → last < 2 ^ 64
       query_room room =
           let same = leads.end_is ∙ ap (λ order. chain_end order next) rest_is in omega (arith, room, same, end_up later last)
@@ -136,6 +138,7 @@ module _ (declared : ℕ) (expressions : List Expr) (places : List ℕ) (kinds :
           (get_longer kinds layout.kinds out (kinds_by kinds out) leads.long (slice_get-get_or kinds out [] (omega (arith, given, low))))
           typed_here.1 (All-head (λ (q : Query). HasWidths (kinds_by kinds) q.expr) query later wide_here)
 
+      -- the lines of a query are typed in turn
       pub query_typed : (all : List (List Kind)) × GrowInTurn layout.kinds (split_lines e out next) all
       query_typed = (grow_by.all, grow_by.grow)
 
@@ -175,6 +178,7 @@ module _ (declared : ℕ) (expressions : List Expr) (places : List ℕ) (kinds :
             (All-weaker (HasLine lines) (HasLine (lines ++ split_lines e out next)) (λ s has. any_left (λ (l : Line). l.out == s) lines (split_lines e out next) has) layout.order leads.has_lines)
             (All-weaker (HasLine (split_lines e out next)) (HasLine (lines ++ split_lines e out next)) (λ s has. any_right (λ (l : Line). l.out == s) lines (split_lines e out next) has) (split_order e out next) own_lines)
 
+        -- one more query leads on
         pub leads_next : Leads declared expressions places kinds (place + 1) new_next new_lines new
         leads_next = record {
           lines_are =
@@ -232,6 +236,7 @@ module _ (declared : ℕ) (expressions : List Expr) (places : List ℕ) (kinds :
             (All-weaker (λ at. at < length expressions) (λ at. IsTrue (is_in layout.order (declared + at))) (λ at less. all_in (declared + at) (omega arith) (omega arith)) places placed));
       }
 
+      -- behind all queries the chains are made
       pub all_made : AreChains declared expressions places kinds (record { lines = lines; layout = layout })
       all_made = record {
         lines = lines_made;

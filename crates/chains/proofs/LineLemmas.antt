@@ -33,6 +33,7 @@ module _ (streams more : List (List Kind)) where
     rest_more hops last h.0 out h.2,
   )
 
+  -- an open line gives the same over more streams
   pub open_more : (out : List Kind) (line : Open) → OpenGives streams out line → OpenGives (streams ++ more) out line
   open_more out line h = (h.0, get_more streams more line.root h.0 h.1, rest_more line.hops line.last h.0 out h.2)
 
@@ -48,5 +49,6 @@ module _ (streams : List (List Kind)) (wait : Wait) (binding event out : List Ki
   rest_hop last [] kinds h = (out, (binding, event, h, there, gives), refl)
   rest_hop last (hop ∷ hops) kinds h = (h.0, h.1, rest_hop last hops h.0 h.2)
 
+  -- a hop behind an open line gives what its turn gives
   pub open_hop : (line : Open) → OpenGives streams binding line → OpenGives streams out (with_hop wait line)
   open_hop line h = (h.0, h.1, rest_hop line.last line.hops h.0 h.2)

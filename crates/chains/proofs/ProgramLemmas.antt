@@ -60,19 +60,23 @@ module _ (kinds : List (List Kind)) (program : Program) (expressions : List Expr
   pub work_typed : PublishInTurn (kinds_by kinds) program.declared program.order → PublishInTurn (kinds_by kinds) program.declared (work_of program.declared expressions)
   work_typed h = subst (λ (xs : List Ex). PublishInTurn (kinds_by kinds) program.declared (queries_from program.declared xs)) same (turn_from (kinds_by kinds) program.declared program.order h)
 
+  -- the work of a wide program is wide
   pub work_wide : All (λ query. HasWidths (kinds_by kinds) query.expr) program.order → All (λ query. HasWidths (kinds_by kinds) query.expr) (work_of program.declared expressions)
   work_wide all = subst (λ (xs : List Ex). All (λ (q : Query). HasWidths (kinds_by kinds) q.expr) (queries_from program.declared xs)) same (wide_from (kinds_by kinds) program.declared program.order all)
 
+  -- its chains end where the program's do
   pub work_end : chain_end (work_of program.declared expressions) (program.declared + length expressions) ≡ end_of program
   work_end = (λ i. chain_end (queries_from program.declared (sym same i)) (first_is i)) ∙ end_from program.declared program.order (first_hidden program)
 
   -- and what they are
   module _ (typed : PublishInTurn (kinds_by kinds) program.declared program.order) (places : List ℕ) (outs : map (λ place. program.declared + place) places ≡ outs_of program) (chains : Chains)
       (made : AreChains program.declared expressions places kinds chains) where
+    -- the chains have the program's lines
     pub lines_made : chains.lines ≡ lines_of program
     lines_made =
         made.lines ∙ (λ i. chain_lines (queries_from program.declared (sym same i)) (first_is i)) ∙ lines_from (kinds_by kinds) program.declared program.order (first_hidden program) typed
 
+    -- and a layout of it
     pub layout_made : IsLayoutOf program kinds chains.layout
     layout_made = record {
       order =

@@ -153,6 +153,7 @@ module _ (count : ℕ) (kinds : ℕ → List Kind) where
     pub grow : GrowInTurn lists (split_lines e stream next) all
     pub size : length all ≡ (parts_of e next).next
 
+  -- the lines of a typed expression are typed in turn
   pub split_typed : (e : Ex) (stream next : ℕ) (lists : List (List Kind)) (out : List Kind) → Agrees lists → length lists ≡ next → slice_get lists stream ≡ Some out → Gives e count kinds out → HasWidths kinds e → GrowBy lists e stream next
   split_typed e stream next lists out agrees size there gives wide =
       let one = parts_typed e next lists out agrees size gives wide in record {

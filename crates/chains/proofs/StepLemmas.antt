@@ -1,5 +1,5 @@
 -- Steps with one more stage that are typed.
-use Rattle.std.proofs.Common.{◌≡◌, ◌∙◌, sym, ap, refl, subst, ◌+◌, ◌==◌, ◌&&◌, Bool, true, false, cond, length, List, [], ◌∷◌, ◌++◌, append_assoc, arith}
+use Rattle.std.proofs.Common.{◌≡◌, ◌∙◌, sym, ap, refl, subst, ◌+◌, ◌==◌, Bool, true, false, cond, length, List, [], ◌∷◌, ◌++◌, append_assoc, arith}
 use Rattle.std.specs.Prelude.{Some, None, slice_get}
 use Rattle.std.specs.List.{All}
 use Rattle.std.specs.Ordering.{eq_by_cmp, is_gt}
@@ -13,12 +13,13 @@ use Rattle.semantics.specs.Scalars.{Pr, Projection, Sc, Lit, Event, Binding, Dur
 use Rattle.semantics.specs.Typing.{AreOfKinds, AreTyped, IsTyped}
 use Rattle.scalar_expr.specs.Canonical.{distinct_parts}
 use Rattle.scalar_expr.specs.TermOrder.{pr_cmp}
-use Rattle.automaton.proofs.NumberLemmas.{same_number}
+use Rattle.event_types.proofs.NumberLemmas.{same_number}
 use Rattle.automaton.specs.declared.step.Stage.{Stage}
 use Rattle.automaton.specs.declared.step.Stage.TheVariants.{Keep, Make}
 use Rattle.automaton.specs.LineKinds.{StageGives, StepGives}
 use Rattle.splitter.specs.Stages.{are_events, is_identity, kept, staged}
 use Rattle.chains.proofs.LineLemmas.{get_next}
+use Rattle.std.proofs.lemmas.Bool.{and_parts}
 
 -- a Keep
 -- what holds of all holds of all in order
@@ -53,6 +54,7 @@ keep_gives (Make m ∷ []) condition kinds mid h typed = (h.0, h.1, keep_gives [
 keep_gives (Keep p ∷ stage ∷ step) condition kinds mid h typed = (h.0, h.1, keep_gives (stage ∷ step) condition h.0 mid h.2 typed)
 keep_gives (Make m ∷ stage ∷ step) condition kinds mid h typed = (h.0, h.1, keep_gives (stage ∷ step) condition h.0 mid h.2 typed)
 
+-- a condition at the end of a step keeps the step's kinds
 pub keep_staged : (condition : List Pr) (step : List Stage) (kinds mid : List Kind) → StepGives step kinds mid → AreTyped condition mid None → StepGives (staged step (Keep condition)) kinds mid
 keep_staged [] step kinds mid h typed = h
 keep_staged (p ∷ condition) step kinds mid h typed = keep_gives step (p ∷ condition) kinds mid h typed
@@ -62,10 +64,6 @@ stage_behind : (stage : Stage) (step : List Stage) (kinds mid out : List Kind) �
 stage_behind stage [] kinds mid out h gives = (out, subst (λ (k : List Kind). StageGives stage k out) (sym h) gives, refl)
 stage_behind stage (first ∷ step) kinds mid out h gives = (h.0, h.1, stage_behind stage step h.0 mid out h.2 gives)
 
-both : (a b : Bool) → (a && b) ≡ true → (a ≡ true) × (b ≡ true)
-both true b e = (refl, e)
-both false b e = absurd (let none : false ≡ true = e in cc)
-
 -- attributes in turn have the kinds in turn
 events_have : (parts : List Sc) (before after out : List Kind) → are_events (length before) parts ≡ true → length parts ≡ length after → AreOfKinds parts (before ++ after) None out → out ≡ after
 events_have [] before [] [] in_turn same h = refl
@@ -74,7 +72,7 @@ events_have [] before (a ∷ after) out in_turn same h = absurd (omega (arith, s
 events_have (s ∷ parts) before [] out in_turn same h = absurd (omega (arith, same))
 events_have (s ∷ parts) before (a ∷ after) [] in_turn same h = absurd h
 events_have (Event place ∷ parts) before (a ∷ after) (k ∷ out) in_turn same h =
-    let two = both (place == length before) (are_events (length before + 1) parts) in_turn in
+    let two = and_parts (place == length before) (are_events (length before + 1) parts) in_turn in
     let here : slice_get (before ++ a ∷ after) place ≡ Some a = ap (slice_get (before ++ a ∷ after)) (same_number place (length before) two.0) ∙ get_next before a after in
     let first : k ≡ a = let has = h.0 in cc in
     let longer : length before + 1 ≡ length (before ++ a ∷ []) = sym (length-append before (a ∷ [])) in
@@ -89,9 +87,10 @@ events_have (Two op x y ∷ parts) before (a ∷ after) (k ∷ out) in_turn same
 
 identity_has : (m : Projection) (mid out : List Kind) → is_identity m ≡ true → length mid ≡ m.width → AreOfKinds m.parts mid None out → mid ≡ out
 identity_has m mid out is wide h =
-    let two = both (length m.parts == m.width) (are_events 0 m.parts) is in
+    let two = and_parts (length m.parts == m.width) (are_events 0 m.parts) is in
     sym (events_have m.parts [] mid out two.1 (same_number (length m.parts) m.width two.0 ∙ sym wide) h)
 
+-- a projection at the end of a step gives its own kinds
 pub make_staged : (m : Projection) (step : List Stage) (kinds mid out : List Kind) → StepGives step kinds mid → length mid ≡ m.width → AreOfKinds m.parts mid None out → StepGives (staged step (Make m)) kinds out
 make_staged m step kinds mid out h wide gives = go (is_identity m) refl
   where

@@ -15,6 +15,7 @@ use Rattle.splitter.specs.Widths.{MeetWidths}
 use Rattle.chains.specs.Widths.{HasWidths, width_of}
 
 module _ (count : ℕ) (kinds : ℕ → List Kind) where
+  -- the width of an expression is the count of its kinds
   pub width_is : (e : Ex) (out : List Kind) → Gives e count kinds out → length out ≡ width_of kinds e
   width_is (Read stream) out h = ap length (sym h.1)
   width_is (Filter p e) out h = width_is e out h.0
@@ -23,6 +24,7 @@ module _ (count : ℕ) (kinds : ℕ → List Kind) where
   width_is (Next p e f) out h = ap length (sym h.5) ∙ length-append h.0 h.1 ∙ (λ i. width_is e h.0 h.2 i + width_is f h.1 h.3 i)
   width_is (Fold p q m e f) out h = width_is e out h.1
 
+  -- over streams of their kinds an expression with widths meets them
   pub wide_meets : (streams : Streams) → HaveKinds kinds count streams → (e : Ex) (out : List Kind) → Gives e count kinds out → HasWidths kinds e → MeetWidths e streams
   wide_meets streams all (Read stream) out h wide = tt
   wide_meets streams all (Filter p e) out h wide = wide_meets streams all e out h.0 wide

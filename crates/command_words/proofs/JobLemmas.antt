@@ -15,6 +15,7 @@ use Rattle.command_words.proofs.PlainLemmas.{is_ready, standing, turn_fault-plai
 abbrev pub shape : Shape
 shape = (built the_command).top
 
+-- the rules by which words are read
 abbrev pub rules : List Rule
 rules = shape.rules
 

@@ -30,7 +30,6 @@ use Rattle.automaton.specs.States.{Net}
 use Rattle.automaton.specs.Work.{IsInOrder, is_in}
 use Rattle.automaton.specs.declared.layout.Layout.{Layout}
 use Rattle.automaton.specs.declared.line.Line.{Line}
-use Rattle.automaton.proofs.WorkLemmas.{or_parts}
 use Rattle.epoch_laws.specs.Closing.{IsEpoch, Stores, published}
 use Rattle.epoch_laws.specs.Stands.{Serves}
 use Rattle.epoch_laws.proofs.Bags.{no_length}
@@ -53,6 +52,7 @@ use Rattle.epoch_draft.proofs.GoingLemmas.{all_left}
 use Rattle.epoch_draft.proofs.Lists.{same_or_other}
 use Rattle.epoch_draft.proofs.Moves.{equal_number, is_itself}
 use Rattle.epoch_draft.proofs.SuitLemmas.{published_kinds, tuple_suits}
+use Rattle.std.proofs.lemmas.Bool.{or_parts}
 
 or-true : (a : Bool) → (a || true) ≡ true
 or-true true = refl

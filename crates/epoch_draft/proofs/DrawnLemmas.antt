@@ -31,7 +31,6 @@ use Rattle.epoch_laws.specs.Epochs.{again, left, took}
 use Rattle.epoch_laws.specs.Instances.{instance_of}
 use Rattle.epoch_laws.proofs.Bags.{no_length, permuted_is}
 use Rattle.epoch_laws.proofs.Lists.{every}
-use Rattle.scalar_expr.proofs.RunsLemmas.{flat_map_same}
 use Rattle.epoch_draft.specs.Comes.{gets, with_tuple}
 use Rattle.epoch_draft.specs.Drafts.{Adds, Grows}
 use Rattle.epoch_draft.specs.Drawn.{Drawn, Paired}
@@ -44,6 +43,7 @@ use Rattle.epoch_draft.proofs.Comes.{tuple_comes}
 use Rattle.epoch_draft.proofs.EdgeLemmas.{before_edge}
 use Rattle.epoch_draft.proofs.GoingLemmas.{state_below}
 use Rattle.epoch_draft.proofs.Moves.{bound_over, is_itself, equal_number, made_over, moves_parts, nothing_of, unbound_over}
+use Rattle.semantics.proofs.ReportLemmas.{flat_map_same}
 
 -- all moves of the tuples that are met so far
 abbrev pub moves_seen : Net → Stores → Streams → List Move

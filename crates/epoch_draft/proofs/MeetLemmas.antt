@@ -13,7 +13,6 @@ use Rattle.inst_chain.specs.Heads.{head}
 use Rattle.instances.specs.declared.instance.Instance.{Instance}
 use Rattle.semantics.specs.Nexts.{is_eligible}
 use Rattle.scalar_expr.proofs.Bags.{flat_map_permuted, permuted_from, permuted_to}
-use Rattle.scalar_expr.proofs.RunsLemmas.{flat_map_same}
 use Rattle.automaton.specs.States.{Net, entry_at, is_used, root_by, state_at, tells, wait_at, wait_by}
 use Rattle.automaton.specs.declared.network.Entry.{Entry}
 use Rattle.automaton.specs.declared.network.Entry.TheVariants.{Root, Waiting}
@@ -34,6 +33,7 @@ use Rattle.epoch_draft.specs.declared.finding.Target.{Target}
 use Rattle.epoch_draft.proofs.DraftLemmas.{grows_none, grows_same, grows_trans}
 use Rattle.epoch_draft.proofs.GoingLemmas.{all_left, all_right, moves_append}
 use Rattle.epoch_draft.proofs.Moves.{tested_of}
+use Rattle.semantics.proofs.ReportLemmas.{flat_map_same}
 
 -- moves that make nothing
 pub grows_silent : (net : Net) (a b : List Move) (old new : Draft) → ((t : ℕ) → made_of t b ≡ []) → ((w : ℕ) → bound_of net w b ≡ []) → Grows net a old new → Grows net (a ++ b) old new

@@ -10,7 +10,6 @@ use Rattle.std.proofs.lemmas.List.{append-nil}
 use Rattle.std.proofs.lemmas.List.Sorted.{IsPermutation-trans}
 use Rattle.event_types.specs.Tuple.{Row}
 use Rattle.scalar_expr.proofs.Bags.{flat_map_permuted, permuted_from, permuted_to}
-use Rattle.scalar_expr.proofs.RunsLemmas.{flat_map_same}
 use Rattle.automaton.specs.Flow.{entering}
 use Rattle.automaton.specs.Networks.{IsNetwork}
 use Rattle.automaton.specs.States.{Net, before_at, before_by, edges_at, ends_at, entry_at, step_at, step_by, tells, wait_at, wait_by}
@@ -27,6 +26,7 @@ use Rattle.epoch_laws.proofs.Bags.{flat_map_alike, flat_map_parts}
 use Rattle.epoch_laws.proofs.Lists.{every, flat_map-flat_map}
 use Rattle.epoch_pass.proofs.Pairs.{pairs_turned}
 use Rattle.epoch_draft.specs.Moves.{Into, Move, Out, Way, backs_by, backs_in, bound_by, bound_of, made_by, made_of, moves_from, moves_on, moves_over, ways_at}
+use Rattle.semantics.proofs.ReportLemmas.{flat_map_same}
 
 -- numbers that test as equal are
 pub equal_number : (m n : ℕ) → (m == n) ≡ true → m ≡ n

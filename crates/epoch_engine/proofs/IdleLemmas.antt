@@ -10,7 +10,6 @@ use Rattle.std.proofs.lemmas.List.Elements.{All-weaker}
 use Rattle.event_types.specs.Tuple.{Row}
 use Rattle.instances.specs.Plain.{Plain}
 use Rattle.semantics.specs.Denotation.{streams_of}
-use Rattle.automaton.proofs.AdditionLemmas.{filter_none}
 use Rattle.automaton.specs.States.{Net, ends_at, state_at}
 use Rattle.automaton.specs.Steps.{pass}
 use Rattle.automaton.specs.declared.layout.Layout.{Layout}
@@ -31,6 +30,7 @@ use Rattle.epoch_engine.proofs.DeriveLemmas.{state_flows}
 use Rattle.epoch_engine.proofs.Lists.{same_or_other}
 use Rattle.epoch_engine.proofs.ReachLemmas.{fits_more, met_again}
 use Rattle.epoch_engine.proofs.SettledLemmas.{none_permuted}
+use Rattle.semantics.proofs.ReportLemmas.{filter_none}
 
 same_number : (m n : ℕ) → (m == n) ≡ true → m ≡ n
 same_number m n e = grind (arith, nat_tests)

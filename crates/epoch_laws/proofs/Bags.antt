@@ -10,6 +10,7 @@ use Rattle.scalar_expr.proofs.Bags.{permuted_from, permuted_to, flat_map_permute
 use Rattle.epoch_laws.specs.Stores.{IsWithin}
 
 module _ {X : Type 0} where
+  -- equal lists are permutations
   pub permuted_is : {xs ys : List X} → xs ≡ ys → IsPermutation xs ys
   permuted_is {xs} {ys} e = subst (λ zs. IsPermutation xs zs) e (IsPermutation-refl xs)
 
@@ -18,10 +19,12 @@ module _ {X : Type 0} where
   swap_mid a b c =
       permuted_from (sym (append_assoc a b c)) (permuted_to (IsPermutation-append_left c (a ++ b) (b ++ a) (IsPermutation-append_comm a b)) (append_assoc b a c))
 
+  -- the middle two of four lists may change places
   pub swap_four : (a b c d : List X) → IsPermutation ((a ++ b) ++ (c ++ d)) ((a ++ c) ++ (b ++ d))
   swap_four a b c d =
       permuted_from (append_assoc a b (c ++ d)) (permuted_to (IsPermutation-append_right a (b ++ (c ++ d)) (c ++ (b ++ d)) (swap_mid b c d)) (sym (append_assoc a c (b ++ d))))
 
+  -- a list of no length is empty
   pub no_length : (xs : List X) → length xs ≤ 0 → xs ≡ []
   no_length [] h = refl
   no_length (x ∷ xs) h = absurd (omega arith)
@@ -30,6 +33,7 @@ module _ {X : Type 0} where
   pub within_through : (xs ys zs : List X) → IsWithin xs ys → IsWithin ys zs → IsWithin xs zs
   within_through xs ys zs h g = (h.0 ++ g.0, permuted_from (sym (append_assoc xs h.0 g.0)) (IsPermutation-trans _ _ _ (IsPermutation-append_left g.0 (xs ++ h.0) ys h.1) g.1))
 
+  -- a permutation of what lies within lies within
   pub within_permuted : (xs ys zs : List X) → IsPermutation xs ys → IsWithin ys zs → IsWithin xs zs
   within_permuted xs ys zs h g = (g.0, IsPermutation-trans _ _ _ (IsPermutation-append_left g.0 xs ys h) g.1)
 
@@ -66,6 +70,7 @@ module _ {X Y : Type 0} where
       go rest None = rest
       go rest (Some y) = ap (λ ys. y ∷ ys) rest
 
+  -- what is kept of a permutation is a permutation
   pub filter_map_permuted : (f : X → Option Y) (xs ys : List X) → IsPermutation xs ys → IsPermutation (filter_map f xs) (filter_map f ys)
   filter_map_permuted f xs ys h =
       permuted_from (filter_map_flat f xs) (permuted_to (flat_map_permuted (λ x. cons_option (f x) []) xs ys h) (sym (filter_map_flat f ys)))

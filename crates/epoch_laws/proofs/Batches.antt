@@ -21,6 +21,7 @@ use Rattle.epoch_laws.specs.Closing.{IsEpoch, Stores}
 use Rattle.epoch_laws.specs.Stands.{Serves, Stands}
 use Rattle.epoch_laws.proofs.Stands.{closed_batch}
 
+-- a batch has the results of each query
 pub batch_is_results : (net : Net) (lines : List Line) (order : List ℕ) (now time : ℕ) (stores : Stores) (past events : List Heard) (news : Streams) (program : Program) (stream : ℕ)
     → Serves net lines order → Stands net lines order now stores past → now ≤ time → All (λ e. IsSound e.tuple × (e.tuple.at ≡ time)) events
     → IsEpoch net order stores (heard_on events) news → Agree lines order program (past ++ events) stream

@@ -18,24 +18,31 @@ use Rattle.epoch_laws.proofs.Lists.{and-true, and-false, filter-filter, filter_n
 pub now_or : (time at : ℕ) → at ≤ time → nat_lt at time ≡ false → (at == time) ≡ true
 now_or time at h e = grind (arith, nat_tests)
 
+-- what is before a time isn't at it
 pub not_now : (time at : ℕ) → nat_lt at time ≡ true → (at == time) ≡ false
 not_now time at e = grind (arith, nat_tests)
 
+-- what is at a time isn't before it
 pub not_old : (time at : ℕ) → (at == time) ≡ true → nat_lt at time ≡ false
 not_old time at e = grind (arith, nat_tests)
 
+-- what passes the test is at the time
 pub is_now : (time at : ℕ) → (at == time) ≡ true → at ≡ time
 is_now time at e = grind (arith, nat_tests)
 
+-- what is at the time passes it
 pub now_at : (time at : ℕ) → at ≡ time → (at == time) ≡ true
 now_at time at e = grind (arith, nat_tests)
 
+-- what passes the test is before the time
 pub is_old : (time at : ℕ) → nat_lt at time ≡ true → at < time
 is_old time at e = grind (arith, nat_tests)
 
+-- what doesn't isn't
 pub not_less : (time at : ℕ) → nat_lt at time ≡ false → time ≤ at
 not_less time at e = grind (arith, nat_tests)
 
+-- a list that is empty has no items
 pub empty_is : (xs : List Row) → is_empty xs ≡ true → xs ≡ []
 empty_is [] e = refl
 empty_is (x ∷ xs) e = cc
@@ -50,6 +57,7 @@ all_now time (x ∷ xs) all e = go (all_now time xs (All-tail (IsPast time) x xs
     go rest false t e =
         ap (λ b. cond b (x ∷ during time xs) (during time xs)) (now_or time x.at (All-head (IsPast time) x xs all).1 t) ∙ ap (λ ys. x ∷ ys) (rest e)
 
+-- where nothing is at the time, all is before it
 pub all_old : (time : ℕ) (xs : List Row) → All (IsPast time) xs → during time xs ≡ [] → before time xs ≡ xs
 all_old time [] all e = refl
 all_old time (x ∷ xs) all e = go (all_old time xs (All-tail (IsPast time) x xs all)) (nat_lt x.at time) refl
@@ -82,6 +90,7 @@ first_at_end time r e (x ∷ xs) all = go (first_at_end time r e xs (All-tail (I
     go rest true t = let no : nat_le r.at x.at ≡ false = grind (arith, nat_tests) in ap (λ b. b && is_earliest xs r) no
     go rest false t = let yes' : nat_le r.at x.at ≡ true = grind (arith, nat_tests) in ap (λ b. b && is_earliest xs r) yes' ∙ rest
 
+-- the earliest are at the time where none is before it
 pub during_firsts : (time : ℕ) (xs : List Row) → All (IsPast time) xs → during time (earliest xs) ≡ cond (is_empty (before time xs)) (during time xs) []
 during_firsts time xs all =
     filter-filter (λ r. r.at == time) (is_earliest xs) xs
@@ -145,6 +154,7 @@ first_of_all x (y ∷ ys) = go (first_of_all y ys)
           there = λ test t. ap (λ b. is_empty (cond b (x ∷ filter test (y ∷ ys)) (filter test (y ∷ ys)))) t;
         }
 
+-- there are earliest where there are any
 pub nil_firsts : (xs : List Row) → is_empty (earliest xs) ≡ is_empty xs
 nil_firsts [] = refl
 nil_firsts (x ∷ xs) = let f = first_of_all x xs in f.there (is_earliest (x ∷ xs)) f.first
@@ -153,12 +163,14 @@ nil_firsts (x ∷ xs) = let f = first_of_all x xs in f.there (is_earliest (x ∷
 pub waits_is : (p : List Pr) (rs : List Row) (b : Row) → waits p rs b ≡ is_empty (filter (is_eligible p b) rs)
 waits_is p rs b = nil_firsts (filter (is_eligible p b) rs)
 
+-- the nexts at a time are those that are eligible where the binding waited until then
 pub during_nexts : (time : ℕ) (p : List Pr) (b : Row) (rs : List Row) → All (IsPast time) rs → during time (nexts p b rs) ≡ cond (waits p (before time rs) b) (filter (is_eligible p b) (during time rs)) []
 during_nexts time p b rs all =
     during_firsts time (filter (is_eligible p b) rs) (All-filter (is_eligible p b) (IsPast time) rs all)
     ∙ (λ i. cond (is_empty (filter_swap (λ r. nat_lt r.at time) (is_eligible p b) rs i)) (filter_swap (λ r. r.at == time) (is_eligible p b) rs i) [])
     ∙ ap (λ t. cond t (filter (is_eligible p b) (during time rs)) []) (sym (waits_is p (before time rs) b))
 
+-- a binding waits on where none of the epoch is eligible
 pub waits_cut : (time : ℕ) (p : List Pr) (b : Row) (rs : List Row) → All (IsPast time) rs → waits p rs b ≡ (waits p (before time rs) b && is_empty (filter (is_eligible p b) (during time rs)))
 waits_cut time p b rs all =
     waits_is p rs b
@@ -226,5 +238,6 @@ none_now time p b late (r ∷ rs) all =
     no_less : (r : Row) → r.from ≤ r.at → r.at ≤ time → nat_lt b.at r.from ≡ false
     no_less r h g = grind (arith, nat_tests)
 
+-- a binding of the time still waits
 pub waits_now : (time : ℕ) (p : List Pr) (b : Row) → time ≤ b.at → (rs : List Row) → All (IsPast time) rs → waits p rs b ≡ true
 waits_now time p b late rs all = waits_is p rs b ∙ ap is_empty (none_now time p b late rs all)

@@ -26,13 +26,13 @@ use Rattle.semantics.specs.Truth.{all_true, is_met, order_of, truth}
 use Rattle.semantics.specs.Values.{value_at}
 use Rattle.scalar_expr.specs.Classes as class
 use Rattle.scalar_expr.proofs.Bags.{permuted_from, permuted_to}
-use Rattle.scalar_expr.proofs.RunsLemmas.{flat_map_same}
 use Rattle.automaton.specs.Waiting.{is_empty}
 use Rattle.automaton.specs.declared.wait.Turn.{Turn}
 use Rattle.epoch_laws.specs.Epochs.{eligible_of, is_unmet, left, taken, took}
 use Rattle.epoch_laws.specs.Events.{IsKeyOf, found, taken_out}
 use Rattle.epoch_laws.proofs.Bags.{flat_map_parts}
 use Rattle.epoch_laws.proofs.Lists.{and-false, every, filter-filter, flat_map-filter}
+use Rattle.semantics.proofs.ReportLemmas.{flat_map_same}
 
 -- equality of values doesn't depend on the side
 eq_turned : (o : Ordering) → is_eq (ordering_reverse o) ≡ is_eq o

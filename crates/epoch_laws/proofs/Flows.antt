@@ -71,6 +71,7 @@ pass_cut test step (t ∷ ts) = go (pass_cut test step ts) (pass step t) refl (p
         branch false is (Some u) e h =
             ap (λ b. cond b (u ∷ filter (λ t. test t.at) (filter_map (pass step) ts)) (filter (λ t. test t.at) (filter_map (pass step) ts))) (ap test h.0 ∙ is) ∙ rest
 
+-- what passes a step has its times
 pub pass_past : (time : ℕ) (step : List Stage) (ts : List Row) → All (IsPast time) ts → All (IsPast time) (filter_map (pass step) ts)
 pass_past time step [] all = All-nil (IsPast time)
 pass_past time step (t ∷ ts) all = go (pass_past time step ts (All-tail (IsPast time) t ts all)) (pass step t) (pass_timed step t) (All-head (IsPast time) t ts all)
@@ -90,6 +91,7 @@ flow_is now earlier (Root s) = refl
 flow_is now earlier (After p h) = took_of h.wait.choose h.wait.fold (now h.wait.stream) (waiting earlier p h)
 
 module _ (time : ℕ) (env : Streams) (past : ArePast time env) where
+  -- what comes to a state is past
   pub flow_past : (p : Prefix) → All (IsPast time) (flow env p)
   flow_past (Root s) = past s
   flow_past (After p h) = chosen_past time h.wait.choose (env h.wait.stream) (past h.wait.stream) h.wait.fold (entering h (flow env p)) (pass_past time h.step (flow env p) (flow_past p))
@@ -114,9 +116,11 @@ module _ (time : ℕ) (env : Streams) (past : ArePast time env) where
       rows_give time h.wait.choose h.wait.fold (env h.wait.stream) (entering h (flow env p)) (past h.wait.stream) (few_of time (entering h (flow env p)) (entering_past p h))
       ∙ ap (λ ls. flat_map (taken h.wait.choose h.wait.fold (during time (env h.wait.stream))) (waiting_in h.wait.choose h.wait.fold (before time (env h.wait.stream)) ls)) (entering_before p h)
 
+  -- what a line gives at a time is what leaves its last step then
   pub rows_line : (l : Line) → during time (given env l) ≡ filter_map (pass l.last) (flow_rows (streams_during time env) (streams_before time env) (path l))
   rows_line l = pass_cut (λ at. at == time) l.last (flow env (path l)) ∙ ap (filter_map (pass l.last)) (flow_gives (path l))
 
+  -- which is what it gives in the epoch
   pub line_gives : (l : Line) → during time (given env l) ≡ given_now (streams_during time env) (streams_before time env) l
   line_gives l = rows_line l ∙ ap (filter_map (pass l.last)) (sym (flow_is (streams_during time env) (streams_before time env) (path l)))
 
@@ -132,6 +136,7 @@ module _ (time : ℕ) (env : Streams) (past : ArePast time env) where
       now : during time (entering h (flow env p)) ≡ entering h (flow_rows (streams_during time env) (streams_before time env) p)
       now = pass_cut (λ at. at == time) h.step (flow env p) ∙ ap (entering h) (flow_gives p)
 
+  -- a state keeps the bindings that wait on
   pub state_keeps : (p : Prefix) (h : Hop)
       → IsPermutation (map instance_of (waiting env p h))
       (stepped h.wait.choose h.wait.fold (during time (env h.wait.stream)) (entering h (flow_now (streams_during time env) (streams_before time env) p)) (map instance_of (waiting (streams_before time env) p h)))

@@ -13,10 +13,10 @@ use Rattle.semantics.specs.Truth.{all_true}
 use Rattle.semantics.specs.Nexts.{is_eligible, nexts, earliest}
 use Rattle.semantics.specs.Runs.{goers, rebound, runs}
 use Rattle.semantics.proofs.ListLemmas.{filter_swap}
-use Rattle.semantics.proofs.ReportLemmas.{filter_all}
+use Rattle.semantics.proofs.ReportLemmas.{filter_all, flat_map_same}
 use Rattle.scalar_expr.proofs.Bags.{permuted_from, permuted_to}
 use Rattle.scalar_expr.proofs.NextsLemmas.{nexts_keep, nexts_start_later}
-use Rattle.scalar_expr.proofs.RunsLemmas.{count, count_most, Fewer, fewer, same_runs, flat_map_same}
+use Rattle.scalar_expr.proofs.RunsLemmas.{count, count_most, Fewer, fewer, same_runs}
 use Rattle.automaton.specs.Waiting.{is_empty, waits}
 use Rattle.epoch_laws.specs.Times.{before, during, IsPast}
 use Rattle.epoch_laws.proofs.Bags.{permuted_is, flat_map_parts, flat_map_alike}
@@ -27,6 +27,7 @@ use Rattle.epoch_laws.proofs.Lists.{All-flat_map, filter-flat_map, filter_alike,
 goers_start_later : (p q : List Pr) (rs : List Row) (b : Row) → All (λ r. b.at < r.from) (goers p q rs b)
 goers_start_later p q rs b = All-filter (λ r. all_true q r (Some b)) (λ r. b.at < r.from) (nexts p b rs) (nexts_start_later p b rs)
 
+-- what is past is sound
 pub sound_past : (time : ℕ) (rs : List Row) → All (IsPast time) rs → All IsSound rs
 sound_past time rs all = All-weaker (IsPast time) IsSound (λ r h. h.0) rs all
 
@@ -39,6 +40,7 @@ cut_permuted time xs all =
     same : (at : ℕ) → at ≤ time → not (nat_lt at time) ≡ (at == time)
     same at h = grind (arith, nat_tests)
 
+-- what is in an epoch is at its time
 pub during_at : (time : ℕ) (xs : List Row) → All (λ x. x.at ≡ time) (during time xs)
 during_at time xs = All-weaker (λ x. (x.at == time) ≡ true) (λ x. x.at ≡ time) (λ x e. is_now time x.at e) (during time xs) (filter_passes (λ x. x.at == time) xs)
 
@@ -79,6 +81,7 @@ early_none time p q m rs all b late =
     runs_unfold p q m (before time rs) (All-filter (λ r. nat_lt r.at time) IsSound rs all) b
     ∙ ap (λ found. flat_map (λ r. rebound m b r ∷ runs p q m (before time rs) (rebound m b r)) (filter (λ r. all_true q r (Some b)) (earliest found))) (none_early time p b late rs all)
 
+-- the runs before a time are those over what is before it
 pub before_runs : (time : ℕ) (p q : List Pr) (m : List Sc) (rs : List Row) → All IsSound rs → (b : Row) → before time (runs p q m rs b) ≡ runs p q m (before time rs) b
 before_runs time p q m rs all = runs_induct p q m rs all (λ b. before time (runs p q m rs b) ≡ runs p q m (before time rs) b) go
   where

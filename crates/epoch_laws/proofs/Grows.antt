@@ -3,14 +3,13 @@ use Rattle.std.proofs.Common.{◌≡◌, ◌∙◌, sym, ap, refl, ℕ, ◌==◌
 use Rattle.std.specs.Prelude.{is_some}
 use Rattle.std.specs.List.{All, filter, filter_map, flat_map}
 use Rattle.std.specs.List.Sorted.{IsPermutation}
-use Rattle.std.proofs.lemmas.Bool.{eqb-true}
+use Rattle.std.proofs.lemmas.Bool.{eqb-true, or_parts}
 use Rattle.std.proofs.lemmas.List.Elements.{All-nil, All-cons, All-append, All-weaker}
 use Rattle.std.proofs.lemmas.List.Folds.{list_any-append}
 use Rattle.event_types.specs.Tuple.{Row}
 use Rattle.semantics.specs.Denotation.{Streams}
 use Rattle.semantics.specs.Programs.{with_stream}
 use Rattle.scalar_expr.proofs.Bags.{permuted_from, permuted_to}
-use Rattle.scalar_expr.proofs.RunsLemmas.{flat_map_same}
 use Rattle.automaton.specs.NetworkLines.{HasLines}
 use Rattle.automaton.specs.Networks.{IsAt}
 use Rattle.automaton.specs.Prefixes.{Prefix, Root, After, hops_of}
@@ -19,13 +18,14 @@ use Rattle.automaton.specs.Steps.{pass}
 use Rattle.automaton.specs.Work.{IsInOrder, ReadsNone, is_in}
 use Rattle.automaton.specs.declared.line.Line.{Line}
 use Rattle.automaton.specs.declared.network.End.{End}
-use Rattle.automaton.proofs.WorkLemmas.{or_parts, self_equal}
 use Rattle.epoch_laws.specs.Closing.{IsEpoch, Stores, leaves, leaves_by, published, published_at}
 use Rattle.epoch_laws.specs.Epochs.{took}
 use Rattle.epoch_laws.specs.Stands.{Serves}
 use Rattle.epoch_laws.proofs.Lists.{All_last}
 use Rattle.epoch_laws.proofs.Networks.{each_end, ends_of, line_at, no_ends, numbers, places, root_leaves}
 use Rattle.epoch_laws.proofs.Streams.{with_other}
+use Rattle.event_types.proofs.NumberLemmas.{self_equal}
+use Rattle.semantics.proofs.ReportLemmas.{flat_map_same}
 
 or-true : (a : Bool) → (a || true) ≡ true
 or-true true = refl
@@ -105,6 +105,7 @@ earlier lines (t ∷ done) s rest ordered =
 pub epoch_starts : (net : Net) (stores : Stores) (heard news : Streams) → ((s : ℕ) → IsPermutation (news s) (heard s)) → IsEpoch net [] stores heard news
 epoch_starts net stores heard news h = record { declared = λ s e. h s; derived = All-nil (λ s. IsPermutation (news s) (published net news stores s)) }
 
+-- a report grows by the rows of one more epoch
 pub epoch_grows : (net : Net) (lines : List Line) (done : List ℕ) (s : ℕ) (rest : List ℕ) (stores : Stores) (heard news : Streams) (rows : List Row)
     → Serves net lines (done ++ (s ∷ rest)) → IsEpoch net done stores heard news → IsPermutation rows (published net news stores s)
     → IsEpoch net (done ++ (s ∷ [])) stores heard (with_stream news s rows)

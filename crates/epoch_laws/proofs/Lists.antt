@@ -5,10 +5,12 @@ use Rattle.std.proofs.lemmas.Grind.{flat_map-append}
 use Rattle.std.proofs.lemmas.List.{map-append}
 use Rattle.std.proofs.lemmas.List.Elements.{filter-append, All-nil, All-cons, All-head, All-tail, All-append}
 
+-- true changes nothing
 pub and-true : (x : Bool) → (x && true) ≡ x
 and-true true = refl
 and-true false = refl
 
+-- false beside anything is false
 pub and-false : (x : Bool) → (x && false) ≡ false
 and-false true = refl
 and-false false = refl
@@ -24,6 +26,7 @@ module _ {X : Type 0} where
         | false ↦ filter-filter p q xs
       ]
 
+  -- what keeps nothing keeps none
   pub filter_none : (xs : List X) → filter (λ _. false) xs ≡ []
   filter_none [] = refl
   filter_none (x ∷ xs) = filter_none xs
@@ -63,6 +66,7 @@ module _ {X Y : Type 0} where
   filter-flat_map p f [] = refl
   filter-flat_map p f (x ∷ xs) = filter-append p (f x) (flat_map f xs) ∙ ap (λ ys. filter p (f x) ++ ys) (filter-flat_map p f xs)
 
+  -- what holds of all items of each list holds of all
   pub All-flat_map : (Q : Y → Type 0) (f : X → List Y) (xs : List X) → All (λ x. All Q (f x)) xs → All Q (flat_map f xs)
   All-flat_map Q f [] all = All-nil Q
   All-flat_map Q f (x ∷ xs) all =
@@ -88,6 +92,7 @@ module _ {X Y Z : Type 0} where
   flat_map-flat_map g f [] = refl
   flat_map-flat_map g f (x ∷ xs) = flat_map-append g (f x) (flat_map f xs) ∙ ap (λ zs. flat_map g (f x) ++ zs) (flat_map-flat_map g f xs)
 
+  -- lists may be mapped before or after they are put together
   pub map-flat_map : (f : Y → Z) (g : X → List Y) (xs : List X) → map f (flat_map g xs) ≡ flat_map (λ x. map f (g x)) xs
   map-flat_map f g [] = refl
   map-flat_map f g (x ∷ xs) = map-append f (g x) (flat_map g xs) ∙ ap (λ zs. map f (g x) ++ zs) (map-flat_map f g xs)

@@ -15,7 +15,6 @@ use Rattle.semantics.specs.Denotation.{Streams}
 use Rattle.semantics.specs.Scalars.{Pr}
 use Rattle.semantics.proofs.ListLemmas.{filter-map}
 use Rattle.scalar_expr.proofs.Bags.{filter_permuted, flat_map_permuted, permuted_from, permuted_to}
-use Rattle.scalar_expr.proofs.RunsLemmas.{flat_map_same}
 use Rattle.automaton.specs.Flow.{entering}
 use Rattle.automaton.specs.NetworkLines.{Ending, HasLines, endings_by, ending_at}
 use Rattle.automaton.specs.Networks.{IsAt}
@@ -39,6 +38,7 @@ use Rattle.epoch_laws.proofs.Bags.{filter_map_permuted, flat_map_alike, permuted
 use Rattle.epoch_laws.proofs.Flows.{flow_rows}
 use Rattle.epoch_laws.proofs.Lists.{All_last, every, filter-flat_map, flat_map-flat_map, map-flat_map, map_all}
 use Rattle.epoch_laws.proofs.Purges.{IsStored, between_holds, rows_stepped, store_gives, store_keeps}
+use Rattle.semantics.proofs.ReportLemmas.{flat_map_same}
 
 -- stores and the bindings that they hold
 took_bindings : (p : List Pr) (turn : Option Turn) (new : List Row) (store : List Instance) → took p turn new store ≡ flat_map (taken p turn new) (bindings_of store)
@@ -51,11 +51,13 @@ map_itself (x ∷ xs) = ap (λ ys. x ∷ ys) (map_itself xs)
 bindings_back : (bs : List Row) → bindings_of (map instance_of bs) ≡ bs
 bindings_back bs = map-map (λ instance. instance.tuple) instance_of bs ∙ map_itself bs
 
+-- the bindings of a store after an epoch are those after the step
 pub stepped_bindings : (p : List Pr) (turn : Option Turn) (new entered : List Row) (store : List Instance) → bindings_of (stepped p turn new entered store) ≡ rows_stepped p turn new entered (bindings_of store)
 stepped_bindings p turn new entered store =
     map-append (λ instance. instance.tuple) (filter (λ instance. is_unmet p new instance.tuple) store) (map instance_of (entered ++ again turn (took p turn new store)))
     ∙ (λ i. sym (filter-map (is_unmet p new) (λ (instance : Instance). instance.tuple) store) i ++ bindings_back (entered ++ again turn (took_bindings p turn new store i)) i)
 
+-- a store that holds bindings stores them
 pub is_stored : (now : ℕ) (p : List Pr) (store : List Instance) (bindings : List Row) → Holds now p store bindings → IsStored now p (bindings_of store) bindings
 is_stored now p store bindings holds = between_holds now p (bindings_of store) bindings holds.at_least holds.at_most
 
@@ -64,10 +66,12 @@ extended_hops : (p : Prefix) (hops more : List Hop) → extended p (hops ++ more
 extended_hops p [] more = refl
 extended_hops p (h ∷ hops) more = extended_hops (After p h) hops more
 
+-- a prefix is its root with its hops
 pub path_back : (p : Prefix) → extended (Root (root_of p)) (hops_of p) ≡ p
 path_back (Root s) = refl
 path_back (After p h) = extended_hops (Root (root_of p)) (hops_of p) (h ∷ []) ∙ ap (λ q. After q h) (path_back p)
 
+-- the line from a prefix to an end
 abbrev pub line_at : Prefix → End → Line
 line_at p e = (ending_at p e).line
 
@@ -82,18 +86,22 @@ module _ {Y : Type 0} (Q : Y → Type 0) where
   back (y ∷ ys) zs all = back ys zs (All-tail Q y (ys ++ zs) all)
 
 module _ {X Y : Type 0} (Q : Y → Type 0) where
+  -- what holds of all items holds of those of each list
   pub flat_all : (f : X → List Y) (xs : List X) → All Q (flat_map f xs) → All (λ x. All Q (f x)) xs
   flat_all f [] all = All-nil (λ x. All Q (f x))
   flat_all f (x ∷ xs) all = All-cons (λ x. All Q (f x)) x xs (front Q (f x) (flat_map f xs) all) (flat_all f xs (back Q (f x) (flat_map f xs) all))
 
 -- what holds of the lines of a network holds of the line of each end
 module _ (net : Net) (lines : List Line) (has : HasLines net lines) where
+  -- the prefix of each state
   abbrev pub places : ℕ → Prefix
   places = has.1.places
 
+  -- the ends of a state on a stream
   abbrev pub ends_of : ℕ → ℕ → List End
   ends_of s n = filter (λ e. e.out == s) (ends_at net n)
 
+  -- the numbers of the states
   abbrev pub numbers : List ℕ
   numbers = range_with_len 0 (length net)
 
@@ -111,11 +119,13 @@ module _ (net : Net) (lines : List Line) (has : HasLines net lines) where
       one : (n : ℕ) → filter (λ l. l.out == s) (map (λ (e : Ending). e.line) (map (ending_at (places n)) (ends_at net n))) ≡ map (line_at (places n)) (ends_of s n)
       one n = ap (filter (λ l. l.out == s)) (map-map (λ (e : Ending). e.line) (ending_at (places n)) (ends_at net n)) ∙ filter-map (λ l. l.out == s) (line_at (places n)) (ends_at net n)
 
+  -- the lines of a stream are those of the ends at each state
   pub lines_by_state : (s : ℕ) → IsPermutation (filter (λ l. l.out == s) lines) (by_state s)
   lines_by_state s =
       permuted_from (ap (filter (λ l. l.out == s)) (sym has.2))
       (permuted_to (filter_permuted (λ l. l.out == s) _ _ (IsPermutation-map (λ (e : Ending). e.line) _ _ (IsPermutation-sym _ _ has.1.same))) (by_state_is s))
 
+  -- what holds of the lines of a stream holds of each end
   pub each_end : (Q : Line → Type 0) (s : ℕ) → All Q (filter (λ l. l.out == s) lines) → All (λ n. All (λ e. Q (line_at (places n) e)) (ends_of s n)) numbers
   each_end Q s all =
       All-weaker (λ n. All Q (map (line_at (places n)) (ends_of s n))) (λ n. All (λ e. Q (line_at (places n) e)) (ends_of s n)) (λ n h. map_all Q (line_at (places n)) (ends_of s n) h) numbers
@@ -135,6 +145,7 @@ root_leaves None s news store e = absurd (cc)
 root_leaves (Some (entry.Root t)) s news store e = let same : t ≡ s = cc in ap news same
 root_leaves (Some (entry.Waiting before hop)) s news store e = absurd (cc)
 
+-- where there is no state, there are no ends
 pub no_ends : (o : Option State) → is_some o ≡ false → unwrap_or (option_map (λ state. state.ends) o) [] ≡ []
 no_ends None e = refl
 no_ends (Some state) e = absurd (cc)
@@ -147,6 +158,7 @@ module _ (net : Net) (now : ℕ) (stores : Stores) (news exact earlier : Streams
   Knows (Root s) = IsPermutation (news s) (exact s)
   Knows (After p h) = IsPermutation (news h.wait.stream) (exact h.wait.stream)
 
+  -- what leaves a state is what comes through its prefix
   pub leaves_alike : (number : ℕ) (p : Prefix) → IsAt net number p → Knows p → IsPermutation (leaves net news stores number) (flow_rows exact earlier p)
   leaves_alike number (Root s) at known = permuted_from (root_leaves (entry_at net number) s news (stores number) at) known
   leaves_alike number (After p h) at known =

@@ -122,10 +122,12 @@ module _ {X : Type 0} (p q : X → Bool) (falls : (x : X) → p x ≡ false → 
       go rest true is e = ap (λ b. q x && b) (rest e) ∙ and-false (q x)
       go rest false is e = ap (λ b. b && list_all q xs) (falls x is)
 
+-- no later event is eligible for a binding that is dead
 pub dead_stay_dead : (now : ℕ) (p : List Pr) (b r : Row) → is_alive now p b ≡ false → now ≤ r.at → is_eligible p b r ≡ false
 dead_stay_dead now p b r e le =
     ap (λ t. nat_lt b.at r.from && t) (all_falls (λ part. meets_bound now b (class_of part)) (λ q. truth q r (Some b)) (dead_part now b r le) p e) ∙ and-false (nat_lt b.at r.from)
 
+-- what is dead stays dead
 pub dead_on : (now later : ℕ) (p : List Pr) (b : Row) → now ≤ later → is_alive now p b ≡ false → is_alive later p b ≡ false
 dead_on now later p b le e = all_falls (λ part. meets_bound now b (class_of part)) (λ part. meets_bound later b (class_of part)) (dead_later now later b le) p e
 
@@ -154,6 +156,7 @@ filter-filter_same : (now : ℕ) (p : List Pr) (bs : List Row) → alive now p (
 filter-filter_same now p bs = alive_alive now now p bs (omega arith)
 
 module _ (now : ℕ) (p : List Pr) where
+  -- a store with all that is alive, and nothing but what waits, holds what waits
   pub between_holds : (store waits : List Row) → IsWithin (alive now p waits) store → IsWithin store waits → IsStored now p store waits
   between_holds store waits low high = record { within = high; alive_same = permuted_from (sym (append-nil (alive now p store)) ∙ ap (λ ys. alive now p store ++ ys) (sym none)) over }
     where
@@ -170,6 +173,7 @@ module _ (now : ℕ) (p : List Pr) where
           no_length (alive now p high.0)
           (omega (arith, length_permutation _ _ over, length_permutation _ _ under, length-append (alive now p store) (alive now p high.0), length-append (alive now p waits) (alive now p low.0)))
 
+  -- and a store that holds it has all that is alive
   pub holds_between : (store waits : List Row) → IsStored now p store waits → IsWithin (alive now p waits) store
   holds_between store waits h = (
     filter (λ b. not (is_alive now p b)) store,
@@ -177,6 +181,7 @@ module _ (now : ℕ) (p : List Pr) where
         (IsPermutation-sym _ _ (IsPermutation-filter_both (is_alive now p) (λ b. not (is_alive now p b)) (λ _. refl) store)),
   )
 
+-- a purged store holds it still
 pub purge_holds : (now later : ℕ) (p : List Pr) (store waits : List Row) → now ≤ later → IsStored now p store waits → IsStored later p (alive later p store) waits
 purge_holds now later p store waits le h = record {
   within = (
@@ -215,6 +220,7 @@ module _ (now : ℕ) (p : List Pr) (turn : Option Turn) where
       go None = IsPermutation-map (joined b) _ _ found
       go (Some t) = IsPermutation-map (rebound t.set.parts b) _ _ (filter_permuted (λ r. all_true t.on r (Some b)) _ _ found)
 
+  -- a store gives what the waiting bindings give
   pub store_gives : (new news store waits : List Row) → All (λ r. now ≤ r.at) new → IsPermutation news new → IsStored now p store waits → IsPermutation (flat_map (taken p turn news) store) (flat_map (taken p turn new) waits)
   store_gives new news store waits late h holds =
       IsPermutation-trans _ _ _ (flat_map_alike (taken p turn news) (taken p turn new) store (every (λ b. IsPermutation (taken p turn news b) (taken p turn new b)) (taken_permuted news new h) store))
@@ -243,6 +249,7 @@ module _ (now : ℕ) (p : List Pr) (turn : Option Turn) where
       swapped : (bs : List Row) → alive later p (rest_of p new bs) ≡ filter stands (alive later p (alive now p bs))
       swapped bs = filter_swap (is_alive later p) stands bs ∙ ap (filter stands) (sym (alive_alive now later p bs le))
 
+  -- and keeps what they keep
   pub store_keeps : (later : ℕ) (new news entered enters store waits after : List Row) → now ≤ later → All (λ r. now ≤ r.at) new → IsPermutation news new → IsPermutation enters entered
       → IsStored now p store waits → IsPermutation after (rows_stepped p turn new entered waits) → IsStored later p (rows_stepped p turn news enters store) after
   store_keeps later new news entered enters store waits after le late h k holds is = record {

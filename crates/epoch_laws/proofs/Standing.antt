@@ -140,6 +140,7 @@ during_more history event =
     filter-append (λ e. e.tuple.at == event.tuple.at) history (event ∷ [])
     ∙ ap (λ b. events_during event.tuple.at history ++ cond b (event ∷ []) []) (now_now event.tuple.at event.tuple.at refl)
 
+-- at the start the stores stand for no events
 pub start_stands : (net : Net) (lines : List Line) (order : List ℕ) → StandsFor net lines order (λ _. []) None (λ _. []) None []
 start_stands net lines order = record {
   sound = All-nil (λ e. IsSound e.tuple);
@@ -168,6 +169,7 @@ module _ (net : Net) (lines : List Line) (order : List ℕ) (stores : Stores) (t
     stores_stand = subst (λ (h : List Heard). Stands net lines order (next_time closed_time) stores h) (sym same_closed) stands.stores_stand;
   }
 
+  -- with one more event they stand for it too
   pub offer_stands : (open_time : Option ℕ) → StandsFor net lines order stores open_time tuples closed_time history → MayFollow open_time closed_time event.tuple.at
       → StandsFor net lines order stores (Some event.tuple.at) more closed_time (history ++ event ∷ [])
   offer_stands (Some time) stands follows =
@@ -204,6 +206,7 @@ module _ (net : Net) (lines : List Line) (order : List ℕ) (stores : Stores) (t
   heard_epoch : IsEpoch net order stores (heard_on (events_during time history)) news
   heard_epoch = record { declared = λ s e. IsPermutation-trans _ _ _ (epoch.declared s e) (stands.tuples_are_open s); derived = epoch.derived }
 
+  -- after a closing they stand for the same events
   pub close_stands : (kept : Stores) → ArePurged (time + 1) net (stores_after net news stores) kept
       → ((s : ℕ) → IsPermutation (news s) (during time (streams_over lines order history s))) × StandsFor net lines order kept None (λ _. []) (Some time) history
   close_stands kept purged =
@@ -219,6 +222,7 @@ module _ (net : Net) (lines : List Line) (order : List ℕ) (stores : Stores) (t
         },
       )
 
+  -- a closing gives the results of a query
   pub closing_is_results : (program : Program) (stream : ℕ) → Agree lines order program history stream → sorted (news stream) ≡ results program history stream time
   closing_is_results program stream agree =
       batch_is_results net lines order (next_time closed_time) time stores (events_before time history) (events_during time history) news program stream serves stands.stores_stand in_time events_now heard_epoch (subst (λ (h : List Heard). Agree lines order program h stream) (sym past_and_now) agree)
@@ -236,6 +240,7 @@ purge_stands net lines order stores kept open_time tuples closed_time history st
   stores_stand = stands_purged net lines order (next_time closed_time) stores kept (closed_part open_time history) stands.stores_stand purged;
 }
 
+-- what a purge leaves is what is alive
 pub trimmed_is_alive : (net : Net) (lines : List Line) (order : List ℕ) (stores : Stores) (open_time : Option ℕ) (tuples : Streams) (closed_time : Option ℕ) (history : List Heard)
     → StandsFor net lines order stores open_time tuples closed_time history → (number : ℕ) (p : Prefix) (h : Hop) → IsAt net number (After p h)
     → IsPermutation (bindings_of (alive_instances (next_time closed_time) h.wait.choose (stores number))) (alive (next_time closed_time) h.wait.choose (waiting (streams_over lines order (closed_part open_time history)) p h))

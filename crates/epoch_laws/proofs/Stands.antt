@@ -14,10 +14,9 @@ use Rattle.semantics.specs.Denotation.{Streams}
 use Rattle.semantics.specs.Histories.{Heard, heard_on}
 use Rattle.semantics.specs.Scalars.{Pr}
 use Rattle.semantics.proofs.ListLemmas.{filter-map}
-use Rattle.semantics.proofs.ReportLemmas.{filter_all}
+use Rattle.semantics.proofs.ReportLemmas.{filter_all, flat_map_same}
 use Rattle.instances.specs.Alive.{alive, is_alive}
 use Rattle.scalar_expr.proofs.Bags.{permuted_from, permuted_to}
-use Rattle.scalar_expr.proofs.RunsLemmas.{flat_map_same}
 use Rattle.automaton.specs.Flow.{derived, given}
 use Rattle.automaton.specs.Networks.{IsAt}
 use Rattle.automaton.specs.Prefixes.{Prefix, After, path}
@@ -120,22 +119,26 @@ module _ (net : Net) (lines : List Line) (order : List ℕ) (h : List Heard) (ti
       go t e true is = subst (λ n. IsPermutation (news n) (exact n)) (sym (eqb-true t s is)) one
       go t e false is = known t (ap (λ b. b || is_in rest t) is ∙ e)
 
+  -- the network gives each stream what the events bring in the epoch
   pub net_gives : (t : ℕ) → IsPermutation (news t) (during time (streams_over lines order h t))
   net_gives t =
       news_alike order serves.in_order epoch.derived (streams_derived lines order (heard_on h) serves.in_order)
       (λ t e. permuted_to (epoch.declared t e) (sym (ap (during time) (completed_other lines order (heard_on h) t e) ∙ heard_now time h t))) t
 
+  -- and keeps the bindings that wait on
   pub net_keeps : (later : ℕ) → now ≤ later → AllHold net later (stores_after net news stores) (streams_over lines order h)
   net_keeps later on number p k at =
       stored_holds later k.wait.choose (stores_after net news stores number) (waiting full p k)
       (stores_keep net now stores news exact earlier late holds_earlier later on net_gives number p k at (waiting full p k) (rows_state time full full_past p k))
 
+-- at the start the stores hold nothing
 pub stands_at_start : (net : Net) (lines : List Line) (order : List ℕ) → Stands net lines order 0 (λ _. []) []
 stands_at_start net lines order = record {
   before = All-nil (λ e. IsSound e.tuple × (e.tuple.at < 0));
   holds = λ number p h at. subst (λ ts. Holds 0 h.wait.choose [] ts) (sym (start_waits lines order p h)) (record { at_least = ([], IsPermutation-refl []); at_most = ([], IsPermutation-refl []) });
 }
 
+-- purged stores stand for the same events
 pub stands_purged : (net : Net) (lines : List Line) (order : List ℕ) (now : ℕ) (stores kept : Stores) (past : List Heard) → Stands net lines order now stores past → ArePurged now net stores kept → Stands net lines order now kept past
 stands_purged net lines order now stores kept past s purged = record { before = s.before; holds = purged_all net now stores kept (streams_over lines order past) s.holds purged }
 
@@ -165,6 +168,7 @@ is_during now time le past events old new =
     same : (at : ℕ) → at ≡ time → (at == time) ≡ true
     same at h = grind (arith, nat_tests)
 
+-- the stores after an epoch stand for its events too
 pub stands_closed : (net : Net) (lines : List Line) (order : List ℕ) (now time : ℕ) (stores kept : Stores) (past events : List Heard) (news : Streams)
     → Serves net lines order → Stands net lines order now stores past → now ≤ time → All (λ e. IsSound e.tuple × (e.tuple.at ≡ time)) events
     → IsEpoch net order stores (heard_on events) news → ArePurged (time + 1) net (stores_after net news stores) kept

@@ -9,7 +9,6 @@ use Rattle.semantics.specs.Denotation.{Streams}
 use Rattle.semantics.specs.Histories.{Heard, heard_on}
 use Rattle.semantics.specs.Programs.{with_stream}
 use Rattle.semantics.proofs.ListLemmas.{filter-map, filter_swap}
-use Rattle.scalar_expr.proofs.RunsLemmas.{flat_map_same}
 use Rattle.automaton.specs.Flow.{derived, entering, flow, given}
 use Rattle.automaton.specs.Prefixes.{Prefix, Root, After, path}
 use Rattle.automaton.specs.Steps.{pass}
@@ -25,6 +24,7 @@ use Rattle.epoch_laws.specs.Lines.{given_now}
 use Rattle.epoch_laws.specs.Times.{ArePast, before, during, IsPast, streams_before, streams_during}
 use Rattle.epoch_laws.proofs.Flows.{flow_before, flow_past, line_gives, pass_cut, pass_past}
 use Rattle.epoch_laws.proofs.Lists.{All-flat_map, every, filter-flat_map, filter_none}
+use Rattle.semantics.proofs.ReportLemmas.{flat_map_same}
 
 -- the other streams stay
 pub with_other : (env : Streams) (n : ℕ) (rows : List Row) (s : ℕ) → (s == n) ≡ false → with_stream env n rows s ≡ env s
@@ -45,6 +45,7 @@ module _ (time : ℕ) (lines : List Line) where
       go true = all
       go false = past s
 
+  -- what the lines derive is past
   pub completed_past : (order : List ℕ) (env : Streams) → ArePast time env → ArePast time (completed lines order env)
   completed_past [] env past = past
   completed_past (s ∷ order) env past = completed_past order (with_stream env s (derived lines env s)) (with_past env past s (derived lines env s) (derived_past env past s))
@@ -66,6 +67,7 @@ module _ (time : ℕ) (lines : List Line) where
       go s true = e
       go s false = refl
 
+  -- what they derive before a time is derived from what is before it
   pub completed_before : (order : List ℕ) (env : Streams) → ArePast time env → streams_before time (completed lines order env) ≡ completed lines order (streams_before time env)
   completed_before [] env past = refl
   completed_before (s ∷ order) env past =
@@ -79,15 +81,19 @@ heard_past time h all s = All-map (IsPast time) (λ e. e.tuple) (filter (λ e. e
 heard_before : (time : ℕ) (h : List Heard) → streams_before time (heard_on h) ≡ heard_on (events_before time h)
 heard_before time h = λ i s. (filter-map (λ r. nat_lt r.at time) (λ e. e.tuple) (filter (λ e. e.stream == s) h) ∙ ap (map (λ e. e.tuple)) (filter_swap (λ e. nat_lt e.tuple.at time) (λ e. e.stream == s) h)) i
 
+-- what is heard on a stream in an epoch is what the epoch's events bring
 pub heard_now : (time : ℕ) (h : List Heard) (s : ℕ) → during time (heard_on h s) ≡ heard_on (events_during time h) s
 heard_now time h s = filter-map (λ r. r.at == time) (λ e. e.tuple) (filter (λ e. e.stream == s) h) ∙ ap (map (λ e. e.tuple)) (filter_swap (λ e. e.tuple.at == time) (λ e. e.stream == s) h)
 
+-- the streams of past events are past
 pub over_past : (time : ℕ) (lines : List Line) (order : List ℕ) (h : List Heard) → All (λ e. IsPast time e.tuple) h → ArePast time (streams_over lines order h)
 over_past time lines order h all = completed_past time lines order (heard_on h) (heard_past time h all)
 
+-- what they have before a time is derived from what is before it
 pub over_before : (time : ℕ) (lines : List Line) (order : List ℕ) (h : List Heard) → All (λ e. IsPast time e.tuple) h → streams_before time (streams_over lines order h) ≡ streams_over lines order (events_before time h)
 over_before time lines order h all = completed_before time lines order (heard_on h) (heard_past time h all) ∙ ap (completed lines order) (heard_before time h)
 
+-- which are the streams of the earlier events
 pub streams_early : (time : ℕ) (lines : List Line) (order : List ℕ) (h : List Heard) → All (λ e. IsPast time e.tuple) h → (s : ℕ) → before time (streams_over lines order h s) ≡ streams_over lines order (events_before time h) s
 streams_early time lines order h all s = λ i. over_before time lines order h all i s
 
@@ -106,6 +112,7 @@ no_streams lines order s = sym (streams_early 0 lines order [] (All-nil (λ e. I
     no_less : (at : ℕ) → nat_lt at 0 ≡ false
     no_less at = grind (arith, nat_tests)
 
+-- before any event nothing waits
 pub start_waits : (lines : List Line) (order : List ℕ) (p : Prefix) (h : Hop) → waiting (streams_over lines order []) p h ≡ []
 start_waits lines order p h =
     ap (λ ts. waiting_in h.wait.choose h.wait.fold (streams_over lines order [] h.wait.stream) (entering h ts)) (flow_none (streams_over lines order []) (no_streams lines order) p) ∙ go h.wait.fold

@@ -14,10 +14,9 @@ use Rattle.semantics.specs.Nexts.{is_eligible, nexts, earliest}
 use Rattle.semantics.specs.Runs.{runs}
 use Rattle.semantics.specs.Denotation.{joined, matches}
 use Rattle.semantics.proofs.ListLemmas.{filter-map, filter_swap}
-use Rattle.semantics.proofs.ReportLemmas.{filter_all}
+use Rattle.semantics.proofs.ReportLemmas.{filter_all, flat_map_same}
 use Rattle.scalar_expr.proofs.Bags.{permuted_from, permuted_to, flat_map_permuted}
 use Rattle.scalar_expr.proofs.NextsLemmas.{nexts_keep, nexts_start_later}
-use Rattle.scalar_expr.proofs.RunsLemmas.{flat_map_same}
 use Rattle.automaton.specs.Waiting.{is_empty, waits, waiting_in}
 use Rattle.automaton.specs.Waits.{chosen}
 use Rattle.automaton.specs.declared.wait.Turn.{Turn}
@@ -128,19 +127,23 @@ rows_keep time p (Some t) rs ls all few = turn_keeps time p rs all t.on t.set.pa
 pub took_of : (p : List Pr) (turn : Option Turn) (new bs : List Row) → took p turn new (map instance_of bs) ≡ flat_map (taken p turn new) bs
 took_of p turn new bs = flat_map-map (λ instance. taken p turn new instance.tuple) instance_of bs
 
+-- the bindings after a step are those that wait on and those that are new
 pub stepped_of : (p : List Pr) (turn : Option Turn) (new entered bs : List Row)
     → stepped p turn new entered (map instance_of bs) ≡ map instance_of (filter (is_unmet p new) bs ++ (entered ++ again turn (flat_map (taken p turn new) bs)))
 stepped_of p turn new entered bs =
     (λ i. filter-map (λ instance. is_unmet p new instance.tuple) instance_of bs i ++ map instance_of (entered ++ again turn (took_of p turn new bs i)))
     ∙ sym (map-append instance_of (filter (is_unmet p new) bs) (entered ++ again turn (flat_map (taken p turn new) bs)))
 
+-- what is past is at most at the time
 pub few_of : (time : ℕ) (ls : List Row) → All (IsPast time) ls → All (λ l. l.at ≤ time) ls
 few_of time ls all = All-weaker (IsPast time) (λ l. l.at ≤ time) (λ l h. h.1) ls all
 
+-- a wait gives in an epoch what is chosen then
 pub wait_gives : (time : ℕ) (p : List Pr) (turn : Option Turn) (rs ls : List Row) → All (IsPast time) rs → All (IsPast time) ls
     → during time (chosen p turn rs ls) ≡ took p turn (during time rs) (map instance_of (waiting_in p turn (before time rs) (before time ls)))
 wait_gives time p turn rs ls all past = rows_give time p turn rs ls all (few_of time ls past) ∙ sym (took_of p turn (during time rs) (waiting_in p turn (before time rs) (before time ls)))
 
+-- and keeps the bindings for which nothing was eligible
 pub wait_keeps : (time : ℕ) (p : List Pr) (turn : Option Turn) (rs ls : List Row) → All (IsPast time) rs → All (IsPast time) ls
     → IsPermutation (map instance_of (waiting_in p turn rs ls)) (stepped p turn (during time rs) (during time ls) (map instance_of (waiting_in p turn (before time rs) (before time ls))))
 wait_keeps time p turn rs ls all past =
@@ -155,6 +158,7 @@ module _ (time : ℕ) (p : List Pr) (rs : List Row) (sound : All IsSound rs) whe
   matches_none : (l : Row) → time ≤ l.at → matches p (before time rs) l ≡ []
   matches_none l late = ap (λ found. map (joined l) (earliest found)) (none_early time p l late rs sound)
 
+  -- what is chosen before a time is chosen from what is before it
   pub chosen_before : (turn : Option Turn) (ls : List Row) → before time (chosen p turn rs ls) ≡ chosen p turn (before time rs) (before time ls)
   chosen_before None ls =
       filter-flat_map (λ r. nat_lt r.at time) (matches p rs) ls
@@ -177,6 +181,7 @@ module _ (time : ℕ) (p : List Pr) (rs : List Row) (past : All (IsPast time) rs
       one : (r : Row) → l.at < r.from → IsPast time r → IsPast time (joined l r)
       one r after k = (joined_past l r h.0 after k, k.1)
 
+  -- what is chosen is past
   pub chosen_past : (turn : Option Turn) (ls : List Row) → All (IsPast time) ls → All (IsPast time) (chosen p turn rs ls)
   chosen_past None ls all = All-flat_map (IsPast time) (matches p rs) ls (All-weaker (IsPast time) (λ l. All (IsPast time) (matches p rs l)) matches_past ls all)
   chosen_past (Some t) ls all =

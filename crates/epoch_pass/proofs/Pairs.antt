@@ -13,13 +13,13 @@ use Rattle.semantics.specs.Runs.{rebound}
 use Rattle.semantics.specs.Scalars.{Pr}
 use Rattle.semantics.specs.Truth.{all_true}
 use Rattle.scalar_expr.proofs.Bags.{permuted_to}
-use Rattle.scalar_expr.proofs.RunsLemmas.{flat_map_same}
 use Rattle.automaton.specs.declared.wait.Turn.{Turn}
 use Rattle.automaton.specs.declared.wait.Wait.{Wait}
 use Rattle.epoch_laws.specs.Epochs.{taken, took}
 use Rattle.epoch_laws.proofs.Bags.{flat_map_parts}
 use Rattle.epoch_laws.proofs.Lists.{every}
 use Rattle.epoch_pass.specs.Pairs.{followed, met, paired}
+use Rattle.semantics.proofs.ReportLemmas.{flat_map_same}
 
 module _ {X Z : Type 0} where
   flat_map_nothing : (xs : List X) → flat_map {X = X} {A = Z} (λ x. []) xs ≡ []

@@ -18,7 +18,8 @@ use Rattle.evaluation.specs.declared.query.Query.{Query}
 use Rattle.evaluation.specs.Hearing.{HasHeard}
 use Rattle.evaluation.specs.Views.{placed, program_of}
 use Rattle.evaluation.proofs.StreamLemmas.{streams_of-push}
-use Rattle.evaluation.proofs.NumberLemmas.{same_number, other_number, is_same, is_other, is_below, is_at_most}
+use Rattle.event_types.proofs.NumberLemmas.{same_number, other_number, is_same, is_other, is_below}
+use Rattle.evaluation.proofs.NumberLemmas.{is_at_most}
 
 -- what was heard on a stream after one more event
 heard_on-append : (history : List Heard) (event : Heard) (stream : ℕ) (b : Bool) → (event.stream == stream) ≡ b → heard_on (history ++ event ∷ []) stream ≡ heard_on history stream ++ cond b (event.tuple ∷ []) []

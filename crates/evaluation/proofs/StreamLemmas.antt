@@ -3,7 +3,7 @@ use Rattle.std.proofs.Common.{◌≡◌, refl, ℕ, zero, suc, ◌==◌, Bool, t
 use Rattle.event_types.specs.Tuple.{Row}
 use Rattle.semantics.specs.Denotation.{streams_of}
 use Rattle.semantics.specs.Programs.{with_stream}
-use Rattle.evaluation.proofs.NumberLemmas.{same_number, other_number}
+use Rattle.event_types.proofs.NumberLemmas.{same_number, other_number}
 
 -- the list at a place behind which one more was put
 pushed : (lists : List (List Row)) (tuples : List Row) (n : ℕ) → (n ≡ length lists → get_or (lists ++ tuples ∷ []) n [] ≡ tuples) × ((n ≡ length lists → ⊥) → get_or (lists ++ tuples ∷ []) n [] ≡ get_or lists n [])

@@ -121,5 +121,6 @@ by_table streams line = by (is_long line) (is_utf8 line)
     by false true = record-first streams (line_fields line)
     by false false = refl
 
+-- each line that has no event has its first fault
 pub event-first_fault : LinesHaveTheirFirstFault
 event-first_fault streams line = sym (by_table streams line)

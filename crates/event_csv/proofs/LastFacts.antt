@@ -95,6 +95,7 @@ pub LeavesLast-none : (bytes : List ℕ) (place : Place) → BegunOrShort bytes 
 LeavesLast-none bytes place begun part skipped =
     text-last bytes place begun ∙ last-skipped place.gone place.met (drop place.start bytes) (Lacks-from (drop place.start bytes) part.no_feed) (is_long-no (drop place.start bytes) part.short) skipped
 
+-- else what is left is the last line
 pub LeavesLast-line : (bytes : List ℕ) (place : Place) → BegunOrShort bytes place → IsPart (fed_at bytes place)
     → is_skipped place.met (strip_carriage_return (drop place.start bytes)) ≡ false
     → (lines_left (fed_at bytes place) true ≡ record { number = place.gone + 1; bytes = strip_carriage_return (drop place.start bytes) } ∷ [])

@@ -14,6 +14,7 @@ abbrev pub Lacks : List ℕ → Type 0
 Lacks [] = Unit {0}
 Lacks (b ∷ text) = (is_feed b ≡ false) × Lacks text
 
+-- a text lacks line feeds where no byte of it is one
 pub Lacks-index : (text : List ℕ) → ((k : ℕ) → k < length text → is_feed (get_or text k 0) ≡ false) → Lacks text
 Lacks-index [] h = tt
 Lacks-index (b ∷ text) h = (h 0 (omega arith), Lacks-index text (λ k lt. h (suc k) (omega arith)))
@@ -130,6 +131,7 @@ lines_from-nil gone false false = refl
 pub is_long-yes : (a : List ℕ) → line_limit < length a → is_long a ≡ true
 is_long-yes a h = lt-ltb line_limit (length a) h
 
+-- a line within the limit isn't too long
 pub is_long-no : (a : List ℕ) → length a ≤ line_limit → is_long a ≡ false
 is_long-no a h = le-ltb line_limit (length a) h
 

@@ -11,11 +11,13 @@ use Rattle.event_csv.specs.Fed.{Fed, Gives, IsLine, fed_more, feeds_in, feeds_so
 use Rattle.event_csv.specs.Place.{BegunOrShort, HasNumbers, IsFeedAt, IsPlace, NoFeed, fed_at, is_skipped, met_after}
 use Rattle.event_csv.specs.declared.place.Place.{Place}
 use Rattle.event_csv.proofs.LineFacts.{Lacks, Lacks-index, is_long-no, is_long-yes, lines_from-kept, lines_from-long, lines_from-none, lines_from-skipped, strip_bom-append, strip_bom-feed, strip_bom-short}
+use Rattle.std.proofs.lemmas.Bool.{and_parts}
 
 -- the bytes from one place up to another
 abbrev pub piece : List ℕ → ℕ → ℕ → List ℕ
 piece bytes from to = take (to - from) (drop from bytes)
 
+-- a piece has as many bytes as lie between its ends
 pub length-piece : (bytes : List ℕ) (from to : ℕ) → from ≤ to → to ≤ length bytes → length (piece bytes from to) ≡ to - from
 length-piece bytes from to h k = length-take-le (to - from) (drop from bytes) (omega (arith, length-drop from bytes))
 
@@ -34,6 +36,7 @@ rest-cut bytes from end f =
     drop-drop (end - from) from bytes ∙ rw at (drop_more bytes end 0 lt ∙ ap (λ (b : ℕ). b ∷ drop (end + 1) bytes) (eqb-true (get_or bytes end 0) line_feed f.here)) in
     sym (take-append-drop (end - from) (drop from bytes)) ∙ ap (λ (t : List ℕ). piece bytes from end ++ t) behind
 
+-- two texts have the line feeds of and_parts
 pub feeds_in-append : (a b : List ℕ) → feeds_in (a ++ b) ≡ feeds_in a + feeds_in b
 feeds_in-append a b = sum_by-append (λ x. cond (is_feed x) 1 0) a b
 
@@ -61,10 +64,6 @@ feeds_in-feed a b h =
     let one : feeds_in (line_feed ∷ []) ≡ 1 = refl in
     omega (arith, feeds_in-append a (line_feed ∷ b), feeds_in-append (line_feed ∷ []) b, one, feeds_in-none a h)
 
-both : (a b : Bool) → (a && b) ≡ true → (a ≡ true) × (b ≡ true)
-both true b h = (refl, h)
-both false b h = cc
-
 -- no line feed is in a mark
 pub feeds_in-strip_bom : (a : List ℕ) → feeds_in (strip_bom a) ≡ feeds_in a
 unfolding strip_bom
@@ -75,8 +74,8 @@ feeds_in-strip_bom (x ∷ y ∷ z ∷ a) = by (is_bom x y z) refl
   where
     by : (d : Bool) → is_bom x y z ≡ d → feeds_in (cond d a (x ∷ y ∷ z ∷ a)) ≡ feeds_in (x ∷ y ∷ z ∷ a)
     by true e =
-        let two = both ((x == 0xEF) && (y == 0xBB)) (z == 0xBF) e in
-        let one = both (x == 0xEF) (y == 0xBB) two.0 in
+        let two = and_parts ((x == 0xEF) && (y == 0xBB)) (z == 0xBF) e in
+        let one = and_parts (x == 0xEF) (y == 0xBB) two.0 in
         let first : x ≡ 0xEF = eqb-true _ _ one.0 in
         let second : y ≡ 0xBB = eqb-true _ _ one.1 in
         let third : z ≡ 0xBF = eqb-true _ _ two.1 in
@@ -138,6 +137,7 @@ place_past bytes place end = record {
   searched = end + 1;
 }
 
+-- behind a line feed there is a place again
 pub IsPlace-past : (bytes : List ℕ) (place : Place) (end : ℕ) → IsPlace bytes place → IsFeedAt bytes place.start end → IsPlace bytes (place_past bytes place end)
 IsPlace-past bytes place end p f = record {
   in_order = omega arith;
@@ -148,10 +148,12 @@ IsPlace-past bytes place end p f = record {
       (let P : List ℕ → Type 0 = HasNumbers place.gone in subst P (rest-cut bytes place.start end f) p.numbers);
 }
 
+-- a place behind a line feed has counted it
 pub feeds-past : (bytes : List ℕ) (place : Place) (end : ℕ) → IsFeedAt bytes place.start end → feeds_so_far (fed_at bytes (place_past bytes place end)) ≡ feeds_so_far (fed_at bytes place)
 feeds-past bytes place end f =
     omega (arith, ap feeds_in (rest-cut bytes place.start end f), feeds_in-feed (piece bytes place.start end) (drop (end + 1) bytes) (piece-lacks bytes place.start end f.after (omega (arith, f.within)) f.first))
 
+-- a line that is passed over is none of those that are given
 pub gives-skipped : (bytes : List ℕ) (place : Place) (end : ℕ) → IsFeedAt bytes place.start end → end - place.start ≤ line_limit → BegunOrShort bytes place
     → is_skipped place.met (strip_carriage_return (piece bytes place.start end)) ≡ true
     → Gives [] (fed_at bytes place) (fed_at bytes (place_past bytes place end))
@@ -161,6 +163,7 @@ gives-skipped bytes place end f short begun skipped = λ more ended.
     ∙ lines_from-skipped place.gone place.met a (drop (end + 1) bytes ++ more) ended (piece-lacks bytes place.start end f.after (omega (arith, f.within)) f.first)
     (is_long-no a (omega (arith, length-piece bytes place.start end f.after (omega (arith, f.within))))) skipped
 
+-- a line that is kept is given
 pub gives-kept : (bytes : List ℕ) (place : Place) (end : ℕ) → IsFeedAt bytes place.start end → end - place.start ≤ line_limit → BegunOrShort bytes place
     → is_skipped place.met (strip_carriage_return (piece bytes place.start end)) ≡ false
     → Gives (record { number = place.gone + 1; bytes = strip_carriage_return (piece bytes place.start end) } ∷ []) (fed_at bytes place) (fed_at bytes (place_past bytes place end))
@@ -184,6 +187,7 @@ HasNumbers-drop gone n a within numbers = λ k lt.
 abbrev pub place_marked : Place → ℕ → Place
 place_marked place start = record place { begun = true; start = start; searched = max place.searched start }
 
+-- past the mark there is a place again
 pub IsPlace-marked : (bytes : List ℕ) (place : Place) (n : ℕ) → IsPlace bytes place → place.start + n ≤ length bytes → IsPlace bytes (place_marked place (place.start + n))
 IsPlace-marked bytes place n p room = record {
   in_order = omega arith;
@@ -192,6 +196,7 @@ IsPlace-marked bytes place n p room = record {
   numbers = rw (← drop-drop n place.start bytes) (HasNumbers-drop place.gone n (drop place.start bytes) (omega (arith, length-drop place.start bytes)) p.numbers);
 }
 
+-- the mark is in no line
 pub gives-marked : (bytes : List ℕ) (place : Place) (n : ℕ) → place.begun ≡ false → place.start + 3 ≤ length bytes
     → strip_bom (drop place.start bytes) ≡ drop n (drop place.start bytes) → Gives [] (fed_at bytes place) (fed_at bytes (place_marked place (place.start + n)))
 gives-marked bytes place n begun room mark = λ more ended.
@@ -280,11 +285,12 @@ line-kept met a lacks short kept = record { nonempty = some (strip_carriage_retu
             omega (arith, both_parts, feeds_in-none a lacks)
         by false = feeds_in-none a lacks
 
+-- the mark has no line feed
 pub feeds-marked : (bytes : List ℕ) (place : Place) (n : ℕ) → feeds_in (drop n (drop place.start bytes)) ≡ feeds_in (drop place.start bytes)
     → place.gone + feeds_in (drop (place.start + n) bytes) ≡ place.gone + feeds_in (drop place.start bytes)
 feeds-marked bytes place n h = rw (← drop-drop n place.start bytes) (omega (arith, h))
 
--- no line feed on both sides of a place
+-- no line feed on and_parts sides of a place
 pub NoFeed-join : (bytes : List ℕ) (from middle to : ℕ) → NoFeed bytes from middle → NoFeed bytes middle to → NoFeed bytes from to
 NoFeed-join bytes from middle to low high = λ k past below. by k past below (nat_lt k middle) refl
   where
@@ -314,6 +320,7 @@ IsPlace-searched bytes place p none = record {
   numbers = p.numbers;
 }
 
+-- with more bytes a place is still one
 pub IsPlace-append : (bytes piece : List ℕ) (place : Place) → IsPlace bytes place → place.gone + feeds_in (drop place.start bytes) + length piece < 2 ^ 64 → IsPlace (bytes ++ piece) place
 IsPlace-append bytes piece place p room = record {
   in_order = p.in_order;

@@ -1,7 +1,7 @@
 -- A line with no quote is cut at its commas.
 use Rattle.std.proofs.Common.{◌≡◌, ◌∙◌, ℕ, List, [], ◌∷◌, ◌++◌, Bool, true, false, Option, Some, None, refl, ap, cond, append_assoc, get_or, length, arith, ◌<◌}
 use Rattle.std.proofs.lemmas.List.{append-nil}
-use Rattle.std.specs.Prelude.{◌==◌, ◌&&◌, ◌||◌, not, option_map}
+use Rattle.std.specs.Prelude.{◌==◌, ◌||◌, not, option_map}
 use Rattle.std.specs.List.{list_all, onto_first}
 use Rattle.csv.specs.Machine.{Read, field_after, fields_after, is_end, next_record, step, line_feed}
 use Rattle.csv.specs.Reading.{strip_bom}
@@ -11,12 +11,14 @@ use Rattle.csv.specs.declared.parser.Action.{Action}
 use Rattle.csv.specs.declared.parser.Action.TheVariants as act
 use Rattle.event_csv.specs.Fields.{line_config, line_fields}
 use Rattle.event_csv.specs.Fields.{comma, is_plain, parts_of, quote}
+use Rattle.std.proofs.lemmas.Bool.{and_parts}
 
 -- the states within a record with no quote
 abbrev pub field_state : Bool → State
 field_state false = st.StartField
 field_state true = st.InField
 
+-- what the reader does in a record with no quote: at a comma it ends the field, else it copies the byte
 abbrev pub plain_step : Bool → State × Action
 plain_step true = (st.StartField, act.EndField)
 plain_step false = (st.InField, act.Copy)
@@ -25,10 +27,6 @@ not_either : (q l : Bool) → not (q || l) ≡ true → (q ≡ false) × (l ≡ 
 not_either false false h = (refl, refl)
 not_either false true h = cc
 not_either true l h = cc
-
-both : (a b : Bool) → (a && b) ≡ true → (a ≡ true) × (b ≡ true)
-both true b h = (refl, h)
-both false b h = cc
 
 -- what a plain byte does within a record
 pub step-plain : (b : Bool) (c : ℕ) → is_plain c ≡ true → step line_config (field_state b) c ≡ plain_step (c == comma)
@@ -90,8 +88,8 @@ unfolding next_record
 record-plain true fields field [] h = refl
 record-plain false fields field [] h = refl
 record-plain b fields field (c ∷ rest) h =
-    rw (step-plain b c (both (is_plain c) (list_all is_plain rest) h).0)
-    (by (c == comma) (λ (d : Bool) (fs : List (List ℕ)) (f : List ℕ). record-plain d fs f rest (both (is_plain c) (list_all is_plain rest) h).1))
+    rw (step-plain b c (and_parts (is_plain c) (list_all is_plain rest) h).0)
+    (by (c == comma) (λ (d : Bool) (fs : List (List ℕ)) (f : List ℕ). record-plain d fs f rest (and_parts (is_plain c) (list_all is_plain rest) h).1))
   where
     by : (d : Bool) → ((e : Bool) (fs : List (List ℕ)) (f : List ℕ) → next_record line_config (field_state e) fs f rest ≡ Some (fs ++ parts_after f rest, st.StartRecord, []))
         → (cond (is_end (plain_step d).1) (Some (fields_after (plain_step d).1 fields field, (plain_step d).0, rest))
@@ -115,7 +113,7 @@ plain-text : (xs : List ℕ) → list_all is_plain xs ≡ true
 unfolding next_record
 plain-text [] h = refl
 plain-text (c ∷ rest) h =
-    let p = both (is_plain c) (list_all is_plain rest) h in
+    let p = and_parts (is_plain c) (list_all is_plain rest) h in
     let one : next_record line_config st.StartRecord [] [] (c ∷ rest) ≡ next_record line_config st.StartField [] [] (c ∷ rest) = rw (start-plain c p.0) refl in
     ap (λ (q : Option Read). option_map (λ (p : Read). p.0) q) (one ∙ record-plain false [] [] (c ∷ rest) h)
     ∙ ap (λ (fs : List (List ℕ)). Some fs) (parts-after [] (c ∷ rest) ∙ before-none (c ∷ rest))

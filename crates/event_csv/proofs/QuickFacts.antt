@@ -1,11 +1,11 @@
 -- Fields at the front of a text, by the bytes that they end before.
-use Rattle.std.proofs.Common.{◌≡◌, ◌∙◌, ℕ, zero, suc, ◌+◌, ◌*◌, ◌-◌, ◌<◌, ◌≤◌, Bool, true, false, List, [], ◌∷◌, ◌++◌, length, take, drop, get_or, refl, sym, ap, arith, add-one, cond, Bor, IfSome, append-nil, append_assoc, length-append, eq-eqb, eqb-true, ◌^◌, Option, Some, None, Ok, option_map, ltb-true}
-use Rattle.std.specs.Prelude.{◌==◌, ◌&&◌, neg_ℤ, not, nat_le, nat_lt, pos, slice_get}
+use Rattle.std.proofs.Common.{◌≡◌, ◌∙◌, ℕ, zero, suc, ◌+◌, ◌*◌, ◌-◌, ◌<◌, ◌≤◌, Bool, true, false, List, [], ◌∷◌, ◌++◌, length, take, drop, get_or, refl, sym, ap, arith, add-one, cond, Bor, IfSome, append-nil, append_assoc, length-append, eq-eqb, ◌^◌, Option, Some, None, Ok, option_map, ltb-true}
+use Rattle.std.specs.Prelude.{◌==◌, neg_ℤ, not, nat_le, nat_lt, pos, slice_get}
 use Rattle.std.specs.Char.{digit_value, is_ascii_digit}
 use Rattle.std.specs.List.{list_all}
 use Rattle.std.specs.Str.Parse.{digits_value, digits_value_after}
 use Rattle.std.proofs.Math.Seq.{take-length, take-suc}
-use Rattle.std.proofs.lemmas.Bool.{le-leb, leb-true}
+use Rattle.std.proofs.lemmas.Bool.{le-leb, leb-true, and_parts}
 use Rattle.std.proofs.lemmas.List.{length-map, length-take-le}
 use Rattle.std.proofs.lemmas.List.Folds.{list_all_more}
 use Rattle.std.proofs.lemmas.List.Sums.{sum_by-cons}
@@ -26,18 +26,9 @@ use Rattle.event_csv.specs.Quick.{HasDigits, IntFirst, IsFirst, IsPlainEnd, IsQu
 use Rattle.event_csv.proofs.PlainLines.{field_state, step-plain}
 use Rattle.event_csv.proofs.ValueFacts.{onto, onto-ok, read-more, values_of-all}
 use Rattle.event_csv.proofs.DigitFacts.{digit-at, digit_value-is}
+use Rattle.event_types.proofs.NumberLemmas.{is_other}
 
-pub both_true : (a b : Bool) → (a && b) ≡ true → (a ≡ true) × (b ≡ true)
-both_true true b h = (refl, h)
-both_true false b h = cc
-
-pub eq-no : (a b : ℕ) → (a ≡ b → ⊥) → (a == b) ≡ false
-eq-no a b other = by (a == b) refl
-  where
-    by : (d : Bool) → (a == b) ≡ d → (a == b) ≡ false
-    by true e = absurd (other (eqb-true a b e))
-    by false e = e
-
+-- a number that isn't less doesn't pass the test for less
 pub ltb-no : (a b : ℕ) → b ≤ a → nat_lt a b ≡ false
 ltb-no a b le = by (nat_lt a b) refl
   where
@@ -50,6 +41,7 @@ after-snoc : (n : ℕ) (s : List ℕ) (b : ℕ) → digits_value_after 10 n (s +
 after-snoc n [] b = refl
 after-snoc n (x ∷ s) b = after-snoc (n * 10 + digit_value x) s b
 
+-- one more digit makes ten times the value and the digit
 pub value-more : (s : List ℕ) (i n : ℕ) → i < length s → 48 ≤ get_or s i 0 → get_or s i 0 ≤ 57 → digits_value 10 (take i s) ≡ n
     → digits_value 10 (take (i + 1) s) ≡ n * 10 + (get_or s i 0 - 48)
 value-more s i n h lo hi e =
@@ -60,15 +52,17 @@ value-more s i n h lo hi e =
 is-digit : (b : ℕ) → 48 ≤ b → b ≤ 57 → is_ascii_digit b ≡ true
 is-digit b lo hi = rw (le-leb 48 b lo, le-leb b 57 hi) refl
 
+-- digits with one more are digits
 pub digits-more : (s : List ℕ) (i : ℕ) → i < length s → 48 ≤ get_or s i 0 → get_or s i 0 ≤ 57 → are_digits (take i s) ≡ true → are_digits (take (i + 1) s) ≡ true
 digits-more s i h lo hi e = list_all_more is_ascii_digit s i 0 h ∙ rw (e, is-digit (get_or s i 0) lo hi) refl
 
 plain-byte : (b : ℕ) → (b ≡ 34 → ⊥) → (b ≡ 10 → ⊥) → is_plain b ≡ true
-plain-byte b q l = rw (eq-no b 34 q, eq-no b 10 l) refl
+plain-byte b q l = rw (is_other b 34 q, is_other b 10 l) refl
 
 simple-byte : (b : ℕ) → (b ≡ 34 → ⊥) → (b ≡ 10 → ⊥) → (b ≡ 44 → ⊥) → is_simple b ≡ true
-simple-byte b q l m = rw (plain-byte b q l, eq-no b 44 m) refl
+simple-byte b q l m = rw (plain-byte b q l, is_other b 44 m) refl
 
+-- simple bytes with one more are simple
 pub simple-more : (s : List ℕ) (i : ℕ) → i < length s → (get_or s i 0 ≡ 34 → ⊥) → (get_or s i 0 ≡ 10 → ⊥) → (get_or s i 0 ≡ 44 → ⊥) → list_all is_simple (take i s) ≡ true → list_all is_simple (take (i + 1) s) ≡ true
 simple-more s i h q l m e = list_all_more is_simple s i 0 h ∙ rw (e, simple-byte (get_or s i 0) q l m) refl
 
@@ -76,15 +70,16 @@ simple-more s i h q l m e = list_all_more is_simple s i 0 h ∙ rw (e, simple-by
 pub simple-beyond : (s : List ℕ) (i : ℕ) → i < length s → 44 < get_or s i 0 → list_all is_simple (take i s) ≡ true → list_all is_simple (take (i + 1) s) ≡ true
 simple-beyond s i h beyond e = simple-more s i h (λ q. absurd (omega (arith, beyond, q))) (λ l. absurd (omega (arith, beyond, l))) (λ m. absurd (omega (arith, beyond, m))) e
 
+-- bytes without a quote, with one more, have none
 pub no_quote-more : (s : List ℕ) (i : ℕ) → i < length s → (get_or s i 0 ≡ 34 → ⊥) → list_all no_quote (take i s) ≡ true → list_all no_quote (take (i + 1) s) ≡ true
-no_quote-more s i h q e = list_all_more no_quote s i 0 h ∙ rw (e, eq-no (get_or s i 0) 34 q) refl
+no_quote-more s i h q e = list_all_more no_quote s i 0 h ∙ rw (e, is_other (get_or s i 0) 34 q) refl
 
 -- digits are simple
 digits-simple : (s : List ℕ) → are_digits s ≡ true → list_all is_simple s ≡ true
 digits-simple [] h = refl
 digits-simple (b ∷ s) h =
-    let both = both_true (is_ascii_digit b) (are_digits s) h in
-    let e = both_true (nat_le 48 b) (nat_le b 57) both.0 in
+    let both = and_parts (is_ascii_digit b) (are_digits s) h in
+    let e = and_parts (nat_le 48 b) (nat_le b 57) both.0 in
     let lo : 48 ≤ b = leb-true 48 b e.0 in
     rw (simple-byte b (λ q. absurd (omega (arith, lo, q))) (λ l. absurd (omega (arith, lo, l))) (λ m. absurd (omega (arith, lo, m)))) (digits-simple s both.1)
 
@@ -92,6 +87,7 @@ digits-simple (b ∷ s) h =
 pub digits-end : (s : List ℕ) (number i : ℕ) → HasDigits s number i → (i < length s → get_or s i 0 ≡ 44) → IsPlainEnd s i
 digits-end s number i has there = record { within = has.within; simple = digits-simple (take i s) has.digits; ends = there }
 
+-- a number of so many digits has one more with a further digit
 pub power-more : (n i d : ℕ) → n < 10 ^ i → d ≤ 9 → n * 10 + d < 10 ^ (i + 1)
 power-more n i d h le = rw add-one (omega arith)
 
@@ -104,7 +100,7 @@ one-before : (c : ℕ) (s : List ℕ) (b : Bool) (before : List (List ℕ)) (fie
     → next_record line_config (field_state b) before field (c ∷ s) ≡ next_record line_config st.InField before (field ++ c ∷ []) s
 unfolding next_record
 one-before c s b before field simple =
-    let both = both_true (is_plain c) (not (c == comma)) simple in
+    let both = and_parts (is_plain c) (not (c == comma)) simple in
     rw (step-plain b c both.0, not_true (c == comma) both.1) refl
 
 -- simple bytes and a comma end a field
@@ -116,8 +112,8 @@ plain-run (c ∷ s) zero b before field lt simple there =
     let same : c ≡ 44 = there in
     rw (same, step-plain b 44 refl, append-nil field) refl
 plain-run (c ∷ s) (suc i) b before field lt simple there =
-    let both = both_true (is_simple c) (list_all is_simple (take i s)) simple in
-    let one = both_true (is_plain c) (not (c == comma)) both.0 in
+    let both = and_parts (is_simple c) (list_all is_simple (take i s)) simple in
+    let one = and_parts (is_plain c) (not (c == comma)) both.0 in
     let next : suc i + 1 ≡ suc (i + 1) = omega arith in
     rw (step-plain b c one.0, not_true (c == comma) one.1, next) (
     plain-run s i true before (field ++ c ∷ []) (omega arith) both.1 there
@@ -131,16 +127,18 @@ unfolding next_record
 plain-rest [] true before field simple = rw (append-nil field) refl
 plain-rest [] false before field simple = rw (append-nil field) refl
 plain-rest (c ∷ s) b before field simple =
-    let both = both_true (is_simple c) (list_all is_simple s) simple in
-    let one = both_true (is_plain c) (not (c == comma)) both.0 in
+    let both = and_parts (is_simple c) (list_all is_simple s) simple in
+    let one = and_parts (is_plain c) (not (c == comma)) both.0 in
     rw (step-plain b c one.0, not_true (c == comma) one.1) (
     plain-rest s true before (field ++ c ∷ []) both.1
     ∙ ap (λ (f : List ℕ). Some (before ++ f ∷ [], st.StartRecord, [])) (append_assoc field (c ∷ []) s)
     )
 
+-- a plain field ends at its comma
 pub first-cut : (s : List ℕ) (i : ℕ) → IsPlainEnd s i → i < length s → IsFirst s (take i s) (Some (drop (i + 1) s))
 first-cut s i h lt = record { reads = λ before. plain-run s i false before [] lt h.simple (h.ends lt) }
 
+-- a plain field may end with the line
 pub first-all : (s : List ℕ) (i : ℕ) → IsPlainEnd s i → i ≡ length s → IsFirst s s None
 first-all s i h e =
     let all : take i s ≡ s = rw e (take-length s) in
@@ -155,7 +153,7 @@ quoted-run (c ∷ s) zero before field lt none there =
     let same : c ≡ 34 = there in
     rw (same, append-nil field) refl
 quoted-run (c ∷ s) (suc i) before field lt none there =
-    let both = both_true (no_quote c) (list_all no_quote (take i s)) none in
+    let both = and_parts (no_quote c) (list_all no_quote (take i s)) none in
     let next : suc i + 1 ≡ suc (i + 1) = omega arith in
     rw (not_true (c == quote) both.0, next) (
     quoted-run s i before (field ++ c ∷ []) (omega arith) both.1 there
@@ -173,9 +171,11 @@ unfolding next_record
 after-comma [] before field some there = absurd (omega arith)
 after-comma (c ∷ s) before field some there = let same : c ≡ 44 = there in rw same refl
 
+-- a quoted field may end with the line
 pub quoted-last : (s : List ℕ) (i : ℕ) → IsQuoteAt s i → length (drop (i + 1) s) ≡ 0 → IsQuoted s (take i s) None
 quoted-last s i h none = record { reads = λ before. quoted-run s i before [] h.within h.none h.here ∙ after-none (drop (i + 1) s) before (take i s) none }
 
+-- a quoted field ends at a quote before a comma
 pub quoted-cut : (s : List ℕ) (i : ℕ) → IsQuoteAt s i → 0 < length (drop (i + 1) s) → get_or (drop (i + 1) s) 0 0 ≡ 44 → IsQuoted s (take i s) (Some (drop 1 (drop (i + 1) s)))
 quoted-cut s i h some there = record { reads = λ before. quoted-run s i before [] h.within h.none h.here ∙ after-comma (drop (i + 1) s) before (take i s) some there }
 
@@ -185,6 +185,7 @@ unfolding next_record
 first-quoted [] field left some there h = absurd (omega arith)
 first-quoted (c ∷ s) field left some there h = let same : c ≡ 34 = there in record { reads = λ before. rw same (h.reads before) }
 
+-- what is found behind a quote at the front is the first field
 pub some-quoted : (s : List ℕ) (r : Option (Bor (List ℕ) × Option (Bor (List ℕ)))) → 0 < length s → get_or s 0 0 ≡ 34
     → IfSome r (λ r. IsQuoted (drop 1 s) r.0.now (option_map (λ (t : Bor (List ℕ)). t.now) r.1)) → IfSome r (λ r. IsFirst s r.0.now (option_map (λ (t : Bor (List ℕ)). t.now) r.1))
 some-quoted s None some there h = tt
@@ -210,6 +211,7 @@ line-fields (c ∷ line) fields strip some none reads = by (c == line_feed) refl
 number-up : (most : ℕ) (field : List ℕ) (n : ℕ) → 1 ≤ length field → are_digits field ≡ true → digits_value 10 field ≡ n → n ≤ most → number_up_to most field ≡ Some n
 number-up most field n some digits value le = rw (le-leb 1 (length field) some, digits, value, le-leb n most le) refl
 
+-- digits that come first are a time
 pub time-first : (s : List ℕ) (n : ℕ) (left : Option (List ℕ)) (h : NumberFirst s n left) → time_of h.field ≡ Some n
 time-first s n left h = number-up 18446744073709551615 h.field n h.some h.digits h.value h.fits
 
@@ -217,8 +219,8 @@ int-digits : (field : List ℕ) (n : ℕ) → 1 ≤ length field → are_digits 
 int-digits [] n some digits value le = absurd (omega arith)
 int-digits (b ∷ more) n some digits value le =
     let d = digit-at (b ∷ more) 0 digits (omega arith) in
-    let minus = eq-no b 45 (λ e. absurd (omega (arith, d.0, d.1, e))) in
-    let plus = eq-no b 43 (λ e. absurd (omega (arith, d.0, d.1, e))) in
+    let minus = is_other b 45 (λ e. absurd (omega (arith, d.0, d.1, e))) in
+    let plus = is_other b 43 (λ e. absurd (omega (arith, d.0, d.1, e))) in
     rw (minus, plus) (ap (option_map pos) (number-up 170141183460469231731687303715884105727 (b ∷ more) n some digits value (omega (arith, le))))
 
 -- digits write their number
@@ -247,6 +249,7 @@ plus-first (c ∷ s) n left some there h =
     ap (option_map pos) (number-up 170141183460469231731687303715884105727 h.field n h.some h.digits h.value (omega (arith, h.fits))) in
     rw same (record { field = 43 ∷ h.field; first = signed-first 43 s n left refl h; writes = ap (option_map value.Int) writes })
 
+-- a number ends at its comma
 pub number-cut : (s : List ℕ) (n i : ℕ) → HasDigits s n i → (i ≡ 0 → ⊥) → i < length s → get_or s i 0 ≡ 44 → NumberFirst s n (Some (drop (i + 1) s))
 number-cut s n i has some lt there =
     let size = length-take-le i s has.within in record {
@@ -259,6 +262,7 @@ number-cut s n i has some lt there =
       fits = has.fits;
     }
 
+-- a number may end with the line
 pub number-all : (s : List ℕ) (n i : ℕ) → HasDigits s n i → (i ≡ 0 → ⊥) → i ≡ length s → NumberFirst s n None
 number-all s n i has some e =
     let all : take i s ≡ s = rw e (take-length s) in record {
@@ -285,7 +289,7 @@ span-short s n left some there h =
 pub span-long : (s rest : List ℕ) (n m : ℕ) (left : Option (List ℕ)) → NumberFirst s n (Some rest) → NumberFirst rest m left → n ≤ m → SpanFirst s (n, m) left
 span-long s rest n m left h g le =
     let early : nat_lt m n ≡ false = ltb-no m n le in
-    let some : (length h.field == 0) ≡ false = eq-no (length h.field) 0 (λ e. absurd (omega (arith, h.some, e))) in record {
+    let some : (length h.field == 0) ≡ false = is_other (length h.field) 0 (λ e. absurd (omega (arith, h.some, e))) in record {
       start = h.field;
       detection = g.field;
       reads = λ before. h.first.reads before ∙ g.first.reads (before ++ h.field ∷ []) ∙ ap (read_left left) (append_assoc before (h.field ∷ []) (g.field ∷ []));
@@ -299,9 +303,11 @@ pub record SoFar (kinds : List Kind) (first now : Option (List ℕ)) (vals : Lis
   pub values : (more : List (List ℕ)) → values_of 4 kinds (done ++ more) ≡ onto vals (values_of (length vals + 4) (drop (length vals) kinds) more)
   pub many : length done ≡ length vals
 
+-- at first no value was read
 pub none-yet : (kinds : List Kind) (first : Option (List ℕ)) → SoFar kinds first first []
 none-yet kinds first = record { done = []; reads = λ before. ap (read_left first) (sym (append-nil before)); values = λ more. refl; many = refl }
 
+-- one more value was read
 pub one-value : (kinds : List Kind) (first : Option (List ℕ)) (text : List ℕ) (left : Option (List ℕ)) (vals : List Value) (kind : Kind) (value : Value)
     → SoFar kinds first (Some text) vals → ValueFirst kind text value left → slice_get kinds (length vals) ≡ Some kind → SoFar kinds first left (vals ++ value ∷ [])
 one-value kinds first text left vals kind value so v at =
@@ -314,6 +320,7 @@ one-value kinds first text left vals kind value so v at =
       many = omega (arith, size, size-done, so.many);
     }
 
+-- where as many were read as there are attributes, all were
 pub all-values : (schema : List Attr) (first : Option (List ℕ)) (vals : List Value) → SoFar (kinds_of schema) first None vals → length vals ≡ length schema → WriteAll schema first vals
 all-values schema first vals so many = record {
   fields = so.done;

@@ -27,6 +27,7 @@ unfolding line_fields
 known-fields xs None found fields s h = absurd h
 known-fields xs (Some ys) found fields s h = next-fields _ found fields s ys h
 
+-- the fields that a reader has found from the front of a line on are the line's
 pub read-fields : {R : Type 0} (rem : R → Option (List ℕ)) (a b : Reader R) (found : Bool) (fields : List (List ℕ)) (xs : List ℕ)
     → a.config ≡ line_config → a.state ≡ st.StartRecord → source_of rem a ≡ Some (strip_bom xs)
     → ReadRecord rem a b found fields → line_fields xs ≡ found_fields found fields
@@ -40,6 +41,7 @@ fields-none [] place h = drop_all place [] (omega arith)
 fields-none (f ∷ fs) zero h = cc
 fields-none (f ∷ fs) (suc place) h = fields-none fs place h
 
+-- the fields from a place on begin with the field there
 pub fields-some : (fs : List (List ℕ)) (place : ℕ) (f : List ℕ) → field_at fs place ≡ Some f → drop place fs ≡ f ∷ drop (place + 1) fs
 unfolding field_at
 fields-some [] place f h = cc

@@ -16,14 +16,17 @@ value_before-any : (n m : ℕ) (v : Value) (r : Result (List Value) LineFault) �
 value_before-any n m v (Ok vals) = refl
 value_before-any n m v (Err f) = refl
 
+-- a value goes behind those before it
 pub onto-push : (vals : List Value) (v : Value) (n : ℕ) (r : Result (List Value) LineFault) → onto vals (value_before n (Some v) r) ≡ onto (vals ++ v ∷ []) r
 onto-push [] v n r = value_before-any n 0 v r
 onto-push (x ∷ vals) v n r = ap (value_before 0 (Some x)) (onto-push vals v n r)
 
+-- behind all values there are no more
 pub onto-ok : (vals : List Value) → onto vals (Ok []) ≡ Ok vals
 onto-ok [] = refl
 onto-ok (v ∷ vals) = rw (onto-ok vals) refl
 
+-- a fault is told whatever values stand before it
 pub onto-err : (vals : List Value) (f : LineFault) → onto vals (Err f) ≡ Err f
 onto-err [] f = refl
 onto-err (v ∷ vals) f = rw (onto-err vals f) refl
@@ -39,6 +42,7 @@ pub values_of-more : (n : ℕ) (kinds : List Kind) (i : ℕ) (k : Kind) (field :
     → values_of n (drop i kinds) (field ∷ fields) ≡ value_before n (value_of k field) (values_of (n + 1) (drop (i + 1) kinds) fields)
 values_of-more n kinds i k field fields h = rw (drop-slice_get kinds i k h) refl
 
+-- no fields have no values
 pub values_of-all : (n : ℕ) (kinds : List Kind) → values_of n kinds [] ≡ Ok []
 values_of-all n [] = refl
 values_of-all n (k ∷ kinds) = refl

@@ -67,6 +67,7 @@ pub record Stands (judged : Judged) : Type 0 where
   pub declarations : All (IsOfDeclaration judged.statements) judged.declared
   pub declared : (name : List ℕ) (columns : List Column) → Contains judged.statements (tree.Stream name columns) → (schema : List Attr) × IsDeclared columns schema × Contains judged.declared (entry_of name schema)
   pub queries : All (λ q. (s : Statement) × Contains (queries_in judged.statements) s × IsOf judged.streams s q) judged.published
+  -- each query of the text is published
   pub published : (s : Statement) → is_query s ≡ true → Contains judged.statements s → (q : Query) × Contains judged.published q × IsOf judged.streams s q
 
 -- an accepted text has these

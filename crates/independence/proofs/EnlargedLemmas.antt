@@ -15,15 +15,18 @@ use Rattle.independence.proofs.IndependenceLemmas.{reads_alone}
 use Rattle.catalogue.proofs.ProgramLemmas.{accepted_are_programs}
 use Rattle.independence.proofs.ReadingLemmas.{closed-so, heard-so, refused-alike}
 
+-- added queries change no event
 pub lines_are_read_alike : AddedQueriesChangeNoEvent
 lines_are_read_alike text other_text judged other line accepts accepts_too adds = read-alike judged other (accepted-stands text judged accepts) (accepted-stands other_text other accepts_too) adds line
 
+-- nor the fault of a line
 pub lines_stay : AddedQueriesChangeNoLine
 lines_stay text other_text judged other history other_history accepts accepts_too adds same = λ k d inside.
     reads_alone text other_text judged other history other_history accepts accepts_too (kinds_in judged.streams) (kinds_in other.streams) (accepted_are_programs text judged accepts) (accepted_are_programs other_text other accepts_too) k d inside
     (λ s stated read. All-contains (Contains other.statements) judged.statements s adds.all_stand stated)
     (hear-same judged other (accepted-stands text judged accepts) (accepted-stands other_text other accepts_too) adds history other_history same (get_or (program_of judged).queries k d).name)
 
+-- nor what the other queries report
 pub reports_stay : AddedQueriesChangeNoReport
 reports_stay text other_text judged other events ended accepts accepts_too adds =
     let same = closed-so judged.streams other.streams (λ line. lines_are_read_alike text other_text judged other line accepts accepts_too adds) events ended in

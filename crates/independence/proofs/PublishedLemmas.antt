@@ -31,6 +31,7 @@ use Rattle.independence.proofs.TypingLemmas.{queries-append}
 pub contains-at : {X : Type 0} (xs : List X) (k : ℕ) (x : X) → slice_get xs k ≡ Some x → Contains xs x
 contains-at xs k x at = (k, slice_get_within xs k x at, get_or_from_slice_get xs k x x at)
 
+-- what is among items stands at a place
 pub place-of : {X : Type 0} (xs : List X) (x : X) → Contains xs x → (k : ℕ) × (slice_get xs k ≡ Some x)
 place-of xs x (k, inside, same) = (k, slice_get-get_or xs k x inside ∙ ap Some same)
 

@@ -132,11 +132,14 @@ module _ (streams others : List Entry) where
     both-read : AllZip AreAlike (readings streams events ended) (readings others events ended)
     both-read = readings-alike alike (lines events ended)
 
+    -- the same line is refused
     pub refused-alike : refused (readings streams events ended) ≡ refused (readings others events ended)
     refused-alike = refused-same None (readings streams events ended) (readings others events ended) both-read
 
+    -- the same events are heard
     pub heard-so : AreTheSameEvents streams others (heard (readings streams events ended)) (heard (readings others events ended))
     heard-so = heard-alike None (readings streams events ended) (readings others events ended) both-read
 
+    -- the same epochs are closed
     pub closed-so : AreTheSameEvents streams others (closed (readings streams events ended) ended) (closed (readings others events ended) ended)
     closed-so = closed-alike (readings streams events ended) (readings others events ended) ended both-read

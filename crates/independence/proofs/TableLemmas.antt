@@ -29,6 +29,7 @@ get-front [] ys i x e lt = absurd (omega arith)
 get-front (z ∷ xs) ys zero x e lt = e
 get-front (z ∷ xs) ys (suc i) x e lt = get-front xs ys i x e (omega arith)
 
+-- past the first items stands one of the second
 pub get-back : {X : Type 0} (xs ys : List X) (i : ℕ) (x : X) → slice_get (xs ++ ys) i ≡ Some x → length xs ≤ i → Contains ys x
 get-back [] ys i x e le = (i, slice_get_within ys i x e, get_or_from_slice_get ys i x x e)
 get-back (z ∷ xs) ys zero x e le = absurd (omega arith)

@@ -23,6 +23,7 @@ use denote.Ref.{NamedLft}
 abbrev pub both : Val → Val → Val
 both v w = vstruct (vcons v (vcons w vnil))
 
+-- three values, one behind another in memory
 abbrev pub three : Val → Val → Val → Val
 three u v w = vstruct (vcons u (vcons v (vcons w vnil)))
 
@@ -34,6 +35,7 @@ mark = vstruct (vcons (vstruct vnil) vnil)
 abbrev pub two_fields : RattleType → RattleType → Shape
 two_fields P Q = record { name = []; args = []; types = []; fields = P ∷ Q ∷ [] }
 
+-- the shape of three fields
 abbrev pub three_fields : RattleType → RattleType → RattleType → Shape
 three_fields P Q R = record { name = []; args = []; types = []; fields = P ∷ Q ∷ R ∷ [] }
 
@@ -97,6 +99,7 @@ module _ (R Z : RattleType) (g : Ghosts Z.Denot) {M : Type 1} {𝓤 : Ura M} (�
 
 -- the type of what may read boxes, and its own field
 module _ (ν : NamedLft) (R Z : RattleType) (g : Ghosts Z.Denot) where
+  -- the type of a node's link
   abbrev pub Sn : RattleType
   Sn = seen.the_row ν R Z g
 

@@ -52,6 +52,7 @@ module _ {X : Type 0} where
   All_first P [] x first all = absurd (cc)
   All_first P (y ∷ ys) x first all = let same : y ≡ x = cc in subst P same (All-head P y ys all)
 
+  -- what holds of all items holds of those behind the first
   pub All_behind : (P : X → Type 0) (here here' : List X) → here' ≡ drop 1 here → All P here → All P here'
   All_behind P [] here' e all = All-same P here' [] e all
   All_behind P (y ∷ ys) here' e all = All-same P here' ys e (All-tail P y ys all)

@@ -21,6 +21,7 @@ meets_started time b (Fixed place cmp v) = refl
 meets_started time b (Key event binding) = refl
 meets_started time b Rest = refl
 
+-- whether an instance is alive depends on its start alone
 pub started_is : (time : ℕ) (choose : List Pr) (b : Row) → is_alive time choose (started b.from) ≡ is_alive time choose b
 started_is time [] b = refl
 started_is time (p ∷ ps) b = λ i. meets_started time b (class_of p) i && started_is time ps b i
@@ -55,6 +56,7 @@ all_alive time oldest choose instances all e =
 
 -- the parts of a condition, tested one after another
 module _ (test : Class → Bool) where
+  -- with one more part that passes, all pass so far as before
   pub one_more_holds : (parts : List Pr) (place : ℕ) (c : Class) → option_map class_of (slice_get parts place) ≡ Some c → test c ≡ true
       → list_all (λ p. test (class_of p)) (take place parts) ≡ true → list_all (λ p. test (class_of p)) (take (suc place) parts) ≡ true
   one_more_holds [] place c is holds before = absurd (cc)
@@ -65,6 +67,7 @@ module _ (test : Class → Bool) where
       go more true e rest = λ i. e i && more rest i
       go more false e rest = absurd (cc)
 
+  -- where one part fails, not all pass
   pub one_fails : (parts : List Pr) (place : ℕ) (c : Class) → option_map class_of (slice_get parts place) ≡ Some c → test c ≡ false → list_all (λ p. test (class_of p)) parts ≡ false
   one_fails [] place c is fails = absurd (cc)
   one_fails (p ∷ ps) zero c is fails = let same : class_of p ≡ c = cc in ap (λ t. t && list_all (λ p. test (class_of p)) ps) (ap test same ∙ fails)
@@ -78,5 +81,6 @@ module _ (test : Class → Bool) where
 pub least_of_left : (least a b c : ℕ) → least ≡ min a b → a ≤ c → least ≤ c
 least_of_left least a b c e h = omega arith
 
+-- nor is it greater than the second
 pub least_of_right : (least a b c : ℕ) → least ≡ min a b → b ≡ c → least ≤ c
 least_of_right least a b c e h = omega arith

@@ -1,5 +1,5 @@
 -- The keys by which instances are looked up.
-use Rattle.std.specs.Prelude.{◌≡◌, ℕ, ◌<◌, ⊤, Bool, true, not, ◌&&◌, List, length, Option, Some, None, Contains}
+use Rattle.std.specs.Prelude.{◌≡◌, ◌↔◌, ℕ, ◌<◌, ⊤, Bool, true, not, ◌&&◌, List, length, Option, Some, None, Any, Contains}
 use Rattle.std.specs.List.{filter}
 use Rattle.event_types.specs.declared.comparison.Cmp.TheVariants as cmp
 use Rattle.event_types.specs.declared.value.Value.{Value}
@@ -52,3 +52,7 @@ HasKey (Some key) binding v = value_at binding key.binding ≡ v
 abbrev pub IsReady : Option Key → List Value → Row → Type 0
 IsReady None ready binding = ⊤
 IsReady (Some key) ready binding = Contains ready (value_at binding key.binding)
+
+-- the values that are ready are those of before that are the key of one of these instances
+abbrev pub KeepsUsedKeys : Option Key → List Instance → List Value → List Value → Type 0
+KeepsUsedKeys key instances old new = (v : Value) → Contains new v ↔ (Contains old v × Any (λ instance. HasKey key instance.tuple v) instances)

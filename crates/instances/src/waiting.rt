@@ -5,7 +5,7 @@ ghost use Rattle.semantics.specs.Scalars.{Pr};
 ghost use Rattle.scalar_expr.specs.Fits.{AllFit};
 ghost use Rattle.instances.specs.declared.instance.Instance.{Instance};
 ghost use Rattle.instances.specs.Bounds.{alive_instances};
-ghost use Rattle.instances.specs.Keys.{BindingFits, EventFits, HasKey, IsReady, Key, candidates_of, unmatched};
+ghost use Rattle.instances.specs.Keys.{BindingFits, EventFits, IsReady, KeepsUsedKeys, Key, candidates_of, unmatched};
 
 use crate::instance::{Instance, Instances};
 use cay_host::{Ledger, Steps};
@@ -70,7 +70,7 @@ pub trait Waiting {
     /// forgets the keys that no instance has. Takes no memory.
     fn purge(&mut self, now: u64)
         ensures alive { instances self.new ≡ alive_instances (now + 1) (condition self.old) (instances self.old) }
-        ensures ready { (value : Value) → Contains (ready_keys self.new) value ↔ (Contains (ready_keys self.old) value × Any (λ instance. HasKey (key self.old) instance.tuple value) (instances self.new)) }
+        ensures ready { KeepsUsedKeys (key self.old) (instances self.new) (ready_keys self.old) (ready_keys self.new) }
         ensures same_condition { condition self.new ≡ condition self.old }
         ensures same_key { key self.new ≡ key self.old };
 

@@ -40,12 +40,14 @@ lines_next queries lists place query tuples q t =
 abbrev pub IsPut : List Query → List (List Row) → ℕ → List ℕ → List ℕ → Type 0
 IsPut queries lists place old new = new ++ batch_lines (drop place queries) (drop place lists) ≡ old ++ batch_lines queries lists
 
+-- the rows of one more query were put
 pub put_next : (queries : List Query) (lists : List (List Row)) (place : ℕ) (query : Query) (tuples : List Row) (old now new : List ℕ) → slice_get queries place ≡ Some query → slice_get lists place ≡ Some tuples
     → new ≡ now ++ flat_map (line query.name) tuples → IsPut queries lists place old now → IsPut queries lists (place + 1) old new
 put_next queries lists place query tuples old now new q t e put =
     let rest = batch_lines (drop (place + 1) queries) (drop (place + 1) lists) in
     ap (λ rows. rows ++ rest) e ∙ append_assoc now (flat_map (line query.name) tuples) rest ∙ ap (λ rows. now ++ rows) (sym (lines_next queries lists place query tuples q t)) ∙ put
 
+-- behind all queries the rows of all were put
 pub put_all : (queries : List Query) (lists : List (List Row)) (place : ℕ) (old new : List ℕ) → length queries ≤ place → IsPut queries lists place old new → new ≡ old ++ batch_lines queries lists
 put_all queries lists place old new end put =
     sym (append-nil new) ∙ ap (λ qs. new ++ batch_lines qs (drop place lists)) (sym (drop_all place queries end)) ∙ put

@@ -41,6 +41,7 @@ module _ (program : Program) (history : List Heard) (seen : Option ℕ) (last at
   pub closed_rows : closed ≡ old ++ closing program history seen at
   closed_rows = f ∙ ap (λ rows. old ++ rows) (sym (closing_is program history seen last at e less))
 
+  -- what is owed of the closed rows is owed of what the closing adds
   pub owes_closed : (new : List ℕ) (a b : Told) → ((rest : List ℕ) → Owes (closed ++ rest) (new ++ rest) a b) → (rest : List ℕ) → Owes (old ++ (closing program history seen at ++ rest)) (new ++ rest) a b
   owes_closed new a b owes rest =
       subst (λ t. Owes t (new ++ rest) a b) (ap (λ rows. rows ++ rest) closed_rows ∙ append_assoc old (closing program history seen at) rest) (owes rest)

@@ -19,6 +19,7 @@ use Rattle.monitor.specs.Hearing.{Reading, refused_from, heard_from, before_last
 abbrev pub IsEarlier : ℕ → Heard → Type 0
 IsEarlier time event = event.tuple.at < time
 
+-- an event is of a time
 abbrev pub IsOf : ℕ → Heard → Type 0
 IsOf time event = event.tuple.at ≡ time
 
@@ -46,6 +47,7 @@ last_of_one_time : (time : ℕ) (x : Heard) (now : List Heard) → All (IsOf tim
 last_of_one_time time x [] all = ap Some (All-head (IsOf time) x [] all)
 last_of_one_time time x (next ∷ now) all = last_of_one_time time next now (All-tail (IsOf time) x (next ∷ now) all)
 
+-- the last time is that of the open epoch
 pub last_is : (before now : List Heard) (time : ℕ) → Standing before now time → last_time (before ++ now) ≡ Some time
 last_is before [] time s = absurd (let some = s.some in omega arith)
 last_is before (x ∷ xs) time s = last_append before x xs ∙ last_of_one_time time x xs s.same
@@ -63,6 +65,7 @@ drops_this time (x ∷ xs) all =
     let e : nat_lt x.tuple.at time ≡ false = le-ltb _ _ (omega (arith, same)) in
     ap (λ b. cond b (x ∷ filter (λ event. nat_lt event.tuple.at time) xs) (filter (λ event. nat_lt event.tuple.at time) xs)) e ∙ drops_this time xs (All-tail (IsOf time) x xs all)
 
+-- the events before the last time are those before the open epoch
 pub before_is : (before now : List Heard) (time : ℕ) → Standing before now time → before_last (before ++ now) ≡ before
 before_is before now time s =
     ap (λ t. closed_part t (before ++ now)) (last_is before now time s)
@@ -99,6 +102,7 @@ same_time time event l m =
     let high : event.tuple.at ≤ time = ltb-false _ _ m in
     omega (arith, low, high)
 
+-- one more event of the time belongs to the open epoch
 pub same_stands : (before now : List Heard) (time : ℕ) (event : Heard) → Standing before now time → event.tuple.at ≡ time → Standing before (now ++ event ∷ []) time
 same_stands before now time event s same = record {
   early = s.early;

@@ -7,9 +7,11 @@ use Rattle.cay_host.proofs.OutputLemmas.{Wrote-nil, Wrote-append}
 use Rattle.monitor.specs.Owing.{WroteFront}
 use Rattle.monitor.specs.Working.{Owes}
 
+-- where nothing was written, all is owed
 pub Owes-refl : (text : List ℕ) (a : Told) → Owes text text a a
 Owes-refl text a = record { front = []; wrote = Wrote-nil a; all = refl }
 
+-- what is written twice leaves what the second leaves
 pub Owes-trans : {s t u : List ℕ} {a b c : Told} → Owes s t a b → Owes t u b c → Owes s u a c
 Owes-trans {s} {t} {u} p q = record {
   front = p.front ++ q.front;
@@ -25,6 +27,7 @@ Owes-all {text} {a} {b} o = let same = sym (append-nil o.front) ∙ o.all in sub
 take-past : (front rest : List ℕ) (k : ℕ) → take (length front + k) (front ++ rest) ≡ front ++ take k rest
 take-past front rest k = take-append-add front rest k
 
+-- a part of what is owed, behind what was written, is a part of all
 pub part_after : {text rest : List ℕ} {a b c : Told} → Owes text rest a b → WrotePart rest b c → WrotePart text a c
 part_after {text} {rest} {a} {b} {c} o part =
     let longer : length o.front + length rest ≡ length text = sym (length-append o.front rest) ∙ ap length o.all in
@@ -32,6 +35,7 @@ part_after {text} {rest} {a} {b} {c} o part =
     let same : o.front ++ take part.0 rest ≡ take (length o.front + part.0) text = sym (take-past o.front rest part.0) ∙ ap (take (length o.front + part.0)) o.all in
     (length o.front + part.0, omega (arith, longer, less), subst (λ t. Wrote t a c) same (Wrote-append o.wrote part.2))
 
+-- so is a front of it
 pub front_after : {text rest : List ℕ} {a b c : Told} → Owes text rest a b → WroteFront rest b c → WroteFront text a c
 front_after {text} {rest} {a} {b} {c} o part =
     let longer : length o.front + length rest ≡ length text = sym (length-append o.front rest) ∙ ap length o.all in

@@ -25,6 +25,7 @@ reading_is : (streams : List Entry) (number : ℕ) (bytes : List ℕ) (found : R
     → reading_of streams (record { number = number; bytes = bytes }) ≡ record { number = number; found = found_of found }
 reading_is streams number bytes found e = ap (λ f. record { number = number; found = found_of f }) e
 
+-- a line that is taken comes next
 pub shows_line : (streams : List Entry) (old new : Fed) (number : ℕ) (bytes : List ℕ) (n : Next) → TakesLine (record { number = number; bytes = bytes }) old new → IsReading streams number bytes n → Shows streams old new n
 shows_line streams old new number bytes (next.Event m seen) takes reading = λ ended.
     ap (map (reading_of streams)) (gives_now (record { number = number; bytes = bytes } ∷ []) old new ended takes.given)
@@ -41,6 +42,7 @@ first_is : {X : Type 0} (xs : List X) (x : X) → slice_get xs 0 ≡ Some x → 
 first_is [] x e = cc
 first_is (y ∷ ys) x e = let same : y ≡ x = cc in (ys, ap (λ z. z ∷ ys) same)
 
+-- a line that is too long is a fault
 pub shows_long : (streams : List Entry) (old new : Fed) (number : ℕ) → Gives [] old new → IsLongNext number new → Shows streams old new (next.Fault number fault.LineTooLong)
 shows_long streams old new number gives long = λ ended.
     let line : Line = record { number = number; bytes = long.bytes } in
@@ -50,12 +52,14 @@ shows_long streams old new number gives long = λ ended.
       ap (map (reading_of streams)) (gives_now [] old new ended gives ∙ first.1) ∙ ap (λ r. r ∷ map (reading_of streams) first.0) (reading_is streams number long.bytes (Err fault.LineTooLong) too_long),
     )
 
+-- where no line has its end, none comes next
 pub shows_none : (streams : List Entry) (old new : Fed) → Gives [] old new → IsPart new → Shows streams old new next.NotYet
 shows_none streams old new gives part = (
   part,
   λ ended. ap (map (reading_of streams)) (gives_now [] old new ended gives),
 )
 
+-- the last line is the one that is left
 pub shows_last : (streams : List Entry) (fed : Fed) (number : ℕ) (bytes : List ℕ) (n : Next) → lines_left fed true ≡ record { number = number; bytes = bytes } ∷ [] → IsReading streams number bytes n → ShowsLast streams fed n
 shows_last streams fed number bytes (next.Event m seen) left reading =
     ap (map (reading_of streams)) left ∙ ap (λ r. r ∷ []) (reading_is streams number bytes (Ok seen) reading.1 ∙ ap (λ k. record { number = k; found = Ok (heard_of seen) }) (sym reading.0))

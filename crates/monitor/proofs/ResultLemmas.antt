@@ -81,6 +81,7 @@ module _ (kinds : ℕ → List Kind) (program : Program) (wide : IsWideProgram k
         closes.taken.results ∙ ap (map (λ stream. sorted (closes.taken.news stream))) layout.outs
         ∙ by_queries (λ stream. sorted (closes.taken.news stream)) (λ query. results program history query.stream closes.time) program.queries each
 
+-- a closing gives the results of each query
 pub closing_gives_results : ClosingGivesResults
 closing_gives_results text judged old new history batch accepts layout stands are closes =
     batch_is_results (kinds_in judged.streams) (program_of judged) (accepted_are_wide_programs text judged accepts) history are.1 are.0 (kinds_of_each judged.streams) old new batch layout stands closes

@@ -118,6 +118,7 @@ module _ (c : Catalogued) (accepted : IsAccepted c) where
       )
 
 module _ (session : View) (past : List Heard) (text : List ℕ) (stands : StandsFor session past text) where
+  -- the lines of the text before the piece
   abbrev pub before : List Reading
   before = readings_in session text false
 
@@ -150,6 +151,7 @@ module _ (session : View) (past : List Heard) (text : List ℕ) (stands : Stands
     pub refused_on : refused_after past (readings_in session (text ++ piece) ended) ≡ refused_from session.engine.time later
     refused_on = ap (refused_after past) readings_on ∙ on.refused ∙ ap (λ s. refused_from s later) (sym stands.last_is_open)
 
+    -- what is heard of the longer text is what was heard so far and what the later lines bring
     pub heard_on : heard_after past (readings_in session (text ++ piece) ended) ≡ so_far ++ heard_from session.engine.time later
     heard_on = ap (heard_after past) readings_on ∙ on.heard ∙ ap (λ s. so_far ++ heard_from s later) (sym stands.last_is_open)
 

@@ -3,6 +3,7 @@ use Rattle.std.proofs.Common.{◌∙◌, ap, sym, ◌++◌, append_assoc}
 use Rattle.event_csv.specs.Fed.{Fed, fed_more, lines_left}
 use Rattle.monitor.specs.Taking.{Gone}
 
+-- lines that are gone one after another are gone together
 pub Gone-trans : {old mid new : Fed} → Gone old mid → Gone mid new → Gone old new
 Gone-trans {old} {mid} {new} one two = record {
   lines = one.lines ++ two.lines;

@@ -22,6 +22,7 @@ use Rattle.monitor.specs.Standing.{Stands, program_over}
 use Rattle.monitor.specs.Working.{Advances, Ends, FailsBy, GoesOn, Owes, RefusesBy, Stops, Takes, closing, closes, left_of, line_of, open_rows, rows_left}
 use Rattle.monitor.proofs.OwingLemmas.{Owes-trans, Owes-all, part_after, front_after, front_none, all_written}
 
+-- an event before the one that was seen is out of order
 pub late_is : (line at seen : ℕ) → at < seen → disorder line (Some seen) at ≡ Some (IsOutOfOrder line at seen)
 late_is line at seen less = ap (λ b. cond b (Some (IsOutOfOrder line at seen)) None) (lt-ltb at seen less)
 
@@ -32,6 +33,7 @@ part_of_more {rows} {a} {b} more part =
     let long = length-append rows more in
     (part.0, omega (arith, less, long), subst (λ t. Wrote t a b) (sym (take-append-le part.0 rows more (omega (arith, less)))) part.2)
 
+-- a front of rows is a front of more
 pub front_of_more : {rows : List ℕ} {a b : Told} (more : List ℕ) → WroteFront rows a b → WroteFront (rows ++ more) a b
 front_of_more {rows} {a} {b} more part =
     let less = part.within in
@@ -120,6 +122,7 @@ advances_stops program ended lines others history heard old new a b c (fault.Too
 advances_stops program ended lines others history heard old new a b c fault.WriteFault up more stops = (rose_after _ _ _ up stops.0, part_after more.owes stops.1)
 advances_stops program ended lines others history heard old new a b c fault.Memory up more stops = front_after more.owes stops
 
+-- work that has advanced ends as the work on the other lines does
 pub advances_ends : (program : Program) (ended : Bool) (lines others : List Reading) (history heard : List Heard) (old new : Work) (a b c : Told) (end : Result (Unit {0}) SessionFault)
     → a.write_faults ≤ b.write_faults → Advances program ended lines others history heard old new a b → Ends program ended others heard new b c end → Ends program ended lines history old a c end
 advances_ends program ended lines others history heard old new a b c (Ok done) up more ends = (more.refused ∙ ends.0, Owes-all (Owes-trans more.owes (all_written ends.1)))
@@ -134,6 +137,7 @@ pub stops_same : (program : Program) (ended : Bool) (lines others : List Reading
     → others ≡ lines → Stops program ended lines history work a b stop → Stops program ended others history work a b stop
 stops_same program ended lines others history work a b stop e stops = subst (λ l. Stops program ended l history work a b stop) (sym e) stops
 
+-- lines that are left alike end alike
 pub ends_same : (program : Program) (ended : Bool) (lines others : List Reading) (history : List Heard) (work : Work) (a b : Told) (end : Result (Unit {0}) SessionFault)
     → others ≡ lines → Ends program ended lines history work a b end → Ends program ended others history work a b end
 ends_same program ended lines others history work a b end e ends = subst (λ l. Ends program ended l history work a b end) (sym e) ends

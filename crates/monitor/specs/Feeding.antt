@@ -46,3 +46,8 @@ Finishes old new past text before after (Err fault) = StopsAt old past text text
 abbrev pub BlamesWriting : Result (Unit {0}) SessionFault → Told → Told → Type 0
 BlamesWriting (Err WriteFault) before after = ⊤
 BlamesWriting other before after = after.write_faults ≡ before.write_faults
+
+-- why a session stopped at a piece, whatever history and event text it stood for
+abbrev pub BreaksAtPiece : View → List ℕ → Told → Told → SessionFault → Type 0
+BreaksAtPiece session piece before after fault =
+    (past : List Heard) (text : List ℕ) → StandsFor session past text → StopsAtPiece session past text piece before after fault

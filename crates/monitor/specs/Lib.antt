@@ -9,4 +9,5 @@ pub mod Sessions
 pub mod SessionCode
 pub mod Standing
 pub mod Taking
+pub mod Whatever
 pub mod Working

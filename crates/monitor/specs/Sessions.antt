@@ -5,9 +5,10 @@ use Rattle.semantics.specs.Histories.{Heard}
 use Rattle.semantics.specs.Programs.{Program}
 use Rattle.semantics.specs.Report.{report}
 use Rattle.semantics.specs.TypedPrograms.{HaveTheirKinds}
-use Rattle.chains.specs.Chains.{lines_of}
+use Rattle.chains.specs.Chains.{lines_of, order_of}
 use Rattle.chains.specs.Layouts.{IsLayoutOf}
-use Rattle.epoch_laws.specs.Standing.{last_time}
+use Rattle.epoch_laws.specs.Standing.{closed_part, last_time}
+use Rattle.epoch_engine.specs.Counts.{CountsAlive}
 use Rattle.epoch_engine.specs.StandsFor as engines
 use Rattle.epoch_engine.specs.Trims.{Trims}
 use Rattle.epoch_engine.specs.Views as engine
@@ -86,3 +87,8 @@ pub record TrimsEngine (old new : View) : Type 0 where
 pub record KeepsQueries (old new : View) : Type 0 where
   pub catalogue : new.catalogue ≡ old.catalogue
   pub limit : new.limit ≡ old.limit
+
+-- the number of bindings that wait after the closed epochs of what the session works for
+abbrev pub CountsWaiting : View → ℕ → Type 0
+CountsWaiting session count =
+    (history : List Heard) → WorksFor session history → CountsAlive (lines_of (program_in session)) (order_of (program_in session)) (closed_part session.engine.time history) count

@@ -1,11 +1,12 @@
 //! The closing of epochs.
-ghost use Rattle.std.specs.Prelude.{◌≡◌, true, None, ◌++◌, [], ℕ, List, IsSome, IfErr, OnOk};
+ghost use Rattle.std.specs.Prelude.{◌≡◌, true, None, [], ℕ, List, IsSome, IfErr, OnOk};
 ghost use Rattle.cay_host.specs.Output.{SameButOutput};
 ghost use Rattle.semantics.specs.Histories.{Heard};
 ghost use Rattle.monitor.specs.Feeding.{BlamesWriting};
 ghost use Rattle.monitor.specs.Hearing.{disorder};
 ghost use Rattle.monitor.specs.Standing.{HasClosed, IsAtWork, IsReady, Stands, program_over};
-ghost use Rattle.monitor.specs.Working.{Ends, FailsBy, Owes, closing, open_rows};
+ghost use Rattle.monitor.specs.Whatever.{FailsInClosing, OwesClosing, PutsOpenRows};
+ghost use Rattle.monitor.specs.Working.{Ends};
 
 use crate::fault::SessionFault;
 use crate::work::Work;
@@ -24,7 +25,7 @@ fn close_epoch<L: Ledger>(
 ) -> Result<(), Memory>
     requires at_work { IsAtWork catalogue.now work.old }
     requires opened { IsSome work.old.engine.time }
-    ensures rows { OnOk result ((history : List Heard) → Stands catalogue.now history work.old.engine → work.new.rows ≡ work.old.rows ++ open_rows (program_over catalogue.now) history work.old.engine.time) }
+    ensures rows { OnOk result (PutsOpenRows catalogue.now work.old work.new) }
     ensures closed { OnOk result (HasClosed catalogue.now work.old.engine work.new.engine) }
 {
     let batch = work.engine.close(alloc, steps)?;
@@ -42,9 +43,9 @@ pub fn close_before<H: Host, L: Ledger>(
 ) -> Result<(), SessionFault>
     requires at_work { IsAtWork catalogue.now work.old }
     requires timely { (number : ℕ) → disorder number work.old.engine.time at ≡ None }
-    ensures owes { OnOk result ((history : List Heard) → Stands catalogue.now history work.old.engine → (rest : List ℕ) → Owes (work.old.rows ++ (closing (program_over catalogue.now) history work.old.engine.time at ++ rest)) (work.new.rows ++ rest) (H.told host.old) (H.told host.new)) }
+    ensures owes { OnOk result (OwesClosing catalogue.now at work.old work.new (H.told host.old) (H.told host.new)) }
     ensures ready { OnOk result (IsReady catalogue.now at work.old.engine work.new.engine) }
-    ensures fails { IfErr result (λ fault. (history : List Heard) → Stands catalogue.now history work.old.engine → FailsBy (work.old.rows ++ closing (program_over catalogue.now) history work.old.engine.time at) (H.told host.old) (H.told host.new) fault) }
+    ensures fails { IfErr result (FailsInClosing catalogue.now at work.old (H.told host.old) (H.told host.new)) }
     ensures quiet { BlamesWriting result (H.told host.old) (H.told host.new) }
     ensures same { SameButOutput (H.told host.old) (H.told host.new) }
 {

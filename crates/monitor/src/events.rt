@@ -1,14 +1,14 @@
 //! The work on one event, or on a line that is refused.
-ghost use Rattle.std.specs.Prelude.{◌≡◌, ◌∷◌, [], ℕ, Bool, IsTrue, List, None, IfErr, OnOk};
+ghost use Rattle.std.specs.Prelude.{◌≡◌, ℕ, IsTrue, None, IfErr, OnOk};
 ghost use Rattle.cay_host.specs.Output.{SameButOutput};
-ghost use Rattle.semantics.specs.Histories.{Heard};
 ghost use Rattle.catalogue.specs.Catalogued.{IsAccepted, judged_of};
 ghost use Rattle.epoch_engine.specs.Offers.{IsHeard, IsLate, IsNotAhead, with_tuple};
 ghost use Rattle.monitor.specs.Feeding.{BlamesWriting};
 ghost use Rattle.monitor.specs.Fitting.{Fits};
-ghost use Rattle.monitor.specs.Hearing.{Reading, disorder};
-ghost use Rattle.monitor.specs.Standing.{IsAtWork, Stands, program_over};
-ghost use Rattle.monitor.specs.Working.{Blames, RefusesBy, Stops, Takes, line_of};
+ghost use Rattle.monitor.specs.Hearing.{disorder};
+ghost use Rattle.monitor.specs.Standing.{IsAtWork};
+ghost use Rattle.monitor.specs.Whatever.{StopsAtEvent, TakesEvent};
+ghost use Rattle.monitor.specs.Working.{Blames, RefusesBy};
 
 use crate::closing::close_before;
 use crate::fault::SessionFault;
@@ -65,9 +65,9 @@ fn take_timely<H: Host, L: Ledger>(
     requires accepted { IsAccepted catalogue.now }
     requires fits { Fits (judged_of catalogue.now).streams event }
     requires timely { (number : ℕ) → disorder number work.old.engine.time event.tuple.at ≡ None }
-    ensures more { OnOk result ((history : List Heard) → Stands catalogue.now history work.old.engine → Takes catalogue.now (line_of number event) history work.old work.new (H.told host.old) (H.told host.new)) }
+    ensures more { OnOk result (TakesEvent catalogue.now number event work.old work.new (H.told host.old) (H.told host.new)) }
     ensures at_work { OnOk result (IsAtWork catalogue.now work.new) }
-    ensures stops { IfErr result (λ fault. (ended : Bool) (lines : List Reading) (history : List Heard) → Stands catalogue.now history work.old.engine → Stops (program_over catalogue.now) ended (line_of number event ∷ lines) history work.old (H.told host.old) (H.told host.new) fault) }
+    ensures stops { IfErr result (StopsAtEvent catalogue.now number event work.old (H.told host.old) (H.told host.new)) }
     ensures quiet { BlamesWriting result (H.told host.old) (H.told host.new) }
     ensures same { SameButOutput (H.told host.old) (H.told host.new) }
 {
@@ -94,9 +94,9 @@ pub fn take_event<H: Host, L: Ledger>(
     requires at_work { IsAtWork catalogue.now work.old }
     requires accepted { IsAccepted catalogue.now }
     requires fits { Fits (judged_of catalogue.now).streams event }
-    ensures more { OnOk result ((history : List Heard) → Stands catalogue.now history work.old.engine → Takes catalogue.now (line_of number event) history work.old work.new (H.told host.old) (H.told host.new)) }
+    ensures more { OnOk result (TakesEvent catalogue.now number event work.old work.new (H.told host.old) (H.told host.new)) }
     ensures at_work { OnOk result (IsAtWork catalogue.now work.new) }
-    ensures stops { IfErr result (λ fault. (ended : Bool) (lines : List Reading) (history : List Heard) → Stands catalogue.now history work.old.engine → Stops (program_over catalogue.now) ended (line_of number event ∷ lines) history work.old (H.told host.old) (H.told host.new) fault) }
+    ensures stops { IfErr result (StopsAtEvent catalogue.now number event work.old (H.told host.old) (H.told host.new)) }
     ensures quiet { BlamesWriting result (H.told host.old) (H.told host.new) }
     ensures same { SameButOutput (H.told host.old) (H.told host.new) }
 {

@@ -1,16 +1,13 @@
 //! The work on the lines of an event text.
-ghost use Rattle.std.specs.Prelude.{◌≡◌, ◌++◌, false, true, [], List, IfErr, IfOk, OnOk};
+ghost use Rattle.std.specs.Prelude.{◌≡◌, false, true, [], IfErr, IfOk, OnOk};
 ghost use Rattle.cay_host.specs.Output.{SameButOutput};
-ghost use Rattle.semantics.specs.Histories.{Heard};
-ghost use Rattle.catalogue.specs.Catalogued.{IsAccepted, judged_of};
-ghost use Rattle.epoch_engine.specs.StandsFor as engines;
+ghost use Rattle.catalogue.specs.Catalogued.{IsAccepted};
 ghost use Rattle.event_csv.specs.Fed.{IsPart, lines_left};
 ghost use Rattle.monitor.specs.Feeding.{BlamesWriting};
-ghost use Rattle.monitor.specs.Hearing.{heard_from};
-ghost use Rattle.monitor.specs.Readings.{readings_left};
-ghost use Rattle.monitor.specs.Standing.{IsAtWork, IsThrough, Stands, lines_over, program_over};
+ghost use Rattle.monitor.specs.Standing.{IsAtWork, IsThrough};
 ghost use Rattle.monitor.specs.Taking.{Gone, Progresses};
-ghost use Rattle.monitor.specs.Working.{Blames, Ends, GoesOn, Stops};
+ghost use Rattle.monitor.specs.Whatever.{EndsOver, GoesThrough, HearsLines, HearsRest, StopsOver};
+ghost use Rattle.monitor.specs.Working.{Blames};
 
 use crate::closing::close_last;
 use crate::events::{refuse, take_event};
@@ -34,8 +31,8 @@ pub fn take_lines<H: Host, L: Ledger>(
     steps: &mut Steps<L>,
 ) -> Result<(), SessionFault>
     requires { IsAtWork catalogue.now work.old }
-    ensures ends { (history : List Heard) → Stands catalogue.now history work.old.engine → Ends (program_over catalogue.now) false (readings_left (judged_of catalogue.now).streams feed.old false) history work.old (H.told host.old) (H.told host.new) result }
-    ensures stands { OnOk result ((history : List Heard) → Stands catalogue.now history work.old.engine → Stands catalogue.now (history ++ heard_from work.old.engine.time (readings_left (judged_of catalogue.now).streams feed.old false)) work.new.engine) }
+    ensures ends { EndsOver catalogue.now feed.old false work.old (H.told host.old) (H.told host.new) result }
+    ensures stands { OnOk result (HearsLines catalogue.now feed.old work.old work.new) }
     ensures at_work { OnOk result (IsAtWork catalogue.now work.new) }
     ensures none_owed { OnOk result (work.new.rows ≡ []) }
     ensures gone { OnOk result (Gone feed.old feed.new) }
@@ -63,11 +60,11 @@ fn work_through<H: Host, L: Ledger>(
     steps: &mut Steps<L>,
 ) -> Result<(), SessionFault>
     requires { IsAtWork catalogue.now work.old }
-    ensures goes_on { OnOk result ((history : List Heard) → Stands catalogue.now history work.old.engine → GoesOn catalogue.now (readings_left (judged_of catalogue.now).streams feed.old false) [] history work.old work.new (H.told host.old) (H.told host.new)) }
+    ensures goes_on { OnOk result (GoesThrough catalogue.now feed.old work.old work.new (H.told host.old) (H.told host.new)) }
     ensures at_work { OnOk result (IsAtWork catalogue.now work.new) }
     ensures gone { OnOk result (Gone feed.old feed.new) }
     ensures part { OnOk result (IsPart feed.new) }
-    ensures stops { IfErr result (λ fault. (history : List Heard) → Stands catalogue.now history work.old.engine → Stops (program_over catalogue.now) false (readings_left (judged_of catalogue.now).streams feed.old false) history work.old (H.told host.old) (H.told host.new) fault) }
+    ensures stops { IfErr result (StopsOver catalogue.now feed.old work.old (H.told host.old) (H.told host.new)) }
     ensures accepted { IsAccepted catalogue.now }
     ensures quiet { BlamesWriting result (H.told host.old) (H.told host.new) }
     ensures same { SameButOutput (H.told host.old) (H.told host.new) }
@@ -95,7 +92,7 @@ fn take_line<H: Host, L: Ledger>(
     ensures at_work { OnOk result (IsAtWork catalogue.now work.new) }
     ensures gone { Gone feed.old feed.new }
     ensures accepted { IsAccepted catalogue.now }
-    ensures stops { IfErr result (λ fault. (history : List Heard) → Stands catalogue.now history work.old.engine → Stops (program_over catalogue.now) false (readings_left (judged_of catalogue.now).streams feed.old false) history work.old (H.told host.old) (H.told host.new) fault) }
+    ensures stops { IfErr result (StopsOver catalogue.now feed.old work.old (H.told host.old) (H.told host.new)) }
     ensures quiet { OnOk result ((H.told host.new).write_faults ≡ (H.told host.old).write_faults) }
     ensures blames { IfErr result (λ fault. Blames fault (H.told host.old) (H.told host.new)) }
     ensures same { SameButOutput (H.told host.old) (H.told host.new) }
@@ -124,8 +121,8 @@ pub fn take_rest<H: Host, L: Ledger>(
 ) -> Result<(), SessionFault>
     requires at_work { IsAtWork catalogue.now work.old }
     requires none_left { lines_left feed.now false ≡ [] }
-    ensures ends { (history : List Heard) → Stands catalogue.now history work.old.engine → Ends (program_over catalogue.now) true (readings_left (judged_of catalogue.now).streams feed.now true) history work.old (H.told host.old) (H.told host.new) result }
-    ensures stands { OnOk result ((history : List Heard) → Stands catalogue.now history work.old.engine → engines.StandsFor work.new.engine (lines_over catalogue.now) (history ++ heard_from work.old.engine.time (readings_left (judged_of catalogue.now).streams feed.now true))) }
+    ensures ends { EndsOver catalogue.now feed.now true work.old (H.told host.old) (H.told host.new) result }
+    ensures stands { OnOk result (HearsRest catalogue.now feed.now work.old work.new) }
     ensures through { OnOk result (IsThrough catalogue.now work.new.engine) }
     ensures accepted { IsAccepted catalogue.now }
     ensures quiet { BlamesWriting result (H.told host.old) (H.told host.new) }

@@ -2,18 +2,17 @@
 ghost use Rattle.std.specs.Prelude.{◌≡◌, ℕ, ◌-◌, ◌^◌, [], List, None, false, min, true, IsTrue, IfErr, IfOk, OnErr, OnOk, take};
 ghost use Rattle.semantics.specs.Histories.{Heard};
 ghost use Rattle.automaton.specs.NetworkLines.{HasLines};
-ghost use Rattle.chains.specs.Chains.{lines_of, order_of};
+ghost use Rattle.chains.specs.Chains.{lines_of};
 ghost use Rattle.chains.specs.Layouts.{IsLayoutOf};
 ghost use Rattle.cay_host.specs.Output.{SameButOutput};
 ghost use Rattle.prefix_merge.specs.Counts.{CountsPlain, CountsStates};
-ghost use Rattle.epoch_laws.specs.Standing.{closed_part};
-ghost use Rattle.epoch_engine.specs.Counts.{CountsAlive, stored_in};
+ghost use Rattle.epoch_engine.specs.Counts.{stored_in};
 ghost use Rattle.epoch_engine.specs.StandsFor as engines;
 ghost use Rattle.catalogue.specs.Catalogued.{judged_of};
 ghost use Rattle.catalogue.specs.Chained.{kinds_of_each};
 ghost use Rattle.catalogue.specs.Judgement.{program_of};
-ghost use Rattle.monitor.specs.Feeding.{BlamesWriting, Feeds, Finishes, StopsAtPiece};
-ghost use Rattle.monitor.specs.Sessions.{AreDeclared, KeepsQueries, StandsFor, TrimsEngine, WorksFor, program_in};
+ghost use Rattle.monitor.specs.Feeding.{BlamesWriting, BreaksAtPiece, Feeds, Finishes};
+ghost use Rattle.monitor.specs.Sessions.{AreDeclared, CountsWaiting, KeepsQueries, StandsFor, TrimsEngine, WorksFor, program_in};
 ghost use Rattle.monitor.specs.Standing.{IsPlanned, lines_over};
 
 use crate::counting::{hops_of, root_states};
@@ -124,7 +123,7 @@ impl Session {
     /// and no memory. Where a closing wanted memory, so that the engine isn't intact, it takes out none and
     /// counts all that are stored.
     pub fn live(&mut self) -> u64
-        ensures counted { (history : List Heard) → WorksFor self.old history → CountsAlive (lines_of (program_in self.old)) (order_of (program_in self.old)) (closed_part self.old.engine.time history) result }
+        ensures counted { CountsWaiting self.old result }
         ensures trimmed { IsTrue self.old.engine.intact → TrimsEngine self.old self.new }
         ensures same { self.old.engine.intact ≡ false → self.new ≡ self.old }
         ensures stored { self.old.engine.intact ≡ false → result ≡ min (stored_in self.old.engine) (2 ^ 64 - 1) }
@@ -150,7 +149,7 @@ impl Session {
     ) -> Result<(), SessionFault>
         requires { self.old.ended ≡ false }
         ensures fed { OnOk result ((past : List Heard) (text : List ℕ) → StandsFor self.old past text → Feeds self.old self.new past text piece.now (H.told host.old) (H.told host.new)) }
-        ensures broken { IfErr result (λ fault. (past : List Heard) (text : List ℕ) → StandsFor self.old past text → StopsAtPiece self.old past text piece.now (H.told host.old) (H.told host.new) fault) }
+        ensures broken { IfErr result (BreaksAtPiece self.old piece.now (H.told host.old) (H.told host.new)) }
         ensures going { OnOk result (self.new.ended ≡ false) }
         ensures ended { OnErr result (self.new.ended ≡ true) }
         ensures queries { KeepsQueries self.old self.new }

@@ -6,6 +6,7 @@ use Rattle.std.specs.Str.{bytes_eq}
 use Rattle.std.proofs.lemmas.Bool.{cases_Bool}
 use Rattle.std.proofs.lemmas.List.{append-nil, map-append}
 use Rattle.std.proofs.lemmas.Slice.Eq.{bytes_eq-Decides}
+use Rattle.semantics.proofs.ListLemmas.{filter-filter, map-cond}
 use Rattle.cel_grammar.specs.Trees.{Statement}
 use Rattle.catalogue.specs.Statements.{is_query, queries_in, reads_by}
 use Rattle.catalogue.proofs.PlaceLemmas.{queries-with}
@@ -14,16 +15,6 @@ use Rattle.std.proofs.lemmas.List.Folds.{list_any-append}
 use Rattle.cel_types.specs.Aggregates.{is_among}
 use Rattle.plan_text.specs.Parts.{with_name}
 use Rattle.plan_text.specs.Reads.{once, reads_once}
-
--- what passes one test and then another passes both
-filter-filter : {X : Type 0} (p q : X → Bool) (xs : List X) → filter p (filter q xs) ≡ filter (λ x. q x && p x) xs
-filter-filter p q [] = refl
-filter-filter {X} p q (x ∷ xs) =
-    let both : X → Bool = λ x. q x && p x in
-    elim (q x) as (λ b. filter p (cond b (x ∷ filter q xs) (filter q xs)) ≡ cond (b && p x) (x ∷ filter both xs) (filter both xs)) [
-      | true ↦ ap (λ ys. cond (p x) (x ∷ ys) ys) (filter-filter p q xs)
-      | false ↦ filter-filter p q xs
-    ]
 
 -- the name isn't among those
 abbrev is_new : List (List ℕ) → List ℕ → Bool
@@ -75,10 +66,6 @@ all-new (name ∷ names) = ap (λ xs. name ∷ xs) (all-new names)
 pub fold-with_name-once : (names : List (List ℕ)) → fold with_name [] names ≡ once names
 fold-with_name-once names = fold-with_name [] names ∙ all-new (once names)
 
-map-one : {X Y : Type 0} (f : X → Y) (b : Bool) (x : X) → map f (cond b (x ∷ []) []) ≡ cond b (f x ∷ []) []
-map-one f true x = refl
-map-one f false x = refl
-
 -- what the queries so far read, with what the statement reads
 pub reads_once-take : (statements : List Statement) (place : ℕ) (s : Statement) → slice_get statements place ≡ Some s
     → reads_once (take (place + 1) statements) ≡ reads_once (take place statements) ++ cond (is_query s) (once (reads_by s) ∷ []) []
@@ -86,4 +73,4 @@ reads_once-take statements place s there =
     let read : Statement → List (List ℕ) = λ query. once (reads_by query) in
     ap (map read) (queries-with statements place s there)
     ∙ map-append read (queries_in (take place statements)) (cond (is_query s) (s ∷ []) [])
-    ∙ ap (λ xs. reads_once (take place statements) ++ xs) (map-one read (is_query s) s)
+    ∙ ap (λ xs. reads_once (take place statements) ++ xs) (map-cond read (is_query s) s)

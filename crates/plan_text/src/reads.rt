@@ -1,6 +1,5 @@
 //! What the queries of a file read, each name once.
 ghost use Rattle.std.specs.Prelude.{◌≡◌, ◌++◌, ◌∷◌, [], IfOk, OnOk, map, if◌then◌else◌};
-ghost use Rattle.std.specs.List.{fold};
 ghost use Rattle.cel_grammar.specs.Views.{source_of, statement_of};
 ghost use Rattle.cel_types.specs.Aggregates.{is_among};
 ghost use Rattle.cel_types.specs.Statements.{read_names};
@@ -10,6 +9,7 @@ ghost use Rattle.plan_text.specs.Reads.{once, reads_once};
 
 use cel_grammar::{Source, Statement};
 use cel_parser::File;
+use cel_types::names_read;
 use event_types::{List, Memory, Names, Text};
 use std::alloc::Global;
 
@@ -44,36 +44,16 @@ fn add_statement(
     }
 }
 
-// The names that the source reads.
+// The names that the source reads, each once.
 fn reads_of(alloc: Global, source: &Source) -> Result<Names, Memory>
     ensures { IfOk result (λ names. names ≡ once (read_names (source_of source.now))) }
 {
+    let read = names_read(alloc, source)?;
     let mut names: Names = List::new(alloc);
-    add_source(alloc, source, &mut names)?;
-    Ok(names)
-}
-
-// Adds the names that the source reads and that aren't there yet.
-fn add_source(alloc: Global, source: &Source, names: &mut Names) -> Result<(), Memory>
-    ensures { OnOk result (names.new ≡ fold with_name names.old (read_names (source_of source.now))) }
-{
-    match source {
-        Source::Name(name) => add_name(alloc, name.as_str(), names),
-        Source::Filter(_, inner) => add_source(alloc, inner, names),
-        Source::Select(_, inner) => add_source(alloc, inner, names),
-        Source::Union(left, right) => {
-            add_source(alloc, left, names)?;
-            add_source(alloc, right, names)
-        }
-        Source::Next(_, left, right) => {
-            add_source(alloc, left, names)?;
-            add_source(alloc, right, names)
-        }
-        Source::Fold(_, _, _, left, right) => {
-            add_source(alloc, left, names)?;
-            add_source(alloc, right, names)
-        }
+    for name in read.as_slice() {
+        add_name(alloc, name.as_str(), &mut names)?;
     }
+    Ok(names)
 }
 
 // Adds the name, if it isn't there yet.

@@ -11,6 +11,7 @@ use Rattle.prefix_merge.proofs.EndingLemmas.{ends_none}
 
 -- some item passes where one is counted
 module _ {X : Type 0} (p : X → Bool) where
+  -- where an item passes, at least one counts
   pub any_counted : (xs : List X) → list_any p xs ≡ true → 1 ≤ count_by p xs
   any_counted [] has = absurd (let no : false ≡ true = has in cc)
   any_counted (x ∷ xs) has = go (any_counted xs) (p x) refl has
@@ -19,6 +20,7 @@ module _ {X : Type 0} (p : X → Bool) where
       go rest true is has = let counted = count-cons p x xs in let one : bit (p x) ≡ 1 = ap bit is in omega (arith, counted, one)
       go rest false is has = let counted = count-cons p x xs in let more = rest has in omega (arith, counted, more)
 
+  -- where none passes, none counts
   pub none_any : (xs : List X) → list_any p xs ≡ false → count_by p xs ≡ 0
   none_any [] none = refl
   none_any (x ∷ xs) none = go (none_any xs) (p x) refl none

@@ -14,9 +14,11 @@ module _ {X : Type 0} where
   pub first_in : (x : X) (xs : List X) → Contains (x ∷ xs) x
   first_in x xs = (0, omega arith, refl)
 
+  -- what is among later items is among all
   pub later_in : (x : X) (xs : List X) (y : X) → Contains xs y → Contains (x ∷ xs) y
   later_in x xs y has = (suc has.0, (let lt = has.1 in omega (arith, lt)), has.2)
 
+  -- what is among items is the first or among the later
   pub in_cases : (x : X) (xs : List X) (y : X) → Contains (x ∷ xs) y → (y ≡ x) ⊎ (Contains xs y)
   in_cases x xs y has = go has.0 has.1 has.2
     where
@@ -24,6 +26,7 @@ module _ {X : Type 0} where
       go zero lt is = inl (sym is)
       go (suc k) lt is = inr (k, omega (arith, lt), is)
 
+  -- nothing is among none
   pub none_in : (y : X) → Contains [] y → ⊥
   none_in y has = let lt = has.1 in absurd (omega (arith, lt))
 
@@ -63,6 +66,7 @@ module _ {X Y : Type 0} (f : X → List Y) where
       go rest (inl same) = Contains-append_left (f first) (flat_map f xs) y (subst (λ z. Contains (f z) y) same inner)
       go rest (inr later) = Contains-append_right (f first) (flat_map f xs) y (rest later inner)
 
+  -- what is among lists of items is in the list of one of them
   pub from_flat_map : (xs : List X) (y : Y) → Contains (flat_map f xs) y → (x : X) × Contains xs x × Contains (f x) y
   from_flat_map [] y has = absurd (none_in y has)
   from_flat_map (first ∷ xs) y has = go (from_flat_map xs y) (Contains-append_cases (f first) (flat_map f xs) y has)
@@ -72,6 +76,7 @@ module _ {X Y : Type 0} (f : X → List Y) where
       go rest (inr later) = let found = rest later in (found.0, later_in first xs found.0 found.1, found.2)
 
 module _ {X Y : Type 0} (f : X → Y) where
+  -- the image of an item is among the images
   pub in_map : (xs : List X) (x : X) → Contains xs x → Contains (map f xs) (f x)
   in_map [] x has = absurd (none_in x has)
   in_map (first ∷ xs) x has = go (in_map xs x) (in_cases first xs x has)
@@ -80,6 +85,7 @@ module _ {X Y : Type 0} (f : X → Y) where
       go rest (inl same) = subst (λ z. Contains (map f (first ∷ xs)) (f z)) (sym same) (first_in (f first) (map f xs))
       go rest (inr later) = later_in (f first) (map f xs) (f x) (rest later)
 
+  -- an image is that of an item
   pub from_map : (xs : List X) (y : Y) → Contains (map f xs) y → (x : X) × Contains xs x × (f x ≡ y)
   from_map [] y has = absurd (none_in y has)
   from_map (first ∷ xs) y has = go (from_map xs y) (in_cases (f first) (map f xs) y has)

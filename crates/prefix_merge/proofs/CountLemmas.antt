@@ -86,9 +86,11 @@ roots_count (Some state ∷ net) first places roots =
     let slots = count-cons (λ slot. is_some (root_in slot)) (Some state) net in omega (arith, rest, bits, prefixes, slots)
 
 module _ (net : Net) (lines : List Line) (merged : IsMerged net) (has : HasLines net lines) where
+  -- the numbers of the states
   abbrev pub numbers : List ℕ
   numbers = numbers_from net 0
 
+  -- their prefixes
   abbrev pub places : ℕ → Prefix
   places = has.1.places
 
@@ -96,6 +98,7 @@ module _ (net : Net) (lines : List Line) (merged : IsMerged net) (has : HasLines
   abbrev pub states : List Prefix
   states = map places numbers
 
+  -- a number of these is that of a state
   pub used_at : (number : ℕ) → Contains numbers number → is_used net number ≡ true
   used_at number has = let k = numbers_used net 0 number has in let e = k.1 in let e' : k.0 ≡ number = omega (arith, e) in subst (λ n. is_used net n ≡ true) e' k.2
 
@@ -130,6 +133,7 @@ module _ (net : Net) (lines : List Line) (merged : IsMerged net) (has : HasLines
           let there = subst (Contains numbers) e (used_number net 0 state.0 used) in
           subst (Contains states) (at_one net state.0 (places state.0) prefix (has.1.are_places state.0 used) state.1) (in_map places numbers state.0 there)
 
+  -- the prefixes of the states are those of the lines, each once
   pub states_distinct : ListPrefixes lines states
   states_distinct = record { apart = states_apart; same = states_same }
 

@@ -13,7 +13,8 @@ use Rattle.automaton.specs.Prefixes.{Prefix, Root, path}
 use Rattle.automaton.specs.States.{Net, ends_at, ends_in, is_used, state_at}
 use Rattle.automaton.proofs.ChangeLemmas.{nothing_there}
 use Rattle.automaton.proofs.CountLemmas.{bit, count-push, range_more, range-push}
-use Rattle.automaton.proofs.NumberLemmas.{are_same_or_not, is_other, is_same}
+use Rattle.event_types.proofs.NumberLemmas.{is_other, is_same}
+use Rattle.automaton.proofs.NumberLemmas.{are_same_or_not}
 use Rattle.automaton.proofs.PlaceLemmas.{path-ending}
 use Rattle.automaton.proofs.SlotLemmas.{at_kept, at_one, at_used, used_below}
 use Rattle.prefix_merge.specs.Growth.{end_of}
@@ -22,6 +23,7 @@ use Rattle.prefix_merge.proofs.StartLemmas.{HasGrown, stay_keeps}
 
 -- the prefixes of the states of a network
 module _ (net : Net) (is : IsNetwork net) where
+  -- the prefix of a state, where there is one
   abbrev pub place_of : (number : ℕ) (b : Bool) → is_used net number ≡ b → Prefix
   place_of number true used = (is.places number used).0
   place_of number false free = Root 0
@@ -30,9 +32,11 @@ module _ (net : Net) (is : IsNetwork net) where
   place_is number true used so = (is.places number used).1
   place_is number false free so = cc
 
+  -- the prefix at each number
   abbrev pub places_of : ℕ → Prefix
   places_of number = place_of number (is_used net number) refl
 
+  -- which are the places of the network
   pub are_places_of : ArePlaces net places_of
   are_places_of number used = place_is number (is_used net number) refl used
 
@@ -40,6 +44,7 @@ module _ (net : Net) (is : IsNetwork net) where
 pub ends_none : (net : Net) (number : ℕ) → is_used net number ≡ false → ends_at net number ≡ []
 ends_none net number free = ap ends_in (nothing_there (state_at net number) free)
 
+-- past the last place there are no ends
 pub ends_past : (net : Net) (number : ℕ) → length net ≤ number → ends_at net number ≡ []
 ends_past net number past = ap ends_in (get_or_past net number _ past)
 

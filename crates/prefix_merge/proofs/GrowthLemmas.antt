@@ -49,6 +49,7 @@ used_still net grown keeps kind ends prefix use' = record {
 pub record IsGrowing (old base : Net) (prefix : Prefix) (tip : ℕ) (net : Net) : Type 0 where
   pub network : IsNetwork net
   pub here : IsAt net tip prefix
+  -- two states of one prefix are one
   pub apart : (number other : ℕ) (p : Prefix) → IsAt net number p → IsAt net other p → number ≡ other
   pub needed : (number : ℕ) (p : Prefix) → IsAt net number p → (IsUsedBy net any_end p) ⊎ (Contains (beginnings prefix) p)
   pub stay : (number : ℕ) → IsTrue (is_used old number) → entry_at net number ≡ entry_at old number
@@ -60,21 +61,26 @@ pub record IsGrowing (old base : Net) (prefix : Prefix) (tip : ℕ) (net : Net) 
 
 -- a state that wasn't there comes
 module _ (net grown : Net) (number : ℕ) (is : IsNetwork net) (free : is_used net number ≡ false) (entries : (other : ℕ) → (other ≡ number → ⊥) → entry_at grown other ≡ entry_at net other) where
+  -- no state stands behind the new one
   pub not_before : (next : ℕ) → before_at net next ≡ Some number → ⊥
   not_before next from = not_both net number (before_used net is next number from) free
 
+  -- each other state had its prefix before
   pub back : (other : ℕ) (p : Prefix) → (other ≡ number → ⊥) → IsAt grown other p → IsAt net other p
   back other (Root stream) ne here = ap (option_and_then root_by) (sym (entries other ne)) ∙ here
   back other (After p hop) ne here =
       let same = sym (entries other ne) ∙ here.1 in
       (here.0, same, back here.0 p (λ e. not_before other (ap (option_and_then before_by) same ∙ ap (λ n. Some n) e)) here.2)
 
+  -- growth keeps the entries
   pub forth : KeepsEntries net grown
   forth = free_kept net grown number free entries
 
+  -- each other state was there before
   pub used_back : (other : ℕ) → (other ≡ number → ⊥) → is_used grown other ≡ true → is_used net other ≡ true
   used_back other ne used = sym (entry_there (state_at net other)) ∙ ap is_some (sym (entries other ne)) ∙ entry_there (state_at grown other) ∙ used
 
+  -- each state of before is there
   pub used_forth : (other : ℕ) → is_used net other ≡ true → is_used grown other ≡ true
   used_forth other used =
       let ne : other ≡ number → ⊥ = λ e. not_both net other used (ap (is_used net) e ∙ free) in
@@ -200,6 +206,7 @@ module _ (old base : Net) (prefix : Prefix) (tip number : ℕ) (hop : Hop) (net 
       let was : is_used net n ≡ true = sym (entry_there (state_at net n)) ∙ ap is_some (growing.stay n used) ∙ entry_there (state_at old n) ∙ used in
       entries n (λ e. not_both net n was (ap (is_used net) e ∙ lowest.free)) ∙ growing.stay n used
 
+  -- a network grows by a hop
   pub hop_growing : IsGrowing old base (After prefix hop) number grown
   hop_growing = record {
     network = adds_hop_network number tip hop net grown lowest.free tip_used adds growing.network;

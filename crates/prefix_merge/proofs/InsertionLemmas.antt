@@ -14,7 +14,8 @@ use Rattle.automaton.specs.Networks.{IsAt, IsNetwork}
 use Rattle.automaton.specs.Prefixes.{Prefix, Root, extended, path}
 use Rattle.automaton.specs.States.{Net, before_by, is_used, root_at, root_in}
 use Rattle.automaton.proofs.ChangeLemmas.{free_reads}
-use Rattle.automaton.proofs.NumberLemmas.{are_same_or_not, is_other, is_same}
+use Rattle.event_types.proofs.NumberLemmas.{is_other, is_same}
+use Rattle.automaton.proofs.NumberLemmas.{are_same_or_not}
 use Rattle.automaton.proofs.RootLemmas.{whole_none}
 use Rattle.automaton.proofs.SlotLemmas.{at_used}
 use Rattle.prefix_merge.specs.Growth.{AreUsedBelow, Grows, IsTable, Keeps, Reaches, end_of}
@@ -92,6 +93,7 @@ module _ {S : Type 0} (table more : HashMap ℕ ℕ S) (old base : Net) (stream 
   not_free : (q : ℕ) → root_at old number ≡ Some q → ⊥
   not_free q has = let none : root_at old number ≡ None = free_reads old base number free root_in in cc
 
+  -- the table with the new root tells the roots of the grown network
   pub table_more : IsTable more base
   table_more q n = by_stream (are_same_or_not stream q) (are_same_or_not n number)
     where

@@ -50,6 +50,7 @@ module _ (net : Net) (endings : List Ending) (merged : IsMerged net) (had : HasE
       (in_flat_map (λ number. map (ending_at (had.places number)) (ends_at net number)) (range_with_len 0 (length net)) number (ending_at (had.places number) end) inside
       (in_map (ending_at (had.places number)) (ends_at net number) end has))
 
+  -- the states are those of the prefixes of the lines
   pub states_are : (prefix : Prefix) → HasPrefix net prefix ↔ Contains (prefixes lines) prefix
   states_are prefix = (fore, back)
     where

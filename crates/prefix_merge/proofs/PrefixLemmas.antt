@@ -38,9 +38,11 @@ begins_itself (After prefix hop) = last_item (beginnings prefix) (After prefix h
 pub begins_before : (prefix : Prefix) (hop : Hop) (first : Prefix) → Contains (beginnings prefix) first → Contains (beginnings (After prefix hop)) first
 begins_before prefix hop first = Contains-append_left (beginnings prefix) (After prefix hop ∷ []) first
 
+-- a beginning of a longer prefix is one of the shorter, or it itself
 pub begins_cases : (prefix : Prefix) (hop : Hop) (first : Prefix) → Contains (beginnings (After prefix hop)) first → (Contains (beginnings prefix) first) ⊎ (first ≡ After prefix hop)
 begins_cases prefix hop first has = elim (Contains-append_cases (beginnings prefix) (After prefix hop ∷ []) first has) [ inl before ↦ inl before | inr last ↦ inr (only_item (After prefix hop) first last) ]
 
+-- the beginning of a root is the root
 pub begins_root : (stream : ℕ) (first : Prefix) → Contains (beginnings (Root stream)) first → first ≡ Root stream
 begins_root stream first = only_item (Root stream) first
 

@@ -12,7 +12,8 @@ use Rattle.automaton.specs.Networks.{IsAt, IsNetwork}
 use Rattle.automaton.specs.Prefixes.{Prefix, Root, After, beginnings}
 use Rattle.automaton.specs.States.{Net, before_at, before_by, edges_at, ends_at, ends_in, entry_at, is_used, root_at, root_by, root_in, state_at, tells}
 use Rattle.automaton.proofs.ClearedLemmas.{before_used, edge_leads, left_at, left_entry, left_reads, none_entered, removes_state_network, told_not, waiting_before}
-use Rattle.automaton.proofs.NumberLemmas.{are_same_or_not, is_same}
+use Rattle.event_types.proofs.NumberLemmas.{is_same}
+use Rattle.automaton.proofs.NumberLemmas.{are_same_or_not}
 use Rattle.automaton.proofs.SlotLemmas.{at_used, entry_there}
 use Rattle.prefix_merge.specs.Growth.{IsTable}
 use Rattle.prefix_merge.specs.Merging.{IsUsedBy}
@@ -51,6 +52,7 @@ some_end : (ends : List End) → (ends ≡ [] → ⊥) → IsTrue (list_any any_
 some_end [] some = absurd (some refl)
 some_end (end ∷ ends) some = refl
 
+-- where there are no ends, none counts
 pub no_end : (ends : List End) → ends ≡ [] → IsTrue (list_any any_end ends) → ⊥
 no_end ends none has = let no : false ≡ true = sym (ap (list_any any_end) none) ∙ has in cc
 
@@ -60,6 +62,7 @@ module _ (whole : Net) (prefix : Prefix) (tip : ℕ) (net : Net) (pruning : IsPr
   used_at_tip has p (inl use') = use'
   used_at_tip has p (inr begins) = record { last = tip; whole = prefix; here = pruning.here; ends = has; begins = begins }
 
+  -- a state that has an end stays
   pub ends_wanted : (ends_at net tip ≡ [] → ⊥) → IsPruned whole net
   ends_wanted some = record {
     left = pruning.left;
@@ -77,6 +80,7 @@ module _ (whole : Net) (prefix : Prefix) (tip : ℕ) (net : Net) (pruning : IsPr
     begins = begins_through use'.whole (After prefix hop) p use'.begins (begins_before prefix hop p begins);
   }
 
+  -- a state that has an edge stays
   pub edges_wanted : (edges_at net tip ≡ [] → ⊥) → IsPruned whole net
   edges_wanted some = go (edges_at net tip) refl
     where
@@ -103,6 +107,7 @@ module _ (whole : Net) (prefix : Prefix) (tip : ℕ) (net : Net) (pruning : IsPr
     entry_left : (number : ℕ) → (number ≡ tip → ⊥) → entry_at left number ≡ entry_at net number
     entry_left = left_entry tip net left removes no_edges pruning.left.network
 
+    -- each state that is left had its prefix before
     pub at_before : (number : ℕ) (p : Prefix) → IsAt left number p → IsAt net number p
     at_before number (Root stream) here = ap (option_and_then root_by) (sym (entry_left number (not_tip number (at_used left number (Root stream) here)))) ∙ here
     at_before number (After p hop) here =
@@ -119,6 +124,7 @@ module _ (whole : Net) (prefix : Prefix) (tip : ℕ) (net : Net) (pruning : IsPr
         by_number (inl same) = ap (ends_at left) same ∙ ap ends_in removes.here ∙ sym no_ends ∙ ap (ends_at net) (sym same)
         by_number (inr ne) = left_reads tip net left removes no_edges pruning.left.network ends_in ends_cut number ne
 
+    -- what is left has the prefixes that are wanted
     pub still_left : IsLeft whole left
     still_left = record {
       network = removes_state_network tip net left removes no_edges pruning.left.network;
@@ -215,6 +221,7 @@ module _ {S : Type 0} (table less : HashMap ℕ ℕ S) (net left : Net) (tip : �
   root_gone : root_at left tip ≡ None
   root_gone = ap root_in removes.here
 
+  -- the table without the stream tells the roots that are left
   pub table_less : IsTable less left
   table_less other number = (fore, back)
     where

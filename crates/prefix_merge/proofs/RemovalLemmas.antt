@@ -15,7 +15,8 @@ use Rattle.automaton.specs.Prefixes.{Prefix, beginnings}
 use Rattle.automaton.specs.States.{Net, ends_at, ends_in, entry_at, entry_in, is_used, root_at, root_by, state_at}
 use Rattle.automaton.proofs.ChangeLemmas.{gone_entry, reads_alike, removes_end_network}
 use Rattle.automaton.proofs.CountLemmas.{bit, count-cons}
-use Rattle.automaton.proofs.NumberLemmas.{are_same_or_not, is_other, same_number}
+use Rattle.event_types.proofs.NumberLemmas.{is_other, same_number}
+use Rattle.automaton.proofs.NumberLemmas.{are_same_or_not}
 use Rattle.automaton.proofs.SlotLemmas.{KeepsEntries, at_kept, at_one, at_used, entry_there}
 use Rattle.prefix_merge.specs.Growth.{AreUsedBelow, IsTable}
 use Rattle.prefix_merge.specs.Merging.{HasEnd, HasOwnNumbers, IsMerged, IsUsedBy, ends_numbered}
@@ -92,6 +93,7 @@ module _ (old middle : Net) (state end : ℕ) (network : IsNetwork old) (merged 
   middle_entry : (number : ℕ) → entry_at middle number ≡ entry_at old number
   middle_entry = reads_alike entry_in old middle state (ap entry_in removes.here ∙ gone_entry end (state_at old state)) removes.others
 
+  -- without the end the states are the same
   pub middle_used : (number : ℕ) → is_used middle number ≡ is_used old number
   middle_used number = sym (entry_there (state_at middle number)) ∙ ap is_some (middle_entry number) ∙ entry_there (state_at old number)
 
@@ -110,6 +112,7 @@ module _ (old middle : Net) (state end : ℕ) (network : IsNetwork old) (merged 
       by_number (inl same) = ap (ends_at middle) same ∙ ap ends_in removes.here ∙ ends_without (state_at old state) ∙ ap (λ n. without_numbered end (ends_at old n)) (sym same)
       by_number (inr ne) = ap ends_in (removes.others number ne) ∙ sym (none_numbered end (ends_at old number) (zero_else (ends_numbered old end number) refl ne))
 
+  -- the end stands at a state
   pub state_used : is_used old state ≡ true
   state_used = by_use (is_used old state) refl
     where
@@ -123,6 +126,7 @@ module _ (old middle : Net) (state end : ℕ) (network : IsNetwork old) (merged 
   off : KeepsEntries middle old
   off number e is = sym (middle_entry number) ∙ is
 
+  -- pruning begins at that state
   pub end_pruning : (prefix : Prefix) → IsAt old state prefix → IsPruning middle prefix state middle
   end_pruning prefix here = record {
     left = record { network = removes_end_network state end old middle removes network; stay = λ number used. refl; ends = λ number. refl; places = refl };
@@ -204,6 +208,7 @@ module _ (old middle : Net) (state end : ℕ) (network : IsNetwork old) (merged 
       λ (some : (HasEnd old other) × (other ≢ end)). (some.0.0, subst (λ n. 1 ≤ n) (sym (numbered_same some.0.0 other some.1)) some.0.1),
     )
 
+    -- the other lines keep their own numbers
     pub numbers_kept : HasOwnNumbers new
     numbers_kept = record {
       one = λ number at_state. elim (are_same_or_not number end) [
@@ -244,5 +249,6 @@ module _ (old middle : Net) (state end : ℕ) (network : IsNetwork old) (merged 
       let same : root_at middle number ≡ root_at old number = ap (option_and_then root_by) (middle_entry number) in
       ((λ found. same ∙ (is stream number).0 found), λ root. (is stream number).1 (sym same ∙ root))
 
+  -- the states stay below a bound
   pub middle_below : (bound : ℕ) → AreUsedBelow old bound → AreUsedBelow middle bound
   middle_below bound below number lt = middle_used number ∙ below number lt

@@ -98,6 +98,7 @@ module _ (old base : Net) (number stream : ℕ) (network : IsNetwork old) (merge
   pub none_from_root : (next : ℕ) → before_at base next ≡ Some number → ⊥
   none_from_root next from = not_before old base number network lowest.free entries next (sym (root_befores next) ∙ from)
 
+  -- a network grows from a root
   pub root_growing : IsGrowing old base (Root stream) number base
   root_growing = record {
     network = adds_root_network number stream old base lowest.free adds network;
@@ -126,6 +127,7 @@ pub record HasGrown (old base : Net) (whole : Prefix) (end : End) (new : Net) : 
   pub last : ℕ
   pub here : IsAt new last whole
   pub more : ends_at new last ≡ ends_at old last ++ end ∷ []
+  -- each other state has the same ends
   pub others : (number : ℕ) → (number ≡ last → ⊥) → ends_at new number ≡ ends_at old number
   pub longer : length old ≤ length new
 
@@ -178,6 +180,7 @@ module _ (old base : Net) (whole : Prefix) (last : ℕ) (end : End) (net new : N
   stays : (number : ℕ) → IsTrue (is_used old number) → entry_at new number ≡ entry_at old number
   stays number used = same_entries number ∙ growing.stay number used
 
+  -- behind all hops the network has grown by the line
   pub end_grown : HasGrown old base whole end new
   end_grown = record {
     network = adds_end_network last end net new adds growing.network;

@@ -10,7 +10,8 @@ use Rattle.automaton.specs.Networks.{IsNetwork}
 use Rattle.automaton.specs.States.{Net, before_at, before_in, edges_at, edges_in, is_used, state_at, tells}
 use Rattle.automaton.proofs.ChangeLemmas.{free_reads, nothing_there}
 use Rattle.automaton.proofs.CountLemmas.{bit, count-cons}
-use Rattle.automaton.proofs.NumberLemmas.{are_same_or_not, is_other, is_same}
+use Rattle.event_types.proofs.NumberLemmas.{is_other, is_same}
+use Rattle.automaton.proofs.NumberLemmas.{are_same_or_not}
 
 -- a number that doesn't stand there isn't missed
 pub none_without : (number : ℕ) (numbers : List ℕ) → count_by (λ n. n == number) numbers ≡ 0 → without_number number numbers ≡ numbers

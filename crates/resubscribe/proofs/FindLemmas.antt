@@ -26,6 +26,7 @@ found-cons p a n None fails rest = λ k low high. elim (cases_eq a k) [ inl same
 found-cons p a n (Some q) fails (low, high, passes, none) =
     (omega arith, omega arith, passes, λ k more less. elim (cases_eq a k) [ inl same ↦ ap p (sym same) ∙ fails | inr other ↦ none k (omega arith) less ])
 
+-- what `find` gives over a range is the first number there that passes
 pub found : (p : ℕ → Bool) (a n : ℕ) → IsFirstFrom p a (a + n) (find p (range_with_len a n))
 found p a zero = λ k low high. absurd (omega arith)
 found p a (suc n) = elim (cases_Bool (p a)) [

@@ -79,6 +79,7 @@ after reads taken (x ∷ xs) h zero within =
 after reads taken (x ∷ xs) h (suc i) within =
     subst (λ (zs : List ℕ). All (Contains zs) (reads_of reads (get_or xs i 0))) (append_assoc taken (x ∷ []) (take i xs)) (after reads (taken ++ x ∷ []) xs h.1 i (omega arith))
 
+-- in an order each query stands after all that it reads
 pub StandsAfterReads-order : (reads : List (List ℕ)) (order : List ℕ) → IsOrder reads order → StandsAfterReads reads order
 StandsAfterReads-order reads order is_order = after reads [] order is_order.taken
 

@@ -1,27 +1,24 @@
 -- One more query is taken.
-use Rattle.std.proofs.Common.{◌≡◌, ◌≢◌, ◌∙◌, ℕ, ◌+◌, ◌<◌, ◌≤◌, List, [], ◌∷◌, ◌++◌, Bool, true, false, not, ◌&&◌, ◌||◌, min, length, get_or, refl, sym, ap, inl, inr, arith, append_assoc, append-nil}
+use Rattle.std.proofs.Common.{◌≡◌, ◌≢◌, ◌∙◌, ℕ, ◌+◌, ◌<◌, ◌≤◌, List, [], ◌∷◌, ◌++◌, true, false, not, ◌&&◌, min, length, get_or, refl, sym, ap, inl, inr, arith, append_assoc, append-nil}
 use Rattle.std.specs.Prelude.{◌==◌, Some}
 use Rattle.std.specs.List.{list_all}
-use Rattle.std.proofs.lemmas.Bool.{cases_Bool, cases_eq}
+use Rattle.std.proofs.lemmas.Bool.{cases_Bool, cases_eq, or_parts}
 use Rattle.resubscribe.specs.Order.{Takes, first_ready, is_among, is_ready, is_untaken, reads_of}
 use Rattle.resubscribe.specs.Readers.{AreBefore}
-use Rattle.resubscribe.proofs.AmongLemmas.{among-other, among-pushed, eq_self}
+use Rattle.resubscribe.proofs.AmongLemmas.{among-other, among-pushed}
+use Rattle.event_types.proofs.NumberLemmas.{self_equal}
 
 -- one more query is taken after others
 pub Takes-push : (reads : List (List ℕ)) (taken xs : List ℕ) (q : ℕ) → Takes reads taken xs → first_ready reads (taken ++ xs) ≡ Some q → Takes reads taken (xs ++ q ∷ [])
 Takes-push reads taken [] q takes next = (ap (first_ready reads) (sym (append-nil taken)) ∙ next, tt)
 Takes-push reads taken (x ∷ xs) q takes next = (takes.0, Takes-push reads (taken ++ x ∷ []) xs q takes.1 (ap (first_ready reads) (append_assoc taken (x ∷ []) xs) ∙ next))
 
-pub or_false_parts : (a b : Bool) → (a || b) ≡ false → (a ≡ false) × (b ≡ false)
-or_false_parts true b e = cc
-or_false_parts false b e = (refl, e)
-
 -- numbers without the new one are all taken exactly where they were
 all-other : (taken xs : List ℕ) (q : ℕ) → is_among xs q ≡ false → list_all (is_among (taken ++ q ∷ [])) xs ≡ list_all (is_among taken) xs
 all-other taken [] q absent = refl
 all-other taken (x ∷ xs) q absent =
-    let parts : ((q == x) ≡ false) × (is_among xs q ≡ false) = or_false_parts (q == x) (is_among xs q) absent in
-    let other : x ≢ q = λ same. let e : (q == x) ≡ true = ap (λ k. q == k) same ∙ eq_self q in cc in
+    let parts : ((q == x) ≡ false) × (is_among xs q ≡ false) = or_parts (q == x) (is_among xs q) absent in
+    let other : x ≢ q = λ same. let e : (q == x) ≡ true = ap (λ k. q == k) same ∙ self_equal q in cc in
     ap (λ b. b && list_all (is_among (taken ++ q ∷ [])) xs) (among-other taken q x other) ∙ ap (λ b. is_among taken x && b) (all-other taken xs q parts.1)
 
 -- a query that doesn't read the new one is ready exactly where it was

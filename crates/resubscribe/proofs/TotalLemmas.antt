@@ -11,17 +11,18 @@ use Rattle.std.proofs.lemmas.Map.Steps.{length-le_from_distinct_below}
 use Rattle.resubscribe.specs.Cycle.{IsCycle, Walks, untaken_read}
 use Rattle.resubscribe.specs.Laws.{SomeOutcome}
 use Rattle.resubscribe.specs.Order.{IsOrder, Takes, first_ready, first_untaken, is_among, is_untaken, reads_of}
-use Rattle.resubscribe.proofs.AmongLemmas.{Contains-from_among, apart, eq_apart}
+use Rattle.resubscribe.proofs.AmongLemmas.{Contains-from_among, apart}
 use Rattle.resubscribe.proofs.CycleLemmas.{find-Contains}
 use Rattle.resubscribe.proofs.FindLemmas.{found_below}
 use Rattle.resubscribe.proofs.OrderLemmas.{ready_parts}
 use Rattle.resubscribe.proofs.TakeLemmas.{Takes-push}
 use Rattle.resubscribe.proofs.WalkLemmas.{IsCycle-from_walk, Walks-push, front-push, some_untaken}
+use Rattle.event_types.proofs.NumberLemmas.{is_other}
 
 -- distinct numbers below a size are at most as many
 few : (xs : List ℕ) (n : ℕ) → AllPairs (λ x y. x ≢ y) xs → All (λ x. x < n) xs → length xs ≤ n
 few xs n distinct small =
-    length-le_from_distinct_below xs n (IsDistinct-from_apart ◌==◌ xs (λ i j d before within. eq_apart (get_or xs i d) (get_or xs j d) (distinct i j d before within)))
+    length-le_from_distinct_below xs n (IsDistinct-from_apart ◌==◌ xs (λ i j d before within. is_other (get_or xs i d) (get_or xs j d) (distinct i j d before within)))
     (λ q among. All-contains (λ x. x < n) xs q small (Contains-from_among xs q among))
 
 -- what is taken until no query is ready

@@ -7,8 +7,8 @@ use Rattle.std.proofs.lemmas.List.Elements.{All-from_get_or}
 use Rattle.std.proofs.lemmas.List.Sums.{list_all-from_AllPass}
 use Rattle.resubscribe.specs.Cycle.{IsCycle, Walks, untaken_read}
 use Rattle.resubscribe.specs.Order.{Takes, first_ready, first_untaken, is_among, is_ready, is_untaken, reads_of}
-use Rattle.resubscribe.proofs.AmongLemmas.{eq_same}
 use Rattle.resubscribe.proofs.FindLemmas.{found_below}
+use Rattle.event_types.proofs.NumberLemmas.{same_number}
 
 -- one more query of the walk
 pub Walks-push : (reads : List (List ℕ)) (taken xs : List ℕ) (q n : ℕ) → Walks reads taken (xs ++ q ∷ []) → untaken_read reads taken q ≡ Some n → Walks reads taken ((xs ++ q ∷ []) ++ n ∷ [])
@@ -44,10 +44,11 @@ pub record CutAt (xs : List ℕ) (q : ℕ) : Type 0 where
   pub whole : xs ≡ before ++ q ∷ between
   pub rest : drop (position_or_len (λ other. q == other) xs) xs ≡ q ∷ between
 
+-- numbers can be cut at one that is among them
 pub cut_at : (xs : List ℕ) (q : ℕ) → is_among xs q ≡ true → CutAt xs q
 cut_at [] q there = cc
 cut_at (x ∷ xs) q there = elim (cases_Bool (q == x)) [
-  | inl here ↦ let same : q ≡ x = eq_same q x here in record {
+  | inl here ↦ let same : q ≡ x = same_number q x here in record {
     before = [];
     between = xs;
     whole = ap (λ y. y ∷ xs) (sym same);

@@ -7,9 +7,11 @@ use Rattle.std.proofs.lemmas.List.Elements.{filter-append}
 use Rattle.std.proofs.lemmas.List.Sorted.{list_any-IsPermutation, IsPermutation-refl, IsPermutation-trans, IsPermutation-append_left, IsPermutation-append_right, IsPermutation-append_comm, IsPermutation-keeps}
 
 module _ {X : Type 0} where
+  -- a list that equals one of these is a permutation too
   pub permuted_from : {xs ys zs : List X} → xs ≡ ys → IsPermutation ys zs → IsPermutation xs zs
   permuted_from {xs} {ys} {zs} e h = subst (λ ws. IsPermutation ws zs) (sym e) h
 
+  -- so is a list that equals the other
   pub permuted_to : {xs ys zs : List X} → IsPermutation xs ys → ys ≡ zs → IsPermutation xs zs
   permuted_to {xs} {ys} {zs} h e = subst (λ ws. IsPermutation xs ws) e h
 
@@ -82,5 +84,6 @@ module _ {X : Type 0} (p : X → Bool) where
       go rest true = rest
       go rest false = refl
 
+  -- a permutation doesn't change whether all pass a test
   pub list_all_permuted : (xs ys : List X) → IsPermutation xs ys → list_all p xs ≡ list_all p ys
   list_all_permuted xs ys h = list_all-any xs ∙ ap not (list_any-IsPermutation (λ x. not (p x)) xs ys h) ∙ sym (list_all-any ys)

@@ -16,6 +16,7 @@ module _ {X Y : Type 0} (f : X → Y) where
         | false ↦ ap (λ ys. f k ∷ ys) (map-dedup same x xs)
       ]
 
+  -- the images of what differs by its images are what differs among the images
   pub map-dedup_all : (same : Y → Y → Bool) (xs : List X) → map f (dedup (λ x y. same (f x) (f y)) xs) ≡ dedup same (map f xs)
   map-dedup_all same [] = refl
   map-dedup_all same (x ∷ xs) = map-dedup same x xs

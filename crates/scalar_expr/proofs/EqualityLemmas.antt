@@ -12,6 +12,7 @@ use Rattle.scalar_expr.proofs.CanonicalLaws.{tied}
 
 -- items of a total order tie where they are one
 module _ {X : Type 0} (R : X → X → Ordering) (total : IsTotalOrder R) (exact : CmpEqualImpliesEq R) where
+  -- two tie exactly where they are one
   pub ties_decide : (x y : X) → Decides (eq_by_cmp R x y) (x ≡ y)
   ties_decide x y = (λ e. tied R exact x y e, λ e. ap (λ z. is_eq (R x z)) (sym e) ∙ ap is_eq (tied_itself total x))
 

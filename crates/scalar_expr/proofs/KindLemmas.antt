@@ -13,6 +13,7 @@ at_place [] place k e = cc
 at_place (first ∷ kinds) zero k e = (omega arith, cc)
 at_place (first ∷ kinds) (suc place) k e = let more = at_place kinds place k e in (omega (arith, more.0), more.1)
 
+-- a scalar of a kind reads places that are there, and its kind is that one
 pub typed_has_its_kind : (s : Sc) (event : List Kind) (binding : Option (List Kind)) (k : Kind) → IsOfKind s event binding k → HasPlace s event binding × (sc_kind s event binding ≡ k)
 typed_has_its_kind (Lit v) event binding k h = (tt, h)
 typed_has_its_kind (Event place) event binding k h = at_place event place k h

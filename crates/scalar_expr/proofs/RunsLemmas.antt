@@ -1,5 +1,5 @@
 -- The runs from a binding end.
-use Rattle.std.proofs.Common.{◌≡◌, ◌∙◌, sym, ap, refl, ℕ, zero, suc, ◌+◌, ◌<◌, ◌≤◌, false, ◌&&◌, cond, nat_lt, length, List, [], ◌∷◌, ◌++◌, arith}
+use Rattle.std.proofs.Common.{◌≡◌, ◌∙◌, sym, ap, refl, ℕ, zero, suc, ◌+◌, ◌<◌, ◌≤◌, false, ◌&&◌, cond, nat_lt, length, List, [], ◌∷◌, arith}
 use Rattle.std.specs.Prelude.{Some}
 use Rattle.std.specs.List.{All, filter, flat_map}
 use Rattle.std.proofs.lemmas.Bool.Decides.{nat_tests}
@@ -10,13 +10,14 @@ use Rattle.semantics.specs.Truth.{all_true}
 use Rattle.semantics.specs.Nexts.{earliest, is_eligible, nexts}
 use Rattle.semantics.specs.Runs.{goers, rebound, runs, runs_within}
 use Rattle.scalar_expr.proofs.NextsLemmas.{nexts_keep, nexts_start_later}
+use Rattle.semantics.proofs.ReportLemmas.{flat_map_same}
 
 -- the new binding, and the runs from it of at most n events
 abbrev branch : ℕ → List Pr → List Pr → List Sc → List Row → Row → Row → List Row
 branch n p q m rs b r = rebound m b r ∷ runs_within n p q m rs (rebound m b r)
 
 -- each goer starts after the binding was detected
-goers_start_later : (p q : List Pr) (rs : List Row) (b : Row) → All (λ r. b.at < r.from) (goers p q rs b)
+pub goers_start_later : (p q : List Pr) (rs : List Row) (b : Row) → All (λ r. b.at < r.from) (goers p q rs b)
 goers_start_later p q rs b = All-filter (λ r. all_true q r (Some b)) (λ r. b.at < r.from) (nexts p b rs) (nexts_start_later p b rs)
 
 -- 1 where a tuple that starts at the second time starts after the first
@@ -47,6 +48,7 @@ count_falls : (s t : ℕ) → s ≤ t → (rs : List Row) → count t rs ≤ cou
 count_falls s t h [] = omega arith
 count_falls s t h (r ∷ rs) = omega (arith, after_falls s t r.from h, count_falls s t h rs)
 
+-- at most all are counted
 pub count_most : (s : ℕ) (rs : List Row) → count s rs ≤ length rs
 count_most s [] = omega arith
 count_most s (r ∷ rs) = omega (arith, after_most s r.from, count_most s rs)
@@ -55,6 +57,7 @@ count_most s (r ∷ rs) = omega (arith, after_most s r.from, count_most s rs)
 abbrev pub Fewer : ℕ → List Row → Row → Type 0
 Fewer time rs r = IsSound r × (time < r.from → count r.at rs < count time rs)
 
+-- among sound tuples fewer start behind one that starts after a time than behind that time
 pub fewer : (time : ℕ) (rs : List Row) → All IsSound rs → All (Fewer time rs) rs
 fewer time [] all = All-nil (Fewer time [])
 fewer time (x ∷ rs) all =
@@ -72,13 +75,6 @@ none_after p b [] h = refl
 none_after p b (r ∷ rs) h =
     let no : nat_lt b.at r.from ≡ false = not_after b.at r.from (omega arith) in
     ap (λ t. cond (t && all_true p r (Some b)) (r ∷ filter (is_eligible p b) rs) (filter (is_eligible p b) rs)) no ∙ none_after p b rs (omega arith)
-
-pub flat_map_same : {X Y : Type 0} (f g : X → List Y) (xs : List X) → All (λ x. f x ≡ g x) xs → flat_map f xs ≡ flat_map g xs
-flat_map_same f g [] all = refl
-flat_map_same f g (x ∷ xs) all =
-    let one = All-head (λ x. f x ≡ g x) x xs all in
-    let more = flat_map_same f g xs (All-tail (λ x. f x ≡ g x) x xs all) in
-    λ i. one i ++ more i
 
 no_runs : (n : ℕ) (p q : List Pr) (m : List Sc) (rs : List Row) (b : Row) → count b.at rs ≤ 0 → runs_within n p q m rs b ≡ []
 no_runs zero p q m rs b h = refl

@@ -55,5 +55,6 @@ module _ {X : Type 0} (R : X → X → Ordering) (total : IsTotalOrder R) where
       let e : suc (k + 1) ≡ suc k + 1 = omega arith in
       subst (λ (n : ℕ). is_lt (R (get_or (x ∷ xs) n d) (get_or xs k d)) ≡ false) e (rises_sorted xs up.1 k d (omega arith) (omega arith))
 
+  -- what is sorted is in order
   pub sort_sorted : (xs : List X) → IsSorted R (sort_by R xs)
   sort_sorted xs = rises_sorted (sort_by R xs) (sort_rises xs)

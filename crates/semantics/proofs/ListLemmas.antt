@@ -1,7 +1,7 @@
--- Filters of filters and of maps.
-use Rattle.std.proofs.Common.{◌≡◌, ◌∙◌, sym, ap, refl, Bool, true, false, ◌&&◌, cond, List, [], ◌∷◌, map}
-use Rattle.std.specs.List.{filter}
-use Rattle.std.proofs.lemmas.List.Elements.{filter_agree}
+-- Filters of filters and of maps, and what holds of all items.
+use Rattle.std.proofs.Common.{◌≡◌, ◌∙◌, sym, ap, refl, Bool, true, false, ◌&&◌, cond, List, [], ◌∷◌, ◌++◌, map}
+use Rattle.std.specs.List.{All, filter}
+use Rattle.std.proofs.lemmas.List.Elements.{filter_agree, All-nil, All-cons, All-head, All-tail}
 
 and_comm : (x y : Bool) → (x && y) ≡ (y && x)
 and_comm true true = refl
@@ -9,7 +9,8 @@ and_comm true false = refl
 and_comm false true = refl
 and_comm false false = refl
 
-filter-filter : {X : Type 0} (p q : X → Bool) (xs : List X) → filter p (filter q xs) ≡ filter (λ x. q x && p x) xs
+-- what passes one test and then another passes both
+pub filter-filter : {X : Type 0} (p q : X → Bool) (xs : List X) → filter p (filter q xs) ≡ filter (λ x. q x && p x) xs
 filter-filter p q [] = refl
 filter-filter {X} p q (x ∷ xs) =
     let both : X → Bool = λ x. q x && p x in
@@ -31,3 +32,23 @@ filter-map {X} p f (x ∷ xs) =
       | true ↦ ap (λ ys. f x ∷ ys) (filter-map p f xs)
       | false ↦ filter-map p f xs
     ]
+
+-- the image of an item that may be kept
+pub map-cond : {X Y : Type 0} (f : X → Y) (b : Bool) (x : X) → map f (cond b (x ∷ []) []) ≡ cond b (f x ∷ []) []
+map-cond f true x = refl
+map-cond f false x = refl
+
+-- what holds of everything holds of all items
+pub every : {X : Type 0} (P : X → Type 0) → ((x : X) → P x) → (xs : List X) → All P xs
+every P h [] = All-nil P
+every P h (x ∷ xs) = All-cons P x xs (h x) (every P h xs)
+
+-- what holds of the items of two lists holds of those of the first
+pub All-left : {X : Type 0} (P : X → Type 0) (xs ys : List X) → All P (xs ++ ys) → All P xs
+All-left P [] ys all = All-nil P
+All-left P (x ∷ xs) ys all = All-cons P x xs (All-head P x (xs ++ ys) all) (All-left P xs ys (All-tail P x (xs ++ ys) all))
+
+-- and of those of the second
+pub All-right : {X : Type 0} (P : X → Type 0) (xs ys : List X) → All P (xs ++ ys) → All P ys
+All-right P [] ys all = all
+All-right P (x ∷ xs) ys all = All-right P xs ys (All-tail P x (xs ++ ys) all)

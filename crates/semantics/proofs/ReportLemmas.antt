@@ -24,7 +24,7 @@ filter_all test (x ∷ xs) all =
     ap (λ b. cond b (x ∷ filter test xs) (filter test xs)) first ∙ ap (λ ys. x ∷ ys) rest
 
 -- a filter whose test holds of none keeps none
-filter_none : {X : Type 0} (test : X → Bool) (xs : List X) → All (λ x. test x ≡ false) xs → filter test xs ≡ []
+pub filter_none : {X : Type 0} (test : X → Bool) (xs : List X) → All (λ x. test x ≡ false) xs → filter test xs ≡ []
 filter_none test [] all = refl
 filter_none test (x ∷ xs) all =
     let first = All-head (λ x. test x ≡ false) x xs all in
@@ -110,7 +110,7 @@ epoch_stands program history later time all =
     ap (λ (events : List Heard). flat_map (λ query. flat_map (line query.name) (sorted (filter (λ tuple. tuple.at == time) (env program events query.stream)))) program.queries) (upto_later time history later all)
 
 -- two functions that agree on the items of a list
-flat_map_same : {X Y : Type 0} (f g : X → List Y) (xs : List X) → All (λ x. f x ≡ g x) xs → flat_map f xs ≡ flat_map g xs
+pub flat_map_same : {X Y : Type 0} (f g : X → List Y) (xs : List X) → All (λ x. f x ≡ g x) xs → flat_map f xs ≡ flat_map g xs
 flat_map_same f g [] all = refl
 flat_map_same f g (x ∷ xs) all =
     let one = All-head (λ x. f x ≡ g x) x xs all in

@@ -1,5 +1,5 @@
 -- The streams of a program by its statements, and programs that share some.
-use Rattle.std.proofs.Common.{◌≡◌, ◌∙◌, sym, ap, refl, subst, ℕ, ◌+◌, ◌<◌, ◌==◌, nat_le, nat_lt, Bool, true, false, cond, List, [], ◌∷◌, map, arith}
+use Rattle.std.proofs.Common.{◌≡◌, ◌∙◌, sym, ap, refl, subst, ℕ, ◌+◌, ◌<◌, ◌==◌, nat_le, Bool, true, false, cond, List, [], ◌∷◌, map, arith}
 use Rattle.std.specs.Prelude.{IsTrue}
 use Rattle.std.specs.List.{All, filter}
 use Rattle.std.proofs.lemmas.Bool.Decides.{nat_tests}
@@ -19,18 +19,7 @@ use Rattle.semantics.specs.TypedPrograms.{IsProgram, PublishInTurn}
 use Rattle.semantics.specs.Typing.{Gives}
 use Rattle.semantics.proofs.ListLemmas.{filter_swap, filter-map}
 use Rattle.semantics.proofs.ReadingLemmas.{denote_agrees, denote-renumbered, reads_both, reads_first}
-
-same_number : (m n : ℕ) → (m == n) ≡ true → m ≡ n
-same_number m n e = grind (arith, nat_tests)
-
-is_same : (m n : ℕ) → m ≡ n → (m == n) ≡ true
-is_same m n e = grind (arith, nat_tests)
-
-is_other : (m n : ℕ) → (m ≡ n → ⊥) → (m == n) ≡ false
-is_other m n other = grind (arith, nat_tests)
-
-is_below : (m n : ℕ) → m < n → nat_lt m n ≡ true
-is_below m n lt = grind (arith, nat_tests)
+use Rattle.event_types.proofs.NumberLemmas.{same_number, is_same, is_other, is_below}
 
 is_before : (m n : ℕ) → m < n + 1 → (m == n) ≡ false → m < n
 is_before m n lt e = grind (arith, nat_tests)

@@ -13,6 +13,7 @@ module _ {X : Type 0} (f : X → X) where
   still_there (x ∷ xs) zero d lt = refl
   still_there (x ∷ xs) (suc index) d lt = still_there xs index d (omega arith)
 
+  -- one more item is mapped in place
   pub each_more : (xs now : List X) (index : ℕ) (old new : X) → index < length xs → now ≡ map f (take index xs) ++ drop index xs → new ≡ f (get_or now index old)
       → set now index new ≡ map f (take (index + 1) xs) ++ drop (index + 1) xs
   each_more xs now index old new lt is made =

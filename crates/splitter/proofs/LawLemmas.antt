@@ -8,8 +8,8 @@ use Rattle.semantics.specs.Denotation.{Streams, denote}
 use Rattle.semantics.specs.Expressions.{Ex, Read, Filter, Select, Union, Next, Fold}
 use Rattle.semantics.specs.Reading.{ReadsOnly}
 use Rattle.automaton.proofs.AdditionLemmas.{added_alone, added_in_order, none_append}
-use Rattle.automaton.proofs.NumberLemmas.{is_other, same_number}
-use Rattle.automaton.proofs.WorkLemmas.{completed_other, self_equal, streams_derived}
+use Rattle.event_types.proofs.NumberLemmas.{is_other, same_number, self_equal, less_other, more_other}
+use Rattle.automaton.proofs.WorkLemmas.{completed_other, streams_derived}
 use Rattle.automaton.specs.Additions.{AreFresh}
 use Rattle.automaton.specs.declared.line.Line.{Line}
 use Rattle.automaton.specs.Flow.{derived, given}
@@ -19,15 +19,16 @@ use Rattle.splitter.specs.Splitting.{parts_of, published_on, split_lines}
 use Rattle.splitter.specs.Widths.{MeetWidths}
 use Rattle.splitter.proofs.MeaningLemmas.{parts_give}
 use Rattle.splitter.proofs.NumberingLemmas.{parts_up}
-use Rattle.splitter.proofs.OutLemmas.{HasStreams, Within, has_sources, left_alone, less_other, more_other, none_above, none_below, of_stream, parts_outs, published_give, published_outs, right_alone}
+use Rattle.splitter.proofs.OutLemmas.{HasStreams, Within, has_sources, left_alone, none_above, none_below, of_stream, parts_outs, published_give, published_outs, right_alone}
 use Rattle.splitter.proofs.ReadLemmas.{LineReads, PartsRead, Reads, parts_read}
-use Rattle.splitter.proofs.ListLemmas.{every}
+use Rattle.semantics.proofs.ListLemmas.{every}
 
--- whether a number is in a list
-or_true : (a : Bool) → (a || true) ≡ true
+-- what is true beside anything is true
+pub or_true : (a : Bool) → (a || true) ≡ true
 or_true true = refl
 or_true false = refl
 
+-- whether a number is in a list
 in_left : (xs ys : List ℕ) (s : ℕ) → is_in xs s ≡ true → is_in (xs ++ ys) s ≡ true
 in_left [] ys s e = absurd (let none : false ≡ true = e in cc)
 in_left (x ∷ xs) ys s e = go (in_left xs ys s) (s == x) e
@@ -48,7 +49,8 @@ range_past : (a j x : ℕ) → a + j ≤ x → is_in (range_with_len a j) x ≡ 
 range_past a zero x h = refl
 range_past a (suc j) x h = λ i. more_other x a (omega arith) i || range_past (a + 1) j x (omega arith) i
 
-range_has : (a j x : ℕ) → a ≤ x → x < a + j → is_in (range_with_len a j) x ≡ true
+-- a number from the first on is in the range
+pub range_has : (a j x : ℕ) → a ≤ x → x < a + j → is_in (range_with_len a j) x ≡ true
 range_has a zero x h g = absurd (omega arith)
 range_has a (suc j) x h g = go (λ k. range_has (a + 1) j x k (omega arith)) (x == a) refl
   where
@@ -120,6 +122,7 @@ module _ (e : Ex) (out next : ℕ) (apart : IsApart e out next) where
       one_line : (a j : ℕ) (line : Line) → LineReads out line.out line.root line.hops → (line.out == a) ≡ true → ReadsNone (range_with_len a (suc j) ++ out ∷ []) line
       one_line a j line r is = line_later a (suc j) line (subst (λ s. LineReads out s line.root line.hops) (same_number line.out a is) r)
 
+  -- the lines of an expression are in order
   pub in_order : IsInOrder (split_lines e out next) (split_order e out next)
   in_order = hidden_order next (last - next) (omega arith)
 
@@ -146,6 +149,7 @@ module _ (e : Ex) (out next : ℕ) (apart : IsApart e out next) where
     same : (s : ℕ) → (s < next) × (s ≢ out) → full s ≡ streams s
     same s h = completed_other (split_lines e out next) (split_order e out next) streams s (other_in s h)
 
+    -- they give what the expression denotes over all streams
     pub means_it : MeetWidths e full → full out ≡ denote e streams
     means_it wide =
         All_in (λ s. full s ≡ derived (split_lines e out next) full s) (split_order e out next) out holds own_in
@@ -163,6 +167,7 @@ widths_agree IsSo streams others same (Union e f) reads wide = (widths_agree IsS
 widths_agree IsSo streams others same (Next p e f) reads wide = (widths_agree IsSo streams others same e reads.0 wide.0, widths_agree IsSo streams others same f reads.1 wide.1)
 widths_agree IsSo streams others same (Fold p q m e f) reads wide = (widths_agree IsSo streams others same e reads.0 wide.0, widths_agree IsSo streams others same f reads.1 wide.1)
 
+-- the lines give what the expression denotes, and change no other stream
 pub lines_mean_it : (e : Ex) (out next : ℕ) (streams : Streams) → IsApart e out next → MeetWidths e streams
     → (completed (split_lines e out next) (split_order e out next) streams out ≡ denote e streams)
     × ((stream : ℕ) → is_in (split_order e out next) stream ≡ false → completed (split_lines e out next) (split_order e out next) streams stream ≡ streams stream)
@@ -201,6 +206,7 @@ fresh lines order e out next apart unused = record {
   apart = unused.apart;
 }
 
+-- so they do behind other lines
 pub added_mean_it : (lines : List Line) (order : List ℕ) (e : Ex) (out next : ℕ) (streams : Streams) → IsApart e out next → AreUnused lines order (split_order e out next)
     → (IsInOrder lines order → IsInOrder (lines ++ split_lines e out next) (order ++ split_order e out next))
     × (MeetWidths e (completed lines order streams) → completed (lines ++ split_lines e out next) (order ++ split_order e out next) streams out ≡ denote e (completed lines order streams))

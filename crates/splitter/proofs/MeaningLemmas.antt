@@ -25,8 +25,9 @@ use Rattle.splitter.specs.declared.open.Open.{Open}
 use Rattle.splitter.specs.Splitting.{Parts, parts_of, source_of, with_hop, with_stage}
 use Rattle.splitter.specs.Stages.{staged}
 use Rattle.splitter.specs.Widths.{MeetWidths}
-use Rattle.splitter.proofs.ListLemmas.{All-parts, every, filter_map_agree, filter_map_all, filter_map_some, filter_map_test, filter_map-flat_map, filter_map-then, flat_map_agree, flat_map-then}
+use Rattle.splitter.proofs.ListLemmas.{All-parts, filter_map_agree, filter_map_all, filter_map_some, filter_map_test, filter_map-flat_map, filter_map-then, flat_map_agree, flat_map-then}
 use Rattle.splitter.proofs.StageLemmas.{AreWide, IsWide, pass_staged}
+use Rattle.semantics.proofs.ListLemmas.{every}
 
 -- what an open line gives
 abbrev pub open_given : Streams → Open → List Row
@@ -57,6 +58,7 @@ module _ (streams : Streams) where
       (All-weaker (λ t. AreWide stage (pass line.last t)) (λ t. pass (staged line.last stage) t ≡ option_and_then (passed stage) (pass line.last t)) (λ t w. pass_staged stage line.last t w) ts (wide_each stage (pass line.last) ts wide))
       ∙ filter_map-then (passed stage) (pass line.last) ts
 
+  -- a stage behind each line gives what it makes of what the lines give
   pub stages_give : (stage : Stage) (lines : List Open) → All (IsWide stage) (flat_map (open_given streams) lines)
       → flat_map (open_given streams) (map (with_stage stage) lines) ≡ filter_map (passed stage) (flat_map (open_given streams) lines)
   stages_give stage lines wide =
@@ -76,6 +78,7 @@ module _ (streams : Streams) where
   chosen_parts choose None tuples f xs = flat_map-then (matches choose tuples) f xs
   chosen_parts choose (Some turn) tuples f xs = flat_map-then (runs choose turn.on turn.set.parts tuples) f xs
 
+  -- a hop behind each line gives what is chosen for what the lines give
   pub hops_give : (wait : Wait) (lines : List Open) → flat_map (open_given streams) (map (with_hop wait) lines) ≡ chosen wait.choose wait.fold (streams wait.stream) (flat_map (open_given streams) lines)
   hops_give wait lines =
       flat_map-map (open_given streams) (with_hop wait) lines

@@ -1,26 +1,20 @@
 -- Which streams the lines of an expression publish.
 use Rattle.std.proofs.Common.{◌≡◌, ◌∙◌, ap, refl, ℕ, ◌+◌, ◌<◌, ◌≤◌, ◌==◌, true, false, List, [], ◌++◌, map, append-nil, arith}
 use Rattle.std.specs.List.{All, filter, flat_map}
-use Rattle.std.proofs.lemmas.Bool.Decides.{nat_tests}
 use Rattle.std.proofs.lemmas.List.Elements.{filter-append, All-nil, All-append, All-map, All-weaker}
 use Rattle.std.proofs.lemmas.List.Folds.{flat_map-map}
 use Rattle.semantics.specs.Denotation.{Streams}
 use Rattle.semantics.specs.Expressions.{Ex, Read, Filter, Select, Union, Next, Fold}
-use Rattle.automaton.proofs.AdditionLemmas.{filter_none}
-use Rattle.automaton.proofs.WorkLemmas.{self_equal}
 use Rattle.automaton.specs.declared.line.Line.{Line}
 use Rattle.automaton.specs.Flow.{given}
 use Rattle.splitter.specs.declared.open.Open.{Open}
 use Rattle.splitter.specs.Splitting.{Parts, parts_of, published_on, source_of}
-use Rattle.splitter.proofs.ListLemmas.{every, filter_whole}
+use Rattle.splitter.proofs.ListLemmas.{filter_whole}
 use Rattle.splitter.proofs.MeaningLemmas.{HasSource, HasSources, open_given}
 use Rattle.splitter.proofs.NumberingLemmas.{parts_up, source_up}
-
-pub less_other : (x y : ℕ) → x < y → (x == y) ≡ false
-less_other x y h = grind (arith, nat_tests)
-
-pub more_other : (x y : ℕ) → y < x → (x == y) ≡ false
-more_other x y h = grind (arith, nat_tests)
+use Rattle.event_types.proofs.NumberLemmas.{self_equal, less_other, more_other}
+use Rattle.semantics.proofs.ReportLemmas.{filter_none}
+use Rattle.semantics.proofs.ListLemmas.{every}
 
 -- a number from one up to another
 pub record Within (low high number : ℕ) : Type 0 where
@@ -35,6 +29,7 @@ wider : (low high lower higher : ℕ) → lower ≤ low → high ≤ higher → 
 wider low high lower higher h g lines all =
     All-weaker (λ line. Within low high line.out) (λ line. Within lower higher line.out) (λ line w. record { above = omega (arith, w.above); below = omega (arith, w.below) }) lines all
 
+-- published lines publish one stream
 pub published_outs : (stream : ℕ) (lines : List Open) → OutsWithin stream (stream + 1) (map (published_on stream) lines)
 published_outs stream lines =
     All-map (λ line. Within stream (stream + 1) line.out) (published_on stream) lines (every (λ o. Within stream (stream + 1) stream) (λ o. record { above = omega arith; below = omega arith }) lines)
@@ -51,6 +46,7 @@ both_outs : (low mid high : ℕ) (lefts rights : List Line) → low ≤ mid → 
 both_outs low mid high lefts rights h g left right =
     All-append (λ line. Within low high line.out) lefts rights (wider low mid low high (omega arith) g lefts left) (wider mid high low high h (omega arith) rights right)
 
+-- the hidden lines of an expression publish its hidden streams
 pub parts_outs : (e : Ex) (next : ℕ) → OutsWithin next (parts_of e next).next (parts_of e next).hidden
 parts_outs (Read stream) next = All-nil (λ line. Within next next line.out)
 parts_outs (Filter p e) next = parts_outs e next
@@ -69,17 +65,21 @@ parts_outs (Fold p q m e f) next =
 abbrev pub of_stream : ℕ → List Line → List Line
 of_stream stream lines = filter (λ line. line.out == stream) lines
 
+-- above those streams nothing is published
 pub none_above : (low high stream : ℕ) → high ≤ stream → (lines : List Line) → OutsWithin low high lines → of_stream stream lines ≡ []
 none_above low high stream h lines all =
     filter_none (λ line. line.out == stream) lines (All-weaker (λ line. Within low high line.out) (λ line. (line.out == stream) ≡ false) (λ line w. less_other line.out stream (omega (arith, w.below))) lines all)
 
+-- nor below them
 pub none_below : (low high stream : ℕ) → stream < low → (lines : List Line) → OutsWithin low high lines → of_stream stream lines ≡ []
 none_below low high stream h lines all =
     filter_none (λ line. line.out == stream) lines (All-weaker (λ line. Within low high line.out) (λ line. (line.out == stream) ≡ false) (λ line w. more_other line.out stream (omega (arith, w.above))) lines all)
 
+-- where the second lines publish nothing on it, a stream has what the first publish
 pub left_alone : (stream : ℕ) (lefts rights : List Line) → of_stream stream rights ≡ [] → of_stream stream (lefts ++ rights) ≡ of_stream stream lefts
 left_alone stream lefts rights none = filter-append (λ line. line.out == stream) lefts rights ∙ ap (λ ls. of_stream stream lefts ++ ls) none ∙ append-nil (of_stream stream lefts)
 
+-- and the other way round
 pub right_alone : (stream : ℕ) (lefts rights : List Line) → of_stream stream lefts ≡ [] → of_stream stream (lefts ++ rights) ≡ of_stream stream rights
 right_alone stream lefts rights none = filter-append (λ line. line.out == stream) lefts rights ∙ ap (λ ls. ls ++ of_stream stream rights) none
 
@@ -138,6 +138,7 @@ joined_has streams e f next left right has =
       source_has streams f (parts_of e next).next (parts_of f (parts_of e next).next) up' outs behind,
     )
 
+-- the hidden lines give the sources of the expression
 pub has_sources : (streams : Streams) (e : Ex) (next : ℕ) → HasStreams streams next (parts_of e next).next (parts_of e next).hidden → HasSources streams e next
 has_sources streams (Read stream) next has = tt
 has_sources streams (Filter p e) next has = has_sources streams e next has

@@ -33,6 +33,7 @@ line_more out most other root hops up r = record {
   hops_read = All-weaker (λ hop. Reads out most hop.wait.stream) (λ hop. Reads out other hop.wait.stream) (λ hop h. more out most other hop.wait.stream up h) hops r.hops_read;
 }
 
+-- each open line reads other streams than this one, below a number
 abbrev pub OpenRead : ℕ → ℕ → List Open → Type 0
 OpenRead out most lines = All (λ line. LineReads out most line.root line.hops) lines
 
@@ -44,6 +45,7 @@ open_more : (out most other : ℕ) (lines : List Open) → most ≤ other → Op
 open_more out most other lines up all =
     All-weaker (λ line. LineReads out most line.root line.hops) (λ line. LineReads out other line.root line.hops) (λ line r. line_more out most other line.root line.hops up r) lines all
 
+-- so do all lines of the parts
 pub record PartsRead (out : ℕ) (parts : Parts) : Type 0 where
   pub opens : OpenRead out parts.next parts.open_lines
   pub hiddens : HiddenRead out parts.hidden
@@ -90,6 +92,7 @@ joined_read out wait left f right named up l s = record {
   hiddens = All-append (λ line. LineReads out line.out line.root line.hops) left.hidden (source_of f right).hidden l.hiddens s.hiddens;
 }
 
+-- the lines of an expression read what it reads, and its hidden streams
 pub parts_read : (out first : ℕ) (e : Ex) (next : ℕ) → out < first → first ≤ next → ReadsOnly (λ stream. (stream < first) × (stream ≢ out)) e → PartsRead out (parts_of e next)
 parts_read out first (Read stream) next above up reads = record {
   opens =

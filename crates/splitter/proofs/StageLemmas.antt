@@ -14,11 +14,12 @@ use Rattle.semantics.specs.Truth.{all_true, truth}
 use Rattle.semantics.specs.Values.{val}
 use Rattle.scalar_expr.proofs.CanonicalLaws.{parts_keep_truth}
 use Rattle.scalar_expr.specs.Canonical.{distinct_parts}
-use Rattle.automaton.proofs.NumberLemmas.{same_number}
+use Rattle.event_types.proofs.NumberLemmas.{same_number}
 use Rattle.automaton.specs.declared.step.Stage.{Stage}
 use Rattle.automaton.specs.declared.step.Stage.TheVariants.{Keep, Make}
 use Rattle.automaton.specs.Steps.{pass, passed}
 use Rattle.splitter.specs.Stages.{are_events, is_identity, kept, staged}
+use Rattle.std.proofs.lemmas.Bool.{and_parts}
 
 -- one stage behind a step
 then_all : (o : Option Row) → option_and_then (λ u. Some u) o ≡ o
@@ -30,6 +31,7 @@ pass_one : (step : List Stage) (stage : Stage) (next : Row → Option Row) (o : 
 pass_one step stage next None more = refl
 pass_one step stage next (Some u) more = more u
 
+-- one more stage takes what the step lets pass
 pub pass_more : (stage : Stage) (step : List Stage) (t : Row) → pass (step ++ stage ∷ []) t ≡ option_and_then (passed stage) (pass step t)
 pass_more stage [] t = then_all (passed stage t)
 pass_more stage (first ∷ step) t = pass_one step stage (passed stage) (passed first t) (pass_more stage step)
@@ -53,6 +55,7 @@ kept_one : (step : List Stage) (condition : List Pr) (o : Option Row) → ((u : 
 kept_one step condition None more = refl
 kept_one step condition (Some u) more = more u
 
+-- a condition that is kept at the end of a step tests what the step lets pass
 pub pass_kept : (step : List Stage) (condition : List Pr) (t : Row) → pass (kept step condition) t ≡ option_and_then (passed (Keep condition)) (pass step t)
 pass_kept [] condition t = then_all (passed (Keep condition) t)
 pass_kept (Keep p ∷ []) condition t =
@@ -60,11 +63,6 @@ pass_kept (Keep p ∷ []) condition t =
 pass_kept (Make m ∷ []) condition t = kept_one [] condition (passed (Make m) t) (pass_kept [] condition)
 pass_kept (Keep p ∷ stage ∷ step) condition t = kept_one (stage ∷ step) condition (passed (Keep p) t) (pass_kept (stage ∷ step) condition)
 pass_kept (Make m ∷ stage ∷ step) condition t = kept_one (stage ∷ step) condition (passed (Make m) t) (pass_kept (stage ∷ step) condition)
-
--- the identity
-and_parts : (a b : Bool) → (a && b) ≡ true → (a ≡ true) × (b ≡ true)
-and_parts true b e = (refl, e)
-and_parts false b e = absurd (let none : false ≡ true = e in cc)
 
 -- attributes in turn give the values in turn
 events_give : (parts : List Sc) (before after : List Value) (from at : ℕ) → are_events (length before) parts ≡ true → length parts ≡ length after

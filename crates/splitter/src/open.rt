@@ -9,7 +9,8 @@ use event_types::{List, Memory, StreamId};
 use scalar_expr::{Conj, Map};
 use std::alloc::Global;
 
-// A line without the stream that it publishes.
+/// An automaton line without the stream that it publishes: its root, the hops to its waiting states in order, and the step
+/// of its last edge.
 #[derive(Drop)]
 pub struct Open {
     pub root: StreamId,

@@ -13,6 +13,7 @@ shifted i n = grind (arith, nat_tests)
 pub position-here : {X : Type 0} (p : X → Bool) (x : X) (xs : List X) → p x ≡ true → position p (x ∷ xs) ≡ Some 0
 position-here p x xs h = rw h (grind (arith, nat_tests))
 
+-- where the first item fails the test, the place is one more than among the others
 pub position-past : {X : Type 0} (p : X → Bool) (x : X) (xs : List X) → p x ≡ false → position p (x ∷ xs) ≡ option_map suc (position p xs)
 position-past p x xs h = rw h (shifted (position_or_len p xs) (length xs))
 

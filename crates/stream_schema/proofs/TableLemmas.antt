@@ -14,7 +14,7 @@ use Rattle.stream_schema.specs.declared.streams.Stream.{Stream}
 use Rattle.stream_schema.proofs.PlaceLemmas.{is_some-position, missing}
 
 -- the items before the first that passes, in a list of images
-prefix_len-map : {X Y : Type 0} (f : X → Y) (p : Y → Bool) (xs : List X) → prefix_len p (map f xs) ≡ prefix_len (λ x. p (f x)) xs
+pub prefix_len-map : {X Y : Type 0} (f : X → Y) (p : Y → Bool) (xs : List X) → prefix_len p (map f xs) ≡ prefix_len (λ x. p (f x)) xs
 prefix_len-map f p [] = refl
 prefix_len-map f p (x ∷ xs) = rw (prefix_len-map f p xs) refl
 
@@ -46,11 +46,13 @@ module _ {A : Type 0} where
   schema-at (x ∷ entries) zero v e = cc
   schema-at (x ∷ entries) (suc i) v e = schema-at entries i v e
 
+  -- whether the stream of an entry is declared
   pub declared-at : (entries : List (String A × Stream)) (i : ℕ) (v : Stream) → slice_get (values_of entries) i ≡ Some v → slice_get (declared_of (streams_of entries)) i ≡ Some v.declared
   declared-at [] i v e = cc
   declared-at (x ∷ entries) zero v e = cc
   declared-at (x ∷ entries) (suc i) v e = declared-at entries i v e
 
+  -- the name of the stream of an entry is its key
   pub name-at : (entries : List (String A × Stream)) (i : ℕ) (k : String A) (v : Stream) → slice_get entries i ≡ Some (k, v) → slice_get (stream_names (streams_of entries)) i ≡ Some (string_bytes k)
   name-at [] i k v e = cc
   name-at (x ∷ entries) zero k v e = cc
@@ -61,6 +63,7 @@ module _ {A : Type 0} where
   others-apart k [] h = tt
   others-apart k (x ∷ entries) h = (h.0, others-apart k entries h.1)
 
+  -- where the keys are distinct, so are the names
   pub names-apart : (entries : List (String A × Stream)) → IsDistinct string_eq (keys_of entries) → IsDistinct bytes_eq (stream_names (streams_of entries))
   unfolding IsDistinct
   names-apart [] h = tt

@@ -1,8 +1,9 @@
 use Rattle.std.proofs.Common.{◌∙◌, ◌<◌, ◌-◌, arith, subst, sym}
 use Rattle.event_types.specs.Tuple.{Row}
 use Rattle.algebra.specs.Suits.{SuitsRuns}
-use Rattle.algebra.proofs.FoldLemmas.{All_read, SuitsBranch, goers_start_later, suits_branches}
+use Rattle.algebra.proofs.FoldLemmas.{All_read, SuitsBranch, suits_branches}
 use Rattle.algebra.proofs.iteration.+add_runs.Goals as goal
+use Rattle.scalar_expr.proofs.RunsLemmas.{goers_start_later}
 
 -- the event is a goer, which starts after the binding was detected
 pub rebind-requires-clause-later : goal.rebind-requires-clause-later

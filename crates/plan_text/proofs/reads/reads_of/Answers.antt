@@ -1,13 +1,14 @@
-use Rattle.std.proofs.Common.{◌∙◌, ap}
+use Rattle.std.proofs.Common.{◌∙◌, [], ap, arith}
 use Rattle.std.specs.List.{fold}
+use Rattle.std.proofs.lemmas.List.{take_all}
 use Rattle.cel_grammar.specs.Views.{source_of}
 use Rattle.cel_types.specs.Statements.{read_names}
 use Rattle.plan_text.specs.Parts.{with_name}
 use Rattle.plan_text.proofs.OnceLemmas.{fold-with_name-once}
 use Rattle.plan_text.proofs.reads.reads_of.Goals as goal
 
--- the names were added to none
+-- all names were added to none
 pub returns : goal.returns
 returns c =
-    let read = read_names (source_of c.args.source.now) in
-    c.in_ok-add_source.ensures ∙ ap (λ names. fold with_name names read) c.new-names.ensures ∙ fold-with_name-once read
+    let whole = take_all c.loop-name.name-index c.loop-name.name-items (omega (arith, c.loop-name-test.false)) in
+    c.loop-name.invariant ∙ ap (fold with_name []) (whole ∙ c.as_slice.ensures ∙ c.in_ok-read.ensures) ∙ fold-with_name-once (read_names (source_of c.args.source.now))

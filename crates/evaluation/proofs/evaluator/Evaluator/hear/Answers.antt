@@ -2,8 +2,8 @@ use Rattle.std.proofs.Common.{◌∙◌, ◌<◌, List, length, subst, sym}
 use Rattle.event_types.specs.Tuple.{Row}
 use Rattle.evaluation.specs.Hearing.{HasHeard}
 use Rattle.evaluation.proofs.HearingLemmas.{hears_it, put_back}
-use Rattle.evaluation.proofs.ResultLemmas.{when_ok, when_err}
 use Rattle.evaluation.proofs.evaluator.Evaluator.hear.Goals as goal
+use Rattle.event_types.proofs.ResultLemmas.{when_ok, when_err}
 
 -- without memory the list stays
 pub returns-then-is_err-clause-kept : goal.returns-then-is_err-clause-kept

@@ -1,8 +1,8 @@
 use Rattle.std.proofs.Common.{◌∙◌, ◌+◌, [], ◌∷◌, ◌++◌, ap, subst, sym}
 use Rattle.evaluation.specs.Hearing.{HasHeard}
 use Rattle.evaluation.proofs.HearingLemmas.{one_more_stream}
-use Rattle.evaluation.proofs.ResultLemmas.{when_ok}
 use Rattle.evaluation.proofs.evaluator.Evaluator.make.Goals as goal
+use Rattle.event_types.proofs.ResultLemmas.{when_ok}
 
 -- one more empty list was put
 pub loop-preserved : goal.loop-preserved

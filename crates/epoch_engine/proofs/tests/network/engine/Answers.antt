@@ -1,7 +1,7 @@
 use Rattle.std.proofs.Common.{subst, sym, ℕ, List}
 use Rattle.event_types.specs.declared.kind.Kind.{Kind}
 use Rattle.automaton.specs.Layouts.{LayoutFits}
-use Rattle.epoch_engine.proofs.tests.engine.Goals as goal
+use Rattle.epoch_engine.proofs.tests.network.engine.Goals as goal
 
 -- the layout fits the lines, and the merged network has them
 pub make-requires : goal.make-requires

@@ -16,7 +16,7 @@ use Rattle.automaton.specs.declared.line.Hop.{Hop}
 use Rattle.automaton.specs.declared.line.Line.{Line}
 use Rattle.automaton.specs.declared.wait.Turn.{Turn}
 use Rattle.automaton.specs.declared.wait.Wait.{Wait}
-use Rattle.epoch_engine.proofs.tests.lines.Goals as goal
+use Rattle.epoch_engine.proofs.tests.network.lines.Goals as goal
 
 -- a line that begins in Stock and has one wait
 abbrev one_wait : Wait → ℕ → Line
