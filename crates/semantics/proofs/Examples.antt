@@ -230,10 +230,10 @@ iterated = refl
 -- SELECT * FROM S NEXT {$2.a > $1.a} S PUBLISH Up;
 -- in which Up is worked out first, since High reads it
 abbrev high : Query
-high = record { name = codes "High"; stream = 2; expr = Filter (Test (Event 1) cmp.Gt (number 8) ∷ []) (Read 1) }
+high = record { name = codes "High"; stream = 2; hidden = 4; expr = Filter (Test (Event 1) cmp.Gt (number 8) ∷ []) (Read 1) }
 
 abbrev up : Query
-up = record { name = codes "Up"; stream = 1; expr = Next rises (Read 0) (Read 0) }
+up = record { name = codes "Up"; stream = 1; hidden = 3; expr = Next rises (Read 0) (Read 0) }
 
 abbrev program : Program
 program = record { declared = 1; queries = high ∷ up ∷ []; order = up ∷ high ∷ [] }

@@ -1,9 +1,10 @@
 -- The streams of a program by its statements, and programs that share some.
-use Rattle.std.proofs.Common.{◌≡◌, ◌∙◌, sym, ap, refl, subst, ℕ, ◌+◌, ◌<◌, ◌==◌, nat_le, Bool, true, false, cond, List, [], ◌∷◌, map, arith}
-use Rattle.std.specs.Prelude.{IsTrue}
-use Rattle.std.specs.List.{All, filter}
+use Rattle.std.proofs.Common.{◌≡◌, ◌∙◌, sym, ap, refl, subst, ℕ, ◌+◌, ◌<◌, ◌==◌, nat_le, nat_lt, Bool, true, false, cond, List, [], ◌∷◌, ◌++◌, map, ◌⊎◌, inl, inr, arith}
+use Rattle.std.specs.Prelude.{Contains, IsTrue}
+use Rattle.std.specs.List.{All, filter, range_with_len}
 use Rattle.std.proofs.lemmas.Bool.Decides.{nat_tests}
-use Rattle.std.proofs.lemmas.List.Elements.{All-nil, All-cons, All-contains, All-head, All-tail, All-weaker}
+use Rattle.std.proofs.lemmas.List.Elements.{All-nil, All-cons, All-contains, All-head, All-tail, All-weaker, Contains-append_left, Contains-push, Contains-push_cases}
+use Rattle.std.proofs.lemmas.List.FromFn.{get_or-range_with_len, length-range_with_len}
 use Rattle.std.proofs.lemmas.List.Sorted.{All-permutation, IsPermutation-sym}
 use Rattle.event_types.specs.declared.kind.Kind.{Kind}
 use Rattle.event_types.specs.Order.{sorted}
@@ -16,13 +17,20 @@ use Rattle.semantics.specs.Reading.{ReadsOnly, renumbered}
 use Rattle.semantics.specs.Results.{results}
 use Rattle.semantics.specs.Statements.{HaveSameStatements, HearTheSame, Publishes}
 use Rattle.semantics.specs.TypedPrograms.{IsProgram, PublishInTurn}
-use Rattle.semantics.specs.Typing.{Gives}
 use Rattle.semantics.proofs.ListLemmas.{filter_swap, filter-map}
-use Rattle.semantics.proofs.ReadingLemmas.{denote_agrees, denote-renumbered, reads_both, reads_first}
+use Rattle.semantics.proofs.ReadingLemmas.{denote_agrees, denote-renumbered, reads_both}
 use Rattle.event_types.proofs.NumberLemmas.{same_number, is_same, is_other, is_below}
 
-is_before : (m n : ℕ) → m < n + 1 → (m == n) ≡ false → m < n
-is_before m n lt e = grind (arith, nat_tests)
+-- the declared streams have the first numbers
+pub declared_there : (declared stream : ℕ) → stream < declared → Contains (range_with_len 0 declared) stream
+declared_there declared stream lt =
+    let at : 0 + stream ≡ stream = omega arith in
+    (stream, subst (λ n. stream < n) (sym (length-range_with_len 0 declared)) lt, get_or-range_with_len 0 declared stream stream lt ∙ at)
+
+pub there_declared : (declared stream : ℕ) → Contains (range_with_len 0 declared) stream → stream < declared
+there_declared declared stream has =
+    let within : has.0 < declared = subst (λ n. has.0 < n) (length-range_with_len 0 declared) has.1 in
+    let same : 0 + has.0 ≡ stream = sym (get_or-range_with_len 0 declared has.0 stream within) ∙ has.2 in omega arith
 
 -- a stream that is put at a number is there, and the others stay
 with_stream_same : (streams : Streams) (number : ℕ) (tuples : List Row) → with_stream streams number tuples number ≡ tuples
@@ -31,35 +39,38 @@ with_stream_same streams number tuples = ap (λ b. cond b tuples (streams number
 with_stream_other : (streams : Streams) (number : ℕ) (tuples : List Row) (stream : ℕ) → (stream ≡ number → ⊥) → with_stream streams number tuples stream ≡ streams stream
 with_stream_other streams number tuples stream other = ap (λ b. cond b tuples (streams stream)) (is_other stream number other)
 
--- queries that publish from a number on leave the streams below it: by induction on the queries
-published_below : (kinds : ℕ → List Kind) (number : ℕ) (streams : Streams) (order : List Query) → PublishInTurn kinds number order → (stream : ℕ) → stream < number → published streams order stream ≡ streams stream
-published_below kinds number streams [] turn stream lt = refl
-published_below kinds number streams (query ∷ order) turn stream lt =
+-- queries that publish in turn leave the streams that are there: by induction on the queries
+published_there : (kinds : ℕ → List Kind) (there : List ℕ) (streams : Streams) (order : List Query) → PublishInTurn kinds there order → (stream : ℕ) → Contains there stream → published streams order stream ≡ streams stream
+published_there kinds there streams [] turn stream has = refl
+published_there kinds there streams (query ∷ order) turn stream has =
     let tuples = denote query.expr streams in
-    let rest = published_below kinds (number + 1) (with_stream streams query.stream tuples) order turn.2 stream (omega arith) in
-    let other : stream ≡ query.stream → ⊥ = λ e. let same : stream ≡ number = e ∙ turn.0 in absurd (omega arith) in rest ∙ with_stream_other streams query.stream tuples stream other
+    let rest = published_there kinds (there ++ query.stream ∷ []) (with_stream streams query.stream tuples) order turn.3 stream (Contains-append_left there (query.stream ∷ []) stream has) in
+    let below : stream < query.stream = All-contains (λ s. s < query.stream) there stream turn.0 has in
+    let other : stream ≡ query.stream → ⊥ = λ same. absurd (omega arith) in rest ∙ with_stream_other streams query.stream tuples stream other
 
 -- each query's stream is what its expression denotes in the end: by induction on the queries
-published_denoted : (kinds : ℕ → List Kind) (number : ℕ) (streams : Streams) (order : List Query) → PublishInTurn kinds number order
+published_denoted : (kinds : ℕ → List Kind) (there : List ℕ) (streams : Streams) (order : List Query) → PublishInTurn kinds there order
     → All (λ query. published streams order query.stream ≡ denote query.expr (published streams order)) order
-published_denoted kinds number streams [] turn = All-nil _
-published_denoted kinds number streams (query ∷ order) turn =
+published_denoted kinds there streams [] turn = All-nil _
+published_denoted kinds there streams (query ∷ order) turn =
     let tuples = denote query.expr streams in
-    let here = published_below kinds (number + 1) (with_stream streams query.stream tuples) order turn.2 query.stream (omega (arith, turn.0)) ∙ with_stream_same streams query.stream tuples in
+    let more = there ++ query.stream ∷ [] in
+    let here = published_there kinds more (with_stream streams query.stream tuples) order turn.3 query.stream (Contains-push there query.stream) ∙ with_stream_same streams query.stream tuples in
     let last = published streams (query ∷ order) in
-    let agrees = denote_agrees (λ stream. stream < number) streams last (λ stream lt. sym (published_below kinds number streams (query ∷ order) turn stream lt)) query.expr (reads_first number kinds (kinds number) query.expr turn.1) in
-    All-cons (λ q. last q.stream ≡ denote q.expr last) query order (here ∙ agrees) (published_denoted kinds (number + 1) (with_stream streams query.stream tuples) order turn.2)
+    let agrees = denote_agrees (Contains there) streams last (λ stream has. sym (published_there kinds there streams (query ∷ order) turn stream has)) query.expr turn.1 in
+    All-cons (λ q. last q.stream ≡ denote q.expr last) query order (here ∙ agrees) (published_denoted kinds more (with_stream streams query.stream tuples) order turn.3)
 
 -- a declared stream has what was heard on it
 pub declared_is : (kinds : ℕ → List Kind) (program : Program) (history : List Heard) → IsProgram kinds program → (stream : ℕ) → stream < program.declared → env program history stream ≡ heard_on history stream
 declared_is kinds program history typed stream lt =
-    published_below kinds program.declared (declared_streams program.declared history) program.order typed.in_turn stream lt ∙ ap (λ b. cond b (heard_on history stream) []) (is_below stream program.declared lt)
+    published_there kinds (range_with_len 0 program.declared) (declared_streams program.declared history) program.order typed.in_turn stream (declared_there program.declared stream lt)
+    ∙ ap (λ b. cond b (heard_on history stream) []) (is_below stream program.declared lt)
 
 -- a query's stream has what its expression denotes over the streams of the program
 pub published_is : (kinds : ℕ → List Kind) (program : Program) (history : List Heard) → IsProgram kinds program → All (λ query. env program history query.stream ≡ denote query.expr (env program history)) program.queries
 published_is kinds program history typed =
     All-permutation (λ query. env program history query.stream ≡ denote query.expr (env program history)) program.order program.queries (IsPermutation-sym program.queries program.order typed.same_queries)
-    (published_denoted kinds program.declared (declared_streams program.declared history) program.order typed.in_turn)
+    (published_denoted kinds (range_with_len 0 program.declared) (declared_streams program.declared history) program.order typed.in_turn)
 
 -- what was heard on a stream by a time
 heard_on-upto : (time stream : ℕ) (history : List Heard) → heard_on (upto time history) stream ≡ filter (λ tuple. nat_le tuple.at time) (heard_on history stream)
@@ -72,38 +83,38 @@ heard_on-upto time stream history =
 abbrev IsFollowed : (ℕ → Bool) → (ℕ → ℕ) → Streams → Query → Type 0
 IsFollowed is_shared number others query = IsTrue (is_shared query.stream) → ReadsOnly (λ stream. IsTrue (is_shared stream)) query.expr × (others (number query.stream) ≡ denote (renumbered number query.expr) others)
 
--- shared streams below a number agree
-abbrev AgreeBelow : (ℕ → Bool) → (ℕ → ℕ) → Streams → Streams → ℕ → Type 0
-AgreeBelow is_shared number streams others count = (stream : ℕ) → stream < count → IsTrue (is_shared stream) → streams stream ≡ others (number stream)
+-- shared streams of those that are there agree
+abbrev AgreeOn : (ℕ → Bool) → (ℕ → ℕ) → Streams → Streams → List ℕ → Type 0
+AgreeOn is_shared number streams others there = (stream : ℕ) → Contains there stream → IsTrue (is_shared stream) → streams stream ≡ others (number stream)
 
 -- then a shared stream that is published next agrees
-next_agrees : (is_shared : ℕ → Bool) (number : ℕ → ℕ) (streams others : Streams) (kinds : ℕ → List Kind) (out : List Kind) (count : ℕ) (query : Query)
-    → Gives query.expr count kinds out → streams query.stream ≡ denote query.expr streams → IsFollowed is_shared number others query → AgreeBelow is_shared number streams others count
+next_agrees : (is_shared : ℕ → Bool) (number : ℕ → ℕ) (streams others : Streams) (there : List ℕ) (query : Query)
+    → ReadsOnly (Contains there) query.expr → streams query.stream ≡ denote query.expr streams → IsFollowed is_shared number others query → AgreeOn is_shared number streams others there
     → IsTrue (is_shared query.stream) → streams query.stream ≡ others (number query.stream)
-next_agrees is_shared number streams others kinds out count query gives is followed agree shared =
-    let there = followed shared in
-    let reads = reads_both (λ stream. stream < count) (λ stream. IsTrue (is_shared stream)) query.expr (reads_first count kinds out query.expr gives) there.0 in
-    is ∙ denote_agrees (λ stream. (stream < count) × IsTrue (is_shared stream)) streams (λ stream. others (number stream)) (λ stream so. agree stream so.0 so.1) query.expr reads
-    ∙ sym (there.1 ∙ denote-renumbered number others query.expr)
+next_agrees is_shared number streams others there query reads is followed agree shared =
+    let told = followed shared in
+    let both = reads_both (Contains there) (λ stream. IsTrue (is_shared stream)) query.expr reads told.0 in
+    is ∙ denote_agrees (λ stream. Contains there stream × IsTrue (is_shared stream)) streams (λ stream. others (number stream)) (λ stream so. agree stream so.0 so.1) query.expr both
+    ∙ sym (told.1 ∙ denote-renumbered number others query.expr)
 
 -- so all shared streams that are published in turn agree: by induction on the queries
-all_agree : (is_shared : ℕ → Bool) (number : ℕ → ℕ) (streams others : Streams) (kinds : ℕ → List Kind) (count : ℕ) (order : List Query)
-    → PublishInTurn kinds count order → All (λ query. streams query.stream ≡ denote query.expr streams) order → All (IsFollowed is_shared number others) order → AgreeBelow is_shared number streams others count
+all_agree : (is_shared : ℕ → Bool) (number : ℕ → ℕ) (streams others : Streams) (kinds : ℕ → List Kind) (there : List ℕ) (order : List Query)
+    → PublishInTurn kinds there order → All (λ query. streams query.stream ≡ denote query.expr streams) order → All (IsFollowed is_shared number others) order → AgreeOn is_shared number streams others there
     → All (λ query. IsTrue (is_shared query.stream) → streams query.stream ≡ others (number query.stream)) order
-all_agree is_shared number streams others kinds count [] turn is followed agree = All-nil _
-all_agree is_shared number streams others kinds count (query ∷ order) turn is followed agree =
+all_agree is_shared number streams others kinds there [] turn is followed agree = All-nil _
+all_agree is_shared number streams others kinds there (query ∷ order) turn is followed agree =
     All-cons (λ q. IsTrue (is_shared q.stream) → streams q.stream ≡ others (number q.stream)) query order here
-    (all_agree is_shared number streams others kinds (count + 1) order turn.2 (All-tail (λ q. streams q.stream ≡ denote q.expr streams) query order is) (All-tail (IsFollowed is_shared number others) query order followed) more)
+    (all_agree is_shared number streams others kinds (there ++ query.stream ∷ []) order turn.3 (All-tail (λ q. streams q.stream ≡ denote q.expr streams) query order is) (All-tail (IsFollowed is_shared number others) query order followed) more)
   where
     here : IsTrue (is_shared query.stream) → streams query.stream ≡ others (number query.stream)
-    here = next_agrees is_shared number streams others kinds (kinds count) count query turn.1 (All-head (λ q. streams q.stream ≡ denote q.expr streams) query order is) (All-head (IsFollowed is_shared number others) query order followed) agree
+    here = next_agrees is_shared number streams others there query turn.1 (All-head (λ q. streams q.stream ≡ denote q.expr streams) query order is) (All-head (IsFollowed is_shared number others) query order followed) agree
 
-    more : AgreeBelow is_shared number streams others (count + 1)
-    more stream lt = go (stream == count) refl
+    more : AgreeOn is_shared number streams others (there ++ query.stream ∷ [])
+    more stream has = go (Contains-push_cases there query.stream stream has)
       where
-        go : (b : Bool) → (stream == count) ≡ b → IsTrue (is_shared stream) → streams stream ≡ others (number stream)
-        go true e = subst (λ (s : ℕ). IsTrue (is_shared s) → streams s ≡ others (number s)) (turn.0 ∙ sym (same_number stream count e)) here
-        go false e = agree stream (is_before stream count lt e)
+        go : Contains there stream ⊎ (query.stream ≡ stream) → IsTrue (is_shared stream) → streams stream ≡ others (number stream)
+        go (inl was) = agree stream was
+        go (inr same) = subst (λ (s : ℕ). IsTrue (is_shared s) → streams s ≡ others (number s)) same here
 
 -- the query that publishes a stream in the other program tells what it has
 publisher_is : (kinds : ℕ → List Kind) (program : Program) (history : List Heard) → IsProgram kinds program → (stream : ℕ) (expr : Ex) → Publishes program stream expr → env program history stream ≡ denote expr (env program history)
@@ -122,11 +133,12 @@ shared_agree is_shared number kinds other_kinds program other history others typ
     let followed =
     All-weaker (λ q. IsTrue (is_shared q.stream) → ReadsOnly (λ stream. IsTrue (is_shared stream)) q.expr × Publishes other (number q.stream) (renumbered number q.expr)) (IsFollowed is_shared number there)
     (λ q told shared. let one = told shared in (one.0, publisher_is other_kinds other others other_typed (number q.stream) (renumbered number q.expr) one.1)) program.queries same.published in
-    let declared = λ (stream : ℕ) (lt : stream < program.declared) (shared : IsTrue (is_shared stream)).
+    let declared = λ (stream : ℕ) (has : Contains (range_with_len 0 program.declared) stream) (shared : IsTrue (is_shared stream)).
+    let lt = there_declared program.declared stream has in
     declared_is kinds program history typed stream lt ∙ hear stream shared lt ∙ sym (declared_is other_kinds other others other_typed (number stream) (same.declared stream shared lt)) in
     All-permutation (λ q. IsTrue (is_shared q.stream) → streams q.stream ≡ there (number q.stream)) program.order program.queries (IsPermutation-sym program.queries program.order typed.same_queries)
-    (all_agree is_shared number streams there kinds program.declared program.order typed.in_turn
-    (published_denoted kinds program.declared (declared_streams program.declared history) program.order typed.in_turn)
+    (all_agree is_shared number streams there kinds (range_with_len 0 program.declared) program.order typed.in_turn
+    (published_denoted kinds (range_with_len 0 program.declared) (declared_streams program.declared history) program.order typed.in_turn)
     (All-permutation (IsFollowed is_shared number there) program.queries program.order typed.same_queries followed) declared)
 
 -- so have their results at each time

@@ -5,10 +5,11 @@ use Rattle.semantics.specs.Expressions.{Ex}
 use Rattle.semantics.specs.Denotation.{Streams, denote}
 use Rattle.semantics.specs.Histories.{Heard, heard_on}
 
--- a query: its name, the number of the stream that it publishes, and its expression
+-- a query: its name, the number of the stream that it publishes, that of the first of its hidden streams, on which its lines keep what its results are made of, and its expression
 pub record Query : Type 0 where
   pub name : List ℕ
   pub stream : ℕ
+  pub hidden : ℕ
   pub expr : Ex
 
 -- a program: how many streams are declared, which have the numbers from 0 on; the queries in the order of the file; and the same queries in the order of work, where each stands after those that it reads
