@@ -1,5 +1,5 @@
 -- The queries of a typed program may be evaluated in turn.
-use Rattle.std.proofs.Common.{◌≡◌, sym, subst, ℕ, ◌+◌, ◌==◌, nat_lt, Bool, true, false, cond, List, [], ◌∷◌, map}
+use Rattle.std.proofs.Common.{◌≡◌, sym, subst, ℕ, ◌==◌, nat_lt, Bool, true, false, cond, List, [], ◌∷◌, ◌++◌, map, arith}
 use Rattle.std.specs.List.{All, filter}
 use Rattle.std.proofs.lemmas.List.Elements.{All-nil, All-cons, All-head, All-tail}
 use Rattle.event_types.specs.declared.kind.Kind.{Kind}
@@ -47,10 +47,9 @@ with_kinds kinds streams number tuples all new stream = go (stream == number) (s
     go false same = all stream
 
 -- queries that are typed in turn suit in turn, and each stream has its kinds: by induction on the queries
-pub typed_in_turn : (kinds : ℕ → List Kind) (number : ℕ) (streams : Streams) (order : List Query) → AllHaveKinds kinds streams → PublishInTurn kinds number order → SuitInTurn number streams order × AllHaveKinds kinds (published streams order)
-typed_in_turn kinds number streams [] all h = (tt, all)
-typed_in_turn kinds number streams (query ∷ order) all h =
-    let one = typed query.expr number kinds (kinds number) streams (λ s lt. all s) h.1 in
+pub typed_in_turn : (kinds : ℕ → List Kind) (there : List ℕ) (streams : Streams) (order : List Query) → AllHaveKinds kinds streams → PublishInTurn kinds there order → SuitInTurn streams order × AllHaveKinds kinds (published streams order)
+typed_in_turn kinds there streams [] all h = (tt, all)
+typed_in_turn kinds there streams (query ∷ order) all h =
+    let one = typed query.expr query.stream kinds (kinds query.stream) streams (λ s lt. all s) h.2 in
     let tuples = denote query.expr streams in
-    let new = subst (λ (n : ℕ). All (HasKinds (kinds n)) tuples) (sym h.0) one.1 in
-    let more = typed_in_turn kinds (number + 1) (with_stream streams query.stream tuples) order (with_kinds kinds streams query.stream tuples all new) h.2 in ((h.0, one.0, more.0), more.1)
+    let more = typed_in_turn kinds (there ++ query.stream ∷ []) (with_stream streams query.stream tuples) order (with_kinds kinds streams query.stream tuples all one.1) h.3 in ((one.0, more.0), more.1)

@@ -26,4 +26,4 @@ SoundStreamsGiveSoundTuples = (e : Ex) (streams : Streams) → ((stream : ℕ) �
 abbrev pub TypedProgramsSuit : Type 0
 TypedProgramsSuit =
     (kinds : ℕ → List Kind) (program : Program) (history : List Heard) → IsProgram kinds program → HaveTheirKinds kinds history
-    → SuitInTurn program.declared (declared_streams program.declared history) program.order × ((stream : ℕ) → All (HasKinds (kinds stream)) (env program history stream))
+    → SuitInTurn (declared_streams program.declared history) program.order × ((stream : ℕ) → All (HasKinds (kinds stream)) (env program history stream))
