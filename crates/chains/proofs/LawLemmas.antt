@@ -1,43 +1,54 @@
 -- The laws over the lines of programs.
-use Rattle.std.proofs.Common.{◌≡◌, refl, subst, ℕ, ◌+◌, ◌<◌, length, List, [], ◌∷◌, arith}
-use Rattle.std.specs.List.{All}
+use Rattle.std.proofs.Common.{◌≡◌, ◌∙◌, sym, ap, refl, subst, ℕ, ◌<◌, List, ◌++◌, map}
+use Rattle.std.specs.Prelude.{Contains}
+use Rattle.std.specs.List.{All, range_with_len}
 use Rattle.std.specs.List.Sorted.{IsPermutation}
-use Rattle.std.proofs.lemmas.List.Elements.{All-nil, All-cons, All-weaker}
+use Rattle.std.proofs.lemmas.List.{get_or-map, length-map}
+use Rattle.std.proofs.lemmas.List.Elements.{All-contains_itself, All-weaker, Contains-append_left, Contains-append_right}
 use Rattle.std.proofs.lemmas.List.Sorted.{All-permutation, IsPermutation-refl, IsPermutation-sym}
 use Rattle.event_types.specs.declared.kind.Kind.{Kind}
+use Rattle.semantics.proofs.StatementLemmas.{declared_there}
+use Rattle.semantics.specs.Denotation.{Streams}
 use Rattle.semantics.specs.Histories.{Heard}
 use Rattle.semantics.specs.Programs.{Program, Query, declared_streams, env}
-use Rattle.semantics.specs.TypedPrograms.{HaveTheirKinds, IsProgram, PublishInTurn}
+use Rattle.semantics.specs.TypedPrograms.{HaveTheirKinds, IsProgram}
 use Rattle.algebra.proofs.ProgramLemmas.{declared_kinds}
 use Rattle.automaton.specs.Work.{IsInOrder, completed}
-use Rattle.chains.specs.Chains.{first_hidden, lines_of, order_of}
+use Rattle.chains.specs.Chains.{HideApart, lines_of, order_of}
 use Rattle.chains.specs.Laws.{IsWideProgram}
 use Rattle.chains.proofs.ChainLemmas.{chain_means, chain_ordered}
 
--- the lines of a program are in order
-pub ordered : (kinds : ℕ → List Kind) (program : Program) → IsProgram kinds program → IsInOrder (lines_of program) (order_of program)
-ordered kinds program typed = chain_ordered kinds (first_hidden program) program.declared program.order (first_hidden program) typed.in_turn refl (omega arith)
+pub ordered : (kinds : ℕ → List Kind) (program : Program) → IsProgram kinds program → HideApart program.order → IsInOrder (lines_of program) (order_of program)
+ordered kinds program typed apart = chain_ordered kinds (range_with_len 0 program.declared) program.order typed.in_turn apart
 
--- they give what the program denotes
-pub meant : (kinds : ℕ → List Kind) (program : Program) (history : List Heard) → IsWideProgram kinds program → HaveTheirKinds kinds history
-    → (stream : ℕ) → stream < first_hidden program → completed (lines_of program) (order_of program) (declared_streams program.declared history) stream ≡ env program history stream
-meant kinds program history is all stream less =
-    let streams = declared_streams program.declared history in
-    chain_means kinds (first_hidden program) program.declared program.order (first_hidden program) streams streams is.typed.in_turn is.wide refl (omega arith) (declared_kinds kinds program.declared history all) (λ s below. refl) stream less
+stream_among : (order : List Query) (query : Query) → Contains order query → Contains (map (λ q. q.stream) order) query.stream
+stream_among order query has =
+    let stream_of : Query → ℕ = λ q. q.stream in
+    (has.0, subst (λ n. has.0 < n) (sym (length-map order stream_of)) has.1, get_or-map stream_of order has.0 query query.stream has.1 ∙ ap stream_of has.2)
 
--- each query publishes one of the first streams
-published_below : (kinds : ℕ → List Kind) (number : ℕ) (order : List Query) → PublishInTurn kinds number order → All (λ query. query.stream < number + length order) order
-published_below kinds number [] h = All-nil (λ query. query.stream < number + 0)
-published_below kinds number (query ∷ order) h =
-    All-cons (λ q. q.stream < number + length (query ∷ order)) query order (omega (arith, h.0))
-    (All-weaker (λ q. q.stream < number + 1 + length order) (λ q. q.stream < number + length (query ∷ order)) (λ q less. omega arith) order (published_below kinds (number + 1) order h.2))
+module _ (kinds : ℕ → List Kind) (program : Program) (history : List Heard) (is : IsWideProgram kinds program) (all : HaveTheirKinds kinds history) where
+  abbrev made : Streams
+  made = completed (lines_of program) (order_of program) (declared_streams program.declared history)
 
--- so the stream of each query has what the program denotes, in some order
-pub derived_so : (kinds : ℕ → List Kind) (program : Program) (history : List Heard) → IsWideProgram kinds program → HaveTheirKinds kinds history
-    → All (λ query. IsPermutation (completed (lines_of program) (order_of program) (declared_streams program.declared history) query.stream) (env program history query.stream)) program.queries
-derived_so kinds program history is all =
-    let made = completed (lines_of program) (order_of program) (declared_streams program.declared history) in
-    let same = λ (query : Query). IsPermutation (made query.stream) (env program history query.stream) in
-    All-permutation same program.order program.queries (IsPermutation-sym program.queries program.order is.typed.same_queries)
-    (All-weaker (λ query. query.stream < first_hidden program) same (λ query less. subst (IsPermutation (made query.stream)) (meant kinds program history is all query.stream less) (IsPermutation-refl (made query.stream))) program.order
-    (published_below kinds program.declared program.order is.typed.in_turn))
+  abbrev numbers : List ℕ
+  numbers = range_with_len 0 program.declared
+
+  abbrev IsMade : Query → Type 0
+  IsMade query = made query.stream ≡ env program history query.stream
+
+  each_meant : (stream : ℕ) → Contains (numbers ++ map (λ q. q.stream) program.order) stream → made stream ≡ env program history stream
+  each_meant =
+      let streams = declared_streams program.declared history in
+      chain_means kinds numbers program.order streams streams is.typed.in_turn is.apart is.wide (declared_kinds kinds program.declared history all) (λ s has. refl)
+
+  pub meant : ((stream : ℕ) → stream < program.declared → made stream ≡ env program history stream) × All IsMade program.queries
+  meant = (
+    λ stream less. each_meant stream (Contains-append_left numbers (map (λ (q : Query). q.stream) program.order) stream (declared_there program.declared stream less)),
+    All-permutation IsMade program.order program.queries (IsPermutation-sym program.queries program.order is.typed.same_queries)
+        (All-weaker (Contains program.order) IsMade (λ query has. each_meant query.stream (Contains-append_right numbers (map (λ (q : Query). q.stream) program.order) query.stream (stream_among program.order query has))) program.order
+        (All-contains_itself program.order)),
+  )
+
+  pub derived_so : All (λ query. IsPermutation (made query.stream) (env program history query.stream)) program.queries
+  derived_so =
+      All-weaker IsMade (λ query. IsPermutation (made query.stream) (env program history query.stream)) (λ query same. subst (IsPermutation (made query.stream)) same (IsPermutation-refl (made query.stream))) program.queries meant.1

@@ -1,9 +1,9 @@
 -- How far the lines and the layout of queries are, query by query.
 use Rattle.std.proofs.Common.{◌≡◌, ◌∙◌, sym, ap, refl, subst, ℕ, ◌+◌, ◌-◌, ◌<◌, ◌≤◌, ◌^◌, ◌==◌, ◌||◌, length, get_or, drop, add-one, List, [], ◌∷◌, ◌++◌, map, append-nil, append_assoc, arith}
 use Rattle.std.specs.Prelude.{IsTrue, Some, slice_get}
-use Rattle.std.specs.List.{All, list_any}
+use Rattle.std.specs.List.{All, list_any, range_with_len}
 use Rattle.std.proofs.Math.Seq.{drop-cons}
-use Rattle.std.proofs.lemmas.List.{drop_all}
+use Rattle.std.proofs.lemmas.List.{drop_all, length-map}
 use Rattle.std.proofs.lemmas.List.Elements.{All-nil, All-cons, All-head, All-tail, All-append, All-map, All-same, All-weaker}
 use Rattle.std.proofs.lemmas.Option.{get_or_from_slice_get, slice_get-get_or}
 use Rattle.event_types.specs.declared.kind.Kind.{Kind}
@@ -12,6 +12,7 @@ use Rattle.semantics.specs.Programs.{Query}
 use Rattle.semantics.specs.TypedPrograms.{PublishInTurn}
 use Rattle.algebra.specs.declared.expression.Expr.{Expr}
 use Rattle.algebra.specs.Views.{ex_of}
+use Rattle.automaton.proofs.WorkLemmas.{self_equal}
 use Rattle.automaton.specs.declared.layout.Layout.{Layout}
 use Rattle.automaton.specs.declared.line.Line.{Line}
 use Rattle.automaton.specs.Layouts.{LayoutFits}
@@ -26,10 +27,11 @@ use Rattle.chains.specs.Growing.{GrowInTurn}
 use Rattle.chains.specs.Widths.{HasWidths}
 use Rattle.chains.specs.Work.{AreChains, kinds_by, queries_from, work_of}
 use Rattle.chains.proofs.ApartLemmas.{any_left, any_right, is_apart, range_all}
-use Rattle.chains.proofs.ChainLemmas.{chain_has, chain_ordered, chain_outs, is_turn, reads_below}
+use Rattle.chains.proofs.ChainLemmas.{chain_has, chain_ordered, chain_outs, reads_below}
 use Rattle.chains.proofs.GrowLemmas.{IsLonger, fits_longer, get_longer, grow_fits, grow_has, grow_same, longer, longer_twice}
+use Rattle.chains.proofs.NumberedLemmas.{from_each, from_long, work_apart}
+use Rattle.chains.proofs.RangeLemmas.{range_next}
 use Rattle.chains.proofs.SplitLemmas.{GrowBy, some_lines, split_typed}
-use Rattle.event_types.proofs.NumberLemmas.{self_equal}
 
 -- the stream of the lines has a line
 abbrev HasLine : List Line → ℕ → Type 0
@@ -37,11 +39,11 @@ HasLine lines stream = IsTrue (list_any (λ line. line.out == stream) lines)
 
 -- the lines and the order of the queries up to a place are there, and the rest comes behind them
 pub record Leads (declared : ℕ) (expressions : List Expr) (places : List ℕ) (kinds : List (List Kind)) (place next : ℕ) (lines : List Line) (layout : Layout) : Type 0 where
-  pub lines_are : chain_lines (work_of declared expressions) (declared + length expressions) ≡ lines ++ chain_lines (queries_from (declared + place) (map ex_of (drop place expressions))) next
-  pub order_is : chain_order (work_of declared expressions) (declared + length expressions) ≡ layout.order ++ chain_order (queries_from (declared + place) (map ex_of (drop place expressions))) next
-  pub end_is : chain_end (work_of declared expressions) (declared + length expressions) ≡ chain_end (queries_from (declared + place) (map ex_of (drop place expressions))) next
-  pub typed : PublishInTurn (kinds_by kinds) (declared + place) (queries_from (declared + place) (map ex_of (drop place expressions)))
-  pub wide : All (λ query. HasWidths (kinds_by kinds) query.expr) (queries_from (declared + place) (map ex_of (drop place expressions)))
+  pub lines_are : chain_lines (work_of declared expressions) ≡ lines ++ chain_lines (queries_from (declared + place) next (map ex_of (drop place expressions)))
+  pub order_is : chain_order (work_of declared expressions) ≡ layout.order ++ chain_order (queries_from (declared + place) next (map ex_of (drop place expressions)))
+  pub end_is : chain_end (work_of declared expressions) declared ≡ chain_end (queries_from (declared + place) next (map ex_of (drop place expressions))) next
+  pub typed : PublishInTurn (kinds_by kinds) (range_with_len 0 (declared + place)) (queries_from (declared + place) next (map ex_of (drop place expressions)))
+  pub wide : All (λ query. HasWidths (kinds_by kinds) query.expr) (queries_from (declared + place) next (map ex_of (drop place expressions)))
   pub up : declared + length expressions ≤ next
   pub size : length layout.kinds ≡ next
   pub long : IsLonger kinds layout.kinds
@@ -49,13 +51,18 @@ pub record Leads (declared : ℕ) (expressions : List Expr) (places : List ℕ) 
   pub has_lines : All (HasLine lines) layout.order
   pub outs_are : layout.outs ≡ map (λ at. declared + at) places
 
-end_up : (order : List Query) (next : ℕ) → next ≤ chain_end order next
-end_up [] next = omega arith
-end_up (query ∷ order) next = omega (arith, parts_up query.expr next, end_up order (parts_of query.expr next).next)
+end_up : (number hidden : ℕ) (xs : List Ex) → hidden ≤ chain_end (queries_from number hidden xs) hidden
+end_up number hidden [] = omega arith
+end_up number hidden (e ∷ xs) = omega (arith, parts_up e hidden, end_up (number + 1) (parts_of e hidden).next xs)
+
+-- without queries their end is the given number
+end_given : (order : List Query) (next other : ℕ) → (length order ≡ 0 → next ≡ other) → chain_end order next ≡ chain_end order other
+end_given [] next other same = same refl
+end_given (query ∷ order) next other same = refl
 
 module _ (declared : ℕ) (expressions : List Expr) (places : List ℕ) (kinds : List (List Kind)) (given : length kinds ≡ declared + length expressions) where
   abbrev Typed : List Query → ℕ → Type 0
-  Typed order number = PublishInTurn (kinds_by kinds) number order
+  Typed order number = PublishInTurn (kinds_by kinds) (range_with_len 0 number) order
 
   abbrev Wide : List Query → Type 0
   Wide order = All (λ query. HasWidths (kinds_by kinds) query.expr) order
@@ -65,12 +72,13 @@ module _ (declared : ℕ) (expressions : List Expr) (places : List ℕ) (kinds :
       → Leads declared expressions places kinds 0 (length kinds) [] (record { order = []; outs = outs; kinds = kinds })
   leads_first typed wide outs outs_are =
       let start : declared ≡ declared + 0 = omega arith in
-      let same : work_of declared expressions ≡ queries_from (declared + 0) (map ex_of expressions) = ap (λ n. queries_from n (map ex_of expressions)) start in
+      let same : work_of declared expressions ≡ queries_from (declared + 0) (length kinds) (map ex_of expressions) = λ i. queries_from (start i) (sym given i) (map ex_of expressions) in
+      let many = from_long declared (declared + length expressions) (map ex_of expressions) in
       record {
-        lines_are = λ i. chain_lines (same i) (sym given i);
-        order_is = λ i. chain_order (same i) (sym given i);
-        end_is = λ i. chain_end (same i) (sym given i);
-        typed = subst (λ (n : ℕ). Typed (queries_from n (map ex_of expressions)) n) start typed;
+        lines_are = ap chain_lines same;
+        order_is = ap chain_order same;
+        end_is = end_given (work_of declared expressions) declared (length kinds) (λ none. omega (arith, none, many, length-map expressions ex_of, given)) ∙ ap (λ order. chain_end order (length kinds)) same;
+        typed = subst (λ (s : List Query × ℕ). Typed s.0 s.1) (λ i. (same i, start i)) typed;
         wide = subst Wide same wide;
         up = omega (arith, given);
         size = refl;
@@ -80,7 +88,6 @@ module _ (declared : ℕ) (expressions : List Expr) (places : List ℕ) (kinds :
         outs_are = outs_are;
       }
 
-  -- before any query there are no lines
   pub leads_start : Typed (work_of declared expressions) declared → Wide (work_of declared expressions) → (next : ℕ) (lines : List Line) (order outs : List ℕ) → next ≡ length kinds → lines ≡ [] → order ≡ [] → outs ≡ map (λ at. declared + at) places
       → Leads declared expressions places kinds 0 next lines (record { order = order; outs = outs; kinds = kinds })
   leads_start typed wide next lines order outs next_is no_lines no_order outs_are =
@@ -96,20 +103,24 @@ module _ (declared : ℕ) (expressions : List Expr) (places : List ℕ) (kinds :
       out = declared + place
 
       abbrev query : Query
-      query = record { name = []; stream = out; expr = e }
-
-      abbrev later : List Query
-      later = queries_from (declared + (place + 1)) (map ex_of (drop (place + 1) expressions))
+      query = record { name = []; stream = out; hidden = next; expr = e }
 
       abbrev last : ℕ
       last = (parts_of e next).next
 
-      rest_is : queries_from out (map ex_of (drop place expressions)) ≡ query ∷ later
+      -- the queries behind it, whose hidden streams have the numbers from one on
+      abbrev later_from : ℕ → List Query
+      later_from hidden = queries_from (declared + (place + 1)) hidden (map ex_of (drop (place + 1) expressions))
+
+      abbrev later : List Query
+      later = later_from last
+
+      rest_is : queries_from out next (map ex_of (drop place expressions)) ≡ query ∷ later
       rest_is =
           let item : expr ≡ get_or expressions place expr = sym (get_or_from_slice_get expressions place expr expr there) in
           let behind : drop place expressions ≡ expr ∷ drop (place + 1) expressions = drop-cons expressions place expr inside ∙ (λ i. sym item i ∷ drop (sym (add-one place) i) expressions) in
           let number : out + 1 ≡ declared + (place + 1) = omega arith in
-          ap (λ xs. queries_from out (map ex_of xs)) behind ∙ ap (λ n. query ∷ queries_from n (map ex_of (drop (place + 1) expressions))) number
+          ap (λ xs. queries_from out next (map ex_of xs)) behind ∙ ap (λ n. query ∷ queries_from n last (map ex_of (drop (place + 1) expressions))) number
 
       typed_here : Typed (query ∷ later) out
       typed_here = subst (λ (order : List Query). Typed order out) rest_is leads.typed
@@ -117,17 +128,16 @@ module _ (declared : ℕ) (expressions : List Expr) (places : List ℕ) (kinds :
       wide_here : Wide (query ∷ later)
       wide_here = subst Wide rest_is leads.wide
 
-      low : out < declared + length expressions
-      low = omega (arith, inside)
+      low : out < next
+      low = omega (arith, inside, leads.up)
 
       -- what the next query asks
       pub query_apart : IsApart e out next
-      query_apart = is_apart (declared + length expressions) e out next low leads.up (reads_below (kinds_by kinds) (declared + length expressions) query later (is_turn (kinds_by kinds) out query later typed_here))
+      query_apart = is_apart e out next low (reads_below (kinds_by kinds) (range_with_len 0 out) query later typed_here)
 
-      -- the streams of a query have numbers below 2^64
-      pub query_room : chain_end (work_of declared expressions) (declared + length expressions) < 2 ^ 64 → last < 2 ^ 64
+      pub query_room : chain_end (work_of declared expressions) declared < 2 ^ 64 → last < 2 ^ 64
       query_room room =
-          let same = leads.end_is ∙ ap (λ order. chain_end order next) rest_is in omega (arith, room, same, end_up later last)
+          let same = leads.end_is ∙ ap (λ order. chain_end order next) rest_is in omega (arith, room, same, end_up (declared + (place + 1)) last (map ex_of (drop (place + 1) expressions)))
 
       agrees : (stream : ℕ) → stream < out → slice_get layout.kinds stream ≡ Some (kinds_by kinds stream)
       agrees stream less = get_longer kinds layout.kinds stream (kinds_by kinds stream) leads.long (slice_get-get_or kinds stream [] (omega (arith, given)))
@@ -135,10 +145,9 @@ module _ (declared : ℕ) (expressions : List Expr) (places : List ℕ) (kinds :
       grow_by : GrowBy out (kinds_by kinds) layout.kinds e out next
       grow_by =
           split_typed out (kinds_by kinds) e out next layout.kinds (kinds_by kinds out) agrees leads.size
-          (get_longer kinds layout.kinds out (kinds_by kinds out) leads.long (slice_get-get_or kinds out [] (omega (arith, given, low))))
-          typed_here.1 (All-head (λ (q : Query). HasWidths (kinds_by kinds) q.expr) query later wide_here)
+          (get_longer kinds layout.kinds out (kinds_by kinds out) leads.long (slice_get-get_or kinds out [] (omega (arith, given, inside))))
+          typed_here.2 (All-head (λ (q : Query). HasWidths (kinds_by kinds) q.expr) query later wide_here)
 
-      -- the lines of a query are typed in turn
       pub query_typed : (all : List (List Kind)) × GrowInTurn layout.kinds (split_lines e out next) all
       query_typed = (grow_by.all, grow_by.grow)
 
@@ -178,18 +187,20 @@ module _ (declared : ℕ) (expressions : List Expr) (places : List ℕ) (kinds :
             (All-weaker (HasLine lines) (HasLine (lines ++ split_lines e out next)) (λ s has. any_left (λ (l : Line). l.out == s) lines (split_lines e out next) has) layout.order leads.has_lines)
             (All-weaker (HasLine (split_lines e out next)) (HasLine (lines ++ split_lines e out next)) (λ s has. any_right (λ (l : Line). l.out == s) lines (split_lines e out next) has) (split_order e out next) own_lines)
 
-        -- one more query leads on
         pub leads_next : Leads declared expressions places kinds (place + 1) new_next new_lines new
         leads_next = record {
           lines_are =
-              leads.lines_are ∙ ap (λ order. lines ++ chain_lines order next) rest_is ∙ sym (append_assoc lines (split_lines e out next) (chain_lines later last))
-              ∙ (λ i. sym lines_is i ++ chain_lines later (sym next_is i));
+              leads.lines_are ∙ ap (λ order. lines ++ chain_lines order) rest_is ∙ sym (append_assoc lines (split_lines e out next) (chain_lines later))
+              ∙ (λ i. sym lines_is i ++ chain_lines (later_from (sym next_is i)));
           order_is =
-              leads.order_is ∙ ap (λ order. layout.order ++ chain_order order next) rest_is ∙ sym (append_assoc layout.order (split_order e out next) (chain_order later last))
-              ∙ (λ i. sym order_is i ++ chain_order later (sym next_is i));
-          end_is = leads.end_is ∙ ap (λ order. chain_end order next) rest_is ∙ ap (chain_end later) (sym next_is);
-          typed = let number : out + 1 ≡ declared + (place + 1) = omega arith in subst (λ (n : ℕ). Typed later n) number typed_here.2;
-          wide = All-tail (λ (q : Query). HasWidths (kinds_by kinds) q.expr) query later wide_here;
+              leads.order_is ∙ ap (λ order. layout.order ++ chain_order order) rest_is ∙ sym (append_assoc layout.order (split_order e out next) (chain_order later))
+              ∙ (λ i. sym order_is i ++ chain_order (later_from (sym next_is i)));
+          end_is = leads.end_is ∙ ap (λ order. chain_end order next) rest_is ∙ (λ i. chain_end (later_from (sym next_is i)) (sym next_is i));
+          typed =
+              let number : out + 1 ≡ declared + (place + 1) = omega arith in
+              let numbers : range_with_len 0 out ++ out ∷ [] ≡ range_with_len 0 (declared + (place + 1)) = range_next out ∙ ap (range_with_len 0) number in
+              subst (λ (s : List ℕ × List Query). PublishInTurn (kinds_by kinds) s.0 s.1) (λ i. (numbers i, later_from (sym next_is i))) typed_here.3;
+          wide = subst (λ (n : ℕ). Wide (later_from n)) (sym next_is) (All-tail (λ (q : Query). HasWidths (kinds_by kinds) q.expr) query later wide_here);
           up = omega (arith, leads.up, parts_up e next, next_is);
           size = new_size ∙ sym next_is;
           long = longer_twice kinds layout.kinds new.kinds leads.long new_long;
@@ -202,33 +213,30 @@ module _ (declared : ℕ) (expressions : List Expr) (places : List ℕ) (kinds :
 
     -- all is there at the end
     module _ (past : length expressions ≤ place) (typed : Typed (work_of declared expressions) declared) (placed : All (λ at. at < length expressions) places) where
-      none_left : queries_from (declared + place) (map ex_of (drop place expressions)) ≡ []
-      none_left = ap (λ xs. queries_from (declared + place) (map ex_of xs)) (drop_all place expressions past)
+      none_left : queries_from (declared + place) next (map ex_of (drop place expressions)) ≡ []
+      none_left = ap (λ xs. queries_from (declared + place) next (map ex_of xs)) (drop_all place expressions past)
 
-      many : (number : ℕ) (xs : List Expr) → number + length (queries_from number (map ex_of xs)) ≡ number + length xs
-      many number [] = refl
-      many number (x ∷ xs) = let more = many (number + 1) xs in omega (arith, more)
+      lines_made : lines ≡ chain_lines (work_of declared expressions)
+      lines_made = sym (leads.lines_are ∙ ap (λ order. lines ++ chain_lines order) none_left ∙ append-nil lines)
 
-      lines_made : lines ≡ chain_lines (work_of declared expressions) (declared + length expressions)
-      lines_made = sym (leads.lines_are ∙ ap (λ order. lines ++ chain_lines order next) none_left ∙ append-nil lines)
-
-      order_made : layout.order ≡ chain_order (work_of declared expressions) (declared + length expressions)
-      order_made = sym (leads.order_is ∙ ap (λ order. layout.order ++ chain_order order next) none_left ∙ append-nil layout.order)
+      order_made : layout.order ≡ chain_order (work_of declared expressions)
+      order_made = sym (leads.order_is ∙ ap (λ order. layout.order ++ chain_order order) none_left ∙ append-nil layout.order)
 
       all_in : (stream : ℕ) → declared ≤ stream → stream < declared + length expressions → IsTrue (is_in layout.order stream)
       all_in stream above below =
+          let there = λ (number : ℕ). IsTrue (is_in (chain_order (work_of declared expressions)) number) in
           subst (λ (order : List ℕ). IsTrue (is_in order stream)) (sym order_made)
-          (chain_has (kinds_by kinds) (declared + length expressions) declared (work_of declared expressions) (declared + length expressions) typed (many declared expressions) (omega arith) stream above below)
+          (from_each there declared (declared + length expressions) (map ex_of expressions) (chain_has (work_of declared expressions)) stream above (omega (arith, below, length-map expressions ex_of)))
 
       layout_fits : LayoutFits lines layout
       layout_fits = record {
         typed = leads.fits;
         in_order =
             subst (λ (s : List Line × List ℕ). IsInOrder s.0 s.1) (λ i. (sym lines_made i, sym order_made i))
-            (chain_ordered (kinds_by kinds) (declared + length expressions) declared (work_of declared expressions) (declared + length expressions) typed (many declared expressions) (omega arith));
+            (chain_ordered (kinds_by kinds) (range_with_len 0 declared) (work_of declared expressions) typed (work_apart declared expressions));
         all_outs =
             subst (λ (s : List Line × List ℕ). All (λ line. IsTrue (is_in s.1 line.out)) s.0) (λ i. (sym lines_made i, sym order_made i))
-            (chain_outs (kinds_by kinds) (declared + length expressions) declared (work_of declared expressions) (declared + length expressions) typed (many declared expressions) (omega arith));
+            (chain_outs (work_of declared expressions));
         only_outs = leads.has_lines;
         printed =
             All-same (λ stream. IsTrue (is_in layout.order stream)) layout.outs (map (λ at. declared + at) places) leads.outs_are
@@ -236,7 +244,6 @@ module _ (declared : ℕ) (expressions : List Expr) (places : List ℕ) (kinds :
             (All-weaker (λ at. at < length expressions) (λ at. IsTrue (is_in layout.order (declared + at))) (λ at less. all_in (declared + at) (omega arith) (omega arith)) places placed));
       }
 
-      -- behind all queries the chains are made
       pub all_made : AreChains declared expressions places kinds (record { lines = lines; layout = layout })
       all_made = record {
         lines = lines_made;

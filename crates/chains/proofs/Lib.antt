@@ -4,6 +4,7 @@ pub mod GrowLemmas
 pub mod LawLemmas
 pub mod LeadLemmas
 pub mod LineLemmas
+pub mod NumberedLemmas
 pub mod OneLemmas
 pub mod ProgramLemmas
 pub mod RangeLemmas

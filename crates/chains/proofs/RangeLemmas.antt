@@ -7,6 +7,13 @@ one_more first zero = let e : first ≡ first + 0 = omega arith in ap (λ n. n �
 one_more first (suc many) =
     let e : first + 1 + many ≡ first + suc many = omega arith in ap (λ ns. first ∷ ns) (one_more (first + 1) many ∙ ap (λ n. range_with_len (first + 1) many ++ n ∷ []) e)
 
+-- the first numbers with the next one
+pub range_next : (many : ℕ) → range_with_len 0 many ++ many ∷ [] ≡ range_with_len 0 (many + 1)
+range_next many =
+    let at : many ≡ 0 + many = omega arith in
+    let longer : suc many ≡ many + 1 = omega arith in
+    ap (λ n. range_with_len 0 many ++ n ∷ []) at ∙ sym (one_more 0 many) ∙ ap (range_with_len 0) longer
+
 -- with the next number
 pub range_more : (before now next : List ℕ) (first number : ℕ) → first ≤ number → now ≡ before ++ range_with_len first (number - first) → next ≡ now ++ number ∷ []
     → next ≡ before ++ range_with_len first (number + 1 - first)

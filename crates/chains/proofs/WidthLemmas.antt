@@ -1,12 +1,15 @@
 -- Typed expressions have widths, and where projections have them they meet tuples of their width.
-use Rattle.std.proofs.Common.{◌≡◌, ◌∙◌, sym, ap, ℕ, ◌+◌, length, List}
+use Rattle.std.proofs.Common.{◌≡◌, ◌∙◌, sym, ap, subst, ℕ, ◌+◌, length, List}
 use Rattle.std.specs.Prelude.{None}
+use Rattle.std.specs.List.{All}
 use Rattle.std.proofs.lemmas.List.{length-append, length-map}
 use Rattle.std.proofs.lemmas.List.Elements.{All-weaker}
 use Rattle.event_types.specs.declared.kind.Kind.{Kind}
+use Rattle.semantics.proofs.ReadingLemmas.{denote_agrees}
 use Rattle.semantics.specs.Denotation.{Streams, denote}
 use Rattle.semantics.specs.Expressions.{Ex, Read, Filter, Select, Union, Next, Fold}
 use Rattle.semantics.specs.Kinds.{HasKinds, HaveKinds, value_kind}
+use Rattle.semantics.specs.Reading.{ReadsOnly}
 use Rattle.semantics.specs.Typing.{Gives}
 use Rattle.scalar_expr.specs.Kinds.{sc_kind}
 use Rattle.algebra.proofs.TypingLemmas.{typed}
@@ -36,3 +39,15 @@ module _ (count : ℕ) (kinds : ℕ → List Kind) where
   wide_meets streams all (Union e f) out h wide = (wide_meets streams all e out h.0 wide.0, wide_meets streams all f out h.1 wide.1)
   wide_meets streams all (Next p e f) out h wide = (wide_meets streams all e h.0 h.2 wide.0, wide_meets streams all f h.1 h.3 wide.1)
   wide_meets streams all (Fold p q m e f) out h wide = (wide_meets streams all e out h.1 wide.0, wide_meets streams all f h.0 h.2 wide.1)
+
+-- they meet the same over streams that agree where the expression reads
+pub meets_alike : (IsSo : ℕ → Type 0) (streams others : Streams) → ((stream : ℕ) → IsSo stream → streams stream ≡ others stream) → (e : Ex) → ReadsOnly IsSo e → MeetWidths e others → MeetWidths e streams
+meets_alike IsSo streams others same (Read stream) reads meet = tt
+meets_alike IsSo streams others same (Filter p e) reads meet = meets_alike IsSo streams others same e reads meet
+meets_alike IsSo streams others same (Select m e) reads meet = (
+  meets_alike IsSo streams others same e reads meet.0,
+  subst (All (λ tuple. length tuple.vals ≡ m.width)) (sym (denote_agrees IsSo streams others same e reads)) meet.1,
+)
+meets_alike IsSo streams others same (Union e f) reads meet = (meets_alike IsSo streams others same e reads.0 meet.0, meets_alike IsSo streams others same f reads.1 meet.1)
+meets_alike IsSo streams others same (Next p e f) reads meet = (meets_alike IsSo streams others same e reads.0 meet.0, meets_alike IsSo streams others same f reads.1 meet.1)
+meets_alike IsSo streams others same (Fold p q m e f) reads meet = (meets_alike IsSo streams others same e reads.0 meet.0, meets_alike IsSo streams others same f reads.1 meet.1)

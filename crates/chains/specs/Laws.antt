@@ -13,23 +13,25 @@ use Rattle.automaton.specs.NetworkLines.{NetworkFits}
 use Rattle.automaton.specs.Plain.{IsPlain}
 use Rattle.automaton.specs.States.{Net}
 use Rattle.automaton.specs.Work.{IsInOrder, completed}
-use Rattle.chains.specs.Chains.{first_hidden, lines_of, order_of}
+use Rattle.chains.specs.Chains.{HideApart, lines_of, order_of}
 use Rattle.chains.specs.Widths.{HasWidths}
 
--- a program over streams of these kinds, whose projections have the widths of their sources
+-- a program over streams of these kinds, whose projections have the widths of their sources, and whose queries hide streams apart
 pub record IsWideProgram (kinds : ℕ → List Kind) (program : Program) : Type 0 where
   pub typed : IsProgram kinds program
   pub wide : All (λ query. HasWidths kinds query.expr) program.order
+  pub apart : HideApart program.order
 
--- the lines of a program are in the order of work
+-- the lines of a program whose queries hide streams apart are in the order of work
 abbrev pub ChainsAreInOrder : Type 0
-ChainsAreInOrder = (kinds : ℕ → List Kind) (program : Program) → IsProgram kinds program → IsInOrder (lines_of program) (order_of program)
+ChainsAreInOrder = (kinds : ℕ → List Kind) (program : Program) → IsProgram kinds program → HideApart program.order → IsInOrder (lines_of program) (order_of program)
 
 -- over events of their streams' kinds, each declared and each published stream is by the lines exactly what it is by the program
 abbrev pub ChainsMeanTheirProgram : Type 0
 ChainsMeanTheirProgram =
     (kinds : ℕ → List Kind) (program : Program) (history : List Heard) → IsWideProgram kinds program → HaveTheirKinds kinds history
-    → (stream : ℕ) → stream < first_hidden program → completed (lines_of program) (order_of program) (declared_streams program.declared history) stream ≡ env program history stream
+    → ((stream : ℕ) → stream < program.declared → completed (lines_of program) (order_of program) (declared_streams program.declared history) stream ≡ env program history stream)
+    × All (λ query. completed (lines_of program) (order_of program) (declared_streams program.declared history) query.stream ≡ env program history query.stream) program.queries
 
 -- so each query's stream is a permutation of what it is by the program
 abbrev pub QueriesAreDerived : Type 0

@@ -40,11 +40,11 @@ impl Chains {
         places: &[usize],
         kinds: KindLists,
     ) -> Result<Chains, Memory>
-        requires typed { PublishInTurn (kinds_by kinds) declared (work_of declared expressions.now) }
+        requires typed { PublishInTurn (kinds_by kinds) (range_with_len 0 declared) (work_of declared expressions.now) }
         requires wide { All (λ query. HasWidths (kinds_by kinds) query.expr) (work_of declared expressions.now) }
         requires given { length kinds ≡ declared + length expressions.now }
         requires placed { All (λ place. place < length expressions.now) places.now }
-        requires room { chain_end (work_of declared expressions.now) (declared + length expressions.now) < 2 ^ 64 }
+        requires room { chain_end (work_of declared expressions.now) declared < 2 ^ 64 }
         ensures { IfOk result (AreChains declared expressions.now places.now kinds) }
     {
         let mut namer = Namer::new(kinds.len());

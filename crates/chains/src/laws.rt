@@ -1,7 +1,8 @@
 //! Laws over the lines of programs.
 ghost use Rattle.chains.specs.Laws.{ChainsAreInOrder, ChainsMeanTheirProgram, PlainNetworksFit, QueriesAreDerived};
 
-/// The lines of a program may be worked on in their order.
+/// The lines of a program may be worked on in their order, where the hidden streams of each query have
+/// numbers of their own.
 pub fn chains_are_in_order()
     ensures { ChainsAreInOrder }
 {}
