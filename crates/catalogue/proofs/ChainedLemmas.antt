@@ -10,13 +10,16 @@ use Rattle.semantics.specs.Programs.{Program, Query}
 use Rattle.semantics.specs.TypedPrograms.{PublishInTurn}
 use Rattle.algebra.specs.declared.expression.Expr.{Expr}
 use Rattle.algebra.specs.Views.{ex_of}
+use Rattle.splitter.specs.Splitting.{parts_of}
 use Rattle.stream_schema.specs.Schema.{Attr, kinds_of}
 use Rattle.stream_schema.specs.Streams.{Entry, schemas_of}
 use Rattle.cel_grammar.specs.Trees.{Statement}
+use Rattle.cel_grammar.specs.Views.{statement_of}
 use Rattle.chains.specs.Chains.{chain_end, outs_of}
 use Rattle.chains.specs.declared.chains.Chains.{Chains}
 use Rattle.chains.specs.Widths.{HasWidths}
 use Rattle.chains.specs.Work.{AreChains, kinds_by, work_of}
+use Rattle.chains.proofs.NumberedLemmas.{AreNumbered}
 use Rattle.chains.proofs.ProgramLemmas.{expressions_of, layout_made, lines_made, work_end, work_typed, work_wide}
 use Rattle.cel_types.specs.SourceLaws.{kinds_in}
 use Rattle.catalogue.specs.Catalogued.{Catalogued, IsAccepted, judged_of, queries_by}
@@ -26,20 +29,20 @@ use Rattle.catalogue.specs.Tables.{HasPlaces}
 use Rattle.catalogue.specs.Typing.{Publish, none, next, published_by}
 use Rattle.catalogue.proofs.FewLemmas.{numbers_left}
 use Rattle.catalogue.proofs.HeldLemmas.{place_is, place_small, queries_long, sizes, stream_at}
-use Rattle.catalogue.proofs.TurnLemmas.{in_turn}
+use Rattle.catalogue.proofs.TurnLemmas.{in_turn, numbered}
 use Rattle.catalogue.proofs.WideLemmas.{published_wide}
 
 -- each query publishes a stream
-all_count : {queries : List Statement} {streams all : List Entry} {order : List ℕ} {done : List Query} → Publish queries streams order all done → length all ≡ length streams + length order
+all_count : {queries : List Statement} {streams all : List Entry} {hidden : ℕ} {order : List ℕ} {done : List Query} → Publish queries streams hidden order all done → length all ≡ length streams + length order
 all_count (none {streams = streams}) = let e : length streams ≡ length streams + 0 = omega arith in e
 all_count (next {streams = streams} {order = order} {s = s} schema x there typed rest) = let later = all_count rest in omega (arith, later, length_push streams (published_by s schema))
 
 -- queries by their expressions
-by_expressions : (number : ℕ) (streams : List Entry) (xs : List Expr) → length (queries_by number streams xs) ≡ length xs → expressions_of (queries_by number streams xs) ≡ map ex_of xs
-by_expressions number [] [] same = refl
-by_expressions number [] (x ∷ xs) same = absurd (omega (arith, same))
-by_expressions number (s ∷ streams) [] same = refl
-by_expressions number (s ∷ streams) (x ∷ xs) same = let rest = by_expressions (number + 1) streams xs (omega (arith, same)) in λ i. ex_of x ∷ rest i
+by_expressions : (number hidden : ℕ) (streams : List Entry) (xs : List Expr) → length (queries_by number hidden streams xs) ≡ length xs → expressions_of (queries_by number hidden streams xs) ≡ map ex_of xs
+by_expressions number hidden [] [] same = refl
+by_expressions number hidden [] (x ∷ xs) same = absurd (omega (arith, same))
+by_expressions number hidden (s ∷ streams) [] same = refl
+by_expressions number hidden (s ∷ streams) (x ∷ xs) same = let rest = by_expressions (number + 1) (parts_of (ex_of x) hidden).next streams xs (omega (arith, same)) in λ i. ex_of x ∷ rest i
 
 kinds_mapped : (schemas : List (List Attr)) (stream : ℕ) → get_or (map kinds_of schemas) stream [] ≡ kinds_of (get_or schemas stream [])
 kinds_mapped [] stream = refl
@@ -64,11 +67,11 @@ many_streams c accepted = all_count accepted.accepts.publishes ∙ sizes c accep
 
 -- what the making of lines asks
 pub record Asks (expressions : List Expr) (places : List ℕ) (declared : ℕ) (kinds : List (List Kind)) : Type 0 where
-  pub typed : PublishInTurn (kinds_by kinds) declared (work_of declared expressions)
+  pub typed : PublishInTurn (kinds_by kinds) (range_with_len 0 declared) (work_of declared expressions)
   pub wide : All (λ query. HasWidths (kinds_by kinds) query.expr) (work_of declared expressions)
   pub given : length kinds ≡ declared + length expressions
   pub placed : All (λ place. place < length expressions) places
-  pub room : chain_end (work_of declared expressions) (declared + length expressions) < 2 ^ 64
+  pub room : chain_end (work_of declared expressions) declared < 2 ^ 64
 
 module _ (c : Catalogued) (accepted : IsAccepted c) (typed : length c.expressions ≡ length c.order) (places : List ℕ) (placed : HasPlaces c.order places) where
   abbrev program : Program
@@ -80,14 +83,21 @@ module _ (c : Catalogued) (accepted : IsAccepted c) (typed : length c.expression
   kinds_same : kinds_in (c.declared ++ c.published) ≡ kinds_by lists
   kinds_same = λ i stream. sym (kinds_mapped (schemas_of (c.declared ++ c.published)) stream) i
 
-  turns : PublishInTurn (kinds_by lists) (length c.declared) program.order
-  turns = subst (λ (kinds : ℕ → List Kind). PublishInTurn kinds (length c.declared) program.order) kinds_same (in_turn accepted.accepts.publishes)
+  turns : PublishInTurn (kinds_by lists) (range_with_len 0 (length c.declared)) program.order
+  turns = subst (λ (kinds : ℕ → List Kind). PublishInTurn kinds (range_with_len 0 (length c.declared)) program.order) kinds_same (in_turn accepted.accepts.publishes)
 
   widths : All (λ query. HasWidths (kinds_by lists) query.expr) program.order
   widths = subst (λ (kinds : ℕ → List Kind). All (λ (q : Query). HasWidths kinds q.expr) program.order) kinds_same (published_wide accepted.accepts.publishes)
 
   same : expressions_of program.order ≡ map ex_of c.expressions
-  same = by_expressions (length c.declared) c.published c.expressions (queries_long c accepted ∙ sym typed)
+  same = by_expressions (length c.declared) (length c.file.statements) c.published c.expressions (queries_long c accepted ∙ sym typed)
+
+  -- each has the next numbers
+  turned : AreNumbered (length c.declared) (length c.declared + length program.order) program.order
+  turned =
+      let many : length (map statement_of c.file.statements) ≡ length c.declared + length program.order =
+      length-map c.file.statements statement_of ∙ sym (sizes c accepted) ∙ ap (λ n. length c.declared + n) (sym (queries_long c accepted)) in
+      subst (λ n. AreNumbered (length c.declared) n program.order) many (numbered accepted.accepts.publishes)
 
   long : length lists ≡ length c.declared + length c.expressions
   long =
@@ -99,11 +109,11 @@ module _ (c : Catalogued) (accepted : IsAccepted c) (typed : length c.expression
 
   asked : Asks c.expressions places (length c.declared) lists
   asked = record {
-    typed = work_typed lists program c.expressions same turns;
-    wide = work_wide lists program c.expressions same widths;
+    typed = work_typed lists program c.expressions same turned turns;
+    wide = work_wide lists program c.expressions same turned widths;
     given = long;
     placed = All-from_get_or (λ place. place < length c.expressions) places 0 place_within;
-    room = let end = work_end lists program c.expressions same in omega (arith, numbers_left c accepted, end);
+    room = let end = work_end lists program c.expressions same turned in omega (arith, numbers_left c accepted, end);
   }
 
   -- each query's stream stands at its place behind the declared ones
@@ -135,6 +145,6 @@ module _ (c : Catalogued) (accepted : IsAccepted c) (typed : length c.expression
     pub chained : (chains : Chains) → AreChains declared c.expressions places kinds chains → AreChained c chains
     chained chains made =
         let own = subst (λ (s : ℕ × List (List Kind)). AreChains s.0 c.expressions places s.1 chains) (λ i. (declared_is i, kinds_are i)) made in record {
-          lines = lines_made lists program c.expressions same turns places outs chains own;
-          layout = layout_made lists program c.expressions same turns places outs chains own;
+          lines = lines_made lists program c.expressions same turned places outs chains own;
+          layout = layout_made lists program c.expressions same turned places outs chains own;
         }

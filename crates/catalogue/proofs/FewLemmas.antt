@@ -1,10 +1,10 @@
 -- An accepted query text has few lines, and takes few numbers for hidden streams.
-use Rattle.std.proofs.Common.{◌≡◌, refl, ◌+◌, ◌*◌, ◌<◌, ◌≤◌, ◌^◌, length, List, map, arith}
+use Rattle.std.proofs.Common.{◌≡◌, ◌+◌, ◌*◌, ◌<◌, ◌≤◌, ◌^◌, length, List, map, arith}
 use Rattle.std.specs.List.{All}
 use Rattle.std.proofs.lemmas.List.{length-map}
 use Rattle.semantics.specs.Programs.{Program}
 use Rattle.splitter.proofs.FewLemmas.{size}
-use Rattle.chains.specs.Chains.{end_of, first_hidden, lines_of}
+use Rattle.chains.specs.Chains.{end_of, lines_of}
 use Rattle.chains.proofs.ProgramLemmas.{IsShort, few_lines, few_taken}
 use Rattle.cel_grammar.specs.Trees.{Statement}
 use Rattle.cel_grammar.specs.Views.{statement_of}
@@ -13,6 +13,7 @@ use Rattle.catalogue.specs.Filing.{most_bytes}
 use Rattle.catalogue.specs.Judgement.{program_of}
 use Rattle.catalogue.proofs.HeldLemmas.{queries_long, sizes}
 use Rattle.catalogue.proofs.RoomLemmas.{file_few, published_short, queries_few}
+use Rattle.catalogue.proofs.TurnLemmas.{numbered}
 
 module _ (c : Catalogued) (accepted : IsAccepted c) where
   abbrev program : Program
@@ -34,9 +35,11 @@ module _ (c : Catalogued) (accepted : IsAccepted c) where
   -- numbers are left behind its streams
   pub numbers_left : end_of program < 2 ^ 64
   numbers_left =
-      let most : end_of program ≤ first_hidden program + 1024 * length program.order = few_taken program.order short (first_hidden program) in
-      let first : first_hidden program ≡ length c.declared + length program.order = refl in omega (arith, most, first, few)
+      let all : length statements ≤ most_bytes = file_few accepted.text statements c.file.lines accepted.accepts.file in
+      let before : length c.declared ≤ length statements = omega (arith, sizes c accepted, length-map c.file.statements statement_of) in
+      let most : end_of program ≤ length statements + 1024 * length program.order =
+      few_taken (length c.declared) (length statements) (length c.declared) program.order (numbered accepted.accepts.publishes) short before in omega (arith, most, all, few)
 
   -- its lines and their hops are few
   pub lines_few : size (lines_of program) < 2 ^ 64
-  lines_few = omega (arith, few_lines program.order short (first_hidden program), few)
+  lines_few = omega (arith, few_lines program.order short, few)

@@ -10,6 +10,7 @@ use Rattle.algebra.specs.Views.{ex_of}
 use Rattle.semantics.specs.Expressions.{Read}
 use Rattle.cel_grammar.specs.Views.{statement_of}
 use Rattle.resubscribe.specs.Laws.{HasEachOnce}
+use Rattle.resubscribe.proofs.AmongLemmas.{eq_apart, eq_self}
 use Rattle.resubscribe.proofs.OrderLemmas.{HasEachOnce-order}
 use Rattle.catalogue.specs.Catalogued.{Catalogued, IsAccepted, judged_of, queries_by}
 use Rattle.catalogue.specs.Judgement.{query_at}
@@ -17,7 +18,6 @@ use Rattle.catalogue.specs.Reading.{reads_in}
 use Rattle.catalogue.specs.Tables.{HasPlaces}
 use Rattle.catalogue.proofs.CountLemmas.{order_count, statement_count}
 use Rattle.catalogue.proofs.PartLemmas.{expr_by, expressions_reach, published_count, stream_by, streams_reach}
-use Rattle.event_types.proofs.NumberLemmas.{self_equal, is_other}
 
 -- the first so many of these numbers have their places
 pub record HasFirstPlaces (numbers places : List ℕ) (many : ℕ) : Type 0 where
@@ -48,11 +48,9 @@ module _ (c : Catalogued) (accepted : IsAccepted c) where
   once : HasEachOnce (reads_in (map statement_of c.file.statements)) c.order
   once = HasEachOnce-order (reads_in (map statement_of c.file.statements)) c.order accepted.accepts.in_order
 
-  -- no query stands twice in the order
   pub order_distinct : AllPairs (λ x y. x ≢ y) c.order
   order_distinct = once.distinct
 
-  -- each number is that of a query
   pub order_small : (number : ℕ) → Contains c.order number → number < length c.order
   order_small number stands = subst (λ (n : ℕ). number < n) (sym (order_count (reads_in (map statement_of c.file.statements)) c.order accepted.accepts.in_order)) ((once.all number).0 stands)
 
@@ -60,26 +58,25 @@ module _ (c : Catalogued) (accepted : IsAccepted c) where
   pub sizes : length c.declared + length c.order ≡ length c.file.statements
   sizes = statement_count (map statement_of c.file.statements) c.declared c.order accepted.accepts.declares accepted.accepts.in_order ∙ length-map c.file.statements statement_of
 
-  -- there is a query for each number of the order
-  pub queries_long : length (queries_by (length c.declared) c.published c.expressions) ≡ length c.order
+  pub queries_long : length (queries_by (length c.declared) (length c.file.statements) c.published c.expressions) ≡ length c.order
   queries_long = published_count accepted.accepts.publishes
 
-  typed_there : (place : ℕ) → place < length c.order → place < length (queries_by (length c.declared) c.published c.expressions)
+  typed_there : (place : ℕ) → place < length c.order → place < length (queries_by (length c.declared) (length c.file.statements) c.published c.expressions)
   typed_there place within = subst (λ n. place < n) (sym queries_long) within
 
   -- each query that is worked on publishes a stream
   pub stream_small : (place : ℕ) → place < length c.order → length c.declared + place < length (c.declared ++ c.published)
   stream_small place within =
-      let reach : length (queries_by (length c.declared) c.published c.expressions) ≤ length c.published = streams_reach (length c.declared) c.published c.expressions in
-      let there : place < length (queries_by (length c.declared) c.published c.expressions) = typed_there place within in
+      let reach : length (queries_by (length c.declared) (length c.file.statements) c.published c.expressions) ≤ length c.published = streams_reach (length c.declared) (length c.file.statements) c.published c.expressions in
+      let there : place < length (queries_by (length c.declared) (length c.file.statements) c.published c.expressions) = typed_there place within in
       let long : length (c.declared ++ c.published) ≡ length c.declared + length c.published = length-append c.declared c.published in
       omega arith
 
   -- and has an expression
   pub expression_small : (place : ℕ) → place < length c.order → place < length c.expressions
   expression_small place within =
-      let reach : length (queries_by (length c.declared) c.published c.expressions) ≤ length c.expressions = expressions_reach (length c.declared) c.published c.expressions in
-      let there : place < length (queries_by (length c.declared) c.published c.expressions) = typed_there place within in
+      let reach : length (queries_by (length c.declared) (length c.file.statements) c.published c.expressions) ≤ length c.expressions = expressions_reach (length c.declared) (length c.file.statements) c.published c.expressions in
+      let there : place < length (queries_by (length c.declared) (length c.file.statements) c.published c.expressions) = typed_there place within in
       omega arith
 
   module _ (places : List ℕ) (placed : HasPlaces c.order places) (query : ℕ) (small : query < length c.order) where
@@ -94,7 +91,6 @@ module _ (c : Catalogued) (accepted : IsAccepted c) where
         let is : get_or places query 0 ≡ k = ap (λ q. get_or places q 0) (sym here) ∙ placed.there k within in
         (subst (λ p. p < length c.order) (sym is) within, ap (λ p. get_or c.order p 0) is ∙ here)
 
-    -- the place of a query in the order is within it
     pub place_small : get_or places query 0 < length c.order
     place_small = at_place.0
 
@@ -103,18 +99,18 @@ module _ (c : Catalogued) (accepted : IsAccepted c) where
     place_is =
         let small_place : get_or places query 0 < length c.order = at_place.0 in
         position_or_len_is (λ other. query == other) c.order (get_or places query 0) 0 (omega arith)
-        (λ k before. is_other query (get_or c.order k 0) (λ same. order_distinct k (get_or places query 0) 0 before at_place.0 (sym same ∙ sym at_place.1)))
-        (λ within. ap (λ n. query == n) at_place.1 ∙ self_equal query)
+        (λ k before. eq_apart query (get_or c.order k 0) (λ same. order_distinct k (get_or places query 0) 0 before at_place.0 (sym same ∙ sym at_place.1)))
+        (λ within. ap (λ n. query == n) at_place.1 ∙ eq_self query)
 
   module _ (query place : ℕ) (is : place ≡ position_or_len (λ other. query == other) c.order) (within : place < length c.order) where
     -- the query's stream stands at its place among those that are published
     pub stream_at : length c.declared + place ≡ (query_at (judged_of c) query).stream
     stream_at =
-        sym (ap (λ p. (get_or (queries_by (length c.declared) c.published c.expressions) p (record { name = []; stream = 0; expr = Read 0 })).stream) (sym is)
-        ∙ stream_by (length c.declared) c.published c.expressions place (record { name = []; stream = 0; expr = Read 0 }) (typed_there place within))
+        sym (ap (λ p. (get_or (queries_by (length c.declared) (length c.file.statements) c.published c.expressions) p (record { name = []; stream = 0; hidden = 0; expr = Read 0 })).stream) (sym is)
+        ∙ stream_by (length c.declared) (length c.file.statements) c.published c.expressions place (record { name = []; stream = 0; hidden = 0; expr = Read 0 }) (typed_there place within))
 
     -- and so does its expression
     pub expression_at : (x : Expr) → slice_get c.expressions place ≡ Some x → ex_of x ≡ (query_at (judged_of c) query).expr
     expression_at x at =
-        expr_by (length c.declared) c.published c.expressions place (record { name = []; stream = 0; expr = Read 0 }) x (typed_there place within) at
-        ∙ ap (λ p. (get_or (queries_by (length c.declared) c.published c.expressions) p (record { name = []; stream = 0; expr = Read 0 })).expr) is
+        expr_by (length c.declared) (length c.file.statements) c.published c.expressions place (record { name = []; stream = 0; hidden = 0; expr = Read 0 }) x (typed_there place within) at
+        ∙ ap (λ p. (get_or (queries_by (length c.declared) (length c.file.statements) c.published c.expressions) p (record { name = []; stream = 0; hidden = 0; expr = Read 0 })).expr) is

@@ -6,6 +6,7 @@ use Rattle.std.proofs.lemmas.List.{append-nil, length-map, length_push}
 use Rattle.algebra.specs.declared.expression.Expr.{Expr}
 use Rattle.algebra.specs.Views.{ex_of}
 use Rattle.semantics.specs.Programs.{Query}
+use Rattle.splitter.specs.Splitting as split
 use Rattle.stream_schema.specs.Streams.{Entry}
 use Rattle.cel_grammar.specs.Trees.{Statement}
 use Rattle.cel_grammar.specs.Views.{statement_of}
@@ -21,25 +22,26 @@ use Rattle.catalogue.specs.Typing.{ArePublished, Declare, Publish, none, next, p
 use Rattle.catalogue.proofs.CountLemmas.{statement_count}
 
 -- the streams of the queries stand behind the others, and the queries are those that publish them
-record HasParts (streams all : List Entry) (done : List Query) (expressions : List Expr) : Type 0 where
+record HasParts (streams all : List Entry) (hidden : ℕ) (done : List Query) (expressions : List Expr) : Type 0 where
   pub more : List Entry
   pub all_are : all ≡ streams ++ more
-  pub done_are : done ≡ queries_by (length streams) more expressions
+  pub done_are : done ≡ queries_by (length streams) hidden more expressions
 
 -- by induction on the queries
-has_parts : {queries : List Statement} {streams all : List Entry} {order : List ℕ} {done : List Query} → Publish queries streams order all done
-    → (expressions : List Expr) → map (λ q. q.expr) done ≡ map ex_of expressions → HasParts streams all done expressions
+has_parts : {queries : List Statement} {streams all : List Entry} {hidden : ℕ} {order : List ℕ} {done : List Query} → Publish queries streams hidden order all done
+    → (expressions : List Expr) → map (λ q. q.expr) done ≡ map ex_of expressions → HasParts streams all hidden done expressions
 has_parts (none {streams = streams}) xs same = record { more = []; all_are = sym (append-nil streams); done_are = refl }
 has_parts (next schema x there typed rest) [] same = cc
-has_parts (next {streams = streams} {all = all} {s = s} {more = done} schema x there typed rest) (y ∷ ys) same =
+has_parts (next {streams = streams} {all = all} {hidden = hidden} {s = s} {more = done} schema x there typed rest) (y ∷ ys) same =
     let is : x ≡ ex_of y = cc in
     let later : map (λ q. q.expr) done ≡ map ex_of ys = cc in
-    let behind : HasParts (streams ++ published_by s schema ∷ []) all done ys = has_parts rest ys later in
-    let done_later : done ≡ queries_by (length streams + 1) behind.more ys = behind.done_are ∙ ap (λ n. queries_by n behind.more ys) (length_push streams (published_by s schema)) in
+    let behind : HasParts (streams ++ published_by s schema ∷ []) all (split.parts_of x hidden).next done ys = has_parts rest ys later in
+    let done_later : done ≡ queries_by (length streams + 1) (split.parts_of (ex_of y) hidden).next behind.more ys =
+    behind.done_are ∙ (λ i. queries_by (length_push streams (published_by s schema) i) (split.parts_of (is i) hidden).next behind.more ys) in
     record {
       more = published_by s schema ∷ behind.more;
       all_are = behind.all_are ∙ append_assoc streams (published_by s schema ∷ []) behind.more;
-      done_are = λ i. record { name = (published_by s schema).name; stream = length streams; expr = is i } ∷ done_later i;
+      done_are = λ i. record { name = (published_by s schema).name; stream = length streams; hidden = hidden; expr = is i } ∷ done_later i;
     }
 
 -- a file whose names are sound, whose queries have this order, and whose statements are typed, is accepted
@@ -48,27 +50,27 @@ pub accepts : (text : List ℕ) (file : Filed) (streams all : List Entry) (order
     → Declare (map statement_of file.statements) streams → ArePublished (map statement_of file.statements) streams order all expressions → Accepts text (judged_of (parts_of file all order expressions))
 accepts text file streams all order expressions is_file sound in_order declared published =
     let ss : List Statement = map statement_of file.statements in
-    let parts : HasParts streams all published.queries expressions = has_parts published.publish expressions published.expressions_are in
+    let parts : HasParts streams all (length ss) published.queries expressions = has_parts published.publish expressions published.expressions_are in
     let counted : length streams + length order ≡ length (map statement_of file.statements) = statement_count (map statement_of file.statements) streams order declared in_order in
     let as_many : length (map statement_of file.statements) ≡ length file.statements = length-map file.statements statement_of in
     let many : length file.statements - length order ≡ length streams = omega arith in
     let front : streams ≡ take (length file.statements - length order) all = sym (ap (λ n. take n all) many ∙ ap (take (length streams)) parts.all_are ∙ take-append_seam streams parts.more) in
     let back : parts.more ≡ drop (length file.statements - length order) all = sym (ap (λ n. drop n all) many ∙ ap (drop (length streams)) parts.all_are ∙ drop-append_seam streams parts.more) in
-    let by_parts : Publish (queries_in (map statement_of file.statements)) streams order (streams ++ parts.more) (queries_by (length streams) parts.more expressions) =
-    subst (Publish (queries_in (map statement_of file.statements)) streams order (streams ++ parts.more)) parts.done_are
-    (subst (λ (es : List Entry). Publish (queries_in (map statement_of file.statements)) streams order es published.queries) parts.all_are published.publish) in
-    let at_front : Publish (queries_in (map statement_of file.statements)) (take (length file.statements - length order) all) order (take (length file.statements - length order) all ++ parts.more) (queries_by (length (take (length file.statements - length order) all)) parts.more expressions) =
-    subst (λ (es : List Entry). Publish (queries_in (map statement_of file.statements)) es order (es ++ parts.more) (queries_by (length es) parts.more expressions)) front by_parts in
+    let by_parts : Publish (queries_in ss) streams (length ss) order (streams ++ parts.more) (queries_by (length streams) (length ss) parts.more expressions) =
+    subst (Publish (queries_in ss) streams (length ss) order (streams ++ parts.more)) parts.done_are
+    (subst (λ (es : List Entry). Publish (queries_in ss) streams (length ss) order es published.queries) parts.all_are published.publish) in
+    let at_front : Publish (queries_in ss) (take (length file.statements - length order) all) (length ss) order (take (length file.statements - length order) all ++ parts.more) (queries_by (length (take (length file.statements - length order) all)) (length file.statements) parts.more expressions) =
+    subst (λ (t : List Entry × ℕ). Publish (queries_in ss) t.0 (length ss) order (t.0 ++ parts.more) (queries_by (length t.0) t.1 parts.more expressions)) (λ i. (front i, as_many i)) by_parts in
     record {
       file = is_file;
       sound = sound;
       in_order = in_order;
       declares = subst (Declare (map statement_of file.statements)) front declared;
-      publishes = subst (λ (es : List Entry). Publish (queries_in (map statement_of file.statements)) (take (length file.statements - length order) all) order (take (length file.statements - length order) all ++ es) (queries_by (length (take (length file.statements - length order) all)) es expressions)) back at_front;
+      publishes = subst (λ (es : List Entry). Publish (queries_in ss) (take (length file.statements - length order) all) (length ss) order (take (length file.statements - length order) all ++ es) (queries_by (length (take (length file.statements - length order) all)) (length file.statements) es expressions)) back at_front;
     }
 
 -- as many queries are typed as are worked on
-pub published_count : {queries : List Statement} {streams all : List Entry} {order : List ℕ} {done : List Query} → Publish queries streams order all done → length done ≡ length order
+pub published_count : {queries : List Statement} {streams all : List Entry} {hidden : ℕ} {order : List ℕ} {done : List Query} → Publish queries streams hidden order all done → length done ≡ length order
 published_count none = refl
 published_count (next schema x there typed rest) = ap suc (published_count rest)
 
@@ -78,32 +80,36 @@ expressions_count ss streams order all expressions published =
     sym (length-map expressions ex_of) ∙ ap length (sym published.expressions_are) ∙ length-map published.queries (λ q. q.expr) ∙ published_count published.publish
 
 -- a query by its place: its stream
-pub stream_by : (number : ℕ) (streams : List Entry) (expressions : List Expr) (place : ℕ) (d : Query) → place < length (queries_by number streams expressions)
-    → (get_or (queries_by number streams expressions) place d).stream ≡ number + place
-stream_by number [] xs place d within = absurd (omega arith)
-stream_by number (s ∷ streams) [] place d within = absurd (omega arith)
-stream_by number (s ∷ streams) (x ∷ xs) zero d within = omega arith
-stream_by number (s ∷ streams) (x ∷ xs) (suc place) d within =
-    let later : (get_or (queries_by (number + 1) streams xs) place d).stream ≡ (number + 1) + place = stream_by (number + 1) streams xs place d (omega arith) in
+pub stream_by : (number hidden : ℕ) (streams : List Entry) (expressions : List Expr) (place : ℕ) (d : Query) → place < length (queries_by number hidden streams expressions)
+    → (get_or (queries_by number hidden streams expressions) place d).stream ≡ number + place
+stream_by number hidden [] xs place d within = absurd (omega arith)
+stream_by number hidden (s ∷ streams) [] place d within = absurd (omega arith)
+stream_by number hidden (s ∷ streams) (x ∷ xs) zero d within = omega arith
+stream_by number hidden (s ∷ streams) (x ∷ xs) (suc place) d within =
+    let after = (split.parts_of (ex_of x) hidden).next in
+    let later : (get_or (queries_by (number + 1) after streams xs) place d).stream ≡ (number + 1) + place = stream_by (number + 1) after streams xs place d (omega arith) in
     let past : (number + 1) + place ≡ number + suc place = omega arith in
     later ∙ past
 
 -- and its expression
-pub expr_by : (number : ℕ) (streams : List Entry) (expressions : List Expr) (place : ℕ) (d : Query) (x : Expr) → place < length (queries_by number streams expressions) → slice_get expressions place ≡ Some x
-    → ex_of x ≡ (get_or (queries_by number streams expressions) place d).expr
-expr_by number [] xs place d x within at = absurd (omega arith)
-expr_by number (s ∷ streams) [] place d x within at = absurd (omega arith)
-expr_by number (s ∷ streams) (y ∷ xs) zero d x within at = let same : y ≡ x = cc in sym (ap ex_of same)
-expr_by number (s ∷ streams) (y ∷ xs) (suc place) d x within at = expr_by (number + 1) streams xs place d x (omega arith) at
+pub expr_by : (number hidden : ℕ) (streams : List Entry) (expressions : List Expr) (place : ℕ) (d : Query) (x : Expr) → place < length (queries_by number hidden streams expressions) → slice_get expressions place ≡ Some x
+    → ex_of x ≡ (get_or (queries_by number hidden streams expressions) place d).expr
+expr_by number hidden [] xs place d x within at = absurd (omega arith)
+expr_by number hidden (s ∷ streams) [] place d x within at = absurd (omega arith)
+expr_by number hidden (s ∷ streams) (y ∷ xs) zero d x within at = let same : y ≡ x = cc in sym (ap ex_of same)
+expr_by number hidden (s ∷ streams) (y ∷ xs) (suc place) d x within at = expr_by (number + 1) (split.parts_of (ex_of y) hidden).next streams xs place d x (omega arith) at
 
 -- each has a stream and an expression
-pub streams_reach : (number : ℕ) (streams : List Entry) (expressions : List Expr) → length (queries_by number streams expressions) ≤ length streams
-streams_reach number [] xs = omega arith
-streams_reach number (s ∷ streams) [] = omega arith
-streams_reach number (s ∷ streams) (x ∷ xs) = let later : length (queries_by (number + 1) streams xs) ≤ length streams = streams_reach (number + 1) streams xs in omega arith
+pub streams_reach : (number hidden : ℕ) (streams : List Entry) (expressions : List Expr) → length (queries_by number hidden streams expressions) ≤ length streams
+streams_reach number hidden [] xs = omega arith
+streams_reach number hidden (s ∷ streams) [] = omega arith
+streams_reach number hidden (s ∷ streams) (x ∷ xs) =
+    let after = (split.parts_of (ex_of x) hidden).next in
+    let later : length (queries_by (number + 1) after streams xs) ≤ length streams = streams_reach (number + 1) after streams xs in omega arith
 
--- there are no more queries than expressions
-pub expressions_reach : (number : ℕ) (streams : List Entry) (expressions : List Expr) → length (queries_by number streams expressions) ≤ length expressions
-expressions_reach number [] xs = omega arith
-expressions_reach number (s ∷ streams) [] = omega arith
-expressions_reach number (s ∷ streams) (x ∷ xs) = let later : length (queries_by (number + 1) streams xs) ≤ length xs = expressions_reach (number + 1) streams xs in omega arith
+pub expressions_reach : (number hidden : ℕ) (streams : List Entry) (expressions : List Expr) → length (queries_by number hidden streams expressions) ≤ length expressions
+expressions_reach number hidden [] xs = omega arith
+expressions_reach number hidden (s ∷ streams) [] = omega arith
+expressions_reach number hidden (s ∷ streams) (x ∷ xs) =
+    let after = (split.parts_of (ex_of x) hidden).next in
+    let later : length (queries_by (number + 1) after streams xs) ≤ length xs = expressions_reach (number + 1) after streams xs in omega arith

@@ -13,6 +13,7 @@ use Rattle.std.proofs.lemmas.List.Sums.{position_or_len_is}
 use Rattle.std.proofs.lemmas.Option.{get_or_from_slice_get, slice_get-get_or}
 use Rattle.semantics.specs.Expressions.{Read}
 use Rattle.semantics.specs.Programs.{Query}
+use Rattle.chains.proofs.NumberedLemmas.{numbered_apart}
 use Rattle.stream_schema.specs.Streams.{Entry, stream_names}
 use Rattle.resubscribe.specs.Laws.{HasEachOnce}
 use Rattle.resubscribe.proofs.OrderLemmas.{HasEachOnce-order}
@@ -20,10 +21,10 @@ use Rattle.catalogue.specs.Judgement.{Accepts, Judged, query_at}
 use Rattle.catalogue.specs.Programs.{AcceptedArePrograms, AcceptedAreWidePrograms, AllAreWorkedOn, DeclaredAreTold, DeclaredComeFirst, NumbersAreQueries, QueriesHaveTheirNames, StreamsHaveTheirNames, WorkIsInOrder}
 use Rattle.catalogue.specs.Reading.{reads_in}
 use Rattle.catalogue.specs.Statements.{query_names}
-use Rattle.catalogue.proofs.CountLemmas.{order_count, query_count}
+use Rattle.catalogue.proofs.CountLemmas.{order_count, query_count, statement_count}
 use Rattle.catalogue.proofs.PartLemmas.{published_count}
 use Rattle.catalogue.proofs.PermutationLemmas.{range_permutes}
-use Rattle.catalogue.proofs.TurnLemmas.{StandsBehind, in_turn, name_in_turn, stands_behind, stream_in_turn, told_declared, told_published}
+use Rattle.catalogue.proofs.TurnLemmas.{StandsBehind, in_turn, name_in_turn, numbered, stands_behind, stream_in_turn, told_declared, told_published}
 use Rattle.catalogue.proofs.WideLemmas.{published_wide}
 use Rattle.event_types.proofs.NumberLemmas.{self_equal, is_other}
 
@@ -50,8 +51,8 @@ module _ (text : List ℕ) (judged : Judged) (accepts : Accepts text judged) whe
       (λ k before. is_other (get_or judged.order place 0) (get_or judged.order k 0) (λ same. once.distinct k place 0 before within (sym same)))
       (λ inside. self_equal (get_or judged.order place 0))
 
-  query_there : (place : ℕ) → place < length judged.order → query_at judged (get_or judged.order place 0) ≡ get_or judged.published place (record { name = []; stream = 0; expr = Read 0 })
-  query_there place within = ap (λ p. get_or judged.published p (record { name = []; stream = 0; expr = Read 0 })) (place_at place within)
+  query_there : (place : ℕ) → place < length judged.order → query_at judged (get_or judged.order place 0) ≡ get_or judged.published place (record { name = []; stream = 0; hidden = 0; expr = Read 0 })
+  query_there place within = ap (λ p. get_or judged.published p (record { name = []; stream = 0; hidden = 0; expr = Read 0 })) (place_at place within)
 
   small : (number : ℕ) → Contains judged.order number → number < length judged.order
   small number stands = subst (λ n. number < n) (sym many) ((once.all number).0 stands)
@@ -62,10 +63,10 @@ module _ (text : List ℕ) (judged : Judged) (accepts : Accepts text judged) whe
   -- the queries in the order of work are those that are typed
   placed : map (query_at judged) judged.order ≡ judged.published
   placed =
-      ext_get_or (record { name = []; stream = 0; expr = Read 0 }) (map (query_at judged) judged.order) judged.published (length-map judged.order (query_at judged) ∙ sym typed)
+      ext_get_or (record { name = []; stream = 0; hidden = 0; expr = Read 0 }) (map (query_at judged) judged.order) judged.published (length-map judged.order (query_at judged) ∙ sym typed)
       (λ k within.
       let inside : k < length judged.order = subst (λ n. k < n) (length-map judged.order (query_at judged)) within in
-      get_or-map (query_at judged) judged.order k 0 (record { name = []; stream = 0; expr = Read 0 }) inside ∙ query_there k inside)
+      get_or-map (query_at judged) judged.order k 0 (record { name = []; stream = 0; hidden = 0; expr = Read 0 }) inside ∙ query_there k inside)
 
   -- they are the queries of the file in another order
   same_queries : IsPermutation (map (query_at judged) (range_with_len 0 (length judged.order))) judged.published
@@ -97,13 +98,13 @@ module _ (text : List ℕ) (judged : Judged) (accepts : Accepts text judged) whe
     name_is =
         let (k, inside, there) = place_of in
         subst (λ n. (query_at judged n).name ≡ get_or (query_names judged.statements) n []) there
-        (ap (λ (q : Query). q.name) (query_there k inside) ∙ name_in_turn accepts.publishes k (record { name = []; stream = 0; expr = Read 0 }) inside)
+        (ap (λ (q : Query). q.name) (query_there k inside) ∙ name_in_turn accepts.publishes k (record { name = []; stream = 0; hidden = 0; expr = Read 0 }) inside)
 
     stream_is : slice_get (stream_names judged.streams) (query_at judged number).stream ≡ Some (query_at judged number).name
     stream_is =
         let (k, inside, there) = place_of in
         subst (λ n. slice_get (stream_names judged.streams) (query_at judged n).stream ≡ Some (query_at judged n).name) there
-        (subst (λ (q : Query). slice_get (stream_names judged.streams) q.stream ≡ Some q.name) (sym (query_there k inside)) (stream_in_turn accepts.publishes k (record { name = []; stream = 0; expr = Read 0 }) inside))
+        (subst (λ (q : Query). slice_get (stream_names judged.streams) q.stream ≡ Some q.name) (sym (query_there k inside)) (stream_in_turn accepts.publishes k (record { name = []; stream = 0; hidden = 0; expr = Read 0 }) inside))
 
   behind_declared : StandsBehind judged.declared judged.streams
   behind_declared = stands_behind accepts.publishes
@@ -130,7 +131,11 @@ accepted_are_programs text judged accepts = record { same_queries = same_queries
 
 -- its expressions have widths
 pub accepted_are_wide_programs : AcceptedAreWidePrograms
-accepted_are_wide_programs text judged accepts = record { typed = accepted_are_programs text judged accepts; wide = published_wide accepts.publishes }
+accepted_are_wide_programs text judged accepts = record {
+  typed = accepted_are_programs text judged accepts;
+  wide = published_wide accepts.publishes;
+  apart = numbered_apart (length judged.declared) (length judged.statements) judged.published (numbered accepts.publishes) (omega (arith, typed text judged accepts, statement_count judged.statements judged.declared judged.order accepts.declares accepts.in_order));
+}
 
 -- its work is in order
 pub work_is_in_order : WorkIsInOrder

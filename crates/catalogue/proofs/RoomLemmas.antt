@@ -87,7 +87,7 @@ query_short streams (tree.Stream name columns) schema x few q = absurd q
 query_short streams (tree.Query items e name) schema x few q = omega (arith, gives_nodes q, few)
 
 -- each query is short
-pub published_short : {queries : List Statement} {streams all : List Entry} {order : List ℕ} {done : List Query} → All HasFew queries → Publish queries streams order all done → All (λ query. IsShort query.expr) done
+pub published_short : {queries : List Statement} {streams all : List Entry} {hidden : ℕ} {order : List ℕ} {done : List Query} → All HasFew queries → Publish queries streams hidden order all done → All (λ query. IsShort query.expr) done
 published_short few typing.none = All-nil (λ (q : Query). IsShort q.expr)
 published_short {queries = queries} few (typing.next {streams = streams} {number = number} {s = s} {more = done} schema x there typed rest) =
     All-cons (λ (q : Query). IsShort q.expr) _ done (query_short streams s schema x (at queries number s few there) typed) (published_short few rest)

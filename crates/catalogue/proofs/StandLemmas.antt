@@ -142,7 +142,7 @@ query_at_number ss number s at =
     let within : number < length (queries_in ss) = slice_get-within (queries_in ss) number s at in
     ap is_query (sym (get_or_from_slice_get (queries_in ss) number s s at)) ∙ filter_passes is_query ss number s within
 
-module _ (ss : List Statement) (streams : List Entry) (order : List ℕ) (all : List Entry) (done : List Query) (sound : AreSound ss) (in_order : IsOrder (reads_in ss) order) (declared : Declare ss streams) (index : ℕ) (within : index < length order) (published : Publish (queries_in ss) streams (take index order) all done) (place : ℕ) (s : Statement) (there : slice_get ss place ≡ Some s) (at_number : slice_get (queries_in ss) (get_or order index 0) ≡ Some s) where
+module _ (ss : List Statement) (streams : List Entry) (order : List ℕ) (all : List Entry) (done : List Query) (sound : AreSound ss) (in_order : IsOrder (reads_in ss) order) (declared : Declare ss streams) (index : ℕ) (within : index < length order) {hidden : ℕ} (published : Publish (queries_in ss) streams hidden (take index order) all done) (place : ℕ) (s : Statement) (there : slice_get ss place ≡ Some s) (at_number : slice_get (queries_in ss) (get_or order index 0) ≡ Some s) where
   names_are : stream_names all ≡ stream_names streams ++ map (λ n. get_or (query_names ss) n []) (take index order)
   names_are = Publish-names published
 

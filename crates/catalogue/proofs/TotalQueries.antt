@@ -19,6 +19,7 @@ use Rattle.resubscribe.proofs.OrderLemmas.{HasEachOnce-order}
 use Rattle.catalogue.specs.Arranging.{AreSound}
 use Rattle.catalogue.specs.Reading.{numbers_of, reads_in}
 use Rattle.catalogue.specs.Statements.{name_of, queries_in, query_names, reads_by}
+use Rattle.chains.specs.Chains.{chain_end}
 use Rattle.catalogue.specs.Typing.{Declare, FailToPublish, Publish, none, published_by, query_lines}
 use Rattle.catalogue.proofs.PublishLemmas.{Publish-push, fails_behind}
 use Rattle.catalogue.proofs.StandLemmas.{query_at_number, reads_stand}
@@ -45,7 +46,7 @@ query_place (tree.Query list e name ∷ ss) (suc number) s at = let later = quer
 
 module _ (ss : List Statement) (lines : List ℕ) (streams : List Entry) (order : List ℕ) (sound : AreSound ss) (in_order : IsOrder (reads_in ss) order) (declared : Declare ss streams) (lengths : length lines ≡ length ss) where
   abbrev PublishesSome : Type 0
-  PublishesSome = (all : List Entry) × (published : List Query) × Publish (queries_in ss) streams order all published
+  PublishesSome = (all : List Entry) × (published : List Query) × Publish (queries_in ss) streams (length ss) order all published
 
   abbrev Told : Type 0
   Told = FileCase PublishesSome (FailToPublish (queries_in ss) (query_lines ss lines) streams order)
@@ -59,12 +60,13 @@ module _ (ss : List Statement) (lines : List ℕ) (streams : List Entry) (order 
     parts : take index order ++ get_or order index 0 ∷ drop (index + 1) order ≡ order
     parts = ap (λ xs. take index order ++ xs) (sym (drop_more order index 0 within)) ∙ take-append-drop index order
 
-    module _ (all : List Entry) (done : List Query) (publish : Publish (queries_in ss) streams (take index order) all done) where
+    module _ (all : List Entry) (done : List Query) (publish : Publish (queries_in ss) streams (length ss) (take index order) all done) where
       typed_case : (s : Statement) → slice_get (queries_in ss) (get_or order index 0) ≡ Some s → Case ((schema : List Attr) × (x : Ex) × Queries all s schema x) (FailsAsQuery all s)
-          → ((all : List Entry) (done : List Query) → Publish (queries_in ss) streams (take (index + 1) order) all done → Told) → Told
+          → ((all : List Entry) (done : List Query) → Publish (queries_in ss) streams (length ss) (take (index + 1) order) all done → Told) → Told
       typed_case s at (good (schema, x, typed)) later =
-          later (all ++ published_by s schema ∷ []) (done ++ record { name = name_of s; stream = length all; expr = x } ∷ [])
-          (subst (λ (xs : List ℕ). Publish (queries_in ss) streams xs (all ++ published_by s schema ∷ []) (done ++ record { name = name_of s; stream = length all; expr = x } ∷ [])) (sym (take_more order index 0 within))
+          let query : Query = record { name = name_of s; stream = length all; hidden = chain_end done (length ss); expr = x } in
+          later (all ++ published_by s schema ∷ []) (done ++ query ∷ [])
+          (subst (λ (xs : List ℕ). Publish (queries_in ss) streams (length ss) xs (all ++ published_by s schema ∷ []) (done ++ query ∷ [])) (sym (take_more order index 0 within))
           (Publish-push publish (get_or order index 0) s schema x at typed))
       typed_case s at (bad {f = f} tells fails) later =
           let inside : get_or order index 0 < length (query_lines ss lines) = subst (λ n. get_or order index 0 < n) (sym (lines_long ss lines lengths)) small in
@@ -79,16 +81,15 @@ module _ (ss : List Statement) (lines : List ℕ) (streams : List Entry) (order 
           query_case all list e name (λ n read. All-contains (Contains (stream_names all)) (read_names e) n stand read)
 
   -- by induction on how many queries are left
-  publish_on : (left index : ℕ) → index + left ≡ length order → (all : List Entry) (done : List Query) → Publish (queries_in ss) streams (take index order) all done → Told
+  publish_on : (left index : ℕ) → index + left ≡ length order → (all : List Entry) (done : List Query) → Publish (queries_in ss) streams (length ss) (take index order) all done → Told
   publish_on zero index sum all done publish =
       let last : index ≡ length order = omega arith in
-      fine (all, done, subst (λ (xs : List ℕ). Publish (queries_in ss) streams xs all done) (ap (λ n. take n order) last ∙ take-length order) publish)
+      fine (all, done, subst (λ (xs : List ℕ). Publish (queries_in ss) streams (length ss) xs all done) (ap (λ n. take n order) last ∙ take-length order) publish)
   publish_on (suc left) index sum all done publish =
       let within : index < length order = omega arith in
       let at : slice_get (queries_in ss) (get_or order index 0) ≡ Some (get_or (queries_in ss) (get_or order index 0) (tree.Stream [] [])) = slice_get-get_or (queries_in ss) (get_or order index 0) (tree.Stream [] []) (small index within) in
       typed_case index within all done publish (get_or (queries_in ss) (get_or order index 0) (tree.Stream [] [])) at (statement_case index within all done publish (get_or (queries_in ss) (get_or order index 0) (tree.Stream [] [])) at)
       (λ more_streams more more_publish. publish_on left (index + 1) (omega arith) more_streams more more_publish)
 
-  -- the queries are published, or one has a fault
-  pub publish_case : FileCase ((all : List Entry) × (published : List Query) × Publish (queries_in ss) streams order all published) (FailToPublish (queries_in ss) (query_lines ss lines) streams order)
+  pub publish_case : FileCase ((all : List Entry) × (published : List Query) × Publish (queries_in ss) streams (length ss) order all published) (FailToPublish (queries_in ss) (query_lines ss lines) streams order)
   publish_case = publish_on (length order) 0 (omega arith) streams [] none

@@ -63,7 +63,7 @@ HasVerdict text = (v : Verdict) × Judges text v
 module _ (text : List ℕ) (ss : List Statement) (lines : List ℕ) (file : IsFile text ss lines) (lengths : length lines ≡ length ss) where
   module _ (are_sound : AreSound ss) where
     publishes : (order : List ℕ) (streams : List Entry) → IsOrder (reads_in ss) order → Declare ss streams
-        → FileCase ((all : List Entry) × (published : List Query) × Publish (queries_in ss) streams order all published) (FailToPublish (queries_in ss) (query_lines ss lines) streams order) → HasVerdict text
+        → FileCase ((all : List Entry) × (published : List Query) × Publish (queries_in ss) streams (length ss) order all published) (FailToPublish (queries_in ss) (query_lines ss lines) streams order) → HasVerdict text
     publishes order streams in_order declares (fine (all, published, publish)) = (
       Accepted (record { statements = ss; lines = lines; declared = streams; streams = all; order = order; published = published }),
       record { file = file; sound = are_sound; in_order = in_order; declares = declares; publishes = publish },

@@ -1,15 +1,22 @@
 -- Queries that publish in turn: their kinds, their names and their streams.
 use Rattle.std.proofs.Common.{◌≡◌, ◌∙◌, ℕ, zero, suc, ◌+◌, ◌<◌, ◌≤◌, List, [], ◌∷◌, ◌++◌, true, false, length, get_or, refl, sym, ap, subst, inl, inr, arith, append_assoc}
-use Rattle.std.specs.Prelude.{Some, slice_get}
+use Rattle.std.specs.Prelude.{Contains, Some, slice_get}
+use Rattle.std.specs.List.{range_with_len}
 use Rattle.std.proofs.Math.Seq.{get_or-append_seam}
 use Rattle.std.proofs.lemmas.Bool.{cases_lt}
 use Rattle.std.proofs.lemmas.List.{append-nil, get_or_append_left, length-append, length-map, length_push, map-append}
 use Rattle.std.proofs.lemmas.Option.{get_or_from_slice_get, slice_get-get_or}
 use Rattle.event_types.specs.declared.kind.Kind.{Kind}
+use Rattle.semantics.proofs.ReadingLemmas.{reads_first}
+use Rattle.semantics.proofs.StatementLemmas.{declared_there}
 use Rattle.semantics.specs.Expressions.{Ex, Read, Filter, Select, Union, Next, Fold}
 use Rattle.semantics.specs.Programs.{Query}
 use Rattle.semantics.specs.TypedPrograms.{PublishInTurn}
 use Rattle.semantics.specs.Typing.{Gives}
+use Rattle.splitter.specs.Splitting.{parts_of}
+use Rattle.chains.proofs.ApartLemmas.{range_all, reads_weaker}
+use Rattle.chains.proofs.NumberedLemmas.{AreNumbered}
+use Rattle.chains.proofs.RangeLemmas.{range_next}
 use Rattle.stream_schema.specs.Schema.{kinds_of}
 use Rattle.stream_schema.specs.Streams.{Entry, schemas_of, stream_names}
 use Rattle.cel_grammar.specs.Trees.{Statement}
@@ -26,7 +33,7 @@ pub record StandsBehind (streams all : List Entry) : Type 0 where
   pub all_are : all ≡ streams ++ more
 
 -- by induction on the queries
-pub stands_behind : {queries : List Statement} {streams all : List Entry} {order : List ℕ} {done : List Query} → Publish queries streams order all done → StandsBehind streams all
+pub stands_behind : {queries : List Statement} {streams all : List Entry} {hidden : ℕ} {order : List ℕ} {done : List Query} → Publish queries streams hidden order all done → StandsBehind streams all
 stands_behind (none {streams = streams}) = record { more = []; all_are = sym (append-nil streams) }
 stands_behind (next {streams = streams} {s = s} schema x there typed rest) =
     let behind : StandsBehind (streams ++ published_by s schema ∷ []) _ = stands_behind rest in record {
@@ -58,27 +65,36 @@ kinds_at streams more all s is =
     ∙ ap (λ n. get_or (schemas_of streams ++ s.schema ∷ schemas_of more) n []) (sym (length-map streams (λ e. e.schema))) ∙ get_or-append_seam (schemas_of streams) s.schema (schemas_of more) [])
 
 -- the queries publish in turn, over the kinds of all streams: by induction on them
-pub in_turn : {queries : List Statement} {streams all : List Entry} {order : List ℕ} {done : List Query} → Publish queries streams order all done → PublishInTurn (kinds_in all) (length streams) done
+pub in_turn : {queries : List Statement} {streams all : List Entry} {hidden : ℕ} {order : List ℕ} {done : List Query} → Publish queries streams hidden order all done → PublishInTurn (kinds_in all) (range_with_len 0 (length streams)) done
 in_turn none = tt
 in_turn (next {streams = streams} {all = all} {s = s} {more = done} schema x there typed rest) =
     let behind : StandsBehind (streams ++ published_by s schema ∷ []) all = stands_behind rest in
     let is : all ≡ streams ++ published_by s schema ∷ behind.more = behind.all_are ∙ append_assoc streams (published_by s schema ∷ []) behind.more in
     let own : Gives x (length streams) (kinds_in all) (kinds_of schema) =
-    gives_alike (length streams) (kinds_in streams) (kinds_in all) (kinds_before streams (published_by s schema ∷ behind.more) all is) x (kinds_of schema) (query-typed streams s schema x typed) in (
-      refl,
+    gives_alike (length streams) (kinds_in streams) (kinds_in all) (kinds_before streams (published_by s schema ∷ behind.more) all is) x (kinds_of schema) (query-typed streams s schema x typed) in
+    let longer : range_with_len 0 (length (streams ++ published_by s schema ∷ [])) ≡ range_with_len 0 (length streams) ++ length streams ∷ [] =
+    ap (range_with_len 0) (length_push streams (published_by s schema)) ∙ sym (range_next (length streams)) in (
+      range_all (λ n. n < length streams) 0 (length streams) (λ n above below. omega arith),
+      reads_weaker (λ n. n < length streams) (Contains (range_with_len 0 (length streams))) (λ n below. declared_there (length streams) n below) x (reads_first (length streams) (kinds_in all) (kinds_of schema) x own),
       subst (Gives x (length streams) (kinds_in all)) (sym (kinds_at streams behind.more all (published_by s schema) is)) own,
-      subst (λ n. PublishInTurn (kinds_in all) n done) (length_push streams (published_by s schema)) (in_turn rest),
+      subst (λ (there : List ℕ). PublishInTurn (kinds_in all) there done) longer (in_turn rest),
     )
 
+-- and their streams have the next numbers
+pub numbered : {queries : List Statement} {streams all : List Entry} {hidden : ℕ} {order : List ℕ} {done : List Query} → Publish queries streams hidden order all done → AreNumbered (length streams) hidden done
+numbered none = tt
+numbered (next {streams = streams} {hidden = hidden} {s = s} {more = done} schema x there typed rest) =
+    (refl, refl, subst (λ n. AreNumbered n (parts_of x hidden).next done) (length_push streams (published_by s schema)) (numbered rest))
+
 -- a query that is worked on in its turn has the name of its statement: by induction on the queries
-pub name_in_turn : {queries : List Statement} {streams all : List Entry} {order : List ℕ} {done : List Query} → Publish queries streams order all done
+pub name_in_turn : {queries : List Statement} {streams all : List Entry} {hidden : ℕ} {order : List ℕ} {done : List Query} → Publish queries streams hidden order all done
     → (place : ℕ) (d : Query) → place < length order → (get_or done place d).name ≡ get_or (names_in queries) (get_or order place 0) []
 name_in_turn none place d within = absurd (omega arith)
 name_in_turn {queries = queries} (next {number = number} {s = s} schema x there typed rest) zero d within = sym (name-at queries number s there)
 name_in_turn (next schema x there typed rest) (suc place) d within = name_in_turn rest place d (omega arith)
 
 -- and its stream has this name
-pub stream_in_turn : {queries : List Statement} {streams all : List Entry} {order : List ℕ} {done : List Query} → Publish queries streams order all done
+pub stream_in_turn : {queries : List Statement} {streams all : List Entry} {hidden : ℕ} {order : List ℕ} {done : List Query} → Publish queries streams hidden order all done
     → (place : ℕ) (d : Query) → place < length order → slice_get (stream_names all) (get_or done place d).stream ≡ Some (get_or done place d).name
 stream_in_turn none place d within = absurd (omega arith)
 stream_in_turn (next {streams = streams} {all = all} {s = s} schema x there typed rest) zero d within =
@@ -100,7 +116,7 @@ told_declared (typing.stream first rest) (suc stream) entry there = told_declare
 told_declared (typing.query rest) stream entry there = told_declared rest stream entry there
 
 -- one of a query isn't: by induction on the queries
-pub told_published : {queries : List Statement} {streams all : List Entry} {order : List ℕ} {done : List Query} → Publish queries streams order all done
+pub told_published : {queries : List Statement} {streams all : List Entry} {hidden : ℕ} {order : List ℕ} {done : List Query} → Publish queries streams hidden order all done
     → (stream : ℕ) (entry : Entry) → slice_get all stream ≡ Some entry → length streams ≤ stream → entry.declared ≡ false
 told_published (none {streams = streams}) stream entry there past = let within : stream < length streams = slice_get-within streams stream entry there in absurd (omega arith)
 told_published (next {streams = streams} {all = all} {s = s} schema x at typed rest) stream entry there past =

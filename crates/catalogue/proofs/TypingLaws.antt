@@ -8,6 +8,7 @@ use Rattle.cel_types.specs.Statements.{FailsAsQuery, Queries}
 use Rattle.cel_types.proofs.DeclarationLaws.{Declares-no_fault, Declares-one, FailsAsDeclaration-one}
 use Rattle.cel_types.proofs.QueryLaws.{FailsAsQuery-one, Queries-no_fault, Queries-one}
 use Rattle.catalogue.specs.Statements.{name_of}
+use Rattle.splitter.specs.Splitting.{parts_of}
 use Rattle.catalogue.specs.Typing.{FailToPublish, Publish, published_by, none, stream, query, next, here, behind}
 use Rattle.catalogue.specs.Verdicts.{DeclaredOrFault, OneDeclaration, OneDeclareFault, OnePublication, OnePublishFault, PublishedOrFault}
 
@@ -41,13 +42,14 @@ one_query queries number s t there there_too = cc
 
 -- queries publish one table of streams
 pub one_publication : OnePublication
-one_publication queries _ _ _ _ _ _ none none = (refl, refl)
-one_publication queries streams _ all others _ _ (next {number = number} {order = order} {s = s} {more = more} schema x there gives rest) (next {s = t} {more = more_too} other y there_too gives_too rest_too) =
+one_publication queries _ _ _ _ _ _ _ none none = (refl, refl)
+one_publication queries streams hidden _ all others _ _ (next {number = number} {order = order} {s = s} {more = more} schema x there gives rest) (next {s = t} {more = more_too} other y there_too gives_too rest_too) =
     let same : t ≡ s = one_query queries number s t there there_too in
     let one : (schema ≡ other) × (x ≡ y) = Queries-one streams s schema other x y gives (subst (λ (z : Statement). Queries streams z other y) same gives_too) in
     let tables : streams ++ published_by t other ∷ [] ≡ streams ++ published_by s schema ∷ [] = λ i. streams ++ published_by (same i) (sym one.0 i) ∷ [] in
-    let later : (all ≡ others) × (more ≡ more_too) = one_publication queries (streams ++ published_by s schema ∷ []) order all others more more_too rest (subst (λ (es : List Entry). Publish queries es order others more_too) tables rest_too) in
-    (later.0, λ i. record { name = name_of (sym same i); stream = length streams; expr = one.1 i } ∷ later.1 i)
+    let later : (all ≡ others) × (more ≡ more_too) = one_publication queries (streams ++ published_by s schema ∷ []) (parts_of x hidden).next order all others more more_too rest
+    (subst (λ (t : List Entry × Ex). Publish queries t.0 (parts_of t.1 hidden).next order others more_too) (λ i. (tables i, sym one.1 i)) rest_too) in
+    (later.0, λ i. record { name = name_of (sym same i); stream = length streams; hidden = hidden; expr = one.1 i } ∷ later.1 i)
 
 -- they have at most one first fault
 pub one_publish_fault : OnePublishFault
@@ -67,11 +69,11 @@ one_publish_fault queries lines streams _ line other_line f g (behind {number = 
 
 -- they are published or have a fault
 pub published_or_fault : PublishedOrFault
-published_or_fault queries lines _ _ _ _ line f none fails = elim fails [ ]
-published_or_fault queries lines streams _ _ _ line f (next {number = number} {s = t} schema x there_too gives rest) (here {s = s} there on_line fails) =
+published_or_fault queries lines _ _ _ _ _ line f none fails = elim fails [ ]
+published_or_fault queries lines streams _ _ _ _ line f (next {number = number} {s = t} schema x there_too gives rest) (here {s = s} there on_line fails) =
     let same : t ≡ s = one_query queries number s t there there_too in Queries-no_fault streams s schema x f (subst (λ (z : Statement). Queries streams z schema x) same gives) fails
-published_or_fault queries lines streams _ all _ line f (next {number = number} {order = order} {s = s} {more = more} schema x there gives rest) (behind {s = t} other y there_too gives_too rest_too) =
+published_or_fault queries lines streams hidden _ all _ line f (next {number = number} {order = order} {s = s} {more = more} schema x there gives rest) (behind {s = t} other y there_too gives_too rest_too) =
     let same : t ≡ s = one_query queries number s t there there_too in
     let one : (schema ≡ other) × (x ≡ y) = Queries-one streams s schema other x y gives (subst (λ (z : Statement). Queries streams z other y) same gives_too) in
     let tables : streams ++ published_by t other ∷ [] ≡ streams ++ published_by s schema ∷ [] = λ i. streams ++ published_by (same i) (sym one.0 i) ∷ [] in
-    published_or_fault queries lines (streams ++ published_by s schema ∷ []) order all more line f rest (subst (λ (es : List Entry). FailToPublish queries lines es order line f) tables rest_too)
+    published_or_fault queries lines (streams ++ published_by s schema ∷ []) (parts_of x hidden).next order all more line f rest (subst (λ (es : List Entry). FailToPublish queries lines es order line f) tables rest_too)

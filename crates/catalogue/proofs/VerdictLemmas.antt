@@ -37,7 +37,7 @@ same_refusal {g = g} {other = other} same is is_too =
 data Typed (ss : List Statement) (lines order : List ℕ) : Verdict → Type 0 where
   declared : {line : ℕ} {f : TypeFault} {why : QueryFault} → FailToDeclare ss lines line f → IsOfTypes f why → Typed ss lines order (Refused line why)
   query : {streams : List Entry} {line : ℕ} {f : TypeFault} {why : QueryFault} → Declare ss streams → FailToPublish (queries_in ss) (query_lines ss lines) streams order line f → IsOfTypes f why → Typed ss lines order (Refused line why)
-  accepted : {streams all : List Entry} {published : List Query} → Declare ss streams → Publish (queries_in ss) streams order all published → Typed ss lines order (Accepted (record { statements = ss; lines = lines; declared = streams; streams = all; order = order; published = published }))
+  accepted : {streams all : List Entry} {published : List Query} → Declare ss streams → Publish (queries_in ss) streams (length ss) order all published → Typed ss lines order (Accepted (record { statements = ss; lines = lines; declared = streams; streams = all; order = order; published = published }))
 
 module _ (ss : List Statement) (lines order : List ℕ) where
   fault_so : (streams others : List Entry) (line : ℕ) (f : TypeFault) → Declare ss streams → Declare ss others → FailToPublish (queries_in ss) (query_lines ss lines) others order line f → FailToPublish (queries_in ss) (query_lines ss lines) streams order line f
@@ -52,13 +52,13 @@ module _ (ss : List Statement) (lines order : List ℕ) where
   typed_one (query {streams = streams} {line = line} {f = f} d fails is) (query {streams = others} {line = other_line} {f = g} e fails_too is_too) =
       same_refusal (one_publish_fault (queries_in ss) (query_lines ss lines) streams order line other_line f g fails (fault_so streams others other_line g d e fails_too)) is is_too
   typed_one (query {streams = others} {line = line} {f = f} e fails is) (accepted {streams = streams} {all = all} {published = published} d p) =
-      absurd (published_or_fault (queries_in ss) (query_lines ss lines) streams order all published line f p (fault_so streams others line f d e fails))
+      absurd (published_or_fault (queries_in ss) (query_lines ss lines) streams (length ss) order all published line f p (fault_so streams others line f d e fails))
   typed_one (accepted {streams = streams} {all = all} {published = published} d p) (query {streams = others} {line = line} {f = f} e fails is) =
-      absurd (published_or_fault (queries_in ss) (query_lines ss lines) streams order all published line f p (fault_so streams others line f d e fails))
+      absurd (published_or_fault (queries_in ss) (query_lines ss lines) streams (length ss) order all published line f p (fault_so streams others line f d e fails))
   typed_one (accepted {streams = streams} {all = all} {published = published} d p) (accepted {streams = others} {all = all_too} {published = published_too} e q) =
       let tables : streams ≡ others = one_declaration ss streams others d e in
       let same : (all ≡ all_too) × (published ≡ published_too) =
-      one_publication (queries_in ss) streams order all all_too published published_too p (subst (λ (es : List Entry). Publish (queries_in ss) es order all_too published_too) (sym tables) q) in
+      one_publication (queries_in ss) streams (length ss) order all all_too published published_too p (subst (λ (es : List Entry). Publish (queries_in ss) es (length ss) order all_too published_too) (sym tables) q) in
       λ i. Accepted (record { statements = ss; lines = lines; declared = tables i; streams = same.0 i; order = order; published = same.1 i })
 
 -- the verdict of the passes over names and types

@@ -59,7 +59,7 @@ module _ (kinds others : ℕ → List Kind) where
   wide_alike (Fold p q m e f) alike wide = (wide_alike e alike.0 wide.0, wide_alike f alike.1 wide.1)
 
 -- by induction on the queries
-pub published_wide : {queries : List Statement} {streams all : List Entry} {order : List ℕ} {done : List Query} → Publish queries streams order all done → All (λ query. HasWidths (kinds_in all) query.expr) done
+pub published_wide : {queries : List Statement} {streams all : List Entry} {hidden : ℕ} {order : List ℕ} {done : List Query} → Publish queries streams hidden order all done → All (λ query. HasWidths (kinds_in all) query.expr) done
 published_wide (none {streams = streams}) = All-nil (λ (q : Query). HasWidths (kinds_in streams) q.expr)
 published_wide (next {streams = streams} {all = all} {s = s} {more = done} schema x there typed rest) =
     let behind : StandsBehind (streams ++ published_by s schema ∷ []) all = stands_behind rest in

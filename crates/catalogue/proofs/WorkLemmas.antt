@@ -7,9 +7,11 @@ use Rattle.std.proofs.lemmas.List.Elements.{Contains-get_or}
 use Rattle.std.proofs.lemmas.Option.{slice_get-get_or}
 use Rattle.algebra.specs.declared.expression.Expr.{Expr}
 use Rattle.algebra.specs.Views.{ex_of}
+use Rattle.semantics.specs.Programs.{Query}
 use Rattle.stream_schema.specs.Streams.{Entry, number_of, stream_names}
 use Rattle.cel_grammar.specs.Trees.{Statement}
 use Rattle.cel_grammar.specs.Trees as tree
+use Rattle.chains.specs.Chains.{chain_end}
 use Rattle.cel_types.specs.Statements.{FailsAsQuery, IsQueryOver}
 use Rattle.resubscribe.specs.Laws.{HasEachOnce}
 use Rattle.resubscribe.specs.Order.{IsOrder}
@@ -81,12 +83,15 @@ module _ (ss : List Statement) (lines : List ℕ) (streams : List Entry) (order 
     -- it is published
     pub published-with : (new : List Entry) (x : Expr) (more : List Expr) → AddsQuery s all new (ex_of x) → more ≡ expressions ++ x ∷ [] → ArePublished ss streams (take (index + 1) order) new more
     published-with new x more adds put = record {
-      queries = published.queries ++ record { name = name_of s; stream = length all; expr = ex_of x } ∷ [];
+      queries = published.queries ++ query ∷ [];
       publish =
-          subst (λ (xs : List ℕ). Publish (queries_in ss) streams xs new (published.queries ++ record { name = name_of s; stream = length all; expr = ex_of x } ∷ [])) (sym (take_more order index 0 within))
-          (subst (λ (es : List Entry). Publish (queries_in ss) streams (take index order ++ get_or order index 0 ∷ []) es (published.queries ++ record { name = name_of s; stream = length all; expr = ex_of x } ∷ [])) (sym adds.added)
+          subst (λ (xs : List ℕ). Publish (queries_in ss) streams (length ss) xs new (published.queries ++ query ∷ [])) (sym (take_more order index 0 within))
+          (subst (λ (es : List Entry). Publish (queries_in ss) streams (length ss) (take index order ++ get_or order index 0 ∷ []) es (published.queries ++ query ∷ [])) (sym adds.added)
           (Publish-push published.publish (get_or order index 0) s adds.schema (ex_of x) at_number adds.typed));
       expressions_are =
-          map-append (λ q. q.expr) published.queries (record { name = name_of s; stream = length all; expr = ex_of x } ∷ []) ∙ ap (λ xs. xs ++ ex_of x ∷ []) published.expressions_are
+          map-append (λ q. q.expr) published.queries (query ∷ []) ∙ ap (λ xs. xs ++ ex_of x ∷ []) published.expressions_are
           ∙ sym (map-append ex_of expressions (x ∷ [])) ∙ ap (map ex_of) (sym put);
     }
+    where
+      query : Query
+      query = record { name = name_of s; stream = length all; hidden = chain_end published.queries (length ss); expr = ex_of x }

@@ -5,6 +5,7 @@ use Rattle.algebra.specs.contracts.expression.Expr as expression
 use Rattle.algebra.specs.declared.expression.Expr.{Expr}
 use Rattle.algebra.specs.Views.{ex_of}
 use Rattle.semantics.specs.Programs.{Query}
+use Rattle.splitter.specs.Splitting as split
 use Rattle.stream_schema.specs.contracts.streams.Streams as table
 use Rattle.stream_schema.specs.Streams.{Entry}
 use Rattle.cel_grammar.specs.Views.{statement_of}
@@ -37,11 +38,12 @@ parts_of file streams order expressions = record {
   expressions = expressions;
 }
 
--- queries that publish these streams, from a number on, by these expressions
-abbrev pub queries_by : ℕ → List Entry → List Expr → List Query
-queries_by number [] expressions = []
-queries_by number (s ∷ streams) [] = []
-queries_by number (s ∷ streams) (x ∷ expressions) = record { name = s.name; stream = number; expr = ex_of x } ∷ queries_by (number + 1) streams expressions
+-- queries that publish these streams, from a number on, by these expressions, and whose hidden streams have the numbers from another on
+abbrev pub queries_by : ℕ → ℕ → List Entry → List Expr → List Query
+queries_by number hidden [] expressions = []
+queries_by number hidden (s ∷ streams) [] = []
+queries_by number hidden (s ∷ streams) (x ∷ expressions) =
+    record { name = s.name; stream = number; hidden = hidden; expr = ex_of x } ∷ queries_by (number + 1) (split.parts_of (ex_of x) hidden).next streams expressions
 
 -- what a query text is judged to be that has these parts
 abbrev pub judged_of : Catalogued → Judged
@@ -51,7 +53,7 @@ judged_of c = record {
   declared = c.declared;
   streams = c.declared ++ c.published;
   order = c.order;
-  published = queries_by (length c.declared) c.published c.expressions;
+  published = queries_by (length c.declared) (length c.file.statements) c.published c.expressions;
 }
 
 -- some text is accepted as this

@@ -24,13 +24,13 @@ pub record Judged : Type 0 where
   pub order : List ℕ
   pub published : List Query
 
--- the text is accepted as this: the declarations and then the queries in their order are typed
+-- the text is accepted as this: the declarations and then the queries in their order are typed, and hidden streams stand behind those of all statements
 pub record Accepts (text : List ℕ) (judged : Judged) : Type 0 where
   pub file : IsFile text judged.statements judged.lines
   pub sound : AreSound judged.statements
   pub in_order : IsOrder (reads_in judged.statements) judged.order
   pub declares : Declare judged.statements judged.declared
-  pub publishes : Publish (queries_in judged.statements) judged.declared judged.order judged.streams judged.published
+  pub publishes : Publish (queries_in judged.statements) judged.declared (length judged.statements) judged.order judged.streams judged.published
 
 -- the text is refused: it is no file; or else its names have a fault, or the types of its declarations, or those of its queries
 pub data Refuses (text : List ℕ) : ℕ → QueryFault → Type 0 where
@@ -50,7 +50,7 @@ pub record Circles (text : List ℕ) (names : List (List ℕ)) : Type 0 where
 
 -- a query with a number: its name, its stream and its expression, which it has at its place in the order of work
 abbrev pub query_at : Judged → ℕ → Query
-query_at judged number = slice_index_or judged.published (position_or_len (λ other. number == other) judged.order) (record { name = []; stream = 0; expr = Read 0 })
+query_at judged number = slice_index_or judged.published (position_or_len (λ other. number == other) judged.order) (record { name = []; stream = 0; hidden = 0; expr = Read 0 })
 
 -- the program: how many streams are declared, the queries in the order of the file, and the same in the order of work
 abbrev pub program_of : Judged → Program

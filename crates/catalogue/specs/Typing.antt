@@ -5,6 +5,7 @@ use Rattle.algebra.specs.declared.expression.Expr.{Expr}
 use Rattle.algebra.specs.Views.{ex_of}
 use Rattle.semantics.specs.Expressions.{Ex}
 use Rattle.semantics.specs.Programs.{Query}
+use Rattle.splitter.specs.Splitting.{parts_of}
 use Rattle.stream_schema.specs.Schema.{Attr}
 use Rattle.stream_schema.specs.Streams.{Entry}
 use Rattle.cel_grammar.specs.Trees.{Column, Item, Source, Statement}
@@ -44,12 +45,12 @@ query_lines statements lines = items_where_true (map is_query statements) lines
 abbrev pub published_by : Statement → List Attr → Entry
 published_by statement schema = record { name = name_of statement; schema = schema; declared = false }
 
--- behind these streams the queries with these numbers publish one after another: each is typed over the streams before it, and its stream is the next; so these are the streams then, and these the queries
-pub data Publish (queries : List Statement) : List Entry → List ℕ → List Entry → List Query → Type 0 where
-  none : {streams : List Entry} → Publish queries streams [] streams []
-  next : {streams all : List Entry} {number : ℕ} {order : List ℕ} {s : Statement} {more : List Query} (schema : List Attr) (x : Ex)
-      → slice_get queries number ≡ Some s → Queries streams s schema x → Publish queries (streams ++ published_by s schema ∷ []) order all more
-      → Publish queries streams (number ∷ order) all (record { name = name_of s; stream = length streams; expr = x } ∷ more)
+-- behind these streams the queries with these numbers publish one after another: each is typed over the streams before it, its stream is the next, and its hidden streams have the next numbers from the given one on; so these are the streams then, and these the queries
+pub data Publish (queries : List Statement) : List Entry → ℕ → List ℕ → List Entry → List Query → Type 0 where
+  none : {streams : List Entry} {hidden : ℕ} → Publish queries streams hidden [] streams []
+  next : {streams all : List Entry} {hidden number : ℕ} {order : List ℕ} {s : Statement} {more : List Query} (schema : List Attr) (x : Ex)
+      → slice_get queries number ≡ Some s → Queries streams s schema x → Publish queries (streams ++ published_by s schema ∷ []) (parts_of x hidden).next order all more
+      → Publish queries streams hidden (number ∷ order) all (record { name = name_of s; stream = length streams; hidden = hidden; expr = x } ∷ more)
 
 -- the first of the queries with these numbers that has a fault has this one, and begins on this line
 pub data FailToPublish (queries : List Statement) (lines : List ℕ) : List Entry → List ℕ → ℕ → TypeFault → Type 0 where
@@ -64,10 +65,10 @@ pub record AddsQuery (s : Statement) (old new : List Entry) (x : Ex) : Type 0 wh
   pub typed : Queries old s schema x
   pub added : new ≡ old ++ published_by s schema ∷ []
 
--- behind these streams the queries with these numbers publish more, and have these expressions one after another
+-- behind these streams the queries with these numbers publish more, where hidden streams stand behind those of all statements, and have these expressions one after another
 pub record ArePublished (statements : List Statement) (old : List Entry) (order : List ℕ) (new : List Entry) (expressions : List Expr) : Type 0 where
   pub queries : List Query
-  pub publish : Publish (queries_in statements) old order new queries
+  pub publish : Publish (queries_in statements) old (length statements) order new queries
   pub expressions_are : map (λ q. q.expr) queries ≡ map ex_of expressions
 
 -- a fault of types as one of a query text, on this line

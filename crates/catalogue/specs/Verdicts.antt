@@ -21,7 +21,9 @@ DeclaredOrFault = (ss : List Statement) (streams : List Entry) (lines : List ℕ
 
 -- queries publish in one way at most
 abbrev pub OnePublication : Type 0
-OnePublication = (queries : List Statement) (streams : List Entry) (order : List ℕ) (all others : List Entry) (typed typed_so : List Query) → Publish queries streams order all typed → Publish queries streams order others typed_so → (all ≡ others) × (typed ≡ typed_so)
+OnePublication =
+    (queries : List Statement) (streams : List Entry) (hidden : ℕ) (order : List ℕ) (all others : List Entry) (typed typed_so : List Query)
+    → Publish queries streams hidden order all typed → Publish queries streams hidden order others typed_so → (all ≡ others) × (typed ≡ typed_so)
 
 -- queries have at most one first fault
 abbrev pub OnePublishFault : Type 0
@@ -29,7 +31,9 @@ OnePublishFault = (queries : List Statement) (lines : List ℕ) (streams : List 
 
 -- queries that publish have no fault
 abbrev pub PublishedOrFault : Type 0
-PublishedOrFault = (queries : List Statement) (lines : List ℕ) (streams : List Entry) (order : List ℕ) (all : List Entry) (typed : List Query) (line : ℕ) (f : TypeFault) → Publish queries streams order all typed → FailToPublish queries lines streams order line f → ⊥
+PublishedOrFault =
+    (queries : List Statement) (lines : List ℕ) (streams : List Entry) (hidden : ℕ) (order : List ℕ) (all : List Entry) (typed : List Query) (line : ℕ) (f : TypeFault)
+    → Publish queries streams hidden order all typed → FailToPublish queries lines streams order line f → ⊥
 
 -- a text has at most one verdict
 abbrev pub OneVerdict : Type 0

@@ -13,7 +13,7 @@ use Rattle.semantics.specs.Programs.{Query as Term, published, with_stream}
 use Rattle.algebra.specs.Suits.{Suits}
 use Rattle.algebra.specs.SuitedQueries.{SuitInTurn}
 use Rattle.evaluation.specs.declared.query.Query.{Query}
-use Rattle.evaluation.specs.Views.{placed, query_of}
+use Rattle.evaluation.specs.Views.{PublishNext, placed, query_of}
 use Rattle.evaluation.proofs.StreamLemmas.{streams_of-push}
 
 -- the query at a place, as a term
@@ -29,30 +29,34 @@ placed-cons queries place places query lt is = ap (λ found. cons_option found (
 -- what is left to publish behind the lists that there are, where all was to be published behind the first of them
 abbrev pub IsLeft : List Query → List (List Row) → List ℕ → List (List Row) → List ℕ → Type 0
 IsLeft queries first order lists places =
-    SuitInTurn (length lists) (streams_of lists) (placed queries places)
+    PublishNext (length lists) (placed queries places)
+    × SuitInTurn (streams_of lists) (placed queries places)
     × (published (streams_of lists) (placed queries places) ≡ published (streams_of first) (placed queries order))
     × (length lists + length (placed queries places) ≡ length first + length (placed queries order))
     × (take (length first) lists ≡ first)
 
 -- at first all is left
-pub all_left : (queries : List Query) (first : List (List Row)) (order : List ℕ) → SuitInTurn (length first) (streams_of first) (placed queries order) → IsLeft queries first order first order
-all_left queries first order suited = (suited, refl, refl, take-length first)
+pub all_left : (queries : List Query) (first : List (List Row)) (order : List ℕ) → PublishNext (length first) (placed queries order) → SuitInTurn (streams_of first) (placed queries order) → IsLeft queries first order first order
+all_left queries first order next suited = (next, suited, refl, refl, take-length first)
 
 -- the next query may be evaluated
 next_suits : (queries : List Query) (first : List (List Row)) (order : List ℕ) (lists : List (List Row)) (place : ℕ) (places : List ℕ) (query : Query)
     → place < length queries → query ≡ get_or queries place query → IsLeft queries first order lists (place ∷ places) → Suits (query_of query).expr (length lists) (streams_of lists)
 next_suits queries first order lists place places query lt is left =
-    let suited = subst (SuitInTurn (length lists) (streams_of lists)) (placed-cons queries place places query lt is) left.0 in suited.1
+    let cons = placed-cons queries place places query lt is in
+    let next = subst (PublishNext (length lists)) cons left.0 in
+    let suited = subst (SuitInTurn (streams_of lists)) cons left.1 in subst (λ (n : ℕ). Suits (query_of query).expr n (streams_of lists)) next.0 suited.0
 
 -- and once it is published, the rest is left
 left_after : (queries : List Query) (first : List (List Row)) (order : List ℕ) (lists : List (List Row)) (place : ℕ) (places : List ℕ) (query : Query)
     → place < length queries → query ≡ get_or queries place query → IsLeft queries first order lists (place ∷ places)
     → IsLeft queries first order (lists ++ denote (query_of query).expr (streams_of lists) ∷ []) places
 left_after queries first order lists place places query lt is left = (
-  subst (λ (s : ℕ × Streams). SuitInTurn s.0 s.1 rest) (λ i. (counted i, grown i)) suited.2,
-  ap (λ streams. published streams rest) (sym grown) ∙ ap (published (streams_of lists)) (sym cons) ∙ left.1,
-  omega (arith, left.2, ap length cons, counted),
-  take-append-le (length first) lists (tuples ∷ []) at_least ∙ left.3,
+  subst (λ (n : ℕ). PublishNext n rest) counted next.1,
+  subst (λ (streams : Streams). SuitInTurn streams rest) grown suited.1,
+  ap (λ streams. published streams rest) (sym grown) ∙ ap (published (streams_of lists)) (sym cons) ∙ left.2,
+  omega (arith, left.3, ap length cons, counted),
+  take-append-le (length first) lists (tuples ∷ []) at_least ∙ left.4,
 )
   where
     rest : List Term
@@ -64,24 +68,27 @@ left_after queries first order lists place places query lt is left = (
     cons : placed queries (place ∷ places) ≡ query_of query ∷ rest
     cons = placed-cons queries place places query lt is
 
-    suited : SuitInTurn (length lists) (streams_of lists) (query_of query ∷ rest)
-    suited = subst (SuitInTurn (length lists) (streams_of lists)) cons left.0
+    next : PublishNext (length lists) (query_of query ∷ rest)
+    next = subst (PublishNext (length lists)) cons left.0
+
+    suited : SuitInTurn (streams_of lists) (query_of query ∷ rest)
+    suited = subst (SuitInTurn (streams_of lists)) cons left.1
 
     counted : length lists + 1 ≡ length (lists ++ tuples ∷ [])
     counted = sym (length-append lists (tuples ∷ []))
 
     grown : with_stream (streams_of lists) query.stream tuples ≡ streams_of (lists ++ tuples ∷ [])
-    grown = ap (λ n. with_stream (streams_of lists) n tuples) suited.0 ∙ sym (streams_of-push lists tuples)
+    grown = ap (λ n. with_stream (streams_of lists) n tuples) next.0 ∙ sym (streams_of-push lists tuples)
 
     at_least : length first ≤ length lists
-    at_least = let short = length-take (length first) lists in let same = ap length left.3 in omega arith
+    at_least = let short = length-take (length first) lists in let same = ap length left.4 in omega arith
 
--- each query that suits in turn publishes one of the next streams
-in_turn_below : (number : ℕ) (streams : Streams) (order : List Term) → SuitInTurn number streams order → All (λ query. query.stream < number + length order) order
-in_turn_below number streams [] suited = All-nil _
-in_turn_below number streams (query ∷ order) suited =
-    let first : query.stream < number + length (query ∷ order) = omega (arith, suited.0) in
-    let rest = in_turn_below (number + 1) (with_stream streams query.stream (denote query.expr streams)) order suited.2 in
+-- each query publishes one of the next streams
+next_below : (number : ℕ) (order : List Term) → PublishNext number order → All (λ query. query.stream < number + length order) order
+next_below number [] next = All-nil _
+next_below number (query ∷ order) next =
+    let first : query.stream < number + length (query ∷ order) = omega (arith, next.0) in
+    let rest = next_below (number + 1) order next.1 in
     All-cons (λ q. q.stream < number + length (query ∷ order)) query order first
     (All-weaker (λ q. q.stream < number + 1 + length order) (λ q. q.stream < number + length (query ∷ order)) (λ q lt. omega arith) order rest)
 
@@ -92,11 +99,11 @@ of_each_query P (query ∷ queries) all =
     All-cons (λ q. P (query_of q)) query queries (All-head P (query_of query) (map query_of queries) all) (of_each_query P queries (All-tail P (query_of query) (map query_of queries) all))
 
 -- so does each query of the file
-pub streams_below : (number count : ℕ) (streams : Streams) (queries : List Query) (places : List ℕ)
-    → IsPermutation (map query_of queries) (placed queries places) → SuitInTurn number streams (placed queries places) → count ≡ number + length (placed queries places)
+pub streams_below : (number count : ℕ) (queries : List Query) (places : List ℕ)
+    → IsPermutation (map query_of queries) (placed queries places) → PublishNext number (placed queries places) → count ≡ number + length (placed queries places)
     → All (λ query. query.stream < count) queries
-streams_below number count streams queries places same suited e =
-    let below = in_turn_below number streams (placed queries places) suited in
+streams_below number count queries places same next e =
+    let below = next_below number (placed queries places) next in
     let all = All-permutation (λ q. q.stream < number + length (placed queries places)) (placed queries places) (map query_of queries) (IsPermutation-sym (map query_of queries) (placed queries places) same) below in
     subst (λ (n : ℕ). All (λ (query : Query). query.stream < n) queries) (sym e) (of_each_query (λ q. q.stream < number + length (placed queries places)) queries all)
 

@@ -1,5 +1,5 @@
 -- Laws over queries that are evaluated.
-use Rattle.std.specs.Prelude.{ℕ, List, length}
+use Rattle.std.specs.Prelude.{ℕ, List}
 use Rattle.event_types.specs.declared.kind.Kind.{Kind}
 use Rattle.event_types.specs.Tuple.{Row}
 use Rattle.semantics.specs.Denotation.{streams_of}
@@ -15,4 +15,4 @@ abbrev pub TypedQueriesSuit : Type 0
 TypedQueriesSuit =
     (kinds : ℕ → List Kind) (declared : ℕ) (queries : List Query) (places : List ℕ) (history : List Heard) (lists : List (List Row))
     → IsProgram kinds (program_of declared queries places) → HaveTheirKinds kinds history → HasHeard declared history lists
-    → SuitInTurn (length lists) (streams_of lists) (placed queries places)
+    → SuitInTurn (streams_of lists) (placed queries places)

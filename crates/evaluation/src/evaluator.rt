@@ -1,13 +1,13 @@
 //! What was heard, and the closing of an epoch.
-ghost use Rattle.std.specs.Prelude.{◌≡◌, ℕ, ◌<◌, ◌∷◌, [], ◌++◌, List, length, map, IfOk, OnErr, OnOk};
+ghost use Rattle.std.specs.Prelude.{◌≡◌, ℕ, ◌<◌, ◌≤◌, ◌∷◌, [], ◌++◌, List, length, map, IfOk, OnErr, OnOk};
 ghost use Rattle.std.specs.List.{All};
 ghost use Rattle.std.specs.List.Sorted.{IsPermutation};
 ghost use Rattle.semantics.specs.Denotation.{streams_of};
 ghost use Rattle.semantics.specs.Histories.{Heard};
+ghost use Rattle.semantics.specs.Results.{results};
 ghost use Rattle.algebra.specs.SuitedQueries.{SuitInTurn};
-ghost use Rattle.evaluation.specs.Closing.{GivesResults};
 ghost use Rattle.evaluation.specs.Hearing.{HasHeard};
-ghost use Rattle.evaluation.specs.Views.{placed, query_of};
+ghost use Rattle.evaluation.specs.Views.{PublishNext, placed, program_of, query_of};
 
 use crate::publishing::{Batch, batch_of};
 use crate::query::Query;
@@ -75,8 +75,9 @@ impl Evaluator {
     ) -> Result<Batch, Memory>
         requires places { All (λ place. place < length queries.now) order.now }
         requires same_queries { IsPermutation (map query_of queries.now) (placed queries.now order.now) }
-        requires suited { SuitInTurn (length self.old) (streams_of self.old) (placed queries.now order.now) }
-        ensures value { IfOk result (GivesResults queries.now order.now time self.old) }
+        requires next { PublishNext (length self.old) (placed queries.now order.now) }
+        requires suited { SuitInTurn (streams_of self.old) (placed queries.now order.now) }
+        ensures value { IfOk result (λ batch. (declared : ℕ) (history : List Heard) → HasHeard declared history self.old → All (λ event. event.tuple.at ≤ time) history → batch ≡ map (λ query. results (program_of declared queries.now order.now) history query.stream time) queries.now) }
         ensures kept { self.new ≡ self.old }
     {
         let declared = self.lists.len();

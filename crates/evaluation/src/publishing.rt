@@ -7,8 +7,7 @@ ghost use Rattle.semantics.specs.Denotation.{denote, streams_of};
 ghost use Rattle.semantics.specs.Programs.{published};
 ghost use Rattle.algebra.specs.SuitedQueries.{SuitInTurn};
 ghost use Rattle.algebra.specs.Suits.{Suits};
-ghost use Rattle.evaluation.specs.Closing.{published_at};
-ghost use Rattle.evaluation.specs.Views.{placed, query_of};
+ghost use Rattle.evaluation.specs.Views.{PublishNext, placed, query_of};
 
 use crate::query::Query;
 use algebra::{Env, evaluate};
@@ -30,8 +29,9 @@ pub(crate) fn batch_of<L: Ledger>(
 ) -> Result<Batch, Memory>
     requires places { All (λ place. place < length queries.now) order.now }
     requires same_queries { IsPermutation (map query_of queries.now) (placed queries.now order.now) }
-    requires suited { SuitInTurn (length streams.old) (streams_of streams.old) (placed queries.now order.now) }
-    ensures value { IfOk result (λ batch. batch ≡ published_at streams.old queries.now order.now time) }
+    requires next { PublishNext (length streams.old) (placed queries.now order.now) }
+    requires suited { SuitInTurn (streams_of streams.old) (placed queries.now order.now) }
+    ensures value { IfOk result (λ batch. batch ≡ map (λ query. sorted (filter (λ tuple. tuple.at == time) (published (streams_of streams.old) (placed queries.now order.now) query.stream))) queries.now) }
     ensures kept { take (length streams.old) streams.new ≡ streams.old }
 {
     publish(alloc, streams, queries, order, steps)?;
@@ -47,7 +47,8 @@ fn publish<L: Ledger>(
     steps: &mut Steps<L>,
 ) -> Result<(), Memory>
     requires places { All (λ place. place < length queries.now) order.now }
-    requires suited { SuitInTurn (length streams.old) (streams_of streams.old) (placed queries.now order.now) }
+    requires next { PublishNext (length streams.old) (placed queries.now order.now) }
+    requires suited { SuitInTurn (streams_of streams.old) (placed queries.now order.now) }
     ensures published { OnOk result (streams_of streams.new ≡ published (streams_of streams.old) (placed queries.now order.now)) }
     ensures count { OnOk result (length streams.new ≡ length streams.old + length (placed queries.now order.now)) }
     ensures kept { take (length streams.old) streams.new ≡ streams.old }

@@ -48,7 +48,7 @@ pub query-stands : (ss : List Statement) (s : Statement) → Contains (queries_i
 query-stands ss s stands = All-contains (Contains ss) (queries_in ss) s (All-filter is_query (Contains ss) ss (All-contains_itself ss)) stands
 
 -- the streams that queries publish stand behind the others
-pub grows : {queries : List Statement} {streams all : List Entry} {order : List ℕ} {done : List Query} → Publish queries streams order all done → (more : List Entry) × (all ≡ streams ++ more) × All (λ e. e.declared ≡ false) more
+pub grows : {queries : List Statement} {streams all : List Entry} {hidden : ℕ} {order : List ℕ} {done : List Query} → Publish queries streams hidden order all done → (more : List Entry) × (all ≡ streams ++ more) × All (λ e. e.declared ≡ false) more
 grows (none {streams = streams}) = ([], sym (append-nil streams), All-nil (λ (e : Entry). e.declared ≡ false))
 grows (next {streams = streams} {s = s} schema x there gives rest) =
     let (more, same, undeclared) = grows rest in
@@ -62,9 +62,9 @@ pub record IsOf (streams : List Entry) (s : Statement) (q : Query) : Type 0 wher
   pub entry : slice_get streams q.stream ≡ Some (published_by s schema)
 
 -- the first of those that are published next
-first-is : {queries : List Statement} (streams : List Entry) {all : List Entry} {order : List ℕ} {more : List Query} (s : Statement) (schema : List Attr) (x : Ex) → Queries streams s schema x → Publish queries (streams ++ published_by s schema ∷ []) order all more
-    → IsOf all s (record { name = name_of s; stream = length streams; expr = x })
-first-is streams {all = all} s schema x gives rest =
+first-is : {queries : List Statement} (streams : List Entry) {all : List Entry} (hidden : ℕ) {after : ℕ} {order : List ℕ} {more : List Query} (s : Statement) (schema : List Attr) (x : Ex) → Queries streams s schema x
+    → Publish queries (streams ++ published_by s schema ∷ []) after order all more → IsOf all s (record { name = name_of s; stream = length streams; hidden = hidden; expr = x })
+first-is streams {all = all} hidden s schema x gives rest =
     let (more, same, undeclared) = grows rest in
     let parts : all ≡ streams ++ published_by s schema ∷ more = same ∙ append_assoc streams (published_by s schema ∷ []) more in
     record {
@@ -75,24 +75,24 @@ first-is streams {all = all} s schema x gives rest =
     }
 
 -- each published query is that of a statement, by induction on the order
-pub published-are : {queries : List Statement} {streams all : List Entry} {order : List ℕ} {done : List Query} → Publish queries streams order all done → All (λ q. (s : Statement) × Contains queries s × IsOf all s q) done
+pub published-are : {queries : List Statement} {streams all : List Entry} {hidden : ℕ} {order : List ℕ} {done : List Query} → Publish queries streams hidden order all done → All (λ q. (s : Statement) × Contains queries s × IsOf all s q) done
 published-are {queries} {all = all} none = All-nil (λ q. (s : Statement) × Contains queries s × IsOf all s q)
-published-are {queries} {all = all} (next {streams = streams} {number = number} {s = s} {more = more} schema x there gives rest) =
-    All-cons (λ q. (s : Statement) × Contains queries s × IsOf all s q) (record { name = name_of s; stream = length streams; expr = x }) more
-    (s, contains-at queries number s there, first-is streams s schema x gives rest) (published-are rest)
+published-are {queries} {all = all} (next {streams = streams} {hidden = hidden} {number = number} {s = s} {more = more} schema x there gives rest) =
+    All-cons (λ q. (s : Statement) × Contains queries s × IsOf all s q) (record { name = name_of s; stream = length streams; hidden = hidden; expr = x }) more
+    (s, contains-at queries number s there, first-is streams hidden s schema x gives rest) (published-are rest)
 
 -- each statement of the order has its query, by induction on the order
-pub publisher : {queries : List Statement} {streams all : List Entry} {order : List ℕ} {done : List Query} → Publish queries streams order all done
+pub publisher : {queries : List Statement} {streams all : List Entry} {hidden : ℕ} {order : List ℕ} {done : List Query} → Publish queries streams hidden order all done
     → (number : ℕ) (s : Statement) → Contains order number → slice_get queries number ≡ Some s → (q : Query) × Contains done q × IsOf all s q
 publisher none number s (k, inside, same) at = absurd (omega arith)
-publisher {queries} {all = all} (next {streams = streams} {number = first} {s = t} {more = more} schema x there gives rest) number s (zero, inside, same) at =
+publisher {queries} {all = all} (next {streams = streams} {hidden = hidden} {number = first} {s = t} {more = more} schema x there gives rest) number s (zero, inside, same) at =
     let own : Some t ≡ Some s = sym there ∙ ap (slice_get queries) same ∙ at in
     let statements : t ≡ s = cc in
-    let q : Query = record { name = name_of t; stream = length streams; expr = x } in
-    (q, (0, omega arith, refl), subst (λ (z : Statement). IsOf all z q) statements (first-is streams t schema x gives rest))
-publisher (next {streams = streams} {s = t} {more = more} schema x there gives rest) number s (suc k, inside, same) at =
+    let q : Query = record { name = name_of t; stream = length streams; hidden = hidden; expr = x } in
+    (q, (0, omega arith, refl), subst (λ (z : Statement). IsOf all z q) statements (first-is streams hidden t schema x gives rest))
+publisher (next {streams = streams} {hidden = hidden} {s = t} {more = more} schema x there gives rest) number s (suc k, inside, same) at =
     let (q, stands, is) = publisher rest number s (k, omega arith, same) at in
-    (q, Contains-append_right (record { name = name_of t; stream = length streams; expr = x } ∷ []) more q stands, is)
+    (q, Contains-append_right (record { name = name_of t; stream = length streams; hidden = hidden; expr = x } ∷ []) more q stands, is)
 
 -- a name with no number stands nowhere
 absent-at : (streams : List Entry) (name : List ℕ) → number_of name streams ≡ None → (k : ℕ) (d : List ℕ) → k < length (stream_names streams) → get_or (stream_names streams) k d ≢ name
@@ -119,20 +119,20 @@ module _ (ss : List Statement) (declared : List Entry) (order : List ℕ) (sound
       (apart-names (filter (λ s. not (is_query s)) ss) (AllPairs-filter (λ s t. name_of s ≢ name_of t) (λ s. not (is_query s)) ss (sound_apart ss sound.names)))
 
   -- each query that is published next has a new name
-  next-absent : (taken later : List ℕ) (number : ℕ) (streams : List Entry) (done : List Query) (s : Statement) → order ≡ taken ++ number ∷ later → Publish (queries_in ss) declared taken streams done → slice_get (queries_in ss) number ≡ Some s
+  next-absent : {hidden : ℕ} (taken later : List ℕ) (number : ℕ) (streams : List Entry) (done : List Query) (s : Statement) → order ≡ taken ++ number ∷ later → Publish (queries_in ss) declared hidden taken streams done → slice_get (queries_in ss) number ≡ Some s
       → number_of (name_of s) streams ≡ None
-  next-absent taken later number streams done s parts before there =
+  next-absent {hidden} taken later number streams done s parts before there =
       let size : length (taken ++ number ∷ later) ≡ length taken + length (number ∷ later) = length-append taken (number ∷ later) in
       let inside : length taken < length order = omega (arith, ap length parts, size) in
       let front : take (length taken) order ≡ taken = ap (take (length taken)) parts ∙ take-append_seam taken (number ∷ later) in
       let here : get_or order (length taken) 0 ≡ number = ap (λ ns. get_or ns (length taken) 0) parts ∙ get_or-append_seam taken number later 0 in
       let (place, at) = place-of ss s (query-stands ss s (contains-at (queries_in ss) number s there)) in
-      is_absent ss declared order streams done sound in_order declares (length taken) inside (subst (λ (ns : List ℕ). Publish (queries_in ss) declared ns streams done) (sym front) before) place s at
+      is_absent ss declared order streams done sound in_order declares (length taken) inside (subst (λ (ns : List ℕ). Publish (queries_in ss) declared hidden ns streams done) (sym front) before) place s at
       (ap (slice_get (queries_in ss)) here ∙ there)
 
   -- so names stay apart, by induction on the order
-  pub apart-from : (taken later : List ℕ) {streams all : List Entry} {done more : List Query} → order ≡ taken ++ later → Publish (queries_in ss) declared taken streams done → AllPairs (λ x y. x ≢ y) (stream_names streams)
-      → Publish (queries_in ss) streams later all more → AllPairs (λ x y. x ≢ y) (stream_names all)
+  pub apart-from : {hidden after : ℕ} (taken later : List ℕ) {streams all : List Entry} {done more : List Query} → order ≡ taken ++ later → Publish (queries_in ss) declared hidden taken streams done → AllPairs (λ x y. x ≢ y) (stream_names streams)
+      → Publish (queries_in ss) streams after later all more → AllPairs (λ x y. x ≢ y) (stream_names all)
   apart-from taken later parts before apart none = apart
   apart-from taken later {done = done} parts before apart (next {streams = streams} {number = number} {order = rest_order} {s = s} schema x there gives rest) =
       let new = absent-at streams (name_of s) (next-absent taken rest_order number streams done s parts before there) in

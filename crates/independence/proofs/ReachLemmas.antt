@@ -28,7 +28,7 @@ abbrev with_reads : List (List ℕ) → Statement → List (List ℕ)
 with_reads names s = cond (is_among names (name_of s)) (names ++ reads_by s) names
 
 -- the names that are read from these, by the queries that are worked on here, the last ones first
-reached : {queries : List Statement} {streams all : List Entry} {order : List ℕ} {done : List Query} → Publish queries streams order all done → List (List ℕ) → List (List ℕ)
+reached : {queries : List Statement} {streams all : List Entry} {hidden : ℕ} {order : List ℕ} {done : List Query} → Publish queries streams hidden order all done → List (List ℕ) → List (List ℕ)
 reached none names = names
 reached (next {s = s} schema x there gives rest) names = with_reads (reached rest names) s
 
@@ -47,7 +47,7 @@ kept-with names s name stands = elim (cases_Bool (is_among names (name_of s))) [
 ]
 
 -- by induction on the order
-kept : {queries : List Statement} {streams all : List Entry} {order : List ℕ} {done : List Query} (p : Publish queries streams order all done) (names : List (List ℕ)) (name : List ℕ) → Contains names name → Contains (reached p names) name
+kept : {queries : List Statement} {streams all : List Entry} {hidden : ℕ} {order : List ℕ} {done : List Query} (p : Publish queries streams hidden order all done) (names : List (List ℕ)) (name : List ℕ) → Contains names name → Contains (reached p names) name
 unfolding reached
 kept none names name stands = stands
 kept (next {s = s} schema x there gives rest) names name stands = kept-with (reached rest names) s name (kept rest names name stands)
@@ -63,7 +63,7 @@ module _ (ss : List Statement) (query : List ℕ) where
     | inr absent ↦ sound name (subst (λ (ns : List (List ℕ)). Contains ns name) (reads-absent names s absent) stands)
   ]
 
-  reached-sound : {streams all : List Entry} {order : List ℕ} {done : List Query} (p : Publish (queries_in ss) streams order all done) (names : List (List ℕ)) → ((name : List ℕ) → Contains names name → ReadsFrom ss query name)
+  reached-sound : {streams all : List Entry} {hidden : ℕ} {order : List ℕ} {done : List Query} (p : Publish (queries_in ss) streams hidden order all done) (names : List (List ℕ)) → ((name : List ℕ) → Contains names name → ReadsFrom ss query name)
       → (name : List ℕ) → Contains (reached p names) name → ReadsFrom ss query name
   unfolding reached
   reached-sound none names sound = sound
@@ -77,7 +77,7 @@ not-in-both xs ys name apart (i, i_inside, i_same) (j, j_inside, j_same) =
     apart i (length xs + j) name (omega arith) (omega (arith, size)) (get_or_append_left xs ys name i i_inside ∙ i_same ∙ sym (get_or-append-add xs ys j name ∙ j_same))
 
 -- a query that is worked on later has no name of a stream that stands before
-later-apart : {queries : List Statement} {streams all : List Entry} {order : List ℕ} {done : List Query} → Publish queries streams order all done → AllPairs (λ x y. x ≢ y) (stream_names all)
+later-apart : {queries : List Statement} {streams all : List Entry} {hidden : ℕ} {order : List ℕ} {done : List Query} → Publish queries streams hidden order all done → AllPairs (λ x y. x ≢ y) (stream_names all)
     → (number : ℕ) (s : Statement) → Contains order number → slice_get queries number ≡ Some s → Contains (stream_names streams) (name_of s) → ⊥
 later-apart {queries} {streams} {order = order} p apart number s stands at named =
     let inside : number < length queries = slice_get_within queries number s at in
@@ -86,7 +86,7 @@ later-apart {queries} {streams} {order = order} p apart number s stands at named
     (subst (Contains (map (λ n. get_or (names_in queries) n []) order)) name (Contains-map (λ n. get_or (names_in queries) n []) order number stands))
 
 -- what the queries read whose names are reached is reached, by induction on the order
-reached-closed : {queries : List Statement} {streams all : List Entry} {order : List ℕ} {done : List Query} (p : Publish queries streams order all done) (names : List (List ℕ)) → AllPairs (λ x y. x ≢ y) (stream_names all)
+reached-closed : {queries : List Statement} {streams all : List Entry} {hidden : ℕ} {order : List ℕ} {done : List Query} (p : Publish queries streams hidden order all done) (names : List (List ℕ)) → AllPairs (λ x y. x ≢ y) (stream_names all)
     → (number : ℕ) (t : Statement) → Contains order number → slice_get queries number ≡ Some t → Contains (reached p names) (name_of t) → (name : List ℕ) → Contains (reads_by t) name → Contains (reached p names) name
 unfolding reached
 reached-closed none names apart number t (k, inside, same) at stands name read = absurd (omega arith)

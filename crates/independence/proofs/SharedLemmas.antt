@@ -98,7 +98,7 @@ module _ (a b : Judged) (s : Stands a) (t : Stands b) (test : List ℕ → Bool)
       }
 
   -- so all streams that are shared are alike, by induction on the order of work
-  follow : {streams all : List Entry} {order : List ℕ} {done : List Query} → Publish (queries_in a.statements) streams order all done → all ≡ a.streams
+  follow : {streams all : List Entry} {hidden : ℕ} {order : List ℕ} {done : List Query} → Publish (queries_in a.statements) streams hidden order all done → all ≡ a.streams
       → ((name : List ℕ) → IsTrue (test name) → IsAlike streams b.streams (number_in a.streams b.streams) name) → (name : List ℕ) → IsTrue (test name) → IsAlike a.streams b.streams (number_in a.streams b.streams) name
   follow none same alike name shares = subst (λ (es : List Entry). IsAlike es b.streams (number_in a.streams b.streams) name) same (alike name shares)
   follow {all = all} (next {streams = streams} {s = u} schema x there gives rest) same alike name shares = follow rest same more_alike name shares
@@ -131,7 +131,7 @@ module _ (a b : Judged) (s : Stands a) (t : Stands b) (test : List ℕ → Bool)
                 has-there n followed.twin.stream (published_by u schema) (published_by u schema) name own (ap (slice_get a.streams) place ∙ at) followed.entry own_name own_name (sym (ap (λ (z : Entry). z.schema) entry) ∙ schemas)
           ]
 
-  module _ (publishes : Publish (queries_in a.statements) a.declared a.order a.streams a.published) where
+  module _ (publishes : Publish (queries_in a.statements) a.declared (length a.statements) a.order a.streams a.published) where
     -- all streams that are shared are alike
     all-alike : (name : List ℕ) → IsTrue (test name) → IsAlike a.streams b.streams (number_in a.streams b.streams) name
     all-alike = follow publishes refl declared-alike

@@ -1,14 +1,16 @@
 -- The network and the layout of an engine as those of a catalogue.
-use Rattle.std.proofs.Common.{◌≡◌, ◌∙◌, sym, ap, refl, subst, ℕ, ◌+◌, ◌-◌, ◌<◌, ◌≤◌, ◌==◌, ◌||◌, false, List, [], ◌∷◌, length, Some, slice_get, arith}
-use Rattle.std.specs.List.{All}
+use Rattle.std.proofs.Common.{◌≡◌, ◌∙◌, sym, ap, refl, subst, ℕ, ◌-◌, ◌<◌, ◌==◌, ◌||◌, false, List, [], ◌∷◌, ◌++◌, length, Some, slice_get, arith}
+use Rattle.std.specs.Prelude.{Contains}
+use Rattle.std.specs.List.{All, range_with_len}
 use Rattle.std.specs.Option.{option_map}
 use Rattle.std.proofs.lemmas.Bool.Decides.{nat_tests}
 use Rattle.std.proofs.lemmas.List.{length-map}
-use Rattle.std.proofs.lemmas.List.Elements.{All-nil, All-cons, All-head, All-tail, All-append}
+use Rattle.std.proofs.lemmas.List.Elements.{All-nil, All-cons, All-contains, All-head, All-tail, All-append, Contains-append_left}
 use Rattle.std.proofs.lemmas.Option.{get_or_from_slice_get, slice_get-map}
 use Rattle.event_types.specs.declared.kind.Kind.{Kind}
 use Rattle.event_types.specs.Tuple.{Row}
 use Rattle.event_types.specs.Order.{sorted}
+use Rattle.semantics.proofs.StatementLemmas.{declared_there}
 use Rattle.semantics.specs.Kinds.{HasKinds}
 use Rattle.semantics.specs.Programs.{Query}
 use Rattle.semantics.specs.TypedPrograms.{PublishInTurn}
@@ -19,10 +21,8 @@ use Rattle.automaton.specs.NetworkLines.{HasLines}
 use Rattle.automaton.specs.States.{Net}
 use Rattle.automaton.specs.Work.{is_in}
 use Rattle.splitter.specs.Laws.{hidden_streams, split_order}
-use Rattle.splitter.specs.Splitting.{parts_of}
-use Rattle.splitter.proofs.NumberingLemmas.{parts_up}
 use Rattle.cel_types.specs.SourceLaws.{kinds_in}
-use Rattle.chains.specs.Chains.{chain_order, first_hidden, order_of}
+use Rattle.chains.specs.Chains.{HideApart, chain_order, hidden_end, order_of}
 use Rattle.chains.specs.Layouts.{IsLayoutOf}
 use Rattle.chains.proofs.ApartLemmas.{range_all}
 use Rattle.chains.proofs.LineLemmas.{get_more}
@@ -33,39 +33,39 @@ use Rattle.epoch_engine.specs.Starts.{IsNew}
 use Rattle.epoch_engine.specs.Views as engine
 use Rattle.catalogue.specs.Catalogued.{Catalogued, IsAccepted, judged_of}
 use Rattle.catalogue.specs.Chained.{kinds_of_each}
-use Rattle.catalogue.proofs.ProgramLemmas.{accepted_are_programs, declared_are_told}
+use Rattle.catalogue.proofs.ProgramLemmas.{accepted_are_wide_programs, declared_are_told}
 use Rattle.event_csv.specs.declared.event.Seen.{Seen}
 use Rattle.monitor.specs.Fitting.{Fits}
 use Rattle.monitor.specs.Standing.{IsPlanned, lines_over, program_over}
 use Rattle.monitor.proofs.BatchLemmas.{as_many}
 
--- the derived streams of queries have numbers from that of the first on, by induction on the queries
-order_above : (kinds : ℕ → List Kind) (low number : ℕ) (order : List Query) (next : ℕ) → low ≤ number → low ≤ next → PublishInTurn kinds number order → All (λ stream. low ≤ stream) (chain_order order next)
-order_above kinds low number [] next h g turn = All-nil (λ stream. low ≤ stream)
-order_above kinds low number (query ∷ order) next h g turn =
-    let last = (parts_of query.expr next).next in
-    All-append (λ stream. low ≤ stream) (split_order query.expr query.stream next) (chain_order order last)
-    (All-append (λ stream. low ≤ stream) (hidden_streams query.expr next) (query.stream ∷ []) (range_all (λ stream. low ≤ stream) next (last - next) (λ x a b. omega arith))
-    (All-cons (λ stream. low ≤ stream) query.stream [] (omega (arith, turn.0)) (All-nil (λ stream. low ≤ stream))))
-    (order_above kinds low (number + 1) order last (omega arith) (omega (arith, parts_up query.expr next)) turn.2)
+-- the derived streams of queries have greater numbers than a stream that is there, by induction on the queries
+order_above : (kinds : ℕ → List Kind) (stream : ℕ) (there : List ℕ) (order : List Query) → Contains there stream → PublishInTurn kinds there order → HideApart order → All (λ number. stream < number) (chain_order order)
+order_above kinds stream there [] has turn apart = All-nil (λ number. stream < number)
+order_above kinds stream there (query ∷ order) has turn apart =
+    let above : stream < query.stream = All-contains (λ n. n < query.stream) there stream turn.0 has in
+    All-append (λ number. stream < number) (split_order query.expr query.stream query.hidden) (chain_order order)
+    (All-append (λ number. stream < number) (hidden_streams query.expr query.hidden) (query.stream ∷ [])
+    (range_all (λ number. stream < number) query.hidden (hidden_end query - query.hidden) (λ number low high. omega (arith, above, apart.0)))
+    (All-cons (λ number. stream < number) query.stream [] above (All-nil (λ number. stream < number))))
+    (order_above kinds stream (there ++ query.stream ∷ []) order (Contains-append_left there (query.stream ∷ []) stream has) turn.3 apart.2)
 
 other_number : (stream number : ℕ) → stream < number → (stream == number) ≡ false
 other_number stream number less = grind (arith, nat_tests)
 
-none_below : (low stream : ℕ) (numbers : List ℕ) → stream < low → All (λ number. low ≤ number) numbers → is_in numbers stream ≡ false
-none_below low stream [] less all = refl
-none_below low stream (number ∷ numbers) less all =
-    let here : low ≤ number = All-head (λ number. low ≤ number) number numbers all in
-    λ i. other_number stream number (omega (arith, less, here)) i || none_below low stream numbers less (All-tail (λ number. low ≤ number) number numbers all) i
+none_is : (stream : ℕ) (numbers : List ℕ) → All (λ number. stream < number) numbers → is_in numbers stream ≡ false
+none_is stream [] all = refl
+none_is stream (number ∷ numbers) all =
+    λ i. other_number stream number (All-head (λ n. stream < n) number numbers all) i || none_is stream numbers (All-tail (λ n. stream < n) number numbers all) i
 
 module _ (c : Catalogued) (accepted : IsAccepted c) where
   -- a declared stream isn't derived
   not_derived : (stream : ℕ) → stream < length (judged_of c).declared → is_in (order_of (program_over c)) stream ≡ false
   not_derived stream less =
       let program = program_over c in
-      let typed = accepted_are_programs accepted.text (judged_of c) accepted.accepts in
-      none_below program.declared stream (order_of program) less
-      (order_above (kinds_in (judged_of c).streams) program.declared program.declared program.order (first_hidden program) (omega arith) (omega arith) typed.in_turn)
+      let wide = accepted_are_wide_programs accepted.text (judged_of c) accepted.accepts in
+      none_is stream (order_of program)
+      (order_above (kinds_in (judged_of c).streams) stream (range_with_len 0 program.declared) program.order (declared_there program.declared stream less) wide.typed.in_turn wide.apart)
 
   module _ (event : Seen) (fits : Fits (judged_of c).streams event) where
     -- the event's stream is declared

@@ -1,4 +1,5 @@
-use Rattle.std.proofs.Common.{ℕ, subst, sym}
+use Rattle.std.proofs.Common.{subst, sym}
+use Rattle.std.specs.List.{range_with_len}
 use Rattle.semantics.specs.Denotation.{Streams}
 use Rattle.semantics.specs.Programs.{declared_streams}
 use Rattle.algebra.specs.SuitedQueries.{SuitInTurn}
@@ -8,5 +9,5 @@ use Rattle.evaluation.proofs.laws.typed_queries_suit.Goals as goal
 
 pub returns : goal.returns
 returns c kinds declared queries places history lists typed all h =
-    let suited = typed_in_turn kinds declared (declared_streams declared history) (placed queries places) (declared_kinds kinds declared history all) typed.in_turn in
-    subst (λ (s : ℕ × Streams). SuitInTurn s.0 s.1 (placed queries places)) (λ i. (sym h.as_many i, sym h.heard i)) suited.0
+    let suited = typed_in_turn kinds (range_with_len 0 declared) (declared_streams declared history) (placed queries places) (declared_kinds kinds declared history all) typed.in_turn in
+    subst (λ (streams : Streams). SuitInTurn streams (placed queries places)) (sym h.heard) suited.0

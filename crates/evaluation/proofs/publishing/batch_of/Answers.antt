@@ -3,7 +3,7 @@ use Rattle.std.specs.Prelude.{IfOk}
 use Rattle.std.specs.List.{filter}
 use Rattle.event_types.specs.Order.{sorted}
 use Rattle.event_types.specs.Tuple.{Row}
-use Rattle.semantics.specs.Denotation.{Streams, streams_of}
+use Rattle.semantics.specs.Denotation.{Streams}
 use Rattle.evaluation.specs.declared.query.Query.{Query}
 use Rattle.evaluation.proofs.PublishingLemmas.{streams_below}
 use Rattle.evaluation.proofs.publishing.batch_of.Goals as goal
@@ -11,7 +11,7 @@ use Rattle.evaluation.proofs.publishing.batch_of.Goals as goal
 -- each query's stream was published
 pub tuples_of_each-requires : goal.tuples_of_each-requires
 tuples_of_each-requires g c =
-    streams_below (length c.args.streams.now) (length c.publish.new.streams) (streams_of c.args.streams.now) c.args.queries.now c.args.order.now c.requires.same_queries c.requires.suited
+    streams_below (length c.args.streams.now) (length c.publish.new.streams) c.args.queries.now c.args.order.now c.requires.same_queries c.requires.next
     c.in_ok-publish.ensures.count
 
 -- the streams are those that were published
