@@ -10,7 +10,7 @@ use Rattle.algebra.specs.Views.{ex_of}
 use Rattle.semantics.specs.Expressions.{Read}
 use Rattle.cel_grammar.specs.Views.{statement_of}
 use Rattle.resubscribe.specs.Laws.{HasEachOnce}
-use Rattle.resubscribe.proofs.AmongLemmas.{eq_apart, eq_self}
+use Rattle.event_types.proofs.NumberLemmas.{is_other, self_equal}
 use Rattle.resubscribe.proofs.OrderLemmas.{HasEachOnce-order}
 use Rattle.catalogue.specs.Catalogued.{Catalogued, IsAccepted, judged_of, queries_by}
 use Rattle.catalogue.specs.Judgement.{query_at}
@@ -99,8 +99,8 @@ module _ (c : Catalogued) (accepted : IsAccepted c) where
     place_is =
         let small_place : get_or places query 0 < length c.order = at_place.0 in
         position_or_len_is (λ other. query == other) c.order (get_or places query 0) 0 (omega arith)
-        (λ k before. eq_apart query (get_or c.order k 0) (λ same. order_distinct k (get_or places query 0) 0 before at_place.0 (sym same ∙ sym at_place.1)))
-        (λ within. ap (λ n. query == n) at_place.1 ∙ eq_self query)
+        (λ k before. is_other query (get_or c.order k 0) (λ same. order_distinct k (get_or places query 0) 0 before at_place.0 (sym same ∙ sym at_place.1)))
+        (λ within. ap (λ n. query == n) at_place.1 ∙ self_equal query)
 
   module _ (query place : ℕ) (is : place ≡ position_or_len (λ other. query == other) c.order) (within : place < length c.order) where
     -- the query's stream stands at its place among those that are published

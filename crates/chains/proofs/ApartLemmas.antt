@@ -6,16 +6,16 @@ use Rattle.std.proofs.lemmas.List.Elements.{All-nil, All-cons, All-head, All-tai
 use Rattle.std.proofs.lemmas.List.Folds.{list_any-append}
 use Rattle.semantics.specs.Expressions.{Ex, Read, Filter, Select, Union, Next, Fold}
 use Rattle.semantics.specs.Reading.{ReadsOnly}
-use Rattle.automaton.proofs.WorkLemmas.{self_equal}
 use Rattle.automaton.specs.declared.line.Hop.{Hop}
 use Rattle.automaton.specs.declared.line.Line.{Line}
 use Rattle.automaton.specs.Work.{ReadsNone, is_in}
 use Rattle.splitter.specs.Laws.{IsApart, hidden_streams, split_order}
 use Rattle.splitter.specs.Splitting.{parts_of, published_on, split_lines}
-use Rattle.splitter.proofs.ListLemmas.{every}
 use Rattle.splitter.proofs.NumberingLemmas.{parts_up}
-use Rattle.splitter.proofs.OutLemmas.{Within, less_other, more_other, parts_outs}
+use Rattle.splitter.proofs.OutLemmas.{Within, parts_outs}
 use Rattle.splitter.proofs.ReadLemmas.{LineReads, PartsRead, parts_read}
+use Rattle.event_types.proofs.NumberLemmas.{self_equal, less_other, more_other}
+use Rattle.semantics.proofs.ListLemmas.{every}
 
 -- lists of numbers
 pub any_left : {X : Type 0} (p : X → Bool) (xs ys : List X) → list_any p xs ≡ true → list_any p (xs ++ ys) ≡ true

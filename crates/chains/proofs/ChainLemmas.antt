@@ -13,19 +13,19 @@ use Rattle.semantics.specs.Reading.{ReadsOnly}
 use Rattle.semantics.specs.TypedPrograms.{PublishInTurn}
 use Rattle.algebra.proofs.ProgramLemmas.{typed_in_turn}
 use Rattle.automaton.proofs.AdditionLemmas.{added_alone, added_in_order}
-use Rattle.automaton.proofs.NumberLemmas.{is_same}
 use Rattle.automaton.specs.Additions.{AreFresh}
 use Rattle.automaton.specs.Work.{IsInOrder, completed, is_in}
 use Rattle.splitter.specs.Laws.{hidden_streams, split_order}
 use Rattle.splitter.specs.Splitting.{parts_of, published_on, split_lines}
 use Rattle.splitter.specs.Widths.{MeetWidths}
 use Rattle.splitter.proofs.LawLemmas.{in_order, lines_mean_it}
-use Rattle.splitter.proofs.ListLemmas.{every}
-use Rattle.splitter.proofs.OutLemmas.{Within, less_other, parts_outs}
+use Rattle.splitter.proofs.OutLemmas.{Within, parts_outs}
 use Rattle.chains.specs.Chains.{HideApart, LeavesHidden, chain_lines, chain_order, hidden_end}
 use Rattle.chains.specs.Widths.{HasWidths}
 use Rattle.chains.proofs.ApartLemmas.{Earlier, Later, any_left, any_right, is_apart, lines_read_none, none_earlier, none_later, order_early, outs_early, outs_in, own_in, range_all}
 use Rattle.chains.proofs.WidthLemmas.{meets_alike, wide_meets}
+use Rattle.event_types.proofs.NumberLemmas.{is_same, less_other}
+use Rattle.semantics.proofs.ListLemmas.{every}
 
 -- what a query reads has a lower number than its stream
 pub reads_below : (kinds : ℕ → List Kind) (there : List ℕ) (query : Query) (order : List Query) → PublishInTurn kinds there (query ∷ order) → ReadsOnly (λ stream. stream < query.stream) query.expr

@@ -12,7 +12,6 @@ use Rattle.semantics.specs.Programs.{Query}
 use Rattle.semantics.specs.TypedPrograms.{PublishInTurn}
 use Rattle.algebra.specs.declared.expression.Expr.{Expr}
 use Rattle.algebra.specs.Views.{ex_of}
-use Rattle.automaton.proofs.WorkLemmas.{self_equal}
 use Rattle.automaton.specs.declared.layout.Layout.{Layout}
 use Rattle.automaton.specs.declared.line.Line.{Line}
 use Rattle.automaton.specs.Layouts.{LayoutFits}
@@ -32,6 +31,7 @@ use Rattle.chains.proofs.GrowLemmas.{IsLonger, fits_longer, get_longer, grow_fit
 use Rattle.chains.proofs.NumberedLemmas.{from_each, from_long, work_apart}
 use Rattle.chains.proofs.RangeLemmas.{range_next}
 use Rattle.chains.proofs.SplitLemmas.{GrowBy, some_lines, split_typed}
+use Rattle.event_types.proofs.NumberLemmas.{self_equal}
 
 -- the stream of the lines has a line
 abbrev HasLine : List Line → ℕ → Type 0

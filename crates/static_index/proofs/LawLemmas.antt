@@ -12,7 +12,6 @@ use Rattle.semantics.specs.Truth.{all_true, is_met, order_of, truth}
 use Rattle.semantics.specs.Values.{value_at}
 use Rattle.scalar_expr.proofs.CanonicalLaws.{turned_met}
 use Rattle.scalar_expr.specs.Classes.{bounded, class_of, exchanged, fixed, keyed}
-use Rattle.scalar_expr.proofs.CanonicalLaws.{turned_met}
 use Rattle.static_index.specs.FixedParts.{all_hold, first_holds, fixed_part_of, fixed_parts, holds_if_any, part_holds}
 use Rattle.static_index.specs.declared.fixed_part.FixedPart.{FixedPart}
 
