@@ -78,10 +78,7 @@ fn hop_one(alloc: Global, line: &mut Open, wait: &Wait) -> Result<(), Memory>
 {
     let wait = wait.copy(alloc)?;
     let step = std::mem::replace(&mut line.last, List::new(alloc));
-    if line.hops.push(Hop { step, wait }).is_err() {
-        return Err(Memory);
-    }
-    Ok(())
+    line.hops.add(Hop { step, wait })
 }
 
 // Adds the lines, which publish this stream, to those that are there.
@@ -90,17 +87,12 @@ pub(crate) fn publish_each(lines: &mut Lines, more: Vec<Open>, out: StreamId) ->
 {
     for line in more {
         let Open { root, hops, last } = line;
-        if lines
-            .push(Line {
-                root,
-                hops,
-                last,
-                out,
-            })
-            .is_err()
-        {
-            return Err(Memory);
-        }
+        lines.add(Line {
+            root,
+            hops,
+            last,
+            out,
+        })?;
     }
     Ok(())
 }

@@ -1,5 +1,5 @@
 //! Steps with one more stage, in their canonical form.
-ghost use Rattle.std.specs.Prelude.{◌≡◌, ◌++◌, ◌∷◌, [], map, IfOk, OnOk};
+ghost use Rattle.std.specs.Prelude.{◌≡◌, map, IfOk, OnOk};
 ghost use Rattle.automaton.specs.declared.step.Stage.TheVariants.{Keep, Make};
 ghost use Rattle.scalar_expr.specs.Views.{sc_of};
 ghost use Rattle.splitter.specs.Stages.{JoinsLast, are_events, is_identity, kept, staged};
@@ -29,7 +29,7 @@ fn keep_behind(alloc: Global, step: &mut Step, condition: &Conj) -> Result<(), M
             *step.get_mut(last) = Stage::Keep(both);
             Ok(())
         }
-        None => add_stage(step, Stage::Keep(condition.copy(alloc)?)),
+        None => step.add(Stage::Keep(condition.copy(alloc)?)),
     }
 }
 
@@ -53,17 +53,7 @@ pub(crate) fn add_make(alloc: Global, step: &mut Step, projection: &Map) -> Resu
     if is_same(projection) {
         return Ok(());
     }
-    add_stage(step, Stage::Make(projection.copy(alloc)?))
-}
-
-// Adds a stage as it is.
-fn add_stage(step: &mut Step, stage: Stage) -> Result<(), Memory>
-    ensures { OnOk result (step.new ≡ step.old ++ stage ∷ []) }
-{
-    if step.push(stage).is_err() {
-        return Err(Memory);
-    }
-    Ok(())
+    step.add(Stage::Make(projection.copy(alloc)?))
 }
 
 // Whether the projection is the identity on its width.
