@@ -40,9 +40,7 @@ impl Evaluator {
     {
         let mut lists = List::new(alloc);
         for _ in 0..declared {
-            if lists.push(List::new(alloc)).is_err() {
-                return Err(Memory);
-            }
+            lists.add(List::new(alloc))?;
         }
         Ok(Evaluator { lists })
     }
@@ -54,9 +52,7 @@ impl Evaluator {
         ensures kept { OnErr result (self.new ≡ self.old) }
         ensures as_many { length self.new ≡ length self.old }
     {
-        if self.lists.get_mut(stream).push(tuple).is_err() {
-            return Err(Memory);
-        }
+        self.lists.get_mut(stream).add(tuple)?;
         Ok(())
     }
 

@@ -12,7 +12,7 @@ ghost use Rattle.evaluation.specs.Views.{PublishNext, placed, query_of};
 use crate::query::Query;
 use algebra::{Env, evaluate};
 use cay_host::{Ledger, Steps};
-use event_types::{List, Memory, Tuple, Tuples, put_in_order};
+use event_types::{List, Memory, Tuples, put_in_order};
 use std::alloc::Global;
 
 /// The results of an epoch: a list for each query.
@@ -71,10 +71,7 @@ fn publish_one<L: Ledger>(
     ensures kept { OnErr result (streams.new ≡ streams.old) }
 {
     let tuples = evaluate(alloc, query.expr, streams, steps)?;
-    if streams.push(tuples).is_err() {
-        return Err(Memory);
-    }
-    Ok(())
+    streams.add(tuples)
 }
 
 // The tuples of a time that each query's stream has, in their order.
@@ -89,10 +86,7 @@ fn tuples_of_each(
 {
     let mut batch = List::new(alloc);
     for query in queries {
-        let tuples = tuples_of(alloc, streams, query, time)?;
-        if batch.push(tuples).is_err() {
-            return Err(Memory);
-        }
+        batch.add(tuples_of(alloc, streams, query, time)?)?;
     }
     Ok(batch)
 }
@@ -112,19 +106,9 @@ fn tuples_at(alloc: Global, tuples: &Tuples, time: u64) -> Result<Tuples, Memory
     let mut found = List::new(alloc);
     for tuple in tuples.as_slice() {
         if tuple.at() == time {
-            add(&mut found, tuple.copy(alloc)?)?;
+            found.add(tuple.copy(alloc)?)?;
         }
     }
     put_in_order(&mut found);
     Ok(found)
-}
-
-// Puts a tuple at the end.
-fn add(found: &mut Tuples, tuple: Tuple) -> Result<(), Memory>
-    ensures { OnOk result (found.new ≡ found.old ++ tuple ∷ []) }
-{
-    if found.push(tuple).is_err() {
-        return Err(Memory);
-    }
-    Ok(())
 }

@@ -7,5 +7,4 @@ use Rattle.event_types.proofs.ResultLemmas.{when_ok}
 -- one more empty list was put
 pub loop-preserved : goal.loop-preserved
 loop-preserved c =
-    let put = when_ok c.push.result (sym c.is_err.ensures.value ∙ c.if-is_err.false) c.push.ensures.ok in
-    subst (HasHeard (c.loop.counter + 1) []) (sym (put ∙ ap (λ list. c.loop.lists ++ list ∷ []) c.new.ensures)) (one_more_stream c.loop.counter c.loop.lists c.loop.invariant)
+    subst (HasHeard (c.loop.counter + 1) []) (sym (c.in_ok-add.ensures.ok ∙ ap (λ list. c.loop.lists ++ list ∷ []) c.new.ensures)) (one_more_stream c.loop.counter c.loop.lists c.loop.invariant)

@@ -1,1 +1,0 @@
--- What is promised of a result that was tested.
