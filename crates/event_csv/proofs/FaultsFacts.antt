@@ -8,7 +8,7 @@ use Rattle.std.proofs.lemmas.Bool.Decides.{nat_tests}
 use Rattle.event_types.specs.declared.kind.Kind.{Kind}
 use Rattle.event_types.specs.declared.value.Value.{Value}
 use Rattle.stream_schema.specs.Streams.{Entry, number_of}
-use Rattle.event_csv.specs.Event.{counted_event, declared_stream, event_of, event_with, event, known_event, record_event, span_at, span_from, value_before, value_of, values_of}
+use Rattle.event_csv.specs.Event.{counted_event, declared_stream, event_of, event_with, event, known_event, no_value, record_event, span_at, span_from, value_before, value_of, values_of}
 use Rattle.event_csv.specs.Faults.{LinesHaveTheirFirstFault, Row, detection_of, field, faults, fields_of, first_fault, kinds_in, seen_of, start_of, stream_of, value_faults, values}
 use Rattle.event_csv.specs.Fields.{line_fields}
 use Rattle.event_csv.specs.Lines.{is_empty, is_long}
@@ -28,12 +28,12 @@ value_faults-first number [] fields make = refl
 value_faults-first number (k ∷ kinds) [] make = refl
 value_faults-first number (k ∷ kinds) (text ∷ fields) make = by (value_of k text) (λ other. value_faults-first (number + 1) kinds fields other)
   where
-    behind : (v : Value) (r : Result (List Value) LineFault) → with_values (λ vals. make (v ∷ vals)) r ≡ with_values make (value_before number (Some v) r)
+    behind : (v : Value) (r : Result (List Value) LineFault) → with_values (λ vals. make (v ∷ vals)) r ≡ with_values make (value_before (no_value k number) (Some v) r)
     behind v (Ok vals) = refl
     behind v (Err f) = refl
 
     by : (o : Option Value) → ((other : List Value → Seen) → first_fault (value_faults (number + 1) kinds fields) (other (values kinds fields)) ≡ with_values other (values_of (number + 1) kinds fields))
-        → first_fault ((not (is_some o), fault.BadInt number) ∷ value_faults (number + 1) kinds fields) (make (cons_option o (values kinds fields))) ≡ with_values make (value_before number o (values_of (number + 1) kinds fields))
+        → first_fault ((not (is_some o), no_value k number) ∷ value_faults (number + 1) kinds fields) (make (cons_option o (values kinds fields))) ≡ with_values make (value_before (no_value k number) o (values_of (number + 1) kinds fields))
     by None behind_it = refl
     by (Some v) behind_it = behind_it (λ vals. make (v ∷ vals)) ∙ behind v (values_of (number + 1) kinds fields)
 

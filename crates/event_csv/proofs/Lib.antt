@@ -1,6 +1,7 @@
 pub mod CutFacts
 pub mod DigitFacts
 pub mod EventFacts
+pub mod Examples
 pub mod FaultsFacts
 pub mod GoOnFacts
 pub mod LastFacts

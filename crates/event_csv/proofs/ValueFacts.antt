@@ -3,23 +3,23 @@ use Rattle.std.proofs.Common.{◌≡◌, ◌∙◌, ℕ, zero, suc, ◌+◌, Lis
 use Rattle.std.specs.Prelude.{slice_get}
 use Rattle.event_types.specs.declared.kind.Kind.{Kind}
 use Rattle.event_types.specs.declared.value.Value.{Value}
-use Rattle.event_csv.specs.Event.{value_before, value_of, values_of}
+use Rattle.event_csv.specs.Event.{no_value, value_before, value_of, values_of}
 use Rattle.event_csv.specs.declared.fault.LineFault.{LineFault}
 use Rattle.event_csv.specs.declared.fault.LineFault.TheVariants as fault
 
 -- what is read, behind values that were read before
 abbrev pub onto : List Value → Result (List Value) LineFault → Result (List Value) LineFault
 onto [] r = r
-onto (v ∷ vals) r = value_before 0 (Some v) (onto vals r)
+onto (v ∷ vals) r = value_before (fault.BadInt 0) (Some v) (onto vals r)
 
-value_before-any : (n m : ℕ) (v : Value) (r : Result (List Value) LineFault) → value_before n (Some v) r ≡ value_before m (Some v) r
+value_before-any : (n m : LineFault) (v : Value) (r : Result (List Value) LineFault) → value_before n (Some v) r ≡ value_before m (Some v) r
 value_before-any n m v (Ok vals) = refl
 value_before-any n m v (Err f) = refl
 
 -- a value goes behind those before it
-pub onto-push : (vals : List Value) (v : Value) (n : ℕ) (r : Result (List Value) LineFault) → onto vals (value_before n (Some v) r) ≡ onto (vals ++ v ∷ []) r
-onto-push [] v n r = value_before-any n 0 v r
-onto-push (x ∷ vals) v n r = ap (value_before 0 (Some x)) (onto-push vals v n r)
+pub onto-push : (vals : List Value) (v : Value) (n : LineFault) (r : Result (List Value) LineFault) → onto vals (value_before n (Some v) r) ≡ onto (vals ++ v ∷ []) r
+onto-push [] v n r = value_before-any n (fault.BadInt 0) v r
+onto-push (x ∷ vals) v n r = ap (value_before (fault.BadInt 0) (Some x)) (onto-push vals v n r)
 
 -- behind all values there are no more
 pub onto-ok : (vals : List Value) → onto vals (Ok []) ≡ Ok vals
@@ -39,7 +39,7 @@ drop-slice_get (y ∷ xs) (suc i) x h = let e : suc i + 1 ≡ suc (i + 1) = omeg
 
 -- what is read of the fields from one on
 pub values_of-more : (n : ℕ) (kinds : List Kind) (i : ℕ) (k : Kind) (field : List ℕ) (fields : List (List ℕ)) → slice_get kinds i ≡ Some k
-    → values_of n (drop i kinds) (field ∷ fields) ≡ value_before n (value_of k field) (values_of (n + 1) (drop (i + 1) kinds) fields)
+    → values_of n (drop i kinds) (field ∷ fields) ≡ value_before (no_value k n) (value_of k field) (values_of (n + 1) (drop (i + 1) kinds) fields)
 values_of-more n kinds i k field fields h = rw (drop-slice_get kinds i k h) refl
 
 -- no fields have no values
@@ -55,16 +55,16 @@ read-more whole vals kinds k v before f rest n is e kind value size =
     let next : length vals + 4 + 1 ≡ n + 4 = omega arith in
     let step = rw (← value) at (values_of-more (length vals + 4) kinds (length vals) k f rest kind) in
     let here = is ∙ ap (λ (fs : List (List ℕ)). onto vals (values_of (length vals + 4) (drop (length vals) kinds) fs)) e ∙ ap (onto vals) step
-    ∙ onto-push vals v (length vals + 4) (values_of (length vals + 4 + 1) (drop (length vals + 1) kinds) rest) in
+    ∙ onto-push vals v (no_value k (length vals + 4)) (values_of (length vals + 4 + 1) (drop (length vals + 1) kinds) rest) in
     rw (next, ← size) at here
 
 -- the next field writes no value
 pub read-bad : (whole : Result (List Value) LineFault) (vals : List Value) (kinds : List Kind) (k : Kind) (before : List (List ℕ)) (f : List ℕ) (rest : List (List ℕ))
     → whole ≡ onto vals (values_of (length vals + 4) (drop (length vals) kinds) before) → before ≡ f ∷ rest → slice_get kinds (length vals) ≡ Some k → None ≡ value_of k f
-    → whole ≡ Err (fault.BadInt (length vals + 4))
+    → whole ≡ Err (no_value k (length vals + 4))
 read-bad whole vals kinds k before f rest is e kind value =
     let step = rw (← value) at (values_of-more (length vals + 4) kinds (length vals) k f rest kind) in
-    is ∙ rw e (ap (onto vals) step ∙ onto-err vals (fault.BadInt (length vals + 4)))
+    is ∙ rw e (ap (onto vals) step ∙ onto-err vals (no_value k (length vals + 4)))
 
 -- no field is left
 pub read-all : (whole : Result (List Value) LineFault) (vals : List Value) (kinds : List Kind) (before : List (List ℕ))

@@ -7,6 +7,7 @@ use Rattle.event_types.specs.declared.value.Value.{Value}
 use Rattle.event_types.specs.declared.value.Value.TheVariants as value
 use Rattle.stream_schema.specs.Schema.{Attr, kinds_of}
 use Rattle.stream_schema.specs.Streams.{Entry, number_of}
+use Rattle.event_csv.specs.Decimals.{units_of}
 use Rattle.event_csv.specs.Fields.{line_fields}
 use Rattle.event_csv.specs.Lines.{is_empty, is_long}
 use Rattle.event_csv.specs.Numbers.{int_of, time_of}
@@ -39,18 +40,24 @@ span_of start detection = if is_empty start then span_at None (time_of detection
 abbrev pub value_of : Kind → List ℕ → Option Value
 value_of kind.Int field = option_map value.Int (int_of field)
 value_of kind.Text field = Some (value.Text field)
+value_of (kind.Dec places) field = option_map (value.Dec places) (units_of places field)
 
--- a value before those that follow, where the field of that number writes one
-abbrev pub value_before : ℕ → Option Value → Result (List Value) LineFault → Result (List Value) LineFault
-value_before number None more = Err (fault.BadInt number)
-value_before number (Some v) (Ok more) = Ok (v ∷ more)
-value_before number (Some v) (Err f) = Err f
+-- the fault of a field of that number which writes no value of its kind
+abbrev pub no_value : Kind → ℕ → LineFault
+no_value (kind.Dec places) number = fault.BadDec number places
+no_value k number = fault.BadInt number
+
+-- a value before those that follow, or the fault of a field that writes none
+abbrev pub value_before : LineFault → Option Value → Result (List Value) LineFault → Result (List Value) LineFault
+value_before none None more = Err none
+value_before none (Some v) (Ok more) = Ok (v ∷ more)
+value_before none (Some v) (Err f) = Err f
 
 -- the values of the fields from that number on, by their kinds
 abbrev pub values_of : ℕ → List Kind → List (List ℕ) → Result (List Value) LineFault
 values_of number [] fields = Ok []
 values_of number (k ∷ kinds) [] = Ok []
-values_of number (k ∷ kinds) (field ∷ fields) = value_before number (value_of k field) (values_of (number + 1) kinds fields)
+values_of number (k ∷ kinds) (field ∷ fields) = value_before (no_value k number) (value_of k field) (values_of (number + 1) kinds fields)
 
 -- the event of a stream with these times and these values
 abbrev pub event_with : ℕ → Result Span LineFault → Result (List Value) LineFault → Result Seen LineFault

@@ -6,7 +6,7 @@ use Rattle.std.specs.Str.{is_utf8}
 use Rattle.event_types.specs.declared.kind.Kind.{Kind}
 use Rattle.event_types.specs.declared.value.Value.{Value}
 use Rattle.stream_schema.specs.Streams.{Entry, number_of}
-use Rattle.event_csv.specs.Event.{declared_stream, event, value_of}
+use Rattle.event_csv.specs.Event.{declared_stream, event, no_value, value_of}
 use Rattle.event_csv.specs.Fields.{line_fields}
 use Rattle.event_csv.specs.Lines.{is_empty, is_long}
 use Rattle.event_csv.specs.Numbers.{time_of}
@@ -50,7 +50,7 @@ Row = Bool × LineFault
 
 -- for each value field, the first of which has that number: it isn't a value of its kind
 abbrev pub value_faults : ℕ → List Kind → List (List ℕ) → List Row
-value_faults number (kind ∷ kinds) (text ∷ fields) = (not (is_some (value_of kind text)), fault.BadInt number) ∷ value_faults (number + 1) kinds fields
+value_faults number (kind ∷ kinds) (text ∷ fields) = (not (is_some (value_of kind text)), no_value kind number) ∷ value_faults (number + 1) kinds fields
 value_faults number kinds fields = []
 
 -- the table of the faults of a line, in their order

@@ -1,3 +1,4 @@
+pub mod Decimals
 pub mod Event
 pub mod Faults
 pub mod Fed

@@ -2,10 +2,11 @@
 ghost use Rattle.std.specs.Prelude.{◌≡◌, ◌+◌, ◌<◌, ◌≤◌, length, IfOk, IfErr, IfSome};
 ghost use Rattle.stream_schema.specs.Schema.{kinds_of};
 ghost use Rattle.stream_schema.specs.Streams.{number_of, schemas_of};
-ghost use Rattle.event_csv.specs.Event.{Tells, ValuesTell, counted_event, declared_stream, event, fields_event, span_of, stream_with, value_of, values_of};
+ghost use Rattle.event_csv.specs.Event.{Tells, ValuesTell, counted_event, declared_stream, event, fields_event, no_value, span_of, stream_with, value_of, values_of};
 ghost use Rattle.event_csv.specs.Fed.{IsLine};
 ghost use Rattle.event_csv.specs.Fields.{fields_left};
 
+use crate::decimals::units;
 use crate::fault::{LineFault, ReadFail};
 use crate::fields::{Fields, is_plain, record_of};
 use crate::numbers::{int, time};
@@ -167,9 +168,10 @@ fn read_values(alloc: Global, schema: &Schema, fields: &mut Fields<'_>) -> Resul
     let mut vals = List::new(alloc);
     'fields: while let Some(field) = fields.next() {
         let place = vals.len();
-        match read_value(alloc, schema.kind(place), field) {
+        let kind = schema.kind(place);
+        match read_value(alloc, kind, field) {
             Err(_) => return Err(ReadFail::Memory),
-            Ok(None) => return Err(ReadFail::Bad(LineFault::BadInt { field: place + 4 })),
+            Ok(None) => return Err(ReadFail::Bad(no_value(kind, place + 4))),
             Ok(Some(value)) => match vals.push(value) {
                 Err(_) => return Err(ReadFail::Memory),
                 Ok(()) => {}
@@ -189,5 +191,22 @@ fn read_value(alloc: Global, kind: Kind, field: &str) -> Result<Option<Value>, M
             Some(number) => Ok(Some(Value::Int(number))),
         },
         Kind::Text => Ok(Some(Value::Text(Text::make(alloc, field)?))),
+        Kind::Dec(places) => match units(alloc, places, field.as_bytes())? {
+            None => Ok(None),
+            Some(units) => Ok(Some(Value::Dec {
+                scale: places,
+                units,
+            })),
+        },
+    }
+}
+
+// The fault of a field of that number which writes no value of its kind.
+fn no_value(kind: Kind, field: usize) -> LineFault
+    ensures { result ≡ no_value kind field }
+{
+    match kind {
+        Kind::Dec(places) => LineFault::BadDec { field, places },
+        _ => LineFault::BadInt { field },
     }
 }

@@ -19,6 +19,9 @@ pub enum LineFault {
     StartAfterDetection,
     /// The first value of kind INT that writes none: field 6 in `Stock,7,8,IBM,1,two`.
     BadInt { field: usize },
+    /// The first value of a kind DEC that writes none of so many places: field 5 in `Trade,1,1,IBM,1.234`, where the
+    /// stream is `Trade (Name TEXT, Price DEC 2)`.
+    BadDec { field: usize, places: u8 },
 }
 
 /// Why an event line isn't read.

@@ -4,6 +4,7 @@
 //! whether a line that isn't empty was met, and the bytes that are left.
 #![tactic(auto)]
 
+mod decimals;
 mod event;
 mod fault;
 mod feed;

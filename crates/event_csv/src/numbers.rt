@@ -46,8 +46,8 @@ fn positive(digits: &[u8]) -> Option<i128>
     Some(number as i128)
 }
 
-// The number that digits write, where it is at most `most`.
-fn up_to(digits: &[u8], most: u128) -> Option<u128>
+/// The number that digits write, where it is at most `most`.
+pub(crate) fn up_to(digits: &[u8], most: u128) -> Option<u128>
     requires { 9 ≤ most }
     ensures { result ≡ number_up_to most digits.now }
 {

@@ -5,6 +5,7 @@ ghost use Rattle.event_csv.specs.Event.{event};
 ghost use Rattle.event_csv.specs.Fed.{IsLine};
 ghost use Rattle.event_csv.specs.Quick.{HasDigits, IntFirst, IsFirst, IsPlainEnd, IsQuoteAt, IsQuoted, NumberFirst, SpanFirst, ValueFirst, WriteAll};
 
+use crate::decimals::units;
 use crate::event::{Seen, find_declared};
 use crate::fields::may_have_mark;
 use crate::numbers::SHORT;
@@ -96,6 +97,19 @@ fn take_value(alloc: Global, kind: Kind, text: &str) -> Option<(Value, Option<&s
             match Text::make(alloc, field) {
                 Ok(made) => Some((Value::Text(made), rest)),
                 Err(_) => None,
+            }
+        }
+        Kind::Dec(places) => {
+            let (field, rest) = take_field(text)?;
+            match units(alloc, places, field.as_bytes()) {
+                Ok(Some(units)) => Some((
+                    Value::Dec {
+                        scale: places,
+                        units,
+                    },
+                    rest,
+                )),
+                _ => None,
             }
         }
     }

@@ -1,4 +1,4 @@
-use Rattle.std.proofs.Common.{◌∙◌, ◌≤◌, ◌<◌, ◌-◌, ◌+◌, ◌*◌, ap, arith, get_or, length, sym}
+use Rattle.std.proofs.Common.{◌∙◌, ◌≤◌, ◌<◌, ◌+◌, ◌*◌, ap, arith, get_or, length, sym}
 use Rattle.event_csv.proofs.NumberFacts.{room}
 use Rattle.event_csv.proofs.QuickFacts.{digits-more, power-more, value-more}
 use Rattle.event_csv.proofs.quick.few_digits.Goals as goal
