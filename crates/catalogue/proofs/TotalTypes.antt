@@ -1,8 +1,8 @@
 -- Each query over streams that it reads has a schema and an expression, or a first fault: by a search along its tree.
-use Rattle.std.proofs.Common.{◌≡◌, ◌≢◌, ◌∙◌, ℕ, ◌+◌, ◌<◌, ◌≤◌, List, [], ◌∷◌, ◌++◌, Bool, true, false, length, get_or, refl, ap, inl, inr, arith}
+use Rattle.std.proofs.Common.{◌≡◌, ◌≢◌, ◌∙◌, ◌⊎◌, ◌==◌, ℕ, ◌+◌, ◌<◌, ◌≤◌, List, [], ◌∷◌, ◌++◌, Bool, true, false, length, get_or, refl, sym, ap, subst, inl, inr, eqb-true, arith}
 use Rattle.std.specs.Prelude.{Option, Some, None, Contains, is_some}
 use Rattle.std.specs.Str.{bytes_eq}
-use Rattle.std.proofs.lemmas.Bool.{cases_lt}
+use Rattle.std.proofs.lemmas.Bool.{cases_lt, eq-eqb}
 use Rattle.std.proofs.lemmas.List.{length-map}
 use Rattle.std.proofs.lemmas.List.Elements.{Contains-append_left, Contains-append_right}
 use Rattle.std.proofs.lemmas.List.Quantifiers.{position-Some}
@@ -47,24 +47,44 @@ pub data Case (Good : Type 0) (Bad : TypeFault → Type 0) : Type 0 where
 number-within : (streams : List Entry) (a : List ℕ) (n : ℕ) → number_of a streams ≡ Some n → n < length streams
 number-within streams a n is = (position-Some (λ (s : Entry). bytes_eq a s.name) streams n (record { name = []; schema = []; declared = false }) is).0
 
-text_no_int : kind.Text ≢ kind.Int
-text_no_int e = cc
+places : Kind → ℕ
+places (kind.Dec n) = n
+places k = 0
 
-int_no_text : kind.Int ≢ kind.Text
-int_no_text e = cc
+dec_or_not : (m n : ℕ) (b : Bool) → (m == n) ≡ b → (kind.Dec m ≡ kind.Dec n) ⊎ (kind.Dec m ≢ kind.Dec n)
+dec_or_not m n true e = inl (ap kind.Dec (eqb-true m n e))
+dec_or_not m n false e = inr (λ same. let yes : (m == n) ≡ true = eq-eqb m n (ap places same) in cc)
+
+-- two kinds are one or not
+same_or_not : (k l : Kind) → (k ≡ l) ⊎ (k ≢ l)
+same_or_not kind.Int kind.Int = inl refl
+same_or_not kind.Text kind.Text = inl refl
+same_or_not (kind.Dec m) (kind.Dec n) = dec_or_not m n (m == n) refl
+same_or_not kind.Int kind.Text = inr (λ e. cc)
+same_or_not kind.Int (kind.Dec n) = inr (λ e. cc)
+same_or_not kind.Text kind.Int = inr (λ e. cc)
+same_or_not kind.Text (kind.Dec n) = inr (λ e. cc)
+same_or_not (kind.Dec m) kind.Int = inr (λ e. cc)
+same_or_not (kind.Dec m) kind.Text = inr (λ e. cc)
 
 attribute_case : (scope : Scope) (m : Mark) (a : List ℕ) (found : Option Typed) → attribute scope m a ≡ found → Case ((s : Sc) × (k : Kind) × IsOf scope (tree.Attr m a) s k) (HasFault scope (tree.Attr m a))
 attribute_case scope m a (Some one) is = good (one.term, one.kind, scalar.attr is)
 attribute_case scope m a None is = bad told.unknown (scalar.unknown is)
 
 right_case : (scope : Scope) (o : Op) (x y : Scalar) (s : Sc) → IsOf scope x s kind.Int → Case ((t : Sc) × (l : Kind) × IsOf scope y t l) (HasFault scope y) → Case ((u : Sc) × (k : Kind) × IsOf scope (tree.Two o x y) u k) (HasFault scope (tree.Two o x y))
-right_case scope o x y s left (good (t, kind.Int, right)) = good (_, _, scalar.two left right)
-right_case scope o x y s left (good (t, kind.Text, right)) = bad told.kinds (scalar.right_kind left right text_no_int)
+right_case scope o x y s left (good (t, l, right)) = by_kind (same_or_not l kind.Int)
+  where
+    by_kind : (l ≡ kind.Int) ⊎ (l ≢ kind.Int) → Case ((u : Sc) × (k : Kind) × IsOf scope (tree.Two o x y) u k) (HasFault scope (tree.Two o x y))
+    by_kind (inl e) = good (_, _, scalar.two left (subst (λ k. IsOf scope y t k) e right))
+    by_kind (inr other) = bad told.kinds (scalar.right_kind left right other)
 right_case scope o x y s left (bad tells fails) = bad tells (scalar.right left fails)
 
 two_case : (scope : Scope) (o : Op) (x y : Scalar) → Case ((s : Sc) × (k : Kind) × IsOf scope x s k) (HasFault scope x) → Case ((t : Sc) × (l : Kind) × IsOf scope y t l) (HasFault scope y) → Case ((u : Sc) × (k : Kind) × IsOf scope (tree.Two o x y) u k) (HasFault scope (tree.Two o x y))
-two_case scope o x y (good (s, kind.Int, left)) right = right_case scope o x y s left right
-two_case scope o x y (good (s, kind.Text, left)) right = bad told.kinds (scalar.left_kind left text_no_int)
+two_case scope o x y (good (s, k, left)) right = by_kind (same_or_not k kind.Int)
+  where
+    by_kind : (k ≡ kind.Int) ⊎ (k ≢ kind.Int) → Case ((u : Sc) × (l : Kind) × IsOf scope (tree.Two o x y) u l) (HasFault scope (tree.Two o x y))
+    by_kind (inl e) = right_case scope o x y s (subst (λ l. IsOf scope x s l) e left) right
+    by_kind (inr other) = bad told.kinds (scalar.left_kind left other)
 two_case scope o x y (bad tells fails) right = bad tells (scalar.left fails)
 
 -- a scalar has a term of a kind, or a fault
@@ -78,10 +98,11 @@ scalar_case scope (tree.Two o x y) = two_case scope o x y (scalar_case scope x) 
 test_case : (scope : Scope) (x y : Scalar) (c : Cmp) → Case ((s : Sc) × (k : Kind) × IsOf scope x s k) (HasFault scope x) → Case ((t : Sc) × (l : Kind) × IsOf scope y t l) (HasFault scope y) → Case ((u : Pr) × Means scope (tree.Test x c y) u) (Fails scope (tree.Test x c y))
 test_case scope x y c (bad tells fails) right = bad tells (pred.test_left fails)
 test_case scope x y c (good (s, k, left)) (bad tells fails) = bad tells (pred.test_right left fails)
-test_case scope x y c (good (s, kind.Int, left)) (good (t, kind.Int, right)) = good (_, pred.test left right)
-test_case scope x y c (good (s, kind.Int, left)) (good (t, kind.Text, right)) = bad told.kinds (pred.test_kinds left right int_no_text)
-test_case scope x y c (good (s, kind.Text, left)) (good (t, kind.Int, right)) = bad told.kinds (pred.test_kinds left right text_no_int)
-test_case scope x y c (good (s, kind.Text, left)) (good (t, kind.Text, right)) = good (_, pred.test left right)
+test_case scope x y c (good (s, k, left)) (good (t, l, right)) = by_kind (same_or_not k l)
+  where
+    by_kind : (k ≡ l) ⊎ (k ≢ l) → Case ((u : Pr) × Means scope (tree.Test x c y) u) (Fails scope (tree.Test x c y))
+    by_kind (inl e) = good (_, pred.test (subst (λ j. IsOf scope x s j) e left) right)
+    by_kind (inr other) = bad told.kinds (pred.test_kinds left right other)
 
 and_case : (scope : Scope) (p q : Pred) → Case ((u : Pr) × Means scope p u) (Fails scope p) → Case ((u : Pr) × Means scope q u) (Fails scope q) → Case ((u : Pr) × Means scope (tree.And p q) u) (Fails scope (tree.And p q))
 and_case scope p q (bad tells fails) right = bad tells (pred.and_left fails)
@@ -135,12 +156,12 @@ AssignsSome binding event names list = (assignments : List Assignment) × Assign
 
 kinds_case : (binding event : List Attr) (names : List (List ℕ)) (list : List Agg) (x : Scalar) (a : List ℕ) (place : ℕ) (k l : Kind) (s : Sc) → IsAt binding a place k → is_among names a ≡ false → IsOf (Iteration binding event) x s l
     → Case (AssignsSome binding event (names ++ a ∷ []) list) (FailToAssign binding event (names ++ a ∷ []) list) → Case (AssignsSome binding event names (tree.Set x a ∷ list)) (FailToAssign binding event names (tree.Set x a ∷ list))
-kinds_case binding event names list x a place kind.Int kind.Text s at new is later = bad told.kinds (aggs.kinds at new is int_no_text)
-kinds_case binding event names list x a place kind.Text kind.Int s at new is later = bad told.kinds (aggs.kinds at new is text_no_int)
-kinds_case binding event names list x a place kind.Int kind.Int s at new is (good (more, assigns)) = good (_, aggs.set at new is assigns)
-kinds_case binding event names list x a place kind.Int kind.Int s at new is (bad tells fails) = bad tells (aggs.then at new is fails)
-kinds_case binding event names list x a place kind.Text kind.Text s at new is (good (more, assigns)) = good (_, aggs.set at new is assigns)
-kinds_case binding event names list x a place kind.Text kind.Text s at new is (bad tells fails) = bad tells (aggs.then at new is fails)
+kinds_case binding event names list x a place k l s at new is later = by_kind (same_or_not k l) later
+  where
+    by_kind : (k ≡ l) ⊎ (k ≢ l) → Case (AssignsSome binding event (names ++ a ∷ []) list) (FailToAssign binding event (names ++ a ∷ []) list) → Case (AssignsSome binding event names (tree.Set x a ∷ list)) (FailToAssign binding event names (tree.Set x a ∷ list))
+    by_kind (inr other) later = bad told.kinds (aggs.kinds at new is other)
+    by_kind (inl e) (good (more, assigns)) = good (_, aggs.set at new (subst (λ j. IsOf (Iteration binding event) x s j) (sym e) is) assigns)
+    by_kind (inl e) (bad tells fails) = bad tells (aggs.then at new (subst (λ j. IsOf (Iteration binding event) x s j) (sym e) is) fails)
 
 set_case : (binding event : List Attr) (names : List (List ℕ)) (list : List Agg) (x : Scalar) (a : List ℕ) (found : Option ℕ) (there : Bool) → place_of a binding ≡ found → is_among names a ≡ there
     → Case ((s : Sc) × (k : Kind) × IsOf (Iteration binding event) x s k) (HasFault (Iteration binding event) x)

@@ -2,19 +2,13 @@
 use Rattle.std.specs.Prelude.{ℕ, List, [], ◌++◌, codes, decimal}
 use Rattle.std.specs.List.{join_by}
 use Rattle.cay_host.specs.declared.side.Side.TheVariants.{Queries, Events}
-use Rattle.event_types.specs.declared.kind.Kind.{Kind}
-use Rattle.event_types.specs.declared.kind.Kind.TheVariants as kind
+use Rattle.event_types.specs.KindWord.{kind_word}
 use Rattle.event_csv.specs.declared.fault.LineFault.{LineFault}
 use Rattle.event_csv.specs.declared.fault.LineFault.TheVariants as event
 use Rattle.catalogue.specs.declared.fault.QueryFault.{QueryFault}
 use Rattle.catalogue.specs.declared.fault.QueryFault.TheVariants as query
 use Rattle.cayuga_run.specs.declared.status.Status.{Status}
 use Rattle.cayuga_run.specs.declared.status.Status.TheVariants.{Done, Usage, BadQuery, Cycle, BadEvent, OutOfOrder, AttachFault, ReadFault, WriteFault, TooMuch, Memory}
-
--- a kind as it stands in a declaration
-abbrev pub kind_word : Kind → List ℕ
-kind_word kind.Int = codes "INT"
-kind_word kind.Text = codes "TEXT"
 
 -- names, joined by a comma and a space
 abbrev pub names_joined : List (List ℕ) → List ℕ

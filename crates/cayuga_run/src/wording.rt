@@ -1,6 +1,6 @@
 //! The texts of the statuses.
 ghost use Rattle.std.specs.Prelude.{◌≡◌, IfOk, string_bytes};
-ghost use Rattle.cayuga_run.specs.Wording.{kind_word, line_words, names_joined, query_words, text_of};
+ghost use Rattle.cayuga_run.specs.Wording.{line_words, names_joined, query_words, text_of};
 
 use crate::status::Status;
 use catalogue::QueryFault;
@@ -108,8 +108,6 @@ fn query_words(alloc: Global, why: &QueryFault) -> Result<String, Memory>
             Ok(format!(in alloc; "attribute {name} is unknown")?)
         }
         QueryFault::KindMismatch { want, got } => {
-            let want = kind_word(*want);
-            let got = kind_word(*got);
             Ok(format!(in alloc; "{want} wanted, {got} given")?)
         }
         QueryFault::NotAssignable { name } => {
@@ -126,16 +124,6 @@ fn query_words(alloc: Global, why: &QueryFault) -> Result<String, Memory>
         QueryFault::TooWide { count } => {
             Ok(format!(in alloc; "{count} attributes, at most 256")?)
         }
-    }
-}
-
-// The kind as it stands in a declaration.
-fn kind_word(kind: Kind) -> &'static str
-    ensures { result.now ≡ kind_word kind }
-{
-    match kind {
-        Kind::Int => "INT",
-        Kind::Text => "TEXT",
     }
 }
 

@@ -8,20 +8,20 @@ use Rattle.cel_grammar.specs.Statements.{IsKind, int, text, IsColumns, one, more
 use Rattle.cel_print.specs.declared.places.SourcePlace.TheVariants as source_place
 use Rattle.cel_print.specs.Words.{Word, Of}
 use Rattle.cel_print.specs.SourceWords.{items_words, source_words}
-use Rattle.cel_print.specs.StatementWords.{kind_symbol, columns_words, statement_words}
+use Rattle.cel_print.specs.StatementWords.{kind_words, columns_words, statement_words}
 use Rattle.cel_print.proofs.Bounds.{Bound, idle, leaf, joined, prefixed, enclosed, parens}
 use Rattle.cel_print.proofs.BoundSources.{items_bound, source_bound}
 
 -- a kind
-kind_bound : {t : Symbol} {k : Kind} → IsKind t k → (f : List Word → List Word) (ts rest : List Symbol) → Bound 0 f ts rest → Bound 0 (λ r. Of (kind_symbol k) ∷ f r) (t ∷ ts) rest
+kind_bound : {t : Symbol} {k : Kind} → IsKind t k → (f : List Word → List Word) (ts rest : List Symbol) → Bound 0 f ts rest → Bound 0 (λ r. kind_words k (f r)) (t ∷ ts) rest
 kind_bound int f ts rest b = prefixed the.Int f ts rest (λ d ts. refl) b
 kind_bound text f ts rest b = prefixed the.Text f ts rest (λ d ts. refl) b
 
 -- names with their kinds
 columns_bound : {ts rest : List Symbol} {cs : List Column} → IsColumns ts cs rest → Bound 0 (columns_words cs) ts rest
-columns_bound {rest = rest} (one {a = a} {t = t} {k = k} h) = prefixed (the.Name a) (λ r. Of (kind_symbol k) ∷ r) (t ∷ rest) rest (λ d ts. refl) (kind_bound h (λ r. r) rest rest (idle rest))
+columns_bound {rest = rest} (one {a = a} {t = t} {k = k} h) = prefixed (the.Name a) (λ r. kind_words k r) (t ∷ rest) rest (λ d ts. refl) (kind_bound h (λ r. r) rest rest (idle rest))
 columns_bound {rest = rest} (more {a = a} {t = t} {k = k} {ts = ts} {cs = Col b l ∷ cs} h r) =
-    prefixed (the.Name a) (λ r. Of (kind_symbol k) ∷ Of the.Comma ∷ columns_words (Col b l ∷ cs) r) (t ∷ the.Comma ∷ ts) rest (λ d ts. refl)
+    prefixed (the.Name a) (λ r. kind_words k (Of the.Comma ∷ columns_words (Col b l ∷ cs) r)) (t ∷ the.Comma ∷ ts) rest (λ d ts. refl)
     (kind_bound h (λ r. Of the.Comma ∷ columns_words (Col b l ∷ cs) r) (the.Comma ∷ ts) rest (prefixed the.Comma (columns_words (Col b l ∷ cs)) ts rest (λ d ts. refl) (columns_bound r)))
 columns_bound (more {cs = []} h r) = elim r [ ]
 

@@ -19,7 +19,7 @@ use Rattle.cel_print.specs.Words.{Word, Of}
 use Rattle.cel_print.specs.ScalarWords.{takes_sum, takes_product, number_words, scalar_words}
 use Rattle.cel_print.specs.PredicateWords.{takes_or, takes_and, pred_words}
 use Rattle.cel_print.specs.SourceWords.{is_own_name, named_words, item_words, items_words, aggs_words, condition_words, takes_link, source_words}
-use Rattle.cel_print.specs.StatementWords.{kind_symbol, columns_words, statement_words}
+use Rattle.cel_print.specs.StatementWords.{columns_words, statement_words}
 use Rattle.cel_print.proofs.ReadScalars.{negative_suc}
 use Rattle.cel_print.proofs.Good.{IsName, Good, AllGood, Keeps, within_good}
 
@@ -171,17 +171,14 @@ mutual
       let a = pred_good h good.1.1 in let b = term_good k a.left.1 in
       record { left = b.left; words = λ place r end. (tt, (tt, a.words pred_place.Pred _ (tt, b.words source_place.Term r end))) }
 
--- a kind's keyword
-kind_good : (k : Kind) → Good (kind_symbol k)
-kind_good kind.Int = tt
-kind_good kind.Text = tt
-
 -- declared attributes
 columns_good : {ts rest : List Symbol} {cs : List tree.Column} → statement.IsColumns ts cs rest → AllGood ts → Follows (columns_words cs) rest
-columns_good (statement.one {k = k} h) good = record { left = good.1.1; words = λ r end. (good.0, (kind_good k, end)) }
-columns_good (statement.more {k = k} {cs = tree.Col b l ∷ cs} h j) good =
-    let a = columns_good j good.1.1.1 in
-    record { left = a.left; words = λ r end. (good.0, (kind_good k, (tt, a.words r end))) }
+columns_good (statement.one statement.int) good = record { left = good.1.1; words = λ r end. (good.0, (tt, end)) }
+columns_good (statement.one statement.text) good = record { left = good.1.1; words = λ r end. (good.0, (tt, end)) }
+columns_good (statement.more {cs = tree.Col b l ∷ cs} statement.int j) good =
+    let a = columns_good j good.1.1.1 in record { left = a.left; words = λ r end. (good.0, (tt, (tt, a.words r end))) }
+columns_good (statement.more {cs = tree.Col b l ∷ cs} statement.text j) good =
+    let a = columns_good j good.1.1.1 in record { left = a.left; words = λ r end. (good.0, (tt, (tt, a.words r end))) }
 columns_good (statement.more {cs = []} h j) good = elim j [ ]
 
 -- a statement

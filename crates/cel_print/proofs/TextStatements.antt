@@ -1,7 +1,8 @@
 -- The text of statements by their parts.
 use Rattle.std.proofs.Common.{◌≡◌, ◌∙◌, ℕ, List, [], ◌∷◌, ◌++◌, refl, ap, subst, append_assoc}
-use Rattle.std.specs.Prelude.{codes}
+use Rattle.std.specs.Prelude.{codes, decimal}
 use Rattle.std.specs.List.{flat_map}
+use Rattle.event_types.specs.KindWord.{kind_word}
 use Rattle.event_types.specs.declared.kind.Kind.{Kind}
 use Rattle.event_types.specs.declared.kind.Kind.TheVariants as kind
 use Rattle.cel_grammar.specs.Symbols as the
@@ -9,27 +10,25 @@ use Rattle.cel_grammar.specs.Trees.{Item, Source, Column, Col, Stream, Query}
 use Rattle.cel_print.specs.declared.places.SourcePlace.TheVariants as source_place
 use Rattle.cel_print.specs.Words.{Word, Of}
 use Rattle.cel_print.specs.SourceWords.{items_words, source_words}
-use Rattle.cel_print.specs.StatementWords.{kind_symbol, columns_words, statement_words}
-use Rattle.cel_print.specs.Spelled.{spelling, line_of}
+use Rattle.cel_print.specs.StatementWords.{kind_words, columns_words, statement_words}
+use Rattle.cel_print.specs.Spelled.{line_of}
 use Rattle.cel_print.specs.Parts.{items_text, source_text, column_text, columns_text}
 use Rattle.cel_print.proofs.Spacing.{whole, Ends, Front, Tail, behind, leaf, spaced, linked, followed, chained, prefixed, opened, idle}
 use Rattle.cel_print.proofs.TextSources.{items_tail, source_front}
 
--- a kind joins nothing
-kind_ends : (k : Kind) → Ends (Of (kind_symbol k))
-kind_ends kind.Int = record { free = refl; no_call = λ right. refl }
-kind_ends kind.Text = record { free = refl; no_call = λ right. refl }
-
 -- a kind, and what stands behind it
-kind_tail : (k : Kind) (g : List Word → List Word) (b : List ℕ) → Tail g b → Tail (λ r. Of (kind_symbol k) ∷ g r) (codes " " ++ (spelling (kind_symbol k) ++ b))
+kind_tail : (k : Kind) (g : List Word → List Word) (b : List ℕ) → Tail g b → Tail (λ r. kind_words k (g r)) (codes " " ++ (kind_word k ++ b))
 kind_tail kind.Int g b tail = linked (Of the.Int) g b (record { free = refl; no_call = λ right. refl }) tail
 kind_tail kind.Text g b tail = linked (Of the.Text) g b (record { free = refl; no_call = λ right. refl }) tail
+kind_tail (kind.Dec places) g b tail =
+    linked (Of (the.Name (codes "DEC"))) (λ r. Of (the.Number places) ∷ g r) (codes " " ++ (decimal places ++ b)) (record { free = refl; no_call = λ right. refl })
+    (linked (Of (the.Number places)) g b (record { free = refl; no_call = λ right. refl }) tail)
 
 -- a name with its kind, and what stands behind it
-column_front : (a : List ℕ) (k : Kind) (g : List Word → List Word) (b : List ℕ) → Tail g b → Front (λ r. Of (the.Name a) ∷ Of (kind_symbol k) ∷ g r) (column_text (Col a k) ++ b)
+column_front : (a : List ℕ) (k : Kind) (g : List Word → List Word) (b : List ℕ) → Tail g b → Front (λ r. Of (the.Name a) ∷ kind_words k (g r)) (column_text (Col a k) ++ b)
 column_front a k g b tail =
-    subst (Front (λ r. Of (the.Name a) ∷ Of (kind_symbol k) ∷ g r)) (simp append_assoc)
-    (prefixed (Of (the.Name a)) (λ r. Of (kind_symbol k) ∷ g r) (codes " " ++ (spelling (kind_symbol k) ++ b)) refl (record { free = refl; no_call = λ right. refl }) (kind_tail k g b tail))
+    subst (Front (λ r. Of (the.Name a) ∷ kind_words k (g r))) (simp append_assoc)
+    (prefixed (Of (the.Name a)) (λ r. kind_words k (g r)) (codes " " ++ (kind_word k ++ b)) refl (record { free = refl; no_call = λ right. refl }) (kind_tail k g b tail))
 
 -- names with their kinds, of which there is one at least
 some_columns : (c : Column) (cs : List Column) → Front (columns_words (c ∷ cs)) (column_text c ++ flat_map (λ next. codes ", " ++ column_text next) cs)

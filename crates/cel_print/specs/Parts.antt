@@ -1,6 +1,7 @@
 -- The texts of parts of statements. No public clause cites this module.
 use Rattle.std.specs.Prelude.{ℕ, List, [], ◌∷◌, ◌++◌, codes}
 use Rattle.std.specs.List.{flat_map}
+use Rattle.event_types.specs.KindWord.{kind_word}
 use Rattle.cel_grammar.specs.Trees.{Scalar, Pred, True, Item, Agg, Set, Source, Column, Col}
 use Rattle.cel_print.specs.declared.places.PredPlace.{PredPlace}
 use Rattle.cel_print.specs.declared.places.PredPlace.TheVariants as pred_place
@@ -9,8 +10,7 @@ use Rattle.cel_print.specs.declared.places.SourcePlace.{SourcePlace}
 use Rattle.cel_print.specs.ScalarWords.{scalar_words}
 use Rattle.cel_print.specs.PredicateWords.{pred_words}
 use Rattle.cel_print.specs.SourceWords.{named_words, item_words, source_words}
-use Rattle.cel_print.specs.StatementWords.{kind_symbol}
-use Rattle.cel_print.specs.Spelled.{spelling, text_of}
+use Rattle.cel_print.specs.Spelled.{text_of}
 
 -- the text of a scalar at a place
 abbrev pub scalar_text : ScalarPlace → Scalar → List ℕ
@@ -52,7 +52,7 @@ source_text place e = text_of (source_words place e [])
 
 -- the text of a declared attribute
 abbrev pub column_text : Column → List ℕ
-column_text (Col name k) = name ++ (codes " " ++ spelling (kind_symbol k))
+column_text (Col name k) = name ++ (codes " " ++ kind_word k)
 
 -- the text of declared attributes
 abbrev pub columns_text : List Column → List ℕ

@@ -1,24 +1,24 @@
 -- The canonical words of statements.
-use Rattle.std.specs.Prelude.{List, [], ◌∷◌}
+use Rattle.std.specs.Prelude.{List, [], ◌∷◌, codes}
 use Rattle.event_types.specs.declared.kind.Kind.{Kind}
 use Rattle.event_types.specs.declared.kind.Kind.TheVariants as kind
-use Rattle.cel_grammar.specs.Symbols.{Symbol}
 use Rattle.cel_grammar.specs.Symbols as the
 use Rattle.cel_grammar.specs.Trees.{Column, Col, Statement, Stream, Query}
 use Rattle.cel_print.specs.declared.places.SourcePlace.TheVariants as source_place
 use Rattle.cel_print.specs.Words.{Word, Of}
 use Rattle.cel_print.specs.SourceWords.{items_words, source_words}
 
--- the keyword of a kind
-abbrev pub kind_symbol : Kind → Symbol
-kind_symbol kind.Int = the.Int
-kind_symbol kind.Text = the.Text
+-- a kind, and then rest: INT, TEXT, or the name DEC and a number of places
+abbrev pub kind_words : Kind → List Word → List Word
+kind_words kind.Int rest = Of the.Int ∷ rest
+kind_words kind.Text rest = Of the.Text ∷ rest
+kind_words (kind.Dec places) rest = Of (the.Name (codes "DEC")) ∷ Of (the.Number places) ∷ rest
 
 -- names with their kinds between commas, and then rest
 abbrev pub columns_words : List Column → List Word → List Word
 columns_words [] rest = rest
-columns_words (Col name k ∷ []) rest = Of (the.Name name) ∷ Of (kind_symbol k) ∷ rest
-columns_words (Col name k ∷ next ∷ columns) rest = Of (the.Name name) ∷ Of (kind_symbol k) ∷ Of the.Comma ∷ columns_words (next ∷ columns) rest
+columns_words (Col name k ∷ []) rest = Of (the.Name name) ∷ kind_words k rest
+columns_words (Col name k ∷ next ∷ columns) rest = Of (the.Name name) ∷ kind_words k (Of the.Comma ∷ columns_words (next ∷ columns) rest)
 
 -- a statement, and then rest
 abbrev pub statement_words : Statement → List Word → List Word

@@ -1,6 +1,7 @@
 //! The lines of statements.
 ghost use Rattle.std.specs.Prelude.{◌≡◌, ◌++◌, OnOk, codes, map};
 ghost use Rattle.std.specs.List.{flat_map};
+ghost use Rattle.event_types.specs.KindWord.{kind_word};
 ghost use Rattle.cel_grammar.specs.Views.{column_of, statement_of};
 ghost use Rattle.cel_print.specs.Parts.{column_text, columns_text};
 ghost use Rattle.cel_print.specs.Spelled.{line_of};
@@ -11,6 +12,7 @@ use crate::places::SourcePlace;
 use crate::sources::append_source;
 use cel_grammar::{Attr, Statement};
 use event_types::{Kind, Memory};
+use itoa::Buffer;
 
 /// Puts the line of a statement behind a text.
 pub(crate) fn append_statement(text: &mut Vec<u8>, statement: &Statement) -> Result<(), Memory>
@@ -69,8 +71,20 @@ fn append_attr(text: &mut Vec<u8>, attr: &Attr) -> Result<(), Memory>
     ensures { OnOk result (text.new.items ≡ text.old.items ++ column_text (column_of attr.now)) }
 {
     append(text, attr.name.as_str().as_bytes())?;
-    match attr.kind {
-        Kind::Int => append(text, b" INT"),
-        Kind::Text => append(text, b" TEXT"),
+    append(text, b" ")?;
+    append_kind(text, attr.kind)
+}
+
+// Puts a kind behind a text.
+fn append_kind(text: &mut Vec<u8>, kind: Kind) -> Result<(), Memory>
+    ensures { OnOk result (text.new.items ≡ text.old.items ++ kind_word kind) }
+{
+    match kind {
+        Kind::Int => append(text, b"INT"),
+        Kind::Text => append(text, b"TEXT"),
+        Kind::Dec(places) => {
+            append(text, b"DEC ")?;
+            append(text, Buffer::new().format(places).as_bytes())
+        }
     }
 }

@@ -1,5 +1,5 @@
 -- What a source gives is typed over the kinds of the streams.
-use Rattle.std.proofs.Common.{◌≡◌, ◌∙◌, ◌+◌, ◌<◌, ◌==◌, ℕ, suc, List, [], ◌∷◌, ◌++◌, Bool, true, false, ◌&&◌, map, length, refl, sym, ap, subst, inl, inr, append_assoc, arith}
+use Rattle.std.proofs.Common.{◌≡◌, ◌∙◌, ◌+◌, ◌<◌, ◌==◌, ℕ, suc, List, [], ◌∷◌, ◌++◌, Bool, true, false, ◌&&◌, map, length, refl, sym, ap, subst, inl, inr, eqb-true, append_assoc, arith}
 use Rattle.std.specs.Prelude.{Option, Some, None, slice_get}
 use Rattle.std.specs.List.{range_with_len}
 use Rattle.std.specs.Str.{bytes_eq}
@@ -88,6 +88,7 @@ rebinding-typed {binding} {event} {assignments = assignments} a =
 one_kind : (k l : Kind) → is_kind k l ≡ true → k ≡ l
 one_kind kind.Int kind.Int e = refl
 one_kind kind.Text kind.Text e = refl
+one_kind (kind.Dec m) (kind.Dec n) e = ap kind.Dec (eqb-true m n e)
 one_kind k l e = cc
 
 -- both of two tests

@@ -1,5 +1,5 @@
 -- Where two schemas of a UNION differ.
-use Rattle.std.specs.Prelude.{◌≡◌, ℕ, ◌+◌, Bool, false, true, ◌&&◌, if◌then◌else◌, List, [], ◌∷◌, drop, Option, Some, None}
+use Rattle.std.specs.Prelude.{◌≡◌, ℕ, ◌+◌, ◌==◌, Bool, false, true, ◌&&◌, if◌then◌else◌, List, [], ◌∷◌, drop, Option, Some, None}
 use Rattle.std.specs.Str.{bytes_eq}
 use Rattle.event_types.specs.declared.kind.Kind.{Kind}
 use Rattle.event_types.specs.declared.kind.Kind.TheVariants as kind
@@ -9,6 +9,7 @@ use Rattle.stream_schema.specs.Schema.{Attr}
 abbrev pub is_kind : Kind → Kind → Bool
 is_kind kind.Int kind.Int = true
 is_kind kind.Text kind.Text = true
+is_kind (kind.Dec places) (kind.Dec others) = places == others
 is_kind k l = false
 
 -- whether two attributes have one name and one kind

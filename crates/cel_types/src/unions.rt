@@ -48,8 +48,9 @@ fn is_same_at(left: &Schema, right: &Schema, place: usize) -> bool
 fn is_one_kind(left: Kind, right: Kind) -> bool
     ensures { result ≡ is_kind left right }
 {
-    match left {
-        Kind::Int => matches!(right, Kind::Int),
-        Kind::Text => matches!(right, Kind::Text),
+    match (left, right) {
+        (Kind::Int, Kind::Int) | (Kind::Text, Kind::Text) => true,
+        (Kind::Dec(places), Kind::Dec(others)) => places == others,
+        _ => false,
     }
 }

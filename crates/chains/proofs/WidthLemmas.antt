@@ -8,8 +8,9 @@ use Rattle.event_types.specs.declared.kind.Kind.{Kind}
 use Rattle.semantics.proofs.ReadingLemmas.{denote_agrees}
 use Rattle.semantics.specs.Denotation.{Streams, denote}
 use Rattle.semantics.specs.Expressions.{Ex, Read, Filter, Select, Union, Next, Fold}
-use Rattle.semantics.specs.Kinds.{HasKinds, HaveKinds, value_kind}
+use Rattle.semantics.specs.Kinds.{HasKinds, HaveKinds}
 use Rattle.semantics.specs.Reading.{ReadsOnly}
+use Rattle.semantics.proofs.KindLemmas.{kinds_length}
 use Rattle.semantics.specs.Typing.{Gives}
 use Rattle.scalar_expr.specs.Kinds.{sc_kind}
 use Rattle.algebra.proofs.TypingLemmas.{typed}
@@ -33,7 +34,7 @@ module _ (count : ℕ) (kinds : ℕ → List Kind) where
   wide_meets streams all (Filter p e) out h wide = wide_meets streams all e out h.0 wide
   wide_meets streams all (Select m e) out h wide = (
     wide_meets streams all e h.0 h.1 wide.0,
-    All-weaker (HasKinds h.0) (λ tuple. length tuple.vals ≡ m.width) (λ tuple has. sym (length-map tuple.vals value_kind) ∙ ap length has ∙ width_is e h.0 h.1 ∙ wide.1) (denote e streams)
+    All-weaker (HasKinds h.0) (λ tuple. length tuple.vals ≡ m.width) (λ tuple has. kinds_length h.0 tuple.vals has ∙ width_is e h.0 h.1 ∙ wide.1) (denote e streams)
         (typed e count kinds h.0 streams all h.1).1,
   )
   wide_meets streams all (Union e f) out h wide = (wide_meets streams all e out h.0 wide.0, wide_meets streams all f out h.1 wide.1)

@@ -3,13 +3,13 @@ use Rattle.std.proofs.Common.{◌≡◌, ◌∙◌, refl, subst, Bool, true, fal
 use Rattle.std.specs.Prelude.{Option, Some, None}
 use Rattle.std.specs.Option.{option_and_then}
 use Rattle.std.specs.List.{All, cons_option, filter, filter_map}
-use Rattle.std.proofs.lemmas.List.{map-append}
 use Rattle.std.proofs.lemmas.List.Elements.{All-nil, All-cons, All-head, All-tail, All-filter, All-map, All-weaker}
 use Rattle.event_types.specs.declared.kind.Kind.{Kind}
 use Rattle.event_types.specs.Tuple.{Row}
 use Rattle.instances.specs.declared.instance.Instance.{Instance}
 use Rattle.semantics.specs.Denotation.{joined, selected}
-use Rattle.semantics.specs.Kinds.{HasKinds, value_kind}
+use Rattle.semantics.specs.Kinds.{HasKinds}
+use Rattle.semantics.proofs.KindLemmas.{kinds_append}
 use Rattle.semantics.specs.Nexts.{is_eligible}
 use Rattle.semantics.specs.Runs.{rebound}
 use Rattle.semantics.specs.Scalars.{Pr}
@@ -49,9 +49,9 @@ some_is : {X : Type 0} (x y : X) → Some x ≡ Some y → x ≡ y
 some_is x y e = cc
 
 step_passes : (step : List Stage) (ks out : List Kind) (t : Row) → StepGives step ks out → HasKinds ks t → Passes step out t
-step_passes [] ks out t h ht = record { suits = tt; gives = λ p e. subst (HasKinds out) (some_is t p e) (ht ∙ h) }
+step_passes [] ks out t h ht = record { suits = tt; gives = λ p e. subst (HasKinds out) (some_is t p e) (subst (λ js. HasKinds js t) h ht) }
 step_passes (Keep c ∷ step) ks out t h ht =
-    let more = step_passes step h.0 out t h.2 (ht ∙ h.1.1) in
+    let more = step_passes step h.0 out t h.2 (subst (λ js. HasKinds js t) h.1.1 ht) in
     record { suits = (typed_tests c ks None t None h.1.0 ht tt, more.suits); gives = λ p e. go (all_true c t None) more p e }
   where
     go : (b : Bool) → Passes step out t → (p : Row) → option_and_then (pass step) (cond b (Some t) None) ≡ Some p → HasKinds out p
@@ -77,11 +77,11 @@ passed_kinds step ks out (t ∷ ts) h all =
 taken_kinds : (choose : List Pr) (fold : Option Turn) (bs es out : List Kind) (ts : List Row) (b : Row) → TurnGives fold bs es out → All (HasKinds es) ts → HasKinds bs b → All (HasKinds out) (taken choose fold ts b)
 taken_kinds choose None bs es out ts b h all hb =
     All-map (HasKinds out) (joined b) (filter (is_eligible choose b) ts)
-    (All-weaker (HasKinds es) (λ t. HasKinds out (joined b t)) (λ t ht. map-append value_kind b.vals t.vals ∙ (λ i. hb i ++ ht i) ∙ h) (filter (is_eligible choose b) ts) (All-filter (is_eligible choose b) (HasKinds es) ts all))
+    (All-weaker (HasKinds es) (λ t. HasKinds out (joined b t)) (λ t ht. subst (λ ks. HasKinds ks (joined b t)) h (kinds_append bs es b.vals t.vals hb ht)) (filter (is_eligible choose b) ts) (All-filter (is_eligible choose b) (HasKinds es) ts all))
 taken_kinds choose (Some turn) bs es out ts b h all hb =
     let goes = λ (t : Row). all_true turn.on t (Some b) in
     All-map (HasKinds out) (rebound turn.set.parts b) (filter goes (filter (is_eligible choose b) ts))
-    (All-weaker (HasKinds es) (λ t. HasKinds out (rebound turn.set.parts b t)) (λ t ht. typed_image turn.set.parts es (Some bs) bs t (Some b) h.1 ht hb ∙ h.2)
+    (All-weaker (HasKinds es) (λ t. HasKinds out (rebound turn.set.parts b t)) (λ t ht. subst (λ ks. HasKinds ks (rebound turn.set.parts b t)) h.2 (typed_image turn.set.parts es (Some bs) bs t (Some b) h.1 ht hb))
     (filter goes (filter (is_eligible choose b) ts)) (All-filter goes (HasKinds es) (filter (is_eligible choose b) ts) (All-filter (is_eligible choose b) (HasKinds es) ts all)))
 
 -- what leaves a typed wait has the kinds that it gives

@@ -1,5 +1,5 @@
 -- An event that was read has the kinds of its stream, which is a declared one.
-use Rattle.std.proofs.Common.{◌≡◌, ◌∙◌, sym, ap, refl, ℕ, ℤ, ◌+◌, ◌==◌, Bool, true, false, cond, List, [], ◌∷◌, Option, Some, None, Result, Ok, Err, map, length, unwrap_or, slice_get, arith}
+use Rattle.std.proofs.Common.{◌≡◌, ◌∙◌, sym, ap, refl, subst, ℕ, ℤ, ◌+◌, ◌==◌, Bool, true, false, cond, List, [], ◌∷◌, Option, Some, None, Result, Ok, Err, map, length, unwrap_or, slice_get, arith}
 use Rattle.std.specs.Option.{option_map}
 use Rattle.std.specs.Str.{is_utf8}
 use Rattle.std.proofs.lemmas.Bool.{eqb-true}
@@ -7,7 +7,7 @@ use Rattle.event_types.specs.declared.kind.Kind.{Kind}
 use Rattle.event_types.specs.declared.kind.Kind.TheVariants as kind
 use Rattle.event_types.specs.declared.value.Value.{Value}
 use Rattle.event_types.specs.declared.value.Value.TheVariants as value
-use Rattle.semantics.specs.Kinds.{HasKinds, value_kind}
+use Rattle.semantics.specs.Kinds.{AreOf, HasKinds, IsOf}
 use Rattle.stream_schema.specs.Schema.{kinds_of}
 use Rattle.stream_schema.specs.Streams.{Entry, number_of}
 use Rattle.event_csv.specs.declared.event.Seen.{Seen}
@@ -20,25 +20,24 @@ use Rattle.event_csv.specs.Numbers.{int_of}
 use Rattle.monitor.specs.Fitting.{Fits}
 
 -- the value of a field is of the field's kind
-value_is : (k : Kind) (field : List ℕ) (v : Value) → value_of k field ≡ Some v → value_kind v ≡ k
+value_is : (k : Kind) (field : List ℕ) (v : Value) → value_of k field ≡ Some v → IsOf k v
 value_is kind.Int field v e = by_number (int_of field) e
   where
-    by_number : (o : Option ℤ) → option_map value.Int o ≡ Some v → value_kind v ≡ kind.Int
+    by_number : (o : Option ℤ) → option_map value.Int o ≡ Some v → IsOf kind.Int v
     by_number None e = cc
-    by_number (Some n) e = let same : value.Int n ≡ v = cc in ap value_kind (sym same)
-value_is kind.Text field v e = let same : value.Text field ≡ v = cc in ap value_kind (sym same)
+    by_number (Some n) e = let same : value.Int n ≡ v = cc in subst (IsOf kind.Int) same refl
+value_is kind.Text field v e = let same : value.Text field ≡ v = cc in subst (IsOf kind.Text) same refl
 
 one_more : (number : ℕ) (k : Kind) (kinds : List Kind) (o : Option Value) (more : Result (List Value) LineFault) (vals : List Value)
-    → ((v : Value) → o ≡ Some v → value_kind v ≡ k) → ((rest : List Value) → more ≡ Ok rest → map value_kind rest ≡ kinds) → value_before number o more ≡ Ok vals → map value_kind vals ≡ k ∷ kinds
+    → ((v : Value) → o ≡ Some v → IsOf k v) → ((rest : List Value) → more ≡ Ok rest → AreOf kinds rest) → value_before number o more ≡ Ok vals → AreOf (k ∷ kinds) vals
 one_more number k kinds None more vals is ih e = cc
 one_more number k kinds (Some v) (Err why) vals is ih e = cc
 one_more number k kinds (Some v) (Ok rest) vals is ih e =
-    let whole : v ∷ rest ≡ vals = cc in
-    ap (map value_kind) (sym whole) ∙ ap (λ x. x ∷ map value_kind rest) (is v refl) ∙ ap (λ xs. k ∷ xs) (ih rest refl)
+    let whole : v ∷ rest ≡ vals = cc in subst (AreOf (k ∷ kinds)) whole (is v refl, ih rest refl)
 
 -- the values of as many fields as there are kinds are of these kinds, by induction on the kinds
-values_are : (number : ℕ) (kinds : List Kind) (fields : List (List ℕ)) (vals : List Value) → length fields ≡ length kinds → values_of number kinds fields ≡ Ok vals → map value_kind vals ≡ kinds
-values_are number [] fields vals same e = let v : [] ≡ vals = cc in ap (map value_kind) (sym v)
+values_are : (number : ℕ) (kinds : List Kind) (fields : List (List ℕ)) (vals : List Value) → length fields ≡ length kinds → values_of number kinds fields ≡ Ok vals → AreOf kinds vals
+values_are number [] fields vals same e = let v : [] ≡ vals = cc in subst (AreOf []) v tt
 values_are number (k ∷ kinds) [] vals same e = absurd (omega (arith, same))
 values_are number (k ∷ kinds) (field ∷ fields) vals same e =
     let left : length fields ≡ length kinds = omega (arith, same) in
@@ -99,7 +98,7 @@ counted_kinds number kinds fields seen e = by_count (length fields + 1 == length
             by_parts (Ok span) (Err why) m e = cc
             by_parts (Ok span) (Ok vals) m e =
                 let same = same_seen (record { stream = number; tuple = record { vals = vals; from = span.0; at = span.1 } }) seen e in
-                (sym (ap (λ s. s.stream) same), ap (λ s. map value_kind s.tuple.vals) (sym same) ∙ values_are 4 kinds rest vals (omega (arith, f)) m)
+                (sym (ap (λ s. s.stream) same), subst (λ s. HasKinds kinds s.tuple) same (values_are 4 kinds rest vals (omega (arith, f)) m))
 
 -- the event of a line
 pub event_fits : (streams : List Entry) (line : List ℕ) (seen : Seen) → event streams line ≡ Ok seen → Fits streams seen

@@ -1,14 +1,8 @@
 -- The texts of schemas and of lists.
 use Rattle.std.specs.Prelude.{ℕ, List, [], ◌∷◌, ◌++◌, codes, map}
 use Rattle.std.specs.List.{flat_map}
-use Rattle.event_types.specs.declared.kind.Kind.{Kind}
-use Rattle.event_types.specs.declared.kind.Kind.TheVariants as kind
+use Rattle.event_types.specs.KindWord.{kind_word}
 use Rattle.stream_schema.specs.Schema.{Attr}
-
--- the word of a kind
-abbrev pub kind_word : Kind → List ℕ
-kind_word kind.Int = codes "INT"
-kind_word kind.Text = codes "TEXT"
 
 -- an attribute: its name, a space and its kind
 abbrev pub attribute_text : Attr → List ℕ

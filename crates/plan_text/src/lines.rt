@@ -41,10 +41,8 @@ fn append_attribute(text: &mut String, name: &str, kind: Kind) -> Result<(), Mem
     ensures { OnOk result (string_bytes text.new ≡ string_bytes text.old ++ attribute_text (record { name = name.now; kind = kind })) }
 {
     append(text, name)?;
-    match kind {
-        Kind::Int => append(text, " INT"),
-        Kind::Text => append(text, " TEXT"),
-    }
+    write!(text, " {kind}")?;
+    Ok(())
 }
 
 // Puts names behind a text, between commas.
