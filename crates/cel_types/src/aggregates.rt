@@ -121,9 +121,7 @@ fn listed(alloc: Global, terms: Vec<Scalar>) -> Result<Scalars, Memory>
 {
     let mut list = List::new(alloc);
     for term in terms {
-        if list.push(term).is_err() {
-            return Err(Memory);
-        }
+        list.add(term)?;
     }
     Ok(list)
 }

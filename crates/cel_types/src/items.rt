@@ -116,10 +116,7 @@ fn add_one(
     ensures terms { OnOk result (made.new.terms ≡ made.old.terms ++ term ∷ []) }
 {
     add(alloc, &mut made.attributes, name, kind)?;
-    if made.terms.push(term).is_err() {
-        return Err(Memory);
-    }
-    Ok(())
+    made.terms.add(term)
 }
 
 /// The fault that an attribute stands twice.
