@@ -58,9 +58,7 @@ pub fn take_side<H: Host>(
                         end: End::Whole,
                     });
                 }
-                if bytes.extend_from_slice(&piece[..count]).is_err() {
-                    return Err(Memory);
-                }
+                bytes.extend_from_slice(&piece[..count])?;
             }
         }
     }
