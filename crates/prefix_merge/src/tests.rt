@@ -51,9 +51,7 @@ fn turn(alloc: Global, on: Pred) -> Result<Turn, Memory> {
 // One hop.
 fn only(alloc: Global, hop: Hop) -> Result<Hops, Memory> {
     let mut hops = List::new(alloc);
-    if hops.push(hop).is_err() {
-        return Err(Memory);
-    }
+    hops.add(hop)?;
     Ok(hops)
 }
 
@@ -72,12 +70,8 @@ fn two(alloc: Global, first: Line, second: Line) -> Result<Lines, Memory>
     ensures { IfOk result (λ lines. length lines ≡ 2) }
 {
     let mut lines = List::new(alloc);
-    if lines.push(first).is_err() {
-        return Err(Memory);
-    }
-    if lines.push(second).is_err() {
-        return Err(Memory);
-    }
+    lines.add(first)?;
+    lines.add(second)?;
     Ok(lines)
 }
 
