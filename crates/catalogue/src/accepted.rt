@@ -13,7 +13,7 @@ use algebra::Expr;
 use automaton::{Layout, Lines};
 use cel_parser::File;
 use chains::Chains;
-use event_types::{KindLists, Kinds, List, Memory, Numbers, StreamId};
+use event_types::{KindLists, List, Memory, Numbers, StreamId};
 use std::alloc::Global;
 use std::marker::Model;
 use stream_schema::Streams;
@@ -177,17 +177,7 @@ fn stream_kinds(alloc: Global, streams: &Streams, many: usize) -> Result<KindLis
     let mut lists: KindLists = List::new(alloc);
     for stream in 0..many {
         let kinds = streams.schema(stream).kinds(alloc)?;
-        add_kinds(&mut lists, kinds)?;
+        lists.add(kinds)?;
     }
     Ok(lists)
-}
-
-// Adds the kinds of a stream.
-fn add_kinds(lists: &mut KindLists, kinds: Kinds) -> Result<(), Memory>
-    ensures { OnOk result (lists.new ≡ lists.old ++ kinds ∷ []) }
-{
-    if lists.push(kinds).is_err() {
-        return Err(Memory);
-    }
-    Ok(())
 }

@@ -27,10 +27,8 @@ pub(crate) fn arrange(alloc: Global, file: &File) -> Result<Numbers, LoadFault>
     ensures sound { OnOk result (AreSound (map statement_of file.now.statements)) }
     ensures err { IfErr result (Tells (FailInNames (map statement_of file.now.statements) file.now.lines) (HaveCycle (map statement_of file.now.statements))) }
 {
-    match name_all(alloc, file) {
-        Ok(named) => arrange_named(alloc, file, &named),
-        Err(fault) => Err(fault),
-    }
+    let named = name_all(alloc, file)?;
+    arrange_named(alloc, file, &named)
 }
 
 // The same, where no statement's own name has a fault.
@@ -41,10 +39,8 @@ fn arrange_named(alloc: Global, file: &File, named: &Named) -> Result<Numbers, L
     ensures sound { OnOk result (AreSound (map statement_of file.now.statements)) }
     ensures err { IfErr result (Tells (FailInNames (map statement_of file.now.statements) file.now.lines) (HaveCycle (map statement_of file.now.statements))) }
 {
-    match read_all(alloc, file, named) {
-        Ok(reads) => order_of(alloc, &named.queries, &reads),
-        Err(fault) => Err(fault),
-    }
+    let reads = read_all(alloc, file, named)?;
+    order_of(alloc, &named.queries, &reads)
 }
 
 // The order of queries that read one another so, or the names of their cycle.
@@ -56,10 +52,10 @@ fn order_of(alloc: Global, queries: &Streams, reads: &Reads) -> Result<Numbers, 
 {
     match order(alloc, reads) {
         Ok(numbers) => Ok(numbers),
-        Err(OrderFault::Cycle(cycle)) => match names_of(alloc, queries, cycle.as_slice()) {
-            Ok(names) => Err(LoadFault::Cycle(names)),
-            Err(_) => Err(LoadFault::Memory),
-        },
+        Err(OrderFault::Cycle(cycle)) => {
+            let names = names_of(alloc, queries, cycle.as_slice())?;
+            Err(LoadFault::Cycle(names))
+        }
         Err(OrderFault::Memory) => Err(LoadFault::Memory),
     }
 }
@@ -72,9 +68,7 @@ fn names_of(alloc: Global, queries: &Streams, numbers: &[usize]) -> Result<Names
     let mut names: Names = List::new(alloc);
     for number in numbers {
         let name = Text::make(alloc, queries.name(*number))?;
-        if names.push(name).is_err() {
-            return Err(Memory);
-        }
+        names.add(name)?;
     }
     Ok(names)
 }

@@ -25,9 +25,7 @@ pub(crate) fn declare_all(alloc: Global, file: &File) -> Result<Streams, LoadFau
     let mut streams = Streams::new(alloc);
     for place in 0..file.size() {
         let line = file.line(place);
-        if let Err(fault) = declare_one(alloc, &mut streams, file.statement(place), line) {
-            return Err(fault);
-        }
+        declare_one(alloc, &mut streams, file.statement(place), line)?;
     }
     Ok(streams)
 }
@@ -46,10 +44,10 @@ fn declare_one(
     match statement {
         Statement::Query { .. } => Ok(()),
         Statement::Stream { name, .. } => match declare(alloc, statement) {
-            Ok(schema) => match streams.add(name.as_str(), schema, true) {
-                Ok(_) => Ok(()),
-                Err(_) => Err(LoadFault::Memory),
-            },
+            Ok(schema) => {
+                streams.add(name.as_str(), schema, true)?;
+                Ok(())
+            }
             Err(fault) => Err(of_types(fault, line)),
         },
     }

@@ -23,19 +23,9 @@ pub fn load(alloc: Global, text: &[u8]) -> Result<Catalogue, LoadFault>
     ensures ok { IfOk result (λ catalogue. Accepts text.now (judged_of catalogue)) }
     ensures err { IfErr result (Tells (Refuses text.now) (Circles text.now)) }
 {
-    match file_of(alloc, text) {
-        Ok(file) => match type_file(alloc, &file) {
-            Ok(typed) => Ok(Catalogue::make(
-                alloc,
-                file,
-                typed.streams,
-                typed.order,
-                typed.expressions,
-            )?),
-            Err(fault) => Err(fault),
-        },
-        Err(fault) => Err(fault),
-    }
+    let file = file_of(alloc, text)?;
+    let typed = type_file(alloc, &file)?;
+    Ok(Catalogue::make(alloc, file, typed.streams, typed.order, typed.expressions)?)
 }
 
 // What a catalogue has beside its file.
@@ -52,18 +42,12 @@ fn type_file(alloc: Global, file: &File) -> Result<Typed, LoadFault>
     ensures typed { IfOk result (λ typed. length typed.expressions ≡ length typed.order) }
     ensures err { IfErr result (RefusesFile file.now) }
 {
-    match arrange(alloc, file) {
-        Ok(order) => match declare_all(alloc, file) {
-            Ok(mut streams) => match publish_all(alloc, file, &order, &mut streams) {
-                Ok(expressions) => Ok(Typed {
-                    streams,
-                    order,
-                    expressions,
-                }),
-                Err(fault) => Err(fault),
-            },
-            Err(fault) => Err(fault),
-        },
-        Err(fault) => Err(fault),
-    }
+    let order = arrange(alloc, file)?;
+    let mut streams = declare_all(alloc, file)?;
+    let expressions = publish_all(alloc, file, &order, &mut streams)?;
+    Ok(Typed {
+        streams,
+        order,
+        expressions,
+    })
 }

@@ -42,14 +42,8 @@ pub(crate) fn publish_all(
     for number in order.as_slice() {
         let place = *places.get(*number);
         let line = file.line(place);
-        match publish_one(alloc, streams, file.statement(place), line) {
-            Ok(expression) => {
-                if expressions.push(expression).is_err() {
-                    return Err(LoadFault::Memory);
-                }
-            }
-            Err(fault) => return Err(fault),
-        }
+        let expression = publish_one(alloc, streams, file.statement(place), line)?;
+        expressions.add(expression)?;
     }
     Ok(expressions)
 }
@@ -67,10 +61,10 @@ fn publish_one(
     ensures err { IfErr result (TellsBad (FailsOn line (FailsAsQuery streams.old (statement_of statement.now)))) }
 {
     match elaborate(alloc, streams, statement) {
-        Ok((schema, expression)) => match streams.add(name(statement), schema, false) {
-            Ok(_) => Ok(expression),
-            Err(_) => Err(LoadFault::Memory),
-        },
+        Ok((schema, expression)) => {
+            streams.add(name(statement), schema, false)?;
+            Ok(expression)
+        }
         Err(fault) => Err(of_types(fault, line)),
     }
 }
@@ -91,9 +85,7 @@ fn admit(statement: &Statement, place: usize, places: &mut Numbers) -> Result<()
     ensures { OnOk result (places.new ≡ places.old ++ (if is_query (statement_of statement.now) then place ∷ [] else [])) }
 {
     if is_a_query(statement) {
-        if places.push(place).is_err() {
-            return Err(Memory);
-        }
+        places.add(place)?;
     }
     Ok(())
 }

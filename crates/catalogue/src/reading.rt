@@ -55,9 +55,7 @@ fn add_statement(
         Statement::Query { source, .. } => {
             let mut numbers: Numbers = List::new(alloc);
             let fault = add_source(alloc, named, source, &mut numbers)?;
-            if reads.push(numbers).is_err() {
-                return Err(Memory);
-            }
+            reads.add(numbers)?;
             Ok(fault)
         }
     }
@@ -118,9 +116,7 @@ fn add_number(number: Option<usize>, numbers: &mut Numbers) -> Result<(), Memory
     ensures { OnOk result (numbers.new ≡ numbers.old ++ cons_option number []) }
 {
     if let Some(number) = number {
-        if numbers.push(number).is_err() {
-            return Err(Memory);
-        }
+        numbers.add(number)?;
     }
     Ok(())
 }

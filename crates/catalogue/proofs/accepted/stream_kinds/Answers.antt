@@ -8,7 +8,7 @@ use Rattle.catalogue.proofs.accepted.stream_kinds.Goals as goal
 -- one stream more
 pub loop-stream-preserved : goal.loop-stream-preserved
 loop-stream-preserved c =
-    let added : c.add_kinds.new.lists ≡ c.loop-stream.lists ++ c.in_ok-kinds.kinds ∷ [] = c.in_ok-add_kinds.ensures in
+    let added : c.add.new.self ≡ c.loop-stream.lists ++ c.in_ok-kinds.kinds ∷ [] = c.in_ok-add.ensures.ok in
     let own : c.in_ok-kinds.kinds ≡ kinds_of c.schema.result.now = c.in_ok-kinds.ensures in
     added ∙ (λ i. c.loop-stream.invariant i ++ own i ∷ []) ∙ sym (taken_more (schemas_of c.args.streams.now) c.loop-stream.stream c.schema.result.now c.schema.ensures)
     ∙ ap (λ n. take n (kinds_of_each c.args.streams.now)) (sym (add-one c.loop-stream.stream))

@@ -1,4 +1,4 @@
-use Rattle.std.proofs.Common.{◌≡◌, ◌∙◌, ◌++◌, ◌∷◌, [], ℕ, get_or, sym, ap, rules, arith}
+use Rattle.std.proofs.Common.{◌≡◌, ◌∙◌, ◌++◌, ◌∷◌, [], ℕ, get_or, sym, ap, arith}
 use Rattle.std.proofs.lemmas.List.{map_more}
 use Rattle.std.proofs.lemmas.Option.{get_or_from_slice_get}
 use Rattle.stream_schema.specs.Streams.{stream_names}
@@ -8,7 +8,7 @@ use Rattle.catalogue.proofs.arranging.names_of.Goals as goal
 pub loop-number-preserved : goal.loop-number-preserved
 loop-number-preserved c =
     let number : ℕ = get_or c.args.numbers.now c.loop-number.number-index 0 in
-    let put : c.push.new.self ≡ c.loop-number.names ++ c.in_ok-name.name ∷ [] = search rules in
+    let put : c.add.new.self ≡ c.loop-number.names ++ c.in_ok-name.name ∷ [] = c.in_ok-add.ensures.ok in
     let is : c.in_ok-name.name ≡ get_or (stream_names c.args.queries.now) (get_or c.args.numbers.now c.loop-number.number-index 0) [] =
     c.in_ok-name.ensures ∙ sym (get_or_from_slice_get (stream_names c.args.queries.now) (get_or c.args.numbers.now c.loop-number.number-index 0) c.name.result.now [] c.name.ensures) in
     put ∙ ap (λ x. c.loop-number.names ++ x ∷ []) is

@@ -1,5 +1,6 @@
 use Rattle.std.proofs.Common.{◌≡◌, ◌<◌, List, [], length, map, subst, sym}
 use Rattle.std.specs.Prelude.{Some, slice_get}
+use Rattle.std.proofs.lemmas.Result.{err_from_is_err_and}
 use Rattle.cel_grammar.specs.Views.{statement_of}
 use Rattle.stream_schema.specs.Streams.{Entry}
 use Rattle.catalogue.specs.Typing.{Declare, none}
@@ -19,13 +20,14 @@ declare_one-requires c =
     absent_at (map statement_of c.args.file.now.statements) c.loop-place.place (statement_of c.statement.result.now) there c.loop-place.streams c.loop-place.invariant (c.requires.names c.loop-place.place within)
 
 -- the declaration has a fault
-pub returns-in-Err-clause-err : goal.returns-in-Err-clause-err
-returns-in-Err-clause-err c =
+pub returns-in_err-declare_one-clause-err : goal.returns-in_err-declare_one-clause-err
+returns-in_err-declare_one-clause-err c =
     let there : slice_get (map statement_of c.args.file.now.statements) c.loop-place.place ≡ Some (statement_of c.statement.result.now) = slice_get-map statement_of c.args.file.now.statements c.loop-place.place c.statement.result.now c.statement.ensures in
-    tells_declared (map statement_of c.args.file.now.statements) c.loop-place.place (statement_of c.statement.result.now) there c.loop-place.streams c.args.file.now.lines c.line-line.result c.in-Err.fault c.loop-place.invariant c.line-line.ensures c.in-Err.ensures.err
+    let p = err_from_is_err_and c.from_residual.result c.from_residual.ensures.1 in
+    rw (p.1, p.2) (tells_declared (map statement_of c.args.file.now.statements) c.loop-place.place (statement_of c.statement.result.now) there c.loop-place.streams c.args.file.now.lines c.line-line.result _ c.loop-place.invariant c.line-line.ensures c.in_err-declare_one.ensures.err)
 
 -- one more statement
 pub loop-place-preserved : goal.loop-place-preserved
 loop-place-preserved c =
     let there : slice_get (map statement_of c.args.file.now.statements) c.loop-place.place ≡ Some (statement_of c.statement.result.now) = slice_get-map statement_of c.args.file.now.statements c.loop-place.place c.statement.result.now c.statement.ensures in
-    Declare-more (map statement_of c.args.file.now.statements) c.loop-place.place (statement_of c.statement.result.now) there c.loop-place.streams c.declare_one.new.streams c.loop-place.invariant c.in_default.ensures.ok
+    Declare-more (map statement_of c.args.file.now.statements) c.loop-place.place (statement_of c.statement.result.now) there c.loop-place.streams c.declare_one.new.streams c.loop-place.invariant c.in_ok-declare_one.ensures.ok
