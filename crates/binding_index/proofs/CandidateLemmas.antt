@@ -1,13 +1,20 @@
 -- The instances that an event may match, among those that stand key by key.
-use Rattle.std.proofs.Common.{◌≡◌, ◌∙◌, sym, ap, refl, subst, Bool, true, false, not, ◌&&◌, ◌||◌, cond, get_or, List, [], ◌∷◌, ◌++◌, is_some}
+use Rattle.std.proofs.Common.{◌≡◌, ◌∙◌, ◌==◌, sym, ap, refl, subst, eqb-true, ℕ, ℤ, Bool, true, false, not, ◌&&◌, ◌||◌, cond, get_or, List, [], ◌∷◌, ◌++◌, is_some}
 use Rattle.std.specs.Prelude.{Option, Some, None}
+use Rattle.std.specs.declared.cmp.Ordering.{Ordering}
+use Rattle.std.specs.declared.cmp.Ordering.TheVariants.{Less, Equal, Greater}
+use Rattle.std.specs.Cmp.{tied_itself}
+use Rattle.std.specs.Ordering.{int_cmp, is_eq, nat_cmp, ordering_then}
 use Rattle.std.specs.Option.{unwrap_or}
 use Rattle.std.specs.List.{All, AllByRecursion, IsDistinct, filter, flat_map, list_any}
 use Rattle.std.specs.Map.{keys_of, lookup}
+use Rattle.std.proofs.lemmas.Bool.{eq-eqb}
+use Rattle.std.proofs.lemmas.Cmp.{nat_cmp_total}
 use Rattle.std.proofs.lemmas.List.{append-nil}
 use Rattle.std.proofs.lemmas.List.Elements.{All-head, All-tail}
 use Rattle.std.proofs.lemmas.List.Sorted.{list_any-IsPermutation}
 use Rattle.std.proofs.lemmas.Map.Keys.{IsDistinct-head, IsDistinct-tail}
+use Rattle.std.proofs.lemmas.Map.Lookups.{exact_unsigned}
 use Rattle.std.proofs.lemmas.Map.Made.{is_some-lookup}
 use Rattle.event_types.specs.Order.{value_cmp}
 use Rattle.event_types.specs.OrderLaws.{value_total}
@@ -15,7 +22,7 @@ use Rattle.event_types.specs.Tuple.{Row}
 use Rattle.event_types.specs.declared.comparison.Cmp.TheVariants as cmp
 use Rattle.event_types.specs.declared.value.Value.{Value}
 use Rattle.event_types.proofs.SortLemmas.{sort_permutes}
-use Rattle.event_types.specs.declared.value.Value.TheVariants.{Int, Over, Text}
+use Rattle.event_types.specs.declared.value.Value.TheVariants.{Int, Over, Text, Dec}
 use Rattle.semantics.specs.Nexts.{is_eligible}
 use Rattle.semantics.specs.Scalars.{Pr}
 use Rattle.semantics.specs.Truth.{is_met, order_of}
@@ -58,29 +65,30 @@ filter_one test bs key d none =
     there None = refl
     there (Some is) = refl
 
+-- two decimals are met as equal where scale and units are
+decimals_met : (s t : ℕ) (x y : ℤ) → is_met cmp.Eq (order_of (Dec s x) (Dec t y)) ≡ is_key (Dec s x) (Dec t y)
+decimals_met s t x y = by_scale (s == t) refl (nat_cmp s t) refl
+  where
+    by_scale : (b : Bool) → (s == t) ≡ b → (o : Ordering) → nat_cmp s t ≡ o → is_met cmp.Eq (cond b (Some (int_cmp x y)) None) ≡ is_eq (ordering_then o (int_cmp x y))
+    by_scale true is Equal tie = refl
+    by_scale true is Less tie = let same : nat_cmp s t ≡ Equal = ap (nat_cmp s) (sym (eqb-true s t is)) ∙ tied_itself nat_cmp_total s in cc
+    by_scale true is Greater tie = let same : nat_cmp s t ≡ Equal = ap (nat_cmp s) (sym (eqb-true s t is)) ∙ tied_itself nat_cmp_total s in cc
+    by_scale false is Less tie = refl
+    by_scale false is Greater tie = refl
+    by_scale false is Equal tie = let yes : (s == t) ≡ true = eq-eqb s t (exact_unsigned s t tie) in cc
+
 -- two values other than OVER are met as equal where they are one
 met_is : (x y : Value) → is_over x ≡ false → is_met cmp.Eq (order_of x y) ≡ is_key x y
 met_is (Int x) (Int y) e = refl
-met_is (Int x) Over e = refl
-met_is (Int x) (Text y) e = refl
-met_is Over (Int y) e = cc
-met_is Over Over e = cc
-met_is Over (Text y) e = cc
-met_is (Text x) (Int y) e = refl
-met_is (Text x) Over e = refl
 met_is (Text x) (Text y) e = refl
+met_is (Dec s x) (Dec t y) e = decimals_met s t x y
+met_is Over y e = cc
+met_is x y e = refl
 
 -- and OVER is met with none
 met_over : (x y : Value) → is_over x ≡ true → is_met cmp.Eq (order_of x y) ≡ false
-met_over (Int x) (Int y) e = cc
-met_over (Int x) Over e = refl
-met_over (Int x) (Text y) e = refl
-met_over Over (Int y) e = refl
-met_over Over Over e = refl
-met_over Over (Text y) e = refl
-met_over (Text x) (Int y) e = refl
-met_over (Text x) Over e = refl
-met_over (Text x) (Text y) e = cc
+met_over Over y e = refl
+met_over x y e = cc
 
 filter_none : (test : Instance → Bool) (xs : List Instance) → All (λ x. test x ≡ false) xs → filter test xs ≡ []
 filter_none test [] all = refl

@@ -1,16 +1,10 @@
--- The equality of values, as it is derived and as their order tells.
+-- The equality of values, as the program tests it and as their order tells.
 use Rattle.std.proofs.Common.{◌≡◌, sym, refl, subst, Bool, true, false, List}
 use Rattle.std.specs.Bool.{Decides}
 use Rattle.std.specs.List.{IsDistinct}
-use Rattle.std.specs.Ordering.{int_cmp}
-use Rattle.std.proofs.lemmas.Bool.Decides.{Decides-int_eq}
-use Rattle.std.proofs.lemmas.Cmp.{int_cmp_total, nat_list_cmp_total}
-use Rattle.std.proofs.lemmas.Map.Lookups.{exact_bytes, exact_signed}
-use Rattle.std.proofs.lemmas.Slice.Eq.{bytes_eq-Decides}
 use Rattle.event_types.specs.Order.{value_cmp}
 use Rattle.event_types.specs.OrderLaws.{value_exact, value_total}
 use Rattle.event_types.specs.declared.value.Value.{Value}
-use Rattle.event_types.specs.declared.value.Value.TheVariants.{Int, Over, Text}
 use Rattle.event_types.specs.contracts.value.ValuePartialEq.TheImpl as derived
 use Rattle.scalar_expr.proofs.EqualityLemmas.{ties_decide}
 use Rattle.binding_index.specs.Among.{is_key}
@@ -22,27 +16,15 @@ agreed true false h k = sym (k.1 (h.0 refl))
 agreed false true h k = h.1 (k.0 refl)
 agreed false false h k = refl
 
--- the derived equality is the order's tie
-pub eq_is : (x y : Value) → (derived.eq-value).it x y ≡ is_key x y
-eq_is (Int x) (Int y) = agreed _ _ (Decides-int_eq x y) (ties_decide int_cmp int_cmp_total exact_signed x y)
-eq_is Over Over = refl
-eq_is (Text x) (Text y) = agreed _ _ (bytes_eq-Decides x y) (ties_decide _ nat_list_cmp_total exact_bytes x y)
-eq_is (Int x) Over = refl
-eq_is (Int x) (Text y) = refl
-eq_is Over (Int y) = refl
-eq_is Over (Text y) = refl
-eq_is (Text x) (Int y) = refl
-eq_is (Text x) Over = refl
-
--- as functions
+-- the program's equality is the order's tie
 pub eq_same : (derived.eq-value).it ≡ is_key
-eq_same = λ i x y. eq_is x y i
+eq_same = refl
 
 -- a value is the key where the two are one
 pub key_decides : (key value : Value) → Decides (is_key key value) (key ≡ value)
 key_decides key value = ties_decide value_cmp value_total value_exact key value
 
--- keys that differ by the derived equality
+-- keys that differ by the program's equality
 pub distinct_keys : (keys : List Value) → IsDistinct (derived.eq-value).it keys → IsDistinct is_key keys
 distinct_keys keys h = subst (λ (e : Value → Value → Bool). IsDistinct e keys) eq_same h
 

@@ -5,7 +5,7 @@ use Rattle.std.specs.List.Sorted.{IsPermutation}
 use Rattle.std.specs.Map.{keys_of}
 use Rattle.event_types.specs.Order.{sort_by, value_cmp}
 use Rattle.event_types.specs.declared.value.Value.{Value}
-use Rattle.event_types.specs.declared.value.Value.TheVariants.{Int, Over, Text}
+use Rattle.event_types.specs.declared.value.Value.TheVariants.{Over}
 use Rattle.semantics.specs.Values.{value_at}
 use Rattle.instances.specs.declared.instance.Instance.{Instance}
 use Rattle.binding_index.specs.Among.{is_key}
@@ -18,8 +18,7 @@ Bucket = Value × List Instance
 -- whether a value is OVER
 abbrev pub is_over : Value → Bool
 is_over Over = true
-is_over (Int number) = false
-is_over (Text bytes) = false
+is_over value = false
 
 -- the instances of a key
 abbrev pub instances_at : List Bucket → Value → List Instance

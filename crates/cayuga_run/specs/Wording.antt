@@ -42,6 +42,7 @@ line_words (event.FieldCount want got) = decimal want ++ (codes " fields wanted,
 line_words (event.BadTime field) = codes "field " ++ (decimal field ++ codes " is not a time")
 line_words event.StartAfterDetection = codes "start after detection"
 line_words (event.BadInt field) = codes "field " ++ (decimal field ++ codes " is not a whole number of 128 bits")
+line_words (event.BadDec field places) = codes "field " ++ (decimal field ++ (codes " is not a decimal of " ++ (decimal places ++ codes " places")))
 
 -- the text of a status: nothing where the job was done, else the program's name, the place, and what was found there
 abbrev pub text_of : Status → List ℕ

@@ -6,7 +6,7 @@ use crate::status::Status;
 use catalogue::QueryFault;
 use cay_host::Side;
 use event_csv::LineFault;
-use event_types::{Kind, Memory, Names, Text};
+use event_types::{Memory, Names, Text};
 use std::alloc::Global;
 
 impl Status {
@@ -142,6 +142,9 @@ fn line_words(alloc: Global, why: &LineFault) -> Result<String, Memory>
         LineFault::StartAfterDetection => Ok(format!(in alloc; "start after detection")?),
         LineFault::BadInt { field } => {
             Ok(format!(in alloc; "field {field} is not a whole number of 128 bits")?)
+        }
+        LineFault::BadDec { field, places } => {
+            Ok(format!(in alloc; "field {field} is not a decimal of {places} places")?)
         }
     }
 }

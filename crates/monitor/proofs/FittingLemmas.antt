@@ -13,7 +13,8 @@ use Rattle.stream_schema.specs.Streams.{Entry, number_of}
 use Rattle.event_csv.specs.declared.event.Seen.{Seen}
 use Rattle.event_csv.specs.declared.fault.LineFault.{LineFault}
 use Rattle.event_csv.specs.declared.fault.LineFault.TheVariants as fault
-use Rattle.event_csv.specs.Event.{Span, event, value_of, value_before, values_of, event_with, event_of, span_of, counted_event, if_declared, declared_stream, known_event, record_event}
+use Rattle.event_csv.specs.Decimals.{units_of}
+use Rattle.event_csv.specs.Event.{Span, event, no_value, value_of, value_before, values_of, event_with, event_of, span_of, counted_event, if_declared, declared_stream, known_event, record_event}
 use Rattle.event_csv.specs.Fields.{line_fields}
 use Rattle.event_csv.specs.Lines.{is_long}
 use Rattle.event_csv.specs.Numbers.{int_of}
@@ -26,13 +27,18 @@ value_is kind.Int field v e = by_number (int_of field) e
     by_number : (o : Option ℤ) → option_map value.Int o ≡ Some v → IsOf kind.Int v
     by_number None e = cc
     by_number (Some n) e = let same : value.Int n ≡ v = cc in subst (IsOf kind.Int) same refl
+value_is (kind.Dec places) field v e = by_units (units_of places field) e
+  where
+    by_units : (o : Option ℤ) → option_map (value.Dec places) o ≡ Some v → IsOf (kind.Dec places) v
+    by_units None e = cc
+    by_units (Some n) e = let same : value.Dec places n ≡ v = cc in subst (IsOf (kind.Dec places)) same refl
 value_is kind.Text field v e = let same : value.Text field ≡ v = cc in subst (IsOf kind.Text) same refl
 
-one_more : (number : ℕ) (k : Kind) (kinds : List Kind) (o : Option Value) (more : Result (List Value) LineFault) (vals : List Value)
-    → ((v : Value) → o ≡ Some v → IsOf k v) → ((rest : List Value) → more ≡ Ok rest → AreOf kinds rest) → value_before number o more ≡ Ok vals → AreOf (k ∷ kinds) vals
-one_more number k kinds None more vals is ih e = cc
-one_more number k kinds (Some v) (Err why) vals is ih e = cc
-one_more number k kinds (Some v) (Ok rest) vals is ih e =
+one_more : (none : LineFault) (k : Kind) (kinds : List Kind) (o : Option Value) (more : Result (List Value) LineFault) (vals : List Value)
+    → ((v : Value) → o ≡ Some v → IsOf k v) → ((rest : List Value) → more ≡ Ok rest → AreOf kinds rest) → value_before none o more ≡ Ok vals → AreOf (k ∷ kinds) vals
+one_more none k kinds None more vals is ih e = cc
+one_more none k kinds (Some v) (Err why) vals is ih e = cc
+one_more none k kinds (Some v) (Ok rest) vals is ih e =
     let whole : v ∷ rest ≡ vals = cc in subst (AreOf (k ∷ kinds)) whole (is v refl, ih rest refl)
 
 -- the values of as many fields as there are kinds are of these kinds, by induction on the kinds
@@ -41,7 +47,7 @@ values_are number [] fields vals same e = let v : [] ≡ vals = cc in subst (Are
 values_are number (k ∷ kinds) [] vals same e = absurd (omega (arith, same))
 values_are number (k ∷ kinds) (field ∷ fields) vals same e =
     let left : length fields ≡ length kinds = omega (arith, same) in
-    one_more number k kinds (value_of k field) (values_of (number + 1) kinds fields) vals (value_is k field) (λ rest m. values_are (number + 1) kinds fields rest left m) e
+    one_more (no_value k number) k kinds (value_of k field) (values_of (number + 1) kinds fields) vals (value_is k field) (λ rest m. values_are (number + 1) kinds fields rest left m) e
 
 seen_in : Result Seen LineFault → Seen → Seen
 seen_in (Ok seen) other = seen

@@ -6,32 +6,13 @@ use Rattle.std.specs.declared.cmp.Ordering.TheVariants.{Less, Equal, Greater}
 use Rattle.std.specs.Ordering.{is_eq, nat_cmp}
 use Rattle.std.specs.BTreeMap.{is_at}
 use Rattle.std.proofs.lemmas.Map.Lookups.{exact_unsigned}
-use Rattle.std.proofs.lemmas.Slice.Eq.{bytes_eq-Decides}
-use Rattle.std.proofs.lemmas.Bool.Decides.{Decides-int_eq}
 use Rattle.event_types.specs.declared.value.Value.{Value}
-use Rattle.event_types.specs.declared.value.Value.TheVariants.{Int, Over, Text}
-use Rattle.event_types.specs.Order.{value_cmp}
-use Rattle.event_types.specs.OrderLaws.{value_exact}
+use Rattle.event_types.specs.OrderLaws.{tied_values, value_exact}
 use Rattle.static_index.specs.Buckets.{equals, ordered}
 
 -- literals that the program counts as one are one
 pub equals_exact : (x y : Value) → equals x y ≡ true → x ≡ y
-equals_exact (Int x) (Int y) e = ap Int ((Decides-int_eq x y).0 e)
-equals_exact Over Over e = refl
-equals_exact (Text x) (Text y) e = ap Text ((bytes_eq-Decides x y).0 e)
-equals_exact x y e = absurd (cc)
-
--- the program's order is that of the definitions
-pub ordered_is : (x y : Value) → ordered x y ≡ value_cmp x y
-ordered_is (Int x) (Int y) = refl
-ordered_is (Int x) Over = refl
-ordered_is (Int x) (Text y) = refl
-ordered_is Over (Int y) = refl
-ordered_is Over Over = refl
-ordered_is Over (Text y) = refl
-ordered_is (Text x) (Int y) = refl
-ordered_is (Text x) Over = refl
-ordered_is (Text x) (Text y) = refl
+equals_exact x y e = tied_values x y e
 
 pub tie : (o : Ordering) → is_eq o ≡ true → o ≡ Equal
 tie Less e = absurd (cc)
@@ -42,7 +23,7 @@ pub nat_exact : (x y : ℕ) → is_at (nat_cmp x) y ≡ true → x ≡ y
 nat_exact x y e = exact_unsigned x y (tie (nat_cmp x y) e)
 
 pub ordered_exact : (x y : Value) → is_at (ordered x) y ≡ true → x ≡ y
-ordered_exact x y e = value_exact x y (sym (ordered_is x y) ∙ tie (ordered x y) e)
+ordered_exact x y e = value_exact x y (tie (ordered x y) e)
 
 module _ {K X : Type 0} (same : K → K → Bool) (exact : (x y : K) → same x y ≡ true → x ≡ y) (read : Option X → List ℕ) where
   -- an id stays where the entry that changes keeps it

@@ -1,5 +1,5 @@
 -- Ids in columns.
-use Rattle.std.proofs.Common.{◌≡◌, ap, refl, sym, subst, ℕ, true, List, ◌++◌, Contains}
+use Rattle.std.proofs.Common.{◌≡◌, ◌==◌, ap, refl, sym, subst, eqb-true, cond, ℕ, Bool, true, false, List, ◌++◌, Contains}
 use Rattle.std.specs.Prelude.{Option, Some, None}
 use Rattle.std.specs.declared.cmp.Ordering.{Ordering}
 use Rattle.std.specs.declared.cmp.Ordering.TheVariants.{Less, Equal, Greater}
@@ -10,7 +10,7 @@ use Rattle.std.proofs.lemmas.Map.Lookups.{exact_signed, exact_bytes}
 use Rattle.event_types.specs.declared.comparison.Cmp.{Cmp}
 use Rattle.event_types.specs.declared.comparison.Cmp.TheVariants as cmp
 use Rattle.event_types.specs.declared.value.Value.{Value}
-use Rattle.event_types.specs.declared.value.Value.TheVariants.{Int, Text}
+use Rattle.event_types.specs.declared.value.Value.TheVariants.{Int, Text, Dec}
 use Rattle.semantics.specs.Truth.{is_met, order_of}
 use Rattle.static_index.specs.Buckets.{hashed_ids, ordered_ids}
 use Rattle.static_index.specs.Columns.{ids_compared, ids_under}
@@ -42,6 +42,11 @@ column_kept old new n equal above below others spans (Part part) has = go part.c
 met_equal : (v l : Value) → is_met cmp.Eq (order_of v l) ≡ true → v ≡ l
 met_equal (Int x) (Int y) e = ap Int (exact_signed x y (tie (int_cmp x y) e))
 met_equal (Text x) (Text y) e = ap Text (exact_bytes x y (tie (slice_cmp nat_cmp x y) e))
+met_equal (Dec s x) (Dec t y) e = one_scale (s == t) refl e
+  where
+    one_scale : (b : Bool) → (s == t) ≡ b → is_met cmp.Eq (cond b (Some (int_cmp x y)) None) ≡ true → Dec s x ≡ Dec t y
+    one_scale true is e = λ i. Dec (eqb-true s t is i) (exact_signed x y (tie (int_cmp x y) e) i)
+    one_scale false is e = absurd (cc)
 met_equal v l e = absurd (cc)
 
 -- what is above is not below, and what is below is not above

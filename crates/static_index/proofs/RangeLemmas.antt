@@ -1,17 +1,17 @@
 -- Buckets between two bounds.
-use Rattle.std.proofs.Common.{◌≡◌, ◌∙◌, ap, refl, sym, subst, ℕ, ℤ, pos, ◌-ℤ◌, ◌≤ℤ◌, ◌<ℤ◌, Bool, true, false, not, ◌&&◌, cond, ◌⊎◌, inl, inr, List, [], ◌∷◌, ◌++◌, Contains, arith}
-use Rattle.std.specs.Prelude.{Some}
+use Rattle.std.proofs.Common.{◌≡◌, ◌∙◌, ap, refl, sym, subst, ℕ, ℤ, pos, ◌-ℤ◌, ◌≤ℤ◌, ◌<ℤ◌, Bool, true, false, not, ◌&&◌, ◌==◌, cond, inl, inr, eqb-true, List, [], ◌∷◌, ◌++◌, Contains, arith}
+use Rattle.std.specs.Prelude.{Option, Some, None}
 use Rattle.std.specs.declared.cmp.Ordering.{Ordering}
 use Rattle.std.specs.declared.cmp.Ordering.TheVariants.{Less, Equal, Greater}
 use Rattle.std.specs.declared.ops.Bound.{Bound}
-use Rattle.std.specs.declared.ops.Bound.TheVariants.{Included, Excluded, Unbounded}
-use Rattle.std.specs.Ordering.{MatchOrdering, int_cmp, nat_cmp, is_ge, is_le, is_lt}
-use Rattle.std.specs.Cmp.{int_ranks}
-use Rattle.std.specs.Cmp.Lexicographic.{slice_cmp}
+use Rattle.std.specs.declared.ops.Bound.TheVariants.{Included, Unbounded}
+use Rattle.std.specs.Ordering.{MatchOrdering, int_cmp, nat_cmp, ordering_then, is_ge, is_le, is_lt}
+use Rattle.std.specs.Cmp.{int_ranks, tied_itself}
 use Rattle.std.specs.BTreeMap.{is_at}
 use Rattle.std.specs.BTreeMap.Range.{range_contains, entries_between}
 use Rattle.std.specs.List.{flat_map}
 use Rattle.std.specs.Map.{lookup}
+use Rattle.std.proofs.lemmas.Cmp.{nat_cmp_total}
 use Rattle.std.proofs.lemmas.Int.{ints}
 use Rattle.std.proofs.lemmas.List.Elements.{Contains-append_cases, Contains-append_left, Contains-append_right}
 use Rattle.event_types.specs.declared.comparison.Cmp.{Cmp}
@@ -19,131 +19,101 @@ use Rattle.event_types.specs.declared.comparison.Cmp.TheVariants.{Ge, Le}
 use Rattle.event_types.specs.declared.value.Value.{Value}
 use Rattle.event_types.specs.declared.value.Value.TheVariants as value
 use Rattle.semantics.specs.Truth.{is_met, order_of}
-use Rattle.static_index.specs.Buckets.{IsAmongMet, ids_in, ordered}
+use Rattle.static_index.specs.Buckets.{IsAmongMet, ids_if_met, ids_in, ordered}
 use Rattle.static_index.specs.Spans.{IsNear}
 use Rattle.static_index.proofs.BucketLemmas.{ordered_exact}
 use Rattle.static_index.proofs.IdLemmas.{none_of_nil}
 
--- an id in the bucket of a literal between the bounds is among theirs, by induction on the buckets
-module _ (low high : Bound Value) (lit : Value) (n : ℕ) where
-  pub between : (es : List (Value × List ℕ)) → range_contains ordered low high lit ≡ true → Contains (ids_in (lookup (is_at (ordered lit)) es)) n → Contains (flat_map (λ e. e.1) (entries_between ordered low high es)) n
-  between [] within has = absurd (none_of_nil n has)
-  between (e ∷ es) within has = go (is_at (ordered lit) e.0) refl has (between es within)
+-- an id in the bucket of a literal between the bounds is among theirs, where what is taken of a bucket of this literal has it: by induction on the buckets
+module _ (low high : Bound Value) (taken : Value × List ℕ → List ℕ) (lit : Value) (n : ℕ) (keeps : (ids : List ℕ) → Contains ids n → Contains (taken (lit, ids)) n) where
+  pub taken_between : (es : List (Value × List ℕ)) → range_contains ordered low high lit ≡ true → Contains (ids_in (lookup (is_at (ordered lit)) es)) n → Contains (flat_map taken (entries_between ordered low high es)) n
+  taken_between [] within has = absurd (none_of_nil n has)
+  taken_between (e ∷ es) within has = go (is_at (ordered lit) e.0) refl has (taken_between es within)
     where
-      kept : (b : Bool) → Contains (flat_map (λ e. e.1) (entries_between ordered low high es)) n → Contains (flat_map (λ e. e.1) (cond b (e ∷ entries_between ordered low high es) (entries_between ordered low high es))) n
-      kept true there = Contains-append_right e.1 _ n there
+      kept : (b : Bool) → Contains (flat_map taken (entries_between ordered low high es)) n → Contains (flat_map taken (cond b (e ∷ entries_between ordered low high es) (entries_between ordered low high es))) n
+      kept true there = Contains-append_right (taken e) _ n there
       kept false there = there
 
       go : (b : Bool) → is_at (ordered lit) e.0 ≡ b → Contains (ids_in (cond b (Some e.1) (lookup (is_at (ordered lit)) es))) n
-          → (Contains (ids_in (lookup (is_at (ordered lit)) es)) n → Contains (flat_map (λ e. e.1) (entries_between ordered low high es)) n)
-          → Contains (flat_map (λ e. e.1) (cond (range_contains ordered low high e.0) (e ∷ entries_between ordered low high es) (entries_between ordered low high es))) n
+          → (Contains (ids_in (lookup (is_at (ordered lit)) es)) n → Contains (flat_map taken (entries_between ordered low high es)) n)
+          → Contains (flat_map taken (cond (range_contains ordered low high e.0) (e ∷ entries_between ordered low high es) (entries_between ordered low high es))) n
       go true is there rest =
-          let here : range_contains ordered low high e.0 ≡ true = ap (range_contains ordered low high) (sym (ordered_exact lit e.0 is)) ∙ within in
-          subst (λ (b : Bool). Contains (flat_map (λ e. e.1) (cond b (e ∷ entries_between ordered low high es) (entries_between ordered low high es))) n) (sym here)
-          (Contains-append_left e.1 (flat_map (λ e. e.1) (entries_between ordered low high es)) n there)
+          let same = ordered_exact lit e.0 is in
+          let here : range_contains ordered low high e.0 ≡ true = ap (range_contains ordered low high) (sym same) ∙ within in
+          subst (λ (b : Bool). Contains (flat_map taken (cond b (e ∷ entries_between ordered low high es) (entries_between ordered low high es))) n) (sym here)
+          (Contains-append_left (taken e) (flat_map taken (entries_between ordered low high es)) n (subst (λ (k : Value). Contains (taken (k, e.1)) n) same (keeps e.1 there)))
       go false is there rest = kept (range_contains ordered low high e.0) (rest there)
 
--- an id among those of the buckets between the bounds is in one of them, by induction on the buckets
-module _ (low high : Bound Value) (n : ℕ) where
-  abbrev pub IsOfOne : List (Value × List ℕ) → Type 0
-  IsOfOne es = (bucket : Value × List ℕ) × Contains es bucket × (range_contains ordered low high bucket.0 ≡ true) × Contains bucket.1 n
+-- where all of each bucket is taken
+pub between : (low high : Bound Value) (lit : Value) (n : ℕ) (es : List (Value × List ℕ)) → range_contains ordered low high lit ≡ true → Contains (ids_in (lookup (is_at (ordered lit)) es)) n → Contains (flat_map (λ e. e.1) (entries_between ordered low high es)) n
+between low high lit n es within has = taken_between low high (λ e. e.1) lit n (λ ids there. there) es within has
 
-  pub of_between : (es : List (Value × List ℕ)) → Contains (flat_map (λ e. e.1) (entries_between ordered low high es)) n → IsOfOne es
-  of_between [] has = absurd (none_of_nil n has)
-  of_between (e ∷ es) has = go (range_contains ordered low high e.0) refl has (of_between es)
+module _ (low high : Bound Value) (c : Cmp) (value : Value) (n : ℕ) where
+  -- where the buckets of the literals that are met are taken
+  pub met_between : (lit : Value) (es : List (Value × List ℕ)) → range_contains ordered low high lit ≡ true → is_met c (order_of value lit) ≡ true → Contains (ids_in (lookup (is_at (ordered lit)) es)) n
+      → Contains (flat_map (ids_if_met c value) (entries_between ordered low high es)) n
+  met_between lit es within met has =
+      taken_between low high (ids_if_met c value) lit n (λ ids there. subst (λ (b : Bool). Contains (cond b ids []) n) (sym met) there) es within has
+
+  -- an id that is taken is in the bucket of a literal that is met, by induction on the buckets
+  pub of_met : (es : List (Value × List ℕ)) → Contains (flat_map (ids_if_met c value) (entries_between ordered low high es)) n → IsAmongMet c value es n
+  of_met [] has = absurd (none_of_nil n has)
+  of_met (e ∷ es) has = go (range_contains ordered low high e.0) has (of_met es)
     where
-      later : IsOfOne es → IsOfOne (e ∷ es)
+      later : IsAmongMet c value es n → IsAmongMet c value (e ∷ es) n
       later one = (one.0, Contains-append_right (e ∷ []) es one.0 one.1, one.2, one.3)
 
-      here : range_contains ordered low high e.0 ≡ true → Contains e.1 n → IsOfOne (e ∷ es)
-      here within has = (e, (0, omega arith, refl), within, has)
+      here : (b : Bool) → is_met c (order_of value e.0) ≡ b → Contains (cond b e.1 []) n → IsAmongMet c value (e ∷ es) n
+      here true met has = (e, (0, omega arith, refl), met, has)
+      here false met has = absurd (none_of_nil n has)
 
-      go : (b : Bool) → range_contains ordered low high e.0 ≡ b → Contains (flat_map (λ e. e.1) (cond b (e ∷ entries_between ordered low high es) (entries_between ordered low high es))) n
-          → (Contains (flat_map (λ e. e.1) (entries_between ordered low high es)) n → IsOfOne es) → IsOfOne (e ∷ es)
-      go true is has rest =
-          elim (Contains-append_cases e.1 (flat_map (λ e. e.1) (entries_between ordered low high es)) n has) [
-            | inl first ↦ here is first
+      go : (b : Bool) → Contains (flat_map (ids_if_met c value) (cond b (e ∷ entries_between ordered low high es) (entries_between ordered low high es))) n
+          → (Contains (flat_map (ids_if_met c value) (entries_between ordered low high es)) n → IsAmongMet c value es n) → IsAmongMet c value (e ∷ es) n
+      go true has rest =
+          elim (Contains-append_cases (ids_if_met c value e) (flat_map (ids_if_met c value) (entries_between ordered low high es)) n has) [
+            | inl first ↦ here (is_met c (order_of value e.0)) refl first
             | inr others ↦ later (rest others)
           ]
-      go false is has rest = later (rest has)
-
-  -- where what lies between the bounds is met, so is what is found among it
-  pub only_met : (c : Cmp) (value : Value) → ((lit : Value) → range_contains ordered low high lit ≡ true → is_met c (order_of value lit) ≡ true) → (es : List (Value × List ℕ)) (old : List ℕ)
-      → Contains (old ++ flat_map (λ e. e.1) (entries_between ordered low high es)) n → Contains old n ⊎ IsAmongMet c value es n
-  only_met c value met es old has =
-      elim (Contains-append_cases old (flat_map (λ e. e.1) (entries_between ordered low high es)) n has) [
-        | inl before ↦ inl before
-        | inr among ↦ let one = of_between es among in inr (one.0, one.1, met one.0.0 one.2, one.3)
-      ]
-
-not_below : (o : Ordering) → not (is_lt o) ≡ true → is_ge o ≡ true
-not_below Less e = absurd (cc)
-not_below Equal e = refl
-not_below Greater e = refl
-
-first_of : (b c : Bool) → (b && c) ≡ true → b ≡ true
-first_of true c e = refl
-first_of false c e = absurd (cc)
-
--- literals up to a number, or a text, are reached from above
-pub number_up_to : (x : ℤ) (lit : Value) → range_contains ordered Unbounded (Included (value.Int x)) lit ≡ true → is_met Ge (order_of (value.Int x) lit) ≡ true
-number_up_to x (value.Int y) e = not_below (int_cmp x y) e
-number_up_to x value.Over e = absurd (cc)
-number_up_to x (value.Text y) e = absurd (cc)
-
-pub text_up_to : (x : List ℕ) (lit : Value) → range_contains ordered (Excluded value.Over) (Included (value.Text x)) lit ≡ true → is_met Ge (order_of (value.Text x) lit) ≡ true
-text_up_to x (value.Int y) e = absurd (cc)
-text_up_to x value.Over e = absurd (cc)
-text_up_to x (value.Text y) e = not_below (slice_cmp nat_cmp x y) e
-
--- literals from a number, or a text, on are reached from below
-pub number_from : (x : ℤ) (lit : Value) → range_contains ordered (Included (value.Int x)) (Excluded value.Over) lit ≡ true → is_met Le (order_of (value.Int x) lit) ≡ true
-number_from x (value.Int y) e = first_of (is_le (int_cmp x y)) true e
-number_from x value.Over e = absurd (cc)
-number_from x (value.Text y) e = absurd (cc)
-
-pub text_from : (x : List ℕ) (lit : Value) → range_contains ordered (Included (value.Text x)) Unbounded lit ≡ true → is_met Le (order_of (value.Text x) lit) ≡ true
-text_from x (value.Int y) e = absurd (cc)
-text_from x value.Over e = absurd (cc)
-text_from x (value.Text y) e = first_of (is_le (slice_cmp nat_cmp x y)) true e
-
-at_least : (o : Ordering) → is_ge o ≡ true → not (is_lt o) ≡ true
-at_least Less e = absurd (cc)
-at_least Equal e = refl
-at_least Greater e = refl
+      go false has rest = later (rest has)
 
 both : (b c : Bool) → b ≡ true → c ≡ true → (b && c) ≡ true
 both true true e f = refl
 both true false e f = f
 both false c e f = e
 
--- literals that a number, or a text, reaches from above lie up to it
-pub up_to_number : (x : ℤ) (lit : Value) → is_met Ge (order_of (value.Int x) lit) ≡ true → range_contains ordered Unbounded (Included (value.Int x)) lit ≡ true
-up_to_number x (value.Int y) e = at_least (int_cmp x y) e
-up_to_number x value.Over e = absurd (cc)
-up_to_number x (value.Text y) e = absurd (cc)
+-- values that compare are ordered so
+met_is_ordered : (v w : Value) (o : Ordering) → order_of v w ≡ Some o → ordered v w ≡ o
+met_is_ordered (value.Int x) (value.Int y) o e = cc
+met_is_ordered (value.Text x) (value.Text y) o e = cc
+met_is_ordered (value.Dec s x) (value.Dec t y) o e = one_scale (s == t) refl e
+  where
+    one_scale : (b : Bool) → (s == t) ≡ b → cond b (Some (int_cmp x y)) None ≡ Some o → ordering_then (nat_cmp s t) (int_cmp x y) ≡ o
+    one_scale true is e =
+        let tie : nat_cmp s t ≡ Equal = ap (nat_cmp s) (sym (eqb-true s t is)) ∙ tied_itself nat_cmp_total s in
+        let same : int_cmp x y ≡ o = cc in ap (λ p. ordering_then p (int_cmp x y)) tie ∙ same
+    one_scale false is e = cc
+met_is_ordered v w o e = cc
 
-pub up_to_text : (x : List ℕ) (lit : Value) → is_met Ge (order_of (value.Text x) lit) ≡ true → range_contains ordered (Excluded value.Over) (Included (value.Text x)) lit ≡ true
-up_to_text x (value.Int y) e = absurd (cc)
-up_to_text x value.Over e = absurd (cc)
-up_to_text x (value.Text y) e = at_least (slice_cmp nat_cmp x y) e
+-- literals that a value reaches from above lie up to it
+pub reached_from_above : (v lit : Value) → is_met Ge (order_of v lit) ≡ true → range_contains ordered Unbounded (Included v) lit ≡ true
+reached_from_above v lit e = by (order_of v lit) refl e
+  where
+    at_least : (o : Ordering) → is_ge o ≡ true → not (is_lt o) ≡ true
+    at_least Less e = absurd (cc)
+    at_least Equal e = refl
+    at_least Greater e = refl
 
--- literals that a number, or a text, reaches from below lie from it on
-pub from_number : (x : ℤ) (lit : Value) → is_met Le (order_of (value.Int x) lit) ≡ true → range_contains ordered (Included (value.Int x)) (Excluded value.Over) lit ≡ true
-from_number x (value.Int y) e = both (is_le (int_cmp x y)) true e refl
-from_number x value.Over e = absurd (cc)
-from_number x (value.Text y) e = absurd (cc)
+    by : (o : Option Ordering) → order_of v lit ≡ o → is_met Ge o ≡ true → not (is_lt (ordered v lit)) ≡ true
+    by None is e = absurd (cc)
+    by (Some o) is e = ap (λ p. not (is_lt p)) (met_is_ordered v lit o is) ∙ at_least o e
 
-pub from_text : (x : List ℕ) (lit : Value) → is_met Le (order_of (value.Text x) lit) ≡ true → range_contains ordered (Included (value.Text x)) Unbounded lit ≡ true
-from_text x (value.Int y) e = absurd (cc)
-from_text x value.Over e = absurd (cc)
-from_text x (value.Text y) e = both (is_le (slice_cmp nat_cmp x y)) true e refl
-
--- OVER reaches none
-pub over_reaches : (c : Cmp) (lit : Value) → is_met c (order_of value.Over lit) ≡ true → ⊥
-over_reaches c (value.Int y) e = cc
-over_reaches c value.Over e = cc
-over_reaches c (value.Text y) e = cc
+-- literals that a value reaches from below lie from it on
+pub reached_from_below : (v lit : Value) → is_met Le (order_of v lit) ≡ true → range_contains ordered (Included v) Unbounded lit ≡ true
+reached_from_below v lit e = by (order_of v lit) refl e
+  where
+    by : (o : Option Ordering) → order_of v lit ≡ o → is_met Le o ≡ true → (is_le (ordered v lit) && true) ≡ true
+    by None is e = absurd (cc)
+    by (Some o) is e = both (is_le (ordered v lit)) true (ap is_le (met_is_ordered v lit o is) ∙ e) refl
 
 -- the order of numbers, as the tests have it
 le_tested : (x y : ℤ) → x ≤ℤ y → is_le (int_cmp x y) ≡ true

@@ -54,8 +54,7 @@ none_low lows low n empty has = go lows.entries empty has
 -- a value that is at most a number is at most a greater one
 up_to_more : (high more : ℤ) (v : Value) → high ≤ℤ more → IsUpTo high v → IsUpTo more v
 up_to_more high more (Int x) le is = omega (arith, ints, le, is)
-up_to_more high more Over le is = is
-up_to_more high more (Text text) le is = is
+up_to_more high more v le is = is
 
 -- a value between two ends lies in their span
 pub lies_between : (low high : ℤ) (reach : ℕ) (event : Row) (attr other : ℕ) → attr ≡ other → high ≤ℤ (low +ℤ pos reach) → IsFrom low (value_at event attr) → IsUpTo high (value_at event other) → LiesIn (record { attr = attr; low = low; reach = reach }) (value_at event attr)

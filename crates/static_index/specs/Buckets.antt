@@ -1,6 +1,7 @@
 -- Ids in buckets by a literal. No public clause cites it.
-use Rattle.std.specs.Prelude.{◌≡◌, ◌≢◌, ◌⊎◌, ℕ, Bool, true, List, [], Option, Contains}
+use Rattle.std.specs.Prelude.{◌≡◌, ◌≢◌, ◌⊎◌, ℕ, Bool, true, List, [], Option, Contains, if◌then◌else◌}
 use Rattle.std.specs.declared.cmp.Ordering.{Ordering}
+use Rattle.std.specs.Ordering.{eq_by_cmp}
 use Rattle.std.specs.BTreeMap as tree
 use Rattle.std.specs.HashMap as hash
 use Rattle.std.specs.BTreeMap.{BTreeMap}
@@ -13,9 +14,8 @@ use Rattle.std.specs.BTreeMap.Range.{entries_between}
 use Rattle.std.specs.declared.ops.Bound.{Bound}
 use Rattle.event_types.specs.declared.comparison.Cmp.{Cmp}
 use Rattle.event_types.specs.declared.value.Value.{Value}
+use Rattle.event_types.specs.Order.{value_cmp}
 use Rattle.semantics.specs.Truth.{is_met, order_of}
-use Rattle.event_types.specs.contracts.value.ValuePartialEq.TheImpl.{eq-value}
-use Rattle.event_types.specs.contracts.value.ValueOrd.TheImpl.{cmp-value}
 
 -- each id of the one list is in the other
 abbrev pub KeepsIds : List ℕ → List ℕ → Type 0
@@ -27,11 +27,11 @@ KeepsOtherIds id old new = (n : ℕ) → n ≢ id → Contains old n → Contain
 
 -- whether two literals are one, as the program tests it
 abbrev pub equals : Value → Value → Bool
-equals = eq-value.it
+equals = eq_by_cmp value_cmp
 
 -- the order of two literals, as the program tests it
 abbrev pub ordered : Value → Value → Ordering
-ordered = cmp-value.it
+ordered = value_cmp
 
 -- the ids in the bucket of a literal, if it has one
 abbrev pub ids_in : Option (List ℕ) → List ℕ
@@ -64,3 +64,11 @@ bound_seen bound = bound_map (λ x. x.now) bound
 -- the ids of the literals between two bounds, by ascending literals
 abbrev pub ids_between : Bound Value → Bound Value → BTreeMap Value (List ℕ) → List ℕ
 ids_between low high buckets = flat_map (λ e. e.1) (entries_between ordered low high buckets.entries)
+
+-- the ids of a literal with which a value meets a comparison, and none of any other
+abbrev pub ids_if_met : Cmp → Value → Value × List ℕ → List ℕ
+ids_if_met cmp value bucket = if is_met cmp (order_of value bucket.0) then bucket.1 else []
+
+-- the ids of such literals between two bounds, by ascending literals
+abbrev pub met_ids_between : Cmp → Value → Bound Value → Bound Value → BTreeMap Value (List ℕ) → List ℕ
+met_ids_between cmp value low high buckets = flat_map (ids_if_met cmp value) (entries_between ordered low high buckets.entries)

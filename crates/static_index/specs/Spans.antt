@@ -3,21 +3,19 @@ use Rattle.std.specs.Prelude.{ℕ, ℤ, pos, ◌+ℤ◌, ◌≤ℤ◌, List, [],
 use Rattle.std.specs.BTreeMap.{BTreeMap, get}
 use Rattle.std.specs.Ordering.{nat_cmp}
 use Rattle.event_types.specs.declared.value.Value.{Value}
-use Rattle.event_types.specs.declared.value.Value.TheVariants.{Int, Over, Text}
+use Rattle.event_types.specs.declared.value.Value.TheVariants.{Int}
 use Rattle.static_index.specs.Buckets.{ordered_ids}
 use Rattle.static_index.specs.declared.span.Span.{Span}
 
--- a value is a number, and no less than another
+-- a value is a whole number, and no less than another
 abbrev pub IsFrom : ℤ → Value → Type 0
 IsFrom low (Int x) = low ≤ℤ x
-IsFrom low Over = ⊥
-IsFrom low (Text text) = ⊥
+IsFrom low value = ⊥
 
--- a value is a number, and at most another
+-- a value is a whole number, and at most another
 abbrev pub IsUpTo : ℤ → Value → Type 0
 IsUpTo high (Int x) = x ≤ℤ high
-IsUpTo high Over = ⊥
-IsUpTo high (Text text) = ⊥
+IsUpTo high value = ⊥
 
 -- a value is a number from a low end on, and at most a reach above it
 abbrev pub IsNear : ℤ → ℕ → Value → Type 0

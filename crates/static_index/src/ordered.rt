@@ -3,12 +3,13 @@ ghost use Rattle.std.specs.Prelude.{◌≡◌, ◌++◌, pos, ◌-ℤ◌, Contai
 ghost use Rattle.event_types.specs.declared.value.Value.{Value};
 ghost use Rattle.std.specs.BTreeMap.Range.{IsLeBy, IsLtBy};
 ghost use Rattle.std.specs.Bound.{IsForward};
-ghost use Rattle.static_index.specs.Buckets.{FindsMet, FindsOnlyMet, KeepsIds, KeepsOtherIds, bound_seen, ids_between, ordered, ordered_ids};
+ghost use Rattle.static_index.specs.Buckets.{FindsMet, FindsOnlyMet, KeepsIds, KeepsOtherIds, bound_seen, ids_between, met_ids_between, ordered, ordered_ids};
 ghost use Rattle.static_index.specs.Spans.{FindsNear};
 ghost use Rattle.event_types.specs.declared.comparison.Cmp.TheVariants.{Ge, Le};
 
 use crate::appending::{append, put, take_out};
-use event_types::{Copied, List, Memory, Numbers, Value};
+use event_types::{Cmp, Copied, List, Memory, Numbers, Value};
+use scalar_expr::compares;
 use std::alloc::Global;
 use std::collections::BTreeMap;
 use std::ops::Bound;
@@ -59,17 +60,14 @@ pub(crate) fn collect_up_to(
     ensures found { OnOk result (FindsMet Ge value.now buckets.now found.new) }
     ensures only { OnOk result (FindsOnlyMet Ge value.now buckets.now found.old found.new) }
 {
-    let over = Value::Over;
-    match value {
-        Value::Int(_) => collect_range(buckets, Bound::Unbounded, Bound::Included(value), found),
-        Value::Over => Ok(()),
-        Value::Text(_) => collect_range(
-            buckets,
-            Bound::Excluded(&over),
-            Bound::Included(value),
-            found,
-        ),
-    }
+    collect_met(
+        buckets,
+        Bound::Unbounded,
+        Bound::Included(value),
+        Cmp::Ge,
+        value,
+        found,
+    )
 }
 
 // Puts the ids of the literals from a value on and of its kind behind those that are there.
@@ -82,17 +80,35 @@ pub(crate) fn collect_from(
     ensures found { OnOk result (FindsMet Le value.now buckets.now found.new) }
     ensures only { OnOk result (FindsOnlyMet Le value.now buckets.now found.old found.new) }
 {
-    let over = Value::Over;
-    match value {
-        Value::Int(_) => collect_range(
-            buckets,
-            Bound::Included(value),
-            Bound::Excluded(&over),
-            found,
-        ),
-        Value::Over => Ok(()),
-        Value::Text(_) => collect_range(buckets, Bound::Included(value), Bound::Unbounded, found),
+    collect_met(
+        buckets,
+        Bound::Included(value),
+        Bound::Unbounded,
+        Cmp::Le,
+        value,
+        found,
+    )
+}
+
+// Puts the ids of the literals between two bounds with which a value meets a comparison behind those that are there. An
+// attribute has one kind, so that hardly any other literal is looked at.
+fn collect_met(
+    buckets: &Ordered,
+    low: Bound<&Value>,
+    high: Bound<&Value>,
+    cmp: Cmp,
+    value: &Value,
+    found: &mut Numbers,
+) -> Result<(), Memory>
+    requires { IsForward (IsLeBy ordered) (IsLtBy ordered) (bound_seen low) (bound_seen high) }
+    ensures { OnOk result (found.new ≡ found.old ++ met_ids_between cmp value.now (bound_seen low.entry) (bound_seen high.entry) buckets.now) }
+{
+    'buckets: for (lit, ids) in buckets.range((low, high)) {
+        if compares(cmp, value.look(), lit.look()) {
+            append(found, ids)?;
+        }
     }
+    Ok(())
 }
 
 // Puts the ids of the numbers from a reach below a number up to it behind those that are there.
