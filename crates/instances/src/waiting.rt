@@ -5,7 +5,7 @@ ghost use Rattle.semantics.specs.Scalars.{Pr};
 ghost use Rattle.scalar_expr.specs.Fits.{AllFit};
 ghost use Rattle.instances.specs.declared.instance.Instance.{Instance};
 ghost use Rattle.instances.specs.Bounds.{alive_instances};
-ghost use Rattle.instances.specs.Keys.{BindingFits, EventFits, IsReady, KeepsUsedKeys, Key, candidates_of, unmatched};
+ghost use Rattle.instances.specs.Keys.{BindingFits, EventFits, HasKey, IsReady, KeepsUsedKeys, Key, candidates_of, unmatched};
 
 use crate::instance::{Instance, Instances};
 use cay_host::{Ledger, Steps};
