@@ -16,7 +16,7 @@ returns-in-Some-clause-fault c =
     let name = c.name-item.result in
     let same : c.as_str.result.now ≡ get_or names place name = c.as_str.ensures ∙ c.name-item.is in
     sym (read_fault-at all names place name c.in-Some.fault c.loop-name-test.true c.loop-name.invariant.none
-        (ap (λ n. read_fault all (n ∷ [])) (sym same) ∙ sym c.in_ok-fault.ensures.fault ∙ c.in-Some.is))
+    (ap (λ n. read_fault all (n ∷ [])) (sym same) ∙ sym c.in_ok-fault.ensures.fault ∙ c.in-Some.is))
 
 -- a statement has it, and its number was added if it is a query's
 pub loop-name-preserved : goal.loop-name-preserved
