@@ -69,10 +69,8 @@ fn with_column(mut columns: Attrs, column: Attr) -> Result<Attrs, Unread>
     ensures ok { IfOk result (λ longer. map column_of longer ≡ map column_of columns ++ column_of column ∷ []) }
     ensures memory { IfErr result (λ fault. fault ≡ Unread.Memory) }
 {
-    match columns.push(column) {
-        Ok(()) => Ok(columns),
-        Err(_) => Err(Unread::Memory),
-    }
+    columns.add(column)?;
+    Ok(columns)
 }
 
 // A name and its kind.

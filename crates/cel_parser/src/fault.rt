@@ -1,4 +1,5 @@
 //! Why tokens are no statements.
+use event_types::Memory;
 use thiserror::Error;
 
 /// Why tokens are no statements. A statement is what stands up to a `;`; the first faulty one decides,
@@ -19,4 +20,15 @@ pub enum SyntaxFault {
     /// No memory for the statements.
     #[error("no memory")]
     Memory,
+}
+
+impl From<Memory> for SyntaxFault {
+    ghost use Rattle.std.specs.Prelude.{◌≡◌};
+    ghost use Rattle.cel_parser.specs.declared.fault.SyntaxFault.TheVariants as fault;
+
+    ghost from_gives = { λ _ made. made ≡ fault.Memory };
+
+    fn from(_error: Memory) -> SyntaxFault {
+        SyntaxFault::Memory
+    }
 }

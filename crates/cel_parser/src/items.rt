@@ -70,10 +70,8 @@ fn with_item(mut items: Items, item: Item) -> Result<Items, Unread>
     ensures ok { IfOk result (λ longer. map item_of longer ≡ map item_of items ++ item_of item ∷ []) }
     ensures memory { IfErr result (λ fault. fault ≡ Unread.Memory) }
 {
-    match items.push(item) {
-        Ok(()) => Ok(items),
-        Err(_) => Err(Unread::Memory),
-    }
+    items.add(item)?;
+    Ok(items)
 }
 
 // An item at the front.
@@ -169,10 +167,8 @@ fn with_agg(mut aggs: Aggs, agg: Agg) -> Result<Aggs, Unread>
     ensures ok { IfOk result (λ longer. map agg_of longer ≡ map agg_of aggs ++ agg_of agg ∷ []) }
     ensures memory { IfErr result (λ fault. fault ≡ Unread.Memory) }
 {
-    match aggs.push(agg) {
-        Ok(()) => Ok(aggs),
-        Err(_) => Err(Unread::Memory),
-    }
+    aggs.add(agg)?;
+    Ok(aggs)
 }
 
 // An aggregate behind its comma.

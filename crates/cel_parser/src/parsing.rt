@@ -1,5 +1,5 @@
 //! From tokens to a file.
-ghost use Rattle.std.specs.Prelude.{◌≡◌, ◌≢◌, [], ◌∷◌, ◌++◌, IfErr, IfOk, OnOk};
+ghost use Rattle.std.specs.Prelude.{◌≢◌, IfErr, IfOk};
 ghost use Rattle.cel_parser.specs.Faults.{IsRefused};
 ghost use Rattle.cel_parser.specs.Filed.{Reads};
 
@@ -24,19 +24,8 @@ pub fn parse(alloc: Global, tokens: &Tokens<'_>) -> Result<File, SyntaxFault>
         let line = tokens.get(at).line;
         at = cut(tokens, at, number, line, &mut symbols)?;
         let statement = read(alloc, &symbols, number, line)?;
-        put(&mut statements, statement)?;
-        put(&mut lines, line)?;
+        statements.add(statement)?;
+        lines.add(line)?;
     }
     Ok(File::of(statements, lines))
-}
-
-// Puts an item at the end of a list.
-fn put<T: Drop>(list: &mut List<T>, item: T) -> Result<(), SyntaxFault>
-    ensures ok { OnOk result (list.new ≡ list.old ++ item ∷ []) }
-    ensures err { IfErr result (λ fault. fault ≡ SyntaxFault.Memory) }
-{
-    match list.push(item) {
-        Ok(()) => Ok(()),
-        Err(_) => Err(SyntaxFault::Memory),
-    }
 }

@@ -46,9 +46,7 @@ pub(crate) fn cut<'a>(
         if let Symbol::End = symbol {
             return Ok(end);
         }
-        if symbols.push(symbol).is_err() {
-            return Err(SyntaxFault::Memory);
-        }
+        symbols.push(symbol).map_err(|_| SyntaxFault::Memory)?;
     }
     Err(SyntaxFault::BadStatement { number, line })
 }

@@ -21,8 +21,8 @@ loop-at-preserved c =
     let says = rw c.deref.ensures.value at c.in_ok-statement.ensures.ok in
     record {
       within = c.in_ok-at.ensures.within;
-      fewer = omega (arith, ap length c.in_ok-put.ensures.ok, length-append c.loop-at.statements (c.in_ok-statement.statement ∷ []), c.loop-at.invariant.fewer, c.in_ok-at.ensures.further);
-      passed = rw (c.in_ok-put.ensures.ok, c.in_ok-put-2.ensures.ok) (read (left_at c.args.tokens.now 0) _ _ _ c.in_ok-at.ensures.ok c.loop-at.statements c.loop-at.lines c.loop-at.invariant.passed c.in_ok-statement.statement says);
+      fewer = omega (arith, ap length c.in_ok-add.ensures.ok, length-append c.loop-at.statements (c.in_ok-statement.statement ∷ []), c.loop-at.invariant.fewer, c.in_ok-at.ensures.further);
+      passed = rw (c.in_ok-add.ensures.ok, c.in_ok-add-2.ensures.ok) (read (left_at c.args.tokens.now 0) _ _ _ c.in_ok-at.ensures.ok c.loop-at.statements c.loop-at.lines c.loop-at.invariant.passed c.in_ok-statement.statement says);
     }
 
 pub of-requires : goal.of-requires
