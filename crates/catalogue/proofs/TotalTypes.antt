@@ -47,7 +47,8 @@ pub data Case (Good : Type 0) (Bad : TypeFault → Type 0) : Type 0 where
 number-within : (streams : List Entry) (a : List ℕ) (n : ℕ) → number_of a streams ≡ Some n → n < length streams
 number-within streams a n is = (position-Some (λ (s : Entry). bytes_eq a s.name) streams n (record { name = []; schema = []; declared = false }) is).0
 
-places : Kind → ℕ
+-- the places of a kind of decimals
+abbrev places : Kind → ℕ
 places (kind.Dec n) = n
 places k = 0
 

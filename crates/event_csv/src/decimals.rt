@@ -49,12 +49,7 @@ fn positive(alloc: Global, places: u8, field: &[u8]) -> Result<Option<i128>, Mem
 }
 
 // The units, at most `most`, of a field without its sign.
-fn unsigned(
-    alloc: Global,
-    places: u8,
-    field: &[u8],
-    most: u128,
-) -> Result<Option<u128>, Memory>
+fn unsigned(alloc: Global, places: u8, field: &[u8], most: u128) -> Result<Option<u128>, Memory>
     requires { 9 ≤ most }
     ensures { IfOk result (λ units. units ≡ units_up_to most places field.now) }
 {
@@ -83,11 +78,7 @@ fn digits(alloc: Global, places: u8, field: &[u8]) -> Result<Option<Vec<u8>>, Me
 }
 
 // Digits and, behind them, the places behind a point.
-fn behind_point(
-    digits: Vec<u8>,
-    places: u8,
-    field: &[u8],
-) -> Result<Option<Vec<u8>>, Memory>
+fn behind_point(digits: Vec<u8>, places: u8, field: &[u8]) -> Result<Option<Vec<u8>>, Memory>
     ensures { IfOk result (λ found. option_map (λ d. d.items) found ≡ option_map (λ more. digits.items ++ more) (places_behind places field.now)) }
 {
     if field.is_empty() || field.len() > places as usize {
