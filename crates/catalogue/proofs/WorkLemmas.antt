@@ -92,6 +92,6 @@ module _ (ss : List Statement) (lines : List ℕ) (streams : List Entry) (order 
           map-append (λ q. q.expr) published.queries (query ∷ []) ∙ ap (λ xs. xs ++ ex_of x ∷ []) published.expressions_are
           ∙ sym (map-append ex_of expressions (x ∷ [])) ∙ ap (map ex_of) (sym put);
     }
-    where
-      query : Query
-      query = record { name = name_of s; stream = length all; hidden = chain_end published.queries (length ss); expr = ex_of x }
+      where
+        query : Query
+        query = record { name = name_of s; stream = length all; hidden = chain_end published.queries (length ss); expr = ex_of x }
