@@ -3,11 +3,6 @@ use Rattle.std.proofs.Common.{◌≡◌, ◌∙◌, sym, ap, refl, ℕ, Bool, tr
 use Rattle.std.specs.Prelude.{Option, Some, None}
 use Rattle.std.specs.List.{All, filter, flat_map}
 use Rattle.std.specs.List.Sorted.{IsPermutation}
-use Rattle.std.specs.Cmp.Lexicographic.{slice_cmp}
-use Rattle.std.specs.Ordering.{int_cmp, is_eq, nat_cmp, ordering_reverse}
-use Rattle.std.specs.declared.cmp.Ordering.{Ordering}
-use Rattle.std.specs.declared.cmp.Ordering.TheVariants.{Less, Equal, Greater}
-use Rattle.std.proofs.lemmas.Cmp.{int_cmp_total, nat_list_cmp_total}
 use Rattle.std.proofs.lemmas.List.Elements.{All-contains, All-cons, All-nil, filter-append, filter_agree}
 use Rattle.std.proofs.lemmas.List.Sorted.{IsPermutation-refl, IsPermutation-sym, IsPermutation-trans, IsPermutation-append_right}
 use Rattle.std.proofs.lemmas.List.{map-append}
@@ -26,6 +21,7 @@ use Rattle.semantics.specs.Truth.{all_true, is_met, order_of, truth}
 use Rattle.semantics.specs.Values.{value_at}
 use Rattle.scalar_expr.specs.Classes as class
 use Rattle.scalar_expr.proofs.Bags.{permuted_from, permuted_to}
+use Rattle.scalar_expr.proofs.CanonicalLaws.{turned_met}
 use Rattle.automaton.specs.Waiting.{is_empty}
 use Rattle.automaton.specs.declared.wait.Turn.{Turn}
 use Rattle.epoch_laws.specs.Epochs.{eligible_of, is_unmet, left, taken, took}
@@ -35,16 +31,8 @@ use Rattle.epoch_laws.proofs.Lists.{and-false, every, filter-filter, flat_map-fi
 use Rattle.semantics.proofs.ReportLemmas.{flat_map_same}
 
 -- equality of values doesn't depend on the side
-eq_turned : (o : Ordering) → is_eq (ordering_reverse o) ≡ is_eq o
-eq_turned Less = refl
-eq_turned Equal = refl
-eq_turned Greater = refl
-
 equal_turned : (v w : Value) → is_met cmp.Eq (order_of v w) ≡ is_met cmp.Eq (order_of w v)
-equal_turned (value.Int x) (value.Int y) = ap is_eq (int_cmp_total.antisymm x y) ∙ eq_turned (int_cmp y x)
-equal_turned (value.Text x) (value.Text y) = ap is_eq (nat_list_cmp_total.antisymm x y) ∙ eq_turned (slice_cmp nat_cmp y x)
-equal_turned value.Over value.Over = refl
-equal_turned v w = refl
+equal_turned v w = turned_met cmp.Eq w v
 
 -- only a key part has the class of one
 fixed_is_no_key : {P : Type 0} (place e k : ℕ) (c : Cmp) (v : Value) → class.fixed place c v ≡ class.Key e k → P
@@ -64,6 +52,7 @@ bounded_is_no_key e k cmp.Gt (value.Int most) is = absurd (cc)
 bounded_is_no_key e k cmp.Ge (value.Int most) is = absurd (cc)
 bounded_is_no_key e k c value.Over is = absurd (cc)
 bounded_is_no_key e k c (value.Text bytes) is = absurd (cc)
+bounded_is_no_key e k c (value.Dec scale units) is = absurd (cc)
 
 module _ (r b : Row) (e k : ℕ) where
   abbrev Met : Type 0
