@@ -1,8 +1,7 @@
 -- One more event of a run.
-use Rattle.std.proofs.Common.{◌≡◌, ℕ, zero, suc, ◌<◌, ◌-◌, length, get_or, List, ◌∷◌, arith, ap, subst, sym}
+use Rattle.std.proofs.Common.{◌≡◌, ℕ, zero, suc, ◌<◌, ◌-◌, List, ◌∷◌, arith, ap, subst}
 use Rattle.std.specs.Prelude.{Some}
 use Rattle.std.specs.List.{All, flat_map}
-use Rattle.std.proofs.lemmas.List.Elements.{All-same}
 use Rattle.event_types.specs.Tuple.{Row}
 use Rattle.semantics.specs.Scalars.{Sc, Pr}
 use Rattle.semantics.specs.Runs.{goers, rebound, runs_within}
@@ -26,7 +25,3 @@ runs_within-some (suc n) p q m rs b lt = let e : n ≡ suc n - 1 = omega arith i
 pub suits_branches : (n : ℕ) (p q : List Pr) (m : List Sc) (rs : List Row) (b : Row) → 0 < n → SuitsRuns n p q m rs b → FitsPairs p rs b × FitsPairs q rs b × All (SuitsBranch (n - 1) p q m rs b) (goers p q rs b)
 suits_branches zero p q m rs b lt h = absurd (omega arith)
 suits_branches (suc n) p q m rs b lt h = let e : n ≡ suc n - 1 = omega arith in (h.0, h.1, subst (λ (k : ℕ). All (SuitsBranch k p q m rs b) (goers p q rs b)) e h.2)
-
--- what holds of each element holds of one that was read
-pub All_read : {X : Type 0} (P : X → Type 0) (xs ys : List X) → xs ≡ ys → All P ys → (i : ℕ) (x : X) → i < length xs → x ≡ get_or xs i x → P x
-All_read P xs ys e all i x lt is = subst P (sym is) (All-same P xs ys e all i x lt)

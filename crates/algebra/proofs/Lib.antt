@@ -1,5 +1,4 @@
 pub mod FoldLemmas
-pub mod ListLemmas
 pub mod ProgramLemmas
 pub mod SoundLemmas
 pub mod SpanLemmas

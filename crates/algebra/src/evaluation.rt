@@ -10,10 +10,10 @@ ghost use Rattle.algebra.specs.Views.{ex_of};
 use crate::expression::{Env, Expr};
 use crate::iteration::add_all_runs;
 use crate::matching::add_all_matches;
-use cay_host::{Ledger, Steps};
 use event_types::{List, Memory, Tuple, Tuples};
 use scalar_expr::{Conj, Map, apply, holds};
 use std::alloc::Global;
+use steps::{Ledger, Steps};
 
 /// What the expression denotes, in the order of its meaning. Want of memory drops what was found.
 #[cycle(evaluation)]

@@ -1,16 +1,15 @@
 //! FOLD: the runs of iterations from each binding.
 ghost use Rattle.std.specs.Prelude.{◌≡◌, ◌++◌, ◌<◌, IfOk, OnOk, length, Some};
 ghost use Rattle.std.specs.List.{All, filter, flat_map};
-ghost use Rattle.semantics.specs.Runs.{goers, rebound, runs, runs_within};
+ghost use Rattle.semantics.specs.Runs.{goers, runs, runs_within};
 ghost use Rattle.semantics.specs.Truth.{all_true};
-ghost use Rattle.scalar_expr.specs.Fits.{Fits};
 ghost use Rattle.algebra.specs.Suits.{FitsPairs, SuitsRuns};
 
 use crate::matching::nexts_of;
-use cay_host::{Ledger, Steps};
 use event_types::{List, Memory, Tuple, Tuples};
-use scalar_expr::{Conj, Map, apply, holds};
+use scalar_expr::{Conj, Map, holds, rebind};
 use std::alloc::Global;
+use steps::{Ledger, Steps};
 
 // Adds the runs from each binding.
 pub(crate) fn add_all_runs<L: Ledger>(
@@ -114,25 +113,4 @@ fn passing<L: Ledger>(
         }
     }
     Ok(found)
-}
-
-/// The new binding of an iteration.
-pub fn rebind(
-    alloc: Global,
-    projection: &Map,
-    binding: &Tuple,
-    event: &Tuple,
-) -> Result<Tuple, Memory>
-    requires later { binding.now.at < event.now.from }
-    requires fits { All (λ s. Fits s event.now (Some binding.now)) projection.now.parts }
-    ensures { IfOk result (λ tuple. tuple ≡ rebound projection.now.parts binding.now event.now) }
-{
-    apply(
-        alloc,
-        projection,
-        event,
-        Some(binding),
-        binding.from(),
-        event.at(),
-    )
 }

@@ -11,9 +11,7 @@ mod matching;
 
 pub use evaluation::evaluate;
 pub use expression::{Env, Expr};
-pub use iteration::rebind;
 pub use laws::{sound_streams_give_sound_tuples, typed_programs_suit, typed_suits};
-pub use matching::{can_follow, join};
 
 #[cfg(test)]
 mod tests;

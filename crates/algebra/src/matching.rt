@@ -1,15 +1,14 @@
 //! NEXT: each binding joined with the tuples that are eligible for it and detected first.
-ghost use Rattle.std.specs.Prelude.{◌≡◌, ◌++◌, ◌<◌, IfOk, OnOk, map, Some};
+ghost use Rattle.std.specs.Prelude.{◌≡◌, ◌++◌, ◌<◌, IfOk, OnOk, map};
 ghost use Rattle.std.specs.List.{All, filter, flat_map};
 ghost use Rattle.semantics.specs.Denotation.{joined, matches};
 ghost use Rattle.semantics.specs.Nexts.{earliest, is_earliest, is_eligible, nexts};
-ghost use Rattle.scalar_expr.specs.Fits.{AllFit};
 ghost use Rattle.algebra.specs.Suits.{FitsPairs};
 
-use cay_host::{Ledger, Steps};
-use event_types::{Copied, List, Memory, Tuple, Tuples, Vals};
-use scalar_expr::{Conj, holds};
+use event_types::{List, Memory, Tuple, Tuples};
+use scalar_expr::{Conj, can_follow, join};
 use std::alloc::Global;
+use steps::{Ledger, Steps};
 
 // Adds the matches of each binding.
 pub(crate) fn add_all_matches<L: Ledger>(
@@ -61,29 +60,6 @@ fn add_joined(
     Ok(())
 }
 
-/// The values of both, from the start of the left tuple to the detection of the right one.
-pub fn join(alloc: Global, left: &Tuple, right: &Tuple) -> Result<Tuple, Memory>
-    requires { left.now.at < right.now.from }
-    ensures { IfOk result (λ tuple. tuple ≡ joined left.now right.now) }
-{
-    let mut vals = left.vals().copied(alloc)?;
-    add_vals(alloc, &mut vals, right.vals())?;
-    match Tuple::make(vals, left.from(), right.at()) {
-        Ok(tuple) => Ok(tuple),
-        Err(_) => unreachable!(),
-    }
-}
-
-// Adds equal values.
-fn add_vals(alloc: Global, vals: &mut Vals, more: &Vals) -> Result<(), Memory>
-    ensures { OnOk result (vals.new ≡ vals.old ++ more.now) }
-{
-    for value in more.as_slice() {
-        vals.add(value.copied(alloc)?)?;
-    }
-    Ok(())
-}
-
 // The nexts of a binding.
 pub(crate) fn nexts_of<L: Ledger>(
     alloc: Global,
@@ -117,19 +93,6 @@ fn eligible_for<L: Ledger>(
         }
     }
     Ok(found)
-}
-
-/// Whether the tuple is eligible for the binding. Takes no memory.
-pub fn can_follow<L: Ledger>(
-    condition: &Conj,
-    binding: &Tuple,
-    tuple: &Tuple,
-    steps: &mut Steps<L>,
-) -> bool
-    requires { AllFit condition.now tuple.now (Some binding.now) }
-    ensures { result ≡ is_eligible condition.now binding.now tuple.now }
-{
-    binding.at() < tuple.from() && holds(condition, tuple, Some(binding), steps)
 }
 
 // The tuples that are detected first.

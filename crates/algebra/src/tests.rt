@@ -9,13 +9,13 @@ ghost use Rattle.algebra.specs.Suits.{Suits};
 ghost use Rattle.algebra.specs.Views.{ex_of};
 
 use crate::{Env, Expr, evaluate};
-use cay_host::{Ledger, Quiet, Steps};
 use event_types::{List, Memory, Tuple, Tuples, Value};
 use scalar_expr::{Cmp, Map, Pred, Scalar, normal};
 use std::alloc::Global;
 use std::process::Abort;
 use std::sync::ledger::Blank;
 use std::test::Fail;
+use steps::{Ledger, Quiet, Steps};
 
 // A stream of these numbers, each at one time.
 fn stream_of(rt: &impl Abort, alloc: Global, events: &[(i128, u64)]) -> Result<Tuples, Memory> {

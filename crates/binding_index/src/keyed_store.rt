@@ -10,7 +10,6 @@ use crate::buckets::{
 };
 use crate::entries::place_of;
 use crate::key::{KeyPart, first_key};
-use cay_host::{Ledger, Steps};
 use event_types::{Copied, Memory, Tuple, Value};
 use indexmap::IndexMap;
 use inst_chain::{Bead, Chain, Look};
@@ -18,6 +17,7 @@ use instances::{Instance, Instances, Waiting, can_be_met, take_eligible};
 use scalar_expr::Conj;
 use std::alloc::Global;
 use std::marker::Model;
+use steps::{Ledger, Steps};
 
 /// A store that looks at the instances of one key alone.
 #[derive(Drop)]

@@ -7,12 +7,12 @@ ghost use Rattle.binding_index.specs.Stores.{condition_of, instances_of, key_of,
 
 use crate::key::first_key;
 use crate::keyed_store::KeyedStore;
-use cay_host::{Ledger, Steps};
 use event_types::{Memory, Tuple, Value};
 use inst_chain::{Bead, Look};
 use instances::{Instance, Instances, PlainStore, Waiting};
 use scalar_expr::Conj;
 use std::alloc::Global;
+use steps::{Ledger, Steps};
 
 /// A store with a key where the condition has a key part, and one without where it has none.
 #[derive(Drop)]

@@ -15,12 +15,12 @@ use Rattle.stream_schema.specs.Schema.{Attr, kinds_of}
 use Rattle.stream_schema.specs.Streams.{Entry, schemas_of}
 use Rattle.cel_grammar.specs.Trees.{Statement}
 use Rattle.cel_grammar.specs.Views.{statement_of}
-use Rattle.chains.specs.Chains.{chain_end, outs_of}
-use Rattle.chains.specs.declared.chains.Chains.{Chains}
-use Rattle.chains.specs.Widths.{HasWidths}
-use Rattle.chains.specs.Work.{AreChains, kinds_by, work_of}
-use Rattle.chains.proofs.NumberedLemmas.{AreNumbered}
-use Rattle.chains.proofs.ProgramLemmas.{expressions_of, layout_made, lines_made, work_end, work_typed, work_wide}
+use Rattle.splitter.specs.Chains.{chain_end, outs_of}
+use Rattle.splitter.specs.declared.chains.Chains.{Chains}
+use Rattle.splitter.specs.SourceWidths.{HasWidths}
+use Rattle.splitter.specs.Work.{AreChains, kinds_by, work_of}
+use Rattle.splitter.proofs.NumberedLemmas.{AreNumbered}
+use Rattle.splitter.proofs.ProgramLemmas.{expressions_of, layout_made, lines_made, work_end, work_typed, work_wide}
 use Rattle.cel_types.specs.SourceLaws.{kinds_in}
 use Rattle.catalogue.specs.Catalogued.{Catalogued, IsAccepted, judged_of, queries_by}
 use Rattle.catalogue.specs.Chained.{AreChained, kinds_of_each}

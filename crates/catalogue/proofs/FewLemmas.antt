@@ -4,8 +4,8 @@ use Rattle.std.specs.List.{All}
 use Rattle.std.proofs.lemmas.List.{length-map}
 use Rattle.semantics.specs.Programs.{Program}
 use Rattle.splitter.proofs.FewLemmas.{size}
-use Rattle.chains.specs.Chains.{end_of, lines_of}
-use Rattle.chains.proofs.ProgramLemmas.{IsShort, few_lines, few_taken}
+use Rattle.splitter.specs.Chains.{end_of, lines_of}
+use Rattle.splitter.proofs.ProgramLemmas.{IsShort, few_lines, few_taken}
 use Rattle.cel_grammar.specs.Trees.{Statement}
 use Rattle.cel_grammar.specs.Views.{statement_of}
 use Rattle.catalogue.specs.Catalogued.{Catalogued, IsAccepted, judged_of}

@@ -13,7 +13,7 @@ use Rattle.std.proofs.lemmas.List.Sums.{position_or_len_is}
 use Rattle.std.proofs.lemmas.Option.{get_or_from_slice_get, slice_get-get_or}
 use Rattle.semantics.specs.Expressions.{Read}
 use Rattle.semantics.specs.Programs.{Query}
-use Rattle.chains.proofs.NumberedLemmas.{numbered_apart}
+use Rattle.splitter.proofs.NumberedLemmas.{numbered_apart}
 use Rattle.stream_schema.specs.Streams.{Entry, stream_names}
 use Rattle.resubscribe.specs.Laws.{HasEachOnce}
 use Rattle.resubscribe.proofs.OrderLemmas.{HasEachOnce-order}

@@ -7,7 +7,7 @@ use Rattle.semantics.specs.Programs.{Query}
 use Rattle.stream_schema.specs.Schema.{Attr}
 use Rattle.stream_schema.specs.Streams.{Entry, stream_names}
 use Rattle.cel_grammar.specs.Trees.{Statement}
-use Rattle.chains.specs.Chains.{chain_end}
+use Rattle.splitter.specs.Chains.{chain_end}
 use Rattle.cel_types.specs.declared.fault.TypeFault.{TypeFault}
 use Rattle.cel_types.specs.Statements.{FailsAsQuery, Queries}
 use Rattle.catalogue.specs.Statements.{name_of, names_in}

@@ -11,7 +11,7 @@ use Rattle.semantics.specs.Programs.{Query}
 use Rattle.stream_schema.specs.Schema.{Attr}
 use Rattle.stream_schema.specs.Streams.{Entry}
 use Rattle.splitter.proofs.FewLemmas.{nodes}
-use Rattle.chains.proofs.ProgramLemmas.{IsShort}
+use Rattle.splitter.proofs.ProgramLemmas.{IsShort}
 use Rattle.cel_lexer.specs.Faults.{broken_line, tokens_of}
 use Rattle.cel_lexer.specs.Listing.{Ascend}
 use Rattle.cel_lexer.specs.Tokens.{tokens_behind_mark}
@@ -25,8 +25,8 @@ use Rattle.cel_grammar.specs.Symbols.{Symbol}
 use Rattle.cel_grammar.specs.Symbols as the
 use Rattle.cel_grammar.specs.Trees.{Source, Statement}
 use Rattle.cel_grammar.specs.Trees as tree
-use Rattle.grammar_laws.proofs.PredicateComplete.{pred_shorter}
-use Rattle.grammar_laws.proofs.SourceComplete.{aggs_shorter, items_shorter}
+use Rattle.cel_parser.proofs.PredicateComplete.{pred_shorter}
+use Rattle.cel_parser.proofs.SourceComplete.{aggs_shorter, items_shorter}
 use Rattle.cel_types.specs.Sources.{Gives}
 use Rattle.cel_types.specs.Sources as source
 use Rattle.cel_types.specs.Statements.{Queries}

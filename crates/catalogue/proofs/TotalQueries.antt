@@ -19,7 +19,7 @@ use Rattle.resubscribe.proofs.OrderLemmas.{HasEachOnce-order}
 use Rattle.catalogue.specs.Arranging.{AreSound}
 use Rattle.catalogue.specs.Reading.{numbers_of, reads_in}
 use Rattle.catalogue.specs.Statements.{name_of, queries_in, query_names, reads_by}
-use Rattle.chains.specs.Chains.{chain_end}
+use Rattle.splitter.specs.Chains.{chain_end}
 use Rattle.catalogue.specs.Typing.{Declare, FailToPublish, Publish, none, published_by, query_lines}
 use Rattle.catalogue.proofs.PublishLemmas.{Publish-push, fails_behind}
 use Rattle.catalogue.proofs.StandLemmas.{query_at_number, reads_stand}

@@ -14,9 +14,9 @@ use Rattle.semantics.specs.Programs.{Query}
 use Rattle.semantics.specs.TypedPrograms.{PublishInTurn}
 use Rattle.semantics.specs.Typing.{Gives}
 use Rattle.splitter.specs.Splitting.{parts_of}
-use Rattle.chains.proofs.ApartLemmas.{range_all, reads_weaker}
-use Rattle.chains.proofs.NumberedLemmas.{AreNumbered}
-use Rattle.chains.proofs.RangeLemmas.{range_next}
+use Rattle.splitter.proofs.ApartLemmas.{range_all, reads_weaker}
+use Rattle.splitter.proofs.NumberedLemmas.{AreNumbered}
+use Rattle.splitter.proofs.RangeLemmas.{range_next}
 use Rattle.stream_schema.specs.Schema.{kinds_of}
 use Rattle.stream_schema.specs.Streams.{Entry, schemas_of, stream_names}
 use Rattle.cel_grammar.specs.Trees.{Statement}

@@ -12,9 +12,9 @@ use Rattle.stream_schema.specs.Schema.{Attr, kinds_of}
 use Rattle.stream_schema.specs.Streams.{Entry}
 use Rattle.cel_grammar.specs.Trees.{Source, Statement}
 use Rattle.cel_grammar.specs.Trees as tree
-use Rattle.chains.specs.Widths.{HasWidths, width_of}
-use Rattle.chains.proofs.ApartLemmas.{reads_weaker}
-use Rattle.chains.proofs.WidthLemmas.{width_is}
+use Rattle.splitter.specs.SourceWidths.{HasWidths, width_of}
+use Rattle.splitter.proofs.ApartLemmas.{reads_weaker}
+use Rattle.splitter.proofs.WidthLemmas.{width_is}
 use Rattle.cel_types.specs.SourceLaws.{kinds_in}
 use Rattle.cel_types.specs.Sources.{Gives}
 use Rattle.cel_types.specs.Sources as source

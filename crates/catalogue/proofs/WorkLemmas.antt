@@ -11,7 +11,7 @@ use Rattle.semantics.specs.Programs.{Query}
 use Rattle.stream_schema.specs.Streams.{Entry, number_of, stream_names}
 use Rattle.cel_grammar.specs.Trees.{Statement}
 use Rattle.cel_grammar.specs.Trees as tree
-use Rattle.chains.specs.Chains.{chain_end}
+use Rattle.splitter.specs.Chains.{chain_end}
 use Rattle.cel_types.specs.Statements.{FailsAsQuery, IsQueryOver}
 use Rattle.resubscribe.specs.Laws.{HasEachOnce}
 use Rattle.resubscribe.specs.Order.{IsOrder}

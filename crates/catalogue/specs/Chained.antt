@@ -3,9 +3,9 @@ use Rattle.std.specs.Prelude.{◌≡◌, List, map}
 use Rattle.event_types.specs.declared.kind.Kind.{Kind}
 use Rattle.stream_schema.specs.Schema.{kinds_of}
 use Rattle.stream_schema.specs.Streams.{Entry, schemas_of}
-use Rattle.chains.specs.Chains.{lines_of}
-use Rattle.chains.specs.declared.chains.Chains.{Chains}
-use Rattle.chains.specs.Layouts.{IsLayoutOf}
+use Rattle.splitter.specs.Chains.{lines_of}
+use Rattle.splitter.specs.declared.chains.Chains.{Chains}
+use Rattle.splitter.specs.Layouts.{IsLayoutOf}
 use Rattle.catalogue.specs.Catalogued.{Catalogued, judged_of}
 use Rattle.catalogue.specs.Judgement.{program_of}
 

@@ -3,7 +3,7 @@ use Rattle.std.specs.Prelude.{◌≡◌, ◌<◌, ◌↔◌, ℕ, true, List, []
 use Rattle.std.specs.List.{All, filter_map}
 use Rattle.semantics.specs.TypedPrograms.{IsProgram}
 use Rattle.stream_schema.specs.Streams.{Entry, stream_names}
-use Rattle.chains.specs.Laws.{IsWideProgram}
+use Rattle.splitter.specs.ProgramLaws.{IsWideProgram}
 use Rattle.cel_types.specs.SourceLaws.{kinds_in}
 use Rattle.catalogue.specs.Judgement.{Accepts, Judged, program_of, query_at}
 use Rattle.catalogue.specs.Statements.{queries_in, query_names}

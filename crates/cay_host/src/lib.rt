@@ -1,16 +1,15 @@
-//! The outside of a run: a host with two files to read and one output, and a count of steps.
+//! The outside of a run: a host with two files to read and one output.
 //!
 //! Contracts see a host as what it tells of itself: its counts of faults, which sides are attached,
 //! and, where it tells them, its files, the bytes left to read and the bytes written. They see a
 //! `MemHost` as what it tells and as its setting: its room, its pieces, the numbers of the calls that
-//! fail, and the calls so far. They see `Steps` as a number.
+//! fail, and the calls so far. `Steps` stands in `steps`, and is passed on here.
 #![tactic(auto)]
 
 mod files;
 mod host;
 mod mem_host;
 mod side;
-mod steps;
 mod writing;
 
 pub use host::{Failed, Host};

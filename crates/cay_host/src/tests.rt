@@ -1,11 +1,10 @@
 //! What no clause says: that memory is had, and what a run of the calls looks like.
-ghost use Rattle.std.specs.Prelude.{◌≡◌, ◌<◌, IfOk};
+ghost use Rattle.std.specs.Prelude.{◌<◌, IfOk};
 ghost use Rattle.cay_host.specs.MemHost.{mem_told};
 ghost use Rattle.cay_host.specs.Told.{IsFree};
 
-use crate::{Failed, Host, Ledger, MemHost, Quiet, Side, Steps, write_whole};
+use crate::{Failed, Host, MemHost, Side, write_whole};
 use std::alloc::{AllocError, Global};
-use std::sync::ledger::Blank;
 use std::test::Fail;
 
 fn host_with_events(alloc: Global, room: usize) -> Result<MemHost, AllocError>
@@ -58,20 +57,4 @@ fn a_whole_write_stops_where_the_room_ends(rt: HostRuntime) -> Result<(), Fail> 
     assert_eq!(rt; write_whole(&mut host, b"fgh"), Err(Failed));
     assert_eq!(rt; host.written(), b"abcdefg".as_slice());
     Ok(())
-}
-
-fn size_after_two_ticks<L: Ledger>(blank: Blank) -> usize
-    requires name { blank.name ≡ L.name }
-    requires parts { blank.parts ≡ L.parts }
-    requires some { 0 < blank.parts }
-{
-    let mut steps = Steps::<L>::new(blank);
-    steps.tick();
-    steps.tick();
-    size_of::<Steps<L>>()
-}
-
-#[test]
-fn steps_hold_no_bytes(rt: HostRuntime) {
-    assert_eq!(rt; size_after_two_ticks::<Quiet>(Blank::new(1)), 0);
 }

@@ -10,10 +10,10 @@ use Rattle.cay_host.proofs.OutputLemmas.{Wrote-append, Wrote-nil}
 use Rattle.semantics.specs.Histories.{Heard}
 use Rattle.semantics.specs.Report.{report}
 use Rattle.catalogue.specs.Judgement.{Judged, program_of}
-use Rattle.monitor.specs.declared.refusal.Refusal.TheVariants.{HasFault, IsOutOfOrder}
-use Rattle.monitor.specs.Hearing.{Reading, before_last, closed, heard, refused}
-use Rattle.monitor.specs.Readings.{readings}
-use Rattle.monitor.specs.Sessions.{View}
+use Rattle.session.specs.declared.refusal.Refusal.TheVariants.{HasFault, IsOutOfOrder}
+use Rattle.session.specs.Hearing.{Reading, before_last, closed, heard, refused}
+use Rattle.session.specs.Readings.{readings}
+use Rattle.session.specs.Sessions.{View}
 use Rattle.cayuga_run.specs.declared.status.Status.{Status}
 use Rattle.cayuga_run.specs.declared.status.Status.TheVariants.{Done, Usage, BadQuery, Cycle, BadEvent, OutOfOrder, AttachFault, ReadFault, WriteFault, TooMuch, Memory}
 use Rattle.cayuga_run.specs.HearingOutcome.{Hears, HearsAlone, HearsUpTo}

@@ -9,11 +9,11 @@ use Rattle.semantics.specs.Histories.{Heard}
 use Rattle.semantics.specs.Programs.{Program}
 use Rattle.semantics.specs.Report.{report}
 use Rattle.catalogue.specs.Judgement.{Judged, program_of}
-use Rattle.monitor.specs.declared.refusal.Refusal.{Refusal}
-use Rattle.monitor.specs.Hearing.{Reading, before_last, closed, events_in, heard, heard_from, refusal_of, refused, refused_from, seen_after}
-use Rattle.monitor.specs.Readings.{reading_of, readings}
-use Rattle.monitor.specs.Working.{closes, open_rows, rows_left}
-use Rattle.monitor.proofs.ClosingLemmas.{rows_left_are_report}
+use Rattle.session.specs.declared.refusal.Refusal.{Refusal}
+use Rattle.session.specs.Hearing.{Reading, before_last, closed, events_in, heard, heard_from, refusal_of, refused, refused_from, seen_after}
+use Rattle.session.specs.Readings.{reading_of, readings}
+use Rattle.session.specs.Working.{closes, open_rows, rows_left}
+use Rattle.session.proofs.ClosingLemmas.{rows_left_are_report}
 use Rattle.cayuga_run.specs.Reports.{refused_in, report_of_closed}
 
 -- a refused line stays refused, and nothing behind it is heard

@@ -13,15 +13,15 @@ use Rattle.event_csv.specs.Lines.{Line, lines, lines_from}
 use Rattle.event_csv.proofs.LineFacts.{strip_bom-short}
 use Rattle.catalogue.specs.Catalogued.{judged_of}
 use Rattle.catalogue.specs.Judgement.{Judged, program_of}
-use Rattle.monitor.specs.declared.fault.SessionFault.{SessionFault}
-use Rattle.monitor.specs.declared.fault.SessionFault.TheVariants as fault
-use Rattle.monitor.specs.declared.refusal.Refusal.{Refusal}
-use Rattle.monitor.specs.declared.refusal.Refusal.TheVariants.{HasFault, IsOutOfOrder}
-use Rattle.monitor.specs.Feeding.{BlamesWriting, Feeds, Finishes, StopsAt, StopsAtPiece}
-use Rattle.monitor.specs.Hearing.{closed}
-use Rattle.monitor.specs.Readings.{reading_of}
-use Rattle.monitor.specs.Owing.{Beyond, WroteFront}
-use Rattle.monitor.specs.Sessions.{HasFinished, KeepsQueries, StandsFor, View, report_in}
+use Rattle.session.specs.declared.fault.SessionFault.{SessionFault}
+use Rattle.session.specs.declared.fault.SessionFault.TheVariants as fault
+use Rattle.session.specs.declared.refusal.Refusal.{Refusal}
+use Rattle.session.specs.declared.refusal.Refusal.TheVariants.{HasFault, IsOutOfOrder}
+use Rattle.session.specs.Feeding.{BlamesWriting, Feeds, Finishes, StopsAt, StopsAtPiece}
+use Rattle.session.specs.Hearing.{closed}
+use Rattle.session.specs.Readings.{reading_of}
+use Rattle.session.specs.Owing.{Beyond, WroteFront}
+use Rattle.session.specs.Sessions.{HasFinished, KeepsQueries, StandsFor, View, report_in}
 use Rattle.cayuga_run.specs.declared.status.Status.TheVariants.{Done, ReadFault}
 use Rattle.cayuga_run.specs.Blaming.{BlamesHost}
 use Rattle.cayuga_run.specs.HearingOutcome.{Hears, HearsAlone, HearsUpTo, TakesEvents, status_of}

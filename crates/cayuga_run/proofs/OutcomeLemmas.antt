@@ -13,9 +13,9 @@ use Rattle.cay_host.specs.Told.{Told}
 use Rattle.semantics.specs.Report.{report}
 use Rattle.catalogue.specs.Judgement.{Verdict, Accepted, Accepts, Judged, Judges}
 use Rattle.catalogue.proofs.VerdictLemmas.{one_verdict}
-use Rattle.monitor.specs.declared.refusal.Refusal.{Refusal}
-use Rattle.monitor.specs.Hearing.{heard, refused}
-use Rattle.monitor.specs.Owing.{WroteFront}
+use Rattle.session.specs.declared.refusal.Refusal.{Refusal}
+use Rattle.session.specs.Hearing.{heard, refused}
+use Rattle.session.specs.Owing.{WroteFront}
 use Rattle.cayuga_run.specs.Accepting.{IsAccepted}
 use Rattle.cayuga_run.specs.Begun.{HasAccepted}
 use Rattle.cayuga_run.specs.HearingOutcome.{HearsAlone, HearsFront, HearsRefused, HearsUpTo, TakesEvents}

@@ -8,7 +8,7 @@ use Rattle.cay_host.specs.Told.{Told}
 use Rattle.event_csv.specs.declared.fault.LineFault.{LineFault}
 use Rattle.catalogue.specs.declared.fault.QueryFault.{QueryFault}
 use Rattle.catalogue.specs.Judgement.{Verdict, Judges}
-use Rattle.monitor.specs.declared.refusal.Refusal.TheVariants.{HasFault, IsOutOfOrder}
+use Rattle.session.specs.declared.refusal.Refusal.TheVariants.{HasFault, IsOutOfOrder}
 use Rattle.cayuga_run.specs.declared.status.Status.{Status}
 use Rattle.cayuga_run.specs.declared.status.Status.TheVariants.{Done, Usage, BadQuery, Cycle, BadEvent, OutOfOrder, AttachFault, ReadFault, WriteFault, TooMuch, Memory}
 use Rattle.cayuga_run.specs.Blaming.{BlamesHost}

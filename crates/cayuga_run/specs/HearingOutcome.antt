@@ -7,12 +7,12 @@ use Rattle.cay_host.specs.Output.{Wrote}
 use Rattle.cay_host.specs.Told.{Told}
 use Rattle.catalogue.specs.Catalogued.{judged_of}
 use Rattle.catalogue.specs.Judgement.{Judged}
-use Rattle.monitor.specs.declared.fault.SessionFault.{SessionFault}
-use Rattle.monitor.specs.declared.fault.SessionFault.TheVariants as fault
-use Rattle.monitor.specs.declared.refusal.Refusal.{Refusal}
-use Rattle.monitor.specs.declared.refusal.Refusal.TheVariants.{HasFault, IsOutOfOrder}
-use Rattle.monitor.specs.Owing.{WroteFront}
-use Rattle.monitor.specs.Sessions.{HasFinished, View}
+use Rattle.session.specs.declared.fault.SessionFault.{SessionFault}
+use Rattle.session.specs.declared.fault.SessionFault.TheVariants as fault
+use Rattle.session.specs.declared.refusal.Refusal.{Refusal}
+use Rattle.session.specs.declared.refusal.Refusal.TheVariants.{HasFault, IsOutOfOrder}
+use Rattle.session.specs.Owing.{WroteFront}
+use Rattle.session.specs.Sessions.{HasFinished, View}
 use Rattle.cayuga_run.specs.declared.status.Status.{Status}
 use Rattle.cayuga_run.specs.declared.status.Status.TheVariants.{Done, BadEvent, OutOfOrder, ReadFault, WriteFault, TooMuch, Memory}
 use Rattle.cayuga_run.specs.Reports.{refused_in, report_of_closed}

@@ -1,6 +1,6 @@
 -- Laws of event texts that go on.
 use Rattle.std.specs.Prelude.{◌≡◌, ℕ, List, ◌++◌, Bool, false, Some}
-use Rattle.monitor.specs.declared.refusal.Refusal.{Refusal}
+use Rattle.session.specs.declared.refusal.Refusal.{Refusal}
 use Rattle.catalogue.specs.Judgement.{Judged}
 use Rattle.cayuga_run.specs.Reports.{refused_in, report_of_closed}
 

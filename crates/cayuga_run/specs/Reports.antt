@@ -3,9 +3,9 @@ use Rattle.std.specs.Prelude.{ℕ, List, Bool, true, Option}
 use Rattle.semantics.specs.Histories.{Heard}
 use Rattle.semantics.specs.Report.{report}
 use Rattle.catalogue.specs.Judgement.{Judged, program_of}
-use Rattle.monitor.specs.declared.refusal.Refusal.{Refusal}
-use Rattle.monitor.specs.Hearing.{closed, heard, refused}
-use Rattle.monitor.specs.Readings.{readings}
+use Rattle.session.specs.declared.refusal.Refusal.{Refusal}
+use Rattle.session.specs.Hearing.{closed, heard, refused}
+use Rattle.session.specs.Readings.{readings}
 
 -- the first refused line of an event text that has ended or not
 abbrev pub refused_in : Judged → List ℕ → Bool → Option Refusal

@@ -7,13 +7,13 @@ use Rattle.cay_host.specs.Faults.{Rose}
 use Rattle.cay_host.specs.Files.{file_of, lacks}
 use Rattle.cay_host.specs.Output.{Wrote, KeepsOutput}
 use Rattle.cay_host.specs.Told.{Told}
-use Rattle.monitor.specs.declared.refusal.Refusal.{Refusal}
-use Rattle.monitor.specs.declared.refusal.Refusal.TheVariants.{HasFault, IsOutOfOrder}
+use Rattle.session.specs.declared.refusal.Refusal.{Refusal}
+use Rattle.session.specs.declared.refusal.Refusal.TheVariants.{HasFault, IsOutOfOrder}
 use Rattle.cayuga_run.specs.declared.status.Status.{Status}
 use Rattle.cayuga_run.specs.declared.status.Status.TheVariants.{Done, Usage, BadQuery, Cycle, BadEvent, OutOfOrder, AttachFault, ReadFault, WriteFault, TooMuch, Memory}
 use Rattle.catalogue.specs.Judgement.{Verdict, Accepted, Refused, Circle, Judged, Judges}
 use Rattle.cayuga_run.specs.Accepting.{IsAccepted}
-use Rattle.monitor.specs.Owing.{WroteFront}
+use Rattle.session.specs.Owing.{WroteFront}
 use Rattle.cayuga_run.specs.Refusing.{IsBadQuery, IsCycle, OfQueries, ReadsUpTo, StoppedAt, StoppedInQueries}
 use Rattle.cayuga_run.specs.Reports.{heard_in, refused_in, report_of_closed, report_of_heard}
 use Rattle.cayuga_run.specs.Stats.{ComesBehind}

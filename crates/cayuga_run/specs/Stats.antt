@@ -1,7 +1,7 @@
 -- The stats line of a run.
 use Rattle.std.specs.Prelude.{◌≡◌, ℕ, List, [], ◌∷◌, ◌++◌, Bool, true, false, codes, decimal}
 use Rattle.semantics.specs.Histories.{Heard}
-use Rattle.chains.specs.Chains.{lines_of, order_of}
+use Rattle.splitter.specs.Chains.{lines_of, order_of}
 use Rattle.prefix_merge.specs.Counts.{CountsPlain, CountsStates}
 use Rattle.epoch_engine.specs.Counts.{CountsAlive}
 use Rattle.catalogue.specs.Judgement.{Judged, program_of}

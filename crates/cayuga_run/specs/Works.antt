@@ -4,8 +4,8 @@ use Rattle.cay_host.specs.declared.side.Side.{Side}
 use Rattle.cay_host.specs.declared.side.Side.TheVariants.{Queries, Events}
 use Rattle.cel_print.specs.Spelled.{canon}
 use Rattle.catalogue.specs.Judgement.{Judged}
-use Rattle.command_words.specs.declared.job.Job.{Job}
-use Rattle.command_words.specs.declared.job.Job.TheVariants as job
+use Rattle.command_line.specs.declared.job.Job.{Job}
+use Rattle.command_line.specs.declared.job.Job.TheVariants as job
 use Rattle.plan_text.specs.Plan.{plan_of}
 
 -- a run of the queries of one file over the events of another, by the names of the files, and whether its stats line is asked for

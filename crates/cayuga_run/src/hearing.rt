@@ -2,14 +2,14 @@
 ghost use Rattle.std.specs.Prelude.{◌≡◌, [], true};
 ghost use Rattle.cay_host.specs.declared.side.Side.TheVariants.{Events};
 ghost use Rattle.catalogue.specs.Catalogued.{judged_of};
-ghost use Rattle.monitor.specs.Sessions.{StandsFor};
+ghost use Rattle.session.specs.Sessions.{StandsFor};
 ghost use Rattle.cayuga_run.specs.Blaming.{BlamesHost};
 ghost use Rattle.cayuga_run.specs.HearingOutcome.{Hears, HearsAlone, status_of};
 
 use crate::pieces::{PIECE, piece_size};
 use crate::status::Status;
 use cay_host::{Host, Ledger, Side, Steps};
-use monitor::{Refusal, Session, SessionFault};
+use session::{Refusal, Session, SessionFault};
 use std::alloc::Global;
 
 /// Reads the events, and feeds each piece to the session as it comes, to the end of the events or to the

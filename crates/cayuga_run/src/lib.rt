@@ -18,7 +18,7 @@ mod writing;
 pub use catalogue::QueryFault;
 pub use event_csv::LineFault;
 pub use laws::{refused_lines_stay, reports_grow, texts_ask_for_one_status};
-pub use monitor::{Refusal, Session, SessionFault};
+pub use session::{Refusal, Session, SessionFault};
 pub use status::Status;
 pub use top::{cayuga, cayuga_within};
 

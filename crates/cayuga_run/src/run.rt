@@ -2,7 +2,7 @@
 ghost use Rattle.std.specs.Prelude.{◌≡◌, [], false};
 ghost use Rattle.cay_host.specs.declared.side.Side.TheVariants.{Queries, Events};
 ghost use Rattle.catalogue.specs.Catalogued.{judged_of};
-ghost use Rattle.monitor.specs.Sessions.{StandsFor};
+ghost use Rattle.session.specs.Sessions.{StandsFor};
 ghost use Rattle.cayuga_run.specs.Begun.{EndsRun};
 ghost use Rattle.cayuga_run.specs.Blaming.{BlamesHost};
 ghost use Rattle.cayuga_run.specs.RunOutcome.{RunOutcome};
@@ -12,7 +12,7 @@ use crate::hearing::hear;
 use crate::stats::write_stats;
 use crate::status::Status;
 use cay_host::{Host, Ledger, Side, Steps};
-use monitor::Session;
+use session::Session;
 use std::alloc::Global;
 
 /// Runs the queries over the events. What an epoch brings is written once a later event or the end of

@@ -3,7 +3,7 @@ ghost use Rattle.std.specs.Prelude.{◌≡◌, IfOk, List, None, string_bytes, t
 ghost use Rattle.semantics.specs.Histories.{Heard};
 ghost use Rattle.cay_host.specs.Output.{SameButOutput};
 ghost use Rattle.catalogue.specs.Catalogued.{judged_of};
-ghost use Rattle.monitor.specs.Sessions.{WorksFor};
+ghost use Rattle.session.specs.Sessions.{WorksFor};
 ghost use Rattle.cayuga_run.specs.Blaming.{BlamesHost};
 ghost use Rattle.cayuga_run.specs.Stats.{ComesBehind};
 ghost use Rattle.cayuga_run.specs.StatsOutcome.{StatsOutcome};
@@ -12,7 +12,7 @@ use crate::status::Status;
 use crate::writing::write_text;
 use cay_host::Host;
 use event_types::Memory;
-use monitor::Session;
+use session::Session;
 use std::alloc::Global;
 
 /// Writes the stats line of a session with no open epoch.

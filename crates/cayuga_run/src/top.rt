@@ -2,7 +2,7 @@
 ghost use Rattle.std.specs.Prelude.{◌≡◌, ◌^◌, false, Some};
 ghost use Rattle.cay_host.specs.declared.side.Side.{Side};
 ghost use Rattle.cay_host.specs.Told.{IsFree};
-ghost use Rattle.command_words.specs.Table.{job, texts_of};
+ghost use Rattle.command_line.specs.Table.{job, texts_of};
 ghost use Rattle.cayuga_run.specs.Answers.{Answers};
 ghost use Rattle.cayuga_run.specs.Blaming.{BlamesHost};
 ghost use Rattle.cayuga_run.specs.Outcome.{Outcome};
@@ -12,7 +12,7 @@ use crate::run::run;
 use crate::status::Status;
 use crate::writing::{check, plan};
 use cay_host::{Host, Ledger, Steps};
-use command_words::{Job, job_of};
+use command_line::{Job, job_of};
 use std::alloc::Global;
 
 /// The most bytes of an event text that the program takes: 2^40.

@@ -8,3 +8,4 @@ pub mod Statements
 pub mod Spellings
 pub mod Sentences
 pub mod Views
+pub mod Laws

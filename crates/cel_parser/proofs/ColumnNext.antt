@@ -13,11 +13,11 @@ use Rattle.cel_parser.specs.Lists.{with_front}
 use Rattle.cel_parser.specs.declared.unread.Unread.{Unread}
 use Rattle.cel_parser.specs.declared.unread.Unread.TheVariants as unread
 use Rattle.cel_parser.proofs.ListNext.{front_more, front_none}
-use Rattle.grammar_laws.specs.ScalarReader.{◌>>=◌, Read}
-use Rattle.grammar_laws.specs.StatementReader.{column_at, columns_at, columns_more, statement_at}
-use Rattle.grammar_laws.proofs.ScalarSound.{bind_some}
-use Rattle.grammar_laws.proofs.StatementSound.{statement_sound}
-use Rattle.grammar_laws.proofs.StatementComplete.{statement_complete}
+use Rattle.cel_parser.specs.ScalarReader.{◌>>=◌, Read}
+use Rattle.cel_parser.specs.StatementReader.{column_at, columns_at, columns_more, statement_at}
+use Rattle.cel_parser.proofs.ScalarSound.{bind_some}
+use Rattle.cel_parser.proofs.StatementSound.{statement_sound}
+use Rattle.cel_parser.proofs.StatementComplete.{statement_complete}
 
 -- nothing stands before the columns
 pub columns_alone : (n : ℕ) (ts : List Symbol) → columns_after n [] ts ≡ columns_at n ts

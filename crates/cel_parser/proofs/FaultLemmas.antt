@@ -8,10 +8,10 @@ use Rattle.cel_grammar.specs.Sentences.{IsSmall, Say, Says, Sentence, is_deep, m
 use Rattle.cel_grammar.specs.Statements.{IsStatement}
 use Rattle.cel_grammar.specs.Symbols.{Symbol}
 use Rattle.cel_grammar.specs.Trees.{Statement}
-use Rattle.grammar_laws.specs.StatementReader.{statement_at}
-use Rattle.grammar_laws.proofs.StatementComplete.{statement_complete, statement_same}
-use Rattle.grammar_laws.proofs.StatementSound.{statement_sound}
-use Rattle.grammar_laws.proofs.ScalarSound.{same}
+use Rattle.cel_parser.specs.StatementReader.{statement_at}
+use Rattle.cel_parser.proofs.StatementComplete.{statement_complete, statement_same}
+use Rattle.cel_parser.proofs.StatementSound.{statement_sound}
+use Rattle.cel_parser.proofs.ScalarSound.{same}
 use Rattle.cel_parser.specs.Faults.{Explains, IsFaulty, bad, behind, deep, here, many, unended}
 use Rattle.cel_parser.specs.Laws.{NotBoth, OneFault, OneOfBoth, OneReading, SameFile}
 use Rattle.cel_parser.specs.declared.fault.SyntaxFault.{SyntaxFault}

@@ -1,3 +1,17 @@
+pub mod ScalarKeeps
+pub mod ScalarSound
+pub mod ScalarComplete
+pub mod PredicateKeeps
+pub mod PredicateSound
+pub mod PredicateComplete
+pub mod SourceKeeps
+pub mod SourceSound
+pub mod SourceComplete
+pub mod StatementComplete
+pub mod Whole
+pub mod Fronts
+pub mod Files
+pub mod StatementSound
 pub mod SentenceLemmas
 pub mod CutLemmas
 pub mod PassedLemmas

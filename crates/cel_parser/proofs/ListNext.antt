@@ -5,8 +5,8 @@ use Rattle.std.proofs.lemmas.Grind.{common_steps}
 use Rattle.cel_grammar.specs.Symbols as the
 use Rattle.cel_grammar.specs.Trees.{Agg, Item, Scalar, Set}
 use Rattle.cel_parser.specs.Lists.{agg_at, aggs_after, bare_at, full_at, is_bare, items_after, items_behind, with_front}
-use Rattle.grammar_laws.specs.ScalarReader.{◌>>=◌, Read, done, scalar_at}
-use Rattle.grammar_laws.specs.SourceReader.{aggs_at, as_at, item_at, items_at, items_more}
+use Rattle.cel_parser.specs.ScalarReader.{◌>>=◌, Read, done, scalar_at}
+use Rattle.cel_parser.specs.SourceReader.{aggs_at, as_at, item_at, items_at, items_more}
 
 -- an item by whether it is a name alone
 pub item_next : (n : ℕ) (ts : List the.Symbol) → item_at n ts ≡ (if is_bare ts then bare_at ts else full_at n ts)

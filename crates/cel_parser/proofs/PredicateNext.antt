@@ -7,8 +7,8 @@ use Rattle.cel_parser.specs.declared.symbol.Symbol.{Symbol}
 use Rattle.cel_parser.specs.declared.symbol.Symbol.TheVariants as symbol
 use Rattle.cel_parser.specs.Grouping.{closed_at}
 use Rattle.cel_parser.specs.Seen.{seen}
-use Rattle.grammar_laws.specs.ScalarReader.{◌>>=◌, Read, done}
-use Rattle.grammar_laws.specs.PredicateReader.{test_at, pred_at, neg_at, prim_at}
+use Rattle.cel_parser.specs.ScalarReader.{◌>>=◌, Read, done}
+use Rattle.cel_parser.specs.PredicateReader.{test_at, pred_at, neg_at, prim_at}
 
 -- a negation by its first symbol
 abbrev pub neg_step : ℕ → List Symbol → Read Pred

@@ -6,9 +6,9 @@ use Rattle.cel_grammar.specs.Symbols as the
 use Rattle.cel_grammar.specs.Trees.{Agg, Filter, Pred, Source}
 use Rattle.cel_parser.specs.Links.{condition_at, fold_at, is_link, link_at, linked, next_at, TreeLink, Next, Fold}
 use Rattle.cel_parser.specs.Terms.{filter_at, inner_at, linked_at, selection_at, term_step}
-use Rattle.grammar_laws.specs.ScalarReader.{◌>>=◌, Read, comma_at, done}
-use Rattle.grammar_laws.specs.PredicateReader.{pred_at}
-use Rattle.grammar_laws.specs.SourceReader.{aggs_at, brace_at, source_more, term_at}
+use Rattle.cel_parser.specs.ScalarReader.{◌>>=◌, Read, comma_at, done}
+use Rattle.cel_parser.specs.PredicateReader.{pred_at}
+use Rattle.cel_parser.specs.SourceReader.{aggs_at, brace_at, source_more, term_at}
 
 -- what follows a closing brace
 brace_then : {A B : Type 0} (x : A) (r : Option (List Symbol)) (g : A → List Symbol → Option B) → (r >>= λ us. g x us) ≡ ((r >>= done x) >>= λ c. g c.0 c.1)

@@ -4,9 +4,9 @@ use Rattle.cel_grammar.specs.Symbols.{Symbol}
 use Rattle.cel_grammar.specs.Symbols as the
 use Rattle.cel_grammar.specs.Trees.{Column, Query, Statement, Stream}
 use Rattle.cel_parser.specs.Lists.{with_front}
-use Rattle.grammar_laws.specs.ScalarReader.{◌>>=◌, Read, close_at, done}
-use Rattle.grammar_laws.specs.SourceReader.{from_at, items_at, source_at}
-use Rattle.grammar_laws.specs.StatementReader.{columns_at, publish_at}
+use Rattle.cel_parser.specs.ScalarReader.{◌>>=◌, Read, close_at, done}
+use Rattle.cel_parser.specs.SourceReader.{from_at, items_at, source_at}
+use Rattle.cel_parser.specs.StatementReader.{columns_at, publish_at}
 
 -- columns, with those that stand before them
 unfoldable pub columns_after : ℕ → List Column → List Symbol → Read (List Column)

@@ -1,7 +1,7 @@
 -- What a parenthesis closes. No public clause cites this module.
 use Rattle.std.specs.Prelude.{List}
 use Rattle.cel_grammar.specs.Symbols.{Symbol}
-use Rattle.grammar_laws.specs.ScalarReader.{◌>>=◌, Read, close_at, done}
+use Rattle.cel_parser.specs.ScalarReader.{◌>>=◌, Read, close_at, done}
 
 -- what was read, where its parenthesis closes
 abbrev pub closed_at : {A : Type 0} → A → List Symbol → Read A

@@ -1,3 +1,7 @@
+pub mod ScalarReader
+pub mod PredicateReader
+pub mod SourceReader
+pub mod StatementReader
 pub mod Columns
 pub mod Cutting
 pub mod Faults

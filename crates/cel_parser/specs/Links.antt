@@ -6,9 +6,9 @@ use Rattle.cel_grammar.specs.Trees as tree
 use Rattle.cel_grammar.specs.Views.{agg_of, pred_of}
 use Rattle.cel_parser.specs.declared.links.Link.{Link}
 use Rattle.cel_parser.specs.declared.links.Link.TheVariants as link
-use Rattle.grammar_laws.specs.ScalarReader.{◌>>=◌, Read, comma_at, done}
-use Rattle.grammar_laws.specs.PredicateReader.{pred_at}
-use Rattle.grammar_laws.specs.SourceReader.{aggs_at, brace_at}
+use Rattle.cel_parser.specs.ScalarReader.{◌>>=◌, Read, comma_at, done}
+use Rattle.cel_parser.specs.PredicateReader.{pred_at}
+use Rattle.cel_parser.specs.SourceReader.{aggs_at, brace_at}
 
 -- UNION, NEXT with its condition, or FOLD with its two and its aggregates
 pub data TreeLink : Type 0 where

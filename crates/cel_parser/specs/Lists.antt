@@ -4,8 +4,8 @@ use Rattle.cel_grammar.specs.declared.mark.Mark.TheVariants as mark
 use Rattle.cel_grammar.specs.Symbols.{Symbol}
 use Rattle.cel_grammar.specs.Symbols as the
 use Rattle.cel_grammar.specs.Trees.{Agg, All, Attr, Item, Named, Set}
-use Rattle.grammar_laws.specs.ScalarReader.{◌>>=◌, Read, done, scalar_at}
-use Rattle.grammar_laws.specs.SourceReader.{as_at, items_at, named_at}
+use Rattle.cel_parser.specs.ScalarReader.{◌>>=◌, Read, done, scalar_at}
+use Rattle.cel_parser.specs.SourceReader.{as_at, items_at, named_at}
 
 -- whether a name is all of the item at the front
 unfoldable pub is_bare : List Symbol → Bool

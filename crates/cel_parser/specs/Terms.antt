@@ -4,8 +4,8 @@ use Rattle.cel_grammar.specs.Symbols.{Symbol}
 use Rattle.cel_grammar.specs.Symbols as the
 use Rattle.cel_grammar.specs.Trees.{Filter, Name, Select, Source}
 use Rattle.cel_parser.specs.Links.{condition_at, link_at, linked}
-use Rattle.grammar_laws.specs.ScalarReader.{◌>>=◌, Read, close_at, done}
-use Rattle.grammar_laws.specs.SourceReader.{from_at, items_at, source_at, source_more, term_at}
+use Rattle.cel_parser.specs.ScalarReader.{◌>>=◌, Read, close_at, done}
+use Rattle.cel_parser.specs.SourceReader.{from_at, items_at, source_at, source_more, term_at}
 
 -- a source that goes on behind a link
 unfoldable pub linked_at : ℕ → Source → List Symbol → Read Source

@@ -4,7 +4,7 @@ ghost use Rattle.cel_grammar.specs.Views.{column_of};
 ghost use Rattle.cel_parser.specs.Columns.{columns_after, columns_behind};
 ghost use Rattle.cel_parser.specs.Gives.{Gives};
 ghost use Rattle.cel_parser.specs.Seen.{seen};
-ghost use Rattle.grammar_laws.specs.StatementReader.{column_at, columns_at};
+ghost use Rattle.cel_parser.specs.StatementReader.{column_at, columns_at};
 
 use crate::literals::name_text;
 use crate::reading::{Reading, Symbols};

@@ -4,7 +4,7 @@ ghost use Rattle.cel_grammar.specs.Views.{agg_of, item_of};
 ghost use Rattle.cel_parser.specs.Gives.{Gives};
 ghost use Rattle.cel_parser.specs.Lists.{agg_at, aggs_after, aggs_behind, bare_at, full_at, is_bare, items_after, items_behind};
 ghost use Rattle.cel_parser.specs.Seen.{seen};
-ghost use Rattle.grammar_laws.specs.SourceReader.{aggs_at, as_at, item_at, items_at, named_at};
+ghost use Rattle.cel_parser.specs.SourceReader.{aggs_at, as_at, item_at, items_at, named_at};
 
 use crate::literals::name_text;
 use crate::reading::{Reading, Symbols};
@@ -120,7 +120,7 @@ fn read_full<'a>(alloc: Global, steps: usize, symbols: Symbols<'a>) -> Reading<'
 }
 
 // A scalar under a name.
-#[tactic(auto, unfolding(grammar_laws::specs::SourceReader::named_at))]
+#[tactic(auto, unfolding(crate::specs::SourceReader::named_at))]
 fn read_named<'a>(alloc: Global, steps: usize, symbols: Symbols<'a>) -> Reading<'a, Item>
     ensures { Gives (λ p. (item_of p.0, map seen p.1.now)) result (named_at steps (map seen symbols.now)) }
 {

@@ -7,6 +7,7 @@
 mod columns;
 mod fault;
 mod file;
+mod grammar_laws;
 mod items;
 mod laws;
 mod links;
@@ -26,6 +27,7 @@ mod unread;
 pub use cel_grammar::{Agg, Aggs, Attr, Attrs, Item, Items, Mark, Raw, RawPred, Source, Statement};
 pub use fault::SyntaxFault;
 pub use file::File;
+pub use grammar_laws::{one_reading, parentheses_tell, sentences_are_a_file};
 pub use laws::one_answer;
 pub use parsing::parse;
 

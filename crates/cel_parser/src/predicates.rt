@@ -6,7 +6,7 @@ ghost use Rattle.cel_grammar.specs.Views.{pred_of};
 ghost use Rattle.cel_parser.specs.Gives.{Gives};
 ghost use Rattle.cel_parser.specs.Grouping.{closed_at};
 ghost use Rattle.cel_parser.specs.Seen.{seen};
-ghost use Rattle.grammar_laws.specs.PredicateReader.{compare_at, conj_at, conj_more, neg_at, pred_at, pred_more, prim_at, test_at};
+ghost use Rattle.cel_parser.specs.PredicateReader.{compare_at, conj_at, conj_more, neg_at, pred_at, pred_more, prim_at, test_at};
 
 use crate::reading::{Reading, Symbols};
 use crate::scalars::read_scalar;
@@ -18,7 +18,7 @@ use std::alloc::Global;
 
 /// A predicate at the front, and the symbols behind it.
 #[cycle(predicate)]
-#[tactic(auto, unfolding(grammar_laws::specs::PredicateReader::pred_at))]
+#[tactic(auto, unfolding(crate::specs::PredicateReader::pred_at))]
 pub(crate) fn read_predicate<'a>(
     alloc: Global,
     steps: usize,
@@ -35,7 +35,7 @@ pub(crate) fn read_predicate<'a>(
 
 // A predicate that begins with p.
 #[cycle(predicate)]
-#[tactic(auto, unfolding(grammar_laws::specs::PredicateReader::pred_at))]
+#[tactic(auto, unfolding(crate::specs::PredicateReader::pred_at))]
 fn go_on_predicate<'a>(
     alloc: Global,
     steps: usize,
@@ -58,7 +58,7 @@ fn go_on_predicate<'a>(
 
 // A conjunction at the front.
 #[cycle(predicate)]
-#[tactic(auto, unfolding(grammar_laws::specs::PredicateReader::pred_at))]
+#[tactic(auto, unfolding(crate::specs::PredicateReader::pred_at))]
 fn read_conjunction<'a>(alloc: Global, steps: usize, symbols: Symbols<'a>) -> Reading<'a, RawPred>
     ensures { Gives (λ p. (pred_of p.0, map seen p.1.now)) result (conj_at steps (map seen symbols.now)) }
 {
@@ -71,7 +71,7 @@ fn read_conjunction<'a>(alloc: Global, steps: usize, symbols: Symbols<'a>) -> Re
 
 // A conjunction that begins with p.
 #[cycle(predicate)]
-#[tactic(auto, unfolding(grammar_laws::specs::PredicateReader::pred_at))]
+#[tactic(auto, unfolding(crate::specs::PredicateReader::pred_at))]
 fn go_on_conjunction<'a>(
     alloc: Global,
     steps: usize,
@@ -94,7 +94,7 @@ fn go_on_conjunction<'a>(
 
 // A negation, or what may stand in its place.
 #[cycle(predicate)]
-#[tactic(auto, using(crate::proofs::PredicateNext::neg_next), unfolding(grammar_laws::specs::PredicateReader::pred_at))]
+#[tactic(auto, using(crate::proofs::PredicateNext::neg_next), unfolding(crate::specs::PredicateReader::pred_at))]
 fn read_negation<'a>(alloc: Global, steps: usize, symbols: Symbols<'a>) -> Reading<'a, RawPred>
     ensures { Gives (λ p. (pred_of p.0, map seen p.1.now)) result (neg_at steps (map seen symbols.now)) }
 {
@@ -112,7 +112,7 @@ fn read_negation<'a>(alloc: Global, steps: usize, symbols: Symbols<'a>) -> Readi
 
 // TRUE, a comparison, or a predicate in parentheses.
 #[cycle(predicate)]
-#[tactic(auto, using(crate::proofs::PredicateNext::prim_next), unfolding(grammar_laws::specs::PredicateReader::pred_at))]
+#[tactic(auto, using(crate::proofs::PredicateNext::prim_next), unfolding(crate::specs::PredicateReader::pred_at))]
 fn read_primary<'a>(alloc: Global, steps: usize, symbols: Symbols<'a>) -> Reading<'a, RawPred>
     ensures { Gives (λ p. (pred_of p.0, map seen p.1.now)) result (prim_at steps (map seen symbols.now)) }
 {
@@ -134,7 +134,7 @@ fn read_primary<'a>(alloc: Global, steps: usize, symbols: Symbols<'a>) -> Readin
 }
 
 // Two scalars with a comparison between them.
-#[tactic(auto, unfolding(grammar_laws::specs::PredicateReader::test_at))]
+#[tactic(auto, unfolding(crate::specs::PredicateReader::test_at))]
 fn read_test<'a>(alloc: Global, steps: usize, symbols: Symbols<'a>) -> Reading<'a, RawPred>
     ensures { Gives (λ p. (pred_of p.0, map seen p.1.now)) result (test_at steps (map seen symbols.now)) }
 {

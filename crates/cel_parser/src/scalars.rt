@@ -6,7 +6,7 @@ ghost use Rattle.cel_parser.specs.Gives.{Gives};
 ghost use Rattle.cel_parser.specs.Numbers.{counted};
 ghost use Rattle.cel_parser.specs.Operations.{op_of};
 ghost use Rattle.cel_parser.specs.Seen.{seen};
-ghost use Rattle.grammar_laws.specs.ScalarReader.{both_at, factor_at, name_at, number_at, product_at, product_more, scalar_at, scalar_more};
+ghost use Rattle.cel_parser.specs.ScalarReader.{both_at, factor_at, name_at, number_at, product_at, product_more, scalar_at, scalar_more};
 
 use crate::literals::{literal_text, name_text};
 use crate::reading::{Reading, Symbols};
@@ -18,7 +18,7 @@ use std::alloc::Global;
 
 /// A scalar at the front, and the symbols behind it.
 #[cycle(scalar)]
-#[tactic(auto, unfolding(grammar_laws::specs::ScalarReader::scalar_at))]
+#[tactic(auto, unfolding(crate::specs::ScalarReader::scalar_at))]
 pub(crate) fn read_scalar<'a>(alloc: Global, steps: usize, symbols: Symbols<'a>) -> Reading<'a, Raw>
     ensures { Gives (λ p. (scalar_of p.0, map seen p.1.now)) result (scalar_at steps (map seen symbols.now)) }
 {
@@ -31,7 +31,7 @@ pub(crate) fn read_scalar<'a>(alloc: Global, steps: usize, symbols: Symbols<'a>)
 
 // A scalar that begins with x.
 #[cycle(scalar)]
-#[tactic(auto, unfolding(grammar_laws::specs::ScalarReader::scalar_at))]
+#[tactic(auto, unfolding(crate::specs::ScalarReader::scalar_at))]
 fn go_on_scalar<'a>(alloc: Global, steps: usize, x: Raw, symbols: Symbols<'a>) -> Reading<'a, Raw>
     ensures { Gives (λ p. (scalar_of p.0, map seen p.1.now)) result (scalar_more steps (scalar_of x) (map seen symbols.now)) }
 {
@@ -55,7 +55,7 @@ fn go_on_scalar<'a>(alloc: Global, steps: usize, x: Raw, symbols: Symbols<'a>) -
 
 // A product at the front.
 #[cycle(scalar)]
-#[tactic(auto, unfolding(grammar_laws::specs::ScalarReader::scalar_at))]
+#[tactic(auto, unfolding(crate::specs::ScalarReader::scalar_at))]
 fn read_product<'a>(alloc: Global, steps: usize, symbols: Symbols<'a>) -> Reading<'a, Raw>
     ensures { Gives (λ p. (scalar_of p.0, map seen p.1.now)) result (product_at steps (map seen symbols.now)) }
 {
@@ -68,7 +68,7 @@ fn read_product<'a>(alloc: Global, steps: usize, symbols: Symbols<'a>) -> Readin
 
 // A product that begins with x.
 #[cycle(scalar)]
-#[tactic(auto, unfolding(grammar_laws::specs::ScalarReader::scalar_at))]
+#[tactic(auto, unfolding(crate::specs::ScalarReader::scalar_at))]
 fn go_on_product<'a>(alloc: Global, steps: usize, x: Raw, symbols: Symbols<'a>) -> Reading<'a, Raw>
     ensures { Gives (λ p. (scalar_of p.0, map seen p.1.now)) result (product_more steps (scalar_of x) (map seen symbols.now)) }
 {
@@ -87,7 +87,7 @@ fn go_on_product<'a>(alloc: Global, steps: usize, x: Raw, symbols: Symbols<'a>) 
 
 // A factor at the front.
 #[cycle(scalar)]
-#[tactic(auto, unfolding(grammar_laws::specs::ScalarReader::scalar_at))]
+#[tactic(auto, unfolding(crate::specs::ScalarReader::scalar_at))]
 fn read_factor<'a>(alloc: Global, steps: usize, symbols: Symbols<'a>) -> Reading<'a, Raw>
     ensures { Gives (λ p. (scalar_of p.0, map seen p.1.now)) result (factor_at steps (map seen symbols.now)) }
 {
@@ -122,7 +122,7 @@ fn read_factor<'a>(alloc: Global, steps: usize, symbols: Symbols<'a>) -> Reading
 
 // Two scalars in parentheses.
 #[cycle(scalar)]
-#[tactic(auto, unfolding(grammar_laws::specs::ScalarReader::scalar_at))]
+#[tactic(auto, unfolding(crate::specs::ScalarReader::scalar_at))]
 fn read_two<'a>(
     alloc: Global,
     steps: usize,

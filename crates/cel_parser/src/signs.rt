@@ -2,8 +2,8 @@
 ghost use Rattle.std.specs.Prelude.{◌≡◌, map};
 ghost use Rattle.cel_parser.specs.Gives.{Gives};
 ghost use Rattle.cel_parser.specs.Seen.{seen};
-ghost use Rattle.grammar_laws.specs.ScalarReader.{close_at, comma_at, open_at};
-ghost use Rattle.grammar_laws.specs.SourceReader.{brace_at, from_at};
+ghost use Rattle.cel_parser.specs.ScalarReader.{close_at, comma_at, open_at};
+ghost use Rattle.cel_parser.specs.SourceReader.{brace_at, from_at};
 
 use crate::reading::Symbols;
 use crate::symbol::Symbol;

@@ -6,7 +6,7 @@ ghost use Rattle.cel_parser.specs.Gives.{Gives};
 ghost use Rattle.cel_parser.specs.Links.{link_of, linked};
 ghost use Rattle.cel_parser.specs.Seen.{seen};
 ghost use Rattle.cel_parser.specs.Terms.{filter_at, inner_at, linked_at, selection_at, term_step};
-ghost use Rattle.grammar_laws.specs.SourceReader.{source_at, source_more, term_at};
+ghost use Rattle.cel_parser.specs.SourceReader.{source_at, source_more, term_at};
 
 use crate::items::read_items;
 use crate::links::{Link, is_link, read_condition, read_link};
@@ -20,7 +20,7 @@ use std::alloc::Global;
 
 /// A source at the front, and the symbols behind it.
 #[cycle(source)]
-#[tactic(auto, unfolding(grammar_laws::specs::SourceReader::source_at))]
+#[tactic(auto, unfolding(crate::specs::SourceReader::source_at))]
 pub(crate) fn read_source<'a>(
     alloc: Global,
     steps: usize,

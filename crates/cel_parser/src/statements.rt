@@ -6,7 +6,7 @@ ghost use Rattle.cel_grammar.specs.Views.{statement_of};
 ghost use Rattle.cel_parser.specs.Columns.{declaration_at, ended_at, query_at, statement_step, whole_at};
 ghost use Rattle.cel_parser.specs.Gives.{Gives};
 ghost use Rattle.cel_parser.specs.Seen.{seen};
-ghost use Rattle.grammar_laws.specs.StatementReader.{publish_at};
+ghost use Rattle.cel_parser.specs.StatementReader.{publish_at};
 
 use crate::columns::read_columns;
 use crate::items::read_items;

@@ -9,9 +9,9 @@ use crate::drawing::draw;
 use crate::meeting::Stores;
 use crate::settling::settle;
 use automaton::{Layout, Network};
-use cay_host::{Ledger, Steps};
 use event_types::{List, Memory};
 use std::alloc::Global;
+use steps::{Ledger, Steps};
 
 /// Closes the epoch of this time: makes all that comes of its open tuples, and then takes the stores over
 /// it. It gives the tuples of the derived streams. `touched` are the streams that have open tuples, and

@@ -13,9 +13,9 @@ ghost use Rattle.epoch_draft.specs.Tests.{stream_work, streams_work};
 use crate::draft::{Draft, Lists, Pairs};
 use crate::meeting::{Stores, meet_stream};
 use automaton::{Layout, Network};
-use cay_host::{Ledger, Steps};
 use event_types::{Memory, StreamId, put_in_order};
 use std::alloc::Global;
+use steps::{Ledger, Steps};
 
 /// Makes all that comes of the open tuples of an epoch. Nothing but the draft and the pairs is changed,
 /// and after want of memory these are of no more use.

@@ -12,9 +12,9 @@ ghost use Rattle.epoch_draft.specs.Work.{keeps, ways_work};
 use crate::draft::Draft;
 use crate::passing::pass_on;
 use automaton::{End, Network, Wait};
-use cay_host::{Ledger, Steps};
 use event_types::{Memory, Tuple};
 use std::alloc::Global;
+use steps::{Ledger, Steps};
 
 /// A tuple goes out by an end. After want of memory the draft is of no more use.
 pub(crate) fn go_out<L: Ledger>(

@@ -20,14 +20,13 @@ use crate::draft::{Draft, Pair, Pairs};
 use crate::filling::add;
 use crate::finding::{Target, targets_for, waits_for};
 use crate::going::{go_into, go_out, leave};
-use algebra::{join, rebind};
 use automaton::{Network, Turn, Wait};
-use cay_host::{Ledger, Steps};
 use event_types::{List, Memory, StreamId, Tuple};
 use inst_chain::Look;
 use instances::{Instance, PlainStore, Waiting};
-use scalar_expr::{Conj, holds};
+use scalar_expr::{Conj, holds, join, rebind};
 use std::alloc::Global;
+use steps::{Ledger, Steps};
 
 /// A store for each waiting state, by its number.
 pub type Stores = List<Option<PlainStore>>;

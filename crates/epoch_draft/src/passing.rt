@@ -5,10 +5,10 @@ ghost use Rattle.epoch_draft.specs.Work.{keeps};
 ghost use Rattle.epoch_pass.specs.Suits.{StepSuits};
 
 use automaton::Stage;
-use cay_host::{Ledger, Steps};
 use event_types::{Memory, Tuple};
 use scalar_expr::{apply, holds};
 use std::alloc::Global;
+use steps::{Ledger, Steps};
 
 /// What the tuple is after the stages, or nothing where one of them doesn't let it pass.
 pub(crate) fn pass_on<L: Ledger>(

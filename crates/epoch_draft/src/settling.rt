@@ -15,11 +15,11 @@ use crate::draft::{Beads, Draft, Lists, Pair, Pairs};
 use crate::meeting::Stores;
 use crate::purging::purge_listed;
 use automaton::{Layout, Network};
-use cay_host::{Ledger, Steps};
 use event_types::{StreamId, Tuple, Tuples};
 use inst_chain::Chain;
 use instances::{Instance, PlainStore, Waiting};
 use scalar_expr::Conj;
+use steps::{Ledger, Steps};
 
 /// Takes the stores over an epoch of this time that was drawn: what its tuples match is taken out, the new
 /// instances come in, and what no event after that time can match is taken out. Takes no memory.

@@ -16,9 +16,9 @@ use crate::settling::settle_marked;
 use crate::tables::Tables;
 use crate::trimming::purge_listed;
 use automaton::{Layout, Network};
-use cay_host::{Ledger, Steps};
 use event_types::{Memory, StreamId, Tuples};
 use std::alloc::Global;
+use steps::{Ledger, Steps};
 
 /// Takes the stores through the epoch of this time, and gives its results. The open tuples are dropped.
 pub(crate) fn take_epoch<L: Ledger>(

@@ -19,11 +19,11 @@ use crate::settling::empty_stores;
 use crate::tables::{Tables, empty_lists};
 use crate::trimming::{purge_all, stored};
 use automaton::{Layout, Network};
-use cay_host::{Ledger, Steps};
 use event_types::{Memory, StreamId, Tuple};
 use prefix_merge::Merged;
 use std::alloc::Global;
 use std::marker::Model;
+use steps::{Ledger, Steps};
 
 /// The bindings that wait at the states of a network, and the tuples of the open epoch.
 #[derive(Drop)]

@@ -16,11 +16,11 @@ use crate::marks::Marks;
 use crate::reach::Reach;
 use crate::tables::EndPlace;
 use automaton::Network;
-use cay_host::{Ledger, Steps};
 use epoch_pass::{add_passed, leaving};
 use event_types::{KindLists, List, Memory, Numbers, Tuples};
 use instances::PlainStore;
 use std::alloc::Global;
+use steps::{Ledger, Steps};
 
 /// A store for each waiting state, by its number.
 pub(crate) type Stores = List<Option<PlainStore>>;

@@ -14,11 +14,11 @@ use crate::flow::{Lists, Stores, tuples_of};
 use crate::reach::Reach;
 use crate::tables::add;
 use automaton::{Network, Wait};
-use cay_host::{Ledger, Steps};
 use epoch_pass::settle;
 use event_types::{KindLists, List, Memory};
 use instances::PlainStore;
 use std::alloc::Global;
+use steps::{Ledger, Steps};
 
 /// An empty store for each waiting state.
 pub(crate) fn empty_stores(alloc: Global, network: &Network) -> Result<Stores, Memory>

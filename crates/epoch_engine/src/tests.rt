@@ -6,13 +6,13 @@ ghost use Rattle.semantics.specs.Kinds.{HasKinds};
 mod network;
 
 use crate::{Batch, Engine, OfferFault};
-use cay_host::{Ledger, Quiet, Steps};
 use event_types::{Kind, Kinds, List, Memory, StreamId, Tuple, Tuples, Value};
 use network::{NEAR, NEWS, PAIR, STOCK, engine};
 use std::alloc::Global;
 use std::process::Abort;
 use std::sync::ledger::Blank;
 use std::test::Fail;
+use steps::{Ledger, Quiet, Steps};
 
 // A row: its start, its detection and its numbers.
 type Row<'a> = (u64, u64, &'a [i128]);

@@ -14,8 +14,8 @@ use Rattle.semantics.specs.Nexts.{is_eligible}
 use Rattle.semantics.specs.Runs.{rebound}
 use Rattle.semantics.specs.Scalars.{Pr}
 use Rattle.semantics.specs.Truth.{all_true}
-use Rattle.algebra.proofs.ListLemmas.{All-flat_map}
-use Rattle.algebra.proofs.TypingLemmas.{typed_fits, typed_image, typed_tests}
+use Rattle.scalar_expr.proofs.ListLemmas.{All-flat_map}
+use Rattle.scalar_expr.proofs.FitLemmas.{typed_fits, typed_image, typed_tests}
 use Rattle.automaton.specs.LineKinds.{StepGives, TurnGives, WaitGives}
 use Rattle.automaton.specs.Steps.{pass}
 use Rattle.automaton.specs.declared.step.Stage.{Stage}

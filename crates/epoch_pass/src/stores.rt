@@ -13,12 +13,12 @@ ghost use Rattle.epoch_pass.specs.Suits.{StepSuits, WaitSuits};
 use crate::passing::pass_on;
 use crate::waiting::add_met;
 use automaton::{Stage, Turn, Wait};
-use cay_host::{Ledger, Steps};
 use event_types::{List, Memory, Tuple, Tuples};
 use inst_chain::Bead;
 use instances::{Instance, PlainStore, Waiting};
 use scalar_expr::Conj;
 use std::alloc::Global;
+use steps::{Ledger, Steps};
 
 /// What leaves a wait in an epoch with these tuples.
 pub fn leaving<L: Ledger>(

@@ -5,14 +5,13 @@ ghost use Rattle.epoch_pass.specs.Pairs.{followed, met, paired};
 ghost use Rattle.epoch_pass.specs.Suits.{TurnSuits, WaitSuits};
 
 use crate::passing::add;
-use algebra::{can_follow, join, rebind};
 use automaton::{Turn, Wait};
-use cay_host::{Ledger, Steps};
 use event_types::{Memory, Tuple, Tuples};
 use inst_chain::Look;
 use instances::Instance;
-use scalar_expr::holds;
+use scalar_expr::{can_follow, holds, join, rebind};
 use std::alloc::Global;
+use steps::{Ledger, Steps};
 
 /// Adds what the tuple makes of the instances that the reader gives. After want of memory some of it may be
 /// added.

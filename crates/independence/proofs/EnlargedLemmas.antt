@@ -4,8 +4,8 @@ use Rattle.std.specs.Prelude.{Contains}
 use Rattle.std.proofs.lemmas.List.Elements.{All-contains}
 use Rattle.cel_types.specs.SourceLaws.{kinds_in}
 use Rattle.catalogue.specs.Judgement.{program_of}
-use Rattle.monitor.specs.Hearing.{closed}
-use Rattle.monitor.specs.Readings.{readings}
+use Rattle.session.specs.Hearing.{closed}
+use Rattle.session.specs.Readings.{readings}
 use Rattle.independence.specs.Enlarging.{AddedQueriesChangeNoEvent, AddedQueriesChangeNoLine}
 use Rattle.independence.specs.Reports.{AddedQueriesChangeNoReport}
 use Rattle.independence.proofs.AcceptedLemmas.{accepted-stands}

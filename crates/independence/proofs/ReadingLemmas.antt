@@ -10,8 +10,8 @@ use Rattle.event_csv.specs.declared.fault.LineFault.{LineFault}
 use Rattle.event_csv.specs.Event.{event as event_in}
 use Rattle.event_csv.specs.Lines.{Line, lines}
 use Rattle.epoch_laws.specs.Standing.{closed_part, last_time}
-use Rattle.monitor.specs.Hearing.{Reading, before_last, closed, disorder, events_in, heard, heard_from, refusal_of, refused, refused_from, seen_after}
-use Rattle.monitor.specs.Readings.{found_of, reading_of, readings}
+use Rattle.session.specs.Hearing.{Reading, before_last, closed, disorder, events_in, heard, heard_from, refusal_of, refused, refused_from, seen_after}
+use Rattle.session.specs.Readings.{found_of, reading_of, readings}
 use Rattle.independence.specs.Enlarging.{AreReadAlike}
 use Rattle.independence.specs.Hearing.{AreOneEvent, AreTheSameEvents}
 

@@ -3,8 +3,8 @@ use Rattle.std.specs.Prelude.{◌≡◌, ℕ, Bool, List}
 use Rattle.std.specs.List.{All}
 use Rattle.semantics.specs.Histories.{times}
 use Rattle.catalogue.specs.Judgement.{Accepts, Judged, program_of}
-use Rattle.monitor.specs.Hearing.{closed, heard, refused}
-use Rattle.monitor.specs.Readings.{readings}
+use Rattle.session.specs.Hearing.{closed, heard, refused}
+use Rattle.session.specs.Readings.{readings}
 use Rattle.independence.specs.Enlarging.{AddQueries}
 use Rattle.independence.specs.Hearing.{AreTheSameEvents}
 use Rattle.independence.specs.Independence.{HasTwin}

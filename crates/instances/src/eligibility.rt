@@ -4,10 +4,10 @@ ghost use Rattle.semantics.specs.Nexts.{is_eligible};
 ghost use Rattle.scalar_expr.specs.Fits.{AllFit};
 
 use crate::instance::Instance;
-use cay_host::{Ledger, Steps};
 use event_types::Tuple;
 use inst_chain::Chain;
 use scalar_expr::{Conj, holds};
+use steps::{Ledger, Steps};
 
 /// Takes the instances for which the event is eligible out of a chain. Takes no memory.
 pub fn take_eligible<L: Ledger>(

@@ -6,12 +6,12 @@ use crate::contents::{add_copies, count_of};
 use crate::eligibility::take_eligible;
 use crate::instance::{Instance, Instances};
 use crate::waiting::Waiting;
-use cay_host::{Ledger, Steps};
 use event_types::{List, Memory, Tuple};
 use inst_chain::{Bead, Chain, Look};
 use scalar_expr::Conj;
 use std::alloc::Global;
 use std::marker::Model;
+use steps::{Ledger, Steps};
 
 /// A store that looks at each of its instances.
 ///

@@ -5,7 +5,6 @@ ghost use Rattle.event_types.specs.declared.value.Value.TheVariants.{Int};
 ghost use Rattle.semantics.specs.Scalars.{Dur, Lit, Test};
 
 use crate::{Instance, PlainStore, Waiting};
-use cay_host::{Ledger, Quiet, Steps};
 use event_types::{List, Memory, Numbers, Tuple, Value};
 use inst_chain::Bead;
 use scalar_expr::{Cmp, Conj, Pred, Scalar, normal};
@@ -13,6 +12,7 @@ use std::alloc::Global;
 use std::process::Abort;
 use std::sync::ledger::Blank;
 use std::test::Fail;
+use steps::{Ledger, Quiet, Steps};
 
 // DUR against a number.
 fn span(alloc: Global, cmp: Cmp, most: i128) -> Result<Conj, Memory> {

@@ -8,11 +8,11 @@ ghost use Rattle.instances.specs.Bounds.{alive_instances};
 ghost use Rattle.instances.specs.Keys.{BindingFits, EventFits, HasKey, IsReady, KeepsUsedKeys, Key, candidates_of, unmatched};
 
 use crate::instance::{Instance, Instances};
-use cay_host::{Ledger, Steps};
 use event_types::{Memory, Tuple};
 use inst_chain::{Bead, Look};
 use scalar_expr::Conj;
 use std::alloc::Global;
+use steps::{Ledger, Steps};
 
 /// A store of the instances that wait at one state. The order of its instances is its own.
 ///

@@ -9,3 +9,5 @@ pub mod RunsLemmas
 pub mod SeenLemmas
 pub mod SortedLemmas
 pub mod TermOrderLemmas
+pub mod FitLemmas
+pub mod ListLemmas

@@ -9,6 +9,7 @@ mod arithmetic;
 mod canonical;
 mod conjunction;
 mod copying;
+mod following;
 mod kinding;
 mod laws;
 mod ordering;
@@ -22,6 +23,7 @@ mod valuation;
 pub use canonical::normal;
 pub use conjunction::Conj;
 pub use event_types::Cmp;
+pub use following::{can_follow, join, rebind};
 pub use kinding::kind_of;
 pub use laws::{
     canonical_form_keeps_truth, nexts_of_a_bag, nexts_start_later, parts_keep_truth, runs_end,

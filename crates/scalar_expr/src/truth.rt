@@ -11,9 +11,9 @@ ghost use Rattle.scalar_expr.specs.Views.{pr_of};
 use crate::conjunction::Conj;
 use crate::predicate::Pred;
 use crate::valuation::value_of;
-use cay_host::{Ledger, Steps};
 use event_types::{Cmp, Dec, Tuple, ValueRef};
 use std::cmp::Ordering;
+use steps::{Ledger, Steps};
 
 /// Whether all parts hold over an event and a binding.
 ///

@@ -8,3 +8,16 @@ pub mod OutLemmas
 pub mod ReadLemmas
 pub mod StageLemmas
 pub mod StepLemmas
+pub mod ApartLemmas
+pub mod ChainLemmas
+pub mod GrowLemmas
+pub mod ProgramLawLemmas
+pub mod LeadLemmas
+pub mod LineLemmas
+pub mod NumberedLemmas
+pub mod OneLemmas
+pub mod ProgramLemmas
+pub mod RangeLemmas
+pub mod SplitLemmas
+pub mod WorkStepLemmas
+pub mod WidthLemmas

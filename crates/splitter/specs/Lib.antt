@@ -4,3 +4,9 @@ pub mod Room
 pub mod Splitting
 pub mod Stages
 pub mod Widths
+pub mod Chains
+pub mod Growing
+pub mod ProgramLaws
+pub mod Layouts
+pub mod SourceWidths
+pub mod Work

@@ -1,7 +1,8 @@
 use Rattle.std.proofs.Common.{◌∙◌, ◌<◌, ◌-◌, arith, subst, sym}
 use Rattle.event_types.specs.Tuple.{Row}
 use Rattle.algebra.specs.Suits.{SuitsRuns}
-use Rattle.algebra.proofs.FoldLemmas.{All_read, SuitsBranch, suits_branches}
+use Rattle.algebra.proofs.FoldLemmas.{SuitsBranch, suits_branches}
+use Rattle.scalar_expr.proofs.ListLemmas.{All_read}
 use Rattle.algebra.proofs.iteration.+add_runs.Goals as goal
 use Rattle.scalar_expr.proofs.RunsLemmas.{goers_start_later}
 

@@ -8,9 +8,9 @@ use Rattle.cel_parser.specs.declared.unread.Unread.TheVariants as unread
 use Rattle.cel_parser.specs.Gives.{Fails, Gives}
 use Rattle.cel_parser.specs.Links.{fold_at, link_of, Fold}
 use Rattle.cel_parser.specs.Seen.{seen}
-use Rattle.grammar_laws.specs.PredicateReader.{pred_at}
-use Rattle.grammar_laws.specs.ScalarReader.{◌>>=◌, comma_at, done}
-use Rattle.grammar_laws.specs.SourceReader.{aggs_at, brace_at}
+use Rattle.cel_parser.specs.PredicateReader.{pred_at}
+use Rattle.cel_parser.specs.ScalarReader.{◌>>=◌, comma_at, done}
+use Rattle.cel_parser.specs.SourceReader.{aggs_at, brace_at}
 use Rattle.cel_parser.proofs.links.read_fold.Goals as goal
 
 -- what goes on behind what fails, fails too

@@ -1,6 +1,6 @@
 use Rattle.std.proofs.Common.{sym, refl, subst, ◌<◌, length, List, arith}
 use Rattle.std.specs.List.{All}
-use Rattle.algebra.proofs.FoldLemmas.{All_read}
+use Rattle.scalar_expr.proofs.ListLemmas.{All_read}
 use Rattle.event_types.specs.Tuple.{Row}
 use Rattle.instances.specs.declared.instance.Instance.{Instance}
 use Rattle.epoch_pass.specs.Suits.{WaitSuits}

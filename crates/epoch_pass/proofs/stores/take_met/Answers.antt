@@ -2,7 +2,7 @@ use Rattle.std.proofs.Common.{◌∙◌, sym, ap, refl, subst, ◌<◌, not, len
 use Rattle.std.specs.Prelude.{Some}
 use Rattle.std.specs.List.{All, filter}
 use Rattle.std.proofs.lemmas.List.Elements.{All-filter}
-use Rattle.algebra.proofs.FoldLemmas.{All_read}
+use Rattle.scalar_expr.proofs.ListLemmas.{All_read}
 use Rattle.event_types.specs.Tuple.{Row}
 use Rattle.instances.specs.declared.instance.Instance.{Instance}
 use Rattle.scalar_expr.specs.Fits.{AllFit}

@@ -1,7 +1,7 @@
 use Rattle.std.proofs.Common.{◌≡◌, ◌∙◌, ℕ, ◌-◌, ◌<◌, List, length, get_or, sym, ap, subst, arith}
 use Rattle.std.specs.List.{All}
 use Rattle.std.proofs.lemmas.List.Elements.{Contains-get_or}
-use Rattle.chains.specs.Work.{AreChains}
+use Rattle.splitter.specs.Work.{AreChains}
 use Rattle.catalogue.specs.Catalogued.{parts_of}
 use Rattle.catalogue.specs.Chained.{kinds_of_each}
 use Rattle.catalogue.proofs.ChainedLemmas.{Asks, asks, chained, many_streams, streams_whole}

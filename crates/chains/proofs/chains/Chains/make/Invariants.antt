@@ -1,6 +1,0 @@
-use Rattle.chains.proofs.LeadLemmas.{Leads}
-use Rattle.chains.proofs.chains.Chains.make.Given as goal
-
--- the queries so far are there
-abbrev pub invariant-loop-place : goal.invariant-loop-place
-invariant-loop-place l = Leads l.fn.declared l.expressions l.fn.places l.fn.kinds l.place l.namer l.lines l.layout

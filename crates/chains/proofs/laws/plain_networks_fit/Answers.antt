@@ -1,5 +1,0 @@
-use Rattle.automaton.proofs.PlainLemmas.{plain_fits}
-use Rattle.chains.proofs.laws.plain_networks_fit.Goals as goal
-
-pub returns : goal.returns
-returns c = plain_fits

@@ -1,7 +1,0 @@
-use Rattle.std.proofs.Common.{drop}
-use Rattle.evaluation.proofs.PublishingLemmas.{IsLeft}
-use Rattle.evaluation.proofs.publishing.publish.Given as goal
-
--- what is left is the queries at the places from here on
-abbrev pub invariant-loop-place : goal.invariant-loop-place
-invariant-loop-place g l = IsLeft l.queries l.initial.streams l.order l.streams (drop l.place-index l.order)

@@ -1,5 +1,0 @@
-use Rattle.grammar_laws.proofs.PredicateComplete.{pred_tests, scalar_plain}
-use Rattle.grammar_laws.proofs.parentheses_tell.Goals as goal
-
-pub returns : goal.returns
-returns c = record { predicate = λ ts rest p h. pred_tests h 0; scalar = λ ts rest x h. scalar_plain h 0 }

@@ -1,5 +1,0 @@
-pub mod ScalarReader
-pub mod PredicateReader
-pub mod SourceReader
-pub mod StatementReader
-pub mod Laws

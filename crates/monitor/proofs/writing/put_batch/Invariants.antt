@@ -1,7 +1,0 @@
-use Rattle.monitor.specs.Standing.{program_over}
-use Rattle.monitor.proofs.BatchLemmas.{IsPut}
-use Rattle.monitor.proofs.writing.put_batch.Given as goal
-
--- the lines of the queries so far were put
-abbrev pub invariant-loop-number : goal.invariant-loop-number
-invariant-loop-number l = IsPut (program_over l.catalogue).queries l.batch l.number l.initial.rows l.rows

@@ -1,7 +1,0 @@
-//! Laws of what the closing of an epoch gives.
-ghost use Rattle.monitor.specs.BatchLaws.{ClosingGivesResults};
-
-/// The closing of an epoch gives exactly the results of each query, in the order of the file.
-pub fn closing_gives_results()
-    ensures { ClosingGivesResults }
-{}

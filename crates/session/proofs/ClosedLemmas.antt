@@ -1,0 +1,47 @@
+-- The rows of an epoch that is closed.
+use Rattle.std.proofs.Common.{◌≡◌, ◌∙◌, sym, ap, subst, ℕ, ◌<◌, cond, List, [], ◌++◌, append_assoc, Option, Some}
+use Rattle.std.proofs.lemmas.Bool.{lt-ltb}
+use Rattle.cay_host.specs.Told.{Told}
+use Rattle.event_types.specs.Tuple.{Row}
+use Rattle.semantics.specs.Histories.{Heard}
+use Rattle.semantics.specs.Programs.{Program}
+use Rattle.epoch_engine.specs.Closes.{Closes, KeepsPlan}
+use Rattle.epoch_engine.specs.StandsFor as engines
+use Rattle.epoch_engine.specs.Views as engine
+use Rattle.epoch_engine.proofs.StandsLemmas.{closed_stands}
+use Rattle.catalogue.specs.Catalogued.{Catalogued, IsAccepted, judged_of}
+use Rattle.session.specs.Batches.{batch_lines}
+use Rattle.session.specs.Standing.{IsPlanned, Stands, lines_over, program_over}
+use Rattle.session.specs.Working.{Owes, closing, is_later, open_rows}
+use Rattle.session.proofs.BatchLemmas.{batch_at, lines_are}
+use Rattle.session.proofs.ResultLemmas.{closing_gives_results}
+
+module _ (c : Catalogued) (accepted : IsAccepted c) (old new : engine.View) (batch : List (List Row)) (planned : IsPlanned c old) (closes : Closes old new batch) (history : List Heard) (stands : Stands c history old) where
+  -- the batch has the results of the queries over what was heard
+  batch_is : batch ≡ batch_at (program_over c) history closes.time (program_over c).queries
+  batch_is = closing_gives_results accepted.text (judged_of c) old new history batch accepted.accepts planned.layout stands.engine stands.declared closes
+
+  -- its lines are the rows of the open epoch
+  pub rows_closed : (rows put : List ℕ) → put ≡ rows ++ batch_lines (program_over c).queries batch → put ≡ rows ++ open_rows (program_over c) history old.time
+  rows_closed rows put e =
+      let program = program_over c in
+      e ∙ ap (λ lists. rows ++ batch_lines program.queries lists) batch_is ∙ ap (λ lines. rows ++ lines) (lines_are program history closes.time program.queries)
+      ∙ ap (λ o. rows ++ open_rows program history o) (sym closes.was_open)
+
+  -- the engine stands for the same events
+  pub still_stands : KeepsPlan old new → engines.StandsFor new (lines_over c) history
+  still_stands plan = closed_stands old new (lines_over c) history batch stands.engine closes plan
+
+-- a later event closes the open epoch
+closing_is : (program : Program) (history : List Heard) (seen : Option ℕ) (last at : ℕ) → seen ≡ Some last → last < at → closing program history seen at ≡ open_rows program history seen
+closing_is program history seen last at e less = ap (λ b. cond b (open_rows program history seen) []) (ap (λ o. is_later o at) e ∙ lt-ltb last at less)
+
+module _ (program : Program) (history : List Heard) (seen : Option ℕ) (last at : ℕ) (e : seen ≡ Some last) (less : last < at) (old closed : List ℕ) (f : closed ≡ old ++ open_rows program history seen) where
+  -- the rows with those of the epoch that it closed
+  pub closed_rows : closed ≡ old ++ closing program history seen at
+  closed_rows = f ∙ ap (λ rows. old ++ rows) (sym (closing_is program history seen last at e less))
+
+  -- what is owed of the closed rows is owed of what the closing adds
+  pub owes_closed : (new : List ℕ) (a b : Told) → ((rest : List ℕ) → Owes (closed ++ rest) (new ++ rest) a b) → (rest : List ℕ) → Owes (old ++ (closing program history seen at ++ rest)) (new ++ rest) a b
+  owes_closed new a b owes rest =
+      subst (λ t. Owes t (new ++ rest) a b) (ap (λ rows. rows ++ rest) closed_rows ∙ append_assoc old (closing program history seen at) rest) (owes rest)

@@ -1,0 +1,235 @@
+-- The report of the closed epochs, written epoch after epoch.
+use Rattle.std.proofs.Common.{◌≡◌, ◌∙◌, sym, ap, refl, subst, ℕ, ◌<◌, Bool, true, false, cond, ◌&&◌, nat_lt, is_some, is_none, List, [], ◌∷◌, ◌++◌, Some, None, Result, Ok, Err, length, length-append, arith, ◌≤◌, append-nil, append_assoc}
+use Rattle.std.specs.List.{All, filter}
+use Rattle.std.specs.Option.{option_or}
+use Rattle.std.proofs.lemmas.List.Elements.{filter-append, All-nil, All-cons, All-head, All-tail, All-append, All-weaker}
+use Rattle.std.proofs.lemmas.Bool.{lt-ltb, le-ltb, ltb-true, ltb-false}
+use Rattle.semantics.specs.Histories.{Heard}
+use Rattle.semantics.specs.Laws.{NeverFalls}
+use Rattle.semantics.specs.Programs.{Program}
+use Rattle.semantics.specs.Report.{epoch, report}
+use Rattle.semantics.proofs.ReportLemmas.{report_grows_by_epochs}
+use Rattle.event_csv.specs.declared.fault.LineFault.{LineFault}
+use Rattle.epoch_laws.specs.Standing.{closed_part, last_time}
+use Rattle.session.specs.declared.refusal.Refusal.TheVariants.{IsOutOfOrder}
+use Rattle.session.specs.Working.{rows_left}
+use Rattle.session.specs.Hearing.{Reading, refused_from, heard_from, before_last, closed, closed_after}
+
+-- an event of an earlier time; an event of this time
+abbrev pub IsEarlier : ℕ → Heard → Type 0
+IsEarlier time event = event.tuple.at < time
+
+-- an event is of a time
+abbrev pub IsOf : ℕ → Heard → Type 0
+IsOf time event = event.tuple.at ≡ time
+
+-- the events before the open epoch, and those of it
+pub record Standing (before now : List Heard) (time : ℕ) : Type 0 where
+  pub early : All (IsEarlier time) before
+  pub same : All (IsOf time) now
+  pub some : 0 < length now
+
+-- the events of the closed epochs, once some have been heard
+abbrev closed_then : Bool → List Reading → List Heard → List Heard → ℕ → List Heard
+closed_then ended lines before now time =
+    cond (ended && is_none (refused_from (Some time) lines)) ((before ++ now) ++ heard_from (Some time) lines) (before_last ((before ++ now) ++ heard_from (Some time) lines))
+
+-- the law of one more epoch
+abbrev pub EpochLaw : Program → Type 0
+EpochLaw program = (before now : List Heard) (time : ℕ) → Standing before now time → report program (before ++ now) ≡ report program before ++ epoch program (before ++ now) time
+
+last_append : (xs : List Heard) (y : Heard) (ys : List Heard) → last_time (xs ++ y ∷ ys) ≡ last_time (y ∷ ys)
+last_append [] y ys = refl
+last_append (x ∷ []) y ys = refl
+last_append (x ∷ next ∷ xs) y ys = last_append (next ∷ xs) y ys
+
+last_of_one_time : (time : ℕ) (x : Heard) (now : List Heard) → All (IsOf time) (x ∷ now) → last_time (x ∷ now) ≡ Some time
+last_of_one_time time x [] all = ap Some (All-head (IsOf time) x [] all)
+last_of_one_time time x (next ∷ now) all = last_of_one_time time next now (All-tail (IsOf time) x (next ∷ now) all)
+
+-- the last time is that of the open epoch
+pub last_is : (before now : List Heard) (time : ℕ) → Standing before now time → last_time (before ++ now) ≡ Some time
+last_is before [] time s = absurd (let some = s.some in omega arith)
+last_is before (x ∷ xs) time s = last_append before x xs ∙ last_of_one_time time x xs s.same
+
+keeps_earlier : (time : ℕ) (xs : List Heard) → All (IsEarlier time) xs → filter (λ event. nat_lt event.tuple.at time) xs ≡ xs
+keeps_earlier time [] all = refl
+keeps_earlier time (x ∷ xs) all =
+    let e : nat_lt x.tuple.at time ≡ true = lt-ltb _ _ (All-head (IsEarlier time) x xs all) in
+    ap (λ b. cond b (x ∷ filter (λ event. nat_lt event.tuple.at time) xs) (filter (λ event. nat_lt event.tuple.at time) xs)) e ∙ ap (λ ys. x ∷ ys) (keeps_earlier time xs (All-tail (IsEarlier time) x xs all))
+
+drops_this : (time : ℕ) (xs : List Heard) → All (IsOf time) xs → filter (λ event. nat_lt event.tuple.at time) xs ≡ []
+drops_this time [] all = refl
+drops_this time (x ∷ xs) all =
+    let same = All-head (IsOf time) x xs all in
+    let e : nat_lt x.tuple.at time ≡ false = le-ltb _ _ (omega (arith, same)) in
+    ap (λ b. cond b (x ∷ filter (λ event. nat_lt event.tuple.at time) xs) (filter (λ event. nat_lt event.tuple.at time) xs)) e ∙ drops_this time xs (All-tail (IsOf time) x xs all)
+
+-- the events before the last time are those before the open epoch
+pub before_is : (before now : List Heard) (time : ℕ) → Standing before now time → before_last (before ++ now) ≡ before
+before_is before now time s =
+    ap (λ t. closed_part t (before ++ now)) (last_is before now time s)
+    ∙ filter-append (λ event. nat_lt event.tuple.at time) before now
+    ∙ ap (λ ys. ys ++ filter (λ event. nat_lt event.tuple.at time) now) (keeps_earlier time before s.early)
+    ∙ ap (λ ys. before ++ ys) (drops_this time now s.same)
+    ∙ append-nil before
+
+-- nothing more is heard
+none_more : (program : Program) (before now : List Heard) (time : ℕ) → Standing before now time → report program before ++ [] ≡ report program (before_last ((before ++ now) ++ []))
+none_more program before now time s =
+    append-nil _ ∙ ap (report program) (sym (ap before_last (append-nil (before ++ now)) ∙ before_is before now time s))
+
+and-false : (b : Bool) → (b && false) ≡ false
+and-false true = refl
+and-false false = refl
+
+-- a later event begins a new epoch
+pub later_stands : (before now : List Heard) (time : ℕ) (event : Heard) → Standing before now time → nat_lt time event.tuple.at ≡ true → Standing (before ++ now) (event ∷ []) event.tuple.at
+later_stands before now time event s m =
+    let up : time < event.tuple.at = ltb-true _ _ m in
+    record {
+      early = All-append (IsEarlier event.tuple.at) before now
+          (All-weaker (IsEarlier time) (IsEarlier event.tuple.at) (λ x h. omega (arith, h, up)) before s.early)
+          (All-weaker (IsOf time) (IsEarlier event.tuple.at) (λ x h. omega (arith, h, up)) now s.same);
+      same = All-cons (IsOf event.tuple.at) event [] refl (All-nil _);
+      some = omega arith;
+    }
+
+-- an event that is neither earlier nor later has the open epoch's time
+pub same_time : (time : ℕ) (event : Heard) → nat_lt event.tuple.at time ≡ false → nat_lt time event.tuple.at ≡ false → event.tuple.at ≡ time
+same_time time event l m =
+    let low : time ≤ event.tuple.at = ltb-false _ _ l in
+    let high : event.tuple.at ≤ time = ltb-false _ _ m in
+    omega (arith, low, high)
+
+-- one more event of the time belongs to the open epoch
+pub same_stands : (before now : List Heard) (time : ℕ) (event : Heard) → Standing before now time → event.tuple.at ≡ time → Standing before (now ++ event ∷ []) time
+same_stands before now time event s same = record {
+  early = s.early;
+  same = All-append (IsOf time) now (event ∷ []) s.same (All-cons (IsOf time) event [] same (All-nil _));
+  some = let n = length-append now (event ∷ []) in omega (arith, n, s.some);
+}
+
+-- the first event opens an epoch
+pub first_stands : (event : Heard) → Standing [] (event ∷ []) event.tuple.at
+first_stands event = record { early = All-nil _; same = All-cons (IsOf event.tuple.at) event [] refl (All-nil _); some = omega arith }
+
+module _ (program : Program) (law : EpochLaw program) (ended : Bool) where
+  -- what is to be shown of a line's event, by whether it is late and whether it opens a later epoch
+  abbrev Goal : List Heard → List Heard → ℕ → ℕ → Heard → List Reading → Bool → Bool → Type 0
+  Goal before now time number event lines late later =
+      let refusal = cond late (Some (IsOutOfOrder number event.tuple.at time)) None in
+      let more = cond (is_some refusal) [] ((event ∷ []) ++ heard_from (Some event.tuple.at) lines) in
+      report program before ++ cond (is_some refusal) []
+      (cond later (epoch program (before ++ now) time) [] ++ rows_left program ended lines (Some event.tuple.at) ((before ++ now) ++ event ∷ []))
+      ≡ report program (cond (ended && is_none (option_or refusal (refused_from (Some event.tuple.at) lines))) ((before ++ now) ++ more) (before_last ((before ++ now) ++ more)))
+
+  abbrev Law : List Reading → Type 0
+  Law lines = (before now : List Heard) (time : ℕ) → Standing before now time → report program before ++ rows_left program ended lines (Some time) (before ++ now) ≡ report program (closed_then ended lines before now time)
+
+  event_law : (lines : List Reading) → Law lines → (before now : List Heard) (time number : ℕ) (event : Heard) → Standing before now time
+      → (late later : Bool) → nat_lt event.tuple.at time ≡ late → nat_lt time event.tuple.at ≡ later → Goal before now time number event lines late later
+  event_law lines ih before now time number event s true later l m =
+      none_more program before now time s ∙ ap (λ b. report program (cond b ((before ++ now) ++ []) (before_last ((before ++ now) ++ [])))) (sym (and-false ended))
+  event_law lines ih before now time number event s false true l m =
+      let next = later_stands before now time event s m in
+      sym (append_assoc (report program before) (epoch program (before ++ now) time) _)
+      ∙ ap (λ r. r ++ rows_left program ended lines (Some event.tuple.at) ((before ++ now) ++ event ∷ [])) (sym (law before now time s))
+      ∙ ih (before ++ now) (event ∷ []) event.tuple.at next
+      ∙ ap (λ h. report program (cond (ended && is_none (refused_from (Some event.tuple.at) lines)) h (before_last h))) (append_assoc (before ++ now) (event ∷ []) (heard_from (Some event.tuple.at) lines))
+  event_law lines ih before now time number event s false false l m =
+      let same = same_time time event l m in
+      let next = same_stands before now time event s same in
+      ap (λ h. report program before ++ rows_left program ended lines (Some event.tuple.at) h) (append_assoc before now (event ∷ []))
+      ∙ ap (λ t. report program before ++ rows_left program ended lines (Some t) (before ++ (now ++ event ∷ []))) same
+      ∙ ih before (now ++ event ∷ []) time next
+      ∙ ap (λ h. report program (cond (ended && is_none (refused_from (Some time) lines)) (h ++ heard_from (Some time) lines) (before_last (h ++ heard_from (Some time) lines)))) (sym (append_assoc before now (event ∷ [])))
+      ∙ ap (λ h. report program (cond (ended && is_none (refused_from (Some time) lines)) h (before_last h))) (append_assoc (before ++ now) (event ∷ []) (heard_from (Some time) lines))
+      ∙ ap (λ t. report program (cond (ended && is_none (refused_from (Some t) lines)) ((before ++ now) ++ ((event ∷ []) ++ heard_from (Some t) lines)) (before_last ((before ++ now) ++ ((event ∷ []) ++ heard_from (Some t) lines))))) (sym same)
+
+  line_law : (lines : List Reading) → Law lines → (number : ℕ) (found : Result Heard LineFault) → Law (record { number = number; found = found } ∷ lines)
+  line_law lines ih number (Ok event) before now time s = event_law lines ih before now time number event s (nat_lt event.tuple.at time) (nat_lt time event.tuple.at) refl refl
+  line_law lines ih number (Err fault) before now time s =
+      none_more program before now time s ∙ ap (λ b. report program (cond b ((before ++ now) ++ []) (before_last ((before ++ now) ++ [])))) (sym (and-false ended))
+
+  end_law : (before now : List Heard) (time : ℕ) → Standing before now time → (b : Bool)
+      → report program before ++ cond b (epoch program (before ++ now) time) [] ≡ report program (cond (b && true) ((before ++ now) ++ []) (before_last ((before ++ now) ++ [])))
+  end_law before now time s true = sym (law before now time s) ∙ ap (report program) (sym (append-nil (before ++ now)))
+  end_law before now time s false = none_more program before now time s
+
+  -- by induction on the lines: what was written of the closed epochs and the rows that are to come are the report
+  after_law : (lines : List Reading) → Law lines
+  after_law [] = λ before now time s. end_law before now time s ended
+  after_law (line ∷ lines) = line_law lines (after_law lines) line.number line.found
+
+  first_law : (lines : List Reading) (number : ℕ) (found : Result Heard LineFault)
+      → rows_left program ended (record { number = number; found = found } ∷ lines) None [] ≡ report program (closed (record { number = number; found = found } ∷ lines) ended)
+  first_law lines number (Ok event) = after_law lines [] (event ∷ []) event.tuple.at (first_stands event)
+  first_law lines number (Err fault) = ap (λ b. report program (cond b [] [])) (sym (and-false ended))
+
+  -- the rows of a text of which nothing has been heard are the report of its closed epochs
+  rows_are_report : (lines : List Reading) → rows_left program ended lines None [] ≡ report program (closed lines ended)
+  rows_are_report [] = at_end ended
+    where
+      at_end : (b : Bool) → cond b [] [] ≡ report program (cond (b && true) [] [])
+      at_end true = refl
+      at_end false = refl
+  rows_are_report (line ∷ lines) = first_law lines line.number line.found
+
+-- a law of one more epoch holds of each program
+law_of : (program : Program) → EpochLaw program
+law_of program = λ before now time s. report_grows_by_epochs program before now time s.early s.same s.some
+
+-- the rows that come after the start are the report of the closed epochs
+pub rows_left_are_report : (program : Program) (ended : Bool) (lines : List Reading) → rows_left program ended lines None [] ≡ report program (closed lines ended)
+rows_left_are_report program ended lines = rows_are_report program (law_of program) ended lines
+
+-- a history is its closed epochs and its open one
+pub record Parted (history : List Heard) : Type 0 where
+  pub before : List Heard
+  pub now : List Heard
+  pub time : ℕ
+  pub standing : Standing before now time
+  pub all : before ++ now ≡ history
+
+-- one more event comes after them
+parted_more : (before now : List Heard) (time : ℕ) (event : Heard) (rest : List Heard) → Standing before now time → time ≤ event.tuple.at → All (λ other. time ≤ other.tuple.at) rest → All (λ other. event.tuple.at ≤ other.tuple.at) rest
+    → ((before now : List Heard) (time : ℕ) → Standing before now time → All (λ other. time ≤ other.tuple.at) rest → Parted ((before ++ now) ++ rest)) → Parted ((before ++ now) ++ event ∷ rest)
+parted_more before now time event rest s here low falls more = by_later (nat_lt time event.tuple.at) refl
+  where
+    by_later : (b : Bool) → nat_lt time event.tuple.at ≡ b → Parted ((before ++ now) ++ event ∷ rest)
+    by_later true m = subst Parted (append_assoc (before ++ now) (event ∷ []) rest) (more (before ++ now) (event ∷ []) event.tuple.at (later_stands before now time event s m) falls)
+    by_later false m =
+        let high : event.tuple.at ≤ time = ltb-false _ _ m in
+        subst Parted (ap (λ h. h ++ rest) (sym (append_assoc before now (event ∷ []))) ∙ append_assoc (before ++ now) (event ∷ []) rest)
+        (more before (now ++ event ∷ []) time (same_stands before now time event s (omega (arith, high, here))) low)
+
+-- by induction on the later events
+parted_from : (rest : List Heard) (before now : List Heard) (time : ℕ) → Standing before now time → All (λ event. time ≤ event.tuple.at) rest → NeverFalls rest → Parted ((before ++ now) ++ rest)
+parted_from [] before now time s low falls = record { before = before; now = now; time = time; standing = s; all = sym (append-nil (before ++ now)) }
+parted_from (event ∷ rest) before now time s low falls =
+    parted_more before now time event rest s (All-head (λ other. time ≤ other.tuple.at) event rest low) (All-tail (λ other. time ≤ other.tuple.at) event rest low) falls.0
+    (λ b n t stands below. parted_from rest b n t stands below falls.1)
+
+parted : (event : Heard) (later : List Heard) → NeverFalls (event ∷ later) → Parted (event ∷ later)
+parted event later falls = parted_from later [] (event ∷ []) event.tuple.at (first_stands event) falls.0 falls.1
+
+-- what is closed of a history and the rows that come after it are what is closed then
+abbrev IsAfter : Program → Bool → List Reading → List Heard → Type 0
+IsAfter program ended lines history = report program (before_last history) ++ rows_left program ended lines (last_time history) history ≡ report program (closed_after history lines ended)
+
+after_parts : (program : Program) (ended : Bool) (lines : List Reading) (history : List Heard) → Parted history → IsAfter program ended lines history
+after_parts program ended lines history parts =
+    let whole = parts.before ++ parts.now in
+    let last = last_is parts.before parts.now parts.time parts.standing in
+    subst (IsAfter program ended lines) parts.all
+    (ap (λ h. report program h ++ rows_left program ended lines (last_time whole) whole) (before_is parts.before parts.now parts.time parts.standing)
+    ∙ ap (λ o. report program parts.before ++ rows_left program ended lines o whole) last
+    ∙ after_law program (law_of program) ended lines parts.before parts.now parts.time parts.standing
+    ∙ ap (λ o. report program (cond (ended && is_none (refused_from o lines)) (whole ++ heard_from o lines) (before_last (whole ++ heard_from o lines)))) (sym last))
+
+-- the report of what is closed of a history, and the rows that come after it, are the report of what is closed then
+pub rows_left_after : (program : Program) (ended : Bool) (lines : List Reading) (history : List Heard) → NeverFalls history
+    → report program (before_last history) ++ rows_left program ended lines (last_time history) history ≡ report program (closed_after history lines ended)
+rows_left_after program ended lines [] falls = rows_left_are_report program ended lines
+rows_left_after program ended lines (event ∷ later) falls = after_parts program ended lines (event ∷ later) (parted event later falls)

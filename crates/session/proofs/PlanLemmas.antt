@@ -1,0 +1,116 @@
+-- The network and the layout of an engine as those of a catalogue.
+use Rattle.std.proofs.Common.{◌≡◌, ◌∙◌, sym, ap, refl, subst, ℕ, ◌-◌, ◌<◌, ◌==◌, ◌||◌, false, List, [], ◌∷◌, ◌++◌, length, Some, slice_get, arith}
+use Rattle.std.specs.Prelude.{Contains}
+use Rattle.std.specs.List.{All, range_with_len}
+use Rattle.std.specs.Option.{option_map}
+use Rattle.std.proofs.lemmas.Bool.Decides.{nat_tests}
+use Rattle.std.proofs.lemmas.List.{length-map}
+use Rattle.std.proofs.lemmas.List.Elements.{All-nil, All-cons, All-contains, All-head, All-tail, All-append, Contains-append_left}
+use Rattle.std.proofs.lemmas.Option.{get_or_from_slice_get, slice_get-map}
+use Rattle.event_types.specs.declared.kind.Kind.{Kind}
+use Rattle.event_types.specs.Tuple.{Row}
+use Rattle.event_types.specs.Order.{sorted}
+use Rattle.semantics.proofs.StatementLemmas.{declared_there}
+use Rattle.semantics.specs.Kinds.{HasKinds}
+use Rattle.semantics.specs.Programs.{Query}
+use Rattle.semantics.specs.TypedPrograms.{PublishInTurn}
+use Rattle.stream_schema.specs.Schema.{kinds_of}
+use Rattle.stream_schema.specs.Streams.{Entry, schemas_of}
+use Rattle.automaton.specs.declared.layout.Layout.{Layout}
+use Rattle.automaton.specs.NetworkLines.{HasLines}
+use Rattle.automaton.specs.States.{Net}
+use Rattle.automaton.specs.Work.{is_in}
+use Rattle.splitter.specs.Laws.{hidden_streams, split_order}
+use Rattle.cel_types.specs.SourceLaws.{kinds_in}
+use Rattle.splitter.specs.Chains.{HideApart, chain_order, hidden_end, order_of}
+use Rattle.splitter.specs.Layouts.{IsLayoutOf}
+use Rattle.splitter.proofs.ApartLemmas.{range_all}
+use Rattle.splitter.proofs.LineLemmas.{get_more}
+use Rattle.epoch_laws.specs.Stands.{Serves}
+use Rattle.epoch_engine.specs.Closes.{Closes, KeepsPlan}
+use Rattle.epoch_engine.specs.Offers.{IsHeard}
+use Rattle.epoch_engine.specs.Starts.{IsNew}
+use Rattle.epoch_engine.specs.Views as engine
+use Rattle.catalogue.specs.Catalogued.{Catalogued, IsAccepted, judged_of}
+use Rattle.catalogue.specs.Chained.{kinds_of_each}
+use Rattle.catalogue.proofs.ProgramLemmas.{accepted_are_wide_programs, declared_are_told}
+use Rattle.event_csv.specs.declared.event.Seen.{Seen}
+use Rattle.session.specs.Fitting.{Fits}
+use Rattle.session.specs.Standing.{IsPlanned, lines_over, program_over}
+use Rattle.session.proofs.BatchLemmas.{as_many}
+
+-- the derived streams of queries have greater numbers than a stream that is there, by induction on the queries
+order_above : (kinds : ℕ → List Kind) (stream : ℕ) (there : List ℕ) (order : List Query) → Contains there stream → PublishInTurn kinds there order → HideApart order → All (λ number. stream < number) (chain_order order)
+order_above kinds stream there [] has turn apart = All-nil (λ number. stream < number)
+order_above kinds stream there (query ∷ order) has turn apart =
+    let above : stream < query.stream = All-contains (λ n. n < query.stream) there stream turn.0 has in
+    All-append (λ number. stream < number) (split_order query.expr query.stream query.hidden) (chain_order order)
+    (All-append (λ number. stream < number) (hidden_streams query.expr query.hidden) (query.stream ∷ [])
+    (range_all (λ number. stream < number) query.hidden (hidden_end query - query.hidden) (λ number low high. omega (arith, above, apart.0)))
+    (All-cons (λ number. stream < number) query.stream [] above (All-nil (λ number. stream < number))))
+    (order_above kinds stream (there ++ query.stream ∷ []) order (Contains-append_left there (query.stream ∷ []) stream has) turn.3 apart.2)
+
+other_number : (stream number : ℕ) → stream < number → (stream == number) ≡ false
+other_number stream number less = grind (arith, nat_tests)
+
+none_is : (stream : ℕ) (numbers : List ℕ) → All (λ number. stream < number) numbers → is_in numbers stream ≡ false
+none_is stream [] all = refl
+none_is stream (number ∷ numbers) all =
+    λ i. other_number stream number (All-head (λ n. stream < n) number numbers all) i || none_is stream numbers (All-tail (λ n. stream < n) number numbers all) i
+
+module _ (c : Catalogued) (accepted : IsAccepted c) where
+  -- a declared stream isn't derived
+  not_derived : (stream : ℕ) → stream < length (judged_of c).declared → is_in (order_of (program_over c)) stream ≡ false
+  not_derived stream less =
+      let program = program_over c in
+      let wide = accepted_are_wide_programs accepted.text (judged_of c) accepted.accepts in
+      none_is stream (order_of program)
+      (order_above (kinds_in (judged_of c).streams) stream (range_with_len 0 program.declared) program.order (declared_there program.declared stream less) wide.typed.in_turn wide.apart)
+
+  module _ (event : Seen) (fits : Fits (judged_of c).streams event) where
+    -- the event's stream is declared
+    pub is_declared : event.stream < length (judged_of c).declared
+    is_declared = (declared_are_told accepted.text (judged_of c) accepted.accepts event.stream fits.entry fits.there).0 fits.declared
+
+    schema_there : slice_get (schemas_of (judged_of c).streams) event.stream ≡ Some fits.entry.schema
+    schema_there = slice_get-map (λ (entry : Entry). entry.schema) (judged_of c).streams event.stream ∙ ap (option_map (λ (entry : Entry). entry.schema)) fits.there
+
+    -- it has the kinds of its stream
+    pub of_its_kinds : HasKinds (kinds_in (judged_of c).streams event.stream) event.tuple
+    of_its_kinds = fits.kinds ∙ ap kinds_of (sym (get_or_from_slice_get (schemas_of (judged_of c).streams) event.stream fits.entry.schema [] schema_there))
+
+    -- an engine of the catalogue may be offered the event
+    pub may_hear : (now : engine.View) → IsPlanned c now → IsHeard now.layout event.stream event.tuple
+    may_hear now planned = record {
+      kinds = kinds_of fits.entry.schema;
+      known =
+          ap (λ kinds. slice_get kinds event.stream) planned.layout.kinds_are
+          ∙ get_more (kinds_of_each (judged_of c).streams) planned.layout.hidden event.stream (kinds_of fits.entry.schema)
+          (slice_get-map kinds_of (schemas_of (judged_of c).streams) event.stream ∙ ap (option_map kinds_of) schema_there);
+      declared = ap (λ order. is_in order event.stream) planned.layout.order ∙ not_derived event.stream is_declared;
+      of_kinds = fits.kinds;
+    }
+
+-- a batch has a list for each query
+pub batch_count : (c : Catalogued) (old new : engine.View) (batch : List (List Row)) → IsPlanned c old → Closes old new batch → length batch ≡ length c.order
+batch_count c old new batch planned closes =
+    ap length closes.taken.results ∙ length-map old.layout.outs (λ stream. sorted (closes.taken.news stream)) ∙ ap length planned.layout.outs
+    ∙ length-map (program_over c).queries (λ query. query.stream) ∙ as_many c
+
+-- a changed engine of the same network and layout
+pub planned_still : (c : Catalogued) (old new : engine.View) → KeepsPlan old new → IsPlanned c old → IsPlanned c new
+planned_still c old new plan planned = record {
+  lines = subst (λ (net : Net). HasLines net (lines_over c)) (sym plan.network) planned.lines;
+  layout = subst (IsLayoutOf (program_over c) (kinds_of_each (judged_of c).streams)) (sym plan.layout) planned.layout;
+}
+
+-- a network that has the lines of a catalogue, and a layout of it, serve them
+pub lines_serve : (c : Catalogued) (net : Net) (layout : Layout) → HasLines net (lines_over c) → IsLayoutOf (program_over c) (kinds_of_each (judged_of c).streams) layout → Serves net (lines_over c) layout.order
+lines_serve c net layout lines fits = record { has_lines = lines; in_order = fits.fits.in_order }
+
+-- an engine that was made over them has them
+pub new_planned : (c : Catalogued) (net : Net) (layout : Layout) (now : engine.View) → HasLines net (lines_over c) → IsLayoutOf (program_over c) (kinds_of_each (judged_of c).streams) layout → IsNew net layout now → IsPlanned c now
+new_planned c net layout now lines fits new = record {
+  lines = subst (λ (n : Net). HasLines n (lines_over c)) (sym new.network) lines;
+  layout = subst (IsLayoutOf (program_over c) (kinds_of_each (judged_of c).streams)) (sym new.same_layout) fits;
+}

@@ -1,0 +1,29 @@
+use Rattle.std.proofs.Common.{◌∙◌, sym}
+use Rattle.std.proofs.lemmas.Result.{on_ok_weaker}
+use Rattle.session.proofs.ClosedLemmas.{rows_closed, still_stands}
+use Rattle.session.proofs.PlanLemmas.{batch_count}
+use Rattle.session.proofs.closing.close_epoch.Goals as goal
+
+-- the batch has a list for each query
+pub put_batch-requires : goal.put_batch-requires
+put_batch-requires g c = batch_count c.args.catalogue.now c.args.work.now.engine c.close.new.self c.in_ok-batch.batch c.requires.at_work.planned c.in_ok-batch.ensures.closed
+
+-- the rows of the epoch were put
+pub returns-clause-rows : goal.returns-clause-rows
+returns-clause-rows g c =
+    on_ok_weaker c.put_batch.result
+    (λ put history stands. rows_closed c.args.catalogue.now c.put_batch.ensures.accepted c.args.work.now.engine c.close.new.self c.in_ok-batch.batch c.requires.at_work.planned c.in_ok-batch.ensures.closed history stands
+    c.args.work.now.rows c.put_batch.new.rows put) c.put_batch.ensures.put
+
+-- the epoch is closed
+pub returns-clause-closed : goal.returns-clause-closed
+returns-clause-closed g c =
+    let closes = c.in_ok-batch.ensures.closed in
+    on_ok_weaker c.put_batch.result
+    (λ put. record {
+      plan = c.in_ok-batch.ensures.plan;
+      intact = c.in_ok-batch.ensures.intact;
+      none_open = closes.none_open;
+      now_closed = closes.now_closed ∙ sym closes.was_open;
+      stands = λ history stands. still_stands c.args.catalogue.now c.put_batch.ensures.accepted c.args.work.now.engine c.close.new.self c.in_ok-batch.batch c.requires.at_work.planned closes history stands c.in_ok-batch.ensures.plan;
+    }) c.put_batch.ensures.put

@@ -1,0 +1,85 @@
+//! The closing of epochs.
+ghost use Rattle.std.specs.Prelude.{◌≡◌, true, None, [], ℕ, List, IsSome, IfErr, OnOk};
+ghost use Rattle.cay_host.specs.Output.{SameButOutput};
+ghost use Rattle.semantics.specs.Histories.{Heard};
+ghost use Rattle.session.specs.Feeding.{BlamesWriting};
+ghost use Rattle.session.specs.Hearing.{disorder};
+ghost use Rattle.session.specs.Standing.{HasClosed, IsAtWork, IsReady, Stands, program_over};
+ghost use Rattle.session.specs.Whatever.{FailsInClosing, OwesClosing, PutsOpenRows};
+ghost use Rattle.session.specs.Working.{Ends};
+
+use crate::fault::SessionFault;
+use crate::work::Work;
+use crate::writing::{put_batch, write_many, write_rows};
+use catalogue::Catalogue;
+use cay_host::{Host, Ledger, Steps};
+use event_types::Memory;
+use std::alloc::Global;
+
+// Closes the open epoch, and puts its rows behind those that aren't written yet.
+fn close_epoch<L: Ledger>(
+    alloc: Global,
+    catalogue: &Catalogue,
+    work: &mut Work,
+    steps: &mut Steps<L>,
+) -> Result<(), Memory>
+    requires at_work { IsAtWork catalogue.now work.old }
+    requires opened { IsSome work.old.engine.time }
+    ensures rows { OnOk result (PutsOpenRows catalogue.now work.old work.new) }
+    ensures closed { OnOk result (HasClosed catalogue.now work.old.engine work.new.engine) }
+{
+    let batch = work.engine.close(alloc, steps)?;
+    put_batch(catalogue, &batch, &mut work.rows)
+}
+
+/// Closes the open epoch where an event of this time comes later.
+pub fn close_before<H: Host, L: Ledger>(
+    alloc: Global,
+    host: &mut H,
+    catalogue: &Catalogue,
+    work: &mut Work,
+    at: u64,
+    steps: &mut Steps<L>,
+) -> Result<(), SessionFault>
+    requires at_work { IsAtWork catalogue.now work.old }
+    requires timely { (number : ℕ) → disorder number work.old.engine.time at ≡ None }
+    ensures owes { OnOk result (OwesClosing catalogue.now at work.old work.new (H.told host.old) (H.told host.new)) }
+    ensures ready { OnOk result (IsReady catalogue.now at work.old.engine work.new.engine) }
+    ensures fails { IfErr result (FailsInClosing catalogue.now at work.old (H.told host.old) (H.told host.new)) }
+    ensures quiet { BlamesWriting result (H.told host.old) (H.told host.new) }
+    ensures same { SameButOutput (H.told host.old) (H.told host.new) }
+{
+    match work.engine.open_time() {
+        Some(seen) if seen < at => match close_epoch(alloc, catalogue, work, steps) {
+            Ok(()) => match write_many(host, &mut work.rows) {
+                Ok(()) => Ok(()),
+                Err(_) => Err(SessionFault::WriteFault),
+            },
+            Err(_) => Err(SessionFault::Memory),
+        },
+        _ => Ok(()),
+    }
+}
+
+/// Closes the last epoch, and writes what there is.
+pub fn close_last<H: Host, L: Ledger>(
+    alloc: Global,
+    host: &mut H,
+    catalogue: &Catalogue,
+    work: &mut Work,
+    steps: &mut Steps<L>,
+) -> Result<(), SessionFault>
+    requires { IsAtWork catalogue.now work.old }
+    ensures ends { (history : List Heard) → Stands catalogue.now history work.old.engine → Ends (program_over catalogue.now) true [] history work.old (H.told host.old) (H.told host.new) result }
+    ensures closed { OnOk result (HasClosed catalogue.now work.old.engine work.new.engine) }
+    ensures quiet { BlamesWriting result (H.told host.old) (H.told host.new) }
+    ensures same { SameButOutput (H.told host.old) (H.told host.new) }
+{
+    if work.engine.open_time().is_some() && close_epoch(alloc, catalogue, work, steps).is_err() {
+        return Err(SessionFault::Memory);
+    }
+    match write_rows(host, &mut work.rows) {
+        Ok(()) => Ok(()),
+        Err(_) => Err(SessionFault::WriteFault),
+    }
+}

@@ -1,0 +1,116 @@
+//! The work on one event, or on a line that is refused.
+ghost use Rattle.std.specs.Prelude.{◌≡◌, ℕ, IsTrue, None, IfErr, OnOk};
+ghost use Rattle.cay_host.specs.Output.{SameButOutput};
+ghost use Rattle.catalogue.specs.Catalogued.{IsAccepted, judged_of};
+ghost use Rattle.epoch_engine.specs.Offers.{IsHeard, IsLate, IsNotAhead, with_tuple};
+ghost use Rattle.session.specs.Feeding.{BlamesWriting};
+ghost use Rattle.session.specs.Fitting.{Fits};
+ghost use Rattle.session.specs.Hearing.{disorder};
+ghost use Rattle.session.specs.Standing.{IsAtWork};
+ghost use Rattle.session.specs.Whatever.{StopsAtEvent, TakesEvent};
+ghost use Rattle.session.specs.Working.{Blames, RefusesBy};
+
+use crate::closing::close_before;
+use crate::fault::SessionFault;
+use crate::refusal::Refusal;
+use crate::work::Work;
+use crate::writing::write_rows;
+use catalogue::Catalogue;
+use cay_host::{Host, Ledger, Steps};
+use epoch_engine::OfferFault;
+use event_csv::Seen;
+use event_types::Memory;
+use std::alloc::Global;
+
+/// Writes the rows, and refuses a line.
+pub fn refuse<H: Host>(host: &mut H, work: &mut Work, refusal: Refusal) -> SessionFault
+    ensures by { RefusesBy work.old.rows refusal (H.told host.old) (H.told host.new) result }
+    ensures quiet { Blames result (H.told host.old) (H.told host.new) }
+    ensures same { SameButOutput (H.told host.old) (H.told host.new) }
+{
+    match write_rows(host, &mut work.rows) {
+        Ok(()) => SessionFault::Refused(refusal),
+        Err(_) => SessionFault::WriteFault,
+    }
+}
+
+// Offers an event to the engine, and keeps its stream.
+fn hear(work: &mut Work, event: Seen) -> Result<(), Memory>
+    requires intact { IsTrue work.old.engine.intact }
+    requires heard { IsHeard work.old.engine.layout event.stream event.tuple }
+    requires not_ahead { IsNotAhead work.old.engine.time event.tuple.at }
+    requires in_time { (seen : ℕ) → IsLate work.old.engine.time work.old.engine.closed event.tuple.at seen → ⊥ }
+    ensures heard { OnOk result (work.new.engine ≡ with_tuple work.old.engine event.stream event.tuple) }
+    ensures rows { work.new.rows ≡ work.old.rows }
+{
+    work.near = event.stream;
+    match work.engine.offer(event.stream, event.tuple) {
+        Ok(()) => Ok(()),
+        Err(OfferFault::Memory { .. }) => Err(Memory),
+        Err(OfferFault::OutOfOrder { .. }) => unreachable!(),
+    }
+}
+
+// Works on an event that isn't late.
+fn take_timely<H: Host, L: Ledger>(
+    alloc: Global,
+    host: &mut H,
+    catalogue: &Catalogue,
+    work: &mut Work,
+    number: u64,
+    event: Seen,
+    steps: &mut Steps<L>,
+) -> Result<(), SessionFault>
+    requires at_work { IsAtWork catalogue.now work.old }
+    requires accepted { IsAccepted catalogue.now }
+    requires fits { Fits (judged_of catalogue.now).streams event }
+    requires timely { (number : ℕ) → disorder number work.old.engine.time event.tuple.at ≡ None }
+    ensures more { OnOk result (TakesEvent catalogue.now number event work.old work.new (H.told host.old) (H.told host.new)) }
+    ensures at_work { OnOk result (IsAtWork catalogue.now work.new) }
+    ensures stops { IfErr result (StopsAtEvent catalogue.now number event work.old (H.told host.old) (H.told host.new)) }
+    ensures quiet { BlamesWriting result (H.told host.old) (H.told host.new) }
+    ensures same { SameButOutput (H.told host.old) (H.told host.new) }
+{
+    let at = event.tuple.at();
+    match close_before(alloc, host, catalogue, work, at, steps) {
+        Ok(()) => match hear(work, event) {
+            Ok(()) => Ok(()),
+            Err(_) => Err(SessionFault::Memory),
+        },
+        Err(fault) => Err(fault),
+    }
+}
+
+/// Works on an event, or refuses it.
+pub fn take_event<H: Host, L: Ledger>(
+    alloc: Global,
+    host: &mut H,
+    catalogue: &Catalogue,
+    work: &mut Work,
+    number: u64,
+    event: Seen,
+    steps: &mut Steps<L>,
+) -> Result<(), SessionFault>
+    requires at_work { IsAtWork catalogue.now work.old }
+    requires accepted { IsAccepted catalogue.now }
+    requires fits { Fits (judged_of catalogue.now).streams event }
+    ensures more { OnOk result (TakesEvent catalogue.now number event work.old work.new (H.told host.old) (H.told host.new)) }
+    ensures at_work { OnOk result (IsAtWork catalogue.now work.new) }
+    ensures stops { IfErr result (StopsAtEvent catalogue.now number event work.old (H.told host.old) (H.told host.new)) }
+    ensures quiet { BlamesWriting result (H.told host.old) (H.told host.new) }
+    ensures same { SameButOutput (H.told host.old) (H.told host.new) }
+{
+    let at = event.tuple.at();
+    match work.engine.open_time() {
+        Some(seen) if at < seen => Err(refuse(
+            host,
+            work,
+            Refusal::IsOutOfOrder {
+                line: number,
+                at,
+                seen,
+            },
+        )),
+        _ => take_timely(alloc, host, catalogue, work, number, event, steps),
+    }
+}

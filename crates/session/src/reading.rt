@@ -1,0 +1,77 @@
+//! Event lines as they are read.
+ghost use Rattle.std.specs.Prelude.{◌≡◌, false, [], IfOk};
+ghost use Rattle.event_csv.specs.Fed.{IsLine, lines_left};
+ghost use Rattle.session.specs.Fitting.{FitsNext};
+ghost use Rattle.session.specs.Readings.{IsReading, Shows, ShowsLast};
+ghost use Rattle.session.specs.Taking.{Gone};
+
+use event_csv::{Feed, Got, LineFault, ReadFail, Seen, read_event_near};
+use event_types::{Memory, StreamId};
+use std::alloc::Global;
+use stream_schema::Streams;
+
+/// What comes next of an event text.
+#[derive(Drop)]
+pub enum Next {
+    /// An event, and the number of its line.
+    Event(u64, Seen),
+    /// A line with a fault, and its number.
+    Fault(u64, LineFault),
+    /// No line that has its end.
+    NotYet,
+}
+
+/// Reads the next line that is neither empty nor the header; its name is looked for at the stream `near` first.
+pub fn next_reading(
+    alloc: Global,
+    streams: &Streams,
+    near: StreamId,
+    feed: &mut Feed,
+) -> Result<Next, Memory>
+    ensures shows { IfOk result (Shows streams.now feed.old feed.new) }
+    ensures gone { Gone feed.old feed.new }
+    ensures fits { IfOk result (FitsNext streams.now) }
+{
+    match feed.next_line() {
+        Got::Line { number, bytes } => read_line(alloc, streams, near, number, bytes),
+        Got::Long { number } => Ok(Next::Fault(number, LineFault::LineTooLong)),
+        Got::NotYet => Ok(Next::NotYet),
+    }
+}
+
+/// Reads the line that is left where the text ends here; its name is looked for at the stream `near` first.
+pub fn last_reading(
+    alloc: Global,
+    streams: &Streams,
+    near: StreamId,
+    feed: &Feed,
+) -> Result<Next, Memory>
+    requires { lines_left feed.now false ≡ [] }
+    ensures shows { IfOk result (ShowsLast streams.now feed.now) }
+    ensures fits { IfOk result (FitsNext streams.now) }
+{
+    match feed.last_line() {
+        Got::Line { number, bytes } => read_line(alloc, streams, near, number, bytes),
+        Got::Long { number } => Ok(Next::Fault(number, LineFault::LineTooLong)),
+        Got::NotYet => Ok(Next::NotYet),
+    }
+}
+
+// Reads the bytes of a line.
+fn read_line(
+    alloc: Global,
+    streams: &Streams,
+    near: StreamId,
+    number: u64,
+    bytes: &[u8],
+) -> Result<Next, Memory>
+    requires { IsLine bytes.now }
+    ensures reading { IfOk result (IsReading streams.now number bytes.now) }
+    ensures fits { IfOk result (FitsNext streams.now) }
+{
+    match read_event_near(alloc, streams, near, bytes) {
+        Ok(seen) => Ok(Next::Event(number, seen)),
+        Err(ReadFail::Bad(why)) => Ok(Next::Fault(number, why)),
+        Err(ReadFail::Memory) => Err(Memory),
+    }
+}

@@ -1,0 +1,228 @@
+//! Sessions.
+ghost use Rattle.std.specs.Prelude.{◌≡◌, ℕ, ◌-◌, ◌^◌, [], List, None, false, min, true, IsTrue, IfErr, IfOk, OnErr, OnOk, take};
+ghost use Rattle.semantics.specs.Histories.{Heard};
+ghost use Rattle.automaton.specs.NetworkLines.{HasLines};
+ghost use Rattle.splitter.specs.Chains.{lines_of};
+ghost use Rattle.splitter.specs.Layouts.{IsLayoutOf};
+ghost use Rattle.cay_host.specs.Output.{SameButOutput};
+ghost use Rattle.prefix_merge.specs.Counts.{CountsPlain, CountsStates};
+ghost use Rattle.epoch_engine.specs.Counts.{stored_in};
+ghost use Rattle.epoch_engine.specs.StandsFor as engines;
+ghost use Rattle.catalogue.specs.Catalogued.{judged_of};
+ghost use Rattle.catalogue.specs.Chained.{kinds_of_each};
+ghost use Rattle.catalogue.specs.Judgement.{program_of};
+ghost use Rattle.session.specs.Feeding.{BlamesWriting, BreaksAtPiece, Feeds, Finishes};
+ghost use Rattle.session.specs.Sessions.{AreDeclared, CountsWaiting, KeepsQueries, StandsFor, TrimsEngine, WorksFor, program_in};
+ghost use Rattle.session.specs.Standing.{IsPlanned, lines_over};
+
+use crate::counting::{hops_of, root_states};
+use crate::fault::SessionFault;
+use crate::lines::{take_lines, take_rest};
+use crate::work::Work;
+use catalogue::Catalogue;
+use cay_host::{Host, Ledger, Steps};
+use epoch_engine::Engine;
+use event_csv::Feed;
+use event_types::Memory;
+use prefix_merge::Merged;
+use result_text::Rows;
+use std::alloc::Global;
+use std::marker::Model;
+
+/// The work of queries on one event text, which may come behind events that the engine has heard: the
+/// text is fed piece by piece, and the rows of each epoch are written once a later event or the end of
+/// the text has closed it.
+#[derive(Drop)]
+pub struct Session {
+    catalogue: Catalogue,
+    work: Work,
+    limit: u64,
+    feed: Feed,
+    fed: u64,
+    ended: bool,
+}
+
+impl Model for Session {
+    ghost use Rattle.session.specs.SessionCode.{session_code};
+    ghost use Rattle.session.specs.Sessions.{View};
+
+    ghost Value = { View };
+
+    ghost coded = { session_code };
+
+    ghost view = { λ s. record { catalogue = s.catalogue; engine = s.work.engine; limit = s.limit; feed = s.feed; fed = s.fed; ended = s.ended } };
+
+    ghost use Rattle.std.specs.Prelude.{◌≡◌, false};
+    ghost use Rattle.session.specs.Standing.{IsGoing};
+
+    ghost invariant = { λ s. s.ended ≡ false → IsGoing s.catalogue s.limit s.feed s.fed s.work };
+}
+
+impl Session {
+    /// A session of these queries, which takes at most so many bytes of an event text. Want of memory
+    /// drops the catalogue.
+    pub fn make(alloc: Global, catalogue: Catalogue, limit: u64) -> Result<Session, Memory>
+        ensures queries { IfOk result (λ session. session.catalogue ≡ catalogue) }
+        ensures limit { IfOk result (λ session. session.limit ≡ limit) }
+        ensures stands { IfOk result (λ session. StandsFor session [] []) }
+    {
+        let engine = engine_of(alloc, &catalogue)?;
+        Ok(Session::over(alloc, catalogue, engine, limit))
+    }
+
+    /// Goes on with an engine that may have been offered events before. Takes no memory.
+    pub fn over(alloc: Global, catalogue: Catalogue, engine: Engine, limit: u64) -> Session
+        requires lines { HasLines engine.network (lines_of (program_of (judged_of catalogue))) }
+        requires layout { IsLayoutOf (program_of (judged_of catalogue)) (kinds_of_each (judged_of catalogue).streams) engine.layout }
+        requires intact { IsTrue engine.intact }
+        requires opened { engine.time ≡ None → engine.closed ≡ None }
+        ensures queries { result.catalogue ≡ catalogue }
+        ensures limit { result.limit ≡ limit }
+        ensures engine { result.engine ≡ engine }
+        ensures going { result.ended ≡ false }
+        ensures stands { (past : List Heard) → AreDeclared (judged_of catalogue) past → engines.StandsFor engine (lines_of (program_of (judged_of catalogue))) past → StandsFor result past [] }
+    {
+        Session {
+            catalogue,
+            work: Work {
+                engine,
+                rows: Rows::new(alloc),
+                near: 0,
+            },
+            limit,
+            feed: Feed::new(alloc),
+            fed: 0,
+            ended: false,
+        }
+    }
+
+    /// Whether the session has ended: a fault was answered, or its event text has ended.
+    pub fn ended(&self) -> bool
+        ensures { result ≡ self.now.ended }
+    {
+        self.ended
+    }
+
+    /// The number of states of the merged network of the queries. Takes no memory.
+    pub fn states(&self) -> usize
+        ensures counted { (history : List Heard) → WorksFor self.now history → CountsStates (lines_of (program_in self.now)) result }
+    {
+        self.work.engine.network().states()
+    }
+
+    /// The number of states that the queries would have if their lines shared no waiting state. Takes no
+    /// memory.
+    pub fn plain_states(&self) -> usize
+        ensures counted { (history : List Heard) → WorksFor self.now history → CountsPlain (lines_of (program_in self.now)) result }
+    {
+        root_states(self.work.engine.network()).saturating_add(hops_of(self.catalogue.lines()))
+    }
+
+    /// The number of bindings that wait after the closed epochs and that a later event can still match, as far
+    /// as the bounds on DUR tell, or 2^64-1 where there are more. Takes the other bindings out of the stores,
+    /// and no memory. Where a closing wanted memory, so that the engine isn't intact, it takes out none and
+    /// counts all that are stored.
+    pub fn live(&mut self) -> u64
+        ensures counted { CountsWaiting self.old result }
+        ensures trimmed { IsTrue self.old.engine.intact → TrimsEngine self.old self.new }
+        ensures same { self.old.engine.intact ≡ false → self.new ≡ self.old }
+        ensures stored { self.old.engine.intact ≡ false → result ≡ min (stored_in self.old.engine) (2 ^ 64 - 1) }
+        ensures ended { self.new.ended ≡ self.old.ended }
+        ensures works { (history : List Heard) → WorksFor self.old history → WorksFor self.new history }
+        ensures stands { (past : List Heard) (text : List ℕ) → StandsFor self.old past text → StandsFor self.new past text }
+    {
+        if !self.work.engine.intact() {
+            return self.work.engine.live();
+        }
+        self.work.engine.trim();
+        self.work.engine.live()
+    }
+
+    /// Hears more bytes of the event text, and writes the rows of the epochs that they close. Any fault
+    /// ends the session.
+    pub fn feed<H: Host, L: Ledger>(
+        &mut self,
+        alloc: Global,
+        host: &mut H,
+        piece: &[u8],
+        steps: &mut Steps<L>,
+    ) -> Result<(), SessionFault>
+        requires { self.old.ended ≡ false }
+        ensures fed { OnOk result ((past : List Heard) (text : List ℕ) → StandsFor self.old past text → Feeds self.old self.new past text piece.now (H.told host.old) (H.told host.new)) }
+        ensures broken { IfErr result (BreaksAtPiece self.old piece.now (H.told host.old) (H.told host.new)) }
+        ensures going { OnOk result (self.new.ended ≡ false) }
+        ensures ended { OnErr result (self.new.ended ≡ true) }
+        ensures queries { KeepsQueries self.old self.new }
+        ensures quiet { BlamesWriting result (H.told host.old) (H.told host.new) }
+        ensures same { SameButOutput (H.told host.old) (H.told host.new) }
+    {
+        self.ended = true;
+        let within = front_of(piece, self.limit - self.fed);
+        if self.feed.push(within).is_err() {
+            return Err(SessionFault::Memory);
+        }
+        take_lines(
+            alloc,
+            host,
+            &self.catalogue,
+            &mut self.feed,
+            &mut self.work,
+            steps,
+        )?;
+        if within.len() < piece.len() {
+            return Err(SessionFault::TooMuch { limit: self.limit });
+        }
+        self.fed += within.len() as u64;
+        self.ended = false;
+        Ok(())
+    }
+
+    /// Ends the event text, whose last line may lack its LF. Where no line is refused, the last epoch is
+    /// closed, and its rows are written. The session ends, whatever the answer.
+    pub fn finish<H: Host, L: Ledger>(
+        &mut self,
+        alloc: Global,
+        host: &mut H,
+        steps: &mut Steps<L>,
+    ) -> Result<(), SessionFault>
+        requires { self.old.ended ≡ false }
+        ensures finished { (past : List Heard) (text : List ℕ) → StandsFor self.old past text → Finishes self.old self.new past text (H.told host.old) (H.told host.new) result }
+        ensures ended { self.new.ended ≡ true }
+        ensures queries { KeepsQueries self.old self.new }
+        ensures quiet { BlamesWriting result (H.told host.old) (H.told host.new) }
+        ensures same { SameButOutput (H.told host.old) (H.told host.new) }
+    {
+        self.ended = true;
+        take_rest(
+            alloc,
+            host,
+            &self.catalogue,
+            &self.feed,
+            &mut self.work,
+            steps,
+        )
+    }
+}
+
+/// An engine over the merged network of the queries, which has heard nothing.
+pub(crate) fn engine_of(alloc: Global, catalogue: &Catalogue) -> Result<Engine, Memory>
+    ensures planned { IfOk result (IsPlanned catalogue.now) }
+    ensures intact { IfOk result (λ engine. IsTrue engine.intact) }
+    ensures none_closed { IfOk result (λ engine. engine.closed ≡ None) }
+    ensures stands { IfOk result (λ engine. engines.StandsFor engine (lines_over catalogue.now) []) }
+{
+    let merged = Merged::of(alloc, catalogue.lines())?;
+    let layout = catalogue.layout().copy(alloc)?;
+    Engine::make(alloc, merged, layout)
+}
+
+// The first so many bytes, or all.
+fn front_of(bytes: &[u8], many: u64) -> &[u8]
+    ensures { result.now ≡ take many bytes.now }
+{
+    if (bytes.len() as u64) < many {
+        bytes
+    } else {
+        &bytes[..many as usize]
+    }
+}

@@ -1,0 +1,54 @@
+-- The laws over the lines of programs.
+use Rattle.std.proofs.Common.{◌≡◌, ◌∙◌, sym, ap, refl, subst, ℕ, ◌<◌, List, ◌++◌, map}
+use Rattle.std.specs.Prelude.{Contains}
+use Rattle.std.specs.List.{All, range_with_len}
+use Rattle.std.specs.List.Sorted.{IsPermutation}
+use Rattle.std.proofs.lemmas.List.{get_or-map, length-map}
+use Rattle.std.proofs.lemmas.List.Elements.{All-contains_itself, All-weaker, Contains-append_left, Contains-append_right}
+use Rattle.std.proofs.lemmas.List.Sorted.{All-permutation, IsPermutation-refl, IsPermutation-sym}
+use Rattle.event_types.specs.declared.kind.Kind.{Kind}
+use Rattle.semantics.proofs.StatementLemmas.{declared_there}
+use Rattle.semantics.specs.Denotation.{Streams}
+use Rattle.semantics.specs.Histories.{Heard}
+use Rattle.semantics.specs.Programs.{Program, Query, declared_streams, env}
+use Rattle.semantics.specs.TypedPrograms.{HaveTheirKinds, IsProgram}
+use Rattle.algebra.proofs.ProgramLemmas.{declared_kinds}
+use Rattle.automaton.specs.Work.{IsInOrder, completed}
+use Rattle.splitter.specs.Chains.{HideApart, lines_of, order_of}
+use Rattle.splitter.specs.ProgramLaws.{IsWideProgram}
+use Rattle.splitter.proofs.ChainLemmas.{chain_means, chain_ordered}
+
+pub ordered : (kinds : ℕ → List Kind) (program : Program) → IsProgram kinds program → HideApart program.order → IsInOrder (lines_of program) (order_of program)
+ordered kinds program typed apart = chain_ordered kinds (range_with_len 0 program.declared) program.order typed.in_turn apart
+
+stream_among : (order : List Query) (query : Query) → Contains order query → Contains (map (λ q. q.stream) order) query.stream
+stream_among order query has =
+    let stream_of : Query → ℕ = λ q. q.stream in
+    (has.0, subst (λ n. has.0 < n) (sym (length-map order stream_of)) has.1, get_or-map stream_of order has.0 query query.stream has.1 ∙ ap stream_of has.2)
+
+module _ (kinds : ℕ → List Kind) (program : Program) (history : List Heard) (is : IsWideProgram kinds program) (all : HaveTheirKinds kinds history) where
+  abbrev made : Streams
+  made = completed (lines_of program) (order_of program) (declared_streams program.declared history)
+
+  abbrev numbers : List ℕ
+  numbers = range_with_len 0 program.declared
+
+  abbrev IsMade : Query → Type 0
+  IsMade query = made query.stream ≡ env program history query.stream
+
+  each_meant : (stream : ℕ) → Contains (numbers ++ map (λ q. q.stream) program.order) stream → made stream ≡ env program history stream
+  each_meant =
+      let streams = declared_streams program.declared history in
+      chain_means kinds numbers program.order streams streams is.typed.in_turn is.apart is.wide (declared_kinds kinds program.declared history all) (λ s has. refl)
+
+  pub meant : ((stream : ℕ) → stream < program.declared → made stream ≡ env program history stream) × All IsMade program.queries
+  meant = (
+    λ stream less. each_meant stream (Contains-append_left numbers (map (λ (q : Query). q.stream) program.order) stream (declared_there program.declared stream less)),
+    All-permutation IsMade program.order program.queries (IsPermutation-sym program.queries program.order is.typed.same_queries)
+        (All-weaker (Contains program.order) IsMade (λ query has. each_meant query.stream (Contains-append_right numbers (map (λ (q : Query). q.stream) program.order) query.stream (stream_among program.order query has))) program.order
+        (All-contains_itself program.order)),
+  )
+
+  pub derived_so : All (λ query. IsPermutation (made query.stream) (env program history query.stream)) program.queries
+  derived_so =
+      All-weaker IsMade (λ query. IsPermutation (made query.stream) (env program history query.stream)) (λ query same. subst (IsPermutation (made query.stream)) same (IsPermutation-refl (made query.stream))) program.queries meant.1

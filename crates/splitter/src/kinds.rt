@@ -1,0 +1,34 @@
+//! The kinds of hidden streams.
+ghost use Rattle.std.specs.Prelude.{◌≡◌, List, OnOk};
+ghost use Rattle.event_types.specs.declared.kind.Kind.{Kind};
+ghost use Rattle.automaton.specs.LineKinds.{LineGives};
+ghost use Rattle.splitter.specs.Growing.{GrowInTurn, grown};
+
+use automaton::{Line, Lines};
+use event_types::{KindLists, Memory};
+use std::alloc::Global;
+
+// Adds the kinds of the hidden streams that the lines publish.
+pub(crate) fn add_kinds(alloc: Global, lines: &Lines, kinds: &mut KindLists) -> Result<(), Memory>
+    requires { (all : List (List Kind)) × GrowInTurn kinds.old lines.now all }
+    ensures { OnOk result (GrowInTurn kinds.old lines.now kinds.new) }
+{
+    for line in lines.as_slice() {
+        add_kind(alloc, line, kinds)?;
+    }
+    Ok(())
+}
+
+// Adds the kinds that the line gives, where its stream is the next.
+fn add_kind(alloc: Global, line: &Line, kinds: &mut KindLists) -> Result<(), Memory>
+    requires { (out : List Kind) × LineGives kinds.old line.now out }
+    ensures { OnOk result ((out : List Kind) × LineGives kinds.old line.now out × (kinds.new ≡ grown line.now out kinds.old)) }
+{
+    if line.out == kinds.len() {
+        let out = line.gives(alloc, kinds)?;
+        if kinds.push(out).is_err() {
+            return Err(Memory);
+        }
+    }
+    Ok(())
+}
