@@ -3,9 +3,9 @@ use Rattle.std.proofs.Common.{◌≡◌, sym, subst, ℕ, ◌==◌, nat_lt, Bool
 use Rattle.std.specs.List.{All, filter}
 use Rattle.std.proofs.lemmas.List.Elements.{All-nil, All-cons, All-head, All-tail}
 use Rattle.event_types.specs.declared.kind.Kind.{Kind}
-use Rattle.event_types.specs.Tuple.{Row}
+use Rattle.event_types.specs.Tuple.{TupleView}
 use Rattle.semantics.specs.Denotation.{Streams, denote}
-use Rattle.semantics.specs.Histories.{Heard, heard_on}
+use Rattle.semantics.specs.Histories.{Event, heard_on}
 use Rattle.semantics.specs.Kinds.{HasKinds}
 use Rattle.semantics.specs.Programs.{Query, declared_streams, published, with_stream}
 use Rattle.semantics.specs.TypedPrograms.{PublishInTurn, HaveTheirKinds}
@@ -18,7 +18,7 @@ abbrev AllHaveKinds : (ℕ → List Kind) → Streams → Type 0
 AllHaveKinds kinds streams = (stream : ℕ) → All (HasKinds (kinds stream)) (streams stream)
 
 -- what was heard on a stream has its kinds
-heard_kinds : (kinds : ℕ → List Kind) (stream : ℕ) (history : List Heard) → HaveTheirKinds kinds history → All (HasKinds (kinds stream)) (heard_on history stream)
+heard_kinds : (kinds : ℕ → List Kind) (stream : ℕ) (history : List Event) → HaveTheirKinds kinds history → All (HasKinds (kinds stream)) (heard_on history stream)
 heard_kinds kinds stream [] all = All-nil (HasKinds (kinds stream))
 heard_kinds kinds stream (event ∷ history) all =
     go (heard_kinds kinds stream history (All-tail (λ e. HasKinds (kinds e.stream) e.tuple) event history all)) (event.stream == stream) (same_number event.stream stream)
@@ -31,7 +31,7 @@ heard_kinds kinds stream (event ∷ history) all =
     go rest false same = rest
 
 -- so have the declared streams
-pub declared_kinds : (kinds : ℕ → List Kind) (declared : ℕ) (history : List Heard) → HaveTheirKinds kinds history → AllHaveKinds kinds (declared_streams declared history)
+pub declared_kinds : (kinds : ℕ → List Kind) (declared : ℕ) (history : List Event) → HaveTheirKinds kinds history → AllHaveKinds kinds (declared_streams declared history)
 declared_kinds kinds declared history all stream =
     elim (nat_lt stream declared) as (λ b. All (HasKinds (kinds stream)) (cond b (heard_on history stream) [])) [
       | true ↦ heard_kinds kinds stream history all
@@ -39,7 +39,7 @@ declared_kinds kinds declared history all stream =
     ]
 
 -- a stream more that has its kinds
-with_kinds : (kinds : ℕ → List Kind) (streams : Streams) (number : ℕ) (tuples : List Row) → AllHaveKinds kinds streams → All (HasKinds (kinds number)) tuples → AllHaveKinds kinds (with_stream streams number tuples)
+with_kinds : (kinds : ℕ → List Kind) (streams : Streams) (number : ℕ) (tuples : List TupleView) → AllHaveKinds kinds streams → All (HasKinds (kinds number)) tuples → AllHaveKinds kinds (with_stream streams number tuples)
 with_kinds kinds streams number tuples all new stream = go (stream == number) (same_number stream number)
   where
     go : (b : Bool) → (b ≡ true → stream ≡ number) → All (HasKinds (kinds stream)) (cond b tuples (streams stream))

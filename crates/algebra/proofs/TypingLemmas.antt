@@ -4,7 +4,7 @@ use Rattle.std.specs.Prelude.{Some, None}
 use Rattle.std.specs.List.{All}
 use Rattle.std.proofs.lemmas.List.Elements.{All-nil, All-cons, All-append, All-filter, All-map, All-weaker}
 use Rattle.event_types.specs.declared.kind.Kind.{Kind}
-use Rattle.event_types.specs.Tuple.{Row}
+use Rattle.event_types.specs.Tuple.{TupleView}
 use Rattle.semantics.specs.Scalars.{Sc, Pr}
 use Rattle.scalar_expr.specs.Fits.{Fits, AllFit}
 use Rattle.semantics.specs.Truth.{all_true}
@@ -16,21 +16,21 @@ use Rattle.algebra.specs.Suits.{FitsPairs, Suits, SuitsRuns}
 use Rattle.scalar_expr.proofs.NextsLemmas.{nexts_keep}
 use Rattle.semantics.specs.Kinds.{HasKinds, HaveKinds}
 use Rattle.semantics.proofs.KindLemmas.{kinds_append}
-use Rattle.semantics.specs.Typing.{AreTyped, AreOfKinds, Gives}
+use Rattle.semantics.specs.Typing.{AreTyped, AreOfKinds, IsTypedOver}
 use Rattle.scalar_expr.proofs.ListLemmas.{All-flat_map}
 use Rattle.scalar_expr.proofs.FitLemmas.{typed_tests, typed_fits, typed_image}
 
 -- it fits each tuple with the binding
-typed_pairs : (ps : List Pr) (es bs : List Kind) (rs : List Row) (b : Row) → AreTyped ps es (Some bs) → All (HasKinds es) rs → HasKinds bs b → FitsPairs ps rs b
+typed_pairs : (ps : List Pr) (es bs : List Kind) (rs : List TupleView) (b : TupleView) → AreTyped ps es (Some bs) → All (HasKinds es) rs → HasKinds bs b → FitsPairs ps rs b
 typed_pairs ps es bs rs b h all hb = All-weaker (HasKinds es) (λ r. AllFit ps r (Some b)) (λ r hr. typed_tests ps es (Some bs) r (Some b) h hr hb) rs all
 
 -- what holds of each tuple of the list holds of each goer
-goers_keep : (P : Row → Type 0) (p q : List Pr) (rs : List Row) (b : Row) → All P rs → All P (goers p q rs b)
+goers_keep : (P : TupleView → Type 0) (p q : List Pr) (rs : List TupleView) (b : TupleView) → All P rs → All P (goers p q rs b)
 goers_keep P p q rs b all = All-filter (λ r. all_true q r (Some b)) P (nexts p b rs) (nexts_keep P p b rs all)
 
 -- typed runs are suited, and their tuples have the kinds of the binding: by induction on their length
-typed_runs : (n : ℕ) (p q : List Pr) (m : List Sc) (right out : List Kind) (rs : List Row) → AreTyped p right (Some out) → AreTyped q right (Some out) → AreOfKinds m right (Some out) out → All (HasKinds right) rs
-    → (b : Row) → HasKinds out b → SuitsRuns n p q m rs b × All (HasKinds out) (runs_within n p q m rs b)
+typed_runs : (n : ℕ) (p q : List Pr) (m : List Sc) (right out : List Kind) (rs : List TupleView) → AreTyped p right (Some out) → AreTyped q right (Some out) → AreOfKinds m right (Some out) out → All (HasKinds right) rs
+    → (b : TupleView) → HasKinds out b → SuitsRuns n p q m rs b × All (HasKinds out) (runs_within n p q m rs b)
 typed_runs zero p q m right out rs hp hq hm all b hb = (tt, All-nil (HasKinds out))
 typed_runs (suc n) p q m right out rs hp hq hm all b hb = (
   (
@@ -48,7 +48,7 @@ typed_runs (suc n) p q m right out rs hp hq hm all b hb = (
 )
 
 -- what is typed is suited, and its tuples have its kinds: by induction on the expression
-pub typed : (e : Ex) (n : ℕ) (kinds : ℕ → List Kind) (out : List Kind) (env : Streams) → HaveKinds kinds n env → Gives e n kinds out → Suits e n env × All (HasKinds out) (denote e env)
+pub typed : (e : Ex) (n : ℕ) (kinds : ℕ → List Kind) (out : List Kind) (env : Streams) → HaveKinds kinds n env → IsTypedOver e n kinds out → Suits e n env × All (HasKinds out) (denote e env)
 typed (Read s) n kinds out env all h = (h.0, subst (λ (ks : List Kind). All (HasKinds ks) (env s)) h.1 (all s h.0))
 typed (Filter p e) n kinds out env all h =
     let one = typed e n kinds out env all h.0 in
@@ -75,7 +75,7 @@ typed (Next p e f) n kinds out env all h =
 typed (Fold p q m e f) n kinds out env all h =
     let one = typed e n kinds out env all h.1 in
     let two = typed f n kinds h.0 env all h.2 in
-    let each = λ (l : Row) (hl : HasKinds out l). typed_runs (length (denote f env)) p q m.parts h.0 out (denote f env) h.3 h.4 h.5 two.1 l hl in (
+    let each = λ (l : TupleView) (hl : HasKinds out l). typed_runs (length (denote f env)) p q m.parts h.0 out (denote f env) h.3 h.4 h.5 two.1 l hl in (
       (one.0, two.0, All-weaker (HasKinds out) (λ l. SuitsRuns (length (denote f env)) p q m.parts (denote f env) l) (λ l hl. (each l hl).0) (denote e env) one.1),
       All-flat_map (HasKinds out) (runs p q m.parts (denote f env)) (denote e env) (All-weaker (HasKinds out) (λ l. All (HasKinds out) (runs p q m.parts (denote f env) l)) (λ l hl. (each l hl).1) (denote e env) one.1),
     )

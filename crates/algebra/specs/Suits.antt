@@ -1,7 +1,7 @@
 -- What a caller has to see to before an expression is evaluated over streams.
 use Rattle.std.specs.Prelude.{ℕ, zero, suc, ⊤, ◌<◌, length, List, Some, None}
 use Rattle.std.specs.List.{All}
-use Rattle.event_types.specs.Tuple.{Row}
+use Rattle.event_types.specs.Tuple.{TupleView}
 use Rattle.semantics.specs.Scalars.{Sc, Pr}
 use Rattle.semantics.specs.Denotation.{Streams, denote}
 use Rattle.semantics.specs.Expressions.{Ex, Read, Filter, Select, Union, Next, Fold}
@@ -9,15 +9,15 @@ use Rattle.semantics.specs.Runs.{goers, rebound}
 use Rattle.scalar_expr.specs.Fits.{AllFit, Fits}
 
 -- the condition fits each tuple, without a binding
-abbrev pub FitsEach : List Pr → List Row → Type 0
+abbrev pub FitsEach : List Pr → List TupleView → Type 0
 FitsEach condition tuples = All (λ tuple. AllFit condition tuple None) tuples
 
 -- the condition fits each tuple with the binding
-abbrev pub FitsPairs : List Pr → List Row → Row → Type 0
+abbrev pub FitsPairs : List Pr → List TupleView → TupleView → Type 0
 FitsPairs condition tuples binding = All (λ tuple. AllFit condition tuple (Some binding)) tuples
 
 -- along the runs of at most a number of events, the conditions and the scalars fit what they meet
-abbrev pub SuitsRuns : ℕ → List Pr → List Pr → List Sc → List Row → Row → Type 0
+abbrev pub SuitsRuns : ℕ → List Pr → List Pr → List Sc → List TupleView → TupleView → Type 0
 SuitsRuns zero choose on parts tuples binding = ⊤
 SuitsRuns (suc most) choose on parts tuples binding =
     FitsPairs choose tuples binding × FitsPairs on tuples binding

@@ -4,19 +4,19 @@ use Rattle.std.specs.Prelude.{Option, Some, None, is_some, count_by}
 use Rattle.std.specs.Option.{option_and_then}
 use Rattle.automaton.specs.declared.line.Hop.{Hop}
 use Rattle.automaton.specs.declared.network.End.{End}
-use Rattle.automaton.specs.declared.network.Entry.{Entry}
+use Rattle.automaton.specs.declared.network.Entrance.{Entrance}
 use Rattle.automaton.specs.declared.network.State.{State}
 use Rattle.automaton.specs.Changes.{AddsEnd, AddsHop, AddsRoot, RemovesEnd, without_end}
 use Rattle.automaton.specs.Networks.{IsAt, IsNetwork}
 use Rattle.automaton.specs.Prefixes.{Prefix, Root, After}
-use Rattle.automaton.specs.States.{Net, before_at, before_by, before_in, edges_at, edges_in, entry_at, entry_in, is_used, root_by, state_at, tells}
+use Rattle.automaton.specs.States.{Net, before_at, before_by, before_in, edges_at, edges_in, entrance_at, entrance_in, is_used, root_by, state_at, tells}
 use Rattle.automaton.proofs.CountLemmas.{bit, count-push}
 use Rattle.event_types.proofs.NumberLemmas.{is_other, is_same}
 use Rattle.automaton.proofs.NumberLemmas.{are_same_or_not}
 use Rattle.automaton.proofs.SlotLemmas.{KeepsEntries, at_kept, edge_edges, edge_entry, end_edges, end_entry}
 
 -- a state is used where it is entered somehow
-pub entry_there : (slot : Option State) → is_some (entry_in slot) ≡ is_some slot
+pub entry_there : (slot : Option State) → is_some (entrance_in slot) ≡ is_some slot
 entry_there None = refl
 entry_there (Some state) = refl
 
@@ -26,11 +26,11 @@ nothing_there None free = refl
 nothing_there (Some state) free = cc
 
 -- a state is there
-pub something_there : (net : Net) (number : ℕ) (e : Entry) → entry_at net number ≡ Some e → is_used net number ≡ true
+pub something_there : (net : Net) (number : ℕ) (e : Entrance) → entrance_at net number ≡ Some e → is_used net number ≡ true
 something_there net number e is = sym (entry_there (state_at net number)) ∙ ap is_some is
 
 -- where all states are entered as before, and the same edges lead from each
-pub network_alike : (old new : Net) → ((number : ℕ) → entry_at new number ≡ entry_at old number) → ((number : ℕ) → edges_at new number ≡ edges_at old number) → IsNetwork old → IsNetwork new
+pub network_alike : (old new : Net) → ((number : ℕ) → entrance_at new number ≡ entrance_at old number) → ((number : ℕ) → edges_at new number ≡ edges_at old number) → IsNetwork old → IsNetwork new
 network_alike old new entries edges is = record {
   places = λ number used.
       (let was : is_used old number ≡ true = sym (entry_there (state_at old number)) ∙ ap is_some (sym (entries number)) ∙ entry_there (state_at new number) ∙ used in
@@ -51,11 +51,11 @@ reads_alike f old new number here others other = by_number (are_same_or_not othe
 -- an end comes or leaves
 pub adds_end_network : (state : ℕ) (end : End) (old new : Net) → AddsEnd state end old new → IsNetwork old → IsNetwork new
 adds_end_network state end old new adds = network_alike old new
-    (reads_alike entry_in old new state (ap entry_in adds.here ∙ end_entry end (state_at old state)) adds.others)
+    (reads_alike entrance_in old new state (ap entrance_in adds.here ∙ end_entry end (state_at old state)) adds.others)
     (reads_alike edges_in old new state (ap edges_in adds.here ∙ end_edges end (state_at old state)) adds.others)
 
 -- a state without an end has the same entry
-pub gone_entry : (number : ℕ) (slot : Option State) → entry_in (without_end number slot) ≡ entry_in slot
+pub gone_entry : (number : ℕ) (slot : Option State) → entrance_in (without_end number slot) ≡ entrance_in slot
 gone_entry number None = refl
 gone_entry number (Some state) = refl
 
@@ -66,7 +66,7 @@ gone_edges number (Some state) = refl
 -- a network without an end is a network
 pub removes_end_network : (state number : ℕ) (old new : Net) → RemovesEnd state number old new → IsNetwork old → IsNetwork new
 removes_end_network state number old new removes = network_alike old new
-    (reads_alike entry_in old new state (ap entry_in removes.here ∙ gone_entry number (state_at old state)) removes.others)
+    (reads_alike entrance_in old new state (ap entrance_in removes.here ∙ gone_entry number (state_at old state)) removes.others)
     (reads_alike edges_in old new state (ap edges_in removes.here ∙ gone_edges number (state_at old state)) removes.others)
 
 -- a number that no state had
@@ -76,11 +76,11 @@ module _ (old new : Net) (number : ℕ) (free : is_used old number ≡ false) wh
   free_reads f = ap f (nothing_there (state_at old number) free)
 
   -- where the entries of the other places are the same, all entries are kept
-  pub free_kept : ((other : ℕ) → (other ≡ number → ⊥) → entry_at new other ≡ entry_at old other) → KeepsEntries old new
-  free_kept entries other e is = entries other (λ same. let gone : entry_at old number ≡ None = free_reads entry_in in let there : entry_at old number ≡ Some e = ap (entry_at old) (sym same) ∙ is in cc) ∙ is
+  pub free_kept : ((other : ℕ) → (other ≡ number → ⊥) → entrance_at new other ≡ entrance_at old other) → KeepsEntries old new
+  free_kept entries other e is = entries other (λ same. let gone : entrance_at old number ≡ None = free_reads entrance_in in let there : entrance_at old number ≡ Some e = ap (entrance_at old) (sym same) ∙ is in cc) ∙ is
 
   -- each state has a prefix still, where the new one has
-  pub free_places : ((other : ℕ) → (other ≡ number → ⊥) → entry_at new other ≡ entry_at old other) → (prefix : Prefix) → IsAt new number prefix → IsNetwork old → (n : ℕ) → IsTrue (is_used new n) → (p : Prefix) × IsAt new n p
+  pub free_places : ((other : ℕ) → (other ≡ number → ⊥) → entrance_at new other ≡ entrance_at old other) → (prefix : Prefix) → IsAt new number prefix → IsNetwork old → (n : ℕ) → IsTrue (is_used new n) → (p : Prefix) × IsAt new n p
   free_places entries prefix here is n used = by_number (are_same_or_not n number)
     where
       by_number : (n ≡ number) ⊎ (n ≡ number → ⊥) → (p : Prefix) × IsAt new n p
@@ -96,7 +96,7 @@ adds_root_network number stream old new free adds is =
     let edges = reads_alike edges_in old new number (ap edges_in adds.here ∙ sym (free_reads old new number free edges_in)) adds.others in
     let befores = reads_alike before_in old new number (ap before_in adds.here ∙ sym (free_reads old new number free before_in)) adds.others in
     record {
-      places = free_places old new number free (λ other ne. ap entry_in (adds.others other ne)) (Root stream) (ap (λ slot. option_and_then root_by (entry_in slot)) adds.here) is;
+      places = free_places old new number free (λ other ne. ap entrance_in (adds.others other ne)) (Root stream) (ap (λ slot. option_and_then root_by (entrance_in slot)) adds.here) is;
       edges = λ from next. ap (count_by (λ edge. edge == next)) (edges from) ∙ is.edges from next ∙ ap (λ o. bit (tells from o)) (sym (befores next));
     }
 
@@ -107,12 +107,12 @@ module _ (number before : ℕ) (hop : Hop) (old new : Net) (free : is_used old n
   hop_apart same = let none : is_used old before ≡ false = ap (is_used old) same ∙ free in absurd (let no : true ≡ false = sym used ∙ none in cc)
 
   -- each other state has the same entry
-  pub hop_entry : (other : ℕ) → (other ≡ number → ⊥) → entry_at new other ≡ entry_at old other
+  pub hop_entry : (other : ℕ) → (other ≡ number → ⊥) → entrance_at new other ≡ entrance_at old other
   hop_entry other ne = by_number (are_same_or_not other before)
     where
-      by_number : (other ≡ before) ⊎ (other ≡ before → ⊥) → entry_at new other ≡ entry_at old other
-      by_number (inl same) = ap (entry_at new) same ∙ ap entry_in adds.edge ∙ edge_entry number (state_at old before) ∙ ap (entry_at old) (sym same)
-      by_number (inr nb) = ap entry_in (adds.others other ne nb)
+      by_number : (other ≡ before) ⊎ (other ≡ before → ⊥) → entrance_at new other ≡ entrance_at old other
+      by_number (inl same) = ap (entrance_at new) same ∙ ap entrance_in adds.edge ∙ edge_entry number (state_at old before) ∙ ap (entrance_at old) (sym same)
+      by_number (inr nb) = ap entrance_in (adds.others other ne nb)
 
   -- each state but the one before has the same edges
   pub hop_edges : (other : ℕ) → (other ≡ before → ⊥) → edges_at new other ≡ edges_at old other
@@ -169,6 +169,6 @@ module _ (number before : ℕ) (hop : Hop) (old new : Net) (free : is_used old n
   adds_hop_network =
       let place = is.places before used in
       record {
-        places = free_places old new number free hop_entry (After place.0 hop) (before, ap entry_in adds.here, at_kept old new (free_kept old new number free hop_entry) before place.0 place.1) is;
+        places = free_places old new number free hop_entry (After place.0 hop) (before, ap entrance_in adds.here, at_kept old new (free_kept old new number free hop_entry) before place.0 place.1) is;
         edges = hop_counts;
       }

@@ -4,12 +4,12 @@ use Rattle.std.specs.Prelude.{Option, Some, None, Result, Ok, Err, OnOk, OnErr, 
 use Rattle.std.proofs.lemmas.List.{length-set, set-get_or}
 use Rattle.automaton.specs.declared.line.Hop.{Hop}
 use Rattle.automaton.specs.declared.network.End.{End}
-use Rattle.automaton.specs.declared.network.Entry.TheVariants as entry
+use Rattle.automaton.specs.declared.network.Entrance.TheVariants as entrance
 use Rattle.automaton.specs.declared.network.State.{State}
 use Rattle.automaton.specs.Changes.{AddsEnd, AddsHop, AddsRoot, RemovesEnd, RemovesState, with_edge, with_end, without_edge, without_end}
 use Rattle.automaton.specs.Growing.{edged, placed, unedged}
 use Rattle.automaton.specs.Networks.{IsNetwork}
-use Rattle.automaton.specs.States.{Net, before_at, edges_at, edges_in, entry_in, is_used, state_at, tells}
+use Rattle.automaton.specs.States.{Net, before_at, edges_at, edges_in, entrance_in, is_used, state_at, tells}
 use Rattle.automaton.proofs.ChangeLemmas.{adds_end_network, adds_hop_network, adds_root_network, network_alike, removes_end_network}
 use Rattle.automaton.proofs.ClearedLemmas.{before_used, none_entered, removes_state_network, told_not}
 use Rattle.automaton.proofs.CountLemmas.{count-set}
@@ -76,7 +76,7 @@ module _ (states state : ℕ) (slots : Net) (used : is_used slots state ≡ true
   )
 
 -- a root state came
-module _ (states number stream : ℕ) (slots new : Net) (state : State) (next : number ≤ length slots) (free : is_used slots number ≡ false) (is : state ≡ record { entry = entry.Root stream; edges = []; ends = [] }) (put : new ≡ placed number (Some state) slots) where
+module _ (states number stream : ℕ) (slots new : Net) (state : State) (next : number ≤ length slots) (free : is_used slots number ≡ false) (is : state ≡ record { entrance = entrance.Root stream; edges = []; ends = [] }) (put : new ≡ placed number (Some state) slots) where
   -- the new root is added
   pub root_added : AddsRoot number stream slots new
   root_added = subst (AddsRoot number stream slots) (sym put) (record {
@@ -94,7 +94,7 @@ module _ (states number stream : ℕ) (slots new : Net) (state : State) (next : 
 
 -- a waiting state came
 module _ (states number before : ℕ) (hop : Hop) (slots new : Net) (state : State) (next : number ≤ length slots) (free : is_used slots number ≡ false) (used : is_used slots before ≡ true)
-    (is : state ≡ record { entry = entry.Waiting before hop; edges = []; ends = [] }) (put : new ≡ placed number (Some state) (edged before number slots)) where
+    (is : state ≡ record { entrance = entrance.Waiting before hop; edges = []; ends = [] }) (put : new ≡ placed number (Some state) (edged before number slots)) where
   abbrev between : Net
   between = edged before number slots
 
@@ -195,5 +195,5 @@ module _ (number : ℕ) (slots : Net) (used : is_used slots number ≡ true) (la
 pub shrunk_held : (states : ℕ) (net : Net) → 0 < length net → is_used net (length net - 1) ≡ false → Holds states net → Holds states (take (length net - 1) net)
 shrunk_held states net some free holds = (
   holds.0 ∙ sym (shrunk_count net some free),
-  network_alike net (take (length net - 1) net) (λ number. ap entry_in (shrunk_reads net some free number)) (λ number. ap edges_in (shrunk_reads net some free number)) holds.1,
+  network_alike net (take (length net - 1) net) (λ number. ap entrance_in (shrunk_reads net some free number)) (λ number. ap edges_in (shrunk_reads net some free number)) holds.1,
 )

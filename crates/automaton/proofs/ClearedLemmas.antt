@@ -4,13 +4,13 @@ use Rattle.std.specs.Prelude.{Option, Some, None, is_some, count_by, position}
 use Rattle.std.specs.Option.{option_and_then}
 use Rattle.std.proofs.lemmas.List.Quantifiers.{position-Some}
 use Rattle.automaton.specs.declared.line.Hop.{Hop}
-use Rattle.automaton.specs.declared.network.Entry.{Entry}
-use Rattle.automaton.specs.declared.network.Entry.TheVariants as entry
+use Rattle.automaton.specs.declared.network.Entrance.{Entrance}
+use Rattle.automaton.specs.declared.network.Entrance.TheVariants as entrance
 use Rattle.automaton.specs.declared.network.State.{State}
 use Rattle.automaton.specs.Changes.{RemovesState, hop_by, without_edge}
 use Rattle.automaton.specs.Networks.{IsAt, IsNetwork}
 use Rattle.automaton.specs.Prefixes.{Prefix, Root, After}
-use Rattle.automaton.specs.States.{Net, before_at, before_by, before_in, edges_at, edges_in, entry_at, entry_in, is_used, root_by, state_at, tells}
+use Rattle.automaton.specs.States.{Net, before_at, before_by, before_in, edges_at, edges_in, entrance_at, entrance_in, is_used, root_by, state_at, tells}
 use Rattle.automaton.proofs.ChangeLemmas.{entry_there, something_there}
 use Rattle.automaton.proofs.CountLemmas.{bit, count-has, none_counted}
 use Rattle.event_types.proofs.NumberLemmas.{is_other, is_same, same_number}
@@ -43,10 +43,10 @@ told_not number None ne = refl
 told_not number (Some other) ne = is_other other number (λ e. ne (ap (λ n. Some n) e))
 
 -- an entry that has a state before it is that of a waiting state
-pub waiting_before : (o : Option Entry) (before : ℕ) → option_and_then before_by o ≡ Some before → (hop : Hop) × (o ≡ Some (entry.Waiting before hop))
+pub waiting_before : (o : Option Entrance) (before : ℕ) → option_and_then before_by o ≡ Some before → (hop : Hop) × (o ≡ Some (entrance.Waiting before hop))
 waiting_before None before e = cc
-waiting_before (Some (entry.Root stream)) before e = cc
-waiting_before (Some (entry.Waiting from hop)) before e = let same : from ≡ before = cc in (hop, ap (λ n. Some (entry.Waiting n hop)) same)
+waiting_before (Some (entrance.Root stream)) before e = cc
+waiting_before (Some (entrance.Waiting from hop)) before e = let same : from ≡ before = cc in (hop, ap (λ n. Some (entrance.Waiting n hop)) same)
 
 module _ (net : Net) (is : IsNetwork net) where
   -- an edge leads to a state that is entered from there
@@ -58,7 +58,7 @@ module _ (net : Net) (is : IsNetwork net) where
 
   -- a state that is entered from another is there
   pub entered_used : (number before : ℕ) → before_at net number ≡ Some before → is_used net number ≡ true
-  entered_used number before from = let w = waiting_before (entry_at net number) before from in something_there net number (entry.Waiting before w.0) w.1
+  entered_used number before from = let w = waiting_before (entrance_at net number) before from in something_there net number (entrance.Waiting before w.0) w.1
 
   -- and an edge leads to it
   pub edge_to : (number before : ℕ) → before_at net number ≡ Some before → (k : ℕ) × (k < length (edges_at net before)) × (get_or (edges_at net before) k 0 ≡ number)
@@ -79,10 +79,10 @@ module _ (net : Net) (is : IsNetwork net) where
   none_entered number next none from = let k = edge_to next number from in let empty = ap length none in absurd (omega (arith, k.1))
 
 -- a hop and the state before say how a state is entered
-pub entered_by : (o : Option Entry) (before : ℕ) (hop : Hop) → option_and_then before_by o ≡ Some before → option_and_then hop_by o ≡ Some hop → o ≡ Some (entry.Waiting before hop)
+pub entered_by : (o : Option Entrance) (before : ℕ) (hop : Hop) → option_and_then before_by o ≡ Some before → option_and_then hop_by o ≡ Some hop → o ≡ Some (entrance.Waiting before hop)
 entered_by None before hop e f = cc
-entered_by (Some (entry.Root stream)) before hop e f = cc
-entered_by (Some (entry.Waiting from own)) before hop e f = let same : from ≡ before = cc in let same' : own ≡ hop = cc in λ i. Some (entry.Waiting (same i) (same' i))
+entered_by (Some (entrance.Root stream)) before hop e f = cc
+entered_by (Some (entrance.Waiting from own)) before hop e f = let same : from ≡ before = cc in let same' : own ≡ hop = cc in λ i. Some (entrance.Waiting (same i) (same' i))
 
 -- a state leaves
 module _ (number : ℕ) (old new : Net) (removes : RemovesState number old new) (last : edges_at old number ≡ []) (is : IsNetwork old) where
@@ -98,13 +98,13 @@ module _ (number : ℕ) (old new : Net) (removes : RemovesState number old new) 
           by_number (inl same) = ap (λ n. f (state_at new n)) same ∙ ap f (removes.edge before from) ∙ kept (state_at old before) ∙ ap (λ n. f (state_at old n)) (sym same)
           by_number (inr nb) = ap f (removes.others other ne (ap (tells other) from ∙ is_other before other (λ e. nb (sym e))))
 
-  edge_entry_kept : (slot : Option State) → entry_in (without_edge number slot) ≡ entry_in slot
+  edge_entry_kept : (slot : Option State) → entrance_in (without_edge number slot) ≡ entrance_in slot
   edge_entry_kept None = refl
   edge_entry_kept (Some state) = refl
 
   -- each other state has the same entry
-  pub left_entry : (other : ℕ) → (other ≡ number → ⊥) → entry_at new other ≡ entry_at old other
-  left_entry = left_reads entry_in edge_entry_kept
+  pub left_entry : (other : ℕ) → (other ≡ number → ⊥) → entrance_at new other ≡ entrance_at old other
+  left_entry = left_reads entrance_in edge_entry_kept
 
   -- each other state has the same prefix
   pub left_at : (other : ℕ) (prefix : Prefix) → (other ≡ number → ⊥) → IsAt old other prefix → IsAt new other prefix

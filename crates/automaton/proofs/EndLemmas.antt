@@ -17,7 +17,7 @@ use Rattle.automaton.specs.Growing.{IsGrown, IsWhole, ended, with_end}
 use Rattle.automaton.specs.NetworkLines.{ArePlaces, Ending, ending_at, endings_by}
 use Rattle.automaton.specs.Plain.{numbered}
 use Rattle.automaton.specs.Prefixes.{beginnings, path, prefixes}
-use Rattle.automaton.specs.States.{Net, before_at, before_by, before_in, edges_at, edges_in, ends_at, ends_in, entry_at, entry_in, is_used, root_by, root_in, state_at, tells}
+use Rattle.automaton.specs.States.{Net, before_at, before_by, before_in, edges_at, edges_in, ends_at, ends_in, entrance_at, entrance_in, is_used, root_by, root_in, state_at, tells}
 use Rattle.automaton.proofs.CountLemmas.{bit, count-set}
 use Rattle.event_types.proofs.NumberLemmas.{is_other, is_same}
 use Rattle.automaton.proofs.NumberLemmas.{are_same_or_not}
@@ -28,8 +28,8 @@ module _ (net : Net) (tip : ℕ) (end : End) (used : is_used net tip ≡ true) w
   end_inside : tip < length net
   end_inside = used_below net tip used
 
-  end_entries : (number : ℕ) → entry_at (ended tip end net) number ≡ entry_at net number
-  end_entries = ended_reads entry_in net tip end end_inside (end_entry end (state_at net tip))
+  end_entries : (number : ℕ) → entrance_at (ended tip end net) number ≡ entrance_at net number
+  end_entries = ended_reads entrance_in net tip end end_inside (end_entry end (state_at net tip))
 
   end_edges_same : (number : ℕ) → edges_at (ended tip end net) number ≡ edges_at net number
   end_edges_same = ended_reads edges_in net tip end end_inside (end_edges end (state_at net tip))

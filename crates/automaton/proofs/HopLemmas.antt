@@ -7,13 +7,13 @@ use Rattle.std.proofs.lemmas.List.{length-append}
 use Rattle.std.proofs.lemmas.List.Elements.{Contains-append_left, Contains-push}
 use Rattle.automaton.specs.declared.line.Hop.{Hop}
 use Rattle.automaton.specs.declared.line.Line.{Line}
-use Rattle.automaton.specs.declared.network.Entry.TheVariants as entry
+use Rattle.automaton.specs.declared.network.Entrance.TheVariants as entrance
 use Rattle.automaton.specs.declared.network.State.{State}
 use Rattle.automaton.specs.Growing.{IsGrown, hopped, with_edge}
 use Rattle.automaton.specs.Networks.{IsAt}
 use Rattle.automaton.specs.Plain.{numbered}
 use Rattle.automaton.specs.Prefixes.{Prefix, After, beginnings, hops_of, prefixes}
-use Rattle.automaton.specs.States.{Net, before_at, before_by, before_in, edges_at, edges_in, ends_at, ends_in, entry_at, entry_in, is_used, root_by, root_in, state_at, tells}
+use Rattle.automaton.specs.States.{Net, before_at, before_by, before_in, edges_at, edges_in, ends_at, ends_in, entrance_at, entrance_in, is_used, root_by, root_in, state_at, tells}
 use Rattle.automaton.proofs.CountLemmas.{bit, count-push, count-set}
 use Rattle.event_types.proofs.NumberLemmas.{is_other, is_same}
 use Rattle.automaton.proofs.NumberLemmas.{are_same_or_not}
@@ -25,10 +25,10 @@ module _ (net : Net) (tip : ℕ) (hop : Hop) (used : is_used net tip ≡ true) w
   inside = used_below net tip used
 
   abbrev new_state : Option State
-  new_state = Some (record { entry = entry.Waiting tip hop; edges = []; ends = [] })
+  new_state = Some (record { entrance = entrance.Waiting tip hop; edges = []; ends = [] })
 
-  hop_entries : (number : ℕ) → (number ≡ length net → ⊥) → entry_at (hopped tip hop net) number ≡ entry_at net number
-  hop_entries = hopped_reads entry_in net tip hop inside (edge_entry (length net) (state_at net tip))
+  hop_entries : (number : ℕ) → (number ≡ length net → ⊥) → entrance_at (hopped tip hop net) number ≡ entrance_at net number
+  hop_entries = hopped_reads entrance_in net tip hop inside (edge_entry (length net) (state_at net tip))
 
   hop_befores : (number : ℕ) → (number ≡ length net → ⊥) → before_at (hopped tip hop net) number ≡ before_at net number
   hop_befores number ne = ap (option_and_then before_by) (hop_entries number ne)
@@ -132,7 +132,7 @@ grown_hop lines tip prefix hop net g =
     let longer : length (hopped tip hop net) ≡ suc (length net) = hopped_length net tip hop lt ∙ add-one (length net) in
     let entries = hop_entries net tip hop used in
     let here : IsAt (hopped tip hop net) (length net) (After prefix hop) =
-    (tip, ap entry_in (hopped_here net tip hop lt), at_kept net (hopped tip hop net) (entries_kept net (hopped tip hop net) longer entries) tip prefix (subst (IsAt net tip) g.here (g.are_places tip used))) in
+    (tip, ap entrance_in (hopped_here net tip hop lt), at_kept net (hopped tip hop net) (entries_kept net (hopped tip hop net) longer entries) tip prefix (subst (IsAt net tip) g.here (g.are_places tip used))) in
     let places = with_place (length net) (After prefix hop) g.places in
     let are = places_kept net (hopped tip hop net) longer entries g.places g.are_places (After prefix hop) here in
     let waits = hop_count net tip hop used (λ slot. is_some (before_in slot)) (ap (λ o. is_some (option_and_then before_by o)) (edge_entry (length net) (state_at net tip))) in

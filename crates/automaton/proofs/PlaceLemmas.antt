@@ -11,7 +11,7 @@ use Rattle.automaton.specs.NetworkLines.{ArePlaces, Ending, ending_at, endings_b
 use Rattle.automaton.specs.Networks.{IsAt}
 use Rattle.automaton.specs.Plain.{numbered}
 use Rattle.automaton.specs.Prefixes.{Prefix, Root, After, extended, hops_of, path, root_of}
-use Rattle.automaton.specs.States.{Net, before_at, before_in, edges_at, edges_in, ends_at, ends_in, entry_at, entry_in, is_used, state_at}
+use Rattle.automaton.specs.States.{Net, before_at, before_in, edges_at, edges_in, ends_at, ends_in, entrance_at, entrance_in, is_used, state_at}
 use Rattle.automaton.proofs.CountLemmas.{range_more, range-push, range_same}
 use Rattle.event_types.proofs.NumberLemmas.{is_other, is_same}
 use Rattle.automaton.proofs.NumberLemmas.{are_same_or_not}
@@ -42,10 +42,10 @@ pub place_other : (new : ℕ) (prefix : Prefix) (places : ℕ → Prefix) (numbe
 place_other new prefix places number ne = ap (λ b. cond b prefix (places number)) (is_other number new ne)
 
 -- one more state, without ends
-module _ (net grown : Net) (longer : length grown ≡ suc (length net)) (entries : (number : ℕ) → (number ≡ length net → ⊥) → entry_at grown number ≡ entry_at net number) where
+module _ (net grown : Net) (longer : length grown ≡ suc (length net)) (entries : (number : ℕ) → (number ≡ length net → ⊥) → entrance_at grown number ≡ entrance_at net number) where
   -- growth keeps the entries
   pub entries_kept : KeepsEntries net grown
-  entries_kept number e is = entries number (λ same. let gone : entry_at net number ≡ None = ap (entry_at net) same ∙ ap entry_in (none_behind net) in cc) ∙ is
+  entries_kept number e is = entries number (λ same. let gone : entrance_at net number ≡ None = ap (entrance_at net) same ∙ ap entrance_in (none_behind net) in cc) ∙ is
 
   was_used : (number : ℕ) → (number ≡ length net → ⊥) → is_used grown number ≡ true → is_used net number ≡ true
   was_used number ne used = sym (entry_there (state_at net number)) ∙ ap is_some (sym (entries number ne)) ∙ entry_there (state_at grown number) ∙ used

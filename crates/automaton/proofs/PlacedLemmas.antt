@@ -65,7 +65,7 @@ last_cut next None = refl
 last_cut next (Some state) =
     let shorter : take (length (state.edges ++ next ∷ []) - 1) (state.edges ++ next ∷ []) ≡ state.edges =
     ap (λ n. take n (state.edges ++ next ∷ [])) (let longer = length-append state.edges (next ∷ []) in let e : length (state.edges ++ next ∷ []) - 1 ≡ length state.edges = omega arith in e) ∙ take-append_seam state.edges (next ∷ []) in
-    λ i. Some (record { entry = state.entry; edges = shorter i; ends = state.ends })
+    λ i. Some (record { entrance = state.entrance; edges = shorter i; ends = state.ends })
 
 -- a slot that gets back what it had
 set_back : (net : Net) (number : ℕ) (slot : Option State) → number < length net → set (set net number slot) number (state_at net number) ≡ net

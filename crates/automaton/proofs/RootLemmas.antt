@@ -9,14 +9,14 @@ use Rattle.std.proofs.lemmas.List.Elements.{Contains-append_left, Contains-push}
 use Rattle.std.proofs.lemmas.List.Quantifiers.{position-Some}
 use Rattle.std.proofs.lemmas.List.Sorted.{IsPermutation-refl}
 use Rattle.automaton.specs.declared.line.Line.{Line}
-use Rattle.automaton.specs.declared.network.Entry.{Entry}
-use Rattle.automaton.specs.declared.network.Entry.TheVariants as entry
+use Rattle.automaton.specs.declared.network.Entrance.{Entrance}
+use Rattle.automaton.specs.declared.network.Entrance.TheVariants as entrance
 use Rattle.automaton.specs.declared.network.State.{State}
 use Rattle.automaton.specs.Growing.{IsGrown, IsWhole, rooted}
 use Rattle.automaton.specs.Networks.{IsAt}
 use Rattle.automaton.specs.Plain.{numbered}
 use Rattle.automaton.specs.Prefixes.{Root, beginnings, prefixes}
-use Rattle.automaton.specs.States.{Net, before_at, before_by, before_in, edges_in, ends_in, entry_at, entry_in, is_used, root_at, root_by, root_in, state_at, tells}
+use Rattle.automaton.specs.States.{Net, before_at, before_by, before_in, edges_in, ends_in, entrance_at, entrance_in, is_used, root_at, root_by, root_in, state_at, tells}
 use Rattle.automaton.proofs.CountLemmas.{bit, count-has, count-push, none_counted}
 use Rattle.event_types.proofs.NumberLemmas.{is_other, same_number}
 use Rattle.automaton.proofs.NumberLemmas.{are_same_or_not}
@@ -29,12 +29,12 @@ root_tells stream (Some root) e = ap (λ s. Some s) (same_number root stream e)
 
 -- a root state isn't entered from another
 root_not_waiting : (net : Net) (number stream before : ℕ) → root_at net number ≡ Some stream → before_at net number ≡ Some before → ⊥
-root_not_waiting net number stream before is from = go (entry_at net number) is from
+root_not_waiting net number stream before is from = go (entrance_at net number) is from
   where
-    go : (o : Option Entry) → option_and_then root_by o ≡ Some stream → option_and_then before_by o ≡ Some before → ⊥
+    go : (o : Option Entrance) → option_and_then root_by o ≡ Some stream → option_and_then before_by o ≡ Some before → ⊥
     go None e f = cc
-    go (Some (entry.Root root)) e f = cc
-    go (Some (entry.Waiting other hop)) e f = cc
+    go (Some (entrance.Root root)) e f = cc
+    go (Some (entrance.Waiting other hop)) e f = cc
 
 bit_one : (b : Bool) → 1 ≤ bit b → b ≡ true
 bit_one true le = refl
@@ -89,7 +89,7 @@ module _ (lines : List Line) (stream : ℕ) (net : Net) (whole : IsWhole lines n
       begun other e counted = bit_one (list_any (λ l. l.root == other) lines) (subst (λ n. 1 ≤ n) (whole.plain.roots other) (subst (λ s. 1 ≤ count_by (λ slot. tells s (root_in slot)) net) e counted))
 
   abbrev new_root : Option State
-  new_root = Some (record { entry = entry.Root stream; edges = []; ends = [] })
+  new_root = Some (record { entrance = entrance.Root stream; edges = []; ends = [] })
 
   -- the root is new
   pushed_slots : {X : Type 0} (f : Option State → X) → f new_root ≡ f None → (number : ℕ) → f (state_at (net ++ new_root ∷ []) number) ≡ f (state_at net number)
@@ -105,7 +105,7 @@ module _ (lines : List Line) (stream : ℕ) (net : Net) (whole : IsWhole lines n
   pushed_root absent =
       let grown : Net = net ++ new_root ∷ [] in
       let longer : length grown ≡ suc (length net) = length-append net (new_root ∷ []) ∙ add-one (length net) in
-      let entries : (number : ℕ) → (number ≡ length net → ⊥) → entry_at grown number ≡ entry_at net number = λ number ne. ap entry_in (pushed_other net new_root number ne) in
+      let entries : (number : ℕ) → (number ≡ length net → ⊥) → entrance_at grown number ≡ entrance_at net number = λ number ne. ap entrance_in (pushed_other net new_root number ne) in
       let here : IsAt grown (length net) (Root stream) = ap root_in (pushed_here net new_root) in
       let endings = whole.plain.endings in
       let are = places_kept net grown longer entries endings.places endings.are_places (Root stream) here in
@@ -153,7 +153,7 @@ first_state stream old new tip is grown = go (position (λ slot. tells stream (r
       λ lines whole. subst (λ (s : ℕ × Net). IsGrown lines s.0 (Root stream) s.1) (λ i. (sym is i, sym grown i)) (found_root lines stream old whole found e),
     )
     go None e is grown = (
-      (let longer = ap length grown ∙ length-append old (Some (record { entry = entry.Root stream; edges = []; ends = [] }) ∷ []) in omega arith),
+      (let longer = ap length grown ∙ length-append old (Some (record { entrance = entrance.Root stream; edges = []; ends = [] }) ∷ []) in omega arith),
       λ lines whole. subst (λ (s : ℕ × Net). IsGrown lines s.0 (Root stream) s.1) (λ i. (sym is i, sym grown i)) (pushed_root lines stream old whole e),
     )
 

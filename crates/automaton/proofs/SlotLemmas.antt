@@ -8,13 +8,13 @@ use Rattle.std.proofs.lemmas.Bool.{cases_lt}
 use Rattle.std.proofs.lemmas.List.{length-append, length-set, get_or_past, get_or-set_same, get_or-set_other}
 use Rattle.automaton.specs.declared.line.Hop.{Hop}
 use Rattle.automaton.specs.declared.network.End.{End}
-use Rattle.automaton.specs.declared.network.Entry.{Entry}
-use Rattle.automaton.specs.declared.network.Entry.TheVariants as entry
+use Rattle.automaton.specs.declared.network.Entrance.{Entrance}
+use Rattle.automaton.specs.declared.network.Entrance.TheVariants as entrance
 use Rattle.automaton.specs.declared.network.State.{State}
 use Rattle.automaton.specs.Growing.{ended, hopped, with_edge, with_end}
 use Rattle.automaton.specs.Networks.{IsAt}
 use Rattle.automaton.specs.Prefixes.{Prefix, Root, After}
-use Rattle.automaton.specs.States.{Net, edges_in, ends_in, entry_at, entry_in, is_used, root_at, root_by, state_at}
+use Rattle.automaton.specs.States.{Net, edges_in, ends_in, entrance_at, entrance_in, is_used, root_at, root_by, state_at}
 use Rattle.automaton.proofs.NumberLemmas.{are_same_or_not}
 
 -- a number that is used is below the length
@@ -55,17 +55,17 @@ module _ (net : Net) (tip : ℕ) (slot : Option State) where
 -- a hop
 module _ (net : Net) (tip : ℕ) (hop : Hop) (inside : tip < length net) where
   -- the new state stands at the end, behind the tip
-  pub hopped_here : state_at (hopped tip hop net) (length net) ≡ Some (record { entry = entry.Waiting tip hop; edges = []; ends = [] })
+  pub hopped_here : state_at (hopped tip hop net) (length net) ≡ Some (record { entrance = entrance.Waiting tip hop; edges = []; ends = [] })
   hopped_here =
       let changed = set net tip (with_edge (length net) (state_at net tip)) in
-      let new : Option State = Some (record { entry = entry.Waiting tip hop; edges = []; ends = [] }) in
+      let new : Option State = Some (record { entrance = entrance.Waiting tip hop; edges = []; ends = [] }) in
       ap (λ (n : ℕ). state_at (changed ++ new ∷ []) n) (sym (length-set net tip (with_edge (length net) (state_at net tip)))) ∙ pushed_here changed new
 
   module _ (number : ℕ) (ne : number ≡ length net → ⊥) where
     hopped_changed : state_at (hopped tip hop net) number ≡ state_at (set net tip (with_edge (length net) (state_at net tip))) number
     hopped_changed =
         let same = length-set net tip (with_edge (length net) (state_at net tip)) in
-        pushed_other (set net tip (with_edge (length net) (state_at net tip))) (Some (record { entry = entry.Waiting tip hop; edges = []; ends = [] })) number (λ e. ne (e ∙ same))
+        pushed_other (set net tip (with_edge (length net) (state_at net tip))) (Some (record { entrance = entrance.Waiting tip hop; edges = []; ends = [] })) number (λ e. ne (e ∙ same))
 
     -- each other place but the tip is as it was
     pub hopped_other : (number ≡ tip → ⊥) → state_at (hopped tip hop net) number ≡ state_at net number
@@ -78,11 +78,11 @@ module _ (net : Net) (tip : ℕ) (hop : Hop) (inside : tip < length net) where
   -- there is one place more
   pub hopped_length : length (hopped tip hop net) ≡ length net + 1
   hopped_length =
-      length-append (set net tip (with_edge (length net) (state_at net tip))) (Some (record { entry = entry.Waiting tip hop; edges = []; ends = [] }) ∷ [])
+      length-append (set net tip (with_edge (length net) (state_at net tip))) (Some (record { entrance = entrance.Waiting tip hop; edges = []; ends = [] }) ∷ [])
       ∙ ap (λ n. n + 1) (length-set net tip (with_edge (length net) (state_at net tip)))
 
 -- what an edge and an end leave as it was
-pub edge_entry : (next : ℕ) (slot : Option State) → entry_in (with_edge next slot) ≡ entry_in slot
+pub edge_entry : (next : ℕ) (slot : Option State) → entrance_in (with_edge next slot) ≡ entrance_in slot
 edge_entry next None = refl
 edge_entry next (Some state) = refl
 
@@ -97,7 +97,7 @@ edge_edges next None used = cc
 edge_edges next (Some state) used = refl
 
 -- an end changes no entry
-pub end_entry : (end : End) (slot : Option State) → entry_in (with_end end slot) ≡ entry_in slot
+pub end_entry : (end : End) (slot : Option State) → entrance_in (with_end end slot) ≡ entrance_in slot
 end_entry end None = refl
 end_entry end (Some state) = refl
 
@@ -140,27 +140,27 @@ module _ {X : Type 0} (f : Option State → X) (net : Net) (tip : ℕ) where
 -- prefixes
 -- what was entered somehow is entered so still
 abbrev pub KeepsEntries : Net → Net → Type 0
-KeepsEntries net grown = (number : ℕ) (e : Entry) → entry_at net number ≡ Some e → entry_at grown number ≡ Some e
+KeepsEntries net grown = (number : ℕ) (e : Entrance) → entrance_at net number ≡ Some e → entrance_at grown number ≡ Some e
 
 -- an entry that has a root stream is that of a root
-pub root_entry : (o : Option Entry) (stream : ℕ) → option_and_then root_by o ≡ Some stream → o ≡ Some (entry.Root stream)
+pub root_entry : (o : Option Entrance) (stream : ℕ) → option_and_then root_by o ≡ Some stream → o ≡ Some (entrance.Root stream)
 root_entry None stream e = cc
-root_entry (Some (entry.Root root)) stream e = let same : root ≡ stream = cc in ap (λ s. Some (entry.Root s)) same
-root_entry (Some (entry.Waiting before hop)) stream e = cc
+root_entry (Some (entrance.Root root)) stream e = let same : root ≡ stream = cc in ap (λ s. Some (entrance.Root s)) same
+root_entry (Some (entrance.Waiting before hop)) stream e = cc
 
 -- where entries are kept, each state has the same prefix
 pub at_kept : (net grown : Net) → KeepsEntries net grown → (number : ℕ) (prefix : Prefix) → IsAt net number prefix → IsAt grown number prefix
-at_kept net grown keeps number (Root stream) here = ap (option_and_then root_by) (keeps number (entry.Root stream) (root_entry (entry_at net number) stream here))
-at_kept net grown keeps number (After prefix hop) here = (here.0, keeps number (entry.Waiting here.0 hop) here.1, at_kept net grown keeps here.0 prefix here.2)
+at_kept net grown keeps number (Root stream) here = ap (option_and_then root_by) (keeps number (entrance.Root stream) (root_entry (entrance_at net number) stream here))
+at_kept net grown keeps number (After prefix hop) here = (here.0, keeps number (entrance.Waiting here.0 hop) here.1, at_kept net grown keeps here.0 prefix here.2)
 
 -- a state is there where it is entered somehow
-pub entry_there : (slot : Option State) → is_some (entry_in slot) ≡ is_some slot
+pub entry_there : (slot : Option State) → is_some (entrance_in slot) ≡ is_some slot
 entry_there None = refl
 entry_there (Some state) = refl
 
 -- and so where it stands for a prefix
 pub at_used : (net : Net) (number : ℕ) (prefix : Prefix) → IsAt net number prefix → is_used net number ≡ true
-at_used net number (Root stream) here = sym (entry_there (state_at net number)) ∙ ap is_some (root_entry (entry_at net number) stream here)
+at_used net number (Root stream) here = sym (entry_there (state_at net number)) ∙ ap is_some (root_entry (entrance_at net number) stream here)
 at_used net number (After prefix hop) here = sym (entry_there (state_at net number)) ∙ ap is_some here.1
 
 -- a root state stands for its stream alone

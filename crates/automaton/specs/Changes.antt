@@ -4,33 +4,33 @@ use Rattle.std.specs.List.{filter}
 use Rattle.std.specs.Option.{option_and_then}
 use Rattle.automaton.specs.declared.line.Hop.{Hop}
 use Rattle.automaton.specs.declared.network.End.{End}
-use Rattle.automaton.specs.declared.network.Entry.{Entry}
-use Rattle.automaton.specs.declared.network.Entry.TheVariants as entry
+use Rattle.automaton.specs.declared.network.Entrance.{Entrance}
+use Rattle.automaton.specs.declared.network.Entrance.TheVariants as entrance
 use Rattle.automaton.specs.declared.network.State.{State}
-use Rattle.automaton.specs.States.{Net, before_at, entry_in, state_at, tells}
+use Rattle.automaton.specs.States.{Net, before_at, entrance_in, state_at, tells}
 
 -- a state that is entered so, without edges and ends
-abbrev pub bare : Entry → Option State
-bare entry = Some (record { entry = entry; edges = []; ends = [] })
+abbrev pub bare : Entrance → Option State
+bare entrance = Some (record { entrance = entrance; edges = []; ends = [] })
 
 -- the hop through which a waiting state is entered
-abbrev pub hop_by : Entry → Option Hop
-hop_by (entry.Root stream) = None
-hop_by (entry.Waiting before hop) = Some hop
+abbrev pub hop_by : Entrance → Option Hop
+hop_by (entrance.Root stream) = None
+hop_by (entrance.Waiting before hop) = Some hop
 
 -- the same of a state that may be there
 abbrev pub hop_in : Option State → Option Hop
-hop_in slot = option_and_then hop_by (entry_in slot)
+hop_in slot = option_and_then hop_by (entrance_in slot)
 
 -- the state with one more forward edge
 abbrev pub with_edge : ℕ → Option State → Option State
 with_edge next None = None
-with_edge next (Some state) = Some (record { entry = state.entry; edges = state.edges ++ next ∷ []; ends = state.ends })
+with_edge next (Some state) = Some (record { entrance = state.entrance; edges = state.edges ++ next ∷ []; ends = state.ends })
 
 -- the state with one more end
 abbrev pub with_end : End → Option State → Option State
 with_end end None = None
-with_end end (Some state) = Some (record { entry = state.entry; edges = state.edges; ends = state.ends ++ end ∷ [] })
+with_end end (Some state) = Some (record { entrance = state.entrance; edges = state.edges; ends = state.ends ++ end ∷ [] })
 
 -- the numbers but this one
 abbrev pub without_number : ℕ → List ℕ → List ℕ
@@ -43,22 +43,22 @@ without_numbered number ends = filter (λ end. not (end.number == number)) ends
 -- the state without its forward edge to this number
 abbrev pub without_edge : ℕ → Option State → Option State
 without_edge next None = None
-without_edge next (Some state) = Some (record { entry = state.entry; edges = without_number next state.edges; ends = state.ends })
+without_edge next (Some state) = Some (record { entrance = state.entrance; edges = without_number next state.edges; ends = state.ends })
 
 -- the state without the ends of this number
 abbrev pub without_end : ℕ → Option State → Option State
 without_end number None = None
-without_end number (Some state) = Some (record { entry = state.entry; edges = state.edges; ends = without_numbered number state.ends })
+without_end number (Some state) = Some (record { entrance = state.entrance; edges = state.edges; ends = without_numbered number state.ends })
 
 -- a root state comes, at this number
 pub record AddsRoot (number stream : ℕ) (old new : Net) : Type 0 where
-  pub here : state_at new number ≡ bare (entry.Root stream)
+  pub here : state_at new number ≡ bare (entrance.Root stream)
   pub others : (other : ℕ) → other ≢ number → state_at new other ≡ state_at old other
   pub places : length new ≡ max (length old) (number + 1)
 
 -- the waiting state of a hop comes, at this number, and a forward edge leads there from the state before it
 pub record AddsHop (number before : ℕ) (hop : Hop) (old new : Net) : Type 0 where
-  pub here : state_at new number ≡ bare (entry.Waiting before hop)
+  pub here : state_at new number ≡ bare (entrance.Waiting before hop)
   pub edge : state_at new before ≡ with_edge number (state_at old before)
   pub others : (other : ℕ) → other ≢ number → other ≢ before → state_at new other ≡ state_at old other
   pub places : length new ≡ max (length old) (number + 1)

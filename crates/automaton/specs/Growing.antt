@@ -5,7 +5,7 @@ use Rattle.std.specs.List.Sorted.{IsPermutation}
 use Rattle.automaton.specs.declared.line.Hop.{Hop}
 use Rattle.automaton.specs.declared.line.Line.{Line}
 use Rattle.automaton.specs.declared.network.End.{End}
-use Rattle.automaton.specs.declared.network.Entry.TheVariants as entry
+use Rattle.automaton.specs.declared.network.Entrance.TheVariants as entrance
 use Rattle.automaton.specs.declared.network.State.{State}
 pub use Rattle.automaton.specs.Changes.{with_edge, with_end}
 use Rattle.automaton.specs.Changes.{without_edge}
@@ -18,11 +18,11 @@ use Rattle.automaton.specs.States.{Net, before_at, before_in, edges_at, ends_at,
 -- the network with a root state for a stream, where none was found
 abbrev pub rooted : ℕ → Option ℕ → Net → Net
 rooted stream (Some found) net = net
-rooted stream None net = net ++ Some (record { entry = entry.Root stream; edges = []; ends = [] }) ∷ []
+rooted stream None net = net ++ Some (record { entrance = entrance.Root stream; edges = []; ends = [] }) ∷ []
 
 -- the network with one more waiting state, to which a forward edge leads from the state that the line has reached
 abbrev pub hopped : ℕ → Hop → Net → Net
-hopped tip hop net = slice_set net tip (with_edge (length net) (state_at net tip)) ++ Some (record { entry = entry.Waiting tip hop; edges = []; ends = [] }) ∷ []
+hopped tip hop net = slice_set net tip (with_edge (length net) (state_at net tip)) ++ Some (record { entrance = entrance.Waiting tip hop; edges = []; ends = [] }) ∷ []
 
 -- the network with one more end at the state that the line has reached
 abbrev pub ended : ℕ → End → Net → Net
@@ -31,7 +31,7 @@ ended tip end net = slice_set net tip (with_end end (state_at net tip))
 -- the state without its last forward edge
 abbrev pub without_last : Option State → Option State
 without_last None = None
-without_last (Some state) = Some (record { entry = state.entry; edges = take (length state.edges - 1) state.edges; ends = state.ends })
+without_last (Some state) = Some (record { entrance = state.entrance; edges = take (length state.edges - 1) state.edges; ends = state.ends })
 
 -- the network with a state at a number, which is the next one at most
 abbrev pub placed : ℕ → Option State → Net → Net

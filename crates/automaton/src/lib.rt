@@ -19,7 +19,7 @@ pub use laws::{
 };
 pub use layout::Layout;
 pub use line::{Hop, Hops, Line, Lines};
-pub use network::{End, Ends, Entry, Network, State};
+pub use network::{End, Ends, Entrance, Network, State};
 pub use step::{Stage, Step};
 pub use wait::{Turn, Wait};
 

@@ -16,7 +16,7 @@ use std::marker::Model;
 /// How a state is entered: a root state by the tuples of its stream, a waiting state through a hop from
 /// the state before it.
 #[derive(Drop)]
-pub enum Entry {
+pub enum Entrance {
     Root(StreamId),
     Waiting { from: usize, hop: Hop },
 }
@@ -38,7 +38,7 @@ pub type Ends = List<End>;
 /// of the lines that reach it last.
 #[derive(Drop)]
 pub struct State {
-    pub entry: Entry,
+    pub entrance: Entrance,
     pub edges: Numbers,
     pub ends: Ends,
 }
@@ -124,9 +124,9 @@ impl Network {
         requires { IsTrue (is_used self.now state) }
         ensures { result ≡ root_at self.now state }
     {
-        match &self.state(state).entry {
-            Entry::Root(stream) => Some(*stream),
-            Entry::Waiting { .. } => None,
+        match &self.state(state).entrance {
+            Entrance::Root(stream) => Some(*stream),
+            Entrance::Waiting { .. } => None,
         }
     }
 
@@ -135,9 +135,9 @@ impl Network {
         requires { IsTrue (is_used self.now state) }
         ensures { option_copied result ≡ wait_at self.now state }
     {
-        match &self.state(state).entry {
-            Entry::Root(_) => None,
-            Entry::Waiting { hop, .. } => Some(&hop.wait),
+        match &self.state(state).entrance {
+            Entrance::Root(_) => None,
+            Entrance::Waiting { hop, .. } => Some(&hop.wait),
         }
     }
 
@@ -146,9 +146,9 @@ impl Network {
         requires { IsTrue (is_used self.now state) }
         ensures { result.now ≡ step_at self.now state }
     {
-        match &self.state(state).entry {
-            Entry::Root(_) => &self.no_step,
-            Entry::Waiting { hop, .. } => &hop.step,
+        match &self.state(state).entrance {
+            Entrance::Root(_) => &self.no_step,
+            Entrance::Waiting { hop, .. } => &hop.step,
         }
     }
 

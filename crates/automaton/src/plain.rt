@@ -7,7 +7,7 @@ ghost use Rattle.automaton.specs.Plain.{IsPlain};
 ghost use Rattle.automaton.specs.States.{root_in, tells};
 
 use crate::line::{Hop, Line, Lines};
-use crate::network::{End, Entry, Network, State};
+use crate::network::{End, Entrance, Network, State};
 use event_types::{Copied, List, Memory, StreamId};
 use std::alloc::Global;
 
@@ -60,7 +60,7 @@ fn root_state(
         Some(root) => Ok(root),
         None => {
             let root = slots.len();
-            slots.push(Some(entered(alloc, Entry::Root(stream))))?;
+            slots.push(Some(entered(alloc, Entrance::Root(stream))))?;
             Ok(root)
         }
     }
@@ -78,20 +78,20 @@ fn is_root(slot: &Option<State>, stream: StreamId) -> bool
     ensures { result ≡ tells stream (root_in slot.now) }
 {
     match slot {
-        Some(state) => match &state.entry {
-            Entry::Root(root) => *root == stream,
-            Entry::Waiting { .. } => false,
+        Some(state) => match &state.entrance {
+            Entrance::Root(root) => *root == stream,
+            Entrance::Waiting { .. } => false,
         },
         None => false,
     }
 }
 
 // A state that is entered so, without edges and ends.
-pub(crate) fn entered(alloc: Global, entry: Entry) -> State
-    ensures { result ≡ record { entry = entry; edges = []; ends = [] } }
+pub(crate) fn entered(alloc: Global, entrance: Entrance) -> State
+    ensures { result ≡ record { entrance = entrance; edges = []; ends = [] } }
 {
     State {
-        entry,
+        entrance,
         edges: List::new(alloc),
         ends: List::new(alloc),
     }
@@ -111,7 +111,7 @@ fn add_hop(
     let next = slots.len();
     put_edge(&mut slots[before], next)?;
     let hop = hop.copy(alloc)?;
-    slots.push(Some(entered(alloc, Entry::Waiting { from: before, hop })))?;
+    slots.push(Some(entered(alloc, Entrance::Waiting { from: before, hop })))?;
     Ok(next)
 }
 

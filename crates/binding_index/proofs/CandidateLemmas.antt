@@ -18,7 +18,7 @@ use Rattle.std.proofs.lemmas.Map.Lookups.{exact_unsigned}
 use Rattle.std.proofs.lemmas.Map.Made.{is_some-lookup}
 use Rattle.event_types.specs.Order.{value_cmp}
 use Rattle.event_types.specs.OrderLaws.{value_total}
-use Rattle.event_types.specs.Tuple.{Row}
+use Rattle.event_types.specs.Tuple.{TupleView}
 use Rattle.event_types.specs.declared.comparison.Cmp.TheVariants as cmp
 use Rattle.event_types.specs.declared.value.Value.{Value}
 use Rattle.event_types.proofs.SortLemmas.{sort_permutes}
@@ -102,7 +102,7 @@ filter_alike p q (x ∷ xs) all =
     let more = filter_alike p q xs (All-tail (λ x. p x ≡ q x) x xs all) in
     λ i. cond (one i) (x ∷ more i) (more i)
 
-module _ (key : Key) (event : Row) (bs : List Bucket) (keyed : AreKeyed key.binding bs) where
+module _ (key : Key) (event : TupleView) (bs : List Bucket) (keyed : AreKeyed key.binding bs) where
   -- the value of the event's key
   abbrev here : Value
   here = value_at event key.event

@@ -13,7 +13,7 @@ use Rattle.std.proofs.lemmas.Map.Made.{is_some-lookup}
 use Rattle.std.proofs.lemmas.Option.{get_or_from_slice_get}
 use Rattle.event_types.specs.Order.{value_cmp}
 use Rattle.event_types.specs.OrderLaws.{value_total}
-use Rattle.event_types.specs.Tuple.{Row}
+use Rattle.event_types.specs.Tuple.{TupleView}
 use Rattle.event_types.specs.declared.value.Value.{Value}
 use Rattle.event_types.proofs.SortLemmas.{sort_permutes}
 use Rattle.event_types.specs.declared.value.Value.TheVariants.{Over}
@@ -56,7 +56,7 @@ arranged place oldest live bs i key v w cs d keyed start at of_key later same wi
 }
 
 -- the value that was read at a place of a tuple
-pub value_is : (row : Row) (vals : List Value) (place : ℕ) (v : Value) → vals ≡ row.vals → slice_get vals place ≡ Some v → value_at row place ≡ v
+pub value_is : (row : TupleView) (vals : List Value) (place : ℕ) (v : Value) → vals ≡ row.vals → slice_get vals place ≡ Some v → value_at row place ≡ v
 value_is row vals place v e at = ap (λ (vs : List Value). get_or vs place Over) (sym e) ∙ get_or_from_slice_get vals place v Over at
 
 -- the value at the place of an entry

@@ -3,7 +3,7 @@ use Rattle.std.proofs.Common.{◌≡◌, ◌∙◌, sym, ap, subst, ℕ, inl, in
 use Rattle.std.specs.Prelude.{Some, slice_get}
 use Rattle.std.specs.List.{IsDistinct}
 use Rattle.std.specs.Map.{keys_of, values_of}
-use Rattle.event_types.specs.Tuple.{Row}
+use Rattle.event_types.specs.Tuple.{TupleView}
 use Rattle.event_types.specs.declared.value.Value.{Value}
 use Rattle.indexmap.specs.IndexMap.{set_value_at}
 use Rattle.semantics.specs.Nexts.{is_eligible}
@@ -18,7 +18,7 @@ use Rattle.binding_index.proofs.CandidateLemmas.{all_stay, candidates_are, no_ca
 use Rattle.binding_index.proofs.StoreLemmas.{value_there}
 use Rattle.binding_index.proofs.WriteLemmas.{keys_written, written_at}
 
-module _ (key : Key) (event : Row) (bs : List Bucket) (keyed : AreKeyed key.binding bs) (distinct : IsDistinct is_key (keys_of bs)) where
+module _ (key : Key) (event : TupleView) (bs : List Bucket) (keyed : AreKeyed key.binding bs) (distinct : IsDistinct is_key (keys_of bs)) where
   abbrev here : Value
   here = value_at event key.event
 

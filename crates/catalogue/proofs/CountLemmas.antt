@@ -13,11 +13,11 @@ use Rattle.resubscribe.proofs.AmongLemmas.{Contains-from_among, among-from_Conta
 use Rattle.resubscribe.proofs.OrderLemmas.{HasEachOnce-order}
 use Rattle.catalogue.specs.Reading.{numbers_of, reads_in}
 use Rattle.catalogue.specs.Statements.{queries_in, query_names, reads_by}
-use Rattle.catalogue.specs.Typing.{Declare, none, stream, query}
+use Rattle.catalogue.specs.Typing.{FileDeclares, none, stream, query}
 use Rattle.event_types.proofs.NumberLemmas.{is_other}
 
 -- each statement declares a stream or is a query
-declared_count : {ss : List Statement} {streams : List Entry} → Declare ss streams → length streams + length (queries_in ss) ≡ length ss
+declared_count : {ss : List Statement} {streams : List Entry} → FileDeclares ss streams → length streams + length (queries_in ss) ≡ length ss
 declared_count none = refl
 declared_count (stream {later = later} {streams = streams} first rest) = let e : length streams + length (queries_in later) ≡ length later = declared_count rest in omega arith
 declared_count (query {later = later} {streams = streams} rest) = let e : length streams + length (queries_in later) ≡ length later = declared_count rest in omega arith
@@ -39,7 +39,7 @@ pub query_count : (ss : List Statement) (order : List ℕ) → IsOrder (reads_in
 query_count ss order is_order = order_count (reads_in ss) order is_order ∙ length-map (queries_in ss) (λ query. numbers_of (query_names ss) (reads_by query))
 
 -- as many streams are declared as statements are no queries
-pub statement_count : (ss : List Statement) (streams : List Entry) (order : List ℕ) → Declare ss streams → IsOrder (reads_in ss) order → length streams + length order ≡ length ss
+pub statement_count : (ss : List Statement) (streams : List Entry) (order : List ℕ) → FileDeclares ss streams → IsOrder (reads_in ss) order → length streams + length order ≡ length ss
 statement_count ss streams order declared is_order =
     let e : length order ≡ length (queries_in ss) = query_count ss order is_order in
     let f : length streams + length (queries_in ss) ≡ length ss = declared_count declared in

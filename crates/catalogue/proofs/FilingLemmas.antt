@@ -4,7 +4,7 @@ use Rattle.std.specs.Prelude.{Err}
 use Rattle.cel_lexer.specs.Faults.{tokens_of}
 use Rattle.cel_lexer.specs.declared.fault.LexFault.{LexFault}
 use Rattle.cel_lexer.specs.declared.fault.LexFault.TheVariants as lex
-use Rattle.cel_parser.specs.Faults.{IsRefused}
+use Rattle.cel_parser.specs.Faults.{HasSyntaxFault}
 use Rattle.cel_parser.specs.declared.fault.SyntaxFault.{SyntaxFault}
 use Rattle.cel_parser.specs.declared.fault.SyntaxFault.TheVariants as syntax_fault
 use Rattle.catalogue.specs.declared.fault.LoadFault.{LoadFault}
@@ -31,7 +31,7 @@ fails_in_tokens text f (Cycle names) short is of = of
 fails_in_tokens text f Memory short is of = tt
 
 -- a fault of statements
-pub fails_in_syntax : (text source : List ℕ) (f : SyntaxFault) (told : LoadFault) → source ≡ text → length text ≤ most_bytes → (f ≢ syntax_fault.Memory → IsRefused source f) → TellsBad (IsOfSyntax f) told → TellsBad (FailsAsFile text) told
-fails_in_syntax text source f (Bad line why) same short is of = syntax short (subst (λ (t : List ℕ). IsRefused t f) same (is (syntax_told of))) of
+pub fails_in_syntax : (text source : List ℕ) (f : SyntaxFault) (told : LoadFault) → source ≡ text → length text ≤ most_bytes → (f ≢ syntax_fault.Memory → HasSyntaxFault source f) → TellsBad (IsOfSyntax f) told → TellsBad (FailsAsFile text) told
+fails_in_syntax text source f (Bad line why) same short is of = syntax short (subst (λ (t : List ℕ). HasSyntaxFault t f) same (is (syntax_told of))) of
 fails_in_syntax text source f (Cycle names) same short is of = of
 fails_in_syntax text source f Memory same short is of = tt

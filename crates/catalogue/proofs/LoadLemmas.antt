@@ -6,12 +6,12 @@ use Rattle.resubscribe.specs.Order.{IsOrder}
 use Rattle.catalogue.specs.declared.fault.LoadFault.{LoadFault}
 use Rattle.catalogue.specs.declared.fault.LoadFault.TheVariants.{Bad, Cycle, Memory}
 use Rattle.catalogue.specs.Arranging.{AreSound, FailInNames, HaveCycle}
-use Rattle.catalogue.specs.Filing.{FailsAsFile, IsFile}
+use Rattle.catalogue.specs.Filing.{FailsAsFile, IsFileWithinLimit}
 use Rattle.catalogue.specs.Judgement.{Circles, Refuses}
 use Rattle.catalogue.specs.Judgement as judgement
 use Rattle.catalogue.specs.Reading.{reads_in}
 use Rattle.catalogue.specs.Telling.{Tells, TellsBad}
-use Rattle.catalogue.specs.Typing.{Declare, FailsInDeclarations, FailsInQueries}
+use Rattle.catalogue.specs.Typing.{FileDeclares, FailsInDeclarations, FailsInQueries}
 
 -- the text is no file
 pub tells_file : (text : List ℕ) (told : LoadFault) → TellsBad (FailsAsFile text) told → Tells (Refuses text) (Circles text) told
@@ -19,7 +19,7 @@ tells_file text (Bad line why) h = judgement.file h
 tells_file text (Cycle names) h = absurd h
 tells_file text Memory h = tt
 
-module _ (text : List ℕ) (ss : List Statement) (lines : List ℕ) (file : IsFile text ss lines) where
+module _ (text : List ℕ) (ss : List Statement) (lines : List ℕ) (file : IsFileWithinLimit text ss lines) where
   -- its names have a fault, or its queries a cycle
   pub tells_names : (told : LoadFault) → Tells (FailInNames ss lines) (HaveCycle ss) told → Tells (Refuses text) (Circles text) told
   tells_names (Bad line why) h = judgement.names file h
@@ -34,7 +34,7 @@ module _ (text : List ℕ) (ss : List Statement) (lines : List ℕ) (file : IsFi
     tells_declarations Memory h = tt
 
     -- a query has one
-    pub tells_queries : (streams : List Entry) (told : LoadFault) → Declare ss streams → TellsBad (FailsInQueries ss lines streams order) told → Tells (Refuses text) (Circles text) told
+    pub tells_queries : (streams : List Entry) (told : LoadFault) → FileDeclares ss streams → TellsBad (FailsInQueries ss lines streams order) told → Tells (Refuses text) (Circles text) told
     tells_queries streams (Bad line why) declares h = judgement.query file sound in_order declares h.fails h.same
     tells_queries streams (Cycle names) declares h = absurd h
     tells_queries streams Memory declares h = tt

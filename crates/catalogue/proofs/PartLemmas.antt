@@ -14,11 +14,11 @@ use Rattle.cel_parser.specs.Filed.{Filed}
 use Rattle.resubscribe.specs.Order.{IsOrder}
 use Rattle.catalogue.specs.Arranging.{AreSound}
 use Rattle.catalogue.specs.Catalogued.{parts_of, judged_of, queries_by}
-use Rattle.catalogue.specs.Filing.{IsFile}
+use Rattle.catalogue.specs.Filing.{IsFileWithinLimit}
 use Rattle.catalogue.specs.Judgement.{Accepts}
 use Rattle.catalogue.specs.Reading.{reads_in}
 use Rattle.catalogue.specs.Statements.{queries_in}
-use Rattle.catalogue.specs.Typing.{ArePublished, Declare, Publish, none, next, published_by}
+use Rattle.catalogue.specs.Typing.{ArePublished, FileDeclares, Publish, none, next, published_by}
 use Rattle.catalogue.proofs.CountLemmas.{statement_count}
 
 -- the streams of the queries stand behind the others, and the queries are those that publish them
@@ -46,8 +46,8 @@ has_parts (next {streams = streams} {all = all} {hidden = hidden} {s = s} {more 
 
 -- a file whose names are sound, whose queries have this order, and whose statements are typed, is accepted
 pub accepts : (text : List ℕ) (file : Filed) (streams all : List Entry) (order : List ℕ) (expressions : List Expr)
-    → IsFile text (map statement_of file.statements) file.lines → AreSound (map statement_of file.statements) → IsOrder (reads_in (map statement_of file.statements)) order
-    → Declare (map statement_of file.statements) streams → ArePublished (map statement_of file.statements) streams order all expressions → Accepts text (judged_of (parts_of file all order expressions))
+    → IsFileWithinLimit text (map statement_of file.statements) file.lines → AreSound (map statement_of file.statements) → IsOrder (reads_in (map statement_of file.statements)) order
+    → FileDeclares (map statement_of file.statements) streams → ArePublished (map statement_of file.statements) streams order all expressions → Accepts text (judged_of (parts_of file all order expressions))
 accepts text file streams all order expressions is_file sound in_order declared published =
     let ss : List Statement = map statement_of file.statements in
     let parts : HasParts streams all (length ss) published.queries expressions = has_parts published.publish expressions published.expressions_are in
@@ -65,7 +65,7 @@ accepts text file streams all order expressions is_file sound in_order declared 
       file = is_file;
       sound = sound;
       in_order = in_order;
-      declares = subst (Declare (map statement_of file.statements)) front declared;
+      declares = subst (FileDeclares (map statement_of file.statements)) front declared;
       publishes = subst (λ (es : List Entry). Publish (queries_in ss) (take (length file.statements - length order) all) (length ss) order (take (length file.statements - length order) all ++ es) (queries_by (length (take (length file.statements - length order) all)) (length file.statements) es expressions)) back at_front;
     }
 

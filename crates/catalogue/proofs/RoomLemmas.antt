@@ -18,7 +18,7 @@ use Rattle.cel_lexer.specs.Tokens.{tokens_behind_mark}
 use Rattle.cel_lexer.specs.declared.fault.LexFault.TheVariants as fault
 use Rattle.cel_lexer.specs.declared.token.Token.{Token}
 use Rattle.cel_lexer.proofs.AscentLemmas.{tokens-ascend}
-use Rattle.cel_grammar.specs.Sentences.{Placed, Say, Sentence, none, more, placed_of, sentences, with_front, with_symbol}
+use Rattle.cel_grammar.specs.Sentences.{Placed, AreSentencesOf, Sentence, none, more, placed_of, sentences, with_front, with_symbol}
 use Rattle.cel_grammar.specs.Sources.{IsSource, IsTerm, term, union, next, next_where, fold, of, group, select, filter}
 use Rattle.cel_grammar.specs.Statements.{IsStatement, declaration, query}
 use Rattle.cel_grammar.specs.Symbols.{Symbol}
@@ -27,10 +27,10 @@ use Rattle.cel_grammar.specs.Trees.{Source, Statement}
 use Rattle.cel_grammar.specs.Trees as tree
 use Rattle.cel_parser.proofs.PredicateComplete.{pred_shorter}
 use Rattle.cel_parser.proofs.SourceComplete.{aggs_shorter, items_shorter}
-use Rattle.cel_types.specs.Sources.{Gives}
+use Rattle.cel_types.specs.Sources.{Elaborates}
 use Rattle.cel_types.specs.Sources as source
 use Rattle.cel_types.specs.Statements.{Queries}
-use Rattle.catalogue.specs.Filing.{IsFile, most_bytes}
+use Rattle.catalogue.specs.Filing.{IsFileWithinLimit, most_bytes}
 use Rattle.catalogue.specs.Statements.{is_query, queries_in}
 use Rattle.catalogue.specs.Typing.{Publish}
 use Rattle.catalogue.specs.Typing as typing
@@ -60,7 +60,7 @@ mutual
   term_nodes (filter p h) = omega (arith, pred_shorter p, term_nodes h)
 
 -- its expression has as many
-gives_nodes : {streams : List Entry} {e : Source} {schema : List Attr} {x : Ex} → Gives streams e schema x → nodes x ≡ nodes_in e
+gives_nodes : {streams : List Entry} {e : Source} {schema : List Attr} {x : Ex} → Elaborates streams e schema x → nodes x ≡ nodes_in e
 gives_nodes (source.name a b) = refl
 gives_nodes (source.filter g m) = gives_nodes g
 gives_nodes (source.select g m le) = gives_nodes g
@@ -78,7 +78,7 @@ statement_few (declaration h) few = tt
 statement_few (query i h) few = omega (arith, items_shorter i, source_nodes h)
 
 -- each statement of a text has as few parts as the text has bytes
-pub say_few : {said : List Sentence} {ss : List Statement} {lines : List ℕ} → Say said ss lines → All HasFew ss
+pub say_few : {said : List Sentence} {ss : List Statement} {lines : List ℕ} → AreSentencesOf said ss lines → All HasFew ss
 say_few none = All-nil HasFew
 say_few (more {s = s} {ss = ss} says rest) = All-cons HasFew s ss (statement_few says.read says.small.few) (say_few rest)
 
@@ -96,7 +96,7 @@ published_short {queries = queries} few (typing.next {streams = streams} {number
     at xs place s all e = subst HasFew (get_or_from_slice_get xs place s s e) (All-get_or HasFew xs place s (slice_get_within xs place s e) all)
 
 -- how many statements there are
-say_many : {said : List Sentence} {ss : List Statement} {lines : List ℕ} → Say said ss lines → length ss ≡ length said
+say_many : {said : List Sentence} {ss : List Statement} {lines : List ℕ} → AreSentencesOf said ss lines → length ss ≡ length said
 say_many none = refl
 say_many (more says rest) = ap suc (say_many rest)
 
@@ -128,12 +128,12 @@ sound_tokens text tokens e = go (is_utf8 text) e
     go false e = cc
 
 -- a file has as few statements
-pub file_few : (text : List ℕ) (ss : List Statement) (lines : List ℕ) → IsFile text ss lines → length ss ≤ most_bytes
+pub file_few : (text : List ℕ) (ss : List Statement) (lines : List ℕ) → IsFileWithinLimit text ss lines → length ss ≤ most_bytes
 file_few text ss lines file =
     let tokens = file.reads.tokens in
     let ascend = tokens-ascend text tokens (sound_tokens text tokens file.reads.all) in
     omega (arith, file.short, say_many file.reads.said, sentences_few (placed_of (record { source = text; items = tokens })), placed_many text tokens, tokens_few 0 (length text) tokens ascend)
 
 -- and its queries as few parts
-pub queries_few : (text : List ℕ) (ss : List Statement) (lines : List ℕ) → IsFile text ss lines → All HasFew (queries_in ss)
+pub queries_few : (text : List ℕ) (ss : List Statement) (lines : List ℕ) → IsFileWithinLimit text ss lines → All HasFew (queries_in ss)
 queries_few text ss lines file = All-filter is_query HasFew ss (say_few file.reads.said)

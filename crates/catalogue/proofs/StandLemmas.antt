@@ -27,7 +27,7 @@ use Rattle.catalogue.specs.First.{HaveNone}
 use Rattle.catalogue.specs.Naming.{name_fault_at, read_fault}
 use Rattle.catalogue.specs.Reading.{numbers_of, reads_in}
 use Rattle.catalogue.specs.Statements.{is_query, name_of, names_in, queries_in, query_names, reads_by}
-use Rattle.catalogue.specs.Typing.{Declare, Publish, none, stream, query}
+use Rattle.catalogue.specs.Typing.{FileDeclares, Publish, none, stream, query}
 use Rattle.catalogue.proofs.DeclareLemmas.{new_at}
 use Rattle.catalogue.proofs.NameLemmas.{number_of-absent}
 use Rattle.catalogue.proofs.PlaceLemmas.{read_fault-at, slice_get-within}
@@ -59,14 +59,14 @@ record DeclaredAt (ss : List Statement) (name : List ℕ) : Type 0 where
 behind_it : {ss : List Statement} {name : List ℕ} (t : Statement) → DeclaredAt ss name → DeclaredAt (t ∷ ss) name
 behind_it t h = record { place = suc h.place; s = h.s; there = h.there; is = h.is; named = h.named }
 
-declared_from : {ss : List Statement} {streams : List Entry} → Declare ss streams → (name : List ℕ) → Contains (stream_names streams) name → DeclaredAt ss name
+declared_from : {ss : List Statement} {streams : List Entry} → FileDeclares ss streams → (name : List ℕ) → Contains (stream_names streams) name → DeclaredAt ss name
 declared_from none name (k, within, same) = absurd (omega arith)
 declared_from (stream {name = own} {columns = columns} first rest) name (zero, within, same) = record { place = 0; s = tree.Stream own columns; there = refl; is = refl; named = same }
 declared_from (stream {name = own} {columns = columns} first rest) name (suc k, within, same) = behind_it (tree.Stream own columns) (declared_from rest name (k, omega arith, same))
 declared_from (query {items = items} {source = source} {name = own} rest) name stands = behind_it (tree.Query items source own) (declared_from rest name stands)
 
 -- the stream of a declaration stands
-declared_stands : {ss : List Statement} {streams : List Entry} → Declare ss streams → (place : ℕ) (s : Statement) → slice_get ss place ≡ Some s → is_query s ≡ false → Contains (stream_names streams) (name_of s)
+declared_stands : {ss : List Statement} {streams : List Entry} → FileDeclares ss streams → (place : ℕ) (s : Statement) → slice_get ss place ≡ Some s → is_query s ≡ false → Contains (stream_names streams) (name_of s)
 declared_stands none place s there is = cc
 declared_stands (stream {name = own} {columns = columns} {streams = streams} first rest) zero s there is =
     let same : tree.Stream own columns ≡ s = cc in subst (λ (z : Statement). Contains (own ∷ stream_names streams) (name_of z)) same (0, omega arith, refl)
@@ -142,7 +142,7 @@ query_at_number ss number s at =
     let within : number < length (queries_in ss) = slice_get-within (queries_in ss) number s at in
     ap is_query (sym (get_or_from_slice_get (queries_in ss) number s s at)) ∙ filter_passes is_query ss number s within
 
-module _ (ss : List Statement) (streams : List Entry) (order : List ℕ) (all : List Entry) (done : List Query) (sound : AreSound ss) (in_order : IsOrder (reads_in ss) order) (declared : Declare ss streams) (index : ℕ) (within : index < length order) {hidden : ℕ} (published : Publish (queries_in ss) streams hidden (take index order) all done) (place : ℕ) (s : Statement) (there : slice_get ss place ≡ Some s) (at_number : slice_get (queries_in ss) (get_or order index 0) ≡ Some s) where
+module _ (ss : List Statement) (streams : List Entry) (order : List ℕ) (all : List Entry) (done : List Query) (sound : AreSound ss) (in_order : IsOrder (reads_in ss) order) (declared : FileDeclares ss streams) (index : ℕ) (within : index < length order) {hidden : ℕ} (published : Publish (queries_in ss) streams hidden (take index order) all done) (place : ℕ) (s : Statement) (there : slice_get ss place ≡ Some s) (at_number : slice_get (queries_in ss) (get_or order index 0) ≡ Some s) where
   names_are : stream_names all ≡ stream_names streams ++ map (λ n. get_or (query_names ss) n []) (take index order)
   names_are = Publish-names published
 

@@ -15,7 +15,7 @@ use Rattle.cel_types.specs.Declarations.{AreDistinct, FailsToDeclare, IsDeclared
 use Rattle.catalogue.specs.declared.fault.QueryFault.{QueryFault}
 use Rattle.catalogue.specs.Faults.{IsOfTypes}
 use Rattle.catalogue.specs.Faults as told
-use Rattle.catalogue.specs.Typing.{Declare, FailToDeclare}
+use Rattle.catalogue.specs.Typing.{FileDeclares, FileFailsToDeclare}
 use Rattle.catalogue.specs.Typing as typing
 use Rattle.catalogue.proofs.StandLemmas.{among-there, stands-from}
 use Rattle.catalogue.proofs.TotalTypes.{Case, good, bad}
@@ -55,18 +55,18 @@ pub data FileCase (Good : Type 0) (Bad : ℕ → TypeFault → Type 0) : Type 0 
   fault : {line : ℕ} {f : TypeFault} {why : QueryFault} → IsOfTypes f why → Bad line f → FileCase Good Bad
 
 stream_case : (name : List ℕ) (columns : List Column) (ss : List Statement) (at : ℕ) (lines : List ℕ) → Case ((schema : List Attr) × IsDeclared columns schema) (FailsToDeclare columns)
-    → FileCase ((streams : List Entry) × Declare ss streams) (FailToDeclare ss lines) → FileCase ((streams : List Entry) × Declare (tree.Stream name columns ∷ ss) streams) (FailToDeclare (tree.Stream name columns ∷ ss) (at ∷ lines))
+    → FileCase ((streams : List Entry) × FileDeclares ss streams) (FileFailsToDeclare ss lines) → FileCase ((streams : List Entry) × FileDeclares (tree.Stream name columns ∷ ss) streams) (FileFailsToDeclare (tree.Stream name columns ∷ ss) (at ∷ lines))
 stream_case name columns ss at lines (bad tells fails) later = fault tells (typing.here fails)
 stream_case name columns ss at lines (good (schema, is)) (fine (streams, declares)) = fine (_, typing.stream is declares)
 stream_case name columns ss at lines (good (schema, is)) (fault tells fails) = fault tells (typing.behind is fails)
 
 no_stream_case : (list : List Item) (e : Source) (name : List ℕ) (ss : List Statement) (at : ℕ) (lines : List ℕ)
-    → FileCase ((streams : List Entry) × Declare ss streams) (FailToDeclare ss lines) → FileCase ((streams : List Entry) × Declare (tree.Query list e name ∷ ss) streams) (FailToDeclare (tree.Query list e name ∷ ss) (at ∷ lines))
+    → FileCase ((streams : List Entry) × FileDeclares ss streams) (FileFailsToDeclare ss lines) → FileCase ((streams : List Entry) × FileDeclares (tree.Query list e name ∷ ss) streams) (FileFailsToDeclare (tree.Query list e name ∷ ss) (at ∷ lines))
 no_stream_case list e name ss at lines (fine (streams, declares)) = fine (_, typing.query declares)
 no_stream_case list e name ss at lines (fault tells fails) = fault tells (typing.query fails)
 
 -- statements declare streams, or have a first fault: by induction on them
-pub declare_case : (ss : List Statement) (lines : List ℕ) → length lines ≡ length ss → FileCase ((streams : List Entry) × Declare ss streams) (FailToDeclare ss lines)
+pub declare_case : (ss : List Statement) (lines : List ℕ) → length lines ≡ length ss → FileCase ((streams : List Entry) × FileDeclares ss streams) (FileFailsToDeclare ss lines)
 declare_case [] lines same = fine (_, typing.none)
 declare_case (s ∷ ss) [] same = absurd (omega arith)
 declare_case (tree.Stream name columns ∷ ss) (at ∷ lines) same = stream_case name columns ss at lines (declaration_case columns) (declare_case ss lines (omega arith))

@@ -20,7 +20,7 @@ use Rattle.catalogue.specs.Arranging.{AreSound}
 use Rattle.catalogue.specs.Reading.{numbers_of, reads_in}
 use Rattle.catalogue.specs.Statements.{name_of, queries_in, query_names, reads_by}
 use Rattle.splitter.specs.Chains.{chain_end}
-use Rattle.catalogue.specs.Typing.{Declare, FailToPublish, Publish, none, published_by, query_lines}
+use Rattle.catalogue.specs.Typing.{FileDeclares, FailToPublish, Publish, none, published_by, query_lines}
 use Rattle.catalogue.proofs.PublishLemmas.{Publish-push, fails_behind}
 use Rattle.catalogue.proofs.StandLemmas.{query_at_number, reads_stand}
 use Rattle.catalogue.proofs.TotalDeclarations.{FileCase, fine, fault}
@@ -44,7 +44,7 @@ query_place (tree.Stream name columns ∷ ss) number s at = let later = query_pl
 query_place (tree.Query list e name ∷ ss) zero s at = (0, at)
 query_place (tree.Query list e name ∷ ss) (suc number) s at = let later = query_place ss number s at in (suc later.0, later.1)
 
-module _ (ss : List Statement) (lines : List ℕ) (streams : List Entry) (order : List ℕ) (sound : AreSound ss) (in_order : IsOrder (reads_in ss) order) (declared : Declare ss streams) (lengths : length lines ≡ length ss) where
+module _ (ss : List Statement) (lines : List ℕ) (streams : List Entry) (order : List ℕ) (sound : AreSound ss) (in_order : IsOrder (reads_in ss) order) (declared : FileDeclares ss streams) (lengths : length lines ≡ length ss) where
   abbrev PublishesSome : Type 0
   PublishesSome = (all : List Entry) × (published : List Query) × Publish (queries_in ss) streams (length ss) order all published
 

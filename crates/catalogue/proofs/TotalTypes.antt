@@ -19,7 +19,7 @@ use Rattle.cel_grammar.specs.declared.mark.Mark.{Mark}
 use Rattle.cel_grammar.specs.Trees.{Scalar, Pred, Item, Agg, Source, Op}
 use Rattle.cel_grammar.specs.Trees as tree
 use Rattle.cel_types.specs.declared.fault.TypeFault.{TypeFault}
-use Rattle.cel_types.specs.Aggregates.{Assign, Assignment, FailToAssign, IsAt, is_among}
+use Rattle.cel_types.specs.Aggregates.{Assign, Assignment, FailToAssign, IsAttributeAt, is_among}
 use Rattle.cel_types.specs.Aggregates as aggs
 use Rattle.cel_types.specs.Items.{FailToMake, Make, attr, names_there}
 use Rattle.cel_types.specs.Items as items
@@ -28,7 +28,7 @@ use Rattle.cel_types.specs.Predicates as pred
 use Rattle.cel_types.specs.Scalars.{HasFault, IsOf}
 use Rattle.cel_types.specs.Scalars as scalar
 use Rattle.cel_types.specs.Scopes.{Alone, Iteration, Scope, Sequence, Typed, at_place, attribute}
-use Rattle.cel_types.specs.Sources.{FailsToGive, Gives}
+use Rattle.cel_types.specs.Sources.{FailsToElaborate, Elaborates}
 use Rattle.cel_types.specs.Sources as source
 use Rattle.cel_types.specs.Statements.{FailsAsQuery, Queries, read_names}
 use Rattle.cel_types.specs.Unions.{difference_from}
@@ -155,7 +155,7 @@ make_case schema made (tree.Named x a ∷ list) = scalar_item_case schema made l
 abbrev AssignsSome : List Attr → List Attr → List (List ℕ) → List Agg → Type 0
 AssignsSome binding event names list = (assignments : List Assignment) × Assign binding event names list assignments
 
-kinds_case : (binding event : List Attr) (names : List (List ℕ)) (list : List Agg) (x : Scalar) (a : List ℕ) (place : ℕ) (k l : Kind) (s : Sc) → IsAt binding a place k → is_among names a ≡ false → IsOf (Iteration binding event) x s l
+kinds_case : (binding event : List Attr) (names : List (List ℕ)) (list : List Agg) (x : Scalar) (a : List ℕ) (place : ℕ) (k l : Kind) (s : Sc) → IsAttributeAt binding a place k → is_among names a ≡ false → IsOf (Iteration binding event) x s l
     → Case (AssignsSome binding event (names ++ a ∷ []) list) (FailToAssign binding event (names ++ a ∷ []) list) → Case (AssignsSome binding event names (tree.Set x a ∷ list)) (FailToAssign binding event names (tree.Set x a ∷ list))
 kinds_case binding event names list x a place k l s at new is later = by_kind (same_or_not k l) later
   where
@@ -180,44 +180,44 @@ assign_case binding event names (tree.Set x a ∷ list) =
     set_case binding event names list x a (place_of a binding) (is_among names a) refl refl (scalar_case (Iteration binding event) x) (assign_case binding event (names ++ a ∷ []) list)
 
 abbrev GivesSome : List Entry → Source → Type 0
-GivesSome streams e = (schema : List Attr) × (x : Ex) × Gives streams e schema x
+GivesSome streams e = (schema : List Attr) × (x : Ex) × Elaborates streams e schema x
 
-name_case : (streams : List Entry) (a : List ℕ) (found : Option ℕ) → number_of a streams ≡ found → is_some found ≡ true → Case (GivesSome streams (tree.Name a)) (FailsToGive streams (tree.Name a))
+name_case : (streams : List Entry) (a : List ℕ) (found : Option ℕ) → number_of a streams ≡ found → is_some found ≡ true → Case (GivesSome streams (tree.Name a)) (FailsToElaborate streams (tree.Name a))
 name_case streams a None is some = absurd cc
 name_case streams a (Some n) is some =
     let within : n < length streams = number-within streams a n is in
     let inside : n < length (schemas_of streams) = rw (length-map streams (λ e. e.schema)) within in
     good (_, _, source.name is (slice_get-get_or (schemas_of streams) n [] inside))
 
-filter_case : (streams : List Entry) (p : Pred) (e : Source) → Case (GivesSome streams e) (FailsToGive streams e) → Case (GivesSome streams (tree.Filter p e)) (FailsToGive streams (tree.Filter p e))
+filter_case : (streams : List Entry) (p : Pred) (e : Source) → Case (GivesSome streams e) (FailsToElaborate streams e) → Case (GivesSome streams (tree.Filter p e)) (FailsToElaborate streams (tree.Filter p e))
 filter_case streams p e (bad tells fails) = bad tells (source.filter_source fails)
 filter_case streams p e (good (schema, x, gives)) = with_condition (predicate_case (Alone schema) p)
   where
-    with_condition : Case ((u : Pr) × Means (Alone schema) p u) (Fails (Alone schema) p) → Case (GivesSome streams (tree.Filter p e)) (FailsToGive streams (tree.Filter p e))
+    with_condition : Case ((u : Pr) × Means (Alone schema) p u) (Fails (Alone schema) p) → Case (GivesSome streams (tree.Filter p e)) (FailsToElaborate streams (tree.Filter p e))
     with_condition (bad tells fails) = bad tells (source.filter_condition gives fails)
     with_condition (good (u, means)) = good (_, _, source.filter gives means)
 
-select_case : (streams : List Entry) (list : List Item) (e : Source) → Case (GivesSome streams e) (FailsToGive streams e) → Case (GivesSome streams (tree.Select list e)) (FailsToGive streams (tree.Select list e))
+select_case : (streams : List Entry) (list : List Item) (e : Source) → Case (GivesSome streams e) (FailsToElaborate streams e) → Case (GivesSome streams (tree.Select list e)) (FailsToElaborate streams (tree.Select list e))
 select_case streams list e (bad tells fails) = bad tells (source.select_source fails)
 select_case streams list e (good (schema, x, gives)) = with_items (make_case schema [] list)
   where
-    with_items : Case (MakesSome schema [] list) (FailToMake schema [] list) → Case (GivesSome streams (tree.Select list e)) (FailsToGive streams (tree.Select list e))
+    with_items : Case (MakesSome schema [] list) (FailToMake schema [] list) → Case (GivesSome streams (tree.Select list e)) (FailsToElaborate streams (tree.Select list e))
     with_items (bad tells fails) = bad tells (source.select_items gives fails)
     with_items (good (made, terms, makes)) = elim (cases_lt 256 (length made)) [
       | inl wide ↦ bad told.wide (source.select_wide gives makes wide)
       | inr narrow ↦ good (_, _, source.select gives makes narrow)
     ]
 
-schemas_case : (streams : List Entry) (e g : Source) (left right : List Attr) (x y : Ex) (found : Option ℕ) → difference_from 1 left right ≡ found → Gives streams e left x → Gives streams g right y → Case (GivesSome streams (tree.Union e g)) (FailsToGive streams (tree.Union e g))
+schemas_case : (streams : List Entry) (e g : Source) (left right : List Attr) (x y : Ex) (found : Option ℕ) → difference_from 1 left right ≡ found → Elaborates streams e left x → Elaborates streams g right y → Case (GivesSome streams (tree.Union e g)) (FailsToElaborate streams (tree.Union e g))
 schemas_case streams e g left right x y (Some place) is gives others = bad told.union (source.union_schemas gives others is)
 schemas_case streams e g left right x y None is gives others = good (_, _, source.union gives others is)
 
-union_case : (streams : List Entry) (e g : Source) → Case (GivesSome streams e) (FailsToGive streams e) → Case (GivesSome streams g) (FailsToGive streams g) → Case (GivesSome streams (tree.Union e g)) (FailsToGive streams (tree.Union e g))
+union_case : (streams : List Entry) (e g : Source) → Case (GivesSome streams e) (FailsToElaborate streams e) → Case (GivesSome streams g) (FailsToElaborate streams g) → Case (GivesSome streams (tree.Union e g)) (FailsToElaborate streams (tree.Union e g))
 union_case streams e g (bad tells fails) right = bad tells (source.union_left fails)
 union_case streams e g (good (left, x, gives)) (bad tells fails) = bad tells (source.union_right gives fails)
 union_case streams e g (good (left, x, gives)) (good (right, y, others)) = schemas_case streams e g left right x y (difference_from 1 left right) refl gives others
 
-next_case : (streams : List Entry) (p : Pred) (e g : Source) → Case (GivesSome streams e) (FailsToGive streams e) → Case (GivesSome streams g) (FailsToGive streams g) → Case (GivesSome streams (tree.Next p e g)) (FailsToGive streams (tree.Next p e g))
+next_case : (streams : List Entry) (p : Pred) (e g : Source) → Case (GivesSome streams e) (FailsToElaborate streams e) → Case (GivesSome streams g) (FailsToElaborate streams g) → Case (GivesSome streams (tree.Next p e g)) (FailsToElaborate streams (tree.Next p e g))
 next_case streams p e g (bad tells fails) right = bad tells (source.next_left fails)
 next_case streams p e g (good (left, x, gives)) (bad tells fails) = bad tells (source.next_right gives fails)
 next_case streams p e g (good (left, x, gives)) (good (right, y, others)) = elim (cases_lt 256 (length left + length right)) [
@@ -225,24 +225,24 @@ next_case streams p e g (good (left, x, gives)) (good (right, y, others)) = elim
   | inr narrow ↦ with_condition narrow (predicate_case (Sequence left right) p)
 ]
   where
-    with_condition : length left + length right ≤ 256 → Case ((u : Pr) × Means (Sequence left right) p u) (Fails (Sequence left right) p) → Case (GivesSome streams (tree.Next p e g)) (FailsToGive streams (tree.Next p e g))
+    with_condition : length left + length right ≤ 256 → Case ((u : Pr) × Means (Sequence left right) p u) (Fails (Sequence left right) p) → Case (GivesSome streams (tree.Next p e g)) (FailsToElaborate streams (tree.Next p e g))
     with_condition narrow (bad tells fails) = bad tells (source.next_condition gives others narrow fails)
     with_condition narrow (good (u, means)) = good (_, _, source.next gives others narrow means)
 
-fold_case : (streams : List Entry) (p q : Pred) (list : List Agg) (e g : Source) → Case (GivesSome streams e) (FailsToGive streams e) → Case (GivesSome streams g) (FailsToGive streams g) → Case (GivesSome streams (tree.Fold p q list e g)) (FailsToGive streams (tree.Fold p q list e g))
+fold_case : (streams : List Entry) (p q : Pred) (list : List Agg) (e g : Source) → Case (GivesSome streams e) (FailsToElaborate streams e) → Case (GivesSome streams g) (FailsToElaborate streams g) → Case (GivesSome streams (tree.Fold p q list e g)) (FailsToElaborate streams (tree.Fold p q list e g))
 fold_case streams p q list e g (bad tells fails) right = bad tells (source.fold_left fails)
 fold_case streams p q list e g (good (left, x, gives)) (bad tells fails) = bad tells (source.fold_right gives fails)
 fold_case streams p q list e g (good (left, x, gives)) (good (right, y, others)) = with_all (predicate_case (Iteration left right) p) (predicate_case (Iteration left right) q) (assign_case left right [] list)
   where
     with_all : Case ((u : Pr) × Means (Iteration left right) p u) (Fails (Iteration left right) p) → Case ((v : Pr) × Means (Iteration left right) q v) (Fails (Iteration left right) q) → Case (AssignsSome left right [] list) (FailToAssign left right [] list)
-        → Case (GivesSome streams (tree.Fold p q list e g)) (FailsToGive streams (tree.Fold p q list e g))
+        → Case (GivesSome streams (tree.Fold p q list e g)) (FailsToElaborate streams (tree.Fold p q list e g))
     with_all (bad tells fails) on sets = bad tells (source.fold_choose gives others fails)
     with_all (good (u, means)) (bad tells fails) sets = bad tells (source.fold_on gives others means fails)
     with_all (good (u, means)) (good (v, means_too)) (bad tells fails) = bad tells (source.fold_sets gives others means means_too fails)
     with_all (good (u, means)) (good (v, means_too)) (good (assignments, assigns)) = good (_, _, source.fold gives others means means_too assigns)
 
 -- a source over streams that it reads has a schema and an expression, or a fault
-source_case : (streams : List Entry) (e : Source) → ((name : List ℕ) → Contains (read_names e) name → Contains (stream_names streams) name) → Case (GivesSome streams e) (FailsToGive streams e)
+source_case : (streams : List Entry) (e : Source) → ((name : List ℕ) → Contains (read_names e) name → Contains (stream_names streams) name) → Case (GivesSome streams e) (FailsToElaborate streams e)
 source_case streams (tree.Name a) stand = name_case streams a (number_of a streams) refl (is_some-number_of a streams ∙ among-there (stream_names streams) a (stand a (0, omega arith, refl)))
 source_case streams (tree.Filter p e) stand = filter_case streams p e (source_case streams e stand)
 source_case streams (tree.Select list e) stand = select_case streams list e (source_case streams e stand)

@@ -10,7 +10,7 @@ use Rattle.cel_lexer.specs.declared.fault.LexFault.TheVariants as lex
 use Rattle.cel_lexer.proofs.MemoryLemmas.{never_memory}
 use Rattle.cel_grammar.specs.Sentences.{Sentence}
 use Rattle.cel_grammar.specs.Trees.{Statement}
-use Rattle.cel_parser.specs.Faults.{Explains, IsRefused}
+use Rattle.cel_parser.specs.Faults.{Explains, HasSyntaxFault}
 use Rattle.cel_parser.specs.Faults as why
 use Rattle.cel_parser.specs.Laws.{Readable, Refusable}
 use Rattle.cel_parser.specs.declared.fault.SyntaxFault.{SyntaxFault}
@@ -25,14 +25,14 @@ use Rattle.resubscribe.proofs.TotalLemmas.{some_outcome}
 use Rattle.catalogue.specs.declared.fault.QueryFault.{QueryFault}
 use Rattle.catalogue.specs.Arranging.{AreSound, name, read}
 use Rattle.catalogue.specs.Faults as told
-use Rattle.catalogue.specs.Filing.{IsFile, most_bytes, long, tokens, syntax}
+use Rattle.catalogue.specs.Filing.{IsFileWithinLimit, most_bytes, long, tokens, syntax}
 use Rattle.catalogue.specs.First.{HaveNone, IsFirst}
 use Rattle.catalogue.specs.Judgement.{Accepted, Circle, Judges, Refused, Verdict}
 use Rattle.catalogue.specs.Judgement as judgement
 use Rattle.catalogue.specs.Naming.{name_fault_at, read_fault_at}
 use Rattle.catalogue.specs.Reading.{names_at, reads_in}
 use Rattle.catalogue.specs.Statements.{queries_in}
-use Rattle.catalogue.specs.Typing.{Declare, FailToDeclare, FailToPublish, Publish, query_lines}
+use Rattle.catalogue.specs.Typing.{FileDeclares, FileFailsToDeclare, FailToPublish, Publish, query_lines}
 use Rattle.catalogue.specs.Verdicts.{SomeVerdict}
 use Rattle.catalogue.proofs.PlaceLemmas.{HaveNone-more}
 use Rattle.catalogue.proofs.SmallLemmas.{reads_small}
@@ -60,9 +60,9 @@ is_first fault_at lines many place why lengths before has none = (_, record { pl
 abbrev HasVerdict : List ℕ → Type 0
 HasVerdict text = (v : Verdict) × Judges text v
 
-module _ (text : List ℕ) (ss : List Statement) (lines : List ℕ) (file : IsFile text ss lines) (lengths : length lines ≡ length ss) where
+module _ (text : List ℕ) (ss : List Statement) (lines : List ℕ) (file : IsFileWithinLimit text ss lines) (lengths : length lines ≡ length ss) where
   module _ (are_sound : AreSound ss) where
-    publishes : (order : List ℕ) (streams : List Entry) → IsOrder (reads_in ss) order → Declare ss streams
+    publishes : (order : List ℕ) (streams : List Entry) → IsOrder (reads_in ss) order → FileDeclares ss streams
         → FileCase ((all : List Entry) × (published : List Query) × Publish (queries_in ss) streams (length ss) order all published) (FailToPublish (queries_in ss) (query_lines ss lines) streams order) → HasVerdict text
     publishes order streams in_order declares (fine (all, published, publish)) = (
       Accepted (record { statements = ss; lines = lines; declared = streams; streams = all; order = order; published = published }),
@@ -70,7 +70,7 @@ module _ (text : List ℕ) (ss : List Statement) (lines : List ℕ) (file : IsFi
     )
     publishes order streams in_order declares (fault tells fails) = (Refused _ _, judgement.query file are_sound in_order declares fails tells)
 
-    declares_case : (order : List ℕ) → IsOrder (reads_in ss) order → FileCase ((streams : List Entry) × Declare ss streams) (FailToDeclare ss lines) → HasVerdict text
+    declares_case : (order : List ℕ) → IsOrder (reads_in ss) order → FileCase ((streams : List Entry) × FileDeclares ss streams) (FileFailsToDeclare ss lines) → HasVerdict text
     declares_case order in_order (fine (streams, declares)) = publishes order streams in_order declares (publish_case ss lines streams order are_sound in_order declares lengths)
     declares_case order in_order (fault tells fails) = (Refused _ _, judgement.declared file are_sound in_order fails tells)
 
@@ -104,7 +104,7 @@ explains_memory (why.here (why.unended _)) is = absurd cc
 explains_memory (why.behind _ later) is = explains_memory later is
 
 -- a text whose statements have a fault
-by_statements : (text : List ℕ) (f : SyntaxFault) → length text ≤ most_bytes → IsRefused text f → HasVerdict text
+by_statements : (text : List ℕ) (f : SyntaxFault) → length text ≤ most_bytes → HasSyntaxFault text f → HasVerdict text
 by_statements text (syntax_fault.TooManyTokens number line) short refused = (Refused _ _, judgement.file (syntax short refused told.many))
 by_statements text (syntax_fault.TooDeep number line) short refused = (Refused _ _, judgement.file (syntax short refused told.deep))
 by_statements text (syntax_fault.BadStatement number line) short refused = (Refused _ _, judgement.file (syntax short refused told.bad))

@@ -12,7 +12,7 @@ use Rattle.semantics.proofs.StatementLemmas.{declared_there}
 use Rattle.semantics.specs.Expressions.{Ex, Read, Filter, Select, Union, Next, Fold}
 use Rattle.semantics.specs.Programs.{Query}
 use Rattle.semantics.specs.TypedPrograms.{PublishInTurn}
-use Rattle.semantics.specs.Typing.{Gives}
+use Rattle.semantics.specs.Typing.{IsTypedOver}
 use Rattle.splitter.specs.Splitting.{parts_of}
 use Rattle.splitter.proofs.ApartLemmas.{range_all, reads_weaker}
 use Rattle.splitter.proofs.NumberedLemmas.{AreNumbered}
@@ -23,7 +23,7 @@ use Rattle.cel_grammar.specs.Trees.{Statement}
 use Rattle.cel_types.specs.SourceLaws.{kinds_in}
 use Rattle.cel_types.proofs.QueryLaws.{query-typed}
 use Rattle.catalogue.specs.Statements.{name_of, names_in}
-use Rattle.catalogue.specs.Typing.{Declare, Publish, none, next, published_by}
+use Rattle.catalogue.specs.Typing.{FileDeclares, Publish, none, next, published_by}
 use Rattle.catalogue.specs.Typing as typing
 use Rattle.catalogue.proofs.PlaceLemmas.{name-at, slice_get-within}
 
@@ -42,7 +42,7 @@ stands_behind (next {streams = streams} {s = s} schema x there typed rest) =
     }
 
 -- an expression that is typed over the first streams is so over others of the same kinds
-gives_alike : (count : ℕ) (kinds others : ℕ → List Kind) → ((stream : ℕ) → stream < count → kinds stream ≡ others stream) → (e : Ex) (out : List Kind) → Gives e count kinds out → Gives e count others out
+gives_alike : (count : ℕ) (kinds others : ℕ → List Kind) → ((stream : ℕ) → stream < count → kinds stream ≡ others stream) → (e : Ex) (out : List Kind) → IsTypedOver e count kinds out → IsTypedOver e count others out
 gives_alike count kinds others alike (Read stream) out gives = (gives.0, sym (alike stream gives.0) ∙ gives.1)
 gives_alike count kinds others alike (Filter p e) out gives = (gives_alike count kinds others alike e out gives.0, gives.1)
 gives_alike count kinds others alike (Select m e) out gives = (gives.0, gives_alike count kinds others alike e gives.0 gives.1, gives.2)
@@ -70,13 +70,13 @@ in_turn none = tt
 in_turn (next {streams = streams} {all = all} {s = s} {more = done} schema x there typed rest) =
     let behind : StandsBehind (streams ++ published_by s schema ∷ []) all = stands_behind rest in
     let is : all ≡ streams ++ published_by s schema ∷ behind.more = behind.all_are ∙ append_assoc streams (published_by s schema ∷ []) behind.more in
-    let own : Gives x (length streams) (kinds_in all) (kinds_of schema) =
+    let own : IsTypedOver x (length streams) (kinds_in all) (kinds_of schema) =
     gives_alike (length streams) (kinds_in streams) (kinds_in all) (kinds_before streams (published_by s schema ∷ behind.more) all is) x (kinds_of schema) (query-typed streams s schema x typed) in
     let longer : range_with_len 0 (length (streams ++ published_by s schema ∷ [])) ≡ range_with_len 0 (length streams) ++ length streams ∷ [] =
     ap (range_with_len 0) (length_push streams (published_by s schema)) ∙ sym (range_next (length streams)) in (
       range_all (λ n. n < length streams) 0 (length streams) (λ n above below. omega arith),
       reads_weaker (λ n. n < length streams) (Contains (range_with_len 0 (length streams))) (λ n below. declared_there (length streams) n below) x (reads_first (length streams) (kinds_in all) (kinds_of schema) x own),
-      subst (Gives x (length streams) (kinds_in all)) (sym (kinds_at streams behind.more all (published_by s schema) is)) own,
+      subst (IsTypedOver x (length streams) (kinds_in all)) (sym (kinds_at streams behind.more all (published_by s schema) is)) own,
       subst (λ (there : List ℕ). PublishInTurn (kinds_in all) there done) longer (in_turn rest),
     )
 
@@ -108,7 +108,7 @@ stream_in_turn (next {streams = streams} {all = all} {s = s} schema x there type
 stream_in_turn (next schema x there typed rest) (suc place) d within = stream_in_turn rest place d (omega arith)
 
 -- a stream of a declaration is told to be declared
-pub told_declared : {ss : List Statement} {streams : List Entry} → Declare ss streams → (stream : ℕ) (entry : Entry) → slice_get streams stream ≡ Some entry → entry.declared ≡ true
+pub told_declared : {ss : List Statement} {streams : List Entry} → FileDeclares ss streams → (stream : ℕ) (entry : Entry) → slice_get streams stream ≡ Some entry → entry.declared ≡ true
 told_declared typing.none stream entry there = cc
 told_declared (typing.stream {name = name} {schema = schema} first rest) zero entry there =
     let same : (record { name = name; schema = schema; declared = true }) ≡ entry = cc in ap (λ (e : Entry). e.declared) (sym same)

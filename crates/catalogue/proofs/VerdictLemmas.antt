@@ -10,13 +10,13 @@ use Rattle.resubscribe.proofs.OrderLemmas.{one_order}
 use Rattle.catalogue.specs.declared.fault.QueryFault.{QueryFault}
 use Rattle.catalogue.specs.Arranging.{AreSound, FailInNames, HaveCycle}
 use Rattle.catalogue.specs.Faults.{IsOfTypes, unknown, kinds, absent, twice, union, wide}
-use Rattle.catalogue.specs.Filing.{FailsAsFile, IsFile}
+use Rattle.catalogue.specs.Filing.{FailsAsFile, IsFileWithinLimit}
 use Rattle.catalogue.specs.Judgement.{Accepted, Circle, Judged, Judges, Refused, Refuses, Verdict}
 use Rattle.catalogue.specs.Judgement as judgement
 use Rattle.catalogue.specs.Laws.{SameFault, SameFile}
 use Rattle.catalogue.specs.Reading.{reads_in}
 use Rattle.catalogue.specs.Statements.{queries_in}
-use Rattle.catalogue.specs.Typing.{Declare, FailToDeclare, FailToPublish, Publish, query_lines}
+use Rattle.catalogue.specs.Typing.{FileDeclares, FileFailsToDeclare, FailToPublish, Publish, query_lines}
 use Rattle.catalogue.specs.Verdicts.{OneVerdict}
 use Rattle.catalogue.proofs.LawLemmas.{file_or_fault, one_cycle_of_names, one_file, one_file_fault, one_name_fault, order_or_cycle, sound_or_fault}
 use Rattle.catalogue.proofs.TypingLaws.{declared_or_fault, one_declaration, one_declare_fault, one_publication, one_publish_fault, published_or_fault}
@@ -35,12 +35,12 @@ same_refusal {g = g} {other = other} same is is_too =
 
 -- the verdict of the last pass over statements in an order
 data Typed (ss : List Statement) (lines order : List ℕ) : Verdict → Type 0 where
-  declared : {line : ℕ} {f : TypeFault} {why : QueryFault} → FailToDeclare ss lines line f → IsOfTypes f why → Typed ss lines order (Refused line why)
-  query : {streams : List Entry} {line : ℕ} {f : TypeFault} {why : QueryFault} → Declare ss streams → FailToPublish (queries_in ss) (query_lines ss lines) streams order line f → IsOfTypes f why → Typed ss lines order (Refused line why)
-  accepted : {streams all : List Entry} {published : List Query} → Declare ss streams → Publish (queries_in ss) streams (length ss) order all published → Typed ss lines order (Accepted (record { statements = ss; lines = lines; declared = streams; streams = all; order = order; published = published }))
+  declared : {line : ℕ} {f : TypeFault} {why : QueryFault} → FileFailsToDeclare ss lines line f → IsOfTypes f why → Typed ss lines order (Refused line why)
+  query : {streams : List Entry} {line : ℕ} {f : TypeFault} {why : QueryFault} → FileDeclares ss streams → FailToPublish (queries_in ss) (query_lines ss lines) streams order line f → IsOfTypes f why → Typed ss lines order (Refused line why)
+  accepted : {streams all : List Entry} {published : List Query} → FileDeclares ss streams → Publish (queries_in ss) streams (length ss) order all published → Typed ss lines order (Accepted (record { statements = ss; lines = lines; declared = streams; streams = all; order = order; published = published }))
 
 module _ (ss : List Statement) (lines order : List ℕ) where
-  fault_so : (streams others : List Entry) (line : ℕ) (f : TypeFault) → Declare ss streams → Declare ss others → FailToPublish (queries_in ss) (query_lines ss lines) others order line f → FailToPublish (queries_in ss) (query_lines ss lines) streams order line f
+  fault_so : (streams others : List Entry) (line : ℕ) (f : TypeFault) → FileDeclares ss streams → FileDeclares ss others → FailToPublish (queries_in ss) (query_lines ss lines) others order line f → FailToPublish (queries_in ss) (query_lines ss lines) streams order line f
   fault_so streams others line f d e fails = subst (λ (es : List Entry). FailToPublish (queries_in ss) (query_lines ss lines) es order line f) (one_declaration ss others streams e d) fails
 
   typed_one : {v w : Verdict} → Typed ss lines order v → Typed ss lines order w → v ≡ w
@@ -86,7 +86,7 @@ module _ (ss : List Statement) (lines : List ℕ) (lengths : length lines ≡ le
 -- the verdict of all passes
 data Read (text : List ℕ) : Verdict → Type 0 where
   refused : {line : ℕ} {why : QueryFault} → FailsAsFile text line why → Read text (Refused line why)
-  filed : {ss : List Statement} {lines : List ℕ} {v : Verdict} → IsFile text ss lines → Named ss lines v → Read text v
+  filed : {ss : List Statement} {lines : List ℕ} {v : Verdict} → IsFileWithinLimit text ss lines → Named ss lines v → Read text v
 
 read_one : (text : List ℕ) {v w : Verdict} → Read text v → Read text w → v ≡ w
 read_one text (refused {line = line} {why = why} h) (refused {line = other_line} {why = other} k) = let same = one_file_fault text line other_line why other h k in λ i. Refused (same.lines i) (same.faults i)

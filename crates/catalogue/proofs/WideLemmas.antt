@@ -16,7 +16,7 @@ use Rattle.splitter.specs.SourceWidths.{HasWidths, width_of}
 use Rattle.splitter.proofs.ApartLemmas.{reads_weaker}
 use Rattle.splitter.proofs.WidthLemmas.{width_is}
 use Rattle.cel_types.specs.SourceLaws.{kinds_in}
-use Rattle.cel_types.specs.Sources.{Gives}
+use Rattle.cel_types.specs.Sources.{Elaborates}
 use Rattle.cel_types.specs.Sources as source
 use Rattle.cel_types.specs.Statements.{Queries}
 use Rattle.cel_types.proofs.QueryLaws.{query-typed}
@@ -24,7 +24,7 @@ use Rattle.cel_types.proofs.TypedSources.{gives-typed}
 use Rattle.catalogue.specs.Typing.{Publish, none, next, published_by}
 use Rattle.catalogue.proofs.TurnLemmas.{StandsBehind, kinds_before, stands_behind}
 
-gives_wide : {streams : List Entry} {e : Source} {schema : List Attr} {x : Ex} → Gives streams e schema x → HasWidths (kinds_in streams) x
+gives_wide : {streams : List Entry} {e : Source} {schema : List Attr} {x : Ex} → Elaborates streams e schema x → HasWidths (kinds_in streams) x
 gives_wide (source.name a b) = tt
 gives_wide (source.filter g m) = gives_wide g
 gives_wide {streams = streams} (source.select {schema = schema} {x = x} g m le) =

@@ -23,7 +23,7 @@ use Rattle.catalogue.specs.Reading.{numbers_of, reads_in}
 use Rattle.catalogue.specs.Statements.{is_query, name_of, queries_in, query_names, reads_by}
 use Rattle.catalogue.specs.Tables.{ArePlaces}
 use Rattle.catalogue.specs.Telling.{TellsBad}
-use Rattle.catalogue.specs.Typing.{AddsQuery, ArePublished, Declare, FailToPublish, FailsInQueries, FailsOn, Publish, none, query_lines}
+use Rattle.catalogue.specs.Typing.{AddsQuery, ArePublished, FileDeclares, FailToPublish, FailsInQueries, FailsOn, Publish, none, query_lines}
 use Rattle.catalogue.proofs.PlaceLemmas.{slice_get-within}
 use Rattle.catalogue.proofs.PlacesLemmas.{at_place, places_long}
 use Rattle.catalogue.proofs.PublishLemmas.{Publish-push, fails_behind}
@@ -37,7 +37,7 @@ is_over : (all : List Entry) (s : Statement) → is_query s ≡ true → All (Co
 is_over all (tree.Stream name columns) is stand = cc
 is_over all (tree.Query items source name) is stand = stand
 
-module _ (ss : List Statement) (lines : List ℕ) (streams : List Entry) (order places : List ℕ) (all : List Entry) (expressions : List Expr) (index : ℕ) (sound : AreSound ss) (in_order : IsOrder (reads_in ss) order) (declared : Declare ss streams) (within : index < length order) (published : ArePublished ss streams (take index order) all expressions) (placed : ArePlaces ss lines ss lines places) where
+module _ (ss : List Statement) (lines : List ℕ) (streams : List Entry) (order places : List ℕ) (all : List Entry) (expressions : List Expr) (index : ℕ) (sound : AreSound ss) (in_order : IsOrder (reads_in ss) order) (declared : FileDeclares ss streams) (within : index < length order) (published : ArePublished ss streams (take index order) all expressions) (placed : ArePlaces ss lines ss lines places) where
   number_small : get_or order index 0 < length (queries_in ss)
   number_small =
       let once : HasEachOnce (reads_in ss) order = HasEachOnce-order (reads_in ss) order in_order in

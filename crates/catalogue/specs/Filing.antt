@@ -5,7 +5,7 @@ use Rattle.cel_lexer.specs.Faults.{tokens_of}
 use Rattle.cel_lexer.specs.declared.fault.LexFault.{LexFault}
 use Rattle.cel_grammar.specs.Sentences.{ReadsAs}
 use Rattle.cel_grammar.specs.Trees.{Statement}
-use Rattle.cel_parser.specs.Faults.{IsRefused}
+use Rattle.cel_parser.specs.Faults.{HasSyntaxFault}
 use Rattle.cel_parser.specs.declared.fault.SyntaxFault.{SyntaxFault}
 use Rattle.catalogue.specs.declared.fault.QueryFault.{QueryFault}
 use Rattle.catalogue.specs.declared.fault.QueryFault.TheVariants.{TooLong}
@@ -16,7 +16,7 @@ abbrev pub most_bytes : ℕ
 most_bytes = 1048576
 
 -- the text is short enough, and reads as these statements on these lines
-pub record IsFile (text : List ℕ) (statements : List Statement) (lines : List ℕ) : Type 0 where
+pub record IsFileWithinLimit (text : List ℕ) (statements : List Statement) (lines : List ℕ) : Type 0 where
   pub short : length text ≤ most_bytes
   pub reads : ReadsAs text statements lines
 
@@ -24,4 +24,4 @@ pub record IsFile (text : List ℕ) (statements : List Statement) (lines : List 
 pub data FailsAsFile (text : List ℕ) : ℕ → QueryFault → Type 0 where
   long : most_bytes < length text → FailsAsFile text (count_by is_line_feed (take most_bytes text) + 1) TooLong
   tokens : {f : LexFault} {line : ℕ} {why : QueryFault} → length text ≤ most_bytes → tokens_of text ≡ Err f → IsOfTokens f line why → FailsAsFile text line why
-  syntax : {f : SyntaxFault} {line : ℕ} {why : QueryFault} → length text ≤ most_bytes → IsRefused text f → IsOfSyntax f line why → FailsAsFile text line why
+  syntax : {f : SyntaxFault} {line : ℕ} {why : QueryFault} → length text ≤ most_bytes → HasSyntaxFault text f → IsOfSyntax f line why → FailsAsFile text line why

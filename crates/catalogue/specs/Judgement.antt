@@ -9,11 +9,11 @@ use Rattle.cel_types.specs.declared.fault.TypeFault.{TypeFault}
 use Rattle.resubscribe.specs.Order.{IsOrder}
 use Rattle.catalogue.specs.declared.fault.QueryFault.{QueryFault}
 use Rattle.catalogue.specs.Faults.{IsOfTypes}
-use Rattle.catalogue.specs.Filing.{FailsAsFile, IsFile}
+use Rattle.catalogue.specs.Filing.{FailsAsFile, IsFileWithinLimit}
 use Rattle.catalogue.specs.Arranging.{AreSound, FailInNames, HaveCycle}
 use Rattle.catalogue.specs.Reading.{reads_in}
 use Rattle.catalogue.specs.Statements.{queries_in}
-use Rattle.catalogue.specs.Typing.{Declare, FailToDeclare, FailToPublish, Publish, query_lines}
+use Rattle.catalogue.specs.Typing.{FileDeclares, FileFailsToDeclare, FailToPublish, Publish, query_lines}
 
 -- a query text as a program: its statements, the streams by number, the numbers of its queries in the order of work, and the same queries typed
 pub record Judged : Type 0 where
@@ -26,26 +26,26 @@ pub record Judged : Type 0 where
 
 -- the text is accepted as this: the declarations and then the queries in their order are typed, and hidden streams stand behind those of all statements
 pub record Accepts (text : List ℕ) (judged : Judged) : Type 0 where
-  pub file : IsFile text judged.statements judged.lines
+  pub file : IsFileWithinLimit text judged.statements judged.lines
   pub sound : AreSound judged.statements
   pub in_order : IsOrder (reads_in judged.statements) judged.order
-  pub declares : Declare judged.statements judged.declared
+  pub declares : FileDeclares judged.statements judged.declared
   pub publishes : Publish (queries_in judged.statements) judged.declared (length judged.statements) judged.order judged.streams judged.published
 
 -- the text is refused: it is no file; or else its names have a fault, or the types of its declarations, or those of its queries
 pub data Refuses (text : List ℕ) : ℕ → QueryFault → Type 0 where
   file : {line : ℕ} {why : QueryFault} → FailsAsFile text line why → Refuses text line why
-  names : {statements : List Statement} {lines : List ℕ} {line : ℕ} {why : QueryFault} → IsFile text statements lines → FailInNames statements lines line why → Refuses text line why
+  names : {statements : List Statement} {lines : List ℕ} {line : ℕ} {why : QueryFault} → IsFileWithinLimit text statements lines → FailInNames statements lines line why → Refuses text line why
   declared : {statements : List Statement} {lines order : List ℕ} {line : ℕ} {f : TypeFault} {why : QueryFault}
-      → IsFile text statements lines → AreSound statements → IsOrder (reads_in statements) order → FailToDeclare statements lines line f → IsOfTypes f why → Refuses text line why
+      → IsFileWithinLimit text statements lines → AreSound statements → IsOrder (reads_in statements) order → FileFailsToDeclare statements lines line f → IsOfTypes f why → Refuses text line why
   query : {statements : List Statement} {lines order : List ℕ} {streams : List Entry} {line : ℕ} {f : TypeFault} {why : QueryFault}
-      → IsFile text statements lines → AreSound statements → IsOrder (reads_in statements) order → Declare statements streams → FailToPublish (queries_in statements) (query_lines statements lines) streams order line f → IsOfTypes f why → Refuses text line why
+      → IsFileWithinLimit text statements lines → AreSound statements → IsOrder (reads_in statements) order → FileDeclares statements streams → FailToPublish (queries_in statements) (query_lines statements lines) streams order line f → IsOfTypes f why → Refuses text line why
 
 -- the text reads as statements whose queries have the cycle of these names
 pub record Circles (text : List ℕ) (names : List (List ℕ)) : Type 0 where
   pub statements : List Statement
   pub lines : List ℕ
-  pub file : IsFile text statements lines
+  pub file : IsFileWithinLimit text statements lines
   pub have_cycle : HaveCycle statements names
 
 -- a query with a number: its name, its stream and its expression, which it has at its place in the order of work

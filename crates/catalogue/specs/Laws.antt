@@ -4,7 +4,7 @@ use Rattle.cel_grammar.specs.Trees.{Statement}
 use Rattle.resubscribe.specs.Order.{IsOrder}
 use Rattle.catalogue.specs.declared.fault.QueryFault.{QueryFault}
 use Rattle.catalogue.specs.Arranging.{AreSound, FailInNames, HaveCycle}
-use Rattle.catalogue.specs.Filing.{FailsAsFile, IsFile}
+use Rattle.catalogue.specs.Filing.{FailsAsFile, IsFileWithinLimit}
 use Rattle.catalogue.specs.Reading.{reads_in}
 
 -- one fault on one line
@@ -19,7 +19,7 @@ pub record SameFile (statements others : List Statement) (lines other_lines : Li
 
 -- a text is at most one file
 abbrev pub OneFile : Type 0
-OneFile = (text : List ℕ) (ss others : List Statement) (lines other_lines : List ℕ) → IsFile text ss lines → IsFile text others other_lines → SameFile ss others lines other_lines
+OneFile = (text : List ℕ) (ss others : List Statement) (lines other_lines : List ℕ) → IsFileWithinLimit text ss lines → IsFileWithinLimit text others other_lines → SameFile ss others lines other_lines
 
 -- a text has at most one fault as a file
 abbrev pub OneFileFault : Type 0
@@ -27,7 +27,7 @@ OneFileFault = (text : List ℕ) (line other_line : ℕ) (why other : QueryFault
 
 -- a text that is a file has no fault as one
 abbrev pub FileOrFault : Type 0
-FileOrFault = (text : List ℕ) (ss : List Statement) (lines : List ℕ) (line : ℕ) (why : QueryFault) → IsFile text ss lines → FailsAsFile text line why → ⊥
+FileOrFault = (text : List ℕ) (ss : List Statement) (lines : List ℕ) (line : ℕ) (why : QueryFault) → IsFileWithinLimit text ss lines → FailsAsFile text line why → ⊥
 
 -- the names of statements have at most one first fault
 abbrev pub OneNameFault : Type 0

@@ -18,11 +18,11 @@ use Rattle.catalogue.specs.Faults.{IsOfTypes}
 use Rattle.catalogue.specs.Statements.{is_query, name_of, queries_in}
 
 -- the statements declare these streams, in file order
-pub data Declare : List Statement → List Entry → Type 0 where
-  none : Declare [] []
+pub data FileDeclares : List Statement → List Entry → Type 0 where
+  none : FileDeclares [] []
   stream : {name : List ℕ} {columns : List Column} {schema : List Attr} {later : List Statement} {streams : List Entry}
-      → IsDeclared columns schema → Declare later streams → Declare (tree.Stream name columns ∷ later) (record { name = name; schema = schema; declared = true } ∷ streams)
-  query : {items : List Item} {source : Source} {name : List ℕ} {later : List Statement} {streams : List Entry} → Declare later streams → Declare (tree.Query items source name ∷ later) streams
+      → IsDeclared columns schema → FileDeclares later streams → FileDeclares (tree.Stream name columns ∷ later) (record { name = name; schema = schema; declared = true } ∷ streams)
+  query : {items : List Item} {source : Source} {name : List ℕ} {later : List Statement} {streams : List Entry} → FileDeclares later streams → FileDeclares (tree.Query items source name ∷ later) streams
 
 -- the declared streams with that of one statement more, if it is a declaration
 abbrev pub Adds : Statement → List Entry → List Entry → Type 0
@@ -30,12 +30,12 @@ Adds (tree.Stream name columns) old new = (schema : List Attr) × IsDeclared col
 Adds (tree.Query items source name) old new = new ≡ old
 
 -- the first declaration that has a fault has this one, and begins on this line
-pub data FailToDeclare : List Statement → List ℕ → ℕ → TypeFault → Type 0 where
-  here : {name : List ℕ} {columns : List Column} {later : List Statement} {line : ℕ} {lines : List ℕ} {f : TypeFault} → FailsToDeclare columns f → FailToDeclare (tree.Stream name columns ∷ later) (line ∷ lines) line f
+pub data FileFailsToDeclare : List Statement → List ℕ → ℕ → TypeFault → Type 0 where
+  here : {name : List ℕ} {columns : List Column} {later : List Statement} {line : ℕ} {lines : List ℕ} {f : TypeFault} → FailsToDeclare columns f → FileFailsToDeclare (tree.Stream name columns ∷ later) (line ∷ lines) line f
   behind : {name : List ℕ} {columns : List Column} {schema : List Attr} {later : List Statement} {at line : ℕ} {lines : List ℕ} {f : TypeFault}
-      → IsDeclared columns schema → FailToDeclare later lines line f → FailToDeclare (tree.Stream name columns ∷ later) (at ∷ lines) line f
+      → IsDeclared columns schema → FileFailsToDeclare later lines line f → FileFailsToDeclare (tree.Stream name columns ∷ later) (at ∷ lines) line f
   query : {items : List Item} {source : Source} {name : List ℕ} {later : List Statement} {at line : ℕ} {lines : List ℕ} {f : TypeFault}
-      → FailToDeclare later lines line f → FailToDeclare (tree.Query items source name ∷ later) (at ∷ lines) line f
+      → FileFailsToDeclare later lines line f → FileFailsToDeclare (tree.Query items source name ∷ later) (at ∷ lines) line f
 
 -- the lines on which the queries of a file begin, by the queries' numbers
 abbrev pub query_lines : List Statement → List ℕ → List ℕ
@@ -81,7 +81,7 @@ pub record FailsOn (at : ℕ) (is_fault : TypeFault → Type 0) (line : ℕ) (wh
 -- the first fault of the declarations, as one of a query text
 pub record FailsInDeclarations (statements : List Statement) (lines : List ℕ) (line : ℕ) (why : QueryFault) : Type 0 where
   pub fault : TypeFault
-  pub fails : FailToDeclare statements lines line fault
+  pub fails : FileFailsToDeclare statements lines line fault
   pub same : IsOfTypes fault why
 
 -- the first fault of the queries with these numbers, behind these streams, as one of a query text

@@ -5,19 +5,19 @@ use Rattle.stream_schema.specs.Streams.{Entry}
 use Rattle.cel_grammar.specs.Trees.{Statement}
 use Rattle.cel_types.specs.declared.fault.TypeFault.{TypeFault}
 use Rattle.catalogue.specs.Judgement.{Judges, Verdict}
-use Rattle.catalogue.specs.Typing.{Declare, FailToDeclare, FailToPublish, Publish}
+use Rattle.catalogue.specs.Typing.{FileDeclares, FileFailsToDeclare, FailToPublish, Publish}
 
 -- statements declare streams in one way at most
 abbrev pub OneDeclaration : Type 0
-OneDeclaration = (ss : List Statement) (streams others : List Entry) → Declare ss streams → Declare ss others → streams ≡ others
+OneDeclaration = (ss : List Statement) (streams others : List Entry) → FileDeclares ss streams → FileDeclares ss others → streams ≡ others
 
 -- the declarations of statements have at most one first fault
 abbrev pub OneDeclareFault : Type 0
-OneDeclareFault = (ss : List Statement) (lines : List ℕ) (line other_line : ℕ) (f g : TypeFault) → FailToDeclare ss lines line f → FailToDeclare ss lines other_line g → (line ≡ other_line) × (f ≡ g)
+OneDeclareFault = (ss : List Statement) (lines : List ℕ) (line other_line : ℕ) (f g : TypeFault) → FileFailsToDeclare ss lines line f → FileFailsToDeclare ss lines other_line g → (line ≡ other_line) × (f ≡ g)
 
 -- statements that declare streams have no fault in their declarations
 abbrev pub DeclaredOrFault : Type 0
-DeclaredOrFault = (ss : List Statement) (streams : List Entry) (lines : List ℕ) (line : ℕ) (f : TypeFault) → Declare ss streams → FailToDeclare ss lines line f → ⊥
+DeclaredOrFault = (ss : List Statement) (streams : List Entry) (lines : List ℕ) (line : ℕ) (f : TypeFault) → FileDeclares ss streams → FileFailsToDeclare ss lines line f → ⊥
 
 -- queries publish in one way at most
 abbrev pub OnePublication : Type 0

@@ -7,7 +7,7 @@ ghost use Rattle.catalogue.specs.Arranging.{AreSound};
 ghost use Rattle.catalogue.specs.Faults.{IsOfTypes};
 ghost use Rattle.catalogue.specs.Statements.{name_of};
 ghost use Rattle.catalogue.specs.Telling.{TellsBad};
-ghost use Rattle.catalogue.specs.Typing.{Adds, Declare, FailsInDeclarations, FailsOn};
+ghost use Rattle.catalogue.specs.Typing.{Adds, FileDeclares, FailsInDeclarations, FailsOn};
 
 use crate::fault::{LoadFault, QueryFault};
 use cel_grammar::Statement;
@@ -19,7 +19,7 @@ use stream_schema::Streams;
 // The streams that a file with sound names declares, in its order, or the first fault of a declaration.
 pub(crate) fn declare_all(alloc: Global, file: &File) -> Result<Streams, LoadFault>
     requires { AreSound (map statement_of file.now.statements) }
-    ensures ok { IfOk result (Declare (map statement_of file.now.statements)) }
+    ensures ok { IfOk result (FileDeclares (map statement_of file.now.statements)) }
     ensures err { IfErr result (TellsBad (FailsInDeclarations (map statement_of file.now.statements) file.now.lines)) }
 {
     let mut streams = Streams::new(alloc);

@@ -3,7 +3,7 @@ ghost use Rattle.std.specs.Prelude.{◌≡◌, ◌≤◌, ◌+◌, IfErr, IfOk, 
 ghost use Rattle.cel_grammar.specs.Views.{statement_of};
 ghost use Rattle.cel_lexer.specs.Bytes.{is_line_feed};
 ghost use Rattle.catalogue.specs.Faults.{IsOfSyntax, IsOfTokens};
-ghost use Rattle.catalogue.specs.Filing.{FailsAsFile, IsFile, most_bytes};
+ghost use Rattle.catalogue.specs.Filing.{FailsAsFile, IsFileWithinLimit, most_bytes};
 ghost use Rattle.catalogue.specs.Telling.{TellsBad};
 
 use crate::fault::{LoadFault, QueryFault};
@@ -16,7 +16,7 @@ const MOST: usize = 1_048_576;
 
 // The statements of a text, or its first fault of length, tokens or grammar.
 pub(crate) fn file_of(alloc: Global, text: &[u8]) -> Result<File, LoadFault>
-    ensures ok { IfOk result (λ file. IsFile text.now (map statement_of file.statements) file.lines) }
+    ensures ok { IfOk result (λ file. IsFileWithinLimit text.now (map statement_of file.statements) file.lines) }
     ensures err { IfErr result (TellsBad (FailsAsFile text.now)) }
 {
     if text.len() > MOST {

@@ -10,7 +10,7 @@ ghost use Rattle.catalogue.specs.Reading.{reads_in};
 ghost use Rattle.catalogue.specs.Statements.{is_query, name_of};
 ghost use Rattle.catalogue.specs.Tables.{ArePlaces};
 ghost use Rattle.catalogue.specs.Telling.{TellsBad};
-ghost use Rattle.catalogue.specs.Typing.{AddsQuery, ArePublished, Declare, FailsInQueries, FailsOn};
+ghost use Rattle.catalogue.specs.Typing.{AddsQuery, ArePublished, FileDeclares, FailsInQueries, FailsOn};
 
 use crate::declaring::of_types;
 use crate::fault::LoadFault;
@@ -33,7 +33,7 @@ pub(crate) fn publish_all(
 ) -> Result<List<Expr>, LoadFault>
     requires sound { AreSound (map statement_of file.now.statements) }
     requires in_order { IsOrder (reads_in (map statement_of file.now.statements)) order.now }
-    requires declared { Declare (map statement_of file.now.statements) streams.old }
+    requires declared { FileDeclares (map statement_of file.now.statements) streams.old }
     ensures ok { IfOk result (ArePublished (map statement_of file.now.statements) streams.old order.now streams.new) }
     ensures err { IfErr result (TellsBad (FailsInQueries (map statement_of file.now.statements) file.now.lines streams.old order.now)) }
 {

@@ -7,13 +7,13 @@ use Rattle.cay_host.specs.Faults.{Rose}
 use Rattle.cay_host.specs.Output.{KeepsOutput, SameButOutput, Wrote, WrotePart}
 use Rattle.cay_host.specs.Told.{Told}
 use Rattle.cay_host.proofs.OutputLemmas.{Wrote-append, Wrote-nil}
-use Rattle.semantics.specs.Histories.{Heard}
+use Rattle.semantics.specs.Histories.{Event}
 use Rattle.semantics.specs.Report.{report}
 use Rattle.catalogue.specs.Judgement.{Judged, program_of}
 use Rattle.session.specs.declared.refusal.Refusal.TheVariants.{HasFault, IsOutOfOrder}
-use Rattle.session.specs.Hearing.{Reading, before_last, closed, heard, refused}
+use Rattle.session.specs.Heard.{Reading, before_last, closed, heard, refused}
 use Rattle.session.specs.Readings.{readings}
-use Rattle.session.specs.Sessions.{View}
+use Rattle.session.specs.SessionView.{SessionView}
 use Rattle.cayuga_run.specs.declared.status.Status.{Status}
 use Rattle.cayuga_run.specs.declared.status.Status.TheVariants.{Done, Usage, BadQuery, Cycle, BadEvent, OutOfOrder, AttachFault, ReadFault, WriteFault, TooMuch, Memory}
 use Rattle.cayuga_run.specs.HearingOutcome.{Hears, HearsAlone, HearsUpTo}
@@ -22,7 +22,7 @@ use Rattle.cayuga_run.specs.RunOutcome.{IsDone, IsMemory, IsReadFault, IsWriteFa
 use Rattle.cayuga_run.specs.Stats.{ComesBehind}
 use Rattle.cayuga_run.specs.StatsOutcome.{StatsOutcome, WritesStats}
 use Rattle.cayuga_run.specs.Works.{Run}
-use Rattle.cayuga_run.proofs.OutcomeLemmas.{IsReady, at_end, memory_after, of_both, queries_read, read_fault_after, refused_after, too_much_after, write_fault_after}
+use Rattle.cayuga_run.proofs.OutcomeLemmas.{IsRunReady, at_end, memory_after, of_both, queries_read, read_fault_after, refused_after, too_much_after, write_fault_after}
 use Rattle.cayuga_run.proofs.RunLemmas.{Wrote-after}
 
 -- where no line is refused, the end of the text closes all that was heard
@@ -30,12 +30,12 @@ closed_is_heard : (lines : List Reading) → refused lines ≡ None → closed l
 closed_is_heard lines e = ap (λ o. cond (true && is_none o) (heard lines) (before_last (heard lines))) e
 
 -- nothing comes behind the report where no stats are asked for
-nothing_behind : (stats : Bool) (judged : Judged) (history : List Heard) → stats ≡ false → ComesBehind stats judged history []
+nothing_behind : (stats : Bool) (judged : Judged) (history : List Event) → stats ≡ false → ComesBehind stats judged history []
 nothing_behind false judged history plain = refl
 nothing_behind true judged history plain = absurd cc
 
 -- a stats line comes behind it where they are
-line_behind : (stats : Bool) {judged : Judged} {history : List Heard} {line : List ℕ} → stats ≡ true → ComesBehind true judged history line → ComesBehind stats judged history line
+line_behind : (stats : Bool) {judged : Judged} {history : List Event} {line : List ℕ} → stats ≡ true → ComesBehind true judged history line → ComesBehind stats judged history line
 line_behind true asked behind = behind
 line_behind false asked behind = absurd cc
 
@@ -48,7 +48,7 @@ same_told : (told : Told) → SameButOutput told told
 same_told told = record { later = omega arith; attach_faults = refl; read_faults = refl; attached = refl; files = refl; left = refl }
 
 -- all events were heard, and then at most something was written
-module _ {run : Run} {limit : ℕ} {judged : Judged} {old mid heard new : Told} (r : IsReady run judged old mid) {bytes : List ℕ} (h : HearsUpTo judged limit bytes true None mid heard) (same : SameButOutput heard new) where
+module _ {run : Run} {limit : ℕ} {judged : Judged} {old mid heard new : Told} (r : IsRunReady run judged old mid) {bytes : List ℕ} (h : HearsUpTo judged limit bytes true None mid heard) (same : SameButOutput heard new) where
   within : length bytes ≤ limit
   within = (h.takes.whole refl).0
 
@@ -120,7 +120,7 @@ module _ {run : Run} {limit : ℕ} {judged : Judged} {old mid heard new : Told} 
       })
 
 -- the outcome where the stats line was to be written
-pub run_tells : (run : Run) (limit : ℕ) (judged : Judged) (old mid heard new : Told) (bytes : List ℕ) (status : Status) → IsReady run judged old mid → HearsUpTo judged limit bytes true None mid heard → HearsAlone mid heard
+pub run_tells : (run : Run) (limit : ℕ) (judged : Judged) (old mid heard new : Told) (bytes : List ℕ) (status : Status) → IsRunReady run judged old mid → HearsUpTo judged limit bytes true None mid heard → HearsAlone mid heard
     → heard.write_faults ≡ mid.write_faults → run.stats ≡ true → SameButOutput heard new → StatsOutcome judged (heard_in judged bytes) heard new status → RunOutcome run limit old new status
 run_tells run limit judged old mid heard new bytes Done r h alone quiet asked same w =
     done_after r h same _ (line_behind run.stats asked (w.stats, w.are, refl)) w.wrote
@@ -138,7 +138,7 @@ run_tells run limit judged old mid heard new bytes (ReadFault side) r h alone qu
 run_tells run limit judged old mid heard new bytes (TooMuch most) r h alone quiet asked same w = absurd w
 
 -- the outcome where none was to be written, by the status
-pub run_hears : (run : Run) (limit : ℕ) (judged : Judged) (session : View) (old mid new : Told) (status : Status) → IsReady run judged old mid → Hears judged limit session mid new status → HearsAlone mid new
+pub run_hears : (run : Run) (limit : ℕ) (judged : Judged) (session : SessionView) (old mid new : Told) (status : Status) → IsRunReady run judged old mid → Hears judged limit session mid new status → HearsAlone mid new
     → (status ≡ Done → run.stats ≡ false) → RunOutcome run limit old new status
 run_hears run limit judged session old mid new Done r h alone plain = done_after r h.heard (same_told new) [] (nothing_behind run.stats judged (heard_in judged h.bytes) (plain refl)) (Wrote-nil new)
 run_hears run limit judged session old mid new Usage r h alone plain = h

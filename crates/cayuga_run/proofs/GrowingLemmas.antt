@@ -5,34 +5,34 @@ use Rattle.std.proofs.lemmas.List.{map-append}
 use Rattle.event_csv.specs.Fed.{fed_more, unfed}
 use Rattle.event_csv.specs.Lines.{lines}
 use Rattle.event_csv.proofs.GoOnFacts.{go_on-left}
-use Rattle.semantics.specs.Histories.{Heard}
+use Rattle.semantics.specs.Histories.{Event}
 use Rattle.semantics.specs.Programs.{Program}
 use Rattle.semantics.specs.Report.{report}
 use Rattle.catalogue.specs.Judgement.{Judged, program_of}
 use Rattle.session.specs.declared.refusal.Refusal.{Refusal}
-use Rattle.session.specs.Hearing.{Reading, before_last, closed, events_in, heard, heard_from, refusal_of, refused, refused_from, seen_after}
+use Rattle.session.specs.Heard.{Reading, before_last, closed, events_in, heard, heard_from, refusal_of, refused, refused_from, last_after}
 use Rattle.session.specs.Readings.{reading_of, readings}
-use Rattle.session.specs.Working.{closes, open_rows, rows_left}
+use Rattle.session.specs.Owes.{closes, open_rows, rows_left}
 use Rattle.session.proofs.ClosingLemmas.{rows_left_are_report}
 use Rattle.cayuga_run.specs.Reports.{refused_in, report_of_closed}
 
 -- a refused line stays refused, and nothing behind it is heard
 stays_refused : (seen : Option ℕ) (first more : List Reading) (refusal : Refusal) → refused_from seen first ≡ Some refusal → refused_from seen (first ++ more) ≡ Some refusal
 stays_refused seen [] more refusal e = cc
-stays_refused seen (line ∷ first) more refusal e = by_line (refusal_of line.number seen line.found) (stays_refused (seen_after line.found) first more refusal) e
+stays_refused seen (line ∷ first) more refusal e = by_line (refusal_of line.number seen line.found) (stays_refused (last_after line.found) first more refusal) e
   where
-    by_line : (o : Option Refusal) → (refused_from (seen_after line.found) first ≡ Some refusal → refused_from (seen_after line.found) (first ++ more) ≡ Some refusal)
-        → option_or o (refused_from (seen_after line.found) first) ≡ Some refusal → option_or o (refused_from (seen_after line.found) (first ++ more)) ≡ Some refusal
+    by_line : (o : Option Refusal) → (refused_from (last_after line.found) first ≡ Some refusal → refused_from (last_after line.found) (first ++ more) ≡ Some refusal)
+        → option_or o (refused_from (last_after line.found) first) ≡ Some refusal → option_or o (refused_from (last_after line.found) (first ++ more)) ≡ Some refusal
     by_line None ih e = ih e
     by_line (Some x) ih e = e
 
 stays_heard : (seen : Option ℕ) (first more : List Reading) (refusal : Refusal) → refused_from seen first ≡ Some refusal → heard_from seen (first ++ more) ≡ heard_from seen first
 stays_heard seen [] more refusal e = cc
-stays_heard seen (line ∷ first) more refusal e = by_line (refusal_of line.number seen line.found) (stays_heard (seen_after line.found) first more refusal) e
+stays_heard seen (line ∷ first) more refusal e = by_line (refusal_of line.number seen line.found) (stays_heard (last_after line.found) first more refusal) e
   where
-    by_line : (o : Option Refusal) → (refused_from (seen_after line.found) first ≡ Some refusal → heard_from (seen_after line.found) (first ++ more) ≡ heard_from (seen_after line.found) first)
-        → option_or o (refused_from (seen_after line.found) first) ≡ Some refusal
-        → cond (is_some o) [] (events_in line.found ++ heard_from (seen_after line.found) (first ++ more)) ≡ cond (is_some o) [] (events_in line.found ++ heard_from (seen_after line.found) first)
+    by_line : (o : Option Refusal) → (refused_from (last_after line.found) first ≡ Some refusal → heard_from (last_after line.found) (first ++ more) ≡ heard_from (last_after line.found) first)
+        → option_or o (refused_from (last_after line.found) first) ≡ Some refusal
+        → cond (is_some o) [] (events_in line.found ++ heard_from (last_after line.found) (first ++ more)) ≡ cond (is_some o) [] (events_in line.found ++ heard_from (last_after line.found) first)
     by_line None ih e = ap (λ h. events_in line.found ++ h) (ih e)
     by_line (Some x) ih e = refl
 
@@ -59,16 +59,16 @@ more_bytes judged x y ended refusal e =
     (ap refused all ∙ later, sym (ap (λ l. report (program_of judged) (closed l ended)) all ∙ ap (report (program_of judged)) same))
 
 -- the rows of more lines begin with those of the first
-rows_grow : (program : Program) (ended : Bool) (first more : List Reading) (seen : Option ℕ) (history : List Heard)
+rows_grow : (program : Program) (ended : Bool) (first more : List Reading) (seen : Option ℕ) (history : List Event)
     → (rest : List ℕ) × (rows_left program ended (first ++ more) seen history ≡ rows_left program false first seen history ++ rest)
 rows_grow program ended [] more seen history = (rows_left program ended more seen history, refl)
 rows_grow program ended (line ∷ first) more seen history =
-    by_line (is_some (refusal_of line.number seen line.found)) (cond (closes seen line.found) (open_rows program history seen) []) (rows_grow program ended first more (seen_after line.found) (history ++ events_in line.found))
+    by_line (is_some (refusal_of line.number seen line.found)) (cond (closes seen line.found) (open_rows program history seen) []) (rows_grow program ended first more (last_after line.found) (history ++ events_in line.found))
   where
     by_line : (late : Bool) (rows : List ℕ)
-        → (rest : List ℕ) × (rows_left program ended (first ++ more) (seen_after line.found) (history ++ events_in line.found) ≡ rows_left program false first (seen_after line.found) (history ++ events_in line.found) ++ rest)
-        → (rest : List ℕ) × (cond late [] (rows ++ rows_left program ended (first ++ more) (seen_after line.found) (history ++ events_in line.found))
-        ≡ cond late [] (rows ++ rows_left program false first (seen_after line.found) (history ++ events_in line.found)) ++ rest)
+        → (rest : List ℕ) × (rows_left program ended (first ++ more) (last_after line.found) (history ++ events_in line.found) ≡ rows_left program false first (last_after line.found) (history ++ events_in line.found) ++ rest)
+        → (rest : List ℕ) × (cond late [] (rows ++ rows_left program ended (first ++ more) (last_after line.found) (history ++ events_in line.found))
+        ≡ cond late [] (rows ++ rows_left program false first (last_after line.found) (history ++ events_in line.found)) ++ rest)
     by_line true rows p = ([], refl)
     by_line false rows p = (p.0, ap (λ r. rows ++ r) p.1 ∙ sym (append_assoc rows _ p.0))
 

@@ -17,11 +17,11 @@ use Rattle.session.specs.declared.fault.SessionFault.{SessionFault}
 use Rattle.session.specs.declared.fault.SessionFault.TheVariants as fault
 use Rattle.session.specs.declared.refusal.Refusal.{Refusal}
 use Rattle.session.specs.declared.refusal.Refusal.TheVariants.{HasFault, IsOutOfOrder}
-use Rattle.session.specs.Feeding.{BlamesWriting, Feeds, Finishes, StopsAt, StopsAtPiece}
-use Rattle.session.specs.Hearing.{closed}
+use Rattle.session.specs.Feeds.{BlamesWriting, Feeds, Finishes, StopsAt, StopsAtPiece}
+use Rattle.session.specs.Heard.{closed}
 use Rattle.session.specs.Readings.{reading_of}
-use Rattle.session.specs.Owing.{Beyond, WroteFront}
-use Rattle.session.specs.Sessions.{HasFinished, KeepsQueries, StandsFor, View, report_in}
+use Rattle.session.specs.WroteFront.{Beyond, WroteFront}
+use Rattle.session.specs.SessionView.{HasFinished, KeepsQueries, SessionStandsFor, SessionView, report_in}
 use Rattle.cayuga_run.specs.declared.status.Status.TheVariants.{Done, ReadFault}
 use Rattle.cayuga_run.specs.Blaming.{BlamesHost}
 use Rattle.cayuga_run.specs.HearingOutcome.{Hears, HearsAlone, HearsUpTo, TakesEvents, status_of}
@@ -40,10 +40,10 @@ front_of_none None = refl
 front_of_none (Some rest) = refl
 
 -- so many bytes of the events were taken and heard: the session stands for them, and the report of the epochs that they close was written
-pub record HasHeard (judged : Judged) (limit taken : ℕ) (session : View) (old now : Told) : Type 0 where
+pub record HasHeard (judged : Judged) (limit taken : ℕ) (session : SessionView) (old now : Told) : Type 0 where
   pub bytes : List ℕ
   pub counted : length bytes ≡ taken
-  pub stands : StandsFor session [] bytes
+  pub stands : SessionStandsFor session [] bytes
   pub queries : judged_of session.catalogue ≡ judged
   pub most : session.limit ≡ limit
   pub front : old.left Events ≡ prepend_known bytes (now.left Events)
@@ -52,8 +52,8 @@ pub record HasHeard (judged : Judged) (limit taken : ℕ) (session : View) (old 
   pub faults : SameFaults old now
 
 -- one more piece was read than was heard
-pub record HasTaken (judged : Judged) (limit : ℕ) (bytes piece : List ℕ) (session : View) (old now : Told) : Type 0 where
-  pub stands : StandsFor session [] bytes
+pub record HasTaken (judged : Judged) (limit : ℕ) (bytes piece : List ℕ) (session : SessionView) (old now : Told) : Type 0 where
+  pub stands : SessionStandsFor session [] bytes
   pub queries : judged_of session.catalogue ≡ judged
   pub most : session.limit ≡ limit
   pub few : length piece ≤ 65536
@@ -69,7 +69,7 @@ nothing_closed judged =
     ap (λ (found : List Line). report (program_of judged) (closed (map (reading_of judged.streams) found) false)) none
 
 -- nothing was read yet
-pub heard_none : (judged : Judged) (limit : ℕ) (session : View) (told : Told) → StandsFor session [] [] → judged_of session.catalogue ≡ judged → session.limit ≡ limit → HasHeard judged limit 0 session told told
+pub heard_none : (judged : Judged) (limit : ℕ) (session : SessionView) (told : Told) → SessionStandsFor session [] [] → judged_of session.catalogue ≡ judged → session.limit ≡ limit → HasHeard judged limit 0 session told told
 heard_none judged limit session told stands queries most = record {
   bytes = [];
   counted = refl;
@@ -87,10 +87,10 @@ pub piece_is : {old new : Option (List ℕ)} (size : ℕ) (buffer rest : List �
 piece_is size buffer rest took = ap length (take-append-le size buffer rest took.fits) ∙ length-take-le size buffer took.fits
 
 -- the bytes that were heard are within the limit
-pub heard_within : {judged : Judged} {limit taken : ℕ} {session : View} {old now : Told} → HasHeard judged limit taken session old now → taken ≤ limit
+pub heard_within : {judged : Judged} {limit taken : ℕ} {session : SessionView} {old now : Told} → HasHeard judged limit taken session old now → taken ≤ limit
 heard_within h = let within = h.stands.within in let most = h.most in let counted = h.counted in omega (arith, within, most, counted)
 
-module _ {judged : Judged} {limit taken : ℕ} {session : View} {old now next : Told} (h : HasHeard judged limit taken session old now) where
+module _ {judged : Judged} {limit taken : ℕ} {session : SessionView} {old now next : Told} (h : HasHeard judged limit taken session old now) where
   -- a piece was read to the front of a buffer
   pub taken_more : (size : ℕ) (buffer rest : List ℕ) → length buffer ≤ 65536 → Took size buffer (now.left Events) (next.left Events) → SameButRead Events now next → next.read_faults ≡ now.read_faults
       → HasTaken judged limit h.bytes (take size (buffer ++ rest)) session old next
@@ -135,7 +135,7 @@ module _ {judged : Judged} {limit taken : ℕ} {session : View} {old now next : 
   pub alone_read : SameButRead Events now next → HearsAlone old next
   alone_read same = record { attached = same.attached ∙ h.alone.attached; queries = ap (λ f. f Queries) same.others ∙ h.alone.queries }
 
-module _ {judged : Judged} {limit : ℕ} {bytes piece : List ℕ} {session : View} {old now next : Told} (t : HasTaken judged limit bytes piece session old now) (same : SameButOutput now next) where
+module _ {judged : Judged} {limit : ℕ} {bytes piece : List ℕ} {session : SessionView} {old now next : Told} (t : HasTaken judged limit bytes piece session old now) (same : SameButOutput now next) where
   -- nor does a write
   pub alone_written : HearsAlone old next
   alone_written = record { attached = same.attached ∙ t.alone.attached; queries = ap (λ f. f Queries) same.left ∙ t.alone.queries }
@@ -147,7 +147,7 @@ module _ {judged : Judged} {limit : ℕ} {bytes piece : List ℕ} {session : Vie
   same_faults quiet = record { attach = same.attach_faults ∙ t.faults.attach; read = same.read_faults ∙ t.faults.read; write = quiet ∙ t.faults.write }
 
   -- the piece was heard
-  pub heard_more : (after : View) (taken size : ℕ) → length bytes ≡ taken → length piece ≡ size → Feeds session after [] bytes piece now next → KeepsQueries session after → next.write_faults ≡ now.write_faults
+  pub heard_more : (after : SessionView) (taken size : ℕ) → length bytes ≡ taken → length piece ≡ size → Feeds session after [] bytes piece now next → KeepsQueries session after → next.write_faults ≡ now.write_faults
       → HasHeard judged limit (taken + size) after old next
   heard_more after taken size counted sized feeds keeps quiet = record {
     bytes = bytes ++ piece;
@@ -218,7 +218,7 @@ module _ {judged : Judged} {limit : ℕ} {bytes piece : List ℕ} {session : Vie
             let whole : x ≡ (bytes ++ piece) ++ rest = cc in
             whole ∙ ap (λ r. (bytes ++ piece) ++ r) nil ∙ append-nil (bytes ++ piece) ∙ ap (λ p. bytes ++ p) none ∙ append-nil bytes
 
-    stops : (after : View) (fault : SessionFault) → StopsAt session [] bytes text ended now next fault → Hears judged limit after old next (status_of fault)
+    stops : (after : SessionView) (fault : SessionFault) → StopsAt session [] bytes text ended now next fault → Hears judged limit after old next (status_of fault)
     stops after (fault.Refused (HasFault line why)) s = record { bytes = bytes ++ piece; ended = ended; heard = heard_up_to (Some (HasFault line why)) s.0 s.1 }
     stops after (fault.Refused (IsOutOfOrder line at seen)) s = record { bytes = bytes ++ piece; ended = ended; heard = heard_up_to (Some (IsOutOfOrder line at seen)) s.0 s.1 }
     stops after (fault.TooMuch most) s = absurd s
@@ -229,7 +229,7 @@ module _ {judged : Judged} {limit : ℕ} {bytes piece : List ℕ} {session : Vie
   cut_within = ap (λ n. take n (bytes ++ piece)) t.most
 
   -- why the session stopped at the piece, as the outcome
-  pub stops_at_piece : (after : View) (fault : SessionFault) → StopsAtPiece session [] bytes piece now next fault → Hears judged limit after old next (status_of fault)
+  pub stops_at_piece : (after : SessionView) (fault : SessionFault) → StopsAtPiece session [] bytes piece now next fault → Hears judged limit after old next (status_of fault)
   stops_at_piece after (fault.TooMuch most) s = (
     s.0 ∙ t.most,
     (
@@ -251,7 +251,7 @@ module _ {judged : Judged} {limit : ℕ} {bytes piece : List ℕ} {session : Vie
     cut_whole = sym (ap (λ p. take limit (bytes ++ p)) none ∙ ap (take limit) (append-nil bytes) ∙ take_all limit bytes (subst (λ n. length bytes ≤ n) t.most t.stands.within))
 
     -- a session that has finished has heard all
-    pub hears_all : (after : View) → KeepsQueries session after → Finishes session after [] bytes now next (Ok tt) → Hears judged limit after old next Done
+    pub hears_all : (after : SessionView) → KeepsQueries session after → Finishes session after [] bytes now next (Ok tt) → Hears judged limit after old next Done
     hears_all after keeps s = record {
       bytes = bytes ++ piece;
       heard = heard_up_to bytes true cut_whole (λ e. (none, nil_after)) None s.0 s.1;
@@ -260,5 +260,5 @@ module _ {judged : Judged} {limit : ℕ} {bytes piece : List ℕ} {session : Vie
     }
 
     -- one that stops at the end has its fault's status
-    pub stops_at_end : (after : View) (fault : SessionFault) → Finishes session after [] bytes now next (Err fault) → Hears judged limit after old next (status_of fault)
+    pub stops_at_end : (after : SessionView) (fault : SessionFault) → Finishes session after [] bytes now next (Err fault) → Hears judged limit after old next (status_of fault)
     stops_at_end after fault s = stops bytes true cut_whole (λ e. (none, nil_after)) after fault s

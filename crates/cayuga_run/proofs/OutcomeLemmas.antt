@@ -14,13 +14,13 @@ use Rattle.semantics.specs.Report.{report}
 use Rattle.catalogue.specs.Judgement.{Verdict, Accepted, Accepts, Judged, Judges}
 use Rattle.catalogue.proofs.VerdictLemmas.{one_verdict}
 use Rattle.session.specs.declared.refusal.Refusal.{Refusal}
-use Rattle.session.specs.Hearing.{heard, refused}
-use Rattle.session.specs.Owing.{WroteFront}
-use Rattle.cayuga_run.specs.Accepting.{IsAccepted}
+use Rattle.session.specs.Heard.{heard, refused}
+use Rattle.session.specs.WroteFront.{WroteFront}
+use Rattle.cayuga_run.specs.Accepting.{IsAcceptedWith}
 use Rattle.cayuga_run.specs.Begun.{HasAccepted}
 use Rattle.cayuga_run.specs.HearingOutcome.{HearsAlone, HearsFront, HearsRefused, HearsUpTo, TakesEvents}
 use Rattle.cayuga_run.specs.Reports.{refused_in, report_of_closed}
-use Rattle.cayuga_run.specs.RunOutcome.{AreThere, IsAttachFault, IsReadFault, IsRefused, IsTooMuch, IsWriteFault, IsMemory, MemoryText, StoppedBy, is_whole}
+use Rattle.cayuga_run.specs.RunOutcome.{AreThere, IsAttachFault, IsReadFault, AnswersRefusal, IsTooMuch, IsWriteFault, IsMemory, MemoryText, StoppedBy, is_whole}
 use Rattle.cayuga_run.specs.StoppedWriting.{StoppedWriting}
 use Rattle.cayuga_run.specs.Works.{Run}
 use Rattle.cayuga_run.proofs.GrowingLemmas.{more_bytes, report_grows_with_bytes}
@@ -28,7 +28,7 @@ use Rattle.cayuga_run.proofs.RunLemmas.{Wrote-after}
 use Rattle.cayuga_run.proofs.WroteLemmas.{front_of_more}
 
 -- the queries are accepted, the events are attached, and nothing was written
-pub record IsReady (run : Run) (judged : Judged) (old mid : Told) : Type 0 where
+pub record IsRunReady (run : Run) (judged : Judged) (old mid : Told) : Type 0 where
   pub accept : IfSome (file_of run.queries old.files) (λ queries. Accepts queries judged)
   pub there : AreThere run old
   pub events : mid.left Events ≡ file_of run.events old.files
@@ -40,12 +40,12 @@ pub record IsReady (run : Run) (judged : Judged) (old mid : Told) : Type 0 where
   pub write_faults : mid.write_faults ≡ old.write_faults
 
 -- some text is accepted
-is_accepted : (file : Option (List ℕ)) (judged : Judged) → IfSome file (λ t. Accepts t judged) → IfSome file (λ t. IsAccepted t (λ c. Unit {0}))
+is_accepted : (file : Option (List ℕ)) (judged : Judged) → IfSome file (λ t. Accepts t judged) → IfSome file (λ t. IsAcceptedWith t (λ c. Unit {0}))
 is_accepted None judged h = tt
 is_accepted (Some t) judged h = record { judged = judged; accepts = h; holds = tt }
 
 -- the queries were accepted, and then the events attached
-pub ready : (run : Run) (judged : Judged) (old accepted mid : Told) → HasAccepted run.queries judged old accepted → Attaches Events run.events accepted mid → SameButSides accepted mid → IsReady run judged old mid
+pub ready : (run : Run) (judged : Judged) (old accepted mid : Told) → HasAccepted run.queries judged old accepted → Attaches Events run.events accepted mid → SameButSides accepted mid → IsRunReady run judged old mid
 ready run judged old accepted mid has attaches same = record {
   accept = has.accepts;
   there = record { queries = has.there; events = subst (λ files. lacks run.events files ≡ false) has.files attaches.there };
@@ -73,11 +73,11 @@ not_ready run judged old accepted new has fails same free = record {
 -- the claims on both files, from a claim on what was read of them
 pub of_both : (a b left : Option (List ℕ)) (judged : Judged) (x : List ℕ) (R : Judged → List ℕ → Type 0)
     → IfSome a (λ queries. Accepts queries judged) → b ≡ prepend_known x left → ((rest : List ℕ) → left ≡ Some rest → R judged (x ++ rest))
-    → IfSome a (λ queries. IfSome b (λ events. IsAccepted queries (λ c. R c events)))
+    → IfSome a (λ queries. IfSome b (λ events. IsAcceptedWith queries (λ c. R c events)))
 of_both None b left judged x R qe be h = tt
-of_both (Some q) b None judged x R qe be h = subst (λ o. IfSome o (λ events. IsAccepted q (λ c. R c events))) (sym be) tt
+of_both (Some q) b None judged x R qe be h = subst (λ o. IfSome o (λ events. IsAcceptedWith q (λ c. R c events))) (sym be) tt
 of_both (Some q) b (Some rest) judged x R qe be h =
-    subst (λ o. IfSome o (λ events. IsAccepted q (λ c. R c events))) (sym be) (record { judged = judged; accepts = qe; holds = h rest refl })
+    subst (λ o. IfSome o (λ events. IsAcceptedWith q (λ c. R c events))) (sym be) (record { judged = judged; accepts = qe; holds = h rest refl })
 
 -- the same of each verdict that the text has
 of_verdict : (a b left : Option (List ℕ)) (judged : Judged) (x : List ℕ) (R : Verdict → List ℕ → Type 0)
@@ -147,12 +147,12 @@ module _ (judged : Judged) (limit : ℕ) (bytes rest : List ℕ) where
       (here.0, ap (λ t. report_of_closed judged t whole) e ∙ here.1)
 
 -- nothing is left of the queries
-pub queries_read : {run : Run} {judged : Judged} {old mid new : Told} → IsReady run judged old mid → HearsAlone mid new → IfSome (new.left Queries) (λ rest. rest ≡ [])
+pub queries_read : {run : Run} {judged : Judged} {old mid new : Told} → IsRunReady run judged old mid → HearsAlone mid new → IfSome (new.left Queries) (λ rest. rest ≡ [])
 queries_read r alone = subst (λ o. IfSome o (λ (rest : List ℕ). rest ≡ [])) (sym alone.queries) r.read
 
-module _ {run : Run} {limit : ℕ} {judged : Judged} {old mid new : Told} (r : IsReady run judged old mid) where
+module _ {run : Run} {limit : ℕ} {judged : Judged} {old mid new : Told} (r : IsRunReady run judged old mid) where
   -- a refused line is the outcome of the run
-  pub refused_after : (refusal : Refusal) → HearsRefused judged limit refusal mid new → IsRefused refusal run limit old new
+  pub refused_after : (refusal : Refusal) → HearsRefused judged limit refusal mid new → AnswersRefusal refusal run limit old new
   refused_after refusal h = record {
     there = r.there;
     text = of_both _ _ (new.left Events) judged h.bytes

@@ -6,7 +6,7 @@ use Rattle.catalogue.specs.Judgement.{Verdict, Accepted, Refused, Circle, Judges
 use Rattle.catalogue.proofs.VerdictLemmas.{one_verdict}
 use Rattle.cayuga_run.specs.declared.status.Status.{Status}
 use Rattle.cayuga_run.specs.declared.status.Status.TheVariants.{BadQuery, Cycle}
-use Rattle.cayuga_run.specs.Accepting.{IsAccepted}
+use Rattle.cayuga_run.specs.Accepting.{IsAcceptedWith}
 use Rattle.cayuga_run.specs.Expected.{AnswersRefused, IsUnlessFault}
 
 -- a claim on what is there from another
@@ -24,7 +24,7 @@ abbrev pub Answered : Status → List ℕ → Type 0
 Answered status text = (v : Verdict) → Judges text v → AnswersRefused v status
 
 -- an accepted text has any answer
-pub accepted_answers : (text : List ℕ) (status : Status) (P : Judged → Type 0) → IsAccepted text P → Answered status text
+pub accepted_answers : (text : List ℕ) (status : Status) (P : Judged → Type 0) → IsAcceptedWith text P → Answered status text
 accepted_answers text status P h v judged = subst (λ w. AnswersRefused w status) (one_verdict text (Accepted h.judged) v h.accepts judged) tt
 
 -- an answer that any refusal allows

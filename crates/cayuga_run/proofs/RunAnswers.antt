@@ -9,7 +9,7 @@ use Rattle.cay_host.specs.Told.{Told}
 use Rattle.catalogue.specs.Judgement.{Accepted, Refused, Circle, Judged, Refuses, Circles}
 use Rattle.cayuga_run.specs.declared.status.Status.{Status}
 use Rattle.cayuga_run.specs.declared.status.Status.TheVariants.{Done, Usage, BadQuery, Cycle, BadEvent, OutOfOrder, AttachFault, ReadFault, WriteFault, TooMuch, Memory}
-use Rattle.cayuga_run.specs.Accepting.{IsAccepted}
+use Rattle.cayuga_run.specs.Accepting.{IsAcceptedWith}
 use Rattle.cayuga_run.specs.Expected.{expected_after, IsExpected, IsExpectedOrFault, IsExpectedOrMemory, IsSteady}
 use Rattle.cayuga_run.specs.Refusing.{OfQueries}
 use Rattle.cayuga_run.specs.Reports.{refused_in}
@@ -35,7 +35,7 @@ of_none (Some q) (Some e) Q f = f q e
 
 -- a status that an accepted text asks for
 asked : (status : Status) (text : List ℕ) (limit : ℕ) (events : List ℕ) (P : Judged → Type 0)
-    → ((c : Judged) → P c → status ≡ expected_after limit (refused_in c (take limit events) (is_whole limit events)) (is_whole limit events)) → IsAccepted text P → IsExpected limit text events status
+    → ((c : Judged) → P c → status ≡ expected_after limit (refused_in c (take limit events) (is_whole limit events)) (is_whole limit events)) → IsAcceptedWith text P → IsExpected limit text events status
 asked status text limit events P f h = record { verdict = Accepted h.judged; judged = h.accepts; value = f h.judged h.holds }
 
 whole_is : (limit : ℕ) (events : List ℕ) → length events ≤ limit → is_whole limit events ≡ true
@@ -81,10 +81,10 @@ both_told run (Some files) P there h = cases (find_file run.queries files) (find
 
 -- both files are there and the query text is accepted
 accepted_files : (run : Run) (old : Told) (status : Status) (P : List ℕ → Judged → Type 0) → AreThere run old
-    → OfFiles run old (λ q e. IsAccepted q (P e)) → OfQueries run.queries old (Answered status)
+    → OfFiles run old (λ q e. IsAcceptedWith q (P e)) → OfQueries run.queries old (Answered status)
 accepted_files run old status P there h =
-    for_some (file_of run.queries old.files) (λ q. (e : List ℕ) × IsAccepted q (P e)) (Answered status)
-    (λ q p. accepted_answers q status (P p.0) p.1) (both_told run old.files (λ q e. IsAccepted q (P e)) there.events h)
+    for_some (file_of run.queries old.files) (λ q. (e : List ℕ) × IsAcceptedWith q (P e)) (Answered status)
+    (λ q p. accepted_answers q status (P p.0) p.1) (both_told run old.files (λ q e. IsAcceptedWith q (P e)) there.events h)
 
 -- the answer where the query text is refused
 pub refused_by : (run : Run) (limit : ℕ) (old new : Told) (status : Status) → RunOutcome run limit old new status → OfQueries run.queries old (Answered status)
@@ -96,7 +96,7 @@ refused_by run limit old new (BadEvent line why) o = accepted_files run old (Bad
 refused_by run limit old new (OutOfOrder line at seen) o = accepted_files run old (OutOfOrder line at seen) _ o.there o.text
 refused_by run limit old new (AttachFault Queries) o = free_answers (file_of run.queries old.files) (AttachFault Queries) (λ asked. tt)
 refused_by run limit old new (AttachFault Events) o =
-    for_some (file_of run.queries old.files) (λ q. IsAccepted q (λ c. Unit {0})) (Answered (AttachFault Events))
+    for_some (file_of run.queries old.files) (λ q. IsAcceptedWith q (λ c. Unit {0})) (Answered (AttachFault Events))
     (λ q h. accepted_answers q (AttachFault Events) (λ c. Unit {0}) h) (o.accepted refl).1
 refused_by run limit old new (ReadFault Queries) o = free_answers (file_of run.queries old.files) (ReadFault Queries) (λ asked. tt)
 refused_by run limit old new (ReadFault Events) o = let stopped = o.events refl in accepted_files run old (ReadFault Events) _ stopped.there stopped.text

@@ -8,7 +8,7 @@ use Rattle.cay_host.specs.Told.{Told}
 use Rattle.catalogue.specs.Judgement.{Accepts, Judged}
 use Rattle.cayuga_run.specs.declared.status.Status.{Status}
 use Rattle.cayuga_run.specs.declared.status.Status.TheVariants.{Done, Usage, BadQuery, Cycle, BadEvent, OutOfOrder, AttachFault, ReadFault, WriteFault, TooMuch, Memory}
-use Rattle.cayuga_run.specs.Accepting.{IsAccepted}
+use Rattle.cayuga_run.specs.Accepting.{IsAcceptedWith}
 use Rattle.cayuga_run.specs.Begun.{HasAccepted}
 use Rattle.cayuga_run.specs.WritingText.{WritesText}
 use Rattle.cayuga_run.specs.Refusing.{AreNotAccepted}
@@ -17,7 +17,7 @@ use Rattle.cayuga_run.specs.WritingOutcome.{WritingOutcome}
 use Rattle.cayuga_run.proofs.RunLemmas.{Wrote-after}
 
 -- what holds of an accepted text
-accepted_so : (file : Option (List ℕ)) (judged : Judged) (P : Judged → Type 0) → IfSome file (λ t. Accepts t judged) → P judged → IfSome file (λ t. IsAccepted t P)
+accepted_so : (file : Option (List ℕ)) (judged : Judged) (P : Judged → Type 0) → IfSome file (λ t. Accepts t judged) → P judged → IfSome file (λ t. IsAcceptedWith t P)
 accepted_so None judged P accepts holds = tt
 accepted_so (Some t) judged P accepts holds = record { judged = judged; accepts = accepts; holds = holds }
 

@@ -5,7 +5,7 @@ use Rattle.std.proofs.Math.Seq.{take-append-add}
 use Rattle.cay_host.specs.Output.{Wrote, WrotePart}
 use Rattle.cay_host.specs.Told.{Told}
 use Rattle.cay_host.proofs.OutputLemmas.{Wrote-append}
-use Rattle.session.specs.Owing.{Beyond, WroteFront}
+use Rattle.session.specs.WroteFront.{Beyond, WroteFront}
 use Rattle.cayuga_run.specs.StoppedWriting.{WroteUpTo}
 
 -- a front of a longer text

@@ -13,8 +13,8 @@ use Rattle.cayuga_run.specs.declared.status.Status.{Status}
 use Rattle.cayuga_run.specs.declared.status.Status.TheVariants.{Done, Usage, BadQuery, Cycle, BadEvent, OutOfOrder, AttachFault, ReadFault, WriteFault, TooMuch, Memory}
 use Rattle.cayuga_run.specs.Blaming.{BlamesHost}
 use Rattle.cayuga_run.specs.Expected.{AnswersRefused, IsExpected, IsExpectedOrFault, IsExpectedOrMemory, IsExpectedWriting, IsSteady}
-use Rattle.cayuga_run.specs.Refusing.{AreNotAttached, AreNotRead, IsBadQuery, IsCycle, OfQueries}
-use Rattle.cayuga_run.specs.RunOutcome.{AreThere, IsAttachFault, IsDone, IsMemory, IsReadFault, IsRefused, IsTooMuch, IsWriteFault, OfFiles}
+use Rattle.cayuga_run.specs.Refusing.{AreNotAttached, AreNotRead, IsBadQuery, AnswersCycle, OfQueries}
+use Rattle.cayuga_run.specs.RunOutcome.{AreThere, IsAttachFault, IsDone, IsMemory, IsReadFault, AnswersRefusal, IsTooMuch, IsWriteFault, OfFiles}
 use Rattle.cayuga_run.specs.Works.{Work, Nothing, ByWork, ForQueries, ForRun, IfQueries, has_side}
 use Rattle.cayuga_run.specs.WritingOutcome.{IsPartlyWritten, IsWritten}
 
@@ -26,9 +26,9 @@ pub record Answers (work : Work) (limit : ℕ) (old new : Told) (status : Status
   -- what each other answer says
   pub done : status ≡ Done → ByWork work ⊥ (λ run. IsDone run limit old new) (λ writing. IsWritten writing old new)
   pub bad_query : (line : ℕ) (why : QueryFault) → status ≡ BadQuery line why → ForQueries work (λ queries. IsBadQuery line why queries old new)
-  pub cycle : (names : List (List ℕ)) → status ≡ Cycle names → ForQueries work (λ queries. IsCycle names queries old new)
-  pub bad_event : (line : ℕ) (why : LineFault) → status ≡ BadEvent line why → ForRun work (λ run. IsRefused (HasFault line why) run limit old new)
-  pub out_of_order : (line at seen : ℕ) → status ≡ OutOfOrder line at seen → ForRun work (λ run. IsRefused (IsOutOfOrder line at seen) run limit old new)
+  pub cycle : (names : List (List ℕ)) → status ≡ Cycle names → ForQueries work (λ queries. AnswersCycle names queries old new)
+  pub bad_event : (line : ℕ) (why : LineFault) → status ≡ BadEvent line why → ForRun work (λ run. AnswersRefusal (HasFault line why) run limit old new)
+  pub out_of_order : (line at seen : ℕ) → status ≡ OutOfOrder line at seen → ForRun work (λ run. AnswersRefusal (IsOutOfOrder line at seen) run limit old new)
   pub too_much : (most : ℕ) → status ≡ TooMuch most → (most ≡ limit) × ForRun work (λ run. IsTooMuch run limit old new)
   pub attach_fault : (side : Side) → status ≡ AttachFault side → ByWork work ⊥ (λ run. IsAttachFault side run old new) (λ writing. (side ≡ Queries) × AreNotAttached writing.queries old new)
   pub read_fault : (side : Side) → status ≡ ReadFault side → ByWork work ⊥ (λ run. IsReadFault side run limit old new) (λ writing. (side ≡ Queries) × AreNotRead writing.queries old new)

@@ -11,8 +11,8 @@ use Rattle.session.specs.declared.fault.SessionFault.{SessionFault}
 use Rattle.session.specs.declared.fault.SessionFault.TheVariants as fault
 use Rattle.session.specs.declared.refusal.Refusal.{Refusal}
 use Rattle.session.specs.declared.refusal.Refusal.TheVariants.{HasFault, IsOutOfOrder}
-use Rattle.session.specs.Owing.{WroteFront}
-use Rattle.session.specs.Sessions.{HasFinished, View}
+use Rattle.session.specs.WroteFront.{WroteFront}
+use Rattle.session.specs.SessionView.{HasFinished, SessionView}
 use Rattle.cayuga_run.specs.declared.status.Status.{Status}
 use Rattle.cayuga_run.specs.declared.status.Status.TheVariants.{Done, BadEvent, OutOfOrder, ReadFault, WriteFault, TooMuch, Memory}
 use Rattle.cayuga_run.specs.Reports.{refused_in, report_of_closed}
@@ -38,7 +38,7 @@ pub record HearsUpTo (judged : Judged) (limit : ℕ) (bytes : List ℕ) (ended :
   pub wrote : Wrote (report_of_closed judged (take limit bytes) ended) old new
 
 -- all events were taken and heard, none was refused, and their report was written; the session works for all that was heard, with no epoch open
-pub record HearsAll (judged : Judged) (limit : ℕ) (session : View) (old new : Told) : Type 0 where
+pub record HearsAll (judged : Judged) (limit : ℕ) (session : SessionView) (old new : Told) : Type 0 where
   pub bytes : List ℕ
   pub heard : HearsUpTo judged limit bytes true None old new
   pub queries : judged_of session.catalogue ≡ judged
@@ -58,7 +58,7 @@ pub record HearsFront (judged : Judged) (limit : ℕ) (old new : Told) : Type 0 
   pub wrote : WroteFront (report_of_closed judged (take limit bytes) ended) old new
 
 -- what was taken and written, and what the session then works for, by the status
-abbrev pub Hears : Judged → ℕ → View → Told → Told → Status → Type 0
+abbrev pub Hears : Judged → ℕ → SessionView → Told → Told → Status → Type 0
 Hears judged limit session old new Done = HearsAll judged limit session old new
 Hears judged limit session old new (TooMuch most) = (most ≡ limit) × ((bytes : List ℕ) × (limit < length bytes) × HearsUpTo judged limit bytes false None old new)
 Hears judged limit session old new (ReadFault side) = (side ≡ Events) × Rose old.read_faults new.read_faults × ((bytes : List ℕ) × (length bytes ≤ limit) × HearsUpTo judged limit bytes false None old new)

@@ -22,7 +22,7 @@ pub record IsBadQuery (line : ℕ) (why : QueryFault) (queries : List ℕ) (old 
   pub silent : KeepsOutput old new
 
 -- the queries of the text read one another in the circle of these names, and nothing was written
-pub record IsCycle (names : List (List ℕ)) (queries : List ℕ) (old new : Told) : Type 0 where
+pub record AnswersCycle (names : List (List ℕ)) (queries : List ℕ) (old new : Told) : Type 0 where
   pub there : lacks queries old.files ≡ false
   pub circles : OfQueries queries old (λ text. Circles text names)
   pub silent : KeepsOutput old new
@@ -61,7 +61,7 @@ pub record AreNotRead (queries : List ℕ) (old new : Told) : Type 0 where
 -- the queries weren't accepted, by the status
 abbrev pub AreNotAccepted : List ℕ → Told → Told → Status → Type 0
 AreNotAccepted queries old new (BadQuery line why) = IsBadQuery line why queries old new
-AreNotAccepted queries old new (Cycle names) = IsCycle names queries old new
+AreNotAccepted queries old new (Cycle names) = AnswersCycle names queries old new
 AreNotAccepted queries old new (AttachFault side) = (side ≡ Queries) × AreNotAttached queries old new
 AreNotAccepted queries old new (ReadFault side) = (side ≡ Queries) × AreNotRead queries old new
 AreNotAccepted queries old new Memory = KeepsOutput old new

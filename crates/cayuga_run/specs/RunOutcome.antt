@@ -12,9 +12,9 @@ use Rattle.session.specs.declared.refusal.Refusal.TheVariants.{HasFault, IsOutOf
 use Rattle.cayuga_run.specs.declared.status.Status.{Status}
 use Rattle.cayuga_run.specs.declared.status.Status.TheVariants.{Done, Usage, BadQuery, Cycle, BadEvent, OutOfOrder, AttachFault, ReadFault, WriteFault, TooMuch, Memory}
 use Rattle.catalogue.specs.Judgement.{Verdict, Accepted, Refused, Circle, Judged, Judges}
-use Rattle.cayuga_run.specs.Accepting.{IsAccepted}
-use Rattle.session.specs.Owing.{WroteFront}
-use Rattle.cayuga_run.specs.Refusing.{IsBadQuery, IsCycle, OfQueries, ReadsUpTo, StoppedAt, StoppedInQueries}
+use Rattle.cayuga_run.specs.Accepting.{IsAcceptedWith}
+use Rattle.session.specs.WroteFront.{WroteFront}
+use Rattle.cayuga_run.specs.Refusing.{IsBadQuery, AnswersCycle, OfQueries, ReadsUpTo, StoppedAt, StoppedInQueries}
 use Rattle.cayuga_run.specs.Reports.{heard_in, refused_in, report_of_closed, report_of_heard}
 use Rattle.cayuga_run.specs.Stats.{ComesBehind}
 use Rattle.cayuga_run.specs.StoppedWriting.{StoppedInStats, StoppedWriting}
@@ -36,26 +36,26 @@ pub record AreThere (run : Run) (old : Told) : Type 0 where
 -- all events were heard, none was refused, and their report was written, and with `--stats` the stats line behind it
 pub record IsDone (run : Run) (limit : ℕ) (old new : Told) : Type 0 where
   pub there : AreThere run old
-  pub text : OfFiles run old (λ queries events. IsAccepted queries (λ judged.
+  pub text : OfFiles run old (λ queries events. IsAcceptedWith queries (λ judged.
       (length events ≤ limit) × (refused_in judged events true ≡ None)
       × ((more : List ℕ) × ComesBehind run.stats judged (heard_in judged events) more × Wrote (report_of_heard judged events true ++ more) old new)))
   pub ended : IfSome (new.left Events) (λ rest. rest ≡ [])
 
 -- that line of the event text, cut at the limit, is refused, and the report of the epochs closed before it was written
-pub record IsRefused (refusal : Refusal) (run : Run) (limit : ℕ) (old new : Told) : Type 0 where
+pub record AnswersRefusal (refusal : Refusal) (run : Run) (limit : ℕ) (old new : Told) : Type 0 where
   pub there : AreThere run old
-  pub text : OfFiles run old (λ queries events. IsAccepted queries (λ judged.
+  pub text : OfFiles run old (λ queries events. IsAcceptedWith queries (λ judged.
       (refused_in judged (take limit events) (is_whole limit events) ≡ Some refusal) × Wrote (report_of_closed judged (take limit events) (is_whole limit events)) old new))
 
 -- there are more events than the limit, none up to it is refused, and the report of the epochs closed by then was written
 pub record IsTooMuch (run : Run) (limit : ℕ) (old new : Told) : Type 0 where
   pub there : AreThere run old
-  pub text : OfFiles run old (λ queries events. IsAccepted queries (λ judged.
+  pub text : OfFiles run old (λ queries events. IsAcceptedWith queries (λ judged.
       (limit < length events) × (refused_in judged (take limit events) false ≡ None) × Wrote (report_of_closed judged (take limit events) false) old new))
 
 -- the query text is there, and is accepted
 abbrev pub QueriesAccepted : Run → Told → Type 0
-QueriesAccepted run old = (lacks run.queries old.files ≡ false) × OfQueries run.queries old (λ queries. IsAccepted queries (λ judged. Unit {0}))
+QueriesAccepted run old = (lacks run.queries old.files ≡ false) × OfQueries run.queries old (λ queries. IsAcceptedWith queries (λ judged. Unit {0}))
 
 -- the side couldn't be attached: the count of attach faults rose, or the host tells that it has no such file; nothing was read of it or after it, and nothing was written
 pub record IsAttachFault (side : Side) (run : Run) (old new : Told) : Type 0 where
@@ -70,7 +70,7 @@ pub record IsAttachFault (side : Side) (run : Run) (old new : Told) : Type 0 whe
 pub record StoppedInEvents (run : Run) (limit : ℕ) (old new : Told) : Type 0 where
   pub there : AreThere run old
   pub others : ReadsUpTo Events old new
-  pub text : OfFiles run old (λ queries events. IsAccepted queries (λ judged. (taken : List ℕ)
+  pub text : OfFiles run old (λ queries events. IsAcceptedWith queries (λ judged. (taken : List ℕ)
       × (Some events ≡ prepend_known taken (new.left Events)) × (length taken ≤ limit) × (refused_in judged taken false ≡ None) × Wrote (report_of_closed judged taken false) old new))
 
 -- the count of read faults rose, and the side whose read failed is attached
@@ -89,7 +89,7 @@ pub record IsWriteFault (run : Run) (limit : ℕ) (old new : Told) : Type 0 wher
   pub cause : Rose old.write_faults new.write_faults
   pub there : AreThere run old
   pub others : ReadsUpTo Events old new
-  pub text : OfFiles run old (λ queries events. IsAccepted queries (λ judged. StoppedBy run.stats judged limit events old new))
+  pub text : OfFiles run old (λ queries events. IsAcceptedWith queries (λ judged. StoppedBy run.stats judged limit events old new))
 
 -- what was written before memory was wanting: a front of the report of the closed epochs, and nothing where the query text is refused; no byte of a stats line is written then
 abbrev pub MemoryText : Verdict → ℕ → List ℕ → Told → Told → Type 0
@@ -107,9 +107,9 @@ pub record IsMemory (run : Run) (limit : ℕ) (old new : Told) : Type 0 where
 abbrev pub RunOutcome : Run → ℕ → Told → Told → Status → Type 0
 RunOutcome run limit old new Done = IsDone run limit old new
 RunOutcome run limit old new (BadQuery line why) = IsBadQuery line why run.queries old new
-RunOutcome run limit old new (Cycle names) = IsCycle names run.queries old new
-RunOutcome run limit old new (BadEvent line why) = IsRefused (HasFault line why) run limit old new
-RunOutcome run limit old new (OutOfOrder line at seen) = IsRefused (IsOutOfOrder line at seen) run limit old new
+RunOutcome run limit old new (Cycle names) = AnswersCycle names run.queries old new
+RunOutcome run limit old new (BadEvent line why) = AnswersRefusal (HasFault line why) run limit old new
+RunOutcome run limit old new (OutOfOrder line at seen) = AnswersRefusal (IsOutOfOrder line at seen) run limit old new
 RunOutcome run limit old new (AttachFault side) = IsAttachFault side run old new
 RunOutcome run limit old new (ReadFault side) = IsReadFault side run limit old new
 RunOutcome run limit old new WriteFault = IsWriteFault run limit old new

@@ -1,6 +1,6 @@
 -- The stats line of a run.
 use Rattle.std.specs.Prelude.{◌≡◌, ℕ, List, [], ◌∷◌, ◌++◌, Bool, true, false, codes, decimal}
-use Rattle.semantics.specs.Histories.{Heard}
+use Rattle.semantics.specs.Histories.{Event}
 use Rattle.splitter.specs.Chains.{lines_of, order_of}
 use Rattle.prefix_merge.specs.Counts.{CountsPlain, CountsStates}
 use Rattle.epoch_engine.specs.Counts.{CountsAlive}
@@ -13,7 +13,7 @@ pub record Stats : Type 0 where
   pub live : ℕ
 
 -- they are those of accepted queries after a history
-pub record AreStats (judged : Judged) (history : List Heard) (stats : Stats) : Type 0 where
+pub record AreStats (judged : Judged) (history : List Event) (stats : Stats) : Type 0 where
   pub states : CountsStates (lines_of (program_of judged)) stats.states
   pub plain : CountsPlain (lines_of (program_of judged)) stats.plain
   pub live : CountsAlive (lines_of (program_of judged)) (order_of (program_of judged)) history stats.live
@@ -23,6 +23,6 @@ abbrev pub stats_line : Stats → List ℕ
 stats_line stats = codes "# states " ++ (decimal stats.states ++ (codes ", plain " ++ (decimal stats.plain ++ (codes ", live " ++ (decimal stats.live ++ 10 ∷ [])))))
 
 -- what a run writes behind the report of a history: with `--stats` its stats line, else nothing
-abbrev pub ComesBehind : Bool → Judged → List Heard → List ℕ → Type 0
+abbrev pub ComesBehind : Bool → Judged → List Event → List ℕ → Type 0
 ComesBehind false judged history text = text ≡ []
 ComesBehind true judged history text = (stats : Stats) × AreStats judged history stats × (text ≡ stats_line stats)

@@ -3,16 +3,16 @@ use Rattle.std.specs.Prelude.{◌≡◌, ⊤, ℕ, ◌+◌, ◌≤◌, List, [],
 use Rattle.cay_host.specs.declared.side.Side.{Side}
 use Rattle.cay_host.specs.Faults.{Rose}
 use Rattle.cay_host.specs.Told.{Told}
-use Rattle.cayuga_run.specs.declared.taking.End.{End}
-use Rattle.cayuga_run.specs.declared.taking.End.TheVariants.{Whole, More, Failed}
+use Rattle.cayuga_run.specs.declared.sides.ReadEnd.{ReadEnd}
+use Rattle.cayuga_run.specs.declared.sides.ReadEnd.TheVariants.{Whole, More, Failed}
 
 -- the bytes are all, or one more than the limit, or those before a failed read
-abbrev pub EndsAs : End → ℕ → List ℕ → Side → Told → Told → Type 0
+abbrev pub EndsAs : ReadEnd → ℕ → List ℕ → Side → Told → Told → Type 0
 EndsAs Whole limit bytes side old new = (length bytes ≤ limit) × IfSome (new.left side) (λ rest. rest ≡ [])
 EndsAs More limit bytes side old new = length bytes ≡ limit + 1
 EndsAs Failed limit bytes side old new = (length bytes ≤ limit) × Rose old.read_faults new.read_faults
 
 -- the count of read faults is the same, unless a read failed
-abbrev pub BlamesReading : End → Told → Told → Type 0
+abbrev pub BlamesReading : ReadEnd → Told → Told → Type 0
 BlamesReading Failed old new = ⊤
 BlamesReading other old new = new.read_faults ≡ old.read_faults

@@ -10,7 +10,7 @@ ghost use Rattle.cayuga_run.specs.QueryFailing.{QueriesFail, TextFails};
 ghost use Rattle.cayuga_run.specs.Refusing.{AreNotAccepted};
 
 use crate::status::Status;
-use crate::taking::{End, take_side};
+use crate::sides::{ReadEnd, read_side};
 use catalogue::{Catalogue, LoadFault, load};
 use cay_host::{Host, Side};
 use std::alloc::Global;
@@ -30,23 +30,23 @@ pub fn accept<H: Host>(alloc: Global, host: &mut H, queries: &str) -> Result<Cat
     if host.attach(Side::Queries, queries).is_err() {
         return Err(Status::AttachFault(Side::Queries));
     }
-    take_queries(alloc, host)
+    read_queries(alloc, host)
 }
 
 // Reads the queries and judges them.
-fn take_queries<H: Host>(alloc: Global, host: &mut H) -> Result<Catalogue, Status>
+fn read_queries<H: Host>(alloc: Global, host: &mut H) -> Result<Catalogue, Status>
     requires { (H.told host.old).attached Queries ≡ true }
     ensures accepted { IfOk result (λ catalogue. HasRead (judged_of catalogue) (H.told host.old) (H.told host.new)) }
     ensures fails { IfErr result (QueriesFail (H.told host.old) (H.told host.new)) }
     ensures blames { IfErr result (BlamesHost (H.told host.old) (H.told host.new)) }
     ensures same { SameButRead Queries (H.told host.old) (H.told host.new) }
 {
-    match take_side(alloc, host, Side::Queries, MOST_QUERY_BYTES) {
+    match read_side(alloc, host, Side::Queries, MOST_QUERY_BYTES) {
         Err(_) => Err(Status::Memory),
         Ok(text) => match text.end {
-            End::Failed => Err(Status::ReadFault(Side::Queries)),
-            End::Whole => judge_text(alloc, &text.bytes),
-            End::More => judge_text(alloc, &text.bytes),
+            ReadEnd::Failed => Err(Status::ReadFault(Side::Queries)),
+            ReadEnd::Whole => judge_text(alloc, &text.bytes),
+            ReadEnd::More => judge_text(alloc, &text.bytes),
         },
     }
 }

@@ -4,13 +4,13 @@
 #![tactic(auto)]
 
 mod accepting;
-mod hearing;
+mod events;
 mod laws;
 mod pieces;
 mod run;
 mod stats;
 mod status;
-mod taking;
+mod sides;
 mod top;
 mod wording;
 mod writing;

@@ -2,13 +2,13 @@
 ghost use Rattle.std.specs.Prelude.{◌≡◌, [], false};
 ghost use Rattle.cay_host.specs.declared.side.Side.TheVariants.{Queries, Events};
 ghost use Rattle.catalogue.specs.Catalogued.{judged_of};
-ghost use Rattle.session.specs.Sessions.{StandsFor};
+ghost use Rattle.session.specs.SessionView.{SessionStandsFor};
 ghost use Rattle.cayuga_run.specs.Begun.{EndsRun};
 ghost use Rattle.cayuga_run.specs.Blaming.{BlamesHost};
 ghost use Rattle.cayuga_run.specs.RunOutcome.{RunOutcome};
 
 use crate::accepting::accept;
-use crate::hearing::hear;
+use crate::events::read_events;
 use crate::stats::write_stats;
 use crate::status::Status;
 use cay_host::{Host, Ledger, Side, Steps};
@@ -39,11 +39,11 @@ pub fn run<H: Host, L: Ledger>(
     let Ok(mut session) = Session::make(alloc, catalogue, limit) else {
         return Status::Memory;
     };
-    hear_events(alloc, host, &mut session, events, stats, limit, steps)
+    attach_and_read(alloc, host, &mut session, events, stats, limit, steps)
 }
 
 // Attaches the events and hears them. Where all were heard and stats are asked for, writes their line.
-fn hear_events<H: Host, L: Ledger>(
+fn attach_and_read<H: Host, L: Ledger>(
     alloc: Global,
     host: &mut H,
     session: &mut Session,
@@ -53,7 +53,7 @@ fn hear_events<H: Host, L: Ledger>(
     steps: &mut Steps<L>,
 ) -> Status
     requires free { (H.told host.old).attached Events ≡ false }
-    requires stands { StandsFor session.old [] [] }
+    requires stands { SessionStandsFor session.old [] [] }
     requires limit { session.old.limit ≡ limit }
     ensures outcome { EndsRun (judged_of session.old.catalogue) events.now stats limit (H.told host.old) (H.told host.new) result }
     ensures blames { BlamesHost (H.told host.old) (H.told host.new) result }
@@ -61,7 +61,7 @@ fn hear_events<H: Host, L: Ledger>(
     if host.attach(Side::Events, events).is_err() {
         return Status::AttachFault(Side::Events);
     }
-    match hear(alloc, host, session, limit, steps) {
+    match read_events(alloc, host, session, limit, steps) {
         Status::Done => {
             if stats {
                 write_stats(alloc, host, session)

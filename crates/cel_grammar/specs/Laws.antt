@@ -7,7 +7,7 @@ use Rattle.cel_grammar.specs.Parens.{holds_test}
 use Rattle.cel_grammar.specs.Predicates.{IsPred}
 use Rattle.cel_grammar.specs.Scalars.{IsScalar}
 use Rattle.cel_grammar.specs.Sources.{IsSource}
-use Rattle.cel_grammar.specs.Sentences.{IsSmall, Placed, Say, sentences}
+use Rattle.cel_grammar.specs.Sentences.{IsSmall, Placed, AreSentencesOf, sentences}
 use Rattle.cel_grammar.specs.Statements.{IsFile, IsStatement}
 use Rattle.cel_grammar.specs.Trees.{Pred, Scalar, Source, Statement}
 
@@ -40,4 +40,4 @@ pub record ParenLaw : Type 0 where
 abbrev pub SentencesAreAFile : Type 0
 SentencesAreAFile =
     (symbols : List Placed) (statements : List Statement)
-    → ((lines : List ℕ) × Say (sentences symbols) statements lines) ↔ (IsFile (map (λ placed. placed.symbol) symbols) statements × All (λ sentence. IsSmall sentence.symbols) (sentences symbols))
+    → ((lines : List ℕ) × AreSentencesOf (sentences symbols) statements lines) ↔ (IsFile (map (λ placed. placed.symbol) symbols) statements × All (λ sentence. IsSmall sentence.symbols) (sentences symbols))

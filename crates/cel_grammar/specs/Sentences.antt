@@ -55,18 +55,18 @@ pub record IsSmall (ts : List Symbol) : Type 0 where
   pub shallow : is_deep 0 ts ≡ false
 
 -- the sentence is this statement: it ends with a semicolon, is within the limits and is read so
-pub record Says (sentence : Sentence) (statement : Statement) : Type 0 where
+pub record IsSentenceOf (sentence : Sentence) (statement : Statement) : Type 0 where
   pub ended : sentence.ended ≡ true
   pub small : IsSmall sentence.symbols
   pub read : IsStatement sentence.symbols statement []
 
 -- the sentences are these statements, which begin on these lines
-pub data Say : List Sentence → List Statement → List ℕ → Type 0 where
-  none : Say [] [] []
-  more : {sentence : Sentence} {later : List Sentence} {s : Statement} {ss : List Statement} {lines : List ℕ} → Says sentence s → Say later ss lines → Say (sentence ∷ later) (s ∷ ss) (sentence.line ∷ lines)
+pub data AreSentencesOf : List Sentence → List Statement → List ℕ → Type 0 where
+  none : AreSentencesOf [] [] []
+  more : {sentence : Sentence} {later : List Sentence} {s : Statement} {ss : List Statement} {lines : List ℕ} → IsSentenceOf sentence s → AreSentencesOf later ss lines → AreSentencesOf (sentence ∷ later) (s ∷ ss) (sentence.line ∷ lines)
 
 -- the text reads as these statements, which begin on these lines
 pub record ReadsAs (text : List ℕ) (statements : List Statement) (lines : List ℕ) : Type 0 where
   pub tokens : List Token
   pub all : tokens_of text ≡ Ok tokens
-  pub said : Say (sentences (placed_of (record { source = text; items = tokens }))) statements lines
+  pub said : AreSentencesOf (sentences (placed_of (record { source = text; items = tokens }))) statements lines

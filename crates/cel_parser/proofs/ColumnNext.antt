@@ -8,7 +8,7 @@ use Rattle.cel_grammar.specs.Trees.{Column, Statement}
 use Rattle.cel_grammar.specs.Views.{statement_of}
 use Rattle.cel_grammar.specs.declared.statement.Statement as code
 use Rattle.cel_parser.specs.Columns.{columns_after, columns_behind, declaration_at, ended_at, query_at, statement_step, whole_at}
-use Rattle.cel_parser.specs.Gives.{Gives}
+use Rattle.cel_parser.specs.ReturnsReading.{ReturnsReading}
 use Rattle.cel_parser.specs.Lists.{with_front}
 use Rattle.cel_parser.specs.declared.unread.Unread.{Unread}
 use Rattle.cel_parser.specs.declared.unread.Unread.TheVariants as unread
@@ -82,14 +82,14 @@ whole_complete n ts s le h =
     rw e refl
 
 -- what was returned is in the grammar
-pub given_found : (r : Result code.Statement Unread) (n : ℕ) (ts : List Symbol) → Gives statement_of r (whole_at n ts) → IfOk r (λ s. IsStatement ts (statement_of s) [])
+pub given_found : (r : Result code.Statement Unread) (n : ℕ) (ts : List Symbol) → ReturnsReading statement_of r (whole_at n ts) → IfOk r (λ s. IsStatement ts (statement_of s) [])
 given_found (Ok s) n ts h = whole_sound n ts (statement_of s) h
 given_found (Err e) n ts h = tt
 
 -- nothing is in the grammar where nothing was read
-pub given_bad : (r : Result code.Statement Unread) (n : ℕ) (ts : List Symbol) → 16 * length ts ≤ n → Gives statement_of r (whole_at n ts) → r ≡ Err unread.Bad → (s : Statement) → IsStatement ts s [] → ⊥
+pub given_bad : (r : Result code.Statement Unread) (n : ℕ) (ts : List Symbol) → 16 * length ts ≤ n → ReturnsReading statement_of r (whole_at n ts) → r ≡ Err unread.Bad → (s : Statement) → IsStatement ts s [] → ⊥
 given_bad r n ts le h e s k =
-    let P : Result code.Statement Unread → Type 0 = λ q. Gives statement_of q (whole_at n ts) in
+    let P : Result code.Statement Unread → Type 0 = λ q. ReturnsReading statement_of q (whole_at n ts) in
     let none : whole_at n ts ≡ None = subst P e h in
     let some = whole_complete n ts s le k in
     absurd cc

@@ -10,7 +10,7 @@ use Rattle.cel_grammar.specs.Sentences.{Placed, Sentence, placed_of, with_symbol
 use Rattle.cel_grammar.specs.Spellings.{number_symbol, symbol_of}
 use Rattle.cel_grammar.specs.Symbols as the
 use Rattle.cel_parser.specs.Cutting.{ended_on, left_at}
-use Rattle.cel_parser.specs.Seen.{seen}
+use Rattle.cel_parser.specs.GrammarSymbols.{grammar_symbol_of}
 use Rattle.cel_parser.specs.declared.symbol.Symbol.{Symbol}
 use Rattle.cel_parser.specs.declared.symbol.Symbol.TheVariants as symbol
 
@@ -79,33 +79,33 @@ number-other (pos n) e = cc
 number-other z e = cc
 
 -- the code's semicolon is the grammar's
-seen-end : (s : Symbol) → seen s ≡ the.End → s ≡ symbol.End
+seen-end : (s : Symbol) → grammar_symbol_of s ≡ the.End → s ≡ symbol.End
 seen-end symbol.End e = refl
 seen-end (symbol.Number z) e = absurd (number-other z e)
 seen-end s e = absurd cc
 
 module _ (listing : Listing) (at end line : ℕ) (symbols : List Symbol)
-    (before : left_at listing at ≡ joined line (map seen symbols) (left_at listing end)) where
+    (before : left_at listing at ≡ joined line (map grammar_symbol_of symbols) (left_at listing end)) where
   -- the symbol at the end joins the sentence
-  pub more : (s : Symbol) → option_map (symbol_in listing) (slice_get listing.items end) ≡ Some (seen s) → (s ≡ symbol.End → ⊥)
-      → left_at listing at ≡ joined line (map seen (symbols ++ s ∷ [])) (left_at listing (end + 1))
+  pub more : (s : Symbol) → option_map (symbol_in listing) (slice_get listing.items end) ≡ Some (grammar_symbol_of s) → (s ≡ symbol.End → ⊥)
+      → left_at listing at ≡ joined line (map grammar_symbol_of (symbols ++ s ∷ [])) (left_at listing (end + 1))
   more s here other =
-      there_is (symbol_in listing) (slice_get listing.items end) (seen s) here (λ token there same.
+      there_is (symbol_in listing) (slice_get listing.items end) (grammar_symbol_of s) here (λ token there same.
       let front = left-token listing end token there in
-      let joined_on = joins (symbol_in listing token) (word_of listing token) line (map seen symbols) (left_at listing (end + 1)) refl (λ e. other (seen-end s (sym same ∙ e))) in
-      rw (map-append seen symbols (s ∷ []), ← same) (before ∙ ap (joined line (map seen symbols)) front ∙ joined_on))
+      let joined_on = joins (symbol_in listing token) (word_of listing token) line (map grammar_symbol_of symbols) (left_at listing (end + 1)) refl (λ e. other (seen-end s (sym same ∙ e))) in
+      rw (map-append grammar_symbol_of symbols (s ∷ []), ← same) (before ∙ ap (joined line (map grammar_symbol_of symbols)) front ∙ joined_on))
 
   -- a semicolon there ends it
-  pub ends : (s : Symbol) → option_map (symbol_in listing) (slice_get listing.items end) ≡ Some (seen s) → s ≡ symbol.End
-      → left_at listing at ≡ ended_on line (map seen symbols) ∷ left_at listing (end + 1)
+  pub ends : (s : Symbol) → option_map (symbol_in listing) (slice_get listing.items end) ≡ Some (grammar_symbol_of s) → s ≡ symbol.End
+      → left_at listing at ≡ ended_on line (map grammar_symbol_of symbols) ∷ left_at listing (end + 1)
   ends s here same =
-      there_is (symbol_in listing) (slice_get listing.items end) (seen s) here (λ token there is.
+      there_is (symbol_in listing) (slice_get listing.items end) (grammar_symbol_of s) here (λ token there is.
       let front = left-token listing end token there in
-      let semicolon : symbol_in listing token ≡ the.End = is ∙ ap seen same in
-      let ended : left_at listing at ≡ joined line (map seen symbols) (with_symbol the.End (word_of listing token) (left_at listing (end + 1))) =
-      before ∙ ap (joined line (map seen symbols)) (front ∙ ap (λ t. with_symbol t (word_of listing token) (left_at listing (end + 1))) semicolon) in
-      ended ∙ rw (append-nil (map seen symbols)) refl)
+      let semicolon : symbol_in listing token ≡ the.End = is ∙ ap grammar_symbol_of same in
+      let ended : left_at listing at ≡ joined line (map grammar_symbol_of symbols) (with_symbol the.End (word_of listing token) (left_at listing (end + 1))) =
+      before ∙ ap (joined line (map grammar_symbol_of symbols)) (front ∙ ap (λ t. with_symbol t (word_of listing token) (left_at listing (end + 1))) semicolon) in
+      ended ∙ rw (append-nil (map grammar_symbol_of symbols)) refl)
 
   -- where no token is left, the sentence has no semicolon, and is the last
-  pub lacks : length listing.items ≤ end → left_at listing at ≡ record { line = line; symbols = map seen symbols; ended = false } ∷ []
-  lacks past = before ∙ ap (joined line (map seen symbols)) (left-none listing end past)
+  pub lacks : length listing.items ≤ end → left_at listing at ≡ record { line = line; symbols = map grammar_symbol_of symbols; ended = false } ∷ []
+  lacks past = before ∙ ap (joined line (map grammar_symbol_of symbols)) (left-none listing end past)

@@ -4,7 +4,7 @@ use Rattle.std.specs.Prelude.{Option}
 use Rattle.std.proofs.lemmas.Bool.{cases_Bool, cases_lt}
 use Rattle.cel_lexer.specs.Faults.{tokens_of}
 use Rattle.cel_lexer.specs.declared.token.Token.{Token}
-use Rattle.cel_grammar.specs.Sentences.{IsSmall, Say, Says, Sentence, is_deep, more, none, placed_of, sentences}
+use Rattle.cel_grammar.specs.Sentences.{IsSmall, AreSentencesOf, IsSentenceOf, Sentence, is_deep, more, none, placed_of, sentences}
 use Rattle.cel_grammar.specs.Statements.{IsStatement}
 use Rattle.cel_grammar.specs.Symbols.{Symbol}
 use Rattle.cel_grammar.specs.Trees.{Statement}
@@ -40,7 +40,7 @@ one-fault (unended _) (bad _ _ _) = refl
 one-fault (unended _) (unended _) = refl
 
 -- a sentence that is a statement has no fault
-no-fault : {number : ℕ} {sentence : Sentence} {s : Statement} {e : SyntaxFault} → Says sentence s → IsFaulty number sentence e → ⊥
+no-fault : {number : ℕ} {sentence : Sentence} {s : Statement} {e : SyntaxFault} → IsSentenceOf sentence s → IsFaulty number sentence e → ⊥
 no-fault says (many _ long) = absurd (omega (arith, says.small.few))
 no-fault says (deep _ _ steep) = not-missing steep says.small.shallow
 no-fault says (bad _ _ not) = not _ says.read
@@ -54,13 +54,13 @@ explains-one (behind says h) (here k) = absurd (no-fault says k)
 explains-one (behind _ h) (behind _ k) = explains-one h k
 
 -- sentences that are statements have no fault
-said-no-fault : {ss : List Sentence} {statements : List Statement} {lines : List ℕ} → Say ss statements lines → (number : ℕ) (e : SyntaxFault) → Explains number ss e → ⊥
+said-no-fault : {ss : List Sentence} {statements : List Statement} {lines : List ℕ} → AreSentencesOf ss statements lines → (number : ℕ) (e : SyntaxFault) → Explains number ss e → ⊥
 said-no-fault none number e h = elim h [ ]
 said-no-fault (more says later) number e (here h) = no-fault says h
 said-no-fault (more says later) number e (behind _ h) = said-no-fault later (number + 1) e h
 
 -- sentences are at most one list of statements
-said-one : {ss : List Sentence} {xs ys : List Statement} {ls ms : List ℕ} → Say ss xs ls → Say ss ys ms → SameFile xs ys ls ms
+said-one : {ss : List Sentence} {xs ys : List Statement} {ls ms : List ℕ} → AreSentencesOf ss xs ls → AreSentencesOf ss ys ms → SameFile xs ys ls ms
 said-one none none = record { statements = refl; lines = refl }
 said-one (more {sentence = sentence} {s = s} a later) (more {s = t} b others) =
     let first : s ≡ t = (statement_same sentence.symbols [] [] s t a.read b.read).statement in
@@ -89,14 +89,14 @@ decided ts = by-reader ts (statement_at (16 * length ts) ts) refl
 
 -- small symbols with their semicolon are a statement, or have a fault
 small-told : (number : ℕ) (sentence : Sentence) → sentence.ended ≡ true → IsSmall sentence.symbols
-    → ((s : Statement) × Says sentence s) ⊎ ((e : SyntaxFault) × IsFaulty number sentence e)
+    → ((s : Statement) × IsSentenceOf sentence s) ⊎ ((e : SyntaxFault) × IsFaulty number sentence e)
 small-told number sentence ended small = elim (decided sentence.symbols) [
   | inl read ↦ inl (read.0, record { ended = ended; small = small; read = read.1 })
   | inr not ↦ inr (_, bad ended small not)
 ]
 
 -- so are symbols with their semicolon
-ended-told : (number : ℕ) (sentence : Sentence) → sentence.ended ≡ true → ((s : Statement) × Says sentence s) ⊎ ((e : SyntaxFault) × IsFaulty number sentence e)
+ended-told : (number : ℕ) (sentence : Sentence) → sentence.ended ≡ true → ((s : Statement) × IsSentenceOf sentence s) ⊎ ((e : SyntaxFault) × IsFaulty number sentence e)
 ended-told number sentence ended = elim (cases_lt 1024 (length sentence.symbols)) [
   | inl long ↦ inr (_, many ended long)
   | inr few ↦ elim (cases_Bool (is_deep 0 sentence.symbols)) [
@@ -106,7 +106,7 @@ ended-told number sentence ended = elim (cases_lt 1024 (length sentence.symbols)
 ]
 
 -- a sentence is a statement, or has a fault
-sentence-told : (number : ℕ) (sentence : Sentence) → ((s : Statement) × Says sentence s) ⊎ ((e : SyntaxFault) × IsFaulty number sentence e)
+sentence-told : (number : ℕ) (sentence : Sentence) → ((s : Statement) × IsSentenceOf sentence s) ⊎ ((e : SyntaxFault) × IsFaulty number sentence e)
 sentence-told number sentence = elim (cases_Bool sentence.ended) [
   | inl there ↦ ended-told number sentence there
   | inr missing ↦ inr (_, unended missing)
@@ -116,7 +116,7 @@ sentence-told number sentence = elim (cases_Bool sentence.ended) [
 record Sayable (ss : List Sentence) : Type 0 where
   statements : List Statement
   lines : List ℕ
-  said : Say ss statements lines
+  said : AreSentencesOf ss statements lines
 
 -- sentences are statements, or have a fault
 told : (number : ℕ) (ss : List Sentence) → Sayable ss ⊎ ((e : SyntaxFault) × Explains number ss e)

@@ -4,7 +4,7 @@ use Rattle.std.specs.Prelude.{if◌then◌else◌}
 use Rattle.std.specs.List.{All}
 use Rattle.std.proofs.lemmas.List.{append-nil}
 use Rattle.std.proofs.lemmas.List.Elements.{All-nil, All-cons, All-head, All-tail}
-use Rattle.cel_grammar.specs.Sentences.{IsSmall, Placed, Say, Says, Sentence, more, none, sentences, with_front, with_symbol}
+use Rattle.cel_grammar.specs.Sentences.{IsSmall, Placed, AreSentencesOf, IsSentenceOf, Sentence, more, none, sentences, with_front, with_symbol}
 use Rattle.cel_grammar.specs.Statements.{IsFile, IsStatement, empty, then}
 use Rattle.cel_grammar.specs.Symbols.{Symbol}
 use Rattle.cel_grammar.specs.Symbols as the
@@ -46,12 +46,12 @@ before sentence s later read ended =
     subst (λ (ts : List Symbol). IsStatement ts s (the.End ∷ later)) (ap (λ (ts : List Symbol). ts ++ (the.End ∷ later)) same ∙ placed) (at.moves (the.End ∷ later))
 
 -- sentences that are statements are a file of them
-file_of : {said : List Sentence} {ss : List Statement} {lines : List ℕ} → Say said ss lines → IsFile (glued said) ss
+file_of : {said : List Sentence} {ss : List Statement} {lines : List ℕ} → AreSentencesOf said ss lines → IsFile (glued said) ss
 file_of none = empty
 file_of (more {sentence = sentence} {later = later} {s = s} says rest) = (then) (before sentence s (glued later) says.read says.ended) (file_of rest)
 
 -- sentences that are statements are within the limits
-small_of : {said : List Sentence} {ss : List Statement} {lines : List ℕ} → Say said ss lines → All (λ sentence. IsSmall sentence.symbols) said
+small_of : {said : List Sentence} {ss : List Statement} {lines : List ℕ} → AreSentencesOf said ss lines → All (λ sentence. IsSmall sentence.symbols) said
 small_of none = All-nil (λ (sentence : Sentence). IsSmall sentence.symbols)
 small_of (more {sentence = sentence} {later = later} says rest) = All-cons (λ (sentence : Sentence). IsSmall sentence.symbols) sentence later says.small (small_of rest)
 
@@ -94,7 +94,7 @@ cut (placed ∷ ps) (t ∷ front) rest inside e =
     }
 
 -- a file of symbols is said by its sentences
-said_by : {ts : List Symbol} {ss : List Statement} → IsFile ts ss → (ps : List Placed) → map (λ placed. placed.symbol) ps ≡ ts → All (λ sentence. IsSmall sentence.symbols) (sentences ps) → (lines : List ℕ) × Say (sentences ps) ss lines
+said_by : {ts : List Symbol} {ss : List Statement} → IsFile ts ss → (ps : List Placed) → map (λ placed. placed.symbol) ps ≡ ts → All (λ sentence. IsSmall sentence.symbols) (sentences ps) → (lines : List ℕ) × AreSentencesOf (sentences ps) ss lines
 said_by empty [] e small = ([], none)
 said_by empty (placed ∷ ps) e small = absurd cc
 said_by ((then) {rest = rest} {s = s} {ss = ss} h k) ps e small =
@@ -104,16 +104,16 @@ said_by ((then) {rest = rest} {s = s} {ss = ss} h k) ps e small =
     let sentence : Sentence = record { line = up.line; symbols = at.front; ended = true } in
     let each : All P (sentence ∷ sentences up.later) = subst (All P) up.is small in
     let read : IsStatement at.front s [] = subst (λ (ts : List Symbol). IsStatement ts s []) (append-nil at.front) (at.moves []) in
-    let says : Says sentence s = record { ended = refl; small = All-head P sentence (sentences up.later) each; read = read } in
+    let says : IsSentenceOf sentence s = record { ended = refl; small = All-head P sentence (sentences up.later) each; read = read } in
     let others = said_by k up.later up.same (All-tail P sentence (sentences up.later) each) in
-    (up.line ∷ others.0, subst (λ (said : List Sentence). Say said (s ∷ ss) (up.line ∷ others.0)) (sym up.is) (more says others.1))
+    (up.line ∷ others.0, subst (λ (said : List Sentence). AreSentencesOf said (s ∷ ss) (up.line ∷ others.0)) (sym up.is) (more says others.1))
 
 -- the two rules of a file are one
 pub sentences_are_a_file : SentencesAreAFile
 sentences_are_a_file ps ss = (fore, back)
   where
-    fore : (lines : List ℕ) × Say (sentences ps) ss lines → IsFile (map (λ placed. placed.symbol) ps) ss × All (λ sentence. IsSmall sentence.symbols) (sentences ps)
+    fore : (lines : List ℕ) × AreSentencesOf (sentences ps) ss lines → IsFile (map (λ placed. placed.symbol) ps) ss × All (λ sentence. IsSmall sentence.symbols) (sentences ps)
     fore h = (subst (λ (ts : List Symbol). IsFile ts ss) (sentences_glued ps) (file_of h.1), small_of h.1)
 
-    back : IsFile (map (λ placed. placed.symbol) ps) ss × All (λ sentence. IsSmall sentence.symbols) (sentences ps) → (lines : List ℕ) × Say (sentences ps) ss lines
+    back : IsFile (map (λ placed. placed.symbol) ps) ss × All (λ sentence. IsSmall sentence.symbols) (sentences ps) → (lines : List ℕ) × AreSentencesOf (sentences ps) ss lines
     back h = said_by h.0 ps refl h.1

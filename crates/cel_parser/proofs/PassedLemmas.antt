@@ -1,7 +1,7 @@
 -- The sentences that are read so far: what the others are, all of them are.
 use Rattle.std.proofs.Common.{◌≡◌, ℕ, ◌+◌, List, [], ◌∷◌, ◌++◌, length, map, arith, append_assoc, append-nil, length-append}
 use Rattle.std.proofs.lemmas.List.{length-map, map-append}
-use Rattle.cel_grammar.specs.Sentences.{Say, Says, Sentence, more, none}
+use Rattle.cel_grammar.specs.Sentences.{AreSentencesOf, IsSentenceOf, Sentence, more, none}
 use Rattle.cel_grammar.specs.Trees.{Statement}
 use Rattle.cel_grammar.specs.Views.{statement_of}
 use Rattle.cel_grammar.specs.declared.statement.Statement as code
@@ -10,7 +10,7 @@ use Rattle.cel_parser.specs.declared.fault.SyntaxFault.{SyntaxFault}
 
 -- these statements on these lines stand before the sentences that are left
 pub record Passed (all left : List Sentence) (ss : List Statement) (lines : List ℕ) : Type 0 where
-  pub said : (ts : List Statement) (ls : List ℕ) → Say left ts ls → Say all (ss ++ ts) (lines ++ ls)
+  pub said : (ts : List Statement) (ls : List ℕ) → AreSentencesOf left ts ls → AreSentencesOf all (ss ++ ts) (lines ++ ls)
   pub refused : (e : SyntaxFault) → Explains (length ss + 1) left e → Explains 1 all e
 
 -- nothing is read yet
@@ -19,7 +19,7 @@ passed-none all = record { said = λ ts ls h. h; refused = λ e h. h }
 
 -- one more sentence is read
 pub passed-more : (all later : List Sentence) (sentence : Sentence) (ss : List Statement) (lines : List ℕ) (s : Statement)
-    → Passed all (sentence ∷ later) ss lines → Says sentence s → Passed all later (ss ++ s ∷ []) (lines ++ sentence.line ∷ [])
+    → Passed all (sentence ∷ later) ss lines → IsSentenceOf sentence s → Passed all later (ss ++ s ∷ []) (lines ++ sentence.line ∷ [])
 passed-more all later sentence ss lines s passed says =
     let count : length (ss ++ s ∷ []) ≡ length ss + 1 = length-append ss (s ∷ []) in
     record {
@@ -28,7 +28,7 @@ passed-more all later sentence ss lines s passed says =
     }
 
 -- all is read
-pub passed-all : (all : List Sentence) (ss : List Statement) (lines : List ℕ) → Passed all [] ss lines → Say all ss lines
+pub passed-all : (all : List Sentence) (ss : List Statement) (lines : List ℕ) → Passed all [] ss lines → AreSentencesOf all ss lines
 passed-all all ss lines passed = let said = passed.said [] [] none in rw (append-nil ss, append-nil lines) at said
 
 -- the sentences from a place on, the first of which is this one, behind statements of a program
@@ -42,7 +42,7 @@ module _ (all left later : List Sentence) (sentence : Sentence) (front : left �
       passed.refused e (rw front next)
 
   -- its statement goes behind those
-  pub read : (s : code.Statement) → Says sentence (statement_of s) → Passed all later (map statement_of (ss ++ s ∷ [])) (lines ++ sentence.line ∷ [])
+  pub read : (s : code.Statement) → IsSentenceOf sentence (statement_of s) → Passed all later (map statement_of (ss ++ s ∷ [])) (lines ++ sentence.line ∷ [])
   read s says =
       let on = rw front at passed in
       rw (map-append statement_of ss (s ∷ [])) (passed-more all later sentence (map statement_of ss) lines (statement_of s) on says)

@@ -1,13 +1,13 @@
 -- Sentences and the statements that they are.
 use Rattle.std.proofs.Common.{◌≡◌, ◌∙◌, ℕ, suc, List, length, refl, sym, ap}
 use Rattle.std.proofs.lemmas.List.{length-map}
-use Rattle.cel_grammar.specs.Sentences.{Say, Sentence, more, none}
+use Rattle.cel_grammar.specs.Sentences.{AreSentencesOf, Sentence, more, none}
 use Rattle.cel_grammar.specs.Trees.{Statement}
 use Rattle.cel_grammar.specs.Views.{statement_of}
 use Rattle.cel_parser.specs.Filed.{Filed, IsRead}
 
 -- each statement has its line
-pub said-lines : {sentences : List Sentence} {ss : List Statement} {lines : List ℕ} → Say sentences ss lines → length lines ≡ length ss
+pub said-lines : {sentences : List Sentence} {ss : List Statement} {lines : List ℕ} → AreSentencesOf sentences ss lines → length lines ≡ length ss
 said-lines none = refl
 said-lines (more first later) = ap suc (said-lines later)
 

@@ -2,7 +2,7 @@
 use Rattle.std.specs.Prelude.{◌≡◌, ℕ, ◌+◌, ◌<◌, ◌≤◌, true, false, List, [], ◌∷◌, length, Ok}
 use Rattle.cel_lexer.specs.Faults.{tokens_of}
 use Rattle.cel_lexer.specs.declared.token.Token.{Token}
-use Rattle.cel_grammar.specs.Sentences.{IsSmall, Says, Sentence, is_deep, placed_of, sentences}
+use Rattle.cel_grammar.specs.Sentences.{IsSmall, IsSentenceOf, Sentence, is_deep, placed_of, sentences}
 use Rattle.cel_grammar.specs.Statements.{IsStatement}
 use Rattle.cel_grammar.specs.Trees.{Statement}
 use Rattle.cel_parser.specs.declared.fault.SyntaxFault.{SyntaxFault}
@@ -18,10 +18,10 @@ pub data IsFaulty : ℕ → Sentence → SyntaxFault → Type 0 where
 -- the fault of some sentences, which are numbered from this number on: that of the first one that is faulty, behind sentences that are statements
 pub data Explains : ℕ → List Sentence → SyntaxFault → Type 0 where
   here : {number : ℕ} {sentence : Sentence} {later : List Sentence} {e : SyntaxFault} → IsFaulty number sentence e → Explains number (sentence ∷ later) e
-  behind : {number : ℕ} {sentence : Sentence} {later : List Sentence} {s : Statement} {e : SyntaxFault} → Says sentence s → Explains (number + 1) later e → Explains number (sentence ∷ later) e
+  behind : {number : ℕ} {sentence : Sentence} {later : List Sentence} {s : Statement} {e : SyntaxFault} → IsSentenceOf sentence s → Explains (number + 1) later e → Explains number (sentence ∷ later) e
 
 -- the text has tokens, and this is the fault of its sentences, numbered from 1
-pub record IsRefused (text : List ℕ) (fault : SyntaxFault) : Type 0 where
+pub record HasSyntaxFault (text : List ℕ) (fault : SyntaxFault) : Type 0 where
   pub tokens : List Token
   pub all : tokens_of text ≡ Ok tokens
   pub explained : Explains 1 (sentences (placed_of (record { source = text; items = tokens }))) fault

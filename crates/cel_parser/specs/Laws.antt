@@ -4,7 +4,7 @@ use Rattle.cel_lexer.specs.Faults.{tokens_of}
 use Rattle.cel_lexer.specs.declared.token.Token.{Token}
 use Rattle.cel_grammar.specs.Sentences.{ReadsAs}
 use Rattle.cel_grammar.specs.Trees.{Statement}
-use Rattle.cel_parser.specs.Faults.{IsRefused}
+use Rattle.cel_parser.specs.Faults.{HasSyntaxFault}
 use Rattle.cel_parser.specs.declared.fault.SyntaxFault.{SyntaxFault}
 
 -- the same statements on the same lines
@@ -20,11 +20,11 @@ OneReading =
 
 -- a text has at most one fault
 abbrev pub OneFault : Type 0
-OneFault = (text : List ℕ) (e other : SyntaxFault) → IsRefused text e → IsRefused text other → e ≡ other
+OneFault = (text : List ℕ) (e other : SyntaxFault) → HasSyntaxFault text e → HasSyntaxFault text other → e ≡ other
 
 -- a text that reads as statements has no fault
 abbrev pub NotBoth : Type 0
-NotBoth = (text : List ℕ) (ss : List Statement) (lines : List ℕ) (e : SyntaxFault) → ReadsAs text ss lines → IsRefused text e → ⊥
+NotBoth = (text : List ℕ) (ss : List Statement) (lines : List ℕ) (e : SyntaxFault) → ReadsAs text ss lines → HasSyntaxFault text e → ⊥
 
 -- some statements with their lines are what the text reads as
 pub record Readable (text : List ℕ) : Type 0 where
@@ -35,7 +35,7 @@ pub record Readable (text : List ℕ) : Type 0 where
 -- some fault is the text's
 pub record Refusable (text : List ℕ) : Type 0 where
   pub fault : SyntaxFault
-  pub refused : IsRefused text fault
+  pub refused : HasSyntaxFault text fault
 
 -- a text with tokens reads as statements or has a fault
 abbrev pub OneOfBoth : Type 0

@@ -2,8 +2,8 @@
 ghost use Rattle.std.specs.Prelude.{◌≡◌, ◌<◌, ◌++◌, [], ◌∷◌, IfErr, IfOk, map};
 ghost use Rattle.cel_grammar.specs.Views.{column_of};
 ghost use Rattle.cel_parser.specs.Columns.{columns_after, columns_behind};
-ghost use Rattle.cel_parser.specs.Gives.{Gives};
-ghost use Rattle.cel_parser.specs.Seen.{seen};
+ghost use Rattle.cel_parser.specs.ReturnsReading.{ReturnsReading};
+ghost use Rattle.cel_parser.specs.GrammarSymbols.{grammar_symbol_of};
 ghost use Rattle.cel_parser.specs.StatementReader.{column_at, columns_at};
 
 use crate::literals::name_text;
@@ -18,12 +18,12 @@ use std::alloc::Global;
 #[tactic(auto, using(crate::proofs::ColumnNext::columns_alone))]
 pub(crate) fn read_columns<'a>(
     alloc: Global,
-    steps: usize,
+    fuel: usize,
     symbols: Symbols<'a>,
 ) -> Reading<'a, Attrs>
-    ensures { Gives (λ p. (map column_of p.0, map seen p.1.now)) result (columns_at steps (map seen symbols.now)) }
+    ensures { ReturnsReading (λ p. (map column_of p.0, map grammar_symbol_of p.1.now)) result (columns_at fuel (map grammar_symbol_of symbols.now)) }
 {
-    more_columns(alloc, steps, Attrs::new(alloc), symbols)
+    more_columns(alloc, fuel, Attrs::new(alloc), symbols)
 }
 
 // Columns, with those that stand before them.
@@ -31,18 +31,18 @@ pub(crate) fn read_columns<'a>(
 #[tactic(auto, using(crate::proofs::ColumnNext::columns_after_next, crate::proofs::ColumnNext::columns_after_none))]
 fn more_columns<'a>(
     alloc: Global,
-    steps: usize,
+    fuel: usize,
     columns: Attrs,
     symbols: Symbols<'a>,
 ) -> Reading<'a, Attrs>
-    ensures { Gives (λ p. (map column_of p.0, map seen p.1.now)) result (columns_after steps (map column_of columns) (map seen symbols.now)) }
+    ensures { ReturnsReading (λ p. (map column_of p.0, map grammar_symbol_of p.1.now)) result (columns_after fuel (map column_of columns) (map grammar_symbol_of symbols.now)) }
 {
-    if steps == 0 {
+    if fuel == 0 {
         return Err(Unread::Bad);
     }
     let (column, rest) = read_column(alloc, symbols)?;
     let columns = with_column(columns, column)?;
-    go_on_columns(alloc, steps - 1, columns, rest)
+    go_on_columns(alloc, fuel - 1, columns, rest)
 }
 
 // Columns that may go on behind a comma.
@@ -50,17 +50,17 @@ fn more_columns<'a>(
 #[tactic(auto, unfolding(crate::specs::Columns::columns_behind))]
 fn go_on_columns<'a>(
     alloc: Global,
-    steps: usize,
+    fuel: usize,
     columns: Attrs,
     symbols: Symbols<'a>,
 ) -> Reading<'a, Attrs>
-    ensures { Gives (λ p. (map column_of p.0, map seen p.1.now)) result (columns_behind steps (map column_of columns) (map seen symbols.now)) }
+    ensures { ReturnsReading (λ p. (map column_of p.0, map grammar_symbol_of p.1.now)) result (columns_behind fuel (map column_of columns) (map grammar_symbol_of symbols.now)) }
 {
-    if steps == 0 {
+    if fuel == 0 {
         return Err(Unread::Bad);
     }
     match symbols {
-        [Symbol::Comma, rest @ ..] => more_columns(alloc, steps - 1, columns, rest),
+        [Symbol::Comma, rest @ ..] => more_columns(alloc, fuel - 1, columns, rest),
         _ => Ok((columns, symbols)),
     }
 }
@@ -75,7 +75,7 @@ fn with_column(mut columns: Attrs, column: Attr) -> Result<Attrs, Unread>
 
 // A name and its kind.
 fn read_column<'a>(alloc: Global, symbols: Symbols<'a>) -> Reading<'a, Attr>
-    ensures { Gives (λ p. (column_of p.0, map seen p.1.now)) result (column_at (map seen symbols.now)) }
+    ensures { ReturnsReading (λ p. (column_of p.0, map grammar_symbol_of p.1.now)) result (column_at (map grammar_symbol_of symbols.now)) }
 {
     match symbols {
         [Symbol::Name(name), Symbol::Int, rest @ ..] => Ok((made(alloc, name, Kind::Int)?, rest)),

@@ -1,9 +1,9 @@
 //! Items of SELECT and aggregates of FOLD from symbols.
 ghost use Rattle.std.specs.Prelude.{◌≡◌, ◌<◌, ◌++◌, [], ◌∷◌, IfErr, IfOk, map};
 ghost use Rattle.cel_grammar.specs.Views.{agg_of, item_of};
-ghost use Rattle.cel_parser.specs.Gives.{Gives};
+ghost use Rattle.cel_parser.specs.ReturnsReading.{ReturnsReading};
 ghost use Rattle.cel_parser.specs.Lists.{agg_at, aggs_after, aggs_behind, bare_at, full_at, is_bare, items_after, items_behind};
-ghost use Rattle.cel_parser.specs.Seen.{seen};
+ghost use Rattle.cel_parser.specs.GrammarSymbols.{grammar_symbol_of};
 ghost use Rattle.cel_parser.specs.SourceReader.{aggs_at, as_at, item_at, items_at, named_at};
 
 use crate::literals::name_text;
@@ -19,12 +19,12 @@ use std::alloc::Global;
 #[tactic(auto, using(crate::proofs::ListNext::items_alone))]
 pub(crate) fn read_items<'a>(
     alloc: Global,
-    steps: usize,
+    fuel: usize,
     symbols: Symbols<'a>,
 ) -> Reading<'a, Items>
-    ensures { Gives (λ p. (map item_of p.0, map seen p.1.now)) result (items_at steps (map seen symbols.now)) }
+    ensures { ReturnsReading (λ p. (map item_of p.0, map grammar_symbol_of p.1.now)) result (items_at fuel (map grammar_symbol_of symbols.now)) }
 {
-    more_items(alloc, steps, Items::new(alloc), symbols)
+    more_items(alloc, fuel, Items::new(alloc), symbols)
 }
 
 // Items, with those that stand before them.
@@ -32,18 +32,18 @@ pub(crate) fn read_items<'a>(
 #[tactic(auto, using(crate::proofs::ListNext::items_after_next, crate::proofs::ListNext::items_after_none))]
 fn more_items<'a>(
     alloc: Global,
-    steps: usize,
+    fuel: usize,
     items: Items,
     symbols: Symbols<'a>,
 ) -> Reading<'a, Items>
-    ensures { Gives (λ p. (map item_of p.0, map seen p.1.now)) result (items_after steps (map item_of items) (map seen symbols.now)) }
+    ensures { ReturnsReading (λ p. (map item_of p.0, map grammar_symbol_of p.1.now)) result (items_after fuel (map item_of items) (map grammar_symbol_of symbols.now)) }
 {
-    if steps == 0 {
+    if fuel == 0 {
         return Err(Unread::Bad);
     }
-    let (item, rest) = read_item(alloc, steps - 1, symbols)?;
+    let (item, rest) = read_item(alloc, fuel - 1, symbols)?;
     let items = with_item(items, item)?;
-    go_on_items(alloc, steps - 1, items, rest)
+    go_on_items(alloc, fuel - 1, items, rest)
 }
 
 // Items that may go on behind a comma.
@@ -51,17 +51,17 @@ fn more_items<'a>(
 #[tactic(auto, unfolding(crate::specs::Lists::items_behind))]
 fn go_on_items<'a>(
     alloc: Global,
-    steps: usize,
+    fuel: usize,
     items: Items,
     symbols: Symbols<'a>,
 ) -> Reading<'a, Items>
-    ensures { Gives (λ p. (map item_of p.0, map seen p.1.now)) result (items_behind steps (map item_of items) (map seen symbols.now)) }
+    ensures { ReturnsReading (λ p. (map item_of p.0, map grammar_symbol_of p.1.now)) result (items_behind fuel (map item_of items) (map grammar_symbol_of symbols.now)) }
 {
-    if steps == 0 {
+    if fuel == 0 {
         return Err(Unread::Bad);
     }
     match symbols {
-        [Symbol::Comma, rest @ ..] => more_items(alloc, steps - 1, items, rest),
+        [Symbol::Comma, rest @ ..] => more_items(alloc, fuel - 1, items, rest),
         _ => Ok((items, symbols)),
     }
 }
@@ -76,19 +76,19 @@ fn with_item(mut items: Items, item: Item) -> Result<Items, Unread>
 
 // An item at the front.
 #[tactic(auto, using(crate::proofs::ListNext::item_next))]
-fn read_item<'a>(alloc: Global, steps: usize, symbols: Symbols<'a>) -> Reading<'a, Item>
-    ensures { Gives (λ p. (item_of p.0, map seen p.1.now)) result (item_at steps (map seen symbols.now)) }
+fn read_item<'a>(alloc: Global, fuel: usize, symbols: Symbols<'a>) -> Reading<'a, Item>
+    ensures { ReturnsReading (λ p. (item_of p.0, map grammar_symbol_of p.1.now)) result (item_at fuel (map grammar_symbol_of symbols.now)) }
 {
     if is_bare(symbols) {
         return read_bare(alloc, symbols);
     }
-    read_full(alloc, steps, symbols)
+    read_full(alloc, fuel, symbols)
 }
 
 // Whether a name is all of the item at the front.
 #[tactic(auto, unfolding(crate::specs::Lists::is_bare))]
 fn is_bare(symbols: Symbols<'_>) -> bool
-    ensures { result ≡ is_bare (map seen symbols.now) }
+    ensures { result ≡ is_bare (map grammar_symbol_of symbols.now) }
 {
     matches!(symbols, [Symbol::Name(_), Symbol::Comma | Symbol::From, ..])
 }
@@ -96,7 +96,7 @@ fn is_bare(symbols: Symbols<'_>) -> bool
 // An attribute under its own name.
 #[tactic(auto, unfolding(crate::specs::Lists::bare_at))]
 fn read_bare<'a>(alloc: Global, symbols: Symbols<'a>) -> Reading<'a, Item>
-    ensures { Gives (λ p. (item_of p.0, map seen p.1.now)) result (bare_at (map seen symbols.now)) }
+    ensures { ReturnsReading (λ p. (item_of p.0, map grammar_symbol_of p.1.now)) result (bare_at (map grammar_symbol_of symbols.now)) }
 {
     match symbols {
         [Symbol::Name(name), rest @ ..] => {
@@ -110,44 +110,44 @@ fn read_bare<'a>(alloc: Global, symbols: Symbols<'a>) -> Reading<'a, Item>
 
 // `*`, or a scalar under a name.
 #[tactic(auto, unfolding(crate::specs::Lists::full_at))]
-fn read_full<'a>(alloc: Global, steps: usize, symbols: Symbols<'a>) -> Reading<'a, Item>
-    ensures { Gives (λ p. (item_of p.0, map seen p.1.now)) result (full_at steps (map seen symbols.now)) }
+fn read_full<'a>(alloc: Global, fuel: usize, symbols: Symbols<'a>) -> Reading<'a, Item>
+    ensures { ReturnsReading (λ p. (item_of p.0, map grammar_symbol_of p.1.now)) result (full_at fuel (map grammar_symbol_of symbols.now)) }
 {
     match symbols {
         [Symbol::Star, rest @ ..] => Ok((Item::Star, rest)),
-        _ => read_named(alloc, steps, symbols),
+        _ => read_named(alloc, fuel, symbols),
     }
 }
 
 // A scalar under a name.
 #[tactic(auto, unfolding(crate::specs::SourceReader::named_at))]
-fn read_named<'a>(alloc: Global, steps: usize, symbols: Symbols<'a>) -> Reading<'a, Item>
-    ensures { Gives (λ p. (item_of p.0, map seen p.1.now)) result (named_at steps (map seen symbols.now)) }
+fn read_named<'a>(alloc: Global, fuel: usize, symbols: Symbols<'a>) -> Reading<'a, Item>
+    ensures { ReturnsReading (λ p. (item_of p.0, map grammar_symbol_of p.1.now)) result (named_at fuel (map grammar_symbol_of symbols.now)) }
 {
-    let (value, rest) = read_scalar(alloc, steps, symbols)?;
+    let (value, rest) = read_scalar(alloc, fuel, symbols)?;
     let (name, rest) = read_as(alloc, rest)?;
     Ok((Item::Named(value, name), rest))
 }
 
 /// Aggregates at the front, each behind a comma, and the symbols behind them.
 #[tactic(auto, using(crate::proofs::ListNext::aggs_alone))]
-pub(crate) fn read_aggs<'a>(alloc: Global, steps: usize, symbols: Symbols<'a>) -> Reading<'a, Aggs>
-    ensures { Gives (λ p. (map agg_of p.0, map seen p.1.now)) result (aggs_at steps (map seen symbols.now)) }
+pub(crate) fn read_aggs<'a>(alloc: Global, fuel: usize, symbols: Symbols<'a>) -> Reading<'a, Aggs>
+    ensures { ReturnsReading (λ p. (map agg_of p.0, map grammar_symbol_of p.1.now)) result (aggs_at fuel (map grammar_symbol_of symbols.now)) }
 {
-    more_aggs(alloc, steps, Aggs::new(alloc), symbols)
+    more_aggs(alloc, fuel, Aggs::new(alloc), symbols)
 }
 
 // Aggregates, with those that stand before them.
 #[cycle(aggregates)]
 #[tactic(auto, unfolding(crate::specs::Lists::aggs_after, crate::specs::Lists::aggs_behind))]
-fn more_aggs<'a>(alloc: Global, steps: usize, aggs: Aggs, symbols: Symbols<'a>) -> Reading<'a, Aggs>
-    ensures { Gives (λ p. (map agg_of p.0, map seen p.1.now)) result (aggs_after steps (map agg_of aggs) (map seen symbols.now)) }
+fn more_aggs<'a>(alloc: Global, fuel: usize, aggs: Aggs, symbols: Symbols<'a>) -> Reading<'a, Aggs>
+    ensures { ReturnsReading (λ p. (map agg_of p.0, map grammar_symbol_of p.1.now)) result (aggs_after fuel (map agg_of aggs) (map grammar_symbol_of symbols.now)) }
 {
-    if steps == 0 {
+    if fuel == 0 {
         return Err(Unread::Bad);
     }
     match symbols {
-        [Symbol::Comma, rest @ ..] => next_agg(alloc, steps - 1, aggs, rest),
+        [Symbol::Comma, rest @ ..] => next_agg(alloc, fuel - 1, aggs, rest),
         _ => Ok((aggs, symbols)),
     }
 }
@@ -155,12 +155,12 @@ fn more_aggs<'a>(alloc: Global, steps: usize, aggs: Aggs, symbols: Symbols<'a>) 
 // Aggregates behind a comma, with those that stand before it.
 #[cycle(aggregates)]
 #[tactic(auto, unfolding(crate::specs::Lists::aggs_behind))]
-fn next_agg<'a>(alloc: Global, steps: usize, aggs: Aggs, symbols: Symbols<'a>) -> Reading<'a, Aggs>
-    ensures { Gives (λ p. (map agg_of p.0, map seen p.1.now)) result (aggs_behind steps (map agg_of aggs) (map seen symbols.now)) }
+fn next_agg<'a>(alloc: Global, fuel: usize, aggs: Aggs, symbols: Symbols<'a>) -> Reading<'a, Aggs>
+    ensures { ReturnsReading (λ p. (map agg_of p.0, map grammar_symbol_of p.1.now)) result (aggs_behind fuel (map agg_of aggs) (map grammar_symbol_of symbols.now)) }
 {
-    let (agg, rest) = read_agg(alloc, steps, symbols)?;
+    let (agg, rest) = read_agg(alloc, fuel, symbols)?;
     let aggs = with_agg(aggs, agg)?;
-    more_aggs(alloc, steps, aggs, rest)
+    more_aggs(alloc, fuel, aggs, rest)
 }
 
 fn with_agg(mut aggs: Aggs, agg: Agg) -> Result<Aggs, Unread>
@@ -173,17 +173,17 @@ fn with_agg(mut aggs: Aggs, agg: Agg) -> Result<Aggs, Unread>
 
 // An aggregate behind its comma.
 #[tactic(auto, unfolding(crate::specs::Lists::agg_at))]
-fn read_agg<'a>(alloc: Global, steps: usize, symbols: Symbols<'a>) -> Reading<'a, Agg>
-    ensures { Gives (λ p. (agg_of p.0, map seen p.1.now)) result (agg_at steps (map seen symbols.now)) }
+fn read_agg<'a>(alloc: Global, fuel: usize, symbols: Symbols<'a>) -> Reading<'a, Agg>
+    ensures { ReturnsReading (λ p. (agg_of p.0, map grammar_symbol_of p.1.now)) result (agg_at fuel (map grammar_symbol_of symbols.now)) }
 {
-    let (value, rest) = read_scalar(alloc, steps, symbols)?;
+    let (value, rest) = read_scalar(alloc, fuel, symbols)?;
     let (name, rest) = read_as(alloc, rest)?;
     Ok((Agg { value, name }, rest))
 }
 
 // AS and a name.
 fn read_as<'a>(alloc: Global, symbols: Symbols<'a>) -> Reading<'a, Text>
-    ensures { Gives (λ p. (p.0, map seen p.1.now)) result (as_at (map seen symbols.now)) }
+    ensures { ReturnsReading (λ p. (p.0, map grammar_symbol_of p.1.now)) result (as_at (map grammar_symbol_of symbols.now)) }
 {
     match symbols {
         [Symbol::As, Symbol::Name(name), rest @ ..] => Ok((name_text(alloc, name)?, rest)),

@@ -1,6 +1,6 @@
 //! From tokens to a file.
 ghost use Rattle.std.specs.Prelude.{◌≢◌, IfErr, IfOk};
-ghost use Rattle.cel_parser.specs.Faults.{IsRefused};
+ghost use Rattle.cel_parser.specs.Faults.{HasSyntaxFault};
 ghost use Rattle.cel_parser.specs.Filed.{Reads};
 
 use crate::fault::SyntaxFault;
@@ -13,7 +13,7 @@ use std::alloc::Global;
 /// The statements of a text, or its first fault.
 pub fn parse(alloc: Global, tokens: &Tokens<'_>) -> Result<File, SyntaxFault>
     ensures ok { IfOk result (λ file. Reads tokens.now.source file) }
-    ensures err { IfErr result (λ fault. fault ≢ SyntaxFault.Memory → IsRefused tokens.now.source fault) }
+    ensures err { IfErr result (λ fault. fault ≢ SyntaxFault.Memory → HasSyntaxFault tokens.now.source fault) }
 {
     let mut symbols = Vec::new(alloc);
     let mut statements = List::new(alloc);

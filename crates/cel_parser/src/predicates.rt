@@ -3,9 +3,9 @@ ghost use Rattle.std.specs.Prelude.{◌≡◌, ◌<◌, IfOk, IfErr, MatchResult
 ghost use Rattle.cel_grammar.specs.Parens.{holds_test};
 ghost use Rattle.cel_grammar.specs.Trees.{And, Or, Not};
 ghost use Rattle.cel_grammar.specs.Views.{pred_of};
-ghost use Rattle.cel_parser.specs.Gives.{Gives};
+ghost use Rattle.cel_parser.specs.ReturnsReading.{ReturnsReading};
 ghost use Rattle.cel_parser.specs.Grouping.{closed_at};
-ghost use Rattle.cel_parser.specs.Seen.{seen};
+ghost use Rattle.cel_parser.specs.GrammarSymbols.{grammar_symbol_of};
 ghost use Rattle.cel_parser.specs.PredicateReader.{compare_at, conj_at, conj_more, neg_at, pred_at, pred_more, prim_at, test_at};
 
 use crate::reading::{Reading, Symbols};
@@ -21,16 +21,16 @@ use std::alloc::Global;
 #[tactic(auto, unfolding(crate::specs::PredicateReader::pred_at))]
 pub(crate) fn read_predicate<'a>(
     alloc: Global,
-    steps: usize,
+    fuel: usize,
     symbols: Symbols<'a>,
 ) -> Reading<'a, RawPred>
-    ensures { Gives (λ p. (pred_of p.0, map seen p.1.now)) result (pred_at steps (map seen symbols.now)) }
+    ensures { ReturnsReading (λ p. (pred_of p.0, map grammar_symbol_of p.1.now)) result (pred_at fuel (map grammar_symbol_of symbols.now)) }
 {
-    if steps == 0 {
+    if fuel == 0 {
         return Err(Unread::Bad);
     }
-    let (p, rest) = read_conjunction(alloc, steps - 1, symbols)?;
-    go_on_predicate(alloc, steps - 1, p, rest)
+    let (p, rest) = read_conjunction(alloc, fuel - 1, symbols)?;
+    go_on_predicate(alloc, fuel - 1, p, rest)
 }
 
 // A predicate that begins with p.
@@ -38,19 +38,19 @@ pub(crate) fn read_predicate<'a>(
 #[tactic(auto, unfolding(crate::specs::PredicateReader::pred_at))]
 fn go_on_predicate<'a>(
     alloc: Global,
-    steps: usize,
+    fuel: usize,
     p: RawPred,
     symbols: Symbols<'a>,
 ) -> Reading<'a, RawPred>
-    ensures { Gives (λ q. (pred_of q.0, map seen q.1.now)) result (pred_more steps (pred_of p) (map seen symbols.now)) }
+    ensures { ReturnsReading (λ q. (pred_of q.0, map grammar_symbol_of q.1.now)) result (pred_more fuel (pred_of p) (map grammar_symbol_of symbols.now)) }
 {
-    if steps == 0 {
+    if fuel == 0 {
         return Err(Unread::Bad);
     }
     match symbols {
         [Symbol::Or, rest @ ..] => {
-            let (either, rest) = with_either(alloc, p, read_conjunction(alloc, steps - 1, rest))?;
-            go_on_predicate(alloc, steps - 1, either, rest)
+            let (either, rest) = with_either(alloc, p, read_conjunction(alloc, fuel - 1, rest))?;
+            go_on_predicate(alloc, fuel - 1, either, rest)
         }
         _ => Ok((p, symbols)),
     }
@@ -59,14 +59,14 @@ fn go_on_predicate<'a>(
 // A conjunction at the front.
 #[cycle(predicate)]
 #[tactic(auto, unfolding(crate::specs::PredicateReader::pred_at))]
-fn read_conjunction<'a>(alloc: Global, steps: usize, symbols: Symbols<'a>) -> Reading<'a, RawPred>
-    ensures { Gives (λ p. (pred_of p.0, map seen p.1.now)) result (conj_at steps (map seen symbols.now)) }
+fn read_conjunction<'a>(alloc: Global, fuel: usize, symbols: Symbols<'a>) -> Reading<'a, RawPred>
+    ensures { ReturnsReading (λ p. (pred_of p.0, map grammar_symbol_of p.1.now)) result (conj_at fuel (map grammar_symbol_of symbols.now)) }
 {
-    if steps == 0 {
+    if fuel == 0 {
         return Err(Unread::Bad);
     }
-    let (p, rest) = read_negation(alloc, steps - 1, symbols)?;
-    go_on_conjunction(alloc, steps - 1, p, rest)
+    let (p, rest) = read_negation(alloc, fuel - 1, symbols)?;
+    go_on_conjunction(alloc, fuel - 1, p, rest)
 }
 
 // A conjunction that begins with p.
@@ -74,19 +74,19 @@ fn read_conjunction<'a>(alloc: Global, steps: usize, symbols: Symbols<'a>) -> Re
 #[tactic(auto, unfolding(crate::specs::PredicateReader::pred_at))]
 fn go_on_conjunction<'a>(
     alloc: Global,
-    steps: usize,
+    fuel: usize,
     p: RawPred,
     symbols: Symbols<'a>,
 ) -> Reading<'a, RawPred>
-    ensures { Gives (λ q. (pred_of q.0, map seen q.1.now)) result (conj_more steps (pred_of p) (map seen symbols.now)) }
+    ensures { ReturnsReading (λ q. (pred_of q.0, map grammar_symbol_of q.1.now)) result (conj_more fuel (pred_of p) (map grammar_symbol_of symbols.now)) }
 {
-    if steps == 0 {
+    if fuel == 0 {
         return Err(Unread::Bad);
     }
     match symbols {
         [Symbol::And, rest @ ..] => {
-            let (both, rest) = with_both(alloc, p, read_negation(alloc, steps - 1, rest))?;
-            go_on_conjunction(alloc, steps - 1, both, rest)
+            let (both, rest) = with_both(alloc, p, read_negation(alloc, fuel - 1, rest))?;
+            go_on_conjunction(alloc, fuel - 1, both, rest)
         }
         _ => Ok((p, symbols)),
     }
@@ -95,57 +95,57 @@ fn go_on_conjunction<'a>(
 // A negation, or what may stand in its place.
 #[cycle(predicate)]
 #[tactic(auto, using(crate::proofs::PredicateNext::neg_next), unfolding(crate::specs::PredicateReader::pred_at))]
-fn read_negation<'a>(alloc: Global, steps: usize, symbols: Symbols<'a>) -> Reading<'a, RawPred>
-    ensures { Gives (λ p. (pred_of p.0, map seen p.1.now)) result (neg_at steps (map seen symbols.now)) }
+fn read_negation<'a>(alloc: Global, fuel: usize, symbols: Symbols<'a>) -> Reading<'a, RawPred>
+    ensures { ReturnsReading (λ p. (pred_of p.0, map grammar_symbol_of p.1.now)) result (neg_at fuel (map grammar_symbol_of symbols.now)) }
 {
-    if steps == 0 {
+    if fuel == 0 {
         return Err(Unread::Bad);
     }
     match symbols {
         [Symbol::Not, rest @ ..] => {
-            let (p, rest) = read_negation(alloc, steps - 1, rest)?;
+            let (p, rest) = read_negation(alloc, fuel - 1, rest)?;
             Ok((negated(alloc, p)?, rest))
         }
-        _ => read_primary(alloc, steps - 1, symbols),
+        _ => read_primary(alloc, fuel - 1, symbols),
     }
 }
 
 // TRUE, a comparison, or a predicate in parentheses.
 #[cycle(predicate)]
 #[tactic(auto, using(crate::proofs::PredicateNext::prim_next), unfolding(crate::specs::PredicateReader::pred_at))]
-fn read_primary<'a>(alloc: Global, steps: usize, symbols: Symbols<'a>) -> Reading<'a, RawPred>
-    ensures { Gives (λ p. (pred_of p.0, map seen p.1.now)) result (prim_at steps (map seen symbols.now)) }
+fn read_primary<'a>(alloc: Global, fuel: usize, symbols: Symbols<'a>) -> Reading<'a, RawPred>
+    ensures { ReturnsReading (λ p. (pred_of p.0, map grammar_symbol_of p.1.now)) result (prim_at fuel (map grammar_symbol_of symbols.now)) }
 {
-    if steps == 0 {
+    if fuel == 0 {
         return Err(Unread::Bad);
     }
     match symbols {
         [Symbol::True, rest @ ..] => Ok((RawPred::True, rest)),
         [Symbol::Open, rest @ ..] => {
             if has_test(rest) {
-                let (p, rest) = read_predicate(alloc, steps - 1, rest)?;
+                let (p, rest) = read_predicate(alloc, fuel - 1, rest)?;
                 closed(p, rest)
             } else {
-                read_test(alloc, steps - 1, symbols)
+                read_test(alloc, fuel - 1, symbols)
             }
         }
-        _ => read_test(alloc, steps - 1, symbols),
+        _ => read_test(alloc, fuel - 1, symbols),
     }
 }
 
 // Two scalars with a comparison between them.
 #[tactic(auto, unfolding(crate::specs::PredicateReader::test_at))]
-fn read_test<'a>(alloc: Global, steps: usize, symbols: Symbols<'a>) -> Reading<'a, RawPred>
-    ensures { Gives (λ p. (pred_of p.0, map seen p.1.now)) result (test_at steps (map seen symbols.now)) }
+fn read_test<'a>(alloc: Global, fuel: usize, symbols: Symbols<'a>) -> Reading<'a, RawPred>
+    ensures { ReturnsReading (λ p. (pred_of p.0, map grammar_symbol_of p.1.now)) result (test_at fuel (map grammar_symbol_of symbols.now)) }
 {
-    let (x, rest) = read_scalar(alloc, steps, symbols)?;
+    let (x, rest) = read_scalar(alloc, fuel, symbols)?;
     let (comparison, rest) = read_comparison(rest)?;
-    let (y, rest) = read_scalar(alloc, steps, rest)?;
+    let (y, rest) = read_scalar(alloc, fuel, rest)?;
     Ok((RawPred::Test(x, comparison, y), rest))
 }
 
 fn read_comparison<'a>(symbols: Symbols<'a>) -> Reading<'a, Cmp>
-    ensures { Gives (λ p. (p.0, map seen p.1.now)) result (compare_at (map seen symbols.now)) }
+    ensures { ReturnsReading (λ p. (p.0, map grammar_symbol_of p.1.now)) result (compare_at (map grammar_symbol_of symbols.now)) }
 {
     match symbols {
         [Symbol::Compare(comparison), rest @ ..] => Ok((*comparison, rest)),
@@ -156,7 +156,7 @@ fn read_comparison<'a>(symbols: Symbols<'a>) -> Reading<'a, Cmp>
 // Whether a comparison, TRUE, NOT, AND or OR stands before the open parenthesis closes.
 #[tactic(auto, using(crate::proofs::PredicateNext::holds_next))]
 fn has_test(symbols: &[Symbol<'_>]) -> bool
-    ensures { result ≡ holds_test 0 (map seen symbols.now) }
+    ensures { result ≡ holds_test 0 (map grammar_symbol_of symbols.now) }
 {
     let mut open: usize = 0;
     for symbol in symbols {
@@ -209,7 +209,7 @@ fn negated(alloc: Global, p: RawPred) -> Result<RawPred, Unread>
 
 // A predicate that was read, where its parenthesis closes.
 fn closed<'a>(p: RawPred, symbols: Symbols<'a>) -> Reading<'a, RawPred>
-    ensures { Gives (λ q. (pred_of q.0, map seen q.1.now)) result (closed_at (pred_of p) (map seen symbols.now)) }
+    ensures { ReturnsReading (λ q. (pred_of q.0, map grammar_symbol_of q.1.now)) result (closed_at (pred_of p) (map grammar_symbol_of symbols.now)) }
 {
     match symbols {
         [Symbol::Close, rest @ ..] => Ok((p, rest)),

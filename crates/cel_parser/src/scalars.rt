@@ -2,10 +2,10 @@
 ghost use Rattle.std.specs.Prelude.{◌≡◌, ◌<◌, IfOk, IfErr, map, pos};
 ghost use Rattle.cel_grammar.specs.Trees.{Two};
 ghost use Rattle.cel_grammar.specs.Views.{scalar_of};
-ghost use Rattle.cel_parser.specs.Gives.{Gives};
+ghost use Rattle.cel_parser.specs.ReturnsReading.{ReturnsReading};
 ghost use Rattle.cel_parser.specs.Numbers.{counted};
 ghost use Rattle.cel_parser.specs.Operations.{op_of};
-ghost use Rattle.cel_parser.specs.Seen.{seen};
+ghost use Rattle.cel_parser.specs.GrammarSymbols.{grammar_symbol_of};
 ghost use Rattle.cel_parser.specs.ScalarReader.{both_at, factor_at, name_at, number_at, product_at, product_more, scalar_at, scalar_more};
 
 use crate::literals::{literal_text, name_text};
@@ -19,35 +19,35 @@ use std::alloc::Global;
 /// A scalar at the front, and the symbols behind it.
 #[cycle(scalar)]
 #[tactic(auto, unfolding(crate::specs::ScalarReader::scalar_at))]
-pub(crate) fn read_scalar<'a>(alloc: Global, steps: usize, symbols: Symbols<'a>) -> Reading<'a, Raw>
-    ensures { Gives (λ p. (scalar_of p.0, map seen p.1.now)) result (scalar_at steps (map seen symbols.now)) }
+pub(crate) fn read_scalar<'a>(alloc: Global, fuel: usize, symbols: Symbols<'a>) -> Reading<'a, Raw>
+    ensures { ReturnsReading (λ p. (scalar_of p.0, map grammar_symbol_of p.1.now)) result (scalar_at fuel (map grammar_symbol_of symbols.now)) }
 {
-    if steps == 0 {
+    if fuel == 0 {
         return Err(Unread::Bad);
     }
-    let (x, rest) = read_product(alloc, steps - 1, symbols)?;
-    go_on_scalar(alloc, steps - 1, x, rest)
+    let (x, rest) = read_product(alloc, fuel - 1, symbols)?;
+    go_on_scalar(alloc, fuel - 1, x, rest)
 }
 
 // A scalar that begins with x.
 #[cycle(scalar)]
 #[tactic(auto, unfolding(crate::specs::ScalarReader::scalar_at))]
-fn go_on_scalar<'a>(alloc: Global, steps: usize, x: Raw, symbols: Symbols<'a>) -> Reading<'a, Raw>
-    ensures { Gives (λ p. (scalar_of p.0, map seen p.1.now)) result (scalar_more steps (scalar_of x) (map seen symbols.now)) }
+fn go_on_scalar<'a>(alloc: Global, fuel: usize, x: Raw, symbols: Symbols<'a>) -> Reading<'a, Raw>
+    ensures { ReturnsReading (λ p. (scalar_of p.0, map grammar_symbol_of p.1.now)) result (scalar_more fuel (scalar_of x) (map grammar_symbol_of symbols.now)) }
 {
-    if steps == 0 {
+    if fuel == 0 {
         return Err(Unread::Bad);
     }
     match symbols {
         [Symbol::Plus, rest @ ..] => {
-            let (more, rest) = read_product(alloc, steps - 1, rest)?;
+            let (more, rest) = read_product(alloc, fuel - 1, rest)?;
             let sum = joined(alloc, Operation::Add, x, more)?;
-            go_on_scalar(alloc, steps - 1, sum, rest)
+            go_on_scalar(alloc, fuel - 1, sum, rest)
         }
         [Symbol::Minus, rest @ ..] => {
-            let (less, rest) = read_product(alloc, steps - 1, rest)?;
+            let (less, rest) = read_product(alloc, fuel - 1, rest)?;
             let difference = joined(alloc, Operation::Sub, x, less)?;
-            go_on_scalar(alloc, steps - 1, difference, rest)
+            go_on_scalar(alloc, fuel - 1, difference, rest)
         }
         _ => Ok((x, symbols)),
     }
@@ -56,30 +56,30 @@ fn go_on_scalar<'a>(alloc: Global, steps: usize, x: Raw, symbols: Symbols<'a>) -
 // A product at the front.
 #[cycle(scalar)]
 #[tactic(auto, unfolding(crate::specs::ScalarReader::scalar_at))]
-fn read_product<'a>(alloc: Global, steps: usize, symbols: Symbols<'a>) -> Reading<'a, Raw>
-    ensures { Gives (λ p. (scalar_of p.0, map seen p.1.now)) result (product_at steps (map seen symbols.now)) }
+fn read_product<'a>(alloc: Global, fuel: usize, symbols: Symbols<'a>) -> Reading<'a, Raw>
+    ensures { ReturnsReading (λ p. (scalar_of p.0, map grammar_symbol_of p.1.now)) result (product_at fuel (map grammar_symbol_of symbols.now)) }
 {
-    if steps == 0 {
+    if fuel == 0 {
         return Err(Unread::Bad);
     }
-    let (x, rest) = read_factor(alloc, steps - 1, symbols)?;
-    go_on_product(alloc, steps - 1, x, rest)
+    let (x, rest) = read_factor(alloc, fuel - 1, symbols)?;
+    go_on_product(alloc, fuel - 1, x, rest)
 }
 
 // A product that begins with x.
 #[cycle(scalar)]
 #[tactic(auto, unfolding(crate::specs::ScalarReader::scalar_at))]
-fn go_on_product<'a>(alloc: Global, steps: usize, x: Raw, symbols: Symbols<'a>) -> Reading<'a, Raw>
-    ensures { Gives (λ p. (scalar_of p.0, map seen p.1.now)) result (product_more steps (scalar_of x) (map seen symbols.now)) }
+fn go_on_product<'a>(alloc: Global, fuel: usize, x: Raw, symbols: Symbols<'a>) -> Reading<'a, Raw>
+    ensures { ReturnsReading (λ p. (scalar_of p.0, map grammar_symbol_of p.1.now)) result (product_more fuel (scalar_of x) (map grammar_symbol_of symbols.now)) }
 {
-    if steps == 0 {
+    if fuel == 0 {
         return Err(Unread::Bad);
     }
     match symbols {
         [Symbol::Star, rest @ ..] => {
-            let (y, rest) = read_factor(alloc, steps - 1, rest)?;
+            let (y, rest) = read_factor(alloc, fuel - 1, rest)?;
             let product = joined(alloc, Operation::Mul, x, y)?;
-            go_on_product(alloc, steps - 1, product, rest)
+            go_on_product(alloc, fuel - 1, product, rest)
         }
         _ => Ok((x, symbols)),
     }
@@ -88,10 +88,10 @@ fn go_on_product<'a>(alloc: Global, steps: usize, x: Raw, symbols: Symbols<'a>) 
 // A factor at the front.
 #[cycle(scalar)]
 #[tactic(auto, unfolding(crate::specs::ScalarReader::scalar_at))]
-fn read_factor<'a>(alloc: Global, steps: usize, symbols: Symbols<'a>) -> Reading<'a, Raw>
-    ensures { Gives (λ p. (scalar_of p.0, map seen p.1.now)) result (factor_at steps (map seen symbols.now)) }
+fn read_factor<'a>(alloc: Global, fuel: usize, symbols: Symbols<'a>) -> Reading<'a, Raw>
+    ensures { ReturnsReading (λ p. (scalar_of p.0, map grammar_symbol_of p.1.now)) result (factor_at fuel (map grammar_symbol_of symbols.now)) }
 {
-    if steps == 0 {
+    if fuel == 0 {
         return Err(Unread::Bad);
     }
     match symbols {
@@ -109,10 +109,10 @@ fn read_factor<'a>(alloc: Global, steps: usize, symbols: Symbols<'a>) -> Reading
         [Symbol::Dollar2, rest @ ..] => read_marked(alloc, Mark::Second, rest),
         [Symbol::Dollar, rest @ ..] => read_marked(alloc, Mark::So, rest),
         [Symbol::Dur, rest @ ..] => Ok((Raw::Dur, rest)),
-        [Symbol::Min, rest @ ..] => read_two(alloc, steps - 1, Operation::Min, rest),
-        [Symbol::Max, rest @ ..] => read_two(alloc, steps - 1, Operation::Max, rest),
+        [Symbol::Min, rest @ ..] => read_two(alloc, fuel - 1, Operation::Min, rest),
+        [Symbol::Max, rest @ ..] => read_two(alloc, fuel - 1, Operation::Max, rest),
         [Symbol::Open, rest @ ..] => {
-            let (x, rest) = read_scalar(alloc, steps - 1, rest)?;
+            let (x, rest) = read_scalar(alloc, fuel - 1, rest)?;
             let rest = after_close(rest)?;
             Ok((x, rest))
         }
@@ -125,19 +125,19 @@ fn read_factor<'a>(alloc: Global, steps: usize, symbols: Symbols<'a>) -> Reading
 #[tactic(auto, unfolding(crate::specs::ScalarReader::scalar_at))]
 fn read_two<'a>(
     alloc: Global,
-    steps: usize,
+    fuel: usize,
     operation: Operation,
     symbols: Symbols<'a>,
 ) -> Reading<'a, Raw>
-    ensures { Gives (λ p. (scalar_of p.0, map seen p.1.now)) result (both_at steps (op_of operation) (map seen symbols.now)) }
+    ensures { ReturnsReading (λ p. (scalar_of p.0, map grammar_symbol_of p.1.now)) result (both_at fuel (op_of operation) (map grammar_symbol_of symbols.now)) }
 {
-    if steps == 0 {
+    if fuel == 0 {
         return Err(Unread::Bad);
     }
     let rest = after_open(symbols)?;
-    let (x, rest) = read_scalar(alloc, steps - 1, rest)?;
+    let (x, rest) = read_scalar(alloc, fuel - 1, rest)?;
     let rest = after_comma(rest)?;
-    let (y, rest) = read_scalar(alloc, steps - 1, rest)?;
+    let (y, rest) = read_scalar(alloc, fuel - 1, rest)?;
     let rest = after_close(rest)?;
     Ok((joined(alloc, operation, x, y)?, rest))
 }
@@ -169,7 +169,7 @@ fn joined(alloc: Global, operation: Operation, x: Raw, y: Raw) -> Result<Raw, Un
 
 // A number behind a minus.
 fn read_negative<'a>(symbols: Symbols<'a>) -> Reading<'a, Raw>
-    ensures { Gives (λ p. (scalar_of p.0, map seen p.1.now)) result (number_at (map seen symbols.now)) }
+    ensures { ReturnsReading (λ p. (scalar_of p.0, map grammar_symbol_of p.1.now)) result (number_at (map grammar_symbol_of symbols.now)) }
 {
     match symbols {
         [Symbol::Number(n), rest @ ..] => Ok((Raw::Number(0 - plain(*n)), rest)),
@@ -179,7 +179,7 @@ fn read_negative<'a>(symbols: Symbols<'a>) -> Reading<'a, Raw>
 
 // A point and a name behind a mark.
 fn read_marked<'a>(alloc: Global, mark: Mark, symbols: Symbols<'a>) -> Reading<'a, Raw>
-    ensures { Gives (λ p. (scalar_of p.0, map seen p.1.now)) result (name_at mark (map seen symbols.now)) }
+    ensures { ReturnsReading (λ p. (scalar_of p.0, map grammar_symbol_of p.1.now)) result (name_at mark (map grammar_symbol_of symbols.now)) }
 {
     match symbols {
         [Symbol::Dot, Symbol::Name(name), rest @ ..] => Ok((

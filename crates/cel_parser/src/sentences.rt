@@ -1,12 +1,12 @@
 //! Sentences: what stands up to each semicolon.
 ghost use Rattle.std.specs.Prelude.{◌≡◌, ◌≢◌, ◌<◌, ◌≤◌, ◌∷◌, length, map, slice_get, option_map, IfErr, IfOk, Some};
-ghost use Rattle.cel_grammar.specs.Sentences.{Says, is_deep};
+ghost use Rattle.cel_grammar.specs.Sentences.{IsSentenceOf, is_deep};
 ghost use Rattle.cel_grammar.specs.Spellings.{symbol_of};
 ghost use Rattle.cel_grammar.specs.Views.{statement_of};
 ghost use Rattle.cel_lexer.specs.Listing.{spelling};
 ghost use Rattle.cel_parser.specs.Cutting.{ended_on, left_at};
 ghost use Rattle.cel_parser.specs.Faults.{Explains, IsFaulty};
-ghost use Rattle.cel_parser.specs.Seen.{seen};
+ghost use Rattle.cel_parser.specs.GrammarSymbols.{grammar_symbol_of};
 
 use crate::fault::SyntaxFault;
 use crate::statements::read_statement;
@@ -33,7 +33,7 @@ pub(crate) fn cut<'a>(
     symbols: &mut Vec<Symbol<'a>>,
 ) -> Result<usize, SyntaxFault>
     requires first { option_map (λ token. token.line) (slice_get tokens.now.items at) ≡ Some line }
-    ensures ok { IfOk result (λ next. left_at tokens.now at ≡ ended_on line (map seen symbols.new.items) ∷ left_at tokens.now next) }
+    ensures ok { IfOk result (λ next. left_at tokens.now at ≡ ended_on line (map grammar_symbol_of symbols.new.items) ∷ left_at tokens.now next) }
     ensures further { IfOk result (λ next. at < next) }
     ensures within { IfOk result (λ next. next ≤ length tokens.now.items) }
     ensures err { IfErr result (λ fault. fault ≢ SyntaxFault.Memory → Explains number (left_at tokens.now at) fault) }
@@ -58,8 +58,8 @@ pub(crate) fn read(
     number: u64,
     line: u64,
 ) -> Result<Statement, SyntaxFault>
-    ensures ok { IfOk result (λ s. Says (ended_on line (map seen symbols.now)) (statement_of s)) }
-    ensures err { IfErr result (λ fault. fault ≢ SyntaxFault.Memory → IsFaulty number (ended_on line (map seen symbols.now)) fault) }
+    ensures ok { IfOk result (λ s. IsSentenceOf (ended_on line (map grammar_symbol_of symbols.now)) (statement_of s)) }
+    ensures err { IfErr result (λ fault. fault ≢ SyntaxFault.Memory → IsFaulty number (ended_on line (map grammar_symbol_of symbols.now)) fault) }
 {
     if symbols.len() > MOST {
         return Err(SyntaxFault::TooManyTokens { number, line });
@@ -77,7 +77,7 @@ pub(crate) fn read(
 // The symbol of the token at a place.
 fn symbol_at<'a>(tokens: &Tokens<'a>, place: usize) -> Symbol<'a>
     requires { place < length tokens.now.items }
-    ensures { option_map (λ token. symbol_of token.what (spelling tokens.now.source token)) (slice_get tokens.now.items place) ≡ Some (seen result) }
+    ensures { option_map (λ token. symbol_of token.what (spelling tokens.now.source token)) (slice_get tokens.now.items place) ≡ Some (grammar_symbol_of result) }
 {
     let token = *tokens.get(place);
     symbol_of(token.what, tokens.text(place))
@@ -85,7 +85,7 @@ fn symbol_at<'a>(tokens: &Tokens<'a>, place: usize) -> Symbol<'a>
 
 // Whether too many parentheses and braces are open at some symbol.
 fn is_deep(symbols: &[Symbol<'_>]) -> bool
-    ensures { result ≡ is_deep 0 (map seen symbols.now) }
+    ensures { result ≡ is_deep 0 (map grammar_symbol_of symbols.now) }
 {
     let mut open: usize = 0;
     for symbol in symbols {

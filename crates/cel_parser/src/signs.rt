@@ -1,7 +1,7 @@
 //! Signs between the parts of a tree.
 ghost use Rattle.std.specs.Prelude.{◌≡◌, map};
-ghost use Rattle.cel_parser.specs.Gives.{Gives};
-ghost use Rattle.cel_parser.specs.Seen.{seen};
+ghost use Rattle.cel_parser.specs.ReturnsReading.{ReturnsReading};
+ghost use Rattle.cel_parser.specs.GrammarSymbols.{grammar_symbol_of};
 ghost use Rattle.cel_parser.specs.ScalarReader.{close_at, comma_at, open_at};
 ghost use Rattle.cel_parser.specs.SourceReader.{brace_at, from_at};
 
@@ -11,7 +11,7 @@ use crate::unread::Unread;
 
 /// The symbols behind an opening parenthesis.
 pub(crate) fn after_open<'a>(symbols: Symbols<'a>) -> Result<Symbols<'a>, Unread>
-    ensures { Gives (λ rest. map seen rest.now) result (open_at (map seen symbols.now)) }
+    ensures { ReturnsReading (λ rest. map grammar_symbol_of rest.now) result (open_at (map grammar_symbol_of symbols.now)) }
 {
     match symbols {
         [Symbol::Open, rest @ ..] => Ok(rest),
@@ -21,7 +21,7 @@ pub(crate) fn after_open<'a>(symbols: Symbols<'a>) -> Result<Symbols<'a>, Unread
 
 /// The symbols behind a comma.
 pub(crate) fn after_comma<'a>(symbols: Symbols<'a>) -> Result<Symbols<'a>, Unread>
-    ensures { Gives (λ rest. map seen rest.now) result (comma_at (map seen symbols.now)) }
+    ensures { ReturnsReading (λ rest. map grammar_symbol_of rest.now) result (comma_at (map grammar_symbol_of symbols.now)) }
 {
     match symbols {
         [Symbol::Comma, rest @ ..] => Ok(rest),
@@ -31,7 +31,7 @@ pub(crate) fn after_comma<'a>(symbols: Symbols<'a>) -> Result<Symbols<'a>, Unrea
 
 /// The symbols behind a closing parenthesis.
 pub(crate) fn after_close<'a>(symbols: Symbols<'a>) -> Result<Symbols<'a>, Unread>
-    ensures { Gives (λ rest. map seen rest.now) result (close_at (map seen symbols.now)) }
+    ensures { ReturnsReading (λ rest. map grammar_symbol_of rest.now) result (close_at (map grammar_symbol_of symbols.now)) }
 {
     match symbols {
         [Symbol::Close, rest @ ..] => Ok(rest),
@@ -41,7 +41,7 @@ pub(crate) fn after_close<'a>(symbols: Symbols<'a>) -> Result<Symbols<'a>, Unrea
 
 /// The symbols behind a closing brace.
 pub(crate) fn after_brace<'a>(symbols: Symbols<'a>) -> Result<Symbols<'a>, Unread>
-    ensures { Gives (λ rest. map seen rest.now) result (brace_at (map seen symbols.now)) }
+    ensures { ReturnsReading (λ rest. map grammar_symbol_of rest.now) result (brace_at (map grammar_symbol_of symbols.now)) }
 {
     match symbols {
         [Symbol::BraceClose, rest @ ..] => Ok(rest),
@@ -51,7 +51,7 @@ pub(crate) fn after_brace<'a>(symbols: Symbols<'a>) -> Result<Symbols<'a>, Unrea
 
 /// The symbols behind FROM.
 pub(crate) fn after_from<'a>(symbols: Symbols<'a>) -> Result<Symbols<'a>, Unread>
-    ensures { Gives (λ rest. map seen rest.now) result (from_at (map seen symbols.now)) }
+    ensures { ReturnsReading (λ rest. map grammar_symbol_of rest.now) result (from_at (map grammar_symbol_of symbols.now)) }
 {
     match symbols {
         [Symbol::From, rest @ ..] => Ok(rest),

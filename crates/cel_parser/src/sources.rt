@@ -2,9 +2,9 @@
 ghost use Rattle.std.specs.Prelude.{◌≡◌, ◌<◌, IfOk, IfErr, MatchResult, Err, map};
 ghost use Rattle.cel_grammar.specs.Trees.{Filter, Select};
 ghost use Rattle.cel_grammar.specs.Views.{item_of, pred_of, source_of};
-ghost use Rattle.cel_parser.specs.Gives.{Gives};
+ghost use Rattle.cel_parser.specs.ReturnsReading.{ReturnsReading};
 ghost use Rattle.cel_parser.specs.Links.{link_of, linked};
-ghost use Rattle.cel_parser.specs.Seen.{seen};
+ghost use Rattle.cel_parser.specs.GrammarSymbols.{grammar_symbol_of};
 ghost use Rattle.cel_parser.specs.Terms.{filter_at, inner_at, linked_at, selection_at, term_step};
 ghost use Rattle.cel_parser.specs.SourceReader.{source_at, source_more, term_at};
 
@@ -23,16 +23,16 @@ use std::alloc::Global;
 #[tactic(auto, unfolding(crate::specs::SourceReader::source_at))]
 pub(crate) fn read_source<'a>(
     alloc: Global,
-    steps: usize,
+    fuel: usize,
     symbols: Symbols<'a>,
 ) -> Reading<'a, Box<Source>>
-    ensures { Gives (λ e. (source_of e.0.value, map seen e.1.now)) result (source_at steps (map seen symbols.now)) }
+    ensures { ReturnsReading (λ e. (source_of e.0.value, map grammar_symbol_of e.1.now)) result (source_at fuel (map grammar_symbol_of symbols.now)) }
 {
-    if steps == 0 {
+    if fuel == 0 {
         return Err(Unread::Bad);
     }
-    let (term, rest) = read_term(alloc, steps - 1, symbols)?;
-    go_on_source(alloc, steps - 1, term, rest)
+    let (term, rest) = read_term(alloc, fuel - 1, symbols)?;
+    go_on_source(alloc, fuel - 1, term, rest)
 }
 
 // A source that begins with one.
@@ -40,17 +40,17 @@ pub(crate) fn read_source<'a>(
 #[tactic(auto, using(crate::proofs::SourceNext::source_more_next, crate::proofs::SourceNext::source_more_none))]
 fn go_on_source<'a>(
     alloc: Global,
-    steps: usize,
+    fuel: usize,
     left: Box<Source>,
     symbols: Symbols<'a>,
 ) -> Reading<'a, Box<Source>>
-    ensures { Gives (λ e. (source_of e.0.value, map seen e.1.now)) result (source_more steps (source_of left.value) (map seen symbols.now)) }
+    ensures { ReturnsReading (λ e. (source_of e.0.value, map grammar_symbol_of e.1.now)) result (source_more fuel (source_of left.value) (map grammar_symbol_of symbols.now)) }
 {
-    if steps == 0 {
+    if fuel == 0 {
         return Err(Unread::Bad);
     }
     if is_link(symbols) {
-        return link_source(alloc, steps - 1, left, symbols);
+        return link_source(alloc, fuel - 1, left, symbols);
     }
     Ok((left, symbols))
 }
@@ -60,39 +60,39 @@ fn go_on_source<'a>(
 #[tactic(auto, unfolding(crate::specs::Terms::linked_at))]
 fn link_source<'a>(
     alloc: Global,
-    steps: usize,
+    fuel: usize,
     left: Box<Source>,
     symbols: Symbols<'a>,
 ) -> Reading<'a, Box<Source>>
-    ensures { Gives (λ e. (source_of e.0.value, map seen e.1.now)) result (linked_at steps (source_of left.value) (map seen symbols.now)) }
+    ensures { ReturnsReading (λ e. (source_of e.0.value, map grammar_symbol_of e.1.now)) result (linked_at fuel (source_of left.value) (map grammar_symbol_of symbols.now)) }
 {
-    let (link, rest) = read_link(alloc, steps, symbols)?;
-    let (source, rest) = with_link(alloc, left, link, read_term(alloc, steps, rest))?;
-    go_on_source(alloc, steps, source, rest)
+    let (link, rest) = read_link(alloc, fuel, symbols)?;
+    let (source, rest) = with_link(alloc, left, link, read_term(alloc, fuel, rest))?;
+    go_on_source(alloc, fuel, source, rest)
 }
 
 // A term at the front.
 #[cycle(source)]
 #[tactic(auto, using(crate::proofs::SourceNext::term_next, crate::proofs::SourceNext::term_none))]
-fn read_term<'a>(alloc: Global, steps: usize, symbols: Symbols<'a>) -> Reading<'a, Box<Source>>
-    ensures { Gives (λ e. (source_of e.0.value, map seen e.1.now)) result (term_at steps (map seen symbols.now)) }
+fn read_term<'a>(alloc: Global, fuel: usize, symbols: Symbols<'a>) -> Reading<'a, Box<Source>>
+    ensures { ReturnsReading (λ e. (source_of e.0.value, map grammar_symbol_of e.1.now)) result (term_at fuel (map grammar_symbol_of symbols.now)) }
 {
-    if steps == 0 {
+    if fuel == 0 {
         return Err(Unread::Bad);
     }
-    term_by_sign(alloc, steps - 1, symbols)
+    term_by_sign(alloc, fuel - 1, symbols)
 }
 
 // A term by what it begins with.
 #[cycle(source)]
 #[tactic(auto, unfolding(crate::specs::Terms::term_step))]
-fn term_by_sign<'a>(alloc: Global, steps: usize, symbols: Symbols<'a>) -> Reading<'a, Box<Source>>
-    ensures { Gives (λ e. (source_of e.0.value, map seen e.1.now)) result (term_step steps (map seen symbols.now)) }
+fn term_by_sign<'a>(alloc: Global, fuel: usize, symbols: Symbols<'a>) -> Reading<'a, Box<Source>>
+    ensures { ReturnsReading (λ e. (source_of e.0.value, map grammar_symbol_of e.1.now)) result (term_step fuel (map grammar_symbol_of symbols.now)) }
 {
     match symbols {
         [Symbol::Name(name), rest @ ..] => Ok((named(alloc, name)?, rest)),
-        [Symbol::Open, rest @ ..] => read_inner(alloc, steps, rest),
-        [Symbol::Filter, Symbol::BraceOpen, rest @ ..] => read_filter(alloc, steps, rest),
+        [Symbol::Open, rest @ ..] => read_inner(alloc, fuel, rest),
+        [Symbol::Filter, Symbol::BraceOpen, rest @ ..] => read_filter(alloc, fuel, rest),
         _ => Err(Unread::Bad),
     }
 }
@@ -100,13 +100,13 @@ fn term_by_sign<'a>(alloc: Global, steps: usize, symbols: Symbols<'a>) -> Readin
 // What stands in a parenthesis: a SELECT or a source.
 #[cycle(source)]
 #[tactic(auto, unfolding(crate::specs::Terms::inner_at))]
-fn read_inner<'a>(alloc: Global, steps: usize, symbols: Symbols<'a>) -> Reading<'a, Box<Source>>
-    ensures { Gives (λ e. (source_of e.0.value, map seen e.1.now)) result (inner_at steps (map seen symbols.now)) }
+fn read_inner<'a>(alloc: Global, fuel: usize, symbols: Symbols<'a>) -> Reading<'a, Box<Source>>
+    ensures { ReturnsReading (λ e. (source_of e.0.value, map grammar_symbol_of e.1.now)) result (inner_at fuel (map grammar_symbol_of symbols.now)) }
 {
     match symbols {
-        [Symbol::Select, rest @ ..] => read_selection(alloc, steps, rest),
+        [Symbol::Select, rest @ ..] => read_selection(alloc, fuel, rest),
         _ => {
-            let (source, rest) = read_source(alloc, steps, symbols)?;
+            let (source, rest) = read_source(alloc, fuel, symbols)?;
             let rest = after_close(rest)?;
             Ok((source, rest))
         }
@@ -116,12 +116,12 @@ fn read_inner<'a>(alloc: Global, steps: usize, symbols: Symbols<'a>) -> Reading<
 // A SELECT behind its word.
 #[cycle(source)]
 #[tactic(auto, unfolding(crate::specs::Terms::selection_at))]
-fn read_selection<'a>(alloc: Global, steps: usize, symbols: Symbols<'a>) -> Reading<'a, Box<Source>>
-    ensures { Gives (λ e. (source_of e.0.value, map seen e.1.now)) result (selection_at steps (map seen symbols.now)) }
+fn read_selection<'a>(alloc: Global, fuel: usize, symbols: Symbols<'a>) -> Reading<'a, Box<Source>>
+    ensures { ReturnsReading (λ e. (source_of e.0.value, map grammar_symbol_of e.1.now)) result (selection_at fuel (map grammar_symbol_of symbols.now)) }
 {
-    let (items, rest) = read_items(alloc, steps, symbols)?;
+    let (items, rest) = read_items(alloc, fuel, symbols)?;
     let rest = after_from(rest)?;
-    let (source, rest) = read_source(alloc, steps, rest)?;
+    let (source, rest) = read_source(alloc, fuel, rest)?;
     let rest = after_close(rest)?;
     Ok((selected(alloc, items, source)?, rest))
 }
@@ -129,11 +129,11 @@ fn read_selection<'a>(alloc: Global, steps: usize, symbols: Symbols<'a>) -> Read
 // A FILTER behind the opening brace.
 #[cycle(source)]
 #[tactic(auto, unfolding(crate::specs::Terms::filter_at))]
-fn read_filter<'a>(alloc: Global, steps: usize, symbols: Symbols<'a>) -> Reading<'a, Box<Source>>
-    ensures { Gives (λ e. (source_of e.0.value, map seen e.1.now)) result (filter_at steps (map seen symbols.now)) }
+fn read_filter<'a>(alloc: Global, fuel: usize, symbols: Symbols<'a>) -> Reading<'a, Box<Source>>
+    ensures { ReturnsReading (λ e. (source_of e.0.value, map grammar_symbol_of e.1.now)) result (filter_at fuel (map grammar_symbol_of symbols.now)) }
 {
-    let (condition, rest) = read_condition(alloc, steps, symbols)?;
-    with_condition(alloc, condition, read_term(alloc, steps, rest))
+    let (condition, rest) = read_condition(alloc, fuel, symbols)?;
+    with_condition(alloc, condition, read_term(alloc, fuel, rest))
 }
 
 fn named(alloc: Global, name: &str) -> Result<Box<Source>, Unread>

@@ -4,8 +4,8 @@ ghost use Rattle.cel_grammar.specs.Statements.{IsStatement};
 ghost use Rattle.cel_grammar.specs.Trees as tree;
 ghost use Rattle.cel_grammar.specs.Views.{statement_of};
 ghost use Rattle.cel_parser.specs.Columns.{declaration_at, ended_at, query_at, statement_step, whole_at};
-ghost use Rattle.cel_parser.specs.Gives.{Gives};
-ghost use Rattle.cel_parser.specs.Seen.{seen};
+ghost use Rattle.cel_parser.specs.ReturnsReading.{ReturnsReading};
+ghost use Rattle.cel_parser.specs.GrammarSymbols.{grammar_symbol_of};
 ghost use Rattle.cel_parser.specs.StatementReader.{publish_at};
 
 use crate::columns::read_columns;
@@ -26,8 +26,8 @@ const STEPS: usize = 16;
 /// The statement that these symbols are, without a semicolon.
 pub fn read_statement(alloc: Global, symbols: &[Symbol<'_>]) -> Result<Statement, Unread>
     requires { length symbols.now ≤ 1024 }
-    ensures ok { IfOk result (λ s. IsStatement (map seen symbols.now) (statement_of s) []) }
-    ensures bad { result ≡ Err Unread.Bad → (s : tree.Statement) → IsStatement (map seen symbols.now) s [] → ⊥ }
+    ensures ok { IfOk result (λ s. IsStatement (map grammar_symbol_of symbols.now) (statement_of s) []) }
+    ensures bad { result ≡ Err Unread.Bad → (s : tree.Statement) → IsStatement (map grammar_symbol_of symbols.now) s [] → ⊥ }
 {
     read_whole(alloc, symbols)
 }
@@ -36,7 +36,7 @@ pub fn read_statement(alloc: Global, symbols: &[Symbol<'_>]) -> Result<Statement
 #[tactic(auto, unfolding(crate::specs::Columns::whole_at))]
 fn read_whole(alloc: Global, symbols: &[Symbol<'_>]) -> Result<Statement, Unread>
     requires { length symbols.now ≤ 1024 }
-    ensures { Gives statement_of result (whole_at (16 * length symbols.now) (map seen symbols.now)) }
+    ensures { ReturnsReading statement_of result (whole_at (16 * length symbols.now) (map grammar_symbol_of symbols.now)) }
 {
     let (statement, rest) = read_by_word(alloc, STEPS * symbols.len(), symbols)?;
     ended(statement, rest)
@@ -44,7 +44,7 @@ fn read_whole(alloc: Global, symbols: &[Symbol<'_>]) -> Result<Statement, Unread
 
 // A statement, where no symbols follow it.
 fn ended(statement: Statement, rest: &[Symbol<'_>]) -> Result<Statement, Unread>
-    ensures { Gives statement_of result (ended_at (statement_of statement) (map seen rest.now)) }
+    ensures { ReturnsReading statement_of result (ended_at (statement_of statement) (map grammar_symbol_of rest.now)) }
 {
     match rest {
         [] => Ok(statement),
@@ -54,24 +54,24 @@ fn ended(statement: Statement, rest: &[Symbol<'_>]) -> Result<Statement, Unread>
 
 // A statement by its word.
 #[tactic(auto, unfolding(crate::specs::Columns::statement_step))]
-fn read_by_word<'a>(alloc: Global, steps: usize, symbols: Symbols<'a>) -> Reading<'a, Statement>
-    ensures { Gives (λ s. (statement_of s.0, map seen s.1.now)) result (statement_step steps (map seen symbols.now)) }
+fn read_by_word<'a>(alloc: Global, fuel: usize, symbols: Symbols<'a>) -> Reading<'a, Statement>
+    ensures { ReturnsReading (λ s. (statement_of s.0, map grammar_symbol_of s.1.now)) result (statement_step fuel (map grammar_symbol_of symbols.now)) }
 {
     match symbols {
-        [Symbol::Stream, rest @ ..] => read_declaration(alloc, steps, rest),
-        [Symbol::Select, rest @ ..] => read_query(alloc, steps, rest),
+        [Symbol::Stream, rest @ ..] => read_declaration(alloc, fuel, rest),
+        [Symbol::Select, rest @ ..] => read_query(alloc, fuel, rest),
         _ => Err(Unread::Bad),
     }
 }
 
 // A declaration behind its word.
 #[tactic(auto, unfolding(crate::specs::Columns::declaration_at))]
-fn read_declaration<'a>(alloc: Global, steps: usize, symbols: Symbols<'a>) -> Reading<'a, Statement>
-    ensures { Gives (λ s. (statement_of s.0, map seen s.1.now)) result (declaration_at steps (map seen symbols.now)) }
+fn read_declaration<'a>(alloc: Global, fuel: usize, symbols: Symbols<'a>) -> Reading<'a, Statement>
+    ensures { ReturnsReading (λ s. (statement_of s.0, map grammar_symbol_of s.1.now)) result (declaration_at fuel (map grammar_symbol_of symbols.now)) }
 {
     match symbols {
         [Symbol::Name(name), Symbol::Open, rest @ ..] => {
-            let (attrs, rest) = read_columns(alloc, steps, rest)?;
+            let (attrs, rest) = read_columns(alloc, fuel, rest)?;
             let rest = after_close(rest)?;
             let name = name_text(alloc, name)?;
             Ok((Statement::Stream { name, attrs }, rest))
@@ -82,12 +82,12 @@ fn read_declaration<'a>(alloc: Global, steps: usize, symbols: Symbols<'a>) -> Re
 
 // A query behind its word.
 #[tactic(auto, unfolding(crate::specs::Columns::query_at))]
-fn read_query<'a>(alloc: Global, steps: usize, symbols: Symbols<'a>) -> Reading<'a, Statement>
-    ensures { Gives (λ s. (statement_of s.0, map seen s.1.now)) result (query_at steps (map seen symbols.now)) }
+fn read_query<'a>(alloc: Global, fuel: usize, symbols: Symbols<'a>) -> Reading<'a, Statement>
+    ensures { ReturnsReading (λ s. (statement_of s.0, map grammar_symbol_of s.1.now)) result (query_at fuel (map grammar_symbol_of symbols.now)) }
 {
-    let (items, rest) = read_items(alloc, steps, symbols)?;
+    let (items, rest) = read_items(alloc, fuel, symbols)?;
     let rest = after_from(rest)?;
-    let (source, rest) = read_source(alloc, steps, rest)?;
+    let (source, rest) = read_source(alloc, fuel, rest)?;
     let (name, rest) = read_publish(alloc, rest)?;
     let source = Box::into_inner(source);
     Ok((
@@ -102,7 +102,7 @@ fn read_query<'a>(alloc: Global, steps: usize, symbols: Symbols<'a>) -> Reading<
 
 // PUBLISH and a name.
 fn read_publish<'a>(alloc: Global, symbols: Symbols<'a>) -> Reading<'a, Text>
-    ensures { Gives (λ p. (p.0, map seen p.1.now)) result (publish_at (map seen symbols.now)) }
+    ensures { ReturnsReading (λ p. (p.0, map grammar_symbol_of p.1.now)) result (publish_at (map grammar_symbol_of symbols.now)) }
 {
     match symbols {
         [Symbol::Publish, Symbol::Name(name), rest @ ..] => Ok((name_text(alloc, name)?, rest)),

@@ -2,7 +2,7 @@
 ghost use Rattle.std.specs.Prelude.{◌≡◌};
 ghost use Rattle.cel_grammar.specs.Spellings.{keyword_entries, looked_up, mark_entries, sign_entries, symbol_of};
 ghost use Rattle.cel_grammar.specs.Symbols as the;
-ghost use Rattle.cel_parser.specs.Seen.{seen};
+ghost use Rattle.cel_parser.specs.GrammarSymbols.{grammar_symbol_of};
 ghost use Rattle.event_types.specs.declared.comparison.Cmp.TheVariants as cmp;
 
 use crate::symbol::Symbol;
@@ -11,7 +11,7 @@ use event_types::Cmp;
 
 /// The symbol of a token of this kind and text.
 pub(crate) fn symbol_of(what: What, word: &str) -> Symbol<'_>
-    ensures { seen result ≡ symbol_of what word.now }
+    ensures { grammar_symbol_of result ≡ symbol_of what word.now }
 {
     match what {
         What::Keyword => keyword(word),
@@ -25,7 +25,7 @@ pub(crate) fn symbol_of(what: What, word: &str) -> Symbol<'_>
 
 // The symbol of a keyword.
 fn keyword(word: &str) -> Symbol<'_>
-    ensures { seen result ≡ looked_up keyword_entries the.Max word.now }
+    ensures { grammar_symbol_of result ≡ looked_up keyword_entries the.Max word.now }
 {
     match word {
         "STREAM" => Symbol::Stream,
@@ -51,7 +51,7 @@ fn keyword(word: &str) -> Symbol<'_>
 
 // The symbol of a mark.
 fn mark(word: &str) -> Symbol<'_>
-    ensures { seen result ≡ looked_up mark_entries the.Dollar word.now }
+    ensures { grammar_symbol_of result ≡ looked_up mark_entries the.Dollar word.now }
 {
     match word {
         "$1" => Symbol::Dollar1,
@@ -62,7 +62,7 @@ fn mark(word: &str) -> Symbol<'_>
 
 // The symbol of a sign.
 fn sign(word: &str) -> Symbol<'_>
-    ensures { seen result ≡ looked_up sign_entries (the.Compare cmp.Ge) word.now }
+    ensures { grammar_symbol_of result ≡ looked_up sign_entries (the.Compare cmp.Ge) word.now }
 {
     match word {
         "(" => Symbol::Open,

@@ -10,12 +10,12 @@ use Rattle.cel_lexer.specs.declared.fault.LexFault.TheVariants as fault
 use Rattle.cel_lexer.specs.declared.token.Token.{Token}
 use Rattle.cel_grammar.specs.Symbols.{Symbol}
 use Rattle.cel_grammar.specs.Symbols as the
-use Rattle.cel_grammar.specs.Sentences.{IsSmall, Placed, ReadsAs, Say, Says, Sentence, more, none, placed_of, sentences, with_front, with_symbol}
+use Rattle.cel_grammar.specs.Sentences.{IsSmall, Placed, ReadsAs, AreSentencesOf, IsSentenceOf, Sentence, more, none, placed_of, sentences, with_front, with_symbol}
 use Rattle.cel_grammar.specs.Spellings.{symbol_of}
 use Rattle.cel_grammar.specs.Statements.{IsStatement}
 use Rattle.cel_grammar.specs.Trees.{Statement, Stream, Query}
 use Rattle.cel_print.specs.Spelled.{canon}
-use Rattle.cel_print.specs.Laws.{canonical, lines_from}
+use Rattle.cel_print.specs.Laws.{canonical_symbols, lines_from}
 use Rattle.cel_print.proofs.Best.{best, small}
 use Rattle.cel_print.proofs.Cutting.{placed}
 use Rattle.cel_print.proofs.Encoded.{canon_utf8}
@@ -47,9 +47,9 @@ sentences_good source (token ∷ tokens) sound =
 
 -- the canonical symbols of a statement are read, good and within the limits
 record Printable (s : Statement) : Type 0 where
-  read : IsStatement (canonical s) s []
-  good : AllGood (canonical s)
-  small : IsSmall (canonical s)
+  read : IsStatement (canonical_symbols s) s []
+  good : AllGood (canonical_symbols s)
+  small : IsSmall (canonical_symbols s)
 
 -- those of each statement are
 abbrev AllPrintable : List Statement → Type 0
@@ -57,7 +57,7 @@ AllPrintable [] = Unit {0}
 AllPrintable (s ∷ ss) = Printable s × AllPrintable ss
 
 -- what a sentence says
-said : (sentence : Sentence) (s : Statement) → Says sentence s → AllGood sentence.symbols → Printable s
+said : (sentence : Sentence) (s : Statement) → IsSentenceOf sentence s → AllGood sentence.symbols → Printable s
 said sentence s says good = record {
   read = (best sentence.symbols s says.read).read;
   good = (statement_good says.read good).words [] tt;
@@ -65,7 +65,7 @@ said sentence s says good = record {
 }
 
 -- what sentences say
-all_said : {sentences : List Sentence} {ss : List Statement} {lines : List ℕ} → Say sentences ss lines → SentencesGood sentences → AllPrintable ss
+all_said : {sentences : List Sentence} {ss : List Statement} {lines : List ℕ} → AreSentencesOf sentences ss lines → SentencesGood sentences → AllPrintable ss
 all_said none good = tt
 all_said (more {sentence = sentence} {s = s} says later) good = (said sentence s says good.0, all_said later good.1)
 
@@ -82,13 +82,13 @@ sentence_is line (t ∷ ts) rest good =
     ∙ ap (with_front (record { line = line; symbol = t })) (sentence_is line ts rest good.1)
 
 -- the lines of statements say them
-lines_say : (line : ℕ) (ss : List Statement) → AllPrintable ss → Say (sentences (on_lines line ss)) ss (lines_from line ss)
+lines_say : (line : ℕ) (ss : List Statement) → AllPrintable ss → AreSentencesOf (sentences (on_lines line ss)) ss (lines_from line ss)
 lines_say line [] printable = none
 lines_say line (s ∷ ss) printable =
-    let sentence : Sentence = record { line = line; symbols = canonical s; ended = true } in
-    let says : Says sentence s = record { ended = refl; small = printable.0.small; read = printable.0.read } in
-    let P : List Sentence → Type 0 = λ said. Say said (s ∷ ss) (line ∷ lines_from (line + 1) ss) in
-    subst P (sym (sentence_is line (canonical s) (on_lines (line + 1) ss) printable.0.good)) (more {sentence = sentence} says (lines_say (line + 1) ss printable.1))
+    let sentence : Sentence = record { line = line; symbols = canonical_symbols s; ended = true } in
+    let says : IsSentenceOf sentence s = record { ended = refl; small = printable.0.small; read = printable.0.read } in
+    let P : List Sentence → Type 0 = λ said. AreSentencesOf said (s ∷ ss) (line ∷ lines_from (line + 1) ss) in
+    subst P (sym (sentence_is line (canonical_symbols s) (on_lines (line + 1) ss) printable.0.good)) (more {sentence = sentence} says (lines_say (line + 1) ss printable.1))
 
 -- each is good
 each_good : (ss : List Statement) → AllPrintable ss → EachGood ss
@@ -121,5 +121,5 @@ read_again text ss lines h =
     record {
       tokens = cut.tokens;
       all = rw utf8 (ap (λ (n : ℕ). tokens_from n 1 0 (canon ss)) (no_mark ss) ∙ cut.all);
-      said = subst (λ (words : List Placed). Say (sentences words) ss (lines_from 1 ss)) (sym cut.seen) (lines_say 1 ss printable);
+      said = subst (λ (words : List Placed). AreSentencesOf (sentences words) ss (lines_from 1 ss)) (sym cut.seen) (lines_say 1 ss printable);
     }

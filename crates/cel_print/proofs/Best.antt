@@ -7,7 +7,7 @@ use Rattle.cel_grammar.specs.Symbols as the
 use Rattle.cel_grammar.specs.Sentences.{IsSmall, is_deep}
 use Rattle.cel_grammar.specs.Statements.{IsStatement}
 use Rattle.cel_grammar.specs.Trees.{Statement}
-use Rattle.cel_print.specs.Laws.{IsBest, canonical, nesting}
+use Rattle.cel_print.specs.Laws.{IsBest, canonical_symbols, nesting}
 use Rattle.cel_print.proofs.Bounds.{nesting_least}
 use Rattle.cel_print.proofs.BoundStatements.{statement_bound}
 use Rattle.cel_print.proofs.ReadStatements.{statement_reads}
@@ -50,7 +50,7 @@ few_deep (the.BraceClose ∷ ts) d h = few_deep ts (d - 1) (omega arith)
 few_deep (t ∷ ts) d h = few_deep ts d h
 
 -- within the limits where others that read as it are
-pub small : (ts : List Symbol) (s : Statement) → IsStatement ts s [] → IsSmall ts → IsSmall (canonical s)
+pub small : (ts : List Symbol) (s : Statement) → IsStatement ts s [] → IsSmall ts → IsSmall (canonical_symbols s)
 small ts s h is =
     let is_best = best ts s h in
-    record { few = omega (arith, is_best.shortest, is.few); shallow = few_deep (canonical s) 0 (omega (arith, is_best.shallowest, not_deep ts 0 (omega arith) is.shallow)) }
+    record { few = omega (arith, is_best.shortest, is.few); shallow = few_deep (canonical_symbols s) 0 (omega (arith, is_best.shallowest, not_deep ts 0 (omega arith) is.shallow)) }

@@ -15,7 +15,7 @@ use Rattle.cel_grammar.specs.Spellings.{undoubled}
 use Rattle.cel_grammar.specs.Symbols.{Symbol}
 use Rattle.cel_grammar.specs.Symbols as the
 use Rattle.cel_grammar.specs.Trees.{Statement}
-use Rattle.cel_print.specs.Laws.{canonical}
+use Rattle.cel_print.specs.Laws.{canonical_symbols}
 use Rattle.cel_print.specs.Spelled.{canon, doubled, is_call, joins_left, joins_right, line_of, space, spelling, text_behind, text_of, word_spelling}
 use Rattle.cel_print.specs.StatementWords.{statement_words}
 use Rattle.cel_print.specs.Words.{Word, Of, Negative, symbols}
@@ -175,7 +175,7 @@ words_utf8 left (word ∷ words) good =
     (IsUtf8-append (word_spelling word) (text_behind word words) (word_utf8 word words good) (words_utf8 word words (later_good word words good)))
 
 -- the line of a statement
-line_utf8 : (s : Statement) → AllGood (canonical s) → IsUtf8 (line_of s)
+line_utf8 : (s : Statement) → AllGood (canonical_symbols s) → IsUtf8 (line_of s)
 line_utf8 s good =
     let words : List Word = statement_words s [] in
     IsUtf8-append (text_of words) (codes ";\n") (subst IsUtf8 (first_text words) (words_utf8 (Of the.Open) words good)) (low_utf8 (codes ";\n") refl)

@@ -9,7 +9,7 @@ use Rattle.cel_grammar.specs.Trees.{Statement}
 use Rattle.cel_print.specs.Words.{Word, Of, Negative, symbols}
 use Rattle.cel_print.specs.StatementWords.{statement_words}
 use Rattle.cel_print.specs.Spelled.{joins_left, joins_right, is_call, space, text_behind, text_of, word_spelling, line_of, canon}
-use Rattle.cel_print.specs.Laws.{canonical}
+use Rattle.cel_print.specs.Laws.{canonical_symbols}
 use Rattle.cel_print.proofs.Bytes.{IsStop}
 use Rattle.cel_print.proofs.Good.{AllGood}
 use Rattle.cel_print.proofs.Pieces.{IsCut, cut_of, end, minus, number, number_no_dash}
@@ -116,7 +116,7 @@ abbrev pub end_on : ℕ → Placed
 end_on line = record { line = line; symbol = the.End }
 
 -- the line of a statement
-line_cut : (source : List ℕ) (line : ℕ) (s : Statement) (tail : List ℕ) (later : List Placed) → AllGood (canonical s) → CutFrom source (line + 1) tail later → CutFrom source line (line_of s ++ tail) (on_line line (canonical s) ++ (end_on line ∷ later))
+line_cut : (source : List ℕ) (line : ℕ) (s : Statement) (tail : List ℕ) (later : List Placed) → AllGood (canonical_symbols s) → CutFrom source (line + 1) tail later → CutFrom source line (line_of s ++ tail) (on_line line (canonical_symbols s) ++ (end_on line ∷ later))
 line_cut source line s tail later good cut =
     retexted source line _ _ _ (ap (λ (t : List ℕ). t ++ (59 ∷ 10 ∷ tail)) (first_text (statement_words s [])) ∙ sym (append_assoc (text_of (statement_words s [])) (codes ";\n") tail))
     (words_cut source line (Of the.Open) (statement_words s []) (59 ∷ 10 ∷ tail) _ good refl
@@ -125,12 +125,12 @@ line_cut source line s tail later good cut =
 -- the symbols of statements, each on its line
 abbrev pub on_lines : ℕ → List Statement → List Placed
 on_lines line [] = []
-on_lines line (s ∷ ss) = on_line line (canonical s) ++ (end_on line ∷ on_lines (line + 1) ss)
+on_lines line (s ∷ ss) = on_line line (canonical_symbols s) ++ (end_on line ∷ on_lines (line + 1) ss)
 
 -- the symbols of each statement are good
 abbrev pub EachGood : List Statement → Type 0
 EachGood [] = Unit {0}
-EachGood (s ∷ ss) = AllGood (canonical s) × EachGood ss
+EachGood (s ∷ ss) = AllGood (canonical_symbols s) × EachGood ss
 
 -- nothing is left
 none_cut : (source : List ℕ) (line : ℕ) → CutFrom source line [] []

@@ -10,8 +10,8 @@ use Rattle.cel_print.specs.Spelled.{canon}
 use Rattle.cel_print.specs.StatementWords.{statement_words}
 
 -- the canonical symbols of a statement
-abbrev pub canonical : Statement → List Symbol
-canonical statement = symbols (statement_words statement [])
+abbrev pub canonical_symbols : Statement → List Symbol
+canonical_symbols statement = symbols (statement_words statement [])
 
 -- the most parentheses and braces that are open at once, where some are open before
 abbrev pub nesting : ℕ → List Symbol → ℕ
@@ -24,9 +24,9 @@ nesting depth (t ∷ ts) = nesting depth ts
 
 -- the canonical symbols of the statement read as it, and have neither more symbols nor deeper nesting than these, which read as it too
 pub record IsBest (ts : List Symbol) (statement : Statement) : Type 0 where
-  pub read : IsStatement (canonical statement) statement []
-  pub shortest : length (canonical statement) ≤ length ts
-  pub shallowest : nesting 0 (canonical statement) ≤ nesting 0 ts
+  pub read : IsStatement (canonical_symbols statement) statement []
+  pub shortest : length (canonical_symbols statement) ≤ length ts
+  pub shallowest : nesting 0 (canonical_symbols statement) ≤ nesting 0 ts
 
 -- where some symbols read as a statement, its canonical ones read as it, and none are fewer or nested less
 abbrev pub CanonicalIsBest : Type 0

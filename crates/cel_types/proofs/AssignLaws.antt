@@ -7,12 +7,12 @@ use Rattle.stream_schema.specs.Schema.{Attr, place_of}
 use Rattle.cel_grammar.specs.Trees.{Agg}
 use Rattle.cel_types.specs.declared.fault.TypeFault.{TypeFault}
 use Rattle.cel_types.specs.declared.fault.TypeFault.TheVariants.{KindMismatch}
-use Rattle.cel_types.specs.Aggregates.{Assign, Assignment, IsAt, none, set, FailToAssign, absent, twice, scalar, kinds, then}
+use Rattle.cel_types.specs.Aggregates.{Assign, Assignment, IsAttributeAt, none, set, FailToAssign, absent, twice, scalar, kinds, then}
 use Rattle.cel_types.specs.Scopes.{Typed, at_place}
 use Rattle.cel_types.proofs.ScalarLaws.{IsOf-one, IsOf-no_fault, HasFault-one}
 
 -- an attribute stands at one place and has one kind
-at-one : (binding : List Attr) (a : List ℕ) {place other : ℕ} {k l : Kind} → IsAt binding a place k → IsAt binding a other l → (place ≡ other) × (k ≡ l)
+at-one : (binding : List Attr) (a : List ℕ) {place other : ℕ} {k l : Kind} → IsAttributeAt binding a place k → IsAttributeAt binding a other l → (place ≡ other) × (k ≡ l)
 at-one binding a {place = place} {other = other} {k = k} {l = l} at at' =
     let first : Typed = record { term = Binding place; kind = k } in
     let second : Typed = record { term = Binding other; kind = l } in
@@ -23,7 +23,7 @@ at-one binding a {place = place} {other = other} {k = k} {l = l} at at' =
     (places, ap (λ (t : Typed). t.kind) same)
 
 -- and none that is absent does
-at-absent : (binding : List Attr) (a : List ℕ) {place : ℕ} {k : Kind} → place_of a binding ≡ None → IsAt binding a place k → ⊥
+at-absent : (binding : List Attr) (a : List ℕ) {place : ℕ} {k : Kind} → place_of a binding ≡ None → IsAttributeAt binding a place k → ⊥
 at-absent binding a gone at = let both = sym at ∙ ap (at_place Binding binding) gone in cc
 
 module _ {binding event : List Attr} where

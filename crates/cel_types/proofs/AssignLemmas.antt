@@ -12,7 +12,7 @@ use Rattle.cel_grammar.specs.declared.source.Agg as code
 use Rattle.cel_grammar.specs.Views.{agg_of}
 use Rattle.cel_grammar.specs.Trees.{Scalar, Agg, Set}
 use Rattle.cel_types.specs.declared.fault.TypeFault.{TypeFault}
-use Rattle.cel_types.specs.Aggregates.{Assign, Assignment, IsAt, none, set, is_among, FailToAssign, absent, twice, scalar, kinds, then}
+use Rattle.cel_types.specs.Aggregates.{Assign, Assignment, IsAttributeAt, none, set, is_among, FailToAssign, absent, twice, scalar, kinds, then}
 use Rattle.cel_types.specs.Assigning.{Assigns, names_in}
 use Rattle.cel_types.specs.Scopes.{Typed, Iteration, at_place}
 use Rattle.cel_types.specs.Scalars.{IsOf}
@@ -30,7 +30,7 @@ among-at (one ∷ aggs) zero agg name at same =
 among-at (one ∷ aggs) (suc i) agg name at same = rw (among-at aggs i agg name at same) (or-true (bytes_eq name one.name))
 
 -- an attribute that is found, by its place and its kind
-pub is_at : (binding : List Attr) (a : List ℕ) (place : ℕ) (k : Kind) → place_of a binding ≡ Some place → slice_get (kinds_of binding) place ≡ Some k → IsAt binding a place k
+pub is_at : (binding : List Attr) (a : List ℕ) (place : ℕ) (k : Kind) → place_of a binding ≡ Some place → slice_get (kinds_of binding) place ≡ Some k → IsAttributeAt binding a place k
 is_at binding a place k found there =
     ap (at_place Binding binding) found ∙ ap (λ (kind : Kind). let typed : Typed = record { term = Binding place; kind = kind } in Some typed) (get_or_from_slice_get (kinds_of binding) place k Int there)
 
@@ -56,6 +56,6 @@ module _ {binding event : List Attr} where
   fails-before more (then at free is_of h) = then at free is_of (fails-before more h)
 
   -- one aggregate, whose term is put at its place
-  pub assigns-one : {names : List (List ℕ)} {x : Scalar} {a : List ℕ} (place : ℕ) (s : Sc) (k : Kind) {before after : List Sc} → IsAt binding a place k → is_among names a ≡ false → IsOf (Iteration binding event) x s k
+  pub assigns-one : {names : List (List ℕ)} {x : Scalar} {a : List ℕ} (place : ℕ) (s : Sc) (k : Kind) {before after : List Sc} → IsAttributeAt binding a place k → is_among names a ≡ false → IsOf (Iteration binding event) x s k
       → after ≡ slice_set before place s → Assigns binding event names (Set x a) before after
   assigns-one place s k at free is_of value = record { one = record { place = place; term = s }; assigns = set at free is_of none; terms = value }

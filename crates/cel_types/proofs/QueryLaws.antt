@@ -1,7 +1,7 @@
 -- A query has at most one schema and expression, at most one fault, and not both; its expression is typed.
 use Rattle.std.proofs.Common.{◌≡◌, List, length}
 use Rattle.semantics.specs.Expressions.{Ex}
-use Rattle.semantics.specs.Typing.{Gives as IsTypedOver}
+use Rattle.semantics.specs.Typing.{IsTypedOver}
 use Rattle.stream_schema.specs.Schema.{Attr, kinds_of}
 use Rattle.stream_schema.specs.Streams.{Entry}
 use Rattle.cel_grammar.specs.Trees.{Statement, Stream, Query}

@@ -14,7 +14,7 @@ use Rattle.semantics.specs.Scalars.{Sc, Binding}
 use Rattle.stream_schema.specs.Schema.{Attr, kinds_of, place_of}
 use Rattle.stream_schema.proofs.PlaceLemmas.{position-found}
 use Rattle.cel_grammar.specs.Trees.{Agg}
-use Rattle.cel_types.specs.Aggregates.{Assign, Assignment, IsAt, none, set as assigns, is_among, assigned, rebinding}
+use Rattle.cel_types.specs.Aggregates.{Assign, Assignment, IsAttributeAt, none, set as assigns, is_among, assigned, rebinding}
 use Rattle.cel_types.specs.Assigning.{Assigns, Rebinds, names_in}
 use Rattle.cel_types.specs.Scopes.{Typed, at_place}
 use Rattle.cel_types.proofs.AssignLemmas.{assign-append}
@@ -85,7 +85,7 @@ module _ {binding event : List Attr} where
       ]
 
   -- one aggregate more sets its term at its place
-  rebinding-more : {aggs : List Agg} {assignments : List Assignment} (a : List ℕ) (place : ℕ) (s : Sc) (k : Kind) → Assign binding event [] aggs assignments → IsAt binding a place k → is_among (names_in aggs) a ≡ false
+  rebinding-more : {aggs : List Agg} {assignments : List Assignment} (a : List ℕ) (place : ℕ) (s : Sc) (k : Kind) → Assign binding event [] aggs assignments → IsAttributeAt binding a place k → is_among (names_in aggs) a ≡ false
       → place < length binding → rebinding binding (assignments ++ record { place = place; term = s } ∷ []) ≡ set (rebinding binding assignments) place s
   rebinding-more {assignments = assignments} a place s k was at free within =
       let one : Assignment = record { place = place; term = s } in

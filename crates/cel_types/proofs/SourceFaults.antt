@@ -10,7 +10,7 @@ use Rattle.cel_types.specs.Aggregates.{FailToAssign}
 use Rattle.cel_types.specs.Items.{Make, FailToMake}
 use Rattle.cel_types.specs.Predicates.{Means, Fails}
 use Rattle.cel_types.specs.Scopes.{Alone, Sequence, Iteration}
-use Rattle.cel_types.specs.Sources.{FailsToGive, filter_source, filter_condition, select_source, select_items, select_wide, union_left, union_right, union_schemas, next_left, next_right, next_wide, next_condition, fold_left, fold_right, fold_choose, fold_on, fold_sets}
+use Rattle.cel_types.specs.Sources.{FailsToElaborate, filter_source, filter_condition, select_source, select_items, select_wide, union_left, union_right, union_schemas, next_left, next_right, next_wide, next_condition, fold_left, fold_right, fold_choose, fold_on, fold_sets}
 use Rattle.cel_types.specs.Unions.{difference_from}
 use Rattle.cel_types.proofs.AssignLaws.{FailToAssign-one}
 use Rattle.cel_types.proofs.MakeLaws.{Make-one, Make-no_fault, FailToMake-one}
@@ -19,7 +19,7 @@ use Rattle.cel_types.proofs.SourceLaws.{at-both, Gives-one, Gives-no_fault}
 
 module _ {streams : List Entry} where
   -- by induction on the first fault
-  pub FailsToGive-one : {e : Source} {f g : TypeFault} → FailsToGive streams e f → FailsToGive streams e g → f ≡ g
+  pub FailsToGive-one : {e : Source} {f g : TypeFault} → FailsToElaborate streams e f → FailsToElaborate streams e g → f ≡ g
   FailsToGive-one (filter_source i) (filter_source i') = FailsToGive-one i i'
   FailsToGive-one (filter_source i) (filter_condition g' i') = absurd (Gives-no_fault g' i)
   FailsToGive-one (filter_condition g i) (filter_source i') = absurd (Gives-no_fault g i')

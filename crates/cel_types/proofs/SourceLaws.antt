@@ -4,7 +4,7 @@ use Rattle.std.specs.Prelude.{Some, slice_get}
 use Rattle.semantics.specs.Expressions.{Ex}
 use Rattle.semantics.specs.Expressions as ex
 use Rattle.scalar_expr.specs.Canonical.{canonical}
-use Rattle.stream_schema.specs.Joining.{joined}
+use Rattle.stream_schema.specs.Joining.{joined_schema}
 use Rattle.stream_schema.specs.Schema.{Attr}
 use Rattle.stream_schema.specs.Streams.{Entry, number_of, schemas_of}
 use Rattle.cel_grammar.specs.Trees.{Source}
@@ -13,7 +13,7 @@ use Rattle.cel_types.specs.Aggregates.{Assign, FailToAssign, rebinding}
 use Rattle.cel_types.specs.Items.{Make, FailToMake}
 use Rattle.cel_types.specs.Predicates.{Means, Fails}
 use Rattle.cel_types.specs.Scopes.{Alone, Sequence, Iteration}
-use Rattle.cel_types.specs.Sources.{Gives, name, filter, select, union, next, fold, over, FailsToGive, filter_source, filter_condition, select_source, select_items, select_wide, union_left, union_right, union_schemas, next_left, next_right, next_wide, next_condition, fold_left, fold_right, fold_choose, fold_on, fold_sets}
+use Rattle.cel_types.specs.Sources.{Elaborates, name, filter, select, union, next, fold, over, FailsToElaborate, filter_source, filter_condition, select_source, select_items, select_wide, union_left, union_right, union_schemas, next_left, next_right, next_wide, next_condition, fold_left, fold_right, fold_choose, fold_on, fold_sets}
 use Rattle.cel_types.specs.Unions.{difference_from}
 use Rattle.cel_types.proofs.AssignLaws.{Assign-one, Assign-no_fault}
 use Rattle.cel_types.proofs.MakeLaws.{Make-one, Make-no_fault}
@@ -35,7 +35,7 @@ one-stream streams a n m schema other found there found' there' =
 
 module _ {streams : List Entry} where
   -- by induction on the first derivation
-  pub Gives-one : {e : Source} {schema other : List Attr} {x y : Ex} → Gives streams e schema x → Gives streams e other y → (schema ≡ other) × (x ≡ y)
+  pub Gives-one : {e : Source} {schema other : List Attr} {x y : Ex} → Elaborates streams e schema x → Elaborates streams e other y → (schema ≡ other) × (x ≡ y)
   Gives-one {schema = schema} {other = other} (name {a = a} {n = n} found there) (name {n = m} found' there') =
       let one = one-stream streams a n m schema other found there found' there' in (one.0, ap ex.Read one.1)
   Gives-one (filter {p = p} g m) (filter {u = v} g' m') =
@@ -54,7 +54,7 @@ module _ {streams : List Entry} where
       let left = Gives-one g g' in
       let right = Gives-one h h' in
       let u = Means-one m (at-both (λ l r. Means (Sequence l r) p v) left.0 right.0 m') in
-      ((λ n. joined (left.0 n) (right.0 n)), (λ n. ex.Next (canonical (u n)) (left.1 n) (right.1 n)))
+      ((λ n. joined_schema (left.0 n) (right.0 n)), (λ n. ex.Next (canonical (u n)) (left.1 n) (right.1 n)))
   Gives-one (fold {p = p} {q = q} {aggs = aggs} g h m o a) (fold {u = u'} {v = v'} {assignments = others} g' h' m' o' a') =
       let left = Gives-one g g' in
       let right = Gives-one h h' in
@@ -64,7 +64,7 @@ module _ {streams : List Entry} where
       (left.0, λ n. ex.Fold (canonical (u n)) (canonical (v n)) (over (right.0 n) (rebinding (left.0 n) (sets n))) (left.1 n) (right.1 n))
 
   -- by induction on the fault
-  pub Gives-no_fault : {e : Source} {schema : List Attr} {x : Ex} {f : TypeFault} → Gives streams e schema x → FailsToGive streams e f → ⊥
+  pub Gives-no_fault : {e : Source} {schema : List Attr} {x : Ex} {f : TypeFault} → Elaborates streams e schema x → FailsToElaborate streams e f → ⊥
   Gives-no_fault (name found there) h = elim h [ ]
   Gives-no_fault (filter g m) (filter_source h) = Gives-no_fault g h
   Gives-no_fault {f = f} (filter {p = p} g m) (filter_condition g' h) = Means-no_fault m (subst (λ (attrs : List Attr). Fails (Alone attrs) p f) (Gives-one g' g).0 h)

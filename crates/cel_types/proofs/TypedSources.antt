@@ -10,8 +10,8 @@ use Rattle.event_types.specs.declared.kind.Kind.{Kind}
 use Rattle.event_types.specs.declared.kind.Kind.TheVariants as kind
 use Rattle.semantics.specs.Expressions.{Ex}
 use Rattle.semantics.specs.Scalars.{Sc, Event, Binding}
-use Rattle.semantics.specs.Typing.{IsOfKind, AreOfKinds, Gives as IsTypedOver}
-use Rattle.stream_schema.specs.Joining.{joined, with_free}
+use Rattle.semantics.specs.Typing.{IsOfKind, AreOfKinds, IsTypedOver}
+use Rattle.stream_schema.specs.Joining.{joined_schema, with_free}
 use Rattle.stream_schema.specs.Schema.{Attr, kinds_of}
 use Rattle.stream_schema.specs.Streams.{Entry, schemas_of}
 use Rattle.cel_grammar.specs.declared.mark.Mark.TheVariants as mark
@@ -23,7 +23,7 @@ use Rattle.cel_types.specs.Items as items
 use Rattle.cel_types.specs.Scalars.{attr}
 use Rattle.cel_types.specs.Scopes.{Alone, Sequence, Iteration}
 use Rattle.cel_types.specs.SourceLaws.{kinds_in}
-use Rattle.cel_types.specs.Sources.{Gives, name, filter, select, union, next, fold}
+use Rattle.cel_types.specs.Sources.{Elaborates, name, filter, select, union, next, fold}
 use Rattle.cel_types.specs.Unions.{difference_from, is_kind, is_same}
 use Rattle.cel_types.proofs.TypedLaws.{term-of_kind, condition-typed}
 use Rattle.event_types.proofs.NumberLemmas.{same_number}
@@ -111,14 +111,14 @@ same-kinds place (a ∷ left) (b ∷ right) e =
     ]
 
 -- the kinds of joined schemas, by induction on the right one
-joined-kinds : (left right : List Attr) → kinds_of left ++ kinds_of right ≡ kinds_of (joined left right)
+joined-kinds : (left right : List Attr) → kinds_of left ++ kinds_of right ≡ kinds_of (joined_schema left right)
 joined-kinds left [] = append-nil (kinds_of left)
 joined-kinds left (a ∷ right) =
     let one : kinds_of (with_free left a) ≡ kinds_of left ++ a.kind ∷ [] = map-append (λ (b : Attr). b.kind) left _ in
     sym (append_assoc (kinds_of left) (a.kind ∷ []) (kinds_of right)) ∙ ap (λ kinds. kinds ++ kinds_of right) (sym one) ∙ joined-kinds (with_free left a) right
 
 -- by induction on the derivation
-pub gives-typed : {streams : List Entry} {e : Source} {schema : List Attr} {x : Ex} → Gives streams e schema x → IsTypedOver x (length streams) (kinds_in streams) (kinds_of schema)
+pub gives-typed : {streams : List Entry} {e : Source} {schema : List Attr} {x : Ex} → Elaborates streams e schema x → IsTypedOver x (length streams) (kinds_in streams) (kinds_of schema)
 gives-typed {streams} {schema = schema} (name {n = n} found there) =
     let size = length-map streams (λ (s : Entry). s.schema) in
     let within = slice_get_within (schemas_of streams) n schema there in

@@ -2,7 +2,7 @@
 use Rattle.std.specs.Prelude.{◌≡◌, ℕ, List, [], length, slice_index_or}
 use Rattle.event_types.specs.declared.kind.Kind.{Kind}
 use Rattle.semantics.specs.Expressions.{Ex}
-use Rattle.semantics.specs.Typing.{Gives as IsTypedOver}
+use Rattle.semantics.specs.Typing.{IsTypedOver}
 use Rattle.stream_schema.specs.Schema.{Attr, kinds_of}
 use Rattle.stream_schema.specs.Streams.{Entry, schemas_of}
 use Rattle.cel_grammar.specs.Trees.{Statement}

@@ -8,7 +8,7 @@ use Rattle.cel_grammar.specs.Trees.{Source, Statement}
 use Rattle.cel_grammar.specs.Trees as tree
 use Rattle.cel_types.specs.declared.fault.TypeFault.{TypeFault}
 use Rattle.cel_types.specs.Declarations.{IsDeclared, FailsToDeclare}
-use Rattle.cel_types.specs.Sources.{Gives, FailsToGive}
+use Rattle.cel_types.specs.Sources.{Elaborates, FailsToElaborate}
 
 -- the names that a source reads, from left to right as written
 abbrev pub read_names : Source → List (List ℕ)
@@ -42,9 +42,9 @@ FailsAsDeclaration (tree.Query items e name) f = ⊥
 -- the query has this schema and this expression: its items select from its source
 abbrev pub Queries : List Entry → Statement → List Attr → Ex → Type 0
 Queries streams (tree.Stream name columns) schema x = ⊥
-Queries streams (tree.Query items e name) schema x = Gives streams (tree.Select items e) schema x
+Queries streams (tree.Query items e name) schema x = Elaborates streams (tree.Select items e) schema x
 
 -- the first fault of the query is this one
 abbrev pub FailsAsQuery : List Entry → Statement → TypeFault → Type 0
 FailsAsQuery streams (tree.Stream name columns) f = ⊥
-FailsAsQuery streams (tree.Query items e name) f = FailsToGive streams (tree.Select items e) f
+FailsAsQuery streams (tree.Query items e name) f = FailsToElaborate streams (tree.Select items e) f

@@ -6,11 +6,11 @@ use Rattle.cel_grammar.specs.Trees.{Source}
 use Rattle.cel_grammar.specs.Trees as tree
 use Rattle.cel_types.specs.declared.sources.Typed.{Typed}
 use Rattle.cel_types.specs.declared.fault.TypeFault.{TypeFault}
-use Rattle.cel_types.specs.Sources.{FailsToGive, Gives}
+use Rattle.cel_types.specs.Sources.{FailsToElaborate, Elaborates}
 
 -- the source has the schema and the expression that are typed together
 abbrev pub HasType : List Entry → Source → Typed → Type 0
-HasType streams e typed = Gives streams e typed.schema (ex_of typed.expr.value)
+HasType streams e typed = Elaborates streams e typed.schema (ex_of typed.expr.value)
 
 -- each name that the source reads is that of a stream
 abbrev pub ReadsStreams : List Entry → Source → Type 0
@@ -27,7 +27,7 @@ TypesOver inner made typed = (streams : List Entry) (e : Source) → HasType str
 
 -- it fails so where the one that it is made of has its type
 abbrev pub FailsOver : Typed → (Source → Source) → TypeFault → Type 0
-FailsOver inner made fault = (streams : List Entry) (e : Source) → HasType streams e inner → FailsToGive streams (made e) fault
+FailsOver inner made fault = (streams : List Entry) (e : Source) → HasType streams e inner → FailsToElaborate streams (made e) fault
 
 -- a source has this type where the two that it is made of have theirs
 abbrev pub TypesOverBoth : Typed → Typed → (Source → Source → Source) → Typed → Type 0
@@ -35,4 +35,4 @@ TypesOverBoth left right made typed = (streams : List Entry) (e f : Source) → 
 
 -- it fails so where the two that it is made of have their types
 abbrev pub FailsOverBoth : Typed → Typed → (Source → Source → Source) → TypeFault → Type 0
-FailsOverBoth left right made fault = (streams : List Entry) (e f : Source) → HasType streams e left → HasType streams f right → FailsToGive streams (made e f) fault
+FailsOverBoth left right made fault = (streams : List Entry) (e f : Source) → HasType streams e left → HasType streams f right → FailsToElaborate streams (made e f) fault

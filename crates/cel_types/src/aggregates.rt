@@ -2,7 +2,7 @@
 ghost use Rattle.std.specs.Prelude.{◌≡◌, ◌≢◌, ◌<◌, [], ◌∷◌, length, map, MatchOption, IfOk, IfErr, IfSome, OnOk, None};
 ghost use Rattle.std.specs.List.{range_with_len};
 ghost use Rattle.cel_grammar.specs.Views.{agg_of};
-ghost use Rattle.cel_types.specs.Aggregates.{FailToAssign, IsAt, is_among};
+ghost use Rattle.cel_types.specs.Aggregates.{FailToAssign, IsAttributeAt, is_among};
 ghost use Rattle.cel_types.specs.Assigning.{Assigns, Rebinds, names_in};
 ghost use Rattle.scalar_expr.specs.Views.{sc_of};
 ghost use Rattle.semantics.specs.Scalars.{Binding};
@@ -86,7 +86,7 @@ fn assign(
 // The place and the kind of an attribute of the binding.
 #[tactic(auto, using(crate::proofs::AssignRules::find_rules))]
 fn find(binding: &Schema, name: &str) -> Option<(usize, Kind)>
-    ensures value { MatchOption result (place_of name.now binding.now ≡ None) (λ p. IsAt binding.now name.now p.0 p.1) }
+    ensures value { MatchOption result (place_of name.now binding.now ≡ None) (λ p. IsAttributeAt binding.now name.now p.0 p.1) }
     ensures within { IfSome result (λ p. p.0 < length binding.now) }
 {
     let place = binding.find(name)?;

@@ -4,7 +4,7 @@ ghost use Rattle.std.specs.List.{All};
 ghost use Rattle.algebra.specs.Views.{ex_of};
 ghost use Rattle.cel_grammar.specs.Trees as tree;
 ghost use Rattle.cel_grammar.specs.Views.{item_of, source_of, statement_of};
-ghost use Rattle.cel_types.specs.Sources.{FailsToGive, Gives};
+ghost use Rattle.cel_types.specs.Sources.{FailsToElaborate, Elaborates};
 ghost use Rattle.cel_types.specs.Statements.{FailsAsQuery, IsQueryOver, Queries, read_names};
 ghost use Rattle.stream_schema.specs.Streams.{stream_names};
 
@@ -41,8 +41,8 @@ fn query(
     raw: &Source,
 ) -> Result<(Schema, Expr), TypeFault>
     requires { All (Contains (stream_names streams.now)) (read_names (source_of raw.now)) }
-    ensures ok { IfOk result (λ p. Gives streams.now (tree.Select (map item_of items.now) (source_of raw.now)) p.0 (ex_of p.1)) }
-    ensures err { IfErr result (λ fault. fault ≢ TypeFault.Memory → FailsToGive streams.now (tree.Select (map item_of items.now) (source_of raw.now)) fault) }
+    ensures ok { IfOk result (λ p. Elaborates streams.now (tree.Select (map item_of items.now) (source_of raw.now)) p.0 (ex_of p.1)) }
+    ensures err { IfErr result (λ fault. fault ≢ TypeFault.Memory → FailsToElaborate streams.now (tree.Select (map item_of items.now) (source_of raw.now)) fault) }
 {
     let inner = source(alloc, streams, raw)?;
     let Typed { schema, expr } = selected(alloc, inner, items)?;

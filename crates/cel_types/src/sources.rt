@@ -5,11 +5,11 @@ ghost use Rattle.cel_grammar.specs.Trees as tree;
 ghost use Rattle.cel_grammar.specs.Views.{agg_of, item_of, pred_of, source_of};
 ghost use Rattle.cel_types.specs.Predicates.{Fails, Means};
 ghost use Rattle.cel_types.specs.Scopes.{Iteration};
-ghost use Rattle.cel_types.specs.Sources.{FailsToGive};
+ghost use Rattle.cel_types.specs.Sources.{FailsToElaborate};
 ghost use Rattle.cel_types.specs.Typing.{FailsOver, FailsOverBoth, HasType, ReadsStreams, TypesOver, TypesOverBoth};
 ghost use Rattle.scalar_expr.specs.Canonical.{canonical};
 ghost use Rattle.semantics.specs.Scalars.{Pr};
-ghost use Rattle.stream_schema.specs.Joining.{joined};
+ghost use Rattle.stream_schema.specs.Joining.{joined_schema};
 ghost use Rattle.stream_schema.specs.Streams.{stream_names};
 
 use crate::aggregates::rebind;
@@ -38,7 +38,7 @@ pub struct Typed {
 pub fn source(alloc: Global, streams: &Streams, raw: &Source) -> Result<Typed, TypeFault>
     requires { ReadsStreams streams.now (source_of raw.now) }
     ensures ok { IfOk result (λ typed. HasType streams.now (source_of raw.now) typed) }
-    ensures err { IfErr result (λ fault. fault ≢ TypeFault.Memory → FailsToGive streams.now (source_of raw.now) fault) }
+    ensures err { IfErr result (λ fault. fault ≢ TypeFault.Memory → FailsToElaborate streams.now (source_of raw.now) fault) }
 {
     match raw {
         Source::Name(name) => read(alloc, streams, name.as_str()),
@@ -163,7 +163,7 @@ fn iterating(alloc: Global, left: &Schema, right: &Schema, raw: &RawPred) -> Res
 
 // The schema of NEXT.
 fn joined_schema(alloc: Global, left: &Schema, right: &Schema) -> Result<Schema, TypeFault>
-    ensures ok { IfOk result (λ schema. schema ≡ joined left.now right.now) }
+    ensures ok { IfOk result (λ schema. schema ≡ joined_schema left.now right.now) }
     ensures narrow { IfOk result (λ schema. length left.now + length right.now ≤ 256) }
     ensures too_wide { IfErr result (λ fault. fault ≢ TypeFault.Memory → (256 < length left.now + length right.now) × (fault ≡ TypeFault.TooWide (length left.now + length right.now))) }
 {

@@ -17,7 +17,7 @@ use Rattle.std.specs.declared.cmp.Ordering.{Ordering}
 use Rattle.event_types.specs.declared.kind.Kind.{Kind}
 use Rattle.event_types.specs.Order.{put, sorted, tuple_cmp}
 use Rattle.event_types.specs.OrderLaws.{tuple_exact, tuple_total}
-use Rattle.event_types.specs.Tuple.{Row}
+use Rattle.event_types.specs.Tuple.{TupleView}
 use Rattle.event_types.proofs.SortLemmas.{sort_permuted}
 use Rattle.instances.specs.Plain.{Plain}
 use Rattle.instances.specs.declared.instance.Instance.{Instance}
@@ -30,8 +30,8 @@ use Rattle.automaton.specs.States.{Net}
 use Rattle.automaton.specs.Work.{IsInOrder, is_in}
 use Rattle.automaton.specs.declared.layout.Layout.{Layout}
 use Rattle.automaton.specs.declared.line.Line.{Line}
-use Rattle.epoch_laws.specs.Closing.{IsEpoch, Stores, published}
-use Rattle.epoch_laws.specs.Stands.{Serves}
+use Rattle.epoch_laws.specs.Closing.{IsEpoch, Stores, given_by_ends}
+use Rattle.epoch_laws.specs.StoresStandFor.{Serves}
 use Rattle.epoch_laws.proofs.Bags.{no_length}
 use Rattle.epoch_laws.proofs.Grows.{epoch_grows, epoch_starts}
 use Rattle.epoch_laws.proofs.Lists.{All_last}
@@ -121,16 +121,16 @@ put_permutes R x (y ∷ ys) =
     ]
 
 -- tuples that are put in order are the same tuples
-pub sort_permutes : (xs : List Row) → IsPermutation (sorted xs) xs
+pub sort_permutes : (xs : List TupleView) → IsPermutation (sorted xs) xs
 sort_permutes [] = IsPermutation-refl []
 sort_permutes (x ∷ xs) = IsPermutation-trans _ _ _ (put_permutes tuple_cmp x (sorted xs)) (IsPermutation-cons x _ _ (sort_permutes xs))
 
 -- tuples in order stay as they are
-pub sort_twice : (xs : List Row) → sorted (sorted xs) ≡ sorted xs
+pub sort_twice : (xs : List TupleView) → sorted (sorted xs) ≡ sorted xs
 sort_twice xs = sort_permuted tuple_cmp tuple_total tuple_exact (sorted xs) xs (sort_permutes xs)
 
 -- tuples of a stream's kinds are suited
-pub rows_suit : (net : Net) → IsNetwork net → (kinds : List (List Kind)) (stores : List (Option Plain)) → IsTyped net kinds stores → (s : ℕ) → s < length kinds → (rows : List Row) → ((known : List Kind) → slice_get kinds s ≡ Some known → All (HasKinds known) rows)
+pub rows_suit : (net : Net) → IsNetwork net → (kinds : List (List Kind)) (stores : List (Option Plain)) → IsTyped net kinds stores → (s : ℕ) → s < length kinds → (rows : List TupleView) → ((known : List Kind) → slice_get kinds s ≡ Some known → All (HasKinds known) rows)
     → All (TupleSuits net (held stores) s) rows
 rows_suit net network kinds stores typed s lt rows have =
     let known = get_or kinds s [] in
@@ -138,7 +138,7 @@ rows_suit net network kinds stores typed s lt rows have =
     All-weaker (HasKinds known) (TupleSuits net (held stores) s) (λ r h. tuple_suits net network kinds stores typed s known is r h) rows (have known is)
 
 -- the open tuples of one stream more
-pub opened_step : (opened : List (List Row)) (done : List ℕ) (s : ℕ) → with_stream (opened_of opened done) s (get_or opened s []) ≡ opened_of opened (done ++ s ∷ [])
+pub opened_step : (opened : List (List TupleView)) (done : List ℕ) (s : ℕ) → with_stream (opened_of opened done) s (get_or opened s []) ≡ opened_of opened (done ++ s ∷ [])
 opened_step opened done s = λ i t. each t i
   where
     go : (t : ℕ) (b d : Bool) → (t == s) ≡ b → cond b (get_or opened s []) (cond d (get_or opened t []) []) ≡ cond (d || b) (get_or opened t []) []
@@ -149,11 +149,11 @@ opened_step opened done s = λ i t. each t i
     each t = go t (t == s) (is_in done t) refl ∙ ap (λ c. cond c (get_or opened t []) []) (sym (in_push done s t))
 
 -- a stream that is not met yet has none of its open tuples
-pub opened_none : (opened : List (List Row)) (done : List ℕ) (s : ℕ) → (Contains done s → ⊥) → opened_of opened done s ≡ []
+pub opened_none : (opened : List (List TupleView)) (done : List ℕ) (s : ℕ) → (Contains done s → ⊥) → opened_of opened done s ≡ []
 opened_none opened done s absent = ap (λ b. cond b (get_or opened s []) []) (not_in done s absent)
 
 -- once each stream with open tuples is met, the open tuples are all news so far
-pub opened_all : (opened made : List (List Row)) (touched : List ℕ) → AreOpened opened touched → opened_of opened touched ≡ news_of opened made []
+pub opened_all : (opened made : List (List TupleView)) (touched : List ℕ) → AreOpened opened touched → opened_of opened touched ≡ news_of opened made []
 opened_all opened made touched are = λ i t. each t i
   where
     go : (t : ℕ) (b : Bool) → is_in touched t ≡ b → (get_or opened t [] ≡ []) ⊎ Contains touched t → cond b (get_or opened t []) [] ≡ get_or opened t []
@@ -167,12 +167,12 @@ opened_all opened made touched are = λ i t. each t i
 -- no stream is met yet
 pub paired_none : (net : Net) (pairs : List Pair) → pairs ≡ [] → Paired net (λ _. []) pairs
 paired_none net pairs none = record {
-  sound = subst (All (λ (p : Pair). Contains (waits_on net p.stream) p.state × (p.place < length {A = Row} []))) (sym none) (All-nil (λ (p : Pair). Contains (waits_on net p.stream) p.state × (p.place < length {A = Row} [])));
+  sound = subst (All (λ (p : Pair). Contains (waits_on net p.stream) p.state × (p.place < length {A = TupleView} []))) (sym none) (All-nil (λ (p : Pair). Contains (waits_on net p.stream) p.state × (p.place < length {A = TupleView} [])));
   listed = λ s k r e n c. absurd (cc);
 }
 
 -- one more of the open streams is met
-pub opened_more : (net : Net) (stores : Stores) (opened : List (List Row)) (touched : List ℕ) (i : ℕ) (old new : Draft) (pairs more : List Pair) → IsNetwork net → i < length touched → (Contains (take i touched) (get_or touched i 0) → ⊥)
+pub opened_more : (net : Net) (stores : Stores) (opened : List (List TupleView)) (touched : List ℕ) (i : ℕ) (old new : Draft) (pairs more : List Pair) → IsNetwork net → i < length touched → (Contains (take i touched) (get_or touched i 0) → ⊥)
     → Drawn net stores (opened_of opened (take i touched)) old → Paired net (opened_of opened (take i touched)) pairs
     → Grows net (moves_of_all net stores (get_or touched i 0) (get_or opened (get_or touched i 0) [])) old new → ListsAll net (get_or touched i 0) (get_or opened (get_or touched i 0) []) pairs more
     → Drawn net stores (opened_of opened (take (i + 1) touched)) new × Paired net (opened_of opened (take (i + 1) touched)) more
@@ -184,7 +184,7 @@ opened_more net stores opened touched i old new pairs more network lt once drawn
     s : ℕ
     s = get_or touched i 0
 
-    rows : List Row
+    rows : List TupleView
     rows = get_or opened s []
 
     seen : Streams
@@ -200,7 +200,7 @@ opened_more net stores opened touched i old new pairs more network lt once drawn
     later = opened_step opened (take i touched) s ∙ ap (opened_of opened) (sym (take_more touched i 0 lt))
 
 -- once all are
-pub opened_drawn : (net : Net) (layout : Layout) (stores : List (Option Plain)) (opened : List (List Row)) (touched : List ℕ) (draft : Draft) (pairs : List Pair) → CanDraw net layout stores opened → AreOpened opened touched
+pub opened_drawn : (net : Net) (layout : Layout) (stores : List (Option Plain)) (opened : List (List TupleView)) (touched : List ℕ) (draft : Draft) (pairs : List Pair) → CanDraw net layout stores opened → AreOpened opened touched
     → DraftFits (length layout.kinds) (length net) draft → Drawn net (held stores) (opened_of opened touched) draft → Paired net (opened_of opened touched) pairs → DrawnUpTo net layout stores opened [] draft pairs
 opened_drawn net layout stores opened touched draft pairs can are fits drawn paired = record {
   fits = fits;
@@ -212,7 +212,7 @@ opened_drawn net layout stores opened touched draft pairs can are fits drawn pai
 }
 
 -- the tuples once a stream more is done
-news_step : (opened made more : List (List Row)) (done : List ℕ) (s : ℕ) (rows : List Row) → get_or more s [] ≡ rows → ((t : ℕ) → (t == s) ≡ false → is_in done t ≡ true → get_or more t [] ≡ get_or made t []) → with_stream (news_of opened made done) s rows ≡ news_of opened more (done ++ s ∷ [])
+news_step : (opened made more : List (List TupleView)) (done : List ℕ) (s : ℕ) (rows : List TupleView) → get_or more s [] ≡ rows → ((t : ℕ) → (t == s) ≡ false → is_in done t ≡ true → get_or more t [] ≡ get_or made t []) → with_stream (news_of opened made done) s rows ≡ news_of opened more (done ++ s ∷ [])
 news_step opened made more done s rows is same = λ i t. each t i
   where
     go : (t : ℕ) (b d : Bool) → (t == s) ≡ b → is_in done t ≡ d → cond b rows (cond d (get_or made t []) (get_or opened t [])) ≡ cond (d || b) (get_or more t []) (get_or opened t [])
@@ -231,7 +231,7 @@ same_sums f g (x ∷ xs) all =
     let more = same_sums f g xs (All-tail (λ x. f x ≡ g x) x xs all) in
     sum_by-cons f x xs ∙ (λ k. one k + more k) ∙ sym (sum_by-cons g x xs)
 
-module _ (net : Net) (layout : Layout) (stores : List (Option Plain)) (opened : List (List Row)) (can : CanDraw net layout stores opened) (i : ℕ) (lt : i < length layout.order) where
+module _ (net : Net) (layout : Layout) (stores : List (Option Plain)) (opened : List (List TupleView)) (can : CanDraw net layout stores opened) (i : ℕ) (lt : i < length layout.order) where
   abbrev order : List ℕ
   order = layout.order
 
@@ -258,7 +258,7 @@ module _ (net : Net) (layout : Layout) (stores : List (Option Plain)) (opened : 
   apart = not_done can.lines done s (drop (i + 1) order) serves.in_order
 
   -- the stream has no tuples yet
-  unseen : (made : List (List Row)) → news_of opened made done s ≡ []
+  unseen : (made : List (List TupleView)) → news_of opened made done s ≡ []
   unseen made = ap (λ b. cond b (get_or made s []) (get_or opened s [])) apart ∙ underived
 
   -- what is made for it suits
@@ -266,7 +266,7 @@ module _ (net : Net) (layout : Layout) (stores : List (Option Plain)) (opened : 
   made_suits draft pairs was =
       rows_suit net can.network layout.kinds stores can.typed s below (get_or draft.made s [])
       (λ known is.
-      All-permutation (HasKinds known) (published net (news_of opened draft.made done) (held stores) s) (get_or draft.made s []) (IsPermutation-sym _ _ (was.drawn.made s))
+      All-permutation (HasKinds known) (given_by_ends net (news_of opened draft.made done) (held stores) s) (get_or draft.made s []) (IsPermutation-sym _ _ (was.drawn.made s))
       (published_kinds net can.network layout.kinds stores can.typed (news_of opened draft.made done) was.kinds s known is))
 
   -- a stream that isn't due
@@ -288,14 +288,14 @@ module _ (net : Net) (layout : Layout) (stores : List (Option Plain)) (opened : 
 
       same : news_of opened draft.made done ≡ news_of opened draft.made (done ++ s ∷ [])
       same =
-          sym (with_none net (held stores) s (news_of opened draft.made done)) ∙ ap (λ (rows : List Row). with_stream (news_of opened draft.made done) s (rows ++ [])) (unseen draft.made) ∙ step
+          sym (with_none net (held stores) s (news_of opened draft.made done)) ∙ ap (λ (rows : List TupleView). with_stream (news_of opened draft.made done) s (rows ++ [])) (unseen draft.made) ∙ step
 
   -- one that is
   module _ (old new : Draft) (pairs more : List Pair) (was : DrawnUpTo net layout stores opened done old pairs) (derives : Derives net (held stores) s old new pairs more) where
     abbrev seen : Streams
     seen = news_of opened old.made done
 
-    abbrev rows : List Row
+    abbrev rows : List TupleView
     rows = derives.tuples
 
     abbrev later : Streams
@@ -304,37 +304,37 @@ module _ (net : Net) (layout : Layout) (stores : List (Option Plain)) (opened : 
     abbrev moves : List Move
     moves = moves_of_all net (held stores) s rows
 
-    published_rows : IsPermutation rows (published net seen (held stores) s)
+    published_rows : IsPermutation rows (given_by_ends net seen (held stores) s)
     published_rows = IsPermutation-trans _ _ _ derives.same (was.drawn.made s)
 
     grown : IsEpoch net (done ++ s ∷ []) (held stores) (streams_of opened) later
     grown = epoch_grows net can.lines done s (drop (i + 1) order) (held stores) (streams_of opened) seen rows serves was.epoch published_rows
 
     comes : IsPermutation (moves_seen net (held stores) later) (moves_seen net (held stores) seen ++ moves)
-    comes = subst (λ (ts : List Row). IsPermutation (moves_seen net (held stores) (with_stream seen s (ts ++ rows))) (moves_seen net (held stores) seen ++ moves)) (unseen old.made) (stream_comes net (held stores) s rows seen)
+    comes = subst (λ (ts : List TupleView). IsPermutation (moves_seen net (held stores) (with_stream seen s (ts ++ rows))) (moves_seen net (held stores) seen ++ moves)) (unseen old.made) (stream_comes net (held stores) s rows seen)
 
     there : s < length derives.met.made
     there = let e = derives.grows.fits.made in let f = length-set old.made s [] in omega (arith, e, f, was.fits.made, below)
 
     own : get_or new.made s [] ≡ rows
-    own = ap (λ (l : List (List Row)). get_or l s []) derives.made ∙ get_or-set_at derives.met.made s s rows [] refl there
+    own = ap (λ (l : List (List TupleView)). get_or l s []) derives.made ∙ get_or-set_at derives.met.made s s rows [] refl there
 
     others : (t : ℕ) → (t ≡ s → ⊥) → Adds (made_of t moves) (get_or old.made t []) (get_or new.made t [])
     others t other =
         let adds = derives.grows.made t in record {
           added = adds.added;
           is =
-              ap (λ (l : List (List Row)). get_or l t []) derives.made ∙ get_or-set_other derives.met.made s t rows [] other ∙ adds.is ∙ ap (λ xs. xs ++ adds.added) (get_or-set_other old.made s t [] [] other);
+              ap (λ (l : List (List TupleView)). get_or l t []) derives.made ∙ get_or-set_other derives.met.made s t rows [] other ∙ adds.is ∙ ap (λ xs. xs ++ adds.added) (get_or-set_other old.made s t [] [] other);
           same = adds.same;
         }
 
-    own_published : IsPermutation rows (published net later (held stores) s)
+    own_published : IsPermutation rows (given_by_ends net later (held stores) s)
     own_published =
         permuted_from (sym (ap (λ b. cond b rows (seen s)) (is_itself s)))
-        (All_last (λ t. IsPermutation (later t) (published net later (held stores) t)) done s grown.derived)
+        (All_last (λ t. IsPermutation (later t) (given_by_ends net later (held stores) t)) done s grown.derived)
 
-    made_at : (t : ℕ) → (t ≡ s) ⊎ (t ≡ s → ⊥) → IsPermutation (get_or new.made t []) (published net later (held stores) t)
-    made_at t (inl same) = subst (λ u. IsPermutation (get_or new.made u []) (published net later (held stores) u)) (sym same) (permuted_from own own_published)
+    made_at : (t : ℕ) → (t ≡ s) ⊎ (t ≡ s → ⊥) → IsPermutation (get_or new.made t []) (given_by_ends net later (held stores) t)
+    made_at t (inl same) = subst (λ u. IsPermutation (get_or new.made u []) (given_by_ends net later (held stores) u)) (sym same) (permuted_from own own_published)
     made_at t (inr other) = made_grows net (held stores) seen later moves t (get_or old.made t []) (get_or new.made t []) comes (was.drawn.made t) (others t other)
 
     drawn : Drawn net (held stores) later new
@@ -351,12 +351,12 @@ module _ (net : Net) (layout : Layout) (stores : List (Option Plain)) (opened : 
     -- a stream that was done has no more
     kept : (t : ℕ) → (t == s) ≡ false → is_in done t ≡ true → get_or new.made t [] ≡ get_or old.made t []
     kept t e f =
-        let before : IsPermutation (later t) (published net later (held stores) t) =
-        All-contains (λ t. IsPermutation (later t) (published net later (held stores) t)) done t (all_left (λ t. IsPermutation (later t) (published net later (held stores) t)) done (s ∷ []) grown.derived) (contains_in done t f) in
+        let before : IsPermutation (later t) (given_by_ends net later (held stores) t) =
+        All-contains (λ t. IsPermutation (later t) (given_by_ends net later (held stores) t)) done t (all_left (λ t. IsPermutation (later t) (given_by_ends net later (held stores) t)) done (s ∷ []) grown.derived) (contains_in done t f) in
         let is : later t ≡ get_or old.made t [] = ap (λ b. cond b rows (seen t)) e ∙ ap (λ b. cond b (get_or old.made t []) (get_or opened t [])) f in
         let adds = others t (λ same. absurd (let no = ap (λ k. k == s) same ∙ is_itself s in cc)) in
-        let one : length (published net later (held stores) t) ≡ length (get_or old.made t []) = length_permutation _ _ before ∙ ap length is in
-        let two : length (published net later (held stores) t) ≡ length (get_or new.made t []) = length_permutation _ _ (drawn.made t) in
+        let one : length (given_by_ends net later (held stores) t) ≡ length (get_or old.made t []) = length_permutation _ _ before ∙ ap length is in
+        let two : length (given_by_ends net later (held stores) t) ≡ length (get_or new.made t []) = length_permutation _ _ (drawn.made t) in
         let three : length (get_or new.made t []) ≡ length (get_or old.made t []) + length adds.added = ap length adds.is ∙ length-append (get_or old.made t []) adds.added in
         adds.is ∙ ap (λ xs. get_or old.made t [] ++ xs) (no_length adds.added (omega (arith, one, two, three))) ∙ append-nil (get_or old.made t [])
 
@@ -365,7 +365,7 @@ module _ (net : Net) (layout : Layout) (stores : List (Option Plain)) (opened : 
       where
         go : (b : Bool) → (t == s) ≡ b → All (HasKinds known) (cond b rows (seen t))
         go true e =
-            All-permutation (HasKinds known) (published net seen (held stores) s) rows (IsPermutation-sym _ _ published_rows)
+            All-permutation (HasKinds known) (given_by_ends net seen (held stores) s) rows (IsPermutation-sym _ _ published_rows)
             (published_kinds net can.network layout.kinds stores can.typed seen was.kinds s known (ap (slice_get layout.kinds) (sym (equal_number t s e)) ∙ is))
         go false e = was.kinds t known is
 
@@ -424,6 +424,6 @@ module _ (net : Net) (layout : Layout) (stores : List (Option Plain)) (opened : 
         mine = ap (stream_work net (held stores) s) own ∙ sym (sum_by-IsPermutation (tuple_work net (held stores) s) rows (get_or old.made s []) derives.same)
 
 -- a stream that is not marked has no tuples
-pub unmarked_none : (ts : List Row) (marked : List ℕ) (s : ℕ) → (ts ≡ []) ⊎ Contains marked s → (Contains marked s → ⊥) → ts ≡ []
+pub unmarked_none : (ts : List TupleView) (marked : List ℕ) (s : ℕ) → (ts ≡ []) ⊎ Contains marked s → (Contains marked s → ⊥) → ts ≡ []
 unmarked_none ts marked s (inl none) absent = none
 unmarked_none ts marked s (inr there) absent = absurd (absent there)

@@ -6,7 +6,7 @@ use Rattle.std.proofs.lemmas.Bool.Decides.{nat_tests}
 use Rattle.std.proofs.lemmas.Grind.{flat_map-append, get_or-set_at}
 use Rattle.std.proofs.lemmas.List.{append-nil, get_or-set_other, length-set, map-append}
 use Rattle.std.proofs.lemmas.List.Sorted.{IsPermutation-append, IsPermutation-append_left, IsPermutation-append_right, IsPermutation-map, IsPermutation-refl, IsPermutation-sym, IsPermutation-to_front, IsPermutation-trans}
-use Rattle.event_types.specs.Tuple.{Row}
+use Rattle.event_types.specs.Tuple.{TupleView}
 use Rattle.instances.specs.declared.instance.Instance.{Instance}
 use Rattle.scalar_expr.proofs.Bags.{flat_map_permuted, permuted_from, permuted_to}
 use Rattle.automaton.specs.States.{Net, step_at}
@@ -22,7 +22,7 @@ use Rattle.epoch_draft.specs.declared.marks.Marks.{Marks}
 use Rattle.epoch_draft.proofs.Lists.{same_or_other}
 
 -- tuples of one stream
-pub made_fits : (old : Draft) (s : ℕ) (rows : List Row) (due : Marks) → DraftFits (length old.made) (length old.beads) old → MarksMore old.due due → Contains due.numbers s
+pub made_fits : (old : Draft) (s : ℕ) (rows : List TupleView) (due : Marks) → DraftFits (length old.made) (length old.beads) old → MarksMore old.due due → Contains due.numbers s
     → DraftFits (length old.made) (length old.beads) (record { made = set old.made s rows; beads = old.beads; due = due; reached = old.reached })
 made_fits old s rows due fits more marked = record {
   made = length-set old.made s rows;
@@ -109,7 +109,7 @@ pub grows_trans : (net : Net) (a b : List Move) (old mid new : Draft) → Grows 
 grows_trans net a b old mid new one two = record {
   fits = subst (λ (m : ℕ). DraftFits m (length net) new) one.fits.made two.fits;
   made = λ s.
-      subst (λ (rows : List Row). Adds rows (get_or old.made s []) (get_or new.made s [])) (sym (made_append s a b))
+      subst (λ (rows : List TupleView). Adds rows (get_or old.made s []) (get_or new.made s [])) (sym (made_append s a b))
       (adds_trans (made_of s a) (made_of s b) (get_or old.made s []) (get_or mid.made s []) (get_or new.made s []) (one.made s) (two.made s));
   bound = λ w.
       let f = bound_of net w in
@@ -130,7 +130,7 @@ other_test : (m n : ℕ) → (m ≡ n → ⊥) → (m == n) ≡ false
 other_test m n ne = grind (arith, nat_tests)
 
 -- one list of tuples is longer by those of the stream
-made_adds : (s : ℕ) (rows : List Row) (old : List (List Row)) (t : ℕ) → s < length old → (made : List Row) → made ≡ cond (s == t) rows [] → Adds made (get_or old t []) (get_or (set old s (get_or old s [] ++ rows)) t [])
+made_adds : (s : ℕ) (rows : List TupleView) (old : List (List TupleView)) (t : ℕ) → s < length old → (made : List TupleView) → made ≡ cond (s == t) rows [] → Adds made (get_or old t []) (get_or (set old s (get_or old s [] ++ rows)) t [])
 made_adds s rows old t lt made e = go (same_or_other t s)
   where
     go : (t ≡ s) ⊎ (t ≡ s → ⊥) → Adds made (get_or old t []) (get_or (set old s (get_or old s [] ++ rows)) t [])
@@ -140,36 +140,36 @@ made_adds s rows old t lt made e = go (same_or_other t s)
       same = permuted_is (sym (e ∙ ap (λ b. cond b rows []) (same_test s t (sym same))));
     }
     go (inr other) =
-        subst (λ (xs : List Row). Adds xs (get_or old t []) (get_or (set old s (get_or old s [] ++ rows)) t [])) (sym (e ∙ ap (λ b. cond b rows []) (other_test s t (λ eq. other (sym eq)))))
+        subst (λ (xs : List TupleView). Adds xs (get_or old t []) (get_or (set old s (get_or old s [] ++ rows)) t [])) (sym (e ∙ ap (λ b. cond b rows []) (other_test s t (λ eq. other (sym eq)))))
         (adds_none (get_or old t []) (get_or (set old s (get_or old s [] ++ rows)) t []) (get_or-set_other old s t (get_or old s [] ++ rows) [] other))
 
 -- a tuple that goes out
-pub out_grows : (net : Net) (old new : Draft) (e : End) (x y : Row) → e.out < length old.made → pass e.step x ≡ Some y → length old.beads ≡ length net
+pub out_grows : (net : Net) (old new : Draft) (e : End) (x y : TupleView) → e.out < length old.made → pass e.step x ≡ Some y → length old.beads ≡ length net
     → new.made ≡ set old.made e.out (get_or old.made e.out [] ++ y ∷ []) → new.beads ≡ old.beads → DraftFits (length old.made) (length old.beads) new → Grows net (moves_on (Out e ∷ []) x) old new
 out_grows net old new e x y lt passes many made beads fits = record {
   fits = subst (λ (m : ℕ). DraftFits (length old.made) m new) many fits;
   made = λ t.
-      subst (λ (lists : List (List Row)). Adds (made_of t (moves_on (Out e ∷ []) x)) (get_or old.made t []) (get_or lists t [])) (sym made)
+      subst (λ (lists : List (List TupleView)). Adds (made_of t (moves_on (Out e ∷ []) x)) (get_or old.made t []) (get_or lists t [])) (sym made)
       (made_adds e.out (y ∷ []) old.made t lt (made_of t (moves_on (Out e ∷ []) x)) (append-nil (cond (e.out == t) (option_to_list (pass e.step x)) []) ∙ ap (λ o. cond (e.out == t) (option_to_list o) []) passes));
   bound = λ w. permuted_is (ap (λ (lists : List (List Instance)). get_or lists w []) beads ∙ sym (append-nil (get_or old.beads w [])));
 }
 
 -- one that doesn't pass
-pub out_stays : (net : Net) (old : Draft) (e : End) (x : Row) → pass e.step x ≡ None → DraftFits (length old.made) (length net) old → Grows net (moves_on (Out e ∷ []) x) old old
+pub out_stays : (net : Net) (old : Draft) (e : End) (x : TupleView) → pass e.step x ≡ None → DraftFits (length old.made) (length net) old → Grows net (moves_on (Out e ∷ []) x) old old
 out_stays net old e x passes fits = record {
   fits = fits;
   made = λ t.
-      subst (λ (rows : List Row). Adds rows (get_or old.made t []) (get_or old.made t []))
+      subst (λ (rows : List TupleView). Adds rows (get_or old.made t []) (get_or old.made t []))
       (sym (append-nil (cond (e.out == t) (option_to_list (pass e.step x)) []) ∙ ap (λ o. cond (e.out == t) (option_to_list o) []) passes ∙ none (e.out == t))) (adds_none (get_or old.made t []) (get_or old.made t []) refl);
   bound = λ w. permuted_is (sym (append-nil (get_or old.beads w [])));
 }
   where
-    none : (b : Bool) → cond b (option_to_list {X = Row} None) [] ≡ []
+    none : (b : Bool) → cond b (option_to_list {X = TupleView} None) [] ≡ []
     none true = refl
     none false = refl
 
 -- one chain is longer by a bead
-bound_adds : (w : ℕ) (y : Row) (old : List (List Instance)) (v : ℕ) → w < length old → (bound : List Row) → bound ≡ cond (w == v) (y ∷ []) []
+bound_adds : (w : ℕ) (y : TupleView) (old : List (List Instance)) (v : ℕ) → w < length old → (bound : List TupleView) → bound ≡ cond (w == v) (y ∷ []) []
     → IsPermutation (get_or (set old w (instance_of y ∷ get_or old w [])) v []) (get_or old v [] ++ map instance_of bound)
 bound_adds w y old v lt bound e = go (same_or_other v w)
   where
@@ -183,31 +183,31 @@ bound_adds w y old v lt bound e = go (same_or_other v w)
         ∙ ap (λ rows. get_or old v [] ++ map instance_of rows) (sym (e ∙ ap (λ b. cond b (y ∷ []) []) (other_test w v (λ eq. other (sym eq))))))
 
 -- a bead more on some way
-bead_grows : (net : Net) (old new : Draft) (way : Way) (w : ℕ) (x y : Row) → w < length old.beads → ((t : ℕ) → made_by t x way ≡ []) → ((v : ℕ) → bound_by net v x way ≡ cond (w == v) (y ∷ []) []) → length old.beads ≡ length net
+bead_grows : (net : Net) (old new : Draft) (way : Way) (w : ℕ) (x y : TupleView) → w < length old.beads → ((t : ℕ) → made_by t x way ≡ []) → ((v : ℕ) → bound_by net v x way ≡ cond (w == v) (y ∷ []) []) → length old.beads ≡ length net
     → new.beads ≡ set old.beads w (instance_of y ∷ get_or old.beads w []) → new.made ≡ old.made → DraftFits (length old.made) (length old.beads) new → Grows net (moves_on (way ∷ []) x) old new
 bead_grows net old new way w x y lt none one many beads made fits = record {
   fits = subst (λ (m : ℕ). DraftFits (length old.made) m new) many fits;
   made = λ t.
-      subst (λ (rows : List Row). Adds rows (get_or old.made t []) (get_or new.made t [])) (sym (append-nil (made_by t x way) ∙ none t))
-      (adds_none (get_or old.made t []) (get_or new.made t []) (ap (λ (lists : List (List Row)). get_or lists t []) made));
+      subst (λ (rows : List TupleView). Adds rows (get_or old.made t []) (get_or new.made t [])) (sym (append-nil (made_by t x way) ∙ none t))
+      (adds_none (get_or old.made t []) (get_or new.made t []) (ap (λ (lists : List (List TupleView)). get_or lists t []) made));
   bound = λ v.
       permuted_from (ap (λ (lists : List (List Instance)). get_or lists v []) beads)
       (bound_adds w y old.beads v lt (bound_of net v (moves_on (way ∷ []) x)) (append-nil (bound_by net v x way) ∙ one v));
 }
 
 -- a tuple that goes into a state
-pub into_grows : (net : Net) (old new : Draft) (w : ℕ) (x y : Row) → w < length old.beads → pass (step_at net w) x ≡ Some y → length old.beads ≡ length net
+pub into_grows : (net : Net) (old new : Draft) (w : ℕ) (x y : TupleView) → w < length old.beads → pass (step_at net w) x ≡ Some y → length old.beads ≡ length net
     → new.beads ≡ set old.beads w (instance_of y ∷ get_or old.beads w []) → new.made ≡ old.made → DraftFits (length old.made) (length old.beads) new → Grows net (moves_on (Into w ∷ []) x) old new
 into_grows net old new w x y lt passes many beads made fits =
     bead_grows net old new (Into w) w x y lt (λ t. refl) (λ v. ap (λ o. cond (w == v) (option_to_list o) []) passes) many beads made fits
 
 -- and one that goes back
-pub back_grows : (net : Net) (old new : Draft) (w : ℕ) (x : Row) → w < length old.beads → length old.beads ≡ length net
+pub back_grows : (net : Net) (old new : Draft) (w : ℕ) (x : TupleView) → w < length old.beads → length old.beads ≡ length net
     → new.beads ≡ set old.beads w (instance_of x ∷ get_or old.beads w []) → new.made ≡ old.made → DraftFits (length old.made) (length old.beads) new → Grows net (moves_on (Back w ∷ []) x) old new
 back_grows net old new w x lt many beads made fits = bead_grows net old new (Back w) w x x lt (λ t. refl) (λ v. refl) many beads made fits
 
 -- one that does not pass into a state
-pub into_stays : (net : Net) (old : Draft) (w : ℕ) (x : Row) → pass (step_at net w) x ≡ None → DraftFits (length old.made) (length net) old → Grows net (moves_on (Into w ∷ []) x) old old
+pub into_stays : (net : Net) (old : Draft) (w : ℕ) (x : TupleView) → pass (step_at net w) x ≡ None → DraftFits (length old.made) (length net) old → Grows net (moves_on (Into w ∷ []) x) old old
 into_stays net old w x passes fits = record {
   fits = fits;
   made = λ t. adds_none (get_or old.made t []) (get_or old.made t []) refl;
@@ -216,7 +216,7 @@ into_stays net old w x passes fits = record {
       ∙ ap (λ rows. get_or old.beads v [] ++ map instance_of rows) (sym (append-nil (cond (w == v) (option_to_list (pass (step_at net w) x)) []) ∙ ap (λ o. cond (w == v) (option_to_list o) []) passes ∙ none (w == v))));
 }
   where
-    none : (b : Bool) → cond b (option_to_list {X = Row} None) [] ≡ []
+    none : (b : Bool) → cond b (option_to_list {X = TupleView} None) [] ≡ []
     none true = refl
     none false = refl
 
@@ -240,7 +240,7 @@ without_fits old s fits = record {
     dropped : (t : ℕ) → t ≡ s → (get_or old.made t [] ≡ []) ⊎ Contains old.due.numbers t → (get_or (set old.made s []) t [] ≡ []) ⊎ Contains old.due.numbers t
     dropped t same (inl none) = inl (cleared old.made s t same none)
       where
-        cleared : (lists : List (List Row)) (s t : ℕ) → t ≡ s → get_or lists t [] ≡ [] → get_or (set lists s []) t [] ≡ []
+        cleared : (lists : List (List TupleView)) (s t : ℕ) → t ≡ s → get_or lists t [] ≡ [] → get_or (set lists s []) t [] ≡ []
         cleared [] s t same none = refl
         cleared (l ∷ lists) zero zero same none = refl
         cleared (l ∷ lists) zero (suc t) same none = absurd (omega arith)

@@ -9,7 +9,7 @@ use Rattle.std.proofs.lemmas.Grind.{flat_map-append}
 use Rattle.std.proofs.lemmas.List.{append-nil, map-append}
 use Rattle.std.proofs.lemmas.List.Elements.{All-append, All-weaker, Contains-append_left, Contains-append_right}
 use Rattle.std.proofs.lemmas.List.Sorted.{IsPermutation-append, IsPermutation-append_left, IsPermutation-append_right, IsPermutation-map, IsPermutation-sym, IsPermutation-trans, length_permutation}
-use Rattle.event_types.specs.Tuple.{Row}
+use Rattle.event_types.specs.Tuple.{TupleView}
 use Rattle.instances.specs.declared.instance.Instance.{Instance}
 use Rattle.semantics.specs.Denotation.{Streams}
 use Rattle.semantics.specs.Programs.{with_stream}
@@ -17,17 +17,17 @@ use Rattle.semantics.specs.Scalars.{Pr}
 use Rattle.scalar_expr.proofs.Bags.{flat_map_permuted, permuted_from, permuted_to}
 use Rattle.automaton.specs.Flow.{entering}
 use Rattle.automaton.specs.Networks.{IsNetwork}
-use Rattle.automaton.specs.States.{Net, before_at, before_by, edges_at, ends_at, entry_at, state_at, wait_at}
+use Rattle.automaton.specs.States.{Net, before_at, before_by, edges_at, ends_at, entrance_at, state_at, wait_at}
 use Rattle.automaton.specs.Steps.{pass}
 use Rattle.automaton.specs.Work.{is_in}
 use Rattle.automaton.specs.declared.network.End.{End}
 use Rattle.automaton.specs.declared.wait.Turn.{Turn}
 use Rattle.automaton.specs.declared.line.Hop.{Hop}
-use Rattle.automaton.specs.declared.network.Entry.{Entry}
-use Rattle.automaton.specs.declared.network.Entry.TheVariants.{Root, Waiting}
+use Rattle.automaton.specs.declared.network.Entrance.{Entrance}
+use Rattle.automaton.specs.declared.network.Entrance.TheVariants.{Root, Waiting}
 use Rattle.automaton.specs.declared.network.State.{State}
-use Rattle.epoch_laws.specs.Closing.{IsEpoch, Stores, leaves, leaves_by, published, published_at, stepped_by, stores_after}
-use Rattle.epoch_laws.specs.Epochs.{again, left, took}
+use Rattle.epoch_laws.specs.Closing.{IsEpoch, Stores, leaving_state, leaving_by, given_by_ends, given_by_ends_at, stepped_by, stores_after}
+use Rattle.epoch_laws.specs.Epochs.{again, unmatched_after, took}
 use Rattle.epoch_laws.specs.Instances.{instance_of}
 use Rattle.epoch_laws.proofs.Bags.{no_length, permuted_is}
 use Rattle.epoch_laws.proofs.Lists.{every}
@@ -47,7 +47,7 @@ use Rattle.semantics.proofs.ReportLemmas.{flat_map_same}
 
 -- all moves of the tuples that are met so far
 abbrev pub moves_seen : Net → Stores → Streams → List Move
-moves_seen net stores seen = moves_over net (leaves net seen stores)
+moves_seen net stores seen = moves_over net (leaving_state net seen stores)
 
 module _ (net : Net) (stores : Stores) (s : ℕ) where
   pub with_none : (seen : Streams) → with_stream seen s (seen s ++ []) ≡ seen
@@ -60,7 +60,7 @@ module _ (net : Net) (stores : Stores) (s : ℕ) where
       each : (t : ℕ) → with_stream seen s (seen s ++ []) t ≡ seen t
       each t = go t (t == s) refl
 
-  with_more : (seen : Streams) (r : Row) (rows : List Row) → with_stream (with_tuple seen s r) s (with_tuple seen s r s ++ rows) ≡ with_stream seen s (seen s ++ (r ∷ rows))
+  with_more : (seen : Streams) (r : TupleView) (rows : List TupleView) → with_stream (with_tuple seen s r) s (with_tuple seen s r s ++ rows) ≡ with_stream seen s (seen s ++ (r ∷ rows))
   with_more seen r rows = λ i t. each t i
     where
       own : with_tuple seen s r s ≡ seen s ++ r ∷ []
@@ -77,7 +77,7 @@ module _ (net : Net) (stores : Stores) (s : ℕ) where
       each t = go t (t == s)
 
   -- with more tuples of a stream, what comes of them moves besides
-  pub stream_comes : (rows : List Row) (seen : Streams) → IsPermutation (moves_seen net stores (with_stream seen s (seen s ++ rows))) (moves_seen net stores seen ++ moves_of_all net stores s rows)
+  pub stream_comes : (rows : List TupleView) (seen : Streams) → IsPermutation (moves_seen net stores (with_stream seen s (seen s ++ rows))) (moves_seen net stores seen ++ moves_of_all net stores s rows)
   stream_comes [] seen = permuted_is (ap (moves_seen net stores) (with_none seen) ∙ sym (append-nil (moves_seen net stores seen)))
   stream_comes (r ∷ rows) seen =
       let one = with_tuple seen s r in
@@ -85,7 +85,7 @@ module _ (net : Net) (stores : Stores) (s : ℕ) where
       (permuted_to
       (IsPermutation-trans _ _ _ (stream_comes rows one)
       (IsPermutation-append_left (moves_of_all net stores s rows) (moves_seen net stores one) (moves_seen net stores seen ++ moves_of net stores s r)
-      (moves_parts net (leaves net one stores) (leaves net seen stores) (gets net stores s r) (tuple_comes net stores seen s r))))
+      (moves_parts net (leaving_state net one stores) (leaving_state net seen stores) (gets net stores s r) (tuple_comes net stores seen s r))))
       (append_assoc (moves_seen net stores seen) (moves_of net stores s r) (moves_of_all net stores s rows)))
 
 -- a state to which an edge leads has a state before it
@@ -105,33 +105,33 @@ before_state net network n b h = go (state_at net b) refl
         absurd (no_item n none)
 
 -- a number with an entry is below that of all places
-pub entry_below : (net : Net) (n : ℕ) (entry : Entry) → entry_at net n ≡ Some entry → n < length net
-entry_below net n entry at = go (state_at net n) refl at
+pub entry_below : (net : Net) (n : ℕ) (entrance : Entrance) → entrance_at net n ≡ Some entrance → n < length net
+entry_below net n entrance at = go (state_at net n) refl at
   where
-    go : (o : Option State) → state_at net n ≡ o → option_map (λ (s : State). s.entry) o ≡ Some entry → n < length net
+    go : (o : Option State) → state_at net n ≡ o → option_map (λ (s : State). s.entrance) o ≡ Some entrance → n < length net
     go None e at = absurd (cc)
     go (Some state) e at = state_below net n state e
 
 -- what comes to a waiting state
-abbrev pub comes_to : Net → Stores → Streams → ℕ → ℕ → Hop → List Row
-comes_to net stores seen n before hop = entering hop (leaves net seen stores before) ++ again hop.wait.fold (took hop.wait.choose hop.wait.fold (seen hop.wait.stream) (stores n))
+abbrev pub comes_to : Net → Stores → Streams → ℕ → ℕ → Hop → List TupleView
+comes_to net stores seen n before hop = entering hop (leaving_state net seen stores before) ++ again hop.wait.fold (took hop.wait.choose hop.wait.fold (seen hop.wait.stream) (stores n))
 
-bound_seen : (net : Net) → IsNetwork net → (stores : Stores) (seen : Streams) (n before : ℕ) (hop : Hop) → entry_at net n ≡ Some (Waiting before hop) → IsPermutation (bound_of net n (moves_seen net stores seen)) (comes_to net stores seen n before hop)
+bound_seen : (net : Net) → IsNetwork net → (stores : Stores) (seen : Streams) (n before : ℕ) (hop : Hop) → entrance_at net n ≡ Some (Waiting before hop) → IsPermutation (bound_of net n (moves_seen net stores seen)) (comes_to net stores seen n before hop)
 bound_seen net network stores seen n before hop at =
     let found = before_state net network n before (ap (option_and_then before_by) at) in
     permuted_to
-    (bound_over net network n (leaves net seen stores) before hop at (state_below net before found.0 found.1) (entry_below net n (Waiting before hop) at))
-    (ap (λ (o : Option Entry). entering hop (leaves net seen stores before) ++ again hop.wait.fold (leaves_by o seen (stores n))) at)
+    (bound_over net network n (leaving_state net seen stores) before hop at (state_below net before found.0 found.1) (entry_below net n (Waiting before hop) at))
+    (ap (λ (o : Option Entrance). entering hop (leaving_state net seen stores before) ++ again hop.wait.fold (leaving_by o seen (stores n))) at)
 
 -- more is met, for one stream
-pub made_grows : (net : Net) (stores : Stores) (seen later : Streams) (moves : List Move) (s : ℕ) (old new : List Row) → IsPermutation (moves_seen net stores later) (moves_seen net stores seen ++ moves)
-    → IsPermutation old (published net seen stores s) → Adds (made_of s moves) old new → IsPermutation new (published net later stores s)
+pub made_grows : (net : Net) (stores : Stores) (seen later : Streams) (moves : List Move) (s : ℕ) (old new : List TupleView) → IsPermutation (moves_seen net stores later) (moves_seen net stores seen ++ moves)
+    → IsPermutation old (given_by_ends net seen stores s) → Adds (made_of s moves) old new → IsPermutation new (given_by_ends net later stores s)
 made_grows net stores seen later moves s old new comes was adds =
     permuted_from adds.is
     (IsPermutation-trans _ _ _
-    (IsPermutation-append old (made_of s before) adds.added (made_of s moves) (IsPermutation-trans _ _ _ was (IsPermutation-sym _ _ (made_over net (leaves net seen stores) s))) adds.same)
+    (IsPermutation-append old (made_of s before) adds.added (made_of s moves) (IsPermutation-trans _ _ _ was (IsPermutation-sym _ _ (made_over net (leaving_state net seen stores) s))) adds.same)
     (permuted_from (sym (flat_map-append (λ (m : Move). made_by s m.tuple m.way) before moves))
-    (IsPermutation-trans _ _ _ (IsPermutation-sym _ _ (flat_map_permuted (λ (m : Move). made_by s m.tuple m.way) after (before ++ moves) comes)) (made_over net (leaves net later stores) s))))
+    (IsPermutation-trans _ _ _ (IsPermutation-sym _ _ (flat_map_permuted (λ (m : Move). made_by s m.tuple m.way) after (before ++ moves) comes)) (made_over net (leaving_state net later stores) s))))
   where
     before : List Move
     before = moves_seen net stores seen
@@ -140,7 +140,7 @@ made_grows net stores seen later moves s old new comes was adds =
     after = moves_seen net stores later
 
 -- and for one waiting state
-pub bound_grows : (net : Net) → IsNetwork net → (stores : Stores) (seen later : Streams) (moves : List Move) (n b : ℕ) (hop : Hop) (at : entry_at net n ≡ Some (Waiting b hop)) (old new : List Instance) → IsPermutation (moves_seen net stores later) (moves_seen net stores seen ++ moves)
+pub bound_grows : (net : Net) → IsNetwork net → (stores : Stores) (seen later : Streams) (moves : List Move) (n b : ℕ) (hop : Hop) (at : entrance_at net n ≡ Some (Waiting b hop)) (old new : List Instance) → IsPermutation (moves_seen net stores later) (moves_seen net stores seen ++ moves)
     → IsPermutation old (map instance_of (comes_to net stores seen n b hop)) → IsPermutation new (old ++ map instance_of (bound_of net n moves)) → IsPermutation new (map instance_of (comes_to net stores later n b hop))
 bound_grows net network stores seen later moves n b hop at old new comes was grows =
     IsPermutation-trans _ _ _ grows
@@ -158,24 +158,24 @@ bound_grows net network stores seen later moves n b hop at old new comes was gro
     after = moves_seen net stores later
 
 -- nothing comes to a state where none waits
-unbound_all : (net : Net) → IsNetwork net → (stores : Stores) (s : ℕ) (n : ℕ) → wait_at net n ≡ None → (rows : List Row) → bound_of net n (moves_of_all net stores s rows) ≡ []
+unbound_all : (net : Net) → IsNetwork net → (stores : Stores) (s : ℕ) (n : ℕ) → wait_at net n ≡ None → (rows : List TupleView) → bound_of net n (moves_of_all net stores s rows) ≡ []
 unbound_all net network stores s n none [] = refl
 unbound_all net network stores s n none (r ∷ rows) =
     flat_map-append (λ (m : Move). bound_by net n m.tuple m.way) (moves_of net stores s r) (moves_of_all net stores s rows)
     ∙ ap (λ xs. xs ++ bound_of net n (moves_of_all net stores s rows)) (unbound_over net network n none (gets net stores s r)) ∙ unbound_all net network stores s n none rows
 
-unbound_stays : (old new : List Instance) (rows : List Row) → IsPermutation new (old ++ map instance_of rows) → old ≡ [] → rows ≡ [] → new ≡ []
+unbound_stays : (old new : List Instance) (rows : List TupleView) → IsPermutation new (old ++ map instance_of rows) → old ≡ [] → rows ≡ [] → new ≡ []
 unbound_stays old new rows h o r =
     let e = length_permutation new (old ++ map instance_of rows) h in
-    let z : length (old ++ map instance_of rows) ≡ 0 = ap (λ (xs : List Instance). length (xs ++ map instance_of rows)) o ∙ ap (λ (rs : List Row). length (map instance_of rs)) r in
+    let z : length (old ++ map instance_of rows) ≡ 0 = ap (λ (xs : List Instance). length (xs ++ map instance_of rows)) o ∙ ap (λ (rs : List TupleView). length (map instance_of rs)) r in
     no_length new (omega (arith, e, z))
 
 -- so it stays without beads when more is met
-pub unbound_grows : (net : Net) → IsNetwork net → (stores : Stores) (s : ℕ) (rows : List Row) (n : ℕ) (old new : List Instance) → wait_at net n ≡ None → IsPermutation new (old ++ map instance_of (bound_of net n (moves_of_all net stores s rows))) → old ≡ [] → new ≡ []
+pub unbound_grows : (net : Net) → IsNetwork net → (stores : Stores) (s : ℕ) (rows : List TupleView) (n : ℕ) (old new : List Instance) → wait_at net n ≡ None → IsPermutation new (old ++ map instance_of (bound_of net n (moves_of_all net stores s rows))) → old ≡ [] → new ≡ []
 unbound_grows net network stores s rows n old new none h o = unbound_stays old new (bound_of net n (moves_of_all net stores s rows)) h o (unbound_all net network stores s n none rows)
 
 -- a draft that grows by the moves of one more stream has all that comes of that stream too
-pub drawn_comes : (net : Net) (stores : Stores) (seen : Streams) (s : ℕ) (rows : List Row) (old new : Draft) → IsNetwork net → Drawn net stores seen old → Grows net (moves_of_all net stores s rows) old new
+pub drawn_comes : (net : Net) (stores : Stores) (seen : Streams) (s : ℕ) (rows : List TupleView) (old new : Draft) → IsNetwork net → Drawn net stores seen old → Grows net (moves_of_all net stores s rows) old new
     → Drawn net stores (with_stream seen s (seen s ++ rows)) new
 drawn_comes net stores seen s rows old new network drawn grows =
     let later = with_stream seen s (seen s ++ rows) in
@@ -187,11 +187,11 @@ drawn_comes net stores seen s rows old new network drawn grows =
     }
 
 -- the beads are what comes to the instances that are left
-pub drawn_is_after : (net : Net) (stores : Stores) (news : Streams) (draft : Draft) → Drawn net stores news draft → (n before : ℕ) (hop : Hop) → entry_at net n ≡ Some (Waiting before hop)
-    → IsPermutation (left hop.wait.choose (news hop.wait.stream) (stores n) ++ get_or draft.beads n []) (stores_after net news stores n)
+pub drawn_is_after : (net : Net) (stores : Stores) (news : Streams) (draft : Draft) → Drawn net stores news draft → (n before : ℕ) (hop : Hop) → entrance_at net n ≡ Some (Waiting before hop)
+    → IsPermutation (unmatched_after hop.wait.choose (news hop.wait.stream) (stores n) ++ get_or draft.beads n []) (stores_after net news stores n)
 drawn_is_after net stores news draft drawn n before hop at =
-    permuted_to (IsPermutation-append_right (left hop.wait.choose (news hop.wait.stream) (stores n)) (get_or draft.beads n []) _ (drawn.bound n before hop at))
-    (sym (ap (λ (o : Option Entry). stepped_by o news (leaves net news stores) (stores n)) at))
+    permuted_to (IsPermutation-append_right (unmatched_after hop.wait.choose (news hop.wait.stream) (stores n)) (get_or draft.beads n []) _ (drawn.bound n before hop at))
+    (sym (ap (λ (o : Option Entrance). stepped_by o news (leaving_state net news stores) (stores n)) at))
 
 -- no tuples, and nothing leaves
 took_none : (choose : List Pr) (fold : Option Turn) (store : List Instance) → took choose fold [] store ≡ []
@@ -202,23 +202,23 @@ took_none choose (Some turn) (i ∷ store) = took_none choose (Some turn) store
 abbrev no_streams : Streams
 no_streams = λ _. []
 
-leaves_none : (net : Net) (stores : Stores) (n : ℕ) → leaves net no_streams stores n ≡ []
-leaves_none net stores n = go (entry_at net n)
+leaves_none : (net : Net) (stores : Stores) (n : ℕ) → leaving_state net no_streams stores n ≡ []
+leaves_none net stores n = go (entrance_at net n)
   where
-    go : (o : Option Entry) → leaves_by o no_streams (stores n) ≡ []
+    go : (o : Option Entrance) → leaving_by o no_streams (stores n) ≡ []
     go None = refl
     go (Some (Root s)) = refl
     go (Some (Waiting before hop)) = took_none hop.wait.choose hop.wait.fold (stores n)
 
-published_none : (net : Net) (stores : Stores) (s : ℕ) → published net no_streams stores s ≡ []
+published_none : (net : Net) (stores : Stores) (s : ℕ) → given_by_ends net no_streams stores s ≡ []
 published_none net stores s =
     let range = range_with_len 0 (length net) in
-    flat_map_same (published_at net no_streams stores s) (λ n. []) range (every (λ n. published_at net no_streams stores s n ≡ []) each range) ∙ nothing_of range
+    flat_map_same (given_by_ends_at net no_streams stores s) (λ n. []) range (every (λ n. given_by_ends_at net no_streams stores s n ≡ []) each range) ∙ nothing_of range
   where
-    each : (n : ℕ) → published_at net no_streams stores s n ≡ []
+    each : (n : ℕ) → given_by_ends_at net no_streams stores s n ≡ []
     each n =
         let ends = filter (λ (e : End). e.out == s) (ends_at net n) in
-        ap (λ (rows : List Row). flat_map (λ (e : End). filter_map (pass e.step) rows) ends) (leaves_none net stores n) ∙ nothing_of ends
+        ap (λ (rows : List TupleView). flat_map (λ (e : End). filter_map (pass e.step) rows) ends) (leaves_none net stores n) ∙ nothing_of ends
 
 again_none : (fold : Option Turn) → again fold [] ≡ []
 again_none None = refl
@@ -231,7 +231,7 @@ drawn_starts net stores draft made beads = record {
   bound = λ n before hop at.
       permuted_is (beads n
       ∙ ap (map instance_of)
-      (sym (ap (λ (rows : List Row). entering hop rows ++ again hop.wait.fold (took hop.wait.choose hop.wait.fold [] (stores n))) (leaves_none net stores before)
+      (sym (ap (λ (rows : List TupleView). entering hop rows ++ again hop.wait.fold (took hop.wait.choose hop.wait.fold [] (stores n))) (leaves_none net stores before)
       ∙ ap (again hop.wait.fold) (took_none hop.wait.choose hop.wait.fold (stores n)) ∙ again_none hop.wait.fold)));
   unbound = λ n none. beads n;
 }
@@ -241,14 +241,14 @@ pub drawn_is_epoch : (net : Net) (order : List ℕ) (stores : Stores) (heard new
     → All (λ s. news s ≡ get_or draft.made s []) order → Drawn net stores news draft → IsEpoch net order stores heard news
 drawn_is_epoch net order stores heard news draft declared same drawn = record {
   declared = declared;
-  derived = All-weaker (λ s. news s ≡ get_or draft.made s []) (λ s. IsPermutation (news s) (published net news stores s)) (λ s e. permuted_from e (drawn.made s)) order same;
+  derived = All-weaker (λ s. news s ≡ get_or draft.made s []) (λ s. IsPermutation (news s) (given_by_ends net news stores s)) (λ s e. permuted_from e (drawn.made s)) order same;
 }
 
 same_test : (m n : ℕ) → m ≡ n → (m == n) ≡ true
 same_test m n e = grind (arith, nat_tests)
 
 -- pairs of one stream more
-pub paired_comes : (net : Net) (seen : Streams) (s : ℕ) (rows : List Row) (old new : List Pair) → seen s ≡ [] → Paired net seen old → ListsAll net s rows old new → Paired net (with_stream seen s rows) new
+pub paired_comes : (net : Net) (seen : Streams) (s : ℕ) (rows : List TupleView) (old new : List Pair) → seen s ≡ [] → Paired net seen old → ListsAll net s rows old new → Paired net (with_stream seen s rows) new
 paired_comes net seen s rows old new none was lists = record {
   sound =
       subst (All IsSound) (sym lists.are)
@@ -268,15 +268,15 @@ paired_comes net seen s rows old new none was lists = record {
     one p h =
         (subst (λ t. Contains (waits_on net t) p.state) (sym h.stream_is) h.waits, subst (λ (b : Bool). p.place < length (cond b rows (seen p.stream))) (sym (same_test p.stream s h.stream_is)) h.below)
 
-    old_pair : (t k : ℕ) (r : Row) (n : ℕ) → Contains old (pair_of t k n) ⊎ IsDeaf net r n → Contains new (pair_of t k n) ⊎ IsDeaf net r n
+    old_pair : (t k : ℕ) (r : TupleView) (n : ℕ) → Contains old (pair_of t k n) ⊎ IsDeaf net r n → Contains new (pair_of t k n) ⊎ IsDeaf net r n
     old_pair t k r n (inl c) = inl (subst (λ ps. Contains ps (pair_of t k n)) (sym lists.are) (Contains-append_left old lists.added (pair_of t k n) c))
     old_pair t k r n (inr deaf) = inr deaf
 
-    new_pair : (t k : ℕ) (r : Row) (n : ℕ) → t ≡ s → Contains lists.added (pair_of s k n) ⊎ IsDeaf net r n → Contains new (pair_of t k n) ⊎ IsDeaf net r n
+    new_pair : (t k : ℕ) (r : TupleView) (n : ℕ) → t ≡ s → Contains lists.added (pair_of s k n) ⊎ IsDeaf net r n → Contains new (pair_of t k n) ⊎ IsDeaf net r n
     new_pair t k r n same (inl c) =
         inl (subst (λ ps. Contains ps (pair_of t k n)) (sym lists.are) (Contains-append_right old lists.added (pair_of t k n) (subst (λ u. Contains lists.added (pair_of u k n)) (sym same) c)))
     new_pair t k r n same (inr deaf) = inr deaf
 
-    at : (t k : ℕ) (r : Row) (n : ℕ) → Contains (waits_on net t) n → (b : Bool) → (t == s) ≡ b → slice_get (cond b rows (seen t)) k ≡ Some r → Contains new (pair_of t k n) ⊎ IsDeaf net r n
+    at : (t k : ℕ) (r : TupleView) (n : ℕ) → Contains (waits_on net t) n → (b : Bool) → (t == s) ≡ b → slice_get (cond b rows (seen t)) k ≡ Some r → Contains new (pair_of t k n) ⊎ IsDeaf net r n
     at t k r n c true e got = let same = equal_number t s e in new_pair t k r n same (lists.listed k r got n (subst (λ u. Contains (waits_on net u) n) same c))
     at t k r n c false e got = old_pair t k r n (was.listed t k r got n c)

@@ -7,10 +7,10 @@ use Rattle.std.proofs.lemmas.Grind.{flat_map-append}
 use Rattle.std.proofs.lemmas.List.{append-nil, map-append, take_more}
 use Rattle.std.proofs.lemmas.List.Elements.{All-get_or, filter-append}
 use Rattle.std.proofs.lemmas.Option.{get_or_from_slice_get, slice_get_within}
-use Rattle.automaton.specs.States.{Net, ends_at, entry_at, root_at, root_by, wait_at, wait_by}
+use Rattle.automaton.specs.States.{Net, ends_at, entrance_at, root_at, root_by, wait_at, wait_by}
 use Rattle.automaton.specs.declared.network.End.{End}
-use Rattle.automaton.specs.declared.network.Entry.{Entry}
-use Rattle.automaton.specs.declared.network.Entry.TheVariants.{Root, Waiting}
+use Rattle.automaton.specs.declared.network.Entrance.{Entrance}
+use Rattle.automaton.specs.declared.network.Entrance.TheVariants.{Root, Waiting}
 use Rattle.automaton.specs.declared.wait.Wait.{Wait}
 use Rattle.epoch_draft.specs.Finding.{is_root_on, out_by, way_of}
 use Rattle.epoch_draft.specs.Moves.{Into, Out, Way, ways_at}
@@ -49,9 +49,9 @@ ways_more net s n =
 
 -- nothing goes back to a root
 pub root_ways : (net : Net) (n s : ℕ) (edges ends : List Way) → root_at net n ≡ Some s → (backs : Option Wait → List Way) → backs None ≡ [] → edges ++ (ends ++ backs (wait_at net n)) ≡ edges ++ ends
-root_ways net n s edges ends at backs none = ap (λ ws. edges ++ (ends ++ ws)) (go (entry_at net n) at) ∙ ap (λ ws. edges ++ ws) (append-nil ends)
+root_ways net n s edges ends at backs none = ap (λ ws. edges ++ (ends ++ ws)) (go (entrance_at net n) at) ∙ ap (λ ws. edges ++ ws) (append-nil ends)
   where
-    go : (o : Option Entry) → option_and_then root_by o ≡ Some s → backs (option_and_then wait_by o) ≡ []
+    go : (o : Option Entrance) → option_and_then root_by o ≡ Some s → backs (option_and_then wait_by o) ≡ []
     go None e = absurd (cc)
     go (Some (Root r)) e = none
     go (Some (Waiting before hop)) e = absurd (cc)

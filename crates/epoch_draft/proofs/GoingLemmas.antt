@@ -5,7 +5,7 @@ use Rattle.std.specs.Option.{option_and_then, option_map}
 use Rattle.std.specs.List.{All}
 use Rattle.std.proofs.lemmas.List.{map-append, take_more}
 use Rattle.std.proofs.lemmas.List.Elements.{All-cons, All-contains_itself, All-head, All-nil, All-tail, All-weaker}
-use Rattle.event_types.specs.Tuple.{Row}
+use Rattle.event_types.specs.Tuple.{TupleView}
 use Rattle.automaton.specs.Networks.{IsNetwork}
 use Rattle.automaton.specs.States.{Net, before_at, before_by, edges_at, ends_at, is_used, state_at, step_at, wait_at}
 use Rattle.automaton.specs.declared.network.End.{End}
@@ -30,11 +30,11 @@ module _ {X : Type 0} (P : X → Type 0) where
   all_right (x ∷ xs) ys all = all_right xs ys (All-tail P x (xs ++ ys) all)
 
 -- ways one behind another
-pub moves_append : (a b : List Way) (x : Row) → moves_on (a ++ b) x ≡ moves_on a x ++ moves_on b x
+pub moves_append : (a b : List Way) (x : TupleView) → moves_on (a ++ b) x ≡ moves_on a x ++ moves_on b x
 moves_append a b x = map-append (λ (way : Way). record { tuple = x; way = way }) a b
 
 -- one way more of a loop
-pub go_more : {X : Type 0} (f : X → Way) (net : Net) (xs : List X) (i : ℕ) (d : X) (x : Row) (old mid new : Draft) → i < length xs → Grows net (moves_on (map f (take i xs)) x) old mid → Grows net (moves_on (f (get_or xs i d) ∷ []) x) mid new
+pub go_more : {X : Type 0} (f : X → Way) (net : Net) (xs : List X) (i : ℕ) (d : X) (x : TupleView) (old mid new : Draft) → i < length xs → Grows net (moves_on (map f (take i xs)) x) old mid → Grows net (moves_on (f (get_or xs i d) ∷ []) x) mid new
     → Grows net (moves_on (map f (take (i + 1) xs)) x) old new
 go_more f net xs i d x old mid new lt one two =
     subst (λ ms. Grows net ms old new)
@@ -42,11 +42,11 @@ go_more f net xs i d x old mid new lt one two =
     (grows_trans net (moves_on (map f (take i xs)) x) (moves_on (f (get_or xs i d) ∷ []) x) old mid new one two)
 
 -- what suits all ways out of a state suits its edges
-pub into_suits : (net : Net) (n : ℕ) (x : Row) → LeavingSuits net n x → All (λ k. StepSuits (step_at net k) x) (edges_at net n)
+pub into_suits : (net : Net) (n : ℕ) (x : TupleView) → LeavingSuits net n x → All (λ k. StepSuits (step_at net k) x) (edges_at net n)
 into_suits net n x suits = map_all (WaySuits net x) Into (edges_at net n) (all_left (WaySuits net x) (map Into (edges_at net n)) (map Out (ends_at net n) ++ backs_by n (wait_at net n)) suits)
 
 -- and its ends
-pub out_suits : (net : Net) (n : ℕ) (x : Row) → LeavingSuits net n x → All (λ (e : End). StepSuits e.step x) (ends_at net n)
+pub out_suits : (net : Net) (n : ℕ) (x : TupleView) → LeavingSuits net n x → All (λ (e : End). StepSuits e.step x) (ends_at net n)
 out_suits net n x suits =
     map_all (WaySuits net x) Out (ends_at net n)
     (all_left (WaySuits net x) (map Out (ends_at net n)) (backs_by n (wait_at net n)) (all_right (WaySuits net x) (map Into (edges_at net n)) (map Out (ends_at net n) ++ backs_by n (wait_at net n)) suits))
@@ -58,12 +58,12 @@ edges_used net network n = All-weaker (Contains (edges_at net n)) (λ k. IsTrue 
     used : (k : ℕ) → before_at net k ≡ Some n → IsTrue (is_used net k)
     used k at = go (state_at net k) at
       where
-        go : (o : Option State) → option_and_then before_by (option_map (λ (s : State). s.entry) o) ≡ Some n → IsTrue (is_some o)
+        go : (o : Option State) → option_and_then before_by (option_map (λ (s : State). s.entrance) o) ≡ Some n → IsTrue (is_some o)
         go None e = absurd (cc)
         go (Some state) e = refl
 
 -- a tuple left on all ways
-pub left_all : (net : Net) (n : ℕ) (w : Wait) (x : Row) (old one two new : Draft) → wait_at net n ≡ Some w → Grows net (moves_on (map Into (edges_at net n)) x) old one → Grows net (moves_on (map Out (ends_at net n)) x) one two
+pub left_all : (net : Net) (n : ℕ) (w : Wait) (x : TupleView) (old one two new : Draft) → wait_at net n ≡ Some w → Grows net (moves_on (map Into (edges_at net n)) x) old one → Grows net (moves_on (map Out (ends_at net n)) x) one two
     → Grows net (moves_on (backs_in n w.fold) x) two new → Grows net (moves_on (ways_at net n) x) old new
 left_all net n w x old one two new at into out back =
     let edges = map Into (edges_at net n) in

@@ -8,14 +8,14 @@ use Rattle.std.proofs.lemmas.Grind.{flat_map-append}
 use Rattle.std.proofs.lemmas.List.{append-nil, take_more}
 use Rattle.std.proofs.lemmas.List.Elements.{All-cons, All-head, All-nil, All-tail, All-weaker, filter_passes}
 use Rattle.std.proofs.lemmas.List.Sorted.{All-permutation, IsPermutation-append, IsPermutation-map, IsPermutation-sym, IsPermutation-trans}
-use Rattle.event_types.specs.Tuple.{Row}
+use Rattle.event_types.specs.Tuple.{TupleView}
 use Rattle.inst_chain.specs.Heads.{head}
 use Rattle.instances.specs.declared.instance.Instance.{Instance}
 use Rattle.semantics.specs.Nexts.{is_eligible}
 use Rattle.scalar_expr.proofs.Bags.{flat_map_permuted, permuted_from, permuted_to}
-use Rattle.automaton.specs.States.{Net, entry_at, is_used, root_by, state_at, tells, wait_at, wait_by}
-use Rattle.automaton.specs.declared.network.Entry.{Entry}
-use Rattle.automaton.specs.declared.network.Entry.TheVariants.{Root, Waiting}
+use Rattle.automaton.specs.States.{Net, entrance_at, is_used, root_by, state_at, tells, wait_at, wait_by}
+use Rattle.automaton.specs.declared.network.Entrance.{Entrance}
+use Rattle.automaton.specs.declared.network.Entrance.TheVariants.{Root, Waiting}
 use Rattle.automaton.specs.declared.network.State.{State}
 use Rattle.automaton.specs.declared.wait.Wait.{Wait}
 use Rattle.epoch_laws.specs.Closing.{Stores}
@@ -40,7 +40,7 @@ pub grows_silent : (net : Net) (a b : List Move) (old new : Draft) → ((t : ℕ
 grows_silent net a b old new none unbound grows = record {
   fits = grows.fits;
   made = λ t.
-      subst (λ (rows : List Row). Adds rows (get_or old.made t []) (get_or new.made t []))
+      subst (λ (rows : List TupleView). Adds rows (get_or old.made t []) (get_or new.made t []))
       (sym (flat_map-append (λ (m : Move). made_by t m.tuple m.way) a b ∙ ap (λ rows. made_of t a ++ rows) (none t) ∙ append-nil (made_of t a))) (grows.made t);
   bound = λ w.
       permuted_to (grows.bound w)
@@ -48,46 +48,46 @@ grows_silent net a b old new none unbound grows = record {
       (sym (flat_map-append (λ (m : Move). bound_by net w m.tuple m.way) a b ∙ ap (λ rows. bound_of net w a ++ rows) (unbound w) ∙ append-nil (bound_of net w a))));
 }
 
-nothing_passes : (b : Bool) → cond b (option_to_list {X = Row} None) [] ≡ []
+nothing_passes : (b : Bool) → cond b (option_to_list {X = TupleView} None) [] ≡ []
 nothing_passes true = refl
 nothing_passes false = refl
 
 -- nothing comes of a tuple on silent ways
-silent_made : (net : Net) (t : ℕ) (r : Row) (way : Way) → IsSilent net r way → made_by t r way ≡ []
+silent_made : (net : Net) (t : ℕ) (r : TupleView) (way : Way) → IsSilent net r way → made_by t r way ≡ []
 silent_made net t r (Into k) silent = refl
 silent_made net t r (Out e) silent = ap (λ o. cond (e.out == t) (option_to_list o) []) silent ∙ nothing_passes (e.out == t)
 silent_made net t r (Back n) silent = absurd silent
 
-silent_bound : (net : Net) (w : ℕ) (r : Row) (way : Way) → IsSilent net r way → bound_by net w r way ≡ []
+silent_bound : (net : Net) (w : ℕ) (r : TupleView) (way : Way) → IsSilent net r way → bound_by net w r way ≡ []
 silent_bound net w r (Into k) silent = ap (λ o. cond (k == w) (option_to_list o) []) silent ∙ nothing_passes (k == w)
 silent_bound net w r (Out e) silent = refl
 silent_bound net w r (Back n) silent = absurd silent
 
-silent_all : {Z : Type 0} (f : Row → Way → List Z) (net : Net) (r : Row) → ((way : Way) → IsSilent net r way → f r way ≡ []) → (ways : List Way) → All (IsSilent net r) ways
+silent_all : {Z : Type 0} (f : TupleView → Way → List Z) (net : Net) (r : TupleView) → ((way : Way) → IsSilent net r way → f r way ≡ []) → (ways : List Way) → All (IsSilent net r) ways
     → flat_map (λ (m : Move). f m.tuple m.way) (moves_on ways r) ≡ []
 silent_all f net r one [] all = refl
 silent_all f net r one (way ∷ ways) all =
     ap (λ rows. rows ++ flat_map (λ (m : Move). f m.tuple m.way) (moves_on ways r)) (one way (All-head (IsSilent net r) way ways all)) ∙ silent_all f net r one ways (All-tail (IsSilent net r) way ways all)
 
 -- nor of one that is eligible for no binding
-deaf_met : (w : Wait) (r : Row) → ((b : Row) → is_eligible w.choose b r ≡ false) → (store : List Instance) → met w store r ≡ []
+deaf_met : (w : Wait) (r : TupleView) → ((b : TupleView) → is_eligible w.choose b r ≡ false) → (store : List Instance) → met w store r ≡ []
 deaf_met w r deaf [] = refl
 deaf_met w r deaf (i ∷ store) = ap (λ t. cond t (followed w.fold i.tuple r) [] ++ met w store r) (deaf i.tuple) ∙ deaf_met w r deaf store
 
-deaf_state : (net : Net) (stores : Stores) (r : Row) (n : ℕ) → IsDeaf net r n → met_at net stores r n ≡ []
+deaf_state : (net : Net) (stores : Stores) (r : TupleView) (n : ℕ) → IsDeaf net r n → met_at net stores r n ≡ []
 deaf_state net stores r n deaf = go (wait_at net n) (λ w e. deaf w e)
   where
-    go : (o : Option Wait) → ((w : Wait) → o ≡ Some w → (b : Row) → is_eligible w.choose b r ≡ false) → met_by o (stores n) r ≡ []
+    go : (o : Option Wait) → ((w : Wait) → o ≡ Some w → (b : TupleView) → is_eligible w.choose b r ≡ false) → met_by o (stores n) r ≡ []
     go None deaf = refl
     go (Some w) deaf = deaf_met w r (deaf w refl) (stores n)
 
-deaf_moves : (net : Net) (stores : Stores) (r : Row) (ns : List ℕ) → All (IsDeaf net r) ns → moves_met net stores r ns ≡ []
+deaf_moves : (net : Net) (stores : Stores) (r : TupleView) (ns : List ℕ) → All (IsDeaf net r) ns → moves_met net stores r ns ≡ []
 deaf_moves net stores r [] all = refl
 deaf_moves net stores r (n ∷ ns) all =
     ap (λ rows. moves_from net n rows ++ moves_met net stores r ns) (deaf_state net stores r n (All-head (IsDeaf net r) n ns all)) ∙ deaf_moves net stores r ns (All-tail (IsDeaf net r) n ns all)
 
 -- a tuple moves on the ways out of its roots, and what it makes of instances moves out of their states
-pub moves_split : (net : Net) (stores : Stores) (s : ℕ) (r : Row) → IsPermutation (moves_of net stores s r) (moves_on (ways_on net s) r ++ moves_met net stores r (waits_on net s))
+pub moves_split : (net : Net) (stores : Stores) (s : ℕ) (r : TupleView) → IsPermutation (moves_of net stores s r) (moves_on (ways_on net s) r ++ moves_met net stores r (waits_on net s))
 moves_split net stores s r =
     permuted_from
     (flat_map_same (λ n. moves_from net n (gets net stores s r n)) (λ n. root n ++ wait n) range (every (λ n. moves_from net n (gets net stores s r n) ≡ root n ++ wait n) each range))
@@ -106,17 +106,17 @@ moves_split net stores s r =
     wait n = cond (is_wait_on net s n) (moves_from net n (met_at net stores r n)) []
 
     each : (n : ℕ) → moves_from net n (gets net stores s r n) ≡ root n ++ wait n
-    each n = go (entry_at net n)
+    each n = go (entrance_at net n)
       where
         at_root : (b : Bool) → moves_from net n (cond b (r ∷ []) []) ≡ cond b (moves_on (ways_at net n) r) [] ++ []
         at_root true = refl
         at_root false = refl
 
-        at_wait : (rows : List Row) (b : Bool) → moves_from net n (cond b rows []) ≡ cond b (moves_from net n rows) []
+        at_wait : (rows : List TupleView) (b : Bool) → moves_from net n (cond b rows []) ≡ cond b (moves_from net n rows) []
         at_wait rows true = refl
         at_wait rows false = refl
 
-        go : (o : Option Entry)
+        go : (o : Option Entrance)
             → moves_from net n (gets_by o s r (stores n))
             ≡ cond (tells s (option_and_then root_by o)) (moves_on (ways_at net n) r) [] ++ cond (tells s (option_map (λ (w : Wait). w.stream) (option_and_then wait_by o))) (moves_from net n (met_by (option_and_then wait_by o) (stores n) r)) []
         go None = refl
@@ -124,7 +124,7 @@ moves_split net stores s r =
         go (Some (Waiting before hop)) = at_wait (met hop.wait (stores n) r) (hop.wait.stream == s)
 
 -- what look-ups found is enough
-pub found_grows : (net : Net) (stores : Stores) (s : ℕ) (r : Row) (targets : List Target) (states : List ℕ) (old mid new : Draft) → FindsWays net s r targets → FindsWaits net s r states
+pub found_grows : (net : Net) (stores : Stores) (s : ℕ) (r : TupleView) (targets : List Target) (states : List ℕ) (old mid new : Draft) → FindsWays net s r targets → FindsWaits net s r states
     → Grows net (moves_on (flat_map (way_of net) targets) r) old mid → Grows net (moves_met net stores r states) mid new → Grows net (moves_of net stores s r) old new
 found_grows net stores s r targets states old mid new ways waits one two =
     grows_same net (moves_on (found ++ ways.others) r ++ moves_met net stores r states) (moves_of net stores s r) old new
@@ -164,7 +164,7 @@ pub follows_all : (net : Net) (all : List Move) (start : Draft) → DraftFits (l
 follows_all net all start fits = record { fits = fits; whole = λ new h. h }
 
 -- one target more of a loop
-pub targets_more : {X : Type 0} (f : X → List Way) (net : Net) (xs : List X) (i : ℕ) (d : X) (r : Row) (old mid new : Draft) → i < length xs → Grows net (moves_on (flat_map f (take i xs)) r) old mid → Grows net (moves_on (f (get_or xs i d)) r) mid new
+pub targets_more : {X : Type 0} (f : X → List Way) (net : Net) (xs : List X) (i : ℕ) (d : X) (r : TupleView) (old mid new : Draft) → i < length xs → Grows net (moves_on (flat_map f (take i xs)) r) old mid → Grows net (moves_on (f (get_or xs i d)) r) mid new
     → Grows net (moves_on (flat_map f (take (i + 1) xs)) r) old new
 targets_more f net xs i d r old mid new lt one two =
     subst (λ ms. Grows net ms old new)
@@ -185,12 +185,12 @@ module _ {X Y : Type 0} (P : Y → Type 0) (f : X → List Y) where
   all_flat (x ∷ xs) all = All-cons (λ x. All P (f x)) x xs (all_left P (f x) (flat_map f xs) all) (all_flat xs (all_right P (f x) (flat_map f xs) all))
 
 -- what holds of all ways holds of those that were found
-pub found_ways : (P : Way → Type 0) (net : Net) (s : ℕ) (r : Row) (targets : List Target) → FindsWays net s r targets → All P (ways_on net s) → All (λ (t : Target). All P (way_of net t)) targets
+pub found_ways : (P : Way → Type 0) (net : Net) (s : ℕ) (r : TupleView) (targets : List Target) → FindsWays net s r targets → All P (ways_on net s) → All (λ (t : Target). All P (way_of net t)) targets
 found_ways P net s r targets finds all =
     all_flat P (way_of net) targets (all_left P (flat_map (way_of net) targets) finds.others (All-permutation P (ways_on net s) (flat_map (way_of net) targets ++ finds.others) (IsPermutation-sym _ _ finds.all) all))
 
 -- what holds of all waiting states holds of those that were found
-pub found_all : (P : ℕ → Type 0) (net : Net) (s : ℕ) (r : Row) (states : List ℕ) → FindsWaits net s r states → All P (waits_on net s) → All P states
+pub found_all : (P : ℕ → Type 0) (net : Net) (s : ℕ) (r : TupleView) (states : List ℕ) → FindsWaits net s r states → All P (waits_on net s) → All P states
 found_all P net s r states finds all = all_left P states finds.others (All-permutation P (waits_on net s) (states ++ finds.others) (IsPermutation-sym _ _ finds.all) all)
 
 -- waiting states are there
@@ -200,7 +200,7 @@ waits_used net s = All-weaker (λ n. is_wait_on net s n ≡ true) (λ n. IsTrue 
     used : (n : ℕ) → is_wait_on net s n ≡ true → IsTrue (is_used net n)
     used n e = go (state_at net n) e
       where
-        go : (o : Option State) → tells s (option_map (λ (w : Wait). w.stream) (option_and_then wait_by (option_map (λ (x : State). x.entry) o))) ≡ true → IsTrue (is_some o)
+        go : (o : Option State) → tells s (option_map (λ (w : Wait). w.stream) (option_and_then wait_by (option_map (λ (x : State). x.entrance) o))) ≡ true → IsTrue (is_some o)
         go None e = absurd (cc)
         go (Some state) e = refl
 

@@ -8,16 +8,16 @@ use Rattle.std.proofs.lemmas.Bool.Decides.{nat_tests}
 use Rattle.std.proofs.lemmas.Grind.{flat_map-append}
 use Rattle.std.proofs.lemmas.List.{append-nil}
 use Rattle.std.proofs.lemmas.List.Sorted.{IsPermutation-trans}
-use Rattle.event_types.specs.Tuple.{Row}
+use Rattle.event_types.specs.Tuple.{TupleView}
 use Rattle.scalar_expr.proofs.Bags.{flat_map_permuted, permuted_from, permuted_to}
 use Rattle.automaton.specs.Flow.{entering}
 use Rattle.automaton.specs.Networks.{IsNetwork}
-use Rattle.automaton.specs.States.{Net, before_at, before_by, edges_at, ends_at, entry_at, step_at, step_by, tells, wait_at, wait_by}
+use Rattle.automaton.specs.States.{Net, before_at, before_by, edges_at, ends_at, entrance_at, step_at, step_by, tells, wait_at, wait_by}
 use Rattle.automaton.specs.Steps.{pass}
 use Rattle.automaton.specs.declared.line.Hop.{Hop}
 use Rattle.automaton.specs.declared.network.End.{End}
-use Rattle.automaton.specs.declared.network.Entry.{Entry}
-use Rattle.automaton.specs.declared.network.Entry.TheVariants.{Root, Waiting}
+use Rattle.automaton.specs.declared.network.Entrance.{Entrance}
+use Rattle.automaton.specs.declared.network.Entrance.TheVariants.{Root, Waiting}
 use Rattle.automaton.specs.declared.wait.Turn.{Turn}
 use Rattle.automaton.specs.declared.wait.Wait.{Wait}
 use Rattle.automaton.proofs.CountLemmas.{count-cons}
@@ -111,17 +111,17 @@ picked_told k f xs true h = picked_once k f xs h
 picked_told k f xs false h = picked_none k f xs h
 
 -- what the moves of a tuple on ways give
-on_ways : {Z : Type 0} (f : Row → Way → List Z) (ways : List Way) (x : Row) → flat_map (λ (m : Move). f m.tuple m.way) (moves_on ways x) ≡ flat_map (f x) ways
+on_ways : {Z : Type 0} (f : TupleView → Way → List Z) (ways : List Way) (x : TupleView) → flat_map (λ (m : Move). f m.tuple m.way) (moves_on ways x) ≡ flat_map (f x) ways
 on_ways f ways x = flat_map-map (λ (m : Move). f m.tuple m.way) (λ (way : Way). record { tuple = x; way = way }) ways
 
 -- what the moves of all tuples that leave a state give
-from_state : {Z : Type 0} (f : Row → Way → List Z) (net : Net) (n : ℕ) (tuples : List Row) → flat_map (λ (m : Move). f m.tuple m.way) (moves_from net n tuples) ≡ flat_map (λ x. flat_map (f x) (ways_at net n)) tuples
+from_state : {Z : Type 0} (f : TupleView → Way → List Z) (net : Net) (n : ℕ) (tuples : List TupleView) → flat_map (λ (m : Move). f m.tuple m.way) (moves_from net n tuples) ≡ flat_map (λ x. flat_map (f x) (ways_at net n)) tuples
 from_state f net n tuples =
     flat_map-flat_map (λ (m : Move). f m.tuple m.way) (moves_on (ways_at net n)) tuples
     ∙ flat_map_same (λ x. flat_map (λ (m : Move). f m.tuple m.way) (moves_on (ways_at net n) x)) (λ x. flat_map (f x) (ways_at net n)) tuples
     (every (λ x. flat_map (λ (m : Move). f m.tuple m.way) (moves_on (ways_at net n) x) ≡ flat_map (f x) (ways_at net n)) (on_ways f (ways_at net n)) tuples)
 
-over_states : {Z : Type 0} (f : Row → Way → List Z) (net : Net) (flow : ℕ → List Row)
+over_states : {Z : Type 0} (f : TupleView → Way → List Z) (net : Net) (flow : ℕ → List TupleView)
     → flat_map (λ (m : Move). f m.tuple m.way) (moves_over net flow) ≡ flat_map (λ n. flat_map (λ x. flat_map (f x) (ways_at net n)) (flow n)) (range_with_len 0 (length net))
 over_states f net flow =
     flat_map-flat_map (λ (m : Move). f m.tuple m.way) (λ n. moves_from net n (flow n)) (range_with_len 0 (length net))
@@ -129,7 +129,7 @@ over_states f net flow =
     (every (λ n. flat_map (λ (m : Move). f m.tuple m.way) (moves_from net n (flow n)) ≡ flat_map (λ x. flat_map (f x) (ways_at net n)) (flow n)) (λ n. from_state f net n (flow n)) (range_with_len 0 (length net)))
 
 -- for a stream the ways out alone count
-backs_made : (s : ℕ) (x : Row) (n : ℕ) (o : Option Wait) → flat_map (made_by s x) (backs_by n o) ≡ []
+backs_made : (s : ℕ) (x : TupleView) (n : ℕ) (o : Option Wait) → flat_map (made_by s x) (backs_by n o) ≡ []
 backs_made s x n None = refl
 backs_made s x n (Some w) = go w.fold
   where
@@ -137,7 +137,7 @@ backs_made s x n (Some w) = go w.fold
     go None = refl
     go (Some turn) = refl
 
-made_ways : (net : Net) (s n : ℕ) (x : Row) → flat_map (made_by s x) (ways_at net n) ≡ flat_map (λ e. option_to_list (pass e.step x)) (filter (λ e. e.out == s) (ends_at net n))
+made_ways : (net : Net) (s n : ℕ) (x : TupleView) → flat_map (made_by s x) (ways_at net n) ≡ flat_map (λ e. option_to_list (pass e.step x)) (filter (λ e. e.out == s) (ends_at net n))
 made_ways net s n x =
     flat_map-append (made_by s x) (map Into (edges_at net n)) (map Out (ends_at net n) ++ backs_by n (wait_at net n))
     ∙ ap (λ rows. rows ++ flat_map (made_by s x) (map Out (ends_at net n) ++ backs_by n (wait_at net n))) (flat_map-map (made_by s x) Into (edges_at net n) ∙ nothing_of (edges_at net n))
@@ -147,7 +147,7 @@ made_ways net s n x =
     ∙ flat_map-map (made_by s x) Out (ends_at net n)
     ∙ tested_of (λ (e : End). e.out == s) (λ e. option_to_list (pass e.step x)) (ends_at net n)
 
-made_state : (net : Net) (s n : ℕ) (tuples : List Row)
+made_state : (net : Net) (s n : ℕ) (tuples : List TupleView)
     → IsPermutation (flat_map (λ x. flat_map (made_by s x) (ways_at net n)) tuples) (flat_map (λ e. filter_map (pass e.step) tuples) (filter (λ e. e.out == s) (ends_at net n)))
 made_state net s n tuples =
     let ends = filter (λ (e : End). e.out == s) (ends_at net n) in
@@ -159,7 +159,7 @@ made_state net s n tuples =
     (every (λ (e : End). flat_map (λ x. option_to_list (pass e.step x)) tuples ≡ filter_map (pass e.step) tuples) (λ e. options_of (pass e.step) tuples) ends)))
 
 -- what all moves make for a stream is what its ends give
-pub made_over : (net : Net) (flow : ℕ → List Row) (s : ℕ)
+pub made_over : (net : Net) (flow : ℕ → List TupleView) (s : ℕ)
     → IsPermutation (made_of s (moves_over net flow)) (flat_map (λ n. flat_map (λ e. filter_map (pass e.step) (flow n)) (filter (λ e. e.out == s) (ends_at net n))) (range_with_len 0 (length net)))
 made_over net flow s =
     permuted_from (over_states (made_by s) net flow)
@@ -168,14 +168,14 @@ made_over net flow s =
     (λ n. made_state net s n (flow n)) (range_with_len 0 (length net))))
 
 -- what goes back to a state, if it waits so
-abbrev backed : Option Wait → List Row → List Row
+abbrev backed : Option Wait → List TupleView → List TupleView
 backed None tuples = []
 backed (Some w) tuples = again w.fold tuples
 
-abbrev nothing : List Row
+abbrev nothing : List TupleView
 nothing = []
 
-backs_bound : (net : Net) (w n : ℕ) (x : Row) (o : Option Wait) → flat_map (bound_by net w x) (backs_by n o) ≡ cond (n == w) (backed o (x ∷ [])) []
+backs_bound : (net : Net) (w n : ℕ) (x : TupleView) (o : Option Wait) → flat_map (bound_by net w x) (backs_by n o) ≡ cond (n == w) (backed o (x ∷ [])) []
 backs_bound net w n x None = none (n == w)
   where
     none : (b : Bool) → nothing ≡ cond b nothing nothing
@@ -191,11 +191,11 @@ backs_bound net w n x (Some wait) = go wait.fold
     go None = none (n == w)
     go (Some turn) = append-nil (cond (n == w) (x ∷ []) [])
 
-backed_all : (o : Option Wait) (tuples : List Row) → flat_map (λ x. backed o (x ∷ [])) tuples ≡ backed o tuples
+backed_all : (o : Option Wait) (tuples : List TupleView) → flat_map (λ x. backed o (x ∷ [])) tuples ≡ backed o tuples
 backed_all None tuples = nothing_of tuples
 backed_all (Some w) tuples = go w.fold
   where
-    same : (tuples : List Row) → flat_map (λ x. x ∷ []) tuples ≡ tuples
+    same : (tuples : List TupleView) → flat_map (λ x. x ∷ []) tuples ≡ tuples
     same [] = refl
     same (x ∷ tuples) = ap (λ xs. x ∷ xs) (same tuples)
 
@@ -205,7 +205,7 @@ backed_all (Some w) tuples = go w.fold
 
 module _ (net : Net) (network : IsNetwork net) (w : ℕ) where
   -- for a waiting state the edge to it counts, and its own way back
-  bound_ways : (n : ℕ) (x : Row)
+  bound_ways : (n : ℕ) (x : TupleView)
       → flat_map (bound_by net w x) (ways_at net n) ≡ cond (tells n (before_at net w)) (option_to_list (pass (step_at net w) x)) [] ++ cond (n == w) (backed (wait_at net n) (x ∷ [])) []
   bound_ways n x =
       flat_map-append (bound_by net w x) (map Into (edges_at net n)) (map Out (ends_at net n) ++ backs_by n (wait_at net n))
@@ -216,11 +216,11 @@ module _ (net : Net) (network : IsNetwork net) (w : ℕ) where
       ∙ ap (λ rows. rows ++ flat_map (bound_by net w x) (backs_by n (wait_at net n))) (flat_map-map (bound_by net w x) Out (ends_at net n) ∙ nothing_of (ends_at net n))
       ∙ backs_bound net w n x (wait_at net n))
 
-  bound_state : (n : ℕ) (tuples : List Row)
+  bound_state : (n : ℕ) (tuples : List TupleView)
       → IsPermutation (flat_map (λ x. flat_map (bound_by net w x) (ways_at net n)) tuples) (cond (tells n (before_at net w)) (filter_map (pass (step_at net w)) tuples) [] ++ cond (n == w) (backed (wait_at net n) tuples) [])
   bound_state n tuples =
-      let edge = λ (x : Row). cond (tells n (before_at net w)) (option_to_list (pass (step_at net w) x)) [] in
-      let back = λ (x : Row). cond (n == w) (backed (wait_at net n) (x ∷ [])) [] in
+      let edge = λ (x : TupleView). cond (tells n (before_at net w)) (option_to_list (pass (step_at net w) x)) [] in
+      let back = λ (x : TupleView). cond (n == w) (backed (wait_at net n) (x ∷ [])) [] in
       permuted_from
       (flat_map_same (λ x. flat_map (bound_by net w x) (ways_at net n)) (λ x. edge x ++ back x) tuples (every (λ x. flat_map (bound_by net w x) (ways_at net n) ≡ edge x ++ back x) (bound_ways n) tuples))
       (permuted_to (flat_map_parts edge back tuples)
@@ -229,14 +229,14 @@ module _ (net : Net) (network : IsNetwork net) (w : ℕ) where
       ∙ ap (λ rows. cond (tells n (before_at net w)) (filter_map (pass (step_at net w)) tuples) [] ++ rows)
       (one_test (n == w) (λ x. backed (wait_at net n) (x ∷ [])) tuples ∙ ap (λ rows. cond (n == w) rows []) (backed_all (wait_at net n) tuples))))
 
-  abbrev came : (ℕ → List Row) → ℕ → List Row
+  abbrev came : (ℕ → List TupleView) → ℕ → List TupleView
   came flow n = cond (tells n (before_at net w)) (filter_map (pass (step_at net w)) (flow n)) []
 
-  abbrev went : (ℕ → List Row) → ℕ → List Row
+  abbrev went : (ℕ → List TupleView) → ℕ → List TupleView
   went flow n = cond (n == w) (backed (wait_at net n) (flow n)) []
 
   -- what all moves make for a waiting state is what enters it, and what goes back to it
-  pub bound_over : (flow : ℕ → List Row) (before : ℕ) (hop : Hop) → entry_at net w ≡ Some (Waiting before hop) → before < length net → w < length net
+  pub bound_over : (flow : ℕ → List TupleView) (before : ℕ) (hop : Hop) → entrance_at net w ≡ Some (Waiting before hop) → before < length net → w < length net
       → IsPermutation (bound_of net w (moves_over net flow)) (entering hop (flow before) ++ again hop.wait.fold (flow w))
   bound_over flow before hop at lt_b lt_w =
       permuted_from (over_states (bound_by net w) net flow)
@@ -251,7 +251,7 @@ module _ (net : Net) (network : IsNetwork net) (w : ℕ) where
       told_by = ap (option_and_then before_by) at
 
       step_is : step_at net w ≡ hop.step
-      step_is = ap (λ (o : Option Entry). unwrap_or (option_map step_by o) []) at
+      step_is = ap (λ (o : Option Entrance). unwrap_or (option_map step_by o) []) at
 
       wait_is : wait_at net w ≡ Some hop.wait
       wait_is = ap (option_and_then wait_by) at
@@ -268,26 +268,26 @@ module _ (net : Net) (network : IsNetwork net) (w : ℕ) where
           ∙ ap (λ (o : Option Wait). backed o (flow w)) wait_is
 
   before_none : wait_at net w ≡ None → before_at net w ≡ None
-  before_none none = go (entry_at net w) none
+  before_none none = go (entrance_at net w) none
     where
-      go : (o : Option Entry) → option_and_then wait_by o ≡ None → option_and_then before_by o ≡ None
+      go : (o : Option Entrance) → option_and_then wait_by o ≡ None → option_and_then before_by o ≡ None
       go None e = refl
       go (Some (Root s)) e = refl
       go (Some (Waiting before hop)) e = absurd (cc)
 
   -- nothing comes to a state where none waits
-  pub unbound_over : wait_at net w ≡ None → (flow : ℕ → List Row) → bound_of net w (moves_over net flow) ≡ []
+  pub unbound_over : wait_at net w ≡ None → (flow : ℕ → List TupleView) → bound_of net w (moves_over net flow) ≡ []
   unbound_over none flow =
       over_states (bound_by net w) net flow
       ∙ flat_map_same (λ n. flat_map (λ x. flat_map (bound_by net w x) (ways_at net n)) (flow n)) (λ n. []) (range_with_len 0 (length net))
       (every (λ n. flat_map (λ x. flat_map (bound_by net w x) (ways_at net n)) (flow n) ≡ []) at_state (range_with_len 0 (length net)))
       ∙ nothing_of (range_with_len 0 (length net))
     where
-      back : (n : ℕ) (x : Row) (b : Bool) → (n == w) ≡ b → cond b (backed (wait_at net n) (x ∷ [])) [] ≡ []
+      back : (n : ℕ) (x : TupleView) (b : Bool) → (n == w) ≡ b → cond b (backed (wait_at net n) (x ∷ [])) [] ≡ []
       back n x true e = ap (λ (o : Option Wait). backed o (x ∷ [])) (ap (wait_at net) (equal_number n w e) ∙ none)
       back n x false e = refl
 
-      one : (n : ℕ) (x : Row) → flat_map (bound_by net w x) (ways_at net n) ≡ []
+      one : (n : ℕ) (x : TupleView) → flat_map (bound_by net w x) (ways_at net n) ≡ []
       one n x =
           bound_ways n x
           ∙ ap (λ (o : Option ℕ). cond (tells n o) (option_to_list (pass (step_at net w) x)) [] ++ cond (n == w) (backed (wait_at net n) (x ∷ [])) []) (before_none none)
@@ -298,7 +298,7 @@ module _ (net : Net) (network : IsNetwork net) (w : ℕ) where
           flat_map_same (λ x. flat_map (bound_by net w x) (ways_at net n)) (λ x. []) (flow n) (every (λ x. flat_map (bound_by net w x) (ways_at net n) ≡ []) (one n) (flow n)) ∙ nothing_of (flow n)
 
 -- what leaves the states in two parts moves in two parts
-pub moves_parts : (net : Net) (both one two : ℕ → List Row) → ((n : ℕ) → IsPermutation (both n) (one n ++ two n)) → IsPermutation (moves_over net both) (moves_over net one ++ moves_over net two)
+pub moves_parts : (net : Net) (both one two : ℕ → List TupleView) → ((n : ℕ) → IsPermutation (both n) (one n ++ two n)) → IsPermutation (moves_over net both) (moves_over net one ++ moves_over net two)
 moves_parts net both one two parts =
     IsPermutation-trans _ _ _
     (flat_map_alike (λ n. moves_from net n (both n)) (λ n. moves_from net n (one n) ++ moves_from net n (two n)) (range_with_len 0 (length net))

@@ -4,7 +4,7 @@ use Rattle.std.specs.Prelude.{Contains, Some, slice_get}
 use Rattle.std.proofs.lemmas.List.{append-nil, length-append, length-take-le, take_more}
 use Rattle.std.proofs.lemmas.List.Elements.{All-append, All-contains, All-contains_itself, All-map, All-nil, All-weaker, Contains-append_cases, Contains-append_left, Contains-append_right, Contains-push, Contains-push_cases}
 use Rattle.std.proofs.lemmas.List.Sorted.{Contains-permutation, IsPermutation-sym}
-use Rattle.event_types.specs.Tuple.{Row}
+use Rattle.event_types.specs.Tuple.{TupleView}
 use Rattle.automaton.specs.States.{Net}
 use Rattle.epoch_draft.specs.Finding.{IsDeaf, waits_on}
 use Rattle.epoch_draft.specs.Meeting.{IsPairOf, Lists, ListsAll, pair_of}
@@ -48,7 +48,7 @@ lists_none net s pairs = record {
 }
 
 -- one tuple more
-pub lists_more : (net : Net) (s : ℕ) (rows : List Row) (i : ℕ) (d : Row) (old mid new : List Pair) → i < length rows → ListsAll net s (take i rows) old mid → Lists net s i (get_or rows i d) mid new → ListsAll net s (take (i + 1) rows) old new
+pub lists_more : (net : Net) (s : ℕ) (rows : List TupleView) (i : ℕ) (d : TupleView) (old mid new : List Pair) → i < length rows → ListsAll net s (take i rows) old mid → Lists net s i (get_or rows i d) mid new → ListsAll net s (take (i + 1) rows) old new
 lists_more net s rows i d old mid new lt all one = record {
   added = all.added ++ map (pair_of s i) one.found;
   are = one.are ∙ ap (λ ps. ps ++ map (pair_of s i) one.found) all.are ∙ append_assoc old all.added (map (pair_of s i) one.found);
@@ -71,15 +71,15 @@ lists_more net s rows i d old mid new lt all one = record {
     deaf_or n (inl c) = inl (contains_map (pair_of s i) one.found n c)
     deaf_or n (inr c) = inr (All-contains (IsDeaf net (get_or rows i d)) one.finds.others n one.finds.deaf c)
 
-    here : (n : ℕ) (t : Row) (k : ℕ) → k ≡ i → get_or rows i d ≡ t → Contains (map (pair_of s i) one.found) (pair_of s i n) ⊎ IsDeaf net (get_or rows i d) n → Contains (all.added ++ map (pair_of s i) one.found) (pair_of s k n) ⊎ IsDeaf net t n
+    here : (n : ℕ) (t : TupleView) (k : ℕ) → k ≡ i → get_or rows i d ≡ t → Contains (map (pair_of s i) one.found) (pair_of s i n) ⊎ IsDeaf net (get_or rows i d) n → Contains (all.added ++ map (pair_of s i) one.found) (pair_of s k n) ⊎ IsDeaf net t n
     here n t k same is (inl c) = inl (Contains-append_right all.added (map (pair_of s i) one.found) (pair_of s k n) (subst (λ j. Contains (map (pair_of s i) one.found) (pair_of s j n)) (sym same) c))
     here n t k same is (inr deaf) = inr (subst (λ t. IsDeaf net t n) is deaf)
 
-    before : (n : ℕ) (t : Row) (k : ℕ) → Contains all.added (pair_of s k n) ⊎ IsDeaf net t n → Contains (all.added ++ map (pair_of s i) one.found) (pair_of s k n) ⊎ IsDeaf net t n
+    before : (n : ℕ) (t : TupleView) (k : ℕ) → Contains all.added (pair_of s k n) ⊎ IsDeaf net t n → Contains (all.added ++ map (pair_of s i) one.found) (pair_of s k n) ⊎ IsDeaf net t n
     before n t k (inl c) = inl (Contains-append_left all.added (map (pair_of s i) one.found) (pair_of s k n) c)
     before n t k (inr deaf) = inr deaf
 
-    at : (k : ℕ) (t : Row) (n : ℕ) → Contains (waits_on net s) n → (slice_get (take i rows) k ≡ Some t) ⊎ ((k ≡ length (take i rows)) × (get_or rows i d ≡ t)) → Contains (all.added ++ map (pair_of s i) one.found) (pair_of s k n) ⊎ IsDeaf net t n
+    at : (k : ℕ) (t : TupleView) (n : ℕ) → Contains (waits_on net s) n → (slice_get (take i rows) k ≡ Some t) ⊎ ((k ≡ length (take i rows)) × (get_or rows i d ≡ t)) → Contains (all.added ++ map (pair_of s i) one.found) (pair_of s k n) ⊎ IsDeaf net t n
     at k t n c (inl e) = before n t k (all.listed k t e n c)
     at k t n c (inr h) =
         here n t k (h.0 ∙ short) h.1

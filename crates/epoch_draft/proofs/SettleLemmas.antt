@@ -13,7 +13,7 @@ use Rattle.std.proofs.lemmas.List.FromFn.{get_or-range_with_len, length-range_wi
 use Rattle.std.proofs.lemmas.List.Sorted.{IsPermutation-append_left, IsPermutation-middle, IsPermutation-sym, IsPermutation-trans}
 use Rattle.std.proofs.lemmas.Option.{get_or_from_slice_get, slice_get-get_or, slice_get_within}
 use Rattle.event_types.specs.declared.kind.Kind.{Kind}
-use Rattle.event_types.specs.Tuple.{Row}
+use Rattle.event_types.specs.Tuple.{TupleView}
 use Rattle.instances.specs.Alive.{is_alive}
 use Rattle.instances.specs.Bounds.{alive_instances}
 use Rattle.instances.specs.Plain.{Plain}
@@ -28,10 +28,10 @@ use Rattle.automaton.specs.States.{Net, is_used, tells, wait_at}
 use Rattle.automaton.specs.Waiting.{is_empty}
 use Rattle.automaton.specs.Work.{is_in}
 use Rattle.automaton.specs.declared.layout.Layout.{Layout}
-use Rattle.automaton.specs.declared.network.Entry.TheVariants.{Waiting}
+use Rattle.automaton.specs.declared.network.Entrance.TheVariants.{Waiting}
 use Rattle.automaton.specs.declared.wait.Wait.{Wait}
 use Rattle.epoch_laws.specs.Closing.{stores_after}
-use Rattle.epoch_laws.specs.Epochs.{is_unmet, left}
+use Rattle.epoch_laws.specs.Epochs.{is_unmet, unmatched_after}
 use Rattle.epoch_laws.proofs.Bags.{permuted_is}
 use Rattle.epoch_laws.proofs.Lists.{every, filter-filter, filter_false}
 use Rattle.std.proofs.lemmas.List.Elements.{filter_agree}
@@ -75,13 +75,13 @@ taken_none net news stores = record {
   none = λ n at. refl;
 }
 
-empty-append : (xs : List Row) (b : Bool) (x : Row) → is_empty (xs ++ cond b (x ∷ []) []) ≡ (is_empty xs && not b)
+empty-append : (xs : List TupleView) (b : Bool) (x : TupleView) → is_empty (xs ++ cond b (x ∷ []) []) ≡ (is_empty xs && not b)
 empty-append [] true x = refl
 empty-append [] false x = refl
 empty-append (y ∷ xs) b x = refl
 
 -- one more tuple takes out those for which it is eligible
-left_push : (choose : List Pr) (rows : List Row) (t : Row) (store : List Instance) → filter (λ (n : Instance). not (is_eligible choose n.tuple t)) (left choose rows store) ≡ left choose (rows ++ t ∷ []) store
+left_push : (choose : List Pr) (rows : List TupleView) (t : TupleView) (store : List Instance) → filter (λ (n : Instance). not (is_eligible choose n.tuple t)) (unmatched_after choose rows store) ≡ unmatched_after choose (rows ++ t ∷ []) store
 left_push choose rows t store =
     filter-filter (λ (n : Instance). not (is_eligible choose n.tuple t)) (λ (n : Instance). is_unmet choose rows n.tuple) store
     ∙ filter_agree (λ (n : Instance). is_unmet choose rows n.tuple && not (is_eligible choose n.tuple t)) (λ (n : Instance). is_unmet choose (rows ++ t ∷ []) n.tuple) each store
@@ -90,7 +90,7 @@ left_push choose rows t store =
     each n = let p = is_eligible choose n.tuple in sym (ap is_empty (filter-append p rows (t ∷ [])) ∙ empty-append (filter p rows) (p t) t)
 
 -- one more pair
-pub taken_more : (net : Net) (news : Streams) (pairs : List Pair) (i : ℕ) (d : Pair) (t : Row) (old mid new : List (Option Plain)) → i < length pairs → slice_get (news (get_or pairs i d).stream) (get_or pairs i d).place ≡ Some t
+pub taken_more : (net : Net) (news : Streams) (pairs : List Pair) (i : ℕ) (d : Pair) (t : TupleView) (old mid new : List (Option Plain)) → i < length pairs → slice_get (news (get_or pairs i d).stream) (get_or pairs i d).place ≡ Some t
     → AreTaken net news (take i pairs) old mid → IsTakenAt net t (get_or pairs i d).state mid new → AreTaken net news (take (i + 1) pairs) old new
 taken_more net news pairs i d t old mid new lt got was one = record {
   same = shapes_trans old mid new was.same one.same;
@@ -106,40 +106,40 @@ taken_more net news pairs i d t old mid new lt got was one = record {
         ap (λ ps. listed_rows news ps n) (take_more pairs i d lt) ∙ flat_map-append (λ (q : Pair). cond (q.state == n) (row_at news q) []) (take i pairs) (p ∷ [])
         ∙ ap (λ rs. listed_rows news (take i pairs) n ++ rs) (append-nil (cond (p.state == n) (row_at news p) []))
 
-    waits : (n : ℕ) (w : Wait) → wait_at net n ≡ Some w → (n ≡ p.state) ⊎ (n ≡ p.state → ⊥) → held new n ≡ left w.choose (listed_rows news (take (i + 1) pairs) n) (held old n)
+    waits : (n : ℕ) (w : Wait) → wait_at net n ≡ Some w → (n ≡ p.state) ⊎ (n ≡ p.state → ⊥) → held new n ≡ unmatched_after w.choose (listed_rows news (take (i + 1) pairs) n) (held old n)
     waits n w at (inl same) =
         let mine : listed_rows news (take (i + 1) pairs) n ≡ listed_rows news (take i pairs) n ++ t ∷ [] =
-        rows n ∙ ap (λ b. listed_rows news (take i pairs) n ++ cond b (row_at news p) []) (ap (λ k. k == n) (sym same) ∙ is_itself n) ∙ ap (λ (o : Option Row). listed_rows news (take i pairs) n ++ option_to_list o) got in
+        rows n ∙ ap (λ b. listed_rows news (take i pairs) n ++ cond b (row_at news p) []) (ap (λ k. k == n) (sym same) ∙ is_itself n) ∙ ap (λ (o : Option TupleView). listed_rows news (take i pairs) n ++ option_to_list o) got in
         let here : held new n ≡ filter (λ (k : Instance). not (is_eligible w.choose k.tuple t)) (held mid n) =
         ap (held new) same ∙ one.taken w (ap (wait_at net) (sym same) ∙ at) ∙ ap (λ k. filter (λ (k : Instance). not (is_eligible w.choose k.tuple t)) (held mid k)) (sym same) in
         here ∙ ap (filter (λ (k : Instance). not (is_eligible w.choose k.tuple t))) (was.taken n w at) ∙ left_push w.choose (listed_rows news (take i pairs) n) t (held old n)
-        ∙ ap (λ rs. left w.choose rs (held old n)) (sym mine)
+        ∙ ap (λ rs. unmatched_after w.choose rs (held old n)) (sym mine)
     waits n w at (inr other) =
         let mine : listed_rows news (take (i + 1) pairs) n ≡ listed_rows news (take i pairs) n =
         rows n ∙ ap (λ b. listed_rows news (take i pairs) n ++ cond b (row_at news p) []) (other_test p.state n (λ e. other (sym e))) ∙ append-nil (listed_rows news (take i pairs) n) in
-        one.others n other ∙ was.taken n w at ∙ ap (λ rs. left w.choose rs (held old n)) (sym mine)
+        one.others n other ∙ was.taken n w at ∙ ap (λ rs. unmatched_after w.choose rs (held old n)) (sym mine)
 
     others : (n : ℕ) → wait_at net n ≡ None → (n ≡ p.state) ⊎ (n ≡ p.state → ⊥) → held new n ≡ held old n
     others n at (inl same) = ap (held new) same ∙ one.none (ap (wait_at net) (sym same) ∙ at) ∙ ap (held mid) (sym same) ∙ was.none n at
     others n at (inr other) = one.others n other ∙ was.none n at
 
 -- what is left still fits
-pub taken_fits : (net : Net) (news : Streams) (streams : ℕ) (pairs done : List Pair) (p : Pair) (old mid : List (Option Plain)) → AreTaken net news done old mid → PairSuits net news streams (held old) p → (t : Row) → slice_get (news p.stream) p.place ≡ Some t
+pub taken_fits : (net : Net) (news : Streams) (streams : ℕ) (pairs done : List Pair) (p : Pair) (old mid : List (Option Plain)) → AreTaken net news done old mid → PairSuits net news streams (held old) p → (t : TupleView) → slice_get (news p.stream) p.place ≡ Some t
     → (w : Wait) → wait_at net p.state ≡ Some w → All (λ (k : Instance). AllFit w.choose t (Some k.tuple)) (held mid p.state)
 taken_fits net news streams pairs done p old mid was suits t got w at =
     subst (All (λ (k : Instance). AllFit w.choose t (Some k.tuple))) (sym (was.taken p.state w at))
     (All-filter (λ (k : Instance). is_unmet w.choose (listed_rows news done p.state) k.tuple) (λ (k : Instance). AllFit w.choose t (Some k.tuple)) (held old p.state) (suits.fits w t at got))
 
 -- the tuples of a stream that has some
-pub in_is_news : (net : Net) (layout : Layout) (stores : List (Option Plain)) (opened made : List (List Row)) → CanDraw net layout stores opened → (s k : ℕ) → k < length (news_of opened made layout.order s) → tuples_in opened made s ≡ news_of opened made layout.order s
+pub in_is_news : (net : Net) (layout : Layout) (stores : List (Option Plain)) (opened made : List (List TupleView)) → CanDraw net layout stores opened → (s k : ℕ) → k < length (news_of opened made layout.order s) → tuples_in opened made s ≡ news_of opened made layout.order s
 in_is_news net layout stores opened made can s k lt = go (is_in layout.order s) refl lt
   where
-    some : (ts rest : List Row) → k < length ts → first_of ts rest ≡ ts
+    some : (ts rest : List TupleView) → k < length ts → first_of ts rest ≡ ts
     some [] rest lt = absurd (omega arith)
     some (t ∷ ts) rest lt = refl
 
     go : (b : Bool) → is_in layout.order s ≡ b → k < length (cond b (get_or made s []) (get_or opened s [])) → tuples_in opened made s ≡ cond b (get_or made s []) (get_or opened s [])
-    go true e lt = ap (λ (ts : List Row). first_of ts (get_or made s [])) (All-contains (λ s. get_or opened s [] ≡ []) layout.order s can.underived (contains_in layout.order s e))
+    go true e lt = ap (λ (ts : List TupleView). first_of ts (get_or made s [])) (All-contains (λ s. get_or opened s [] ≡ []) layout.order s can.underived (contains_in layout.order s e))
     go false e lt = some (get_or opened s []) (get_or made s []) lt
 
 told : (s : ℕ) (o : Option ℕ) → tells s o ≡ true → o ≡ Some s
@@ -210,8 +210,8 @@ all_flat_at P f (x ∷ xs) all = both (f x) (All-head (λ x. All P (f x)) x xs a
     both [] one rest = rest
     both (y ∷ ys) one rest = All-cons P y (ys ++ flat_map f xs) (All-head P y ys one) (both ys (All-tail P y ys one) rest)
 
-module _ (p : Row → Bool) where
-  empty_all : (xs : List Row) → is_empty (filter p xs) ≡ true → All (λ x. p x ≡ false) xs
+module _ (p : TupleView → Bool) where
+  empty_all : (xs : List TupleView) → is_empty (filter p xs) ≡ true → All (λ x. p x ≡ false) xs
   empty_all [] e = All-nil (λ x. p x ≡ false)
   empty_all (x ∷ xs) e = go (p x) refl e (empty_all xs)
     where
@@ -219,14 +219,14 @@ module _ (p : Row → Bool) where
       go true is e rest = absurd (cc)
       go false is e rest = All-cons (λ x. p x ≡ false) x xs is (rest e)
 
-  all_empty : (xs : List Row) → All (λ x. p x ≡ false) xs → is_empty (filter p xs) ≡ true
+  all_empty : (xs : List TupleView) → All (λ x. p x ≡ false) xs → is_empty (filter p xs) ≡ true
   all_empty xs all = ap is_empty (filter_false p xs all)
 
   -- the tests meet the same
-  same_empty : (xs ys : List Row) → All (Contains ys) xs → All (λ y. Contains xs y ⊎ (p y ≡ false)) ys → is_empty (filter p xs) ≡ is_empty (filter p ys)
+  same_empty : (xs ys : List TupleView) → All (Contains ys) xs → All (λ y. Contains xs y ⊎ (p y ≡ false)) ys → is_empty (filter p xs) ≡ is_empty (filter p ys)
   same_empty xs ys there back = go (is_empty (filter p xs)) (is_empty (filter p ys)) refl refl
     where
-      mine : All (λ x. p x ≡ false) xs → (y : Row) → Contains xs y ⊎ (p y ≡ false) → p y ≡ false
+      mine : All (λ x. p x ≡ false) xs → (y : TupleView) → Contains xs y ⊎ (p y ≡ false) → p y ≡ false
       mine all y (inl c) = All-contains (λ x. p x ≡ false) xs y all c
       mine all y (inr e) = e
 
@@ -238,11 +238,11 @@ module _ (p : Row → Bool) where
       go false true e f =
           absurd (let yes = all_empty xs (All-weaker (Contains ys) (λ x. p x ≡ false) (λ x c. All-contains (λ y. p y ≡ false) ys x (empty_all ys f) c) xs there) in let no : true ≡ false = sym yes ∙ e in cc)
 
-left_same : (choose : List Pr) (xs ys : List Row) (store : List Instance) → All (Contains ys) xs → ((b : Row) → All (λ y. Contains xs y ⊎ (is_eligible choose b y ≡ false)) ys) → left choose xs store ≡ left choose ys store
+left_same : (choose : List Pr) (xs ys : List TupleView) (store : List Instance) → All (Contains ys) xs → ((b : TupleView) → All (λ y. Contains xs y ⊎ (is_eligible choose b y ≡ false)) ys) → unmatched_after choose xs store ≡ unmatched_after choose ys store
 left_same choose xs ys store there back =
     filter_agree (λ (n : Instance). is_unmet choose xs n.tuple) (λ (n : Instance). is_unmet choose ys n.tuple) (λ n. same_empty (is_eligible choose n.tuple) xs ys there (back n.tuple)) store
 
-module _ (net : Net) (layout : Layout) (stores : List (Option Plain)) (opened : List (List Row)) (draft : Draft) (pairs : List Pair) (can : CanDraw net layout stores opened) (drawn : DrawnUpTo net layout stores opened layout.order draft pairs) where
+module _ (net : Net) (layout : Layout) (stores : List (Option Plain)) (opened : List (List TupleView)) (draft : Draft) (pairs : List Pair) (can : CanDraw net layout stores opened) (drawn : DrawnUpTo net layout stores opened layout.order draft pairs) where
   abbrev news : Streams
   news = news_of opened draft.made layout.order
 
@@ -271,10 +271,10 @@ module _ (net : Net) (layout : Layout) (stores : List (Option Plain)) (opened : 
           record {
             used = used;
             stream = omega (arith, below, can.as_many);
-            place = subst (λ (ts : List Row). p.place < length ts) (sym is) h.1;
+            place = subst (λ (ts : List TupleView). p.place < length ts) (sym is) h.1;
             fits = λ w t at got.
                 let suits = All-get_or (TupleSuits net (held stores) p.stream) (news p.stream) p.place t h.1 (rows_suit net can.network layout.kinds stores can.typed p.stream below (news p.stream) (drawn.kinds p.stream)) in
-                let mine = subst (TupleSuits net (held stores) p.stream) (get_or_from_slice_get (news p.stream) p.place t t (ap (λ (ts : List Row). slice_get ts p.place) (sym is) ∙ got)) suits in
+                let mine = subst (TupleSuits net (held stores) p.stream) (get_or_from_slice_get (news p.stream) p.place t t (ap (λ (ts : List TupleView). slice_get ts p.place) (sym is) ∙ got)) suits in
                 All-weaker (λ (k : Instance). WaitSuits w k.tuple t) (λ (k : Instance). AllFit w.choose t (Some k.tuple)) (λ k h. h.0) (held stores p.state)
                 (All-contains (MeetingSuits net (held stores) t) (waits_on net p.stream) p.state mine.waits h.0 w at).0;
           }
@@ -288,7 +288,7 @@ module _ (net : Net) (layout : Layout) (stores : List (Option Plain)) (opened : 
               subst (λ (s : ℕ). s < length layout.kinds) (wait_of p.stream p.state c w at) (slice_get_within layout.kinds w.stream typed.event typed.known)
 
   -- what the listed tuples leave is what all leave
-  pub left_all_same : (n : ℕ) (w : Wait) → wait_at net n ≡ Some w → left w.choose (listed_rows listed pairs n) (held stores n) ≡ left w.choose (news w.stream) (held stores n)
+  pub left_all_same : (n : ℕ) (w : Wait) → wait_at net n ≡ Some w → unmatched_after w.choose (listed_rows listed pairs n) (held stores n) ≡ unmatched_after w.choose (news w.stream) (held stores n)
   left_all_same n w at = left_same w.choose (listed_rows listed pairs n) (news w.stream) (held stores n) there back
     where
       there : All (Contains (news w.stream)) (listed_rows listed pairs n)
@@ -296,7 +296,7 @@ module _ (net : Net) (layout : Layout) (stores : List (Option Plain)) (opened : 
           all_flat_at (Contains (news w.stream)) (λ (p : Pair). cond (p.state == n) (row_at listed p) []) pairs
           (All-weaker (λ (p : Pair). Contains (waits_on net p.stream) p.state × (p.place < length (news p.stream))) (λ (p : Pair). All (Contains (news w.stream)) (cond (p.state == n) (row_at listed p) [])) one pairs drawn.paired.sound)
         where
-          row : (o : Option Row) → ((t : Row) → o ≡ Some t → Contains (news w.stream) t) → All (Contains (news w.stream)) (option_to_list o)
+          row : (o : Option TupleView) → ((t : TupleView) → o ≡ Some t → Contains (news w.stream) t) → All (Contains (news w.stream)) (option_to_list o)
           row None h = All-nil (Contains (news w.stream))
           row (Some t) h = All-cons (Contains (news w.stream)) t [] (h t refl) (All-nil (Contains (news w.stream)))
 
@@ -308,18 +308,18 @@ module _ (net : Net) (layout : Layout) (stores : List (Option Plain)) (opened : 
                   let stream : w.stream ≡ p.stream = wait_of p.stream p.state h.0 w (ap (wait_at net) (equal_number p.state n e) ∙ at) in
                   let is = in_is_news net layout stores opened draft.made can p.stream p.place h.1 in
                   row (slice_get (listed p.stream) p.place)
-                  (λ t got. subst (λ (s : ℕ). Contains (news s) t) (sym stream) (contains_at (news p.stream) p.place t (ap (λ (ts : List Row). slice_get ts p.place) (sym is) ∙ got)))
+                  (λ t got. subst (λ (s : ℕ). Contains (news s) t) (sym stream) (contains_at (news p.stream) p.place t (ap (λ (ts : List TupleView). slice_get ts p.place) (sym is) ∙ got)))
               go false e = All-nil (Contains (news w.stream))
 
-      back : (b : Row) → All (λ y. Contains (listed_rows listed pairs n) y ⊎ (is_eligible w.choose b y ≡ false)) (news w.stream)
+      back : (b : TupleView) → All (λ y. Contains (listed_rows listed pairs n) y ⊎ (is_eligible w.choose b y ≡ false)) (news w.stream)
       back b k d lt = go (get_or (news w.stream) k d) (slice_get-get_or (news w.stream) k d lt) (drawn.paired.listed w.stream k (get_or (news w.stream) k d) (slice_get-get_or (news w.stream) k d lt) n (listed_wait n w at))
         where
-          go : (t : Row) → slice_get (news w.stream) k ≡ Some t → Contains pairs (pair_of w.stream k n) ⊎ IsDeaf net t n → Contains (listed_rows listed pairs n) t ⊎ (is_eligible w.choose b t ≡ false)
+          go : (t : TupleView) → slice_get (news w.stream) k ≡ Some t → Contains pairs (pair_of w.stream k n) ⊎ IsDeaf net t n → Contains (listed_rows listed pairs n) t ⊎ (is_eligible w.choose b t ≡ false)
           go t got (inl c) =
               let is = in_is_news net layout stores opened draft.made can w.stream k lt in
               let mine : t ∷ [] ≡ cond (n == n) (row_at listed (pair_of w.stream k n)) [] =
-              sym (ap (λ c. cond c (row_at listed (pair_of w.stream k n)) []) (is_itself n) ∙ ap (λ (o : Option Row). option_to_list o) (ap (λ (ts : List Row). slice_get ts k) is ∙ got)) in
-              inl (contains_flat (λ (p : Pair). cond (p.state == n) (row_at listed p) []) pairs (pair_of w.stream k n) t c (subst (λ (ts : List Row). Contains ts t) mine (Contains-push [] t)))
+              sym (ap (λ c. cond c (row_at listed (pair_of w.stream k n)) []) (is_itself n) ∙ ap (λ (o : Option TupleView). option_to_list o) (ap (λ (ts : List TupleView). slice_get ts k) is ∙ got)) in
+              inl (contains_flat (λ (p : Pair). cond (p.state == n) (row_at listed p) []) pairs (pair_of w.stream k n) t c (subst (λ (ts : List TupleView). Contains ts t) mine (Contains-push [] t)))
           go t got (inr deaf) = inr (deaf w at b)
 
   -- what is taken out and linked settles
@@ -342,20 +342,20 @@ module _ (net : Net) (layout : Layout) (stores : List (Option Plain)) (opened : 
           found : AtWait net n w
           found = at_wait net n w at
 
-          after : IsPermutation (left w.choose (news w.stream) (held stores n) ++ get_or draft.beads n []) (stores_after net news (held stores) n)
+          after : IsPermutation (unmatched_after w.choose (news w.stream) (held stores n) ++ get_or draft.beads n []) (stores_after net news (held stores) n)
           after =
-              permuted_from (ap (λ (x : Wait). left x.choose (news x.stream) (held stores n) ++ get_or draft.beads n []) (sym found.same))
+              permuted_from (ap (λ (x : Wait). unmatched_after x.choose (news x.stream) (held stores n) ++ get_or draft.beads n []) (sym found.same))
               (drawn_is_after net (held stores) news draft drawn.drawn n found.before found.hop (wait_entry net n w found))
 
-          left_is : held mid n ≡ left w.choose (news w.stream) (held stores n)
+          left_is : held mid n ≡ unmatched_after w.choose (news w.stream) (held stores n)
           left_is = taken.taken n w at ∙ left_all_same n w at
 
-          put : Contains draft.reached.numbers n ⊎ (Contains draft.reached.numbers n → ⊥) → (get_or draft.beads n [] ≡ []) ⊎ Contains draft.reached.numbers n → IsPermutation (held new n) (left w.choose (news w.stream) (held stores n) ++ get_or draft.beads n [])
+          put : Contains draft.reached.numbers n ⊎ (Contains draft.reached.numbers n → ⊥) → (get_or draft.beads n [] ≡ []) ⊎ Contains draft.reached.numbers n → IsPermutation (held new n) (unmatched_after w.choose (news w.stream) (held stores n) ++ get_or draft.beads n [])
           put (inl c) e =
               let store = slot n w at (get_or mid n None) refl in
               permuted_to (linked.linked n c store.0 store.1) (ap (λ (xs : List Instance). xs ++ get_or draft.beads n []) (sym (ap instances_in store.1) ∙ left_is))
           put (inr absent) (inl e) =
-              permuted_is (ap instances_in (linked.others n absent) ∙ left_is ∙ sym (append-nil (left w.choose (news w.stream) (held stores n))) ∙ ap (λ (xs : List Instance). left w.choose (news w.stream) (held stores n) ++ xs) (sym e))
+              permuted_is (ap instances_in (linked.others n absent) ∙ left_is ∙ sym (append-nil (unmatched_after w.choose (news w.stream) (held stores n))) ∙ ap (λ (xs : List Instance). unmatched_after w.choose (news w.stream) (held stores n) ++ xs) (sym e))
           put (inr absent) (inr c) = absurd (absent c)
 
 -- one bead more is linked

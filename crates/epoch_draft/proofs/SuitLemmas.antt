@@ -8,24 +8,24 @@ use Rattle.std.proofs.lemmas.List.{append-nil}
 use Rattle.std.proofs.lemmas.List.Elements.{All-append, All-cons, All-contains_itself, All-filter, All-head, All-map, All-nil, All-weaker, filter_passes}
 use Rattle.std.proofs.lemmas.List.Sorted.{All-permutation, IsPermutation-sym}
 use Rattle.event_types.specs.declared.kind.Kind.{Kind}
-use Rattle.event_types.specs.Tuple.{Row}
+use Rattle.event_types.specs.Tuple.{TupleView}
 use Rattle.instances.specs.Plain.{Plain}
 use Rattle.instances.specs.declared.instance.Instance.{Instance}
 use Rattle.semantics.specs.Denotation.{Streams}
 use Rattle.semantics.specs.Kinds.{HasKinds}
 use Rattle.automaton.specs.Networks.{IsNetwork}
-use Rattle.automaton.specs.States.{Net, before_at, before_by, edges_at, ends_at, entry_at, root_at, root_by, state_at, step_at, step_by, tells, wait_at, wait_by}
+use Rattle.automaton.specs.States.{Net, before_at, before_by, edges_at, ends_at, entrance_at, root_at, root_by, state_at, step_at, step_by, tells, wait_at, wait_by}
 use Rattle.automaton.specs.Steps.{pass}
 use Rattle.automaton.specs.LineKinds.{StepGives}
 use Rattle.automaton.specs.declared.line.Hop.{Hop}
 use Rattle.automaton.specs.declared.network.End.{End}
-use Rattle.automaton.specs.declared.network.Entry.{Entry}
-use Rattle.automaton.specs.declared.network.Entry.TheVariants.{Root, Waiting}
+use Rattle.automaton.specs.declared.network.Entrance.{Entrance}
+use Rattle.automaton.specs.declared.network.Entrance.TheVariants.{Root, Waiting}
 use Rattle.automaton.specs.declared.network.State.{State}
 use Rattle.automaton.specs.declared.step.Stage.{Stage}
 use Rattle.automaton.specs.declared.wait.Turn.{Turn}
 use Rattle.automaton.specs.declared.wait.Wait.{Wait}
-use Rattle.epoch_laws.specs.Closing.{leaves, leaves_by, published, published_at}
+use Rattle.epoch_laws.specs.Closing.{leaving_state, leaving_by, given_by_ends, given_by_ends_at}
 use Rattle.epoch_laws.specs.Epochs.{took}
 use Rattle.epoch_laws.proofs.Lists.{All-flat_map, every}
 use Rattle.epoch_pass.specs.Pairs.{met}
@@ -48,14 +48,14 @@ told : (s : ℕ) (o : Option ℕ) → tells s o ≡ true → o ≡ Some s
 told s None e = absurd (cc)
 told s (Some t) e = ap Some (equal_number t s e)
 
-step_suits : (step : List Stage) (ks out : List Kind) (x : Row) → StepGives step ks out → HasKinds ks x → StepSuits step x
+step_suits : (step : List Stage) (ks out : List Kind) (x : TupleView) → StepGives step ks out → HasKinds ks x → StepSuits step x
 step_suits step ks out x gives h = All-head (StepSuits step) x [] (steps_suit step ks out (x ∷ []) gives (All-cons (HasKinds ks) x [] h (All-nil (HasKinds ks))))
 
 -- a waiting state by the state before it
-by_before : (net : Net) (k n : ℕ) → before_at net k ≡ Some n → (hop : Hop) × (entry_at net k ≡ Some (Waiting n hop))
-by_before net k n e = go (entry_at net k) refl e
+by_before : (net : Net) (k n : ℕ) → before_at net k ≡ Some n → (hop : Hop) × (entrance_at net k ≡ Some (Waiting n hop))
+by_before net k n e = go (entrance_at net k) refl e
   where
-    go : (o : Option Entry) → entry_at net k ≡ o → option_and_then before_by o ≡ Some n → (hop : Hop) × (entry_at net k ≡ Some (Waiting n hop))
+    go : (o : Option Entrance) → entrance_at net k ≡ o → option_and_then before_by o ≡ Some n → (hop : Hop) × (entrance_at net k ≡ Some (Waiting n hop))
     go None at e = absurd (cc)
     go (Some (Root s)) at e = absurd (cc)
     go (Some (Waiting b hop)) at e = (hop, at ∙ ap (λ (m : ℕ). Some (Waiting m hop)) (some_is b n e))
@@ -74,14 +74,14 @@ module _ (net : Net) (network : IsNetwork net) (kinds : List (List Kind)) (store
       go (Some state) e = subst (All (EndFits kinds (typed.kinding.leaving n))) (sym (ap (λ (o : Option State). unwrap_or (option_map (λ (s : State). s.ends) o) []) e)) (typed.states n state e).1
 
   -- the step into a state suits what leaves the state before it
-  into_suits : (n : ℕ) (x : Row) → HasKinds (typed.kinding.leaving n) x → (k : ℕ) → Contains (edges_at net n) k → StepSuits (step_at net k) x
+  into_suits : (n : ℕ) (x : TupleView) → HasKinds (typed.kinding.leaving n) x → (k : ℕ) → Contains (edges_at net n) k → StepSuits (step_at net k) x
   into_suits n x h k there =
       let found = by_before net k n (edge_before net network n k there) in
       let hop = found.0 in
       let at = at_wait net k hop.wait (ap (option_and_then wait_by) found.1) in
       let same = some_is (Waiting at.before at.hop) (Waiting n hop) (sym (wait_entry net k hop.wait at) ∙ found.1) in
       let typed_hop = hop_typed kinds net typed.kinding typed.states k hop.wait at in
-      let step_is : step_at net k ≡ at.hop.step = ap (λ (o : Option Entry). unwrap_or (option_map step_by o) []) (wait_entry net k hop.wait at) in
+      let step_is : step_at net k ≡ at.hop.step = ap (λ (o : Option Entrance). unwrap_or (option_map step_by o) []) (wait_entry net k hop.wait at) in
       let before_is : at.before ≡ n = before_of at.before n at.hop hop same in
       subst (λ (s : List Stage). StepSuits s x) (sym step_is)
       (step_suits at.hop.step (typed.kinding.leaving n) (typed.kinding.waiting k) x (subst (λ (m : ℕ). StepGives at.hop.step (typed.kinding.leaving m) (typed.kinding.waiting k)) before_is typed_hop.step) h)
@@ -90,7 +90,7 @@ module _ (net : Net) (network : IsNetwork net) (kinds : List (List Kind)) (store
       before_of a b h g e = cc
 
   -- all ways out of a state suit what leaves it
-  leaving_suits : (n : ℕ) (x : Row) → HasKinds (typed.kinding.leaving n) x → LeavingSuits net n x
+  leaving_suits : (n : ℕ) (x : TupleView) → HasKinds (typed.kinding.leaving n) x → LeavingSuits net n x
   leaving_suits n x h =
       All-append (WaySuits net x) (map Into (edges_at net n)) (map Out (ends_at net n) ++ backs_by n (wait_at net n))
       (All-map (WaySuits net x) Into (edges_at net n) (All-weaker (Contains (edges_at net n)) (λ k. StepSuits (step_at net k) x) (into_suits n x h) (edges_at net n) (All-contains_itself (edges_at net n))))
@@ -107,7 +107,7 @@ module _ (net : Net) (network : IsNetwork net) (kinds : List (List Kind)) (store
       backs None = All-nil (WaySuits net x)
       backs (Some w) = back w.fold
 
-  module _ (s : ℕ) (known : List Kind) (is : slice_get kinds s ≡ Some known) (r : Row) (h : HasKinds known r) where
+  module _ (s : ℕ) (known : List Kind) (is : slice_get kinds s ≡ Some known) (r : TupleView) (h : HasKinds known r) where
     root_suits : (n : ℕ) → is_root_on net s n ≡ true → LeavingSuits net n r
     root_suits n e =
         let at = told s (root_at net n) e in
@@ -123,7 +123,7 @@ module _ (net : Net) (network : IsNetwork net) (kinds : List (List Kind)) (store
         let out = typed.kinding.leaving n in
         let mine = instances_typed n w at in
         let went : All (HasKinds out) (took w.choose w.fold (r ∷ []) (held stores n)) = took_kinds w bs one.event out (held stores n) (r ∷ []) one.gives rows mine in (
-          All-head (λ (t : Row). All (λ (i : Instance). WaitSuits w i.tuple t) (held stores n)) r [] (waits_suit w bs one.event out (held stores n) (r ∷ []) one.gives rows mine),
+          All-head (λ (t : TupleView). All (λ (i : Instance). WaitSuits w i.tuple t) (held stores n)) r [] (waits_suit w bs one.event out (held stores n) (r ∷ []) one.gives rows mine),
           All-weaker (HasKinds out) (LeavingSuits net n) (leaving_suits n) (met w (held stores n) r)
               (subst (All (HasKinds out)) (append-nil (met w (held stores n) r)) (All-permutation (HasKinds out) (took w.choose w.fold (r ∷ []) (held stores n)) (met w (held stores n) r ++ []) (IsPermutation-sym _ _ (met_took w (held stores n) (r ∷ []))) went)),
         )
@@ -139,13 +139,13 @@ module _ (net : Net) (network : IsNetwork net) (kinds : List (List Kind)) (store
 
   module _ (seen : Streams) (have : HaveKinds kinds seen) where
     -- what leaves a state has its kinds
-    leaves_kinds : (n : ℕ) → All (HasKinds (typed.kinding.leaving n)) (leaves net seen (held stores) n)
-    leaves_kinds n = go (entry_at net n) refl
+    leaves_kinds : (n : ℕ) → All (HasKinds (typed.kinding.leaving n)) (leaving_state net seen (held stores) n)
+    leaves_kinds n = go (entrance_at net n) refl
       where
-        go : (o : Option Entry) → entry_at net n ≡ o → All (HasKinds (typed.kinding.leaving n)) (leaves net seen (held stores) n)
-        go None e = subst (All (HasKinds (typed.kinding.leaving n))) (sym (ap (λ (o : Option Entry). leaves_by o seen (held stores n)) e)) (All-nil (HasKinds (typed.kinding.leaving n)))
+        go : (o : Option Entrance) → entrance_at net n ≡ o → All (HasKinds (typed.kinding.leaving n)) (leaving_state net seen (held stores) n)
+        go None e = subst (All (HasKinds (typed.kinding.leaving n))) (sym (ap (λ (o : Option Entrance). leaving_by o seen (held stores n)) e)) (All-nil (HasKinds (typed.kinding.leaving n)))
         go (Some (Root s)) e =
-            subst (All (HasKinds (typed.kinding.leaving n))) (sym (ap (λ (o : Option Entry). leaves_by o seen (held stores n)) e))
+            subst (All (HasKinds (typed.kinding.leaving n))) (sym (ap (λ (o : Option Entrance). leaving_by o seen (held stores n)) e))
             (have s (typed.kinding.leaving n) (root_typed kinds net typed.kinding typed.states n s (ap (option_and_then root_by) e)))
         go (Some (Waiting before hop)) e =
             let w = hop.wait in
@@ -155,16 +155,16 @@ module _ (net : Net) (network : IsNetwork net) (kinds : List (List Kind)) (store
             (took_kinds w (typed.kinding.waiting n) one.event (typed.kinding.leaving n) (held stores n) (seen w.stream) one.gives (have w.stream one.event one.known) (instances_typed n w at))
 
     -- and what the ends of a stream give has its kinds
-    pub published_kinds : (s : ℕ) (known : List Kind) → slice_get kinds s ≡ Some known → All (HasKinds known) (published net seen (held stores) s)
+    pub published_kinds : (s : ℕ) (known : List Kind) → slice_get kinds s ≡ Some known → All (HasKinds known) (given_by_ends net seen (held stores) s)
     published_kinds s known is =
-        All-flat_map (HasKinds known) (published_at net seen (held stores) s) (range_with_len 0 (length net)) (every (λ n. All (HasKinds known) (published_at net seen (held stores) s n)) each (range_with_len 0 (length net)))
+        All-flat_map (HasKinds known) (given_by_ends_at net seen (held stores) s) (range_with_len 0 (length net)) (every (λ n. All (HasKinds known) (given_by_ends_at net seen (held stores) s n)) each (range_with_len 0 (length net)))
       where
-        one : (n : ℕ) (e : End) → EndFits kinds (typed.kinding.leaving n) e → (e.out == s) ≡ true → All (HasKinds known) (filter_map (pass e.step) (leaves net seen (held stores) n))
+        one : (n : ℕ) (e : End) → EndFits kinds (typed.kinding.leaving n) e → (e.out == s) ≡ true → All (HasKinds known) (filter_map (pass e.step) (leaving_state net seen (held stores) n))
         one n e fit out =
-            subst (λ (ks : List Kind). All (HasKinds ks) (filter_map (pass e.step) (leaves net seen (held stores) n)))
-            (some_is fit.0 known (sym fit.2 ∙ ap (slice_get kinds) (equal_number e.out s out) ∙ is)) (passed_kinds e.step (typed.kinding.leaving n) fit.0 (leaves net seen (held stores) n) fit.1 (leaves_kinds n))
+            subst (λ (ks : List Kind). All (HasKinds ks) (filter_map (pass e.step) (leaving_state net seen (held stores) n)))
+            (some_is fit.0 known (sym fit.2 ∙ ap (slice_get kinds) (equal_number e.out s out) ∙ is)) (passed_kinds e.step (typed.kinding.leaving n) fit.0 (leaving_state net seen (held stores) n) fit.1 (leaves_kinds n))
 
-        each : (n : ℕ) → All (HasKinds known) (published_at net seen (held stores) s n)
+        each : (n : ℕ) → All (HasKinds known) (given_by_ends_at net seen (held stores) s n)
         each n =
-            All-flat_map (HasKinds known) (λ (e : End). filter_map (pass e.step) (leaves net seen (held stores) n)) (filter (λ e. e.out == s) (ends_at net n))
+            All-flat_map (HasKinds known) (λ (e : End). filter_map (pass e.step) (leaving_state net seen (held stores) n)) (filter (λ e. e.out == s) (ends_at net n))
             (λ k d lt. one n (get_or (filter (λ (e : End). e.out == s) (ends_at net n)) k d) (All-filter (λ (e : End). e.out == s) (EndFits kinds (typed.kinding.leaving n)) (ends_at net n) (ends_typed n) k d lt) (filter_passes (λ (e : End). e.out == s) (ends_at net n) k d lt))

@@ -3,7 +3,7 @@ use Rattle.std.specs.Prelude.{◌≡◌, ℕ, ◌<◌, ◌⊎◌, if◌then◌el
 use Rattle.std.specs.List.{All}
 use Rattle.std.specs.List.Sorted.{IsPermutation}
 use Rattle.event_types.specs.Order.{sorted}
-use Rattle.event_types.specs.Tuple.{Row}
+use Rattle.event_types.specs.Tuple.{TupleView}
 use Rattle.instances.specs.Plain.{Plain}
 use Rattle.semantics.specs.Denotation.{Streams, streams_of}
 use Rattle.automaton.specs.Networks.{IsNetwork}
@@ -12,7 +12,7 @@ use Rattle.automaton.specs.Work.{is_in}
 use Rattle.automaton.specs.declared.layout.Layout.{Layout}
 use Rattle.automaton.specs.declared.line.Line.{Line}
 use Rattle.epoch_laws.specs.Closing.{IsEpoch, Stores}
-use Rattle.epoch_laws.specs.Stands.{Serves}
+use Rattle.epoch_laws.specs.StoresStandFor.{Serves}
 use Rattle.epoch_draft.specs.Drafts.{DraftFits, EndsBelow, Grows, without}
 use Rattle.epoch_draft.specs.Drawn.{Drawn, Paired}
 use Rattle.epoch_draft.specs.Held.{held}
@@ -23,7 +23,7 @@ use Rattle.epoch_draft.specs.declared.draft.Pair.{Pair}
 
 -- the tuples of a derived stream were put in order and met, and are its tuples
 pub record Derives (net : Net) (stores : Stores) (stream : ℕ) (old new : Draft) (pairs more : List Pair) : Type 0 where
-  pub tuples : List Row
+  pub tuples : List TupleView
   pub same : IsPermutation tuples (slice_index_or old.made stream [])
   pub ordered : sorted tuples ≡ tuples
   pub met : Draft
@@ -34,21 +34,21 @@ pub record Derives (net : Net) (stores : Stores) (stream : ℕ) (old new : Draft
   pub lists : ListsAll net stream tuples pairs more
 
 -- the tuples of an epoch as far as they are made: those of the streams that are done, and the open ones of the others
-abbrev pub news_of : List (List Row) → List (List Row) → List ℕ → Streams
+abbrev pub news_of : List (List TupleView) → List (List TupleView) → List ℕ → Streams
 news_of opened made done stream = if is_in done stream then slice_index_or made stream [] else slice_index_or opened stream []
 
 -- the open tuples of these streams
-abbrev pub opened_of : List (List Row) → List ℕ → Streams
+abbrev pub opened_of : List (List TupleView) → List ℕ → Streams
 opened_of opened done stream = if is_in done stream then slice_index_or opened stream [] else []
 
 -- each stream that has open tuples is listed once
-pub record AreOpened (opened : List (List Row)) (touched : List ℕ) : Type 0 where
+pub record AreOpened (opened : List (List TupleView)) (touched : List ℕ) : Type 0 where
   pub below : All (λ stream. stream < length opened) touched
   pub once : (place : ℕ) → place < length touched → Contains (take place touched) (slice_index_or touched place 0) → ⊥
   pub all : (stream : ℕ) → (slice_index_or opened stream [] ≡ []) ⊎ Contains touched stream
 
 -- the network and the layout are of some lines, all is typed, and no derived stream has open tuples
-pub record CanDraw (net : Net) (layout : Layout) (stores : List (Option Plain)) (opened : List (List Row)) : Type 0 where
+pub record CanDraw (net : Net) (layout : Layout) (stores : List (Option Plain)) (opened : List (List TupleView)) : Type 0 where
   pub network : IsNetwork net
   pub lines : List Line
   pub serves : Serves net lines layout.order
@@ -60,11 +60,11 @@ pub record CanDraw (net : Net) (layout : Layout) (stores : List (Option Plain)) 
   pub underived : All (λ stream. slice_index_or opened stream [] ≡ []) layout.order
 
 -- each of these streams has its tuples in order
-abbrev pub AreOrdered : List (List Row) → List ℕ → Type 0
+abbrev pub AreOrdered : List (List TupleView) → List ℕ → Type 0
 AreOrdered made streams = All (λ stream. sorted (slice_index_or made stream []) ≡ slice_index_or made stream []) streams
 
 -- the open tuples are met, and the derived streams that are done: over these tuples all is made, they are an epoch of the streams that are done, and these have theirs in order
-pub record DrawnUpTo (net : Net) (layout : Layout) (stores : List (Option Plain)) (opened : List (List Row)) (done : List ℕ) (draft : Draft) (pairs : List Pair) : Type 0 where
+pub record DrawnUpTo (net : Net) (layout : Layout) (stores : List (Option Plain)) (opened : List (List TupleView)) (done : List ℕ) (draft : Draft) (pairs : List Pair) : Type 0 where
   pub fits : DraftFits (length layout.kinds) (length net) draft
   pub drawn : Drawn net (held stores) (news_of opened draft.made done) draft
   pub paired : Paired net (news_of opened draft.made done) pairs

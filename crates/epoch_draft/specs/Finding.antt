@@ -3,7 +3,7 @@ use Rattle.std.specs.Prelude.{◌≡◌, ℕ, Bool, ◌<◌, false, true, IsTrue
 use Rattle.std.specs.Option.{option_map}
 use Rattle.std.specs.List.{All, filter, flat_map, range_with_len}
 use Rattle.std.specs.List.Sorted.{IsPermutation}
-use Rattle.event_types.specs.Tuple.{Row}
+use Rattle.event_types.specs.Tuple.{TupleView}
 use Rattle.semantics.specs.Nexts.{is_eligible}
 use Rattle.automaton.specs.States.{Net, ends_at, is_used, root_at, step_at, tells, wait_at}
 use Rattle.automaton.specs.Steps.{pass}
@@ -31,14 +31,14 @@ abbrev pub waits_on : Net → ℕ → List ℕ
 waits_on net stream = filter (is_wait_on net stream) (range_with_len 0 (length net))
 
 -- nothing comes of the tuple on a way
-abbrev pub IsSilent : Net → Row → Way → Type 0
+abbrev pub IsSilent : Net → TupleView → Way → Type 0
 IsSilent net tuple (Into next) = pass (step_at net next) tuple ≡ None
 IsSilent net tuple (Out end) = pass end.step tuple ≡ None
 IsSilent net tuple (Back number) = ⊥
 
 -- the tuple is eligible for no binding at a state
-abbrev pub IsDeaf : Net → Row → ℕ → Type 0
-IsDeaf net tuple number = (wait : Wait) → wait_at net number ≡ Some wait → (binding : Row) → is_eligible wait.choose binding tuple ≡ false
+abbrev pub IsDeaf : Net → TupleView → ℕ → Type 0
+IsDeaf net tuple number = (wait : Wait) → wait_at net number ≡ Some wait → (binding : TupleView) → is_eligible wait.choose binding tuple ≡ false
 
 -- the way out by the end at a place
 abbrev pub out_by : Option End → List Way
@@ -56,7 +56,7 @@ IsTarget net (Edge next) = IsTrue (is_used net next)
 IsTarget net (Exit place) = IsTrue (is_used net place.state) × (place.place < length (ends_at net place.state))
 
 -- the targets are ways out of the roots of a stream that are looked up by the tuple, each as often as it stands there, and nothing comes of the tuple on the others
-pub record FindsWays (net : Net) (stream : ℕ) (tuple : Row) (found : List Target) : Type 0 where
+pub record FindsWays (net : Net) (stream : ℕ) (tuple : TupleView) (found : List Target) : Type 0 where
   pub are : All (IsTarget net) found
   pub others : List Way
   pub all : IsPermutation (flat_map (way_of net) found ++ others) (ways_on net stream)
@@ -64,7 +64,7 @@ pub record FindsWays (net : Net) (stream : ℕ) (tuple : Row) (found : List Targ
   pub looked : All (λ way. looks net tuple way ≡ true) (flat_map (way_of net) found)
 
 -- the numbers are those of states that wait on a stream and are looked up by the tuple, each once, and the tuple is eligible for no binding at the others
-pub record FindsWaits (net : Net) (stream : ℕ) (tuple : Row) (found : List ℕ) : Type 0 where
+pub record FindsWaits (net : Net) (stream : ℕ) (tuple : TupleView) (found : List ℕ) : Type 0 where
   pub others : List ℕ
   pub all : IsPermutation (found ++ others) (waits_on net stream)
   pub deaf : All (IsDeaf net tuple) others

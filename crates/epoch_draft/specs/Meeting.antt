@@ -1,7 +1,7 @@
 -- What comes of a tuple of a stream.
 use Rattle.std.specs.Prelude.{◌≡◌, ℕ, ◌<◌, ◌⊎◌, List, [], ◌++◌, Contains, length, map, Option, Some, None, slice_get}
 use Rattle.std.specs.List.{All, flat_map}
-use Rattle.event_types.specs.Tuple.{Row}
+use Rattle.event_types.specs.Tuple.{TupleView}
 use Rattle.instances.specs.declared.instance.Instance.{Instance}
 use Rattle.automaton.specs.States.{Net, wait_at}
 use Rattle.automaton.specs.declared.wait.Wait.{Wait}
@@ -13,24 +13,24 @@ use Rattle.epoch_draft.specs.Moves.{Move, moves_from, moves_over}
 use Rattle.epoch_draft.specs.declared.draft.Pair.{Pair}
 
 -- what a tuple makes of the instances at a state, if it waits so
-abbrev pub met_by : Option Wait → List Instance → Row → List Row
+abbrev pub met_by : Option Wait → List Instance → TupleView → List TupleView
 met_by None store tuple = []
 met_by (Some wait) store tuple = met wait store tuple
 
 -- what a tuple makes of the instances at the state with a number
-abbrev pub met_at : Net → Stores → Row → ℕ → List Row
+abbrev pub met_at : Net → Stores → TupleView → ℕ → List TupleView
 met_at net stores tuple number = met_by (wait_at net number) (stores number) tuple
 
 -- the moves of what leaves waiting states so
-abbrev pub moves_met : Net → Stores → Row → List ℕ → List Move
+abbrev pub moves_met : Net → Stores → TupleView → List ℕ → List Move
 moves_met net stores tuple numbers = flat_map (λ number. moves_from net number (met_at net stores tuple number)) numbers
 
 -- all moves that come of a tuple of a stream
-abbrev pub moves_of : Net → Stores → ℕ → Row → List Move
+abbrev pub moves_of : Net → Stores → ℕ → TupleView → List Move
 moves_of net stores stream tuple = moves_over net (gets net stores stream tuple)
 
 -- all moves that come of these tuples of a stream
-abbrev pub moves_of_all : Net → Stores → ℕ → List Row → List Move
+abbrev pub moves_of_all : Net → Stores → ℕ → List TupleView → List Move
 moves_of_all net stores stream tuples = flat_map (moves_of net stores stream) tuples
 
 -- a waiting state, and the place of a tuple in its stream
@@ -38,20 +38,20 @@ abbrev pub pair_of : ℕ → ℕ → ℕ → Pair
 pair_of stream place state = record { state = state; stream = stream; place = place }
 
 -- the states that were found by a tuple are listed with its place
-pub record Lists (net : Net) (stream place : ℕ) (tuple : Row) (old new : List Pair) : Type 0 where
+pub record Lists (net : Net) (stream place : ℕ) (tuple : TupleView) (old new : List Pair) : Type 0 where
   pub found : List ℕ
   pub finds : FindsWaits net stream tuple found
   pub are : new ≡ old ++ map (pair_of stream place) found
 
 -- a pair is that of a waiting state and one of these tuples
-pub record IsPairOf (net : Net) (stream : ℕ) (tuples : List Row) (pair : Pair) : Type 0 where
+pub record IsPairOf (net : Net) (stream : ℕ) (tuples : List TupleView) (pair : Pair) : Type 0 where
   pub stream_is : pair.stream ≡ stream
   pub waits : Contains (waits_on net stream) pair.state
   pub below : pair.place < length tuples
 
 -- each waiting state and each of these tuples are listed, or the tuple is eligible for no binding there
-pub record ListsAll (net : Net) (stream : ℕ) (tuples : List Row) (old new : List Pair) : Type 0 where
+pub record ListsAll (net : Net) (stream : ℕ) (tuples : List TupleView) (old new : List Pair) : Type 0 where
   pub added : List Pair
   pub are : new ≡ old ++ added
   pub sound : All (IsPairOf net stream tuples) added
-  pub listed : (place : ℕ) (tuple : Row) → slice_get tuples place ≡ Some tuple → (state : ℕ) → Contains (waits_on net stream) state → Contains added (pair_of stream place state) ⊎ IsDeaf net tuple state
+  pub listed : (place : ℕ) (tuple : TupleView) → slice_get tuples place ≡ Some tuple → (state : ℕ) → Contains (waits_on net stream) state → Contains added (pair_of stream place state) ⊎ IsDeaf net tuple state

@@ -2,7 +2,7 @@
 use Rattle.std.specs.Prelude.{◌≡◌, ℕ, ◌<◌, ◌⊎◌, true, IsTrue, is_some, List, length, Option, Some, None, Contains, slice_index_or}
 use Rattle.std.specs.Option.{option_map}
 use Rattle.std.specs.List.{All}
-use Rattle.event_types.specs.Tuple.{Row}
+use Rattle.event_types.specs.Tuple.{TupleView}
 use Rattle.instances.specs.Alive.{is_alive}
 use Rattle.semantics.specs.Scalars.{Pr}
 use Rattle.automaton.specs.States.{Net, wait_at}
@@ -22,7 +22,7 @@ pub record ArePurgedIn (numbers : List ℕ) (time : ℕ) (old new : List (Option
 
 -- no bound of the condition expires
 abbrev pub IsUnbound : List Pr → Type 0
-IsUnbound choose = (time : ℕ) (binding : Row) → is_alive time choose binding ≡ true
+IsUnbound choose = (time : ℕ) (binding : TupleView) → is_alive time choose binding ≡ true
 
 -- the list has each waiting state below a number whose condition has a bound that may expire, and waiting states alone
 pub record ListsBounded (net : Net) (bound : ℕ) (list : List ℕ) : Type 0 where

@@ -3,7 +3,7 @@ use Rattle.std.specs.Prelude.{◌≡◌, ℕ, ◌<◌, ◌==◌, not, if◌then�
 use Rattle.std.specs.Option.{option_map}
 use Rattle.std.specs.List.{All, filter, flat_map}
 use Rattle.std.specs.List.Sorted.{IsPermutation}
-use Rattle.event_types.specs.Tuple.{Row}
+use Rattle.event_types.specs.Tuple.{TupleView}
 use Rattle.instances.specs.Bounds.{alive_instances}
 use Rattle.instances.specs.Plain.{Plain}
 use Rattle.instances.specs.declared.instance.Instance.{Instance}
@@ -14,7 +14,7 @@ use Rattle.scalar_expr.specs.Fits.{AllFit}
 use Rattle.automaton.specs.States.{Net, is_used, wait_at}
 use Rattle.automaton.specs.declared.wait.Wait.{Wait}
 use Rattle.epoch_laws.specs.Closing.{Stores, stores_after}
-use Rattle.epoch_laws.specs.Epochs.{left}
+use Rattle.epoch_laws.specs.Epochs.{unmatched_after}
 use Rattle.epoch_draft.specs.Held.{held}
 use Rattle.epoch_draft.specs.declared.draft.Pair.{Pair}
 
@@ -28,20 +28,20 @@ pub record SameShapes (old new : List (Option Plain)) : Type 0 where
   pub shapes : (number : ℕ) → shape_of (slice_index_or new number None) ≡ shape_of (slice_index_or old number None)
 
 -- the first list, or the second where the first has no items
-abbrev pub first_of : List Row → List Row → List Row
+abbrev pub first_of : List TupleView → List TupleView → List TupleView
 first_of [] made = made
 first_of (tuple ∷ tuples) made = tuple ∷ tuples
 
 -- the tuples of each stream: the open ones, or else those that were made
-abbrev pub tuples_in : List (List Row) → List (List Row) → Streams
+abbrev pub tuples_in : List (List TupleView) → List (List TupleView) → Streams
 tuples_in opened made stream = first_of (slice_index_or opened stream []) (slice_index_or made stream [])
 
 -- the tuple of a pair
-abbrev pub row_at : Streams → Pair → List Row
+abbrev pub row_at : Streams → Pair → List TupleView
 row_at news pair = option_to_list (slice_get (news pair.stream) pair.place)
 
 -- the tuples with which a state is listed
-abbrev pub listed_rows : Streams → List Pair → ℕ → List Row
+abbrev pub listed_rows : Streams → List Pair → ℕ → List TupleView
 listed_rows news pairs number = flat_map (λ pair. if pair.state == number then row_at news pair else []) pairs
 
 -- the tests by which these pairs take out what matches
@@ -53,10 +53,10 @@ pub record PairSuits (net : Net) (news : Streams) (streams : ℕ) (stores : Stor
   pub used : IsTrue (is_used net pair.state)
   pub stream : pair.stream < streams
   pub place : pair.place < length (news pair.stream)
-  pub fits : (wait : Wait) (tuple : Row) → wait_at net pair.state ≡ Some wait → slice_get (news pair.stream) pair.place ≡ Some tuple → All (λ instance. AllFit wait.choose tuple (Some instance.tuple)) (stores pair.state)
+  pub fits : (wait : Wait) (tuple : TupleView) → wait_at net pair.state ≡ Some wait → slice_get (news pair.stream) pair.place ≡ Some tuple → All (λ instance. AllFit wait.choose tuple (Some instance.tuple)) (stores pair.state)
 
 -- the instances that a tuple matches were taken out at a state
-pub record IsTakenAt (net : Net) (tuple : Row) (number : ℕ) (old new : List (Option Plain)) : Type 0 where
+pub record IsTakenAt (net : Net) (tuple : TupleView) (number : ℕ) (old new : List (Option Plain)) : Type 0 where
   pub same : SameShapes old new
   pub taken : (wait : Wait) → wait_at net number ≡ Some wait → held new number ≡ filter (λ instance. not (is_eligible wait.choose instance.tuple tuple)) (held old number)
   pub none : wait_at net number ≡ None → held new number ≡ held old number
@@ -65,7 +65,7 @@ pub record IsTakenAt (net : Net) (tuple : Row) (number : ℕ) (old new : List (O
 -- the instances that the tuples of these pairs match were taken out
 pub record AreTaken (net : Net) (news : Streams) (pairs : List Pair) (old new : List (Option Plain)) : Type 0 where
   pub same : SameShapes old new
-  pub taken : (number : ℕ) (wait : Wait) → wait_at net number ≡ Some wait → held new number ≡ left wait.choose (listed_rows news pairs number) (held old number)
+  pub taken : (number : ℕ) (wait : Wait) → wait_at net number ≡ Some wait → held new number ≡ unmatched_after wait.choose (listed_rows news pairs number) (held old number)
   pub none : (number : ℕ) → wait_at net number ≡ None → held new number ≡ held old number
 
 -- the beads of these states were put into their stores, and a store without beads is the same

@@ -1,20 +1,20 @@
 -- The steps that the tuples of streams may take.
 use Rattle.std.specs.Prelude.{ℕ, ◌+◌, List, [], slice_index_or, sum_by}
 use Rattle.std.specs.List.{filter}
-use Rattle.event_types.specs.Tuple.{Row}
+use Rattle.event_types.specs.Tuple.{TupleView}
 use Rattle.automaton.specs.States.{Net}
 use Rattle.epoch_laws.specs.Closing.{Stores}
 use Rattle.epoch_draft.specs.Finding.{waits_on, ways_on}
 use Rattle.epoch_draft.specs.Work.{hears, looks, state_work, ways_work}
 
 -- the steps of a tuple of a stream: on the ways out of the roots, and at the states that wait on it
-abbrev pub tuple_work : Net → Stores → ℕ → Row → ℕ
+abbrev pub tuple_work : Net → Stores → ℕ → TupleView → ℕ
 tuple_work net stores stream tuple = ways_work net (filter (looks net tuple) (ways_on net stream)) + sum_by (state_work net stores tuple) (filter (hears net tuple) (waits_on net stream))
 
 -- the steps of these tuples of a stream
-abbrev pub stream_work : Net → Stores → ℕ → List Row → ℕ
+abbrev pub stream_work : Net → Stores → ℕ → List TupleView → ℕ
 stream_work net stores stream tuples = sum_by (tuple_work net stores stream) tuples
 
 -- the steps of all tuples of these streams, where the lists have them by stream
-abbrev pub streams_work : Net → Stores → List (List Row) → List ℕ → ℕ
+abbrev pub streams_work : Net → Stores → List (List TupleView) → List ℕ → ℕ
 streams_work net stores lists streams = sum_by (λ stream. stream_work net stores stream (slice_index_or lists stream [])) streams

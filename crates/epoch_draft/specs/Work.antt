@@ -1,6 +1,6 @@
 -- The steps that an epoch may take: the tests of conditions.
 use Rattle.std.specs.Prelude.{ℕ, ◌+◌, Bool, true, List, [], ◌∷◌, Option, Some, None, sum_by}
-use Rattle.event_types.specs.Tuple.{Row}
+use Rattle.event_types.specs.Tuple.{TupleView}
 use Rattle.instances.specs.declared.instance.Instance.{Instance}
 use Rattle.automaton.specs.States.{Net, step_at, wait_at}
 use Rattle.automaton.specs.declared.step.Stage.{Stage}
@@ -37,22 +37,22 @@ abbrev pub pair_work : Wait → ℕ
 pair_work wait = 1 + turn_work wait.fold
 
 -- the tests of a tuple with an instance at a state, and of what it makes of it on all ways out
-abbrev pub binding_work : Net → ℕ → Wait → Row → Instance → ℕ
+abbrev pub binding_work : Net → ℕ → Wait → TupleView → Instance → ℕ
 binding_work net number wait tuple instance = pair_work wait + sum_by (λ made. ways_work net (ways_at net number)) (paired wait instance.tuple tuple)
 
 -- the tests of a tuple with all of these instances at a state, if it waits so
-abbrev pub met_work : Net → ℕ → Option Wait → List Instance → Row → ℕ
+abbrev pub met_work : Net → ℕ → Option Wait → List Instance → TupleView → ℕ
 met_work net number None store tuple = 0
 met_work net number (Some wait) store tuple = sum_by (binding_work net number wait tuple) store
 
 -- the tests of a tuple at the state with a number
-abbrev pub state_work : Net → Stores → Row → ℕ → ℕ
+abbrev pub state_work : Net → Stores → TupleView → ℕ → ℕ
 state_work net stores tuple number = met_work net number (wait_at net number) (stores number) tuple
 
 -- whether a way out of a root is looked up by a tuple: each is, since look-ups scan
-abbrev pub looks : Net → Row → Way → Bool
+abbrev pub looks : Net → TupleView → Way → Bool
 looks net tuple way = true
 
 -- whether a waiting state is looked up by a tuple: each is, since look-ups scan
-abbrev pub hears : Net → Row → ℕ → Bool
+abbrev pub hears : Net → TupleView → ℕ → Bool
 hears net tuple number = true

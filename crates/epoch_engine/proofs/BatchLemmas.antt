@@ -3,7 +3,7 @@ use Rattle.std.proofs.Common.{◌≡◌, ◌∙◌, sym, ap, refl, subst, inl, i
 use Rattle.std.proofs.lemmas.Bool.Decides.{nat_tests}
 use Rattle.std.proofs.lemmas.Grind.{get_or-set_at}
 use Rattle.std.proofs.lemmas.List.{get_or-set_other}
-use Rattle.event_types.specs.Tuple.{Row}
+use Rattle.event_types.specs.Tuple.{TupleView}
 use Rattle.epoch_engine.specs.Tables.{AreLast}
 use Rattle.epoch_engine.proofs.Lists.{same_or_other}
 
@@ -14,7 +14,7 @@ earlier m i k after le = other (m == i) refl
     other false e = e
     other true e = absurd (grind (arith, nat_tests))
 
-module _ (outs last : List ℕ) (streams i s : ℕ) (first opened : List (List Row)) (rows : List Row) (is : s ≡ get_or outs i 0) (below : s < length opened) where
+module _ (outs last : List ℕ) (streams i s : ℕ) (first opened : List (List TupleView)) (rows : List TupleView) (is : s ≡ get_or outs i 0) (below : s < length opened) where
   -- the streams of later places keep their tuples
   pub later_kept : AreLast outs last streams → ((get_or last s 0 == i) ≡ false → rows ≡ get_or opened s [])
       → ((k : ℕ) → i ≤ k → k < length outs → get_or opened (get_or outs k 0) [] ≡ get_or first (get_or outs k 0) [])
@@ -31,7 +31,7 @@ module _ (outs last : List ℕ) (streams i s : ℕ) (first opened : List (List R
   pub kept_or_moved : (rows ≡ get_or opened s []) ⊎ (rows ≡ []) → ((t : ℕ) → (get_or opened t [] ≡ get_or first t []) ⊎ (get_or opened t [] ≡ [])) → (t : ℕ) → (get_or (set opened s rows) t [] ≡ get_or first t []) ⊎ (get_or (set opened s rows) t [] ≡ [])
   kept_or_moved moved h t = go (same_or_other t s)
     where
-      still : (xs : List Row) → xs ≡ get_or opened t [] → (get_or opened t [] ≡ get_or first t []) ⊎ (get_or opened t [] ≡ []) → (xs ≡ get_or first t []) ⊎ (xs ≡ [])
+      still : (xs : List TupleView) → xs ≡ get_or opened t [] → (get_or opened t [] ≡ get_or first t []) ⊎ (get_or opened t [] ≡ []) → (xs ≡ get_or first t []) ⊎ (xs ≡ [])
       still xs e (inl same) = inl (e ∙ same)
       still xs e (inr none) = inr (e ∙ none)
 

@@ -3,23 +3,23 @@ use Rattle.std.proofs.Common.{◌≡◌, ◌∙◌, sym, refl, subst, inl, inr, 
 use Rattle.std.specs.Prelude.{Contains}
 use Rattle.std.proofs.lemmas.Grind.{get_or-set_at}
 use Rattle.std.proofs.lemmas.List.{get_or-set_other, length-set}
-use Rattle.event_types.specs.Tuple.{Row}
+use Rattle.event_types.specs.Tuple.{TupleView}
 use Rattle.epoch_engine.proofs.Lists.{more_contains, same_or_other}
 
 -- the lists of these numbers are empty, and each other one is as it was
-pub record Cleared (numbers : List ℕ) (old new : List (List Row)) : Type 0 where
+pub record Cleared (numbers : List ℕ) (old new : List (List TupleView)) : Type 0 where
   pub as_many : length new ≡ length old
   pub each : (k : ℕ) → (get_or new k [] ≡ []) ⊎ (get_or new k [] ≡ get_or old k [])
   pub cleared : (k : ℕ) → Contains numbers k → get_or new k [] ≡ []
 
-pub clear_none : (lists : List (List Row)) → Cleared [] lists lists
+pub clear_none : (lists : List (List TupleView)) → Cleared [] lists lists
 clear_none lists = record { as_many = refl; each = λ k. inr refl; cleared = λ k c. absurd (no_number k c) }
   where
     no_number : (k : ℕ) → Contains [] k → ⊥
     no_number k c = absurd (omega arith)
 
 -- one more is empty
-pub clear_more : (numbers : List ℕ) (i : ℕ) (first old : List (List Row)) (rows : List Row) → i < length numbers → get_or numbers i 0 < length first → rows ≡ [] → Cleared (take i numbers) first old
+pub clear_more : (numbers : List ℕ) (i : ℕ) (first old : List (List TupleView)) (rows : List TupleView) → i < length numbers → get_or numbers i 0 < length first → rows ≡ [] → Cleared (take i numbers) first old
     → Cleared (take (i + 1) numbers) first (set old (get_or numbers i 0) rows)
 clear_more numbers i first old rows lt below none h = record {
   as_many = length-set old n rows ∙ h.as_many;
@@ -35,7 +35,7 @@ clear_more numbers i first old rows lt below none h = record {
 
     each : (k : ℕ) → (k ≡ n) ⊎ (k ≡ n → ⊥) → (get_or (set old n rows) k [] ≡ []) ⊎ (get_or (set old n rows) k [] ≡ get_or first k [])
     each k (inl same) = inl (here k same)
-    each k (inr other) = subst (λ (xs : List Row). (xs ≡ []) ⊎ (xs ≡ get_or first k [])) (sym (get_or-set_other old n k rows [] other)) (h.each k)
+    each k (inr other) = subst (λ (xs : List TupleView). (xs ≡ []) ⊎ (xs ≡ get_or first k [])) (sym (get_or-set_other old n k rows [] other)) (h.each k)
 
     cleared : (k : ℕ) → (k ≡ n) ⊎ (k ≡ n → ⊥) → Contains (take i numbers) k ⊎ (n ≡ k) → get_or (set old n rows) k [] ≡ []
     cleared k (inl same) c = here k same
@@ -43,7 +43,7 @@ clear_more numbers i first old rows lt below none h = record {
     cleared k (inr other) (inr same) = absurd (other (sym same))
 
 -- all are empty once those are that weren't
-pub clear_all : (numbers : List ℕ) (old new : List (List Row)) → ((k : ℕ) → (get_or old k [] ≡ []) ⊎ Contains numbers k) → Cleared numbers old new → (k : ℕ) → get_or new k [] ≡ []
+pub clear_all : (numbers : List ℕ) (old new : List (List TupleView)) → ((k : ℕ) → (get_or old k [] ≡ []) ⊎ Contains numbers k) → Cleared numbers old new → (k : ℕ) → get_or new k [] ≡ []
 clear_all numbers old new noted h k = go (noted k) (h.each k)
   where
     go : (get_or old k [] ≡ []) ⊎ Contains numbers k → (get_or new k [] ≡ []) ⊎ (get_or new k [] ≡ get_or old k []) → get_or new k [] ≡ []

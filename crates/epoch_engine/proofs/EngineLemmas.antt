@@ -7,7 +7,7 @@ use Rattle.std.proofs.lemmas.List.{set-get_or}
 use Rattle.std.proofs.lemmas.List.Elements.{All-head, All-nil, All-push, All-tail, All-weaker}
 use Rattle.std.proofs.lemmas.Option.{get_or_from_slice_get, slice_get_within}
 use Rattle.event_types.specs.declared.kind.Kind.{Kind}
-use Rattle.event_types.specs.Tuple.{Row}
+use Rattle.event_types.specs.Tuple.{TupleView}
 use Rattle.instances.specs.Plain.{Plain}
 use Rattle.instances.specs.declared.instance.Instance.{Instance}
 use Rattle.semantics.specs.Denotation.{streams_of}
@@ -26,7 +26,7 @@ use Rattle.epoch_engine.specs.Running.{IsRunning}
 use Rattle.epoch_engine.specs.Settling.{new_store}
 use Rattle.epoch_engine.specs.Tables.{AreTables}
 use Rattle.epoch_engine.specs.Typed.{held, instances_in}
-use Rattle.epoch_engine.specs.Views.{View, stores_in}
+use Rattle.epoch_engine.specs.EngineView.{EngineView, stores_in}
 use Rattle.epoch_engine.specs.declared.tables.Tables.{Tables}
 use Rattle.epoch_engine.proofs.CloseLemmas.{held_in, put_typed}
 use Rattle.epoch_engine.proofs.StateLemmas.{some_is}
@@ -36,8 +36,8 @@ pub lent_back : {X : Type 0} (lists : List (List X)) (s : ℕ) (old new : List X
 lent_back lists s old new got same = ap (set lists s) (same ∙ sym (get_or_from_slice_get lists s old [] got)) ∙ set-get_or lists s []
 
 -- one open tuple more
-pub offered_running : (net : Net) (layout : Layout) (tables : Tables) (stores : List (Option Plain)) (opened : List (List Row)) → IsRunning net layout tables stores opened → (s : ℕ) (known : List Kind) (t : Row) → slice_get layout.kinds s ≡ Some known → HasKinds known t
-    → (old new : List Row) → slice_get opened s ≡ Some old → new ≡ old ++ t ∷ [] → IsRunning net layout tables stores (set opened s new)
+pub offered_running : (net : Net) (layout : Layout) (tables : Tables) (stores : List (Option Plain)) (opened : List (List TupleView)) → IsRunning net layout tables stores opened → (s : ℕ) (known : List Kind) (t : TupleView) → slice_get layout.kinds s ≡ Some known → HasKinds known t
+    → (old new : List TupleView) → slice_get opened s ≡ Some old → new ≡ old ++ t ∷ [] → IsRunning net layout tables stores (set opened s new)
 offered_running net layout tables stores opened running s known t is of_kinds old new got put = record {
   lines = running.lines;
   serves = running.serves;
@@ -89,7 +89,7 @@ outs_below net layout fits =
     All-weaker (λ s. IsTrue (is_in layout.order s)) (λ s. s < length layout.kinds) (λ s h. member_below (length layout.kinds) layout.order (order_below net layout fits) s h) layout.outs fits.2.printed
 
 -- the parts of a new engine
-pub made_running : (net : Net) (layout : Layout) (tables : Tables) (stores : List (Option Plain)) (opened : List (List Row)) → NetworkFits net layout → AreStatesTyped layout.kinds net → AreTables net layout tables
+pub made_running : (net : Net) (layout : Layout) (tables : Tables) (stores : List (Option Plain)) (opened : List (List TupleView)) → NetworkFits net layout → AreStatesTyped layout.kinds net → AreTables net layout tables
     → (length stores ≡ length net) × ((n : ℕ) → get_or stores n None ≡ new_store (wait_at net n)) → (length opened ≡ length layout.kinds) × ((s : ℕ) → get_or opened s [] ≡ []) → IsRunning net layout tables stores opened
 made_running net layout tables stores opened fits typed tables_are has empty = record {
   lines = fits.0;
@@ -112,9 +112,9 @@ pub made_empty : (net : Net) (stores : List (Option Plain)) → ((n : ℕ) → g
 made_empty net stores has n = (λ i. held_in stores i n) ∙ ap instances_in (has n) ∙ no_instances (wait_at net n)
 
 -- what the closing of an epoch makes of a view
-pub closes_view : (old new : View) (stores after : List (Option Plain)) (time : ℕ) (batch : List (List Row)) → old.time ≡ Some time → old.stores ≡ map instances_in stores → new.stores ≡ map instances_in after
-    → IsTaken old.network old.layout time (held stores) (streams_of old.opened) (held after) batch → ((s : ℕ) → get_or new.opened s [] ≡ []) → length new.opened ≡ length old.opened → new.closed ≡ Some time → new.time ≡ None → Closes old new batch
-closes_view old new stores after time batch was e f taken empty as_many closed none = record {
+pub closes_view : (old new : EngineView) (stores after : List (Option Plain)) (time : ℕ) (batch : List (List TupleView)) → old.time ≡ Some time → old.stores ≡ map instances_in stores → new.stores ≡ map instances_in after
+    → IsTaken old.network old.layout time (held stores) (streams_of old.opened) (held after) batch → ((s : ℕ) → get_or new.opened s [] ≡ []) → length new.opened ≡ length old.opened → new.closed_time ≡ Some time → new.time ≡ None → Closes old new batch
+closes_view old new stores after time batch was e f taken empty as_many closed_time none = record {
   time = time;
   was_open = was;
   taken =
@@ -122,9 +122,9 @@ closes_view old new stores after time batch was e f taken empty as_many closed n
       (subst (λ (st : Stores). IsTaken old.network old.layout time (held stores) (streams_of old.opened) st batch) (sym (same new after f)) taken);
   emptied = empty;
   as_many = as_many;
-  now_closed = closed;
+  now_closed = closed_time;
   none_open = none;
 }
   where
-    same : (view : View) (st : List (Option Plain)) → view.stores ≡ map instances_in st → stores_in view ≡ held st
+    same : (view : EngineView) (st : List (Option Plain)) → view.stores ≡ map instances_in st → stores_in view ≡ held st
     same view st e = (λ i n. get_or (e i) n []) ∙ held_in st

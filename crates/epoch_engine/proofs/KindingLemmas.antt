@@ -13,13 +13,13 @@ use Rattle.automaton.specs.LineKinds.{HopGives, LineFits, RestGives, StageGives,
 use Rattle.automaton.specs.NetworkLines.{Ending, HasLines, NetworkFits, ending_at, endings_by}
 use Rattle.automaton.specs.Networks.{IsAt}
 use Rattle.automaton.specs.Prefixes.{Prefix, Root, After, beginnings, extended, path, prefixes}
-use Rattle.automaton.specs.States.{Net, ends_at, entry_at, is_used, state_at}
+use Rattle.automaton.specs.States.{Net, ends_at, entrance_at, is_used, state_at}
 use Rattle.automaton.specs.declared.layout.Layout.{Layout}
 use Rattle.automaton.specs.declared.line.Hop.{Hop}
 use Rattle.automaton.specs.declared.line.Line.{Line}
 use Rattle.automaton.specs.declared.network.End.{End}
-use Rattle.automaton.specs.declared.network.Entry.{Entry}
-use Rattle.automaton.specs.declared.network.Entry.TheVariants as entry
+use Rattle.automaton.specs.declared.network.Entrance.{Entrance}
+use Rattle.automaton.specs.declared.network.Entrance.TheVariants as entrance
 use Rattle.automaton.specs.declared.network.State.{State}
 use Rattle.automaton.specs.declared.step.Stage.{Stage}
 use Rattle.automaton.specs.declared.step.Stage.TheVariants.{Keep, Make}
@@ -141,12 +141,12 @@ module _ (kinds : List (List Kind)) (net : Net) (lines : List Line) (has : HasLi
   place_fits number used = All-contains (PrefixFits kinds) (prefixes lines) (place number) (prefixes_fit kinds lines fit) (has.3 number (place number) (has.1.are_places number used))
 
   -- each state is typed as it is entered
-  entry_fits : (number : ℕ) (entered : Entry) → entry_at net number ≡ Some entered → (prefix : Prefix) → place number ≡ prefix → IsAt net number prefix → PrefixFits kinds prefix → EntryFits kinds kinding number entered
+  entry_fits : (number : ℕ) (entered : Entrance) → entrance_at net number ≡ Some entered → (prefix : Prefix) → place number ≡ prefix → IsAt net number prefix → PrefixFits kinds prefix → EntryFits kinds kinding number entered
   entry_fits number entered is (Root stream) same here fits =
-      let root = some_is entered (entry.Root stream) (sym is ∙ root_entry (entry_at net number) stream here) in
+      let root = some_is entered (entrance.Root stream) (sym is ∙ root_entry (entrance_at net number) stream here) in
       subst (EntryFits kinds kinding number) (sym root) (subst (λ (p : Prefix). slice_get kinds stream ≡ Some (leaving_kinds kinds p)) (sym same) fits)
   entry_fits number entered is (After prefix hop) same here fits =
-      let waiting = some_is entered (entry.Waiting here.0 hop) (sym is ∙ here.1) in
+      let waiting = some_is entered (entrance.Waiting here.0 hop) (sym is ∙ here.1) in
       let before = at_one net here.0 prefix (place here.0) here.2 (has.1.are_places here.0 (at_used net here.0 prefix here.2)) in
       let gives = fits.1 in
       let bound = sym (step_kinds_are hop.step (leaving_kinds kinds prefix) gives.0 gives.2) in
@@ -165,11 +165,11 @@ module _ (kinds : List (List Kind)) (net : Net) (lines : List Line) (has : HasLi
   states_typed : AreStatesTyped kinds net
   states_typed = (kinding, fits)
     where
-      fits : (number : ℕ) (state : State) → state_at net number ≡ Some state → EntryFits kinds kinding number state.entry × All (EndFits kinds (kinding.leaving number)) state.ends
+      fits : (number : ℕ) (state : State) → state_at net number ≡ Some state → EntryFits kinds kinding number state.entrance × All (EndFits kinds (kinding.leaving number)) state.ends
       fits number state found =
           let used : is_used net number ≡ true = ap is_some found in
           let ends = ap (λ (o : Option State). unwrap_or (option_map (λ (s : State). s.ends) o) []) found in (
-            entry_fits number state.entry (ap (option_map (λ (s : State). s.entry)) found) (place number) refl (has.1.are_places number used) (place_fits number used),
+            entry_fits number state.entrance (ap (option_map (λ (s : State). s.entrance)) found) (place number) refl (has.1.are_places number used) (place_fits number used),
             subst (All (EndFits kinds (kinding.leaving number))) ends
                 (All-weaker (λ end. LineFits kinds (line_at (place number) end)) (EndFits kinds (kinding.leaving number)) (end_fits number) (ends_at net number) (end_lines net lines has (LineFits kinds) fit number (used_below net number used))),
           )

@@ -5,7 +5,7 @@ use Rattle.std.specs.Option.{option_map}
 use Rattle.std.specs.List.{All}
 use Rattle.std.proofs.lemmas.List.{get_or-set_other}
 use Rattle.std.proofs.lemmas.List.Elements.{All-weaker}
-use Rattle.event_types.specs.Tuple.{Row}
+use Rattle.event_types.specs.Tuple.{TupleView}
 use Rattle.instances.specs.Plain.{Plain}
 use Rattle.instances.specs.declared.instance.Instance.{Instance}
 use Rattle.semantics.specs.Denotation.{streams_of}
@@ -16,7 +16,7 @@ use Rattle.automaton.specs.declared.network.End.{End}
 use Rattle.automaton.specs.declared.network.State.{State}
 use Rattle.automaton.specs.declared.wait.Turn.{Turn}
 use Rattle.automaton.specs.declared.wait.Wait.{Wait}
-use Rattle.epoch_laws.specs.Epochs.{again, left, stepped, took}
+use Rattle.epoch_laws.specs.Epochs.{again, unmatched_after, stepped, took}
 use Rattle.epoch_laws.specs.Instances.{instance_of}
 use Rattle.epoch_laws.proofs.Bags.{permuted_is}
 use Rattle.epoch_engine.specs.Flows.{flowing, flowing_by}
@@ -37,7 +37,7 @@ took_none choose None (i ∷ store) = took_none choose None store
 took_none choose (Some turn) [] = refl
 took_none choose (Some turn) (i ∷ store) = took_none choose (Some turn) store
 
-left_none : (choose : List Pr) (store : List Instance) → left choose [] store ≡ store
+left_none : (choose : List Pr) (store : List Instance) → unmatched_after choose [] store ≡ store
 left_none choose [] = refl
 left_none choose (i ∷ store) = ap (λ is. i ∷ is) (left_none choose store)
 
@@ -48,11 +48,11 @@ again_none choose (Some turn) store = took_none choose (Some turn) store
 -- a store to which nothing comes
 pub stepped_none : (choose : List Pr) (fold : Option Turn) (store : List Instance) → stepped choose fold [] [] store ≡ store
 stepped_none choose fold store =
-    ap (λ rows. left choose [] store ++ map instance_of rows) (again_none choose fold store) ∙ append-nil (left choose [] store) ∙ left_none choose store
+    ap (λ rows. unmatched_after choose [] store ++ map instance_of rows) (again_none choose fold store) ∙ append-nil (unmatched_after choose [] store) ∙ left_none choose store
 
 -- the stream that a root or a waiting state reads
 pub reads_root : (net : Net) (n s : ℕ) → root_at net n ≡ Some s → reads_at net n ≡ Some s
-reads_root net n s h = let at = at_root net n s h in ap (λ o. option_map reads_by (option_map (λ x. x.entry) o)) at.found ∙ ap (λ e. Some (reads_by e)) at.entered
+reads_root net n s h = let at = at_root net n s h in ap (λ o. option_map reads_by (option_map (λ x. x.entrance) o)) at.found ∙ ap (λ e. Some (reads_by e)) at.entered
 
 pub reads_wait : (net : Net) (n : ℕ) (w : Wait) → wait_at net n ≡ Some w → reads_at net n ≡ Some w.stream
 reads_wait net n w h = let at = at_wait net n w h in ap (option_map reads_by) (wait_entry net n w at) ∙ ap (λ (x : Wait). Some x.stream) at.same
@@ -64,7 +64,7 @@ read_state net n s h = go (state_at net n) refl h
     none_some : None ≡ Some s → ⊥
     none_some e = cc
 
-    go : (o : Option State) → state_at net n ≡ o → option_map reads_by (option_map (λ (x : State). x.entry) o) ≡ Some s → (state : State) × (state_at net n ≡ Some state)
+    go : (o : Option State) → state_at net n ≡ o → option_map reads_by (option_map (λ (x : State). x.entrance) o) ≡ Some s → (state : State) × (state_at net n ≡ Some state)
     go None e h = absurd (none_some h)
     go (Some state) e h = (state, e)
 
@@ -80,7 +80,7 @@ readers_used net count bound lists readers s numbers is =
 -- there is still room
 pub fits_more : (states streams : ℕ) (old new : Reach) → ReachFits states streams old → ReachesMore old new → ReachFits states streams new
 fits_more states streams old new fits more = record {
-  gone = more.gone ∙ fits.gone;
+  remembered = more.remembered ∙ fits.remembered;
   due = more.due.are;
   due_below = more.due.as_many ∙ fits.due_below;
   settling = more.settling.are;
@@ -89,7 +89,7 @@ fits_more states streams old new fits more = record {
 
 pub reaches_trans : (a b c : Reach) → ReachesMore a b → ReachesMore b c → ReachesMore a c
 reaches_trans a b c ab bc =
-    record { gone = bc.gone ∙ ab.gone; due = marks_trans a.due b.due c.due ab.due bc.due; settling = marks_trans a.settling b.settling c.settling ab.settling bc.settling }
+    record { remembered = bc.remembered ∙ ab.remembered; due = marks_trans a.due b.due c.due ab.due bc.due; settling = marks_trans a.settling b.settling c.settling ab.settling bc.settling }
 
 pub spread_more : (net : Net) (old new : Reach) (n : ℕ) → IsSpread net old n → ReachesMore old new → IsSpread net new n
 spread_more net old new n spread more = record {
@@ -97,31 +97,31 @@ spread_more net old new n spread more = record {
   edges = all_kept old.settling new.settling more.settling _ spread.edges;
 }
 
-module _ (net : Net) (stores : List (Option Plain)) (opened : List (List Row)) where
+module _ (net : Net) (stores : List (Option Plain)) (opened : List (List TupleView)) where
   -- a state stays met while others are
-  pub met_more : (old new : Reach) (n : ℕ) → IsMet net stores opened old n → ReachesMore old new → get_or new.gone n [] ≡ get_or old.gone n [] → IsMet net stores opened new n
+  pub met_more : (old new : Reach) (n : ℕ) → IsMet net stores opened old n → ReachesMore old new → get_or new.remembered n [] ≡ get_or old.remembered n [] → IsMet net stores opened new n
   met_more old new n met more same = record {
-    left = λ w at. permuted_from same (met.left w at);
+    unmatched_after = λ w at. permuted_from same (met.left w at);
     spread = flows met.spread;
     matched = λ w at. marked (met.matched w at);
     noted = known met.noted;
   }
     where
-      flows : (flowing net (streams_of opened) old.gone n ≡ []) ⊎ IsSpread net old n → (flowing net (streams_of opened) new.gone n ≡ []) ⊎ IsSpread net new n
-      flows (inl none) = inl (ap (λ (rows : List Row). flowing_by (root_at net n) (streams_of opened) rows) same ∙ none)
+      flows : (flowing net (streams_of opened) old.remembered n ≡ []) ⊎ IsSpread net old n → (flowing net (streams_of opened) new.remembered n ≡ []) ⊎ IsSpread net new n
+      flows (inl none) = inl (ap (λ (rows : List TupleView). flowing_by (root_at net n) (streams_of opened) rows) same ∙ none)
       flows (inr spread) = inr (spread_more net old new n spread more)
 
       marked : {X : Type 0} → X ⊎ Contains old.settling.numbers n → X ⊎ Contains new.settling.numbers n
       marked (inl x) = inl x
       marked (inr c) = inr (more.settling.kept n c)
 
-      known : (get_or old.gone n [] ≡ []) ⊎ Contains old.settling.numbers n → (get_or new.gone n [] ≡ []) ⊎ Contains new.settling.numbers n
+      known : (get_or old.remembered n [] ≡ []) ⊎ Contains old.settling.numbers n → (get_or new.remembered n [] ≡ []) ⊎ Contains new.settling.numbers n
       known (inl none) = inl (same ∙ none)
       known (inr c) = inr (more.settling.kept n c)
 
   -- one state more is met
   pub meet_more : (numbers : List ℕ) (i : ℕ) (first old new : Reach) → i < length numbers → MeetsAll net stores opened (take i numbers) first old → ReachesMore old new → IsMet net stores opened new (get_or numbers i 0)
-      → ((k : ℕ) → (k ≡ get_or numbers i 0 → ⊥) → get_or new.gone k [] ≡ get_or old.gone k []) → MeetsAll net stores opened (take (i + 1) numbers) first new
+      → ((k : ℕ) → (k ≡ get_or numbers i 0 → ⊥) → get_or new.remembered k [] ≡ get_or old.remembered k []) → MeetsAll net stores opened (take (i + 1) numbers) first new
   meet_more numbers i first old new lt h more this others k was = go (same_or_other k m)
     where
       m : ℕ
@@ -140,9 +140,9 @@ module _ (net : Net) (stores : List (Option Plain)) (opened : List (List Row)) w
           kept (inr met) = inr met
 
   -- a state to which nothing comes is met
-  pub met_nothing : (reach : Reach) (n : ℕ) → get_or reach.gone n [] ≡ [] → ((s : ℕ) → reads_at net n ≡ Some s → get_or opened s [] ≡ []) → IsMet net stores opened reach n
+  pub met_nothing : (reach : Reach) (n : ℕ) → get_or reach.remembered n [] ≡ [] → ((s : ℕ) → reads_at net n ≡ Some s → get_or opened s [] ≡ []) → IsMet net stores opened reach n
   met_nothing reach n none empty = record {
-    left = λ w at.
+    unmatched_after = λ w at.
         permuted_is
         (none
         ∙ sym
@@ -153,9 +153,9 @@ module _ (net : Net) (stores : List (Option Plain)) (opened : List (List Row)) w
     noted = inl none;
   }
     where
-      go : (o : Option ℕ) → root_at net n ≡ o → flowing net (streams_of opened) reach.gone n ≡ []
-      go None e = ap (λ (o : Option ℕ). flowing_by o (streams_of opened) (get_or reach.gone n [])) e ∙ none
-      go (Some s) e = ap (λ (o : Option ℕ). flowing_by o (streams_of opened) (get_or reach.gone n [])) e ∙ empty s (reads_root net n s e)
+      go : (o : Option ℕ) → root_at net n ≡ o → flowing net (streams_of opened) reach.remembered n ≡ []
+      go None e = ap (λ (o : Option ℕ). flowing_by o (streams_of opened) (get_or reach.remembered n [])) e ∙ none
+      go (Some s) e = ap (λ (o : Option ℕ). flowing_by o (streams_of opened) (get_or reach.remembered n [])) e ∙ empty s (reads_root net n s e)
 
   -- the states that read the first of these streams are met
   abbrev pub MeetsReaders : List ℕ → Reach → Reach → Type 0
@@ -182,7 +182,7 @@ module _ (net : Net) (stores : List (Option Plain)) (opened : List (List Row)) w
           (readers.has k read.0 (read_below net k read.0 read.1) read.1)))
 
   -- where they are all that have tuples, all states are met
-  pub readers_all : (count : ℕ) (touched : Marks) (first new : Reach) → AreTouched count opened touched → ((n : ℕ) → get_or first.gone n [] ≡ []) → MeetsReaders touched.numbers first new → (k : ℕ) → IsMet net stores opened new k
+  pub readers_all : (count : ℕ) (touched : Marks) (first new : Reach) → AreTouched count opened touched → ((n : ℕ) → get_or first.remembered n [] ≡ []) → MeetsReaders touched.numbers first new → (k : ℕ) → IsMet net stores opened new k
   readers_all count touched first new all none h k = go (reads_at net k) refl
     where
       go : (o : Option ℕ) → reads_at net k ≡ o → IsMet net stores opened new k
@@ -197,9 +197,9 @@ module _ (net : Net) (stores : List (Option Plain)) (opened : List (List Row)) w
           by_stream (inr c) = h k (inl (s, e, c))
 
   -- a state that doesn't read the stream stays met when the stream gets tuples
-  pub met_other : (reach : Reach) (s n : ℕ) (tuples : List Row) → (reads_at net n ≡ Some s → ⊥) → IsMet net stores opened reach n → IsMet net stores (set opened s tuples) reach n
+  pub met_other : (reach : Reach) (s n : ℕ) (tuples : List TupleView) → (reads_at net n ≡ Some s → ⊥) → IsMet net stores opened reach n → IsMet net stores (set opened s tuples) reach n
   met_other reach s n tuples absent met = record {
-    left = λ w at.
+    unmatched_after = λ w at.
         permuted_to (met.left w at)
         (wait_leaves net (streams_of opened) (held stores) n w at ∙ ap (λ rows. took w.choose w.fold rows (held stores n)) (sym (kept w.stream (reads_wait net n w at)))
         ∙ sym (wait_leaves net (streams_of (set opened s tuples)) (held stores) n w at));
@@ -215,19 +215,19 @@ module _ (net : Net) (stores : List (Option Plain)) (opened : List (List Row)) w
       empty t is (inl none) = inl (kept t is ∙ none)
       empty t is (inr c) = inr c
 
-      same : (o : Option ℕ) → root_at net n ≡ o → flowing net (streams_of (set opened s tuples)) reach.gone n ≡ flowing net (streams_of opened) reach.gone n
+      same : (o : Option ℕ) → root_at net n ≡ o → flowing net (streams_of (set opened s tuples)) reach.remembered n ≡ flowing net (streams_of opened) reach.remembered n
       same None e =
-          ap (λ (o : Option ℕ). flowing_by o (streams_of (set opened s tuples)) (get_or reach.gone n [])) e ∙ sym (ap (λ (o : Option ℕ). flowing_by o (streams_of opened) (get_or reach.gone n [])) e)
+          ap (λ (o : Option ℕ). flowing_by o (streams_of (set opened s tuples)) (get_or reach.remembered n [])) e ∙ sym (ap (λ (o : Option ℕ). flowing_by o (streams_of opened) (get_or reach.remembered n [])) e)
       same (Some t) e =
-          ap (λ (o : Option ℕ). flowing_by o (streams_of (set opened s tuples)) (get_or reach.gone n [])) e ∙ kept t (reads_root net n t e)
-          ∙ sym (ap (λ (o : Option ℕ). flowing_by o (streams_of opened) (get_or reach.gone n [])) e)
+          ap (λ (o : Option ℕ). flowing_by o (streams_of (set opened s tuples)) (get_or reach.remembered n [])) e ∙ kept t (reads_root net n t e)
+          ∙ sym (ap (λ (o : Option ℕ). flowing_by o (streams_of opened) (get_or reach.remembered n [])) e)
 
-      flows : (flowing net (streams_of opened) reach.gone n ≡ []) ⊎ IsSpread net reach n → (flowing net (streams_of (set opened s tuples)) reach.gone n ≡ []) ⊎ IsSpread net reach n
+      flows : (flowing net (streams_of opened) reach.remembered n ≡ []) ⊎ IsSpread net reach n → (flowing net (streams_of (set opened s tuples)) reach.remembered n ≡ []) ⊎ IsSpread net reach n
       flows (inl none) = inl (same (root_at net n) refl ∙ none)
       flows (inr spread) = inr spread
 
   -- all states are met anew once those are that read it
-  pub met_again : (count s : ℕ) (tuples : List Row) (lists : List (List ℕ)) (numbers : List ℕ) (old new : Reach) → ListsReaders net count (length net) lists → numbers ≡ get_or lists s []
+  pub met_again : (count s : ℕ) (tuples : List TupleView) (lists : List (List ℕ)) (numbers : List ℕ) (old new : Reach) → ListsReaders net count (length net) lists → numbers ≡ get_or lists s []
       → ((k : ℕ) → IsMet net stores opened old k) → MeetsAll net stores (set opened s tuples) numbers old new → (k : ℕ) → IsMet net stores (set opened s tuples) new k
   met_again count s tuples lists numbers old new readers is met all k = go (reads_at net k) refl
     where

@@ -6,7 +6,7 @@ use Rattle.std.specs.List.Sorted.{IsPermutation}
 use Rattle.std.proofs.lemmas.List.Elements.{All-contains}
 use Rattle.std.proofs.lemmas.List.Sorted.{length_permutation}
 use Rattle.event_types.specs.declared.kind.Kind.{Kind}
-use Rattle.event_types.specs.Tuple.{Row}
+use Rattle.event_types.specs.Tuple.{TupleView}
 use Rattle.instances.specs.Alive.{is_alive}
 use Rattle.instances.specs.Bounds.{alive_instances}
 use Rattle.instances.specs.Plain.{Plain}
@@ -18,12 +18,12 @@ use Rattle.scalar_expr.proofs.Bags.{filter_permuted, permuted_from, permuted_to}
 use Rattle.automaton.specs.Flow.{entering}
 use Rattle.automaton.specs.Networks.{IsNetwork}
 use Rattle.automaton.specs.States.{Net, before_at, before_by, edges_at, wait_at}
-use Rattle.automaton.specs.declared.network.Entry.{Entry}
+use Rattle.automaton.specs.declared.network.Entrance.{Entrance}
 use Rattle.automaton.specs.declared.wait.Wait.{Wait}
-use Rattle.epoch_laws.specs.Closing.{leaves, stepped_by, stores_after}
+use Rattle.epoch_laws.specs.Closing.{leaving_state, stepped_by, stores_after}
 use Rattle.epoch_laws.specs.Epochs.{stepped}
 use Rattle.epoch_laws.proofs.Bags.{no_length, permuted_is}
-use Rattle.epoch_engine.specs.Flows.{AreLeft, flowing}
+use Rattle.epoch_engine.specs.Flows.{AreRemembered, flowing}
 use Rattle.epoch_engine.specs.Purging.{ArePurgedIn, purged_for}
 use Rattle.epoch_engine.specs.Reach.{IsMet, IsSpread}
 use Rattle.epoch_engine.specs.Settling.{AreSettled, AreSettledIn, IsSettled, KeepsOthers}
@@ -68,17 +68,17 @@ nearly_unbound : (time : ℕ) (wait : Wait) (after : List Instance) (old new : O
 nearly_unbound time wait after old new near unbound e =
     (near.store, e ∙ near.is, near.condition, permuted_from (sym (alive_all time wait.choose near.store.instances unbound)) near.same)
 
-module _ (net : Net) (kinds : List (List Kind)) (stores : List (Option Plain)) (opened : List (List Row)) (typed : AreTyped net kinds stores opened) (reach : Reach) (as_many : length reach.gone ≡ length net)
+module _ (net : Net) (kinds : List (List Kind)) (stores : List (Option Plain)) (opened : List (List TupleView)) (typed : AreTyped net kinds stores opened) (reach : Reach) (as_many : length reach.remembered ≡ length net)
     (met : (k : ℕ) → IsMet net stores opened reach k) (network : IsNetwork net) where
-  left_is : AreLeft net (streams_of opened) (held stores) reach.gone
+  left_is : AreRemembered net (streams_of opened) (held stores) reach.remembered
   left_is k w at = (met k).left w at
 
   -- nothing comes to a state that isn't marked
   untouched : (n : ℕ) (w : Wait) → wait_at net n ≡ Some w → (Contains reach.settling.numbers n → ⊥) → stores_after net (streams_of opened) (held stores) n ≡ held stores n
   untouched n w at_w absent =
-      ap (λ (o : Option Entry). stepped_by o news (leaves net news (held stores)) (held stores n)) (wait_entry net n w at)
-      ∙ ap (λ (x : Wait). stepped x.choose x.fold (news x.stream) (entering at.hop (leaves net news (held stores) at.before)) (held stores n)) at.same
-      ∙ ap (λ rows. stepped w.choose w.fold rows (entering at.hop (leaves net news (held stores) at.before)) (held stores n)) (no_tuples ((met n).matched w at_w))
+      ap (λ (o : Option Entrance). stepped_by o news (leaving_state net news (held stores)) (held stores n)) (wait_entry net n w at)
+      ∙ ap (λ (x : Wait). stepped x.choose x.fold (news x.stream) (entering at.hop (leaving_state net news (held stores) at.before)) (held stores n)) at.same
+      ∙ ap (λ rows. stepped w.choose w.fold rows (entering at.hop (leaving_state net news (held stores) at.before)) (held stores n)) (no_tuples ((met n).matched w at_w))
       ∙ ap (λ rows. stepped w.choose w.fold [] (entering at.hop rows) (held stores n)) no_leaving ∙ stepped_none w.choose w.fold (held stores n)
     where
       news : Streams
@@ -94,15 +94,15 @@ module _ (net : Net) (kinds : List (List Kind)) (stores : List (Option Plain)) (
       no_tuples (inl none) = none
       no_tuples (inr c) = absurd (absent c)
 
-      no_flow : (flowing net news reach.gone at.before ≡ []) ⊎ IsSpread net reach at.before → flowing net news reach.gone at.before ≡ []
+      no_flow : (flowing net news reach.remembered at.before ≡ []) ⊎ IsSpread net reach at.before → flowing net news reach.remembered at.before ≡ []
       no_flow (inl none) = none
       no_flow (inr spread) = absurd (absent (All-contains (Contains reach.settling.numbers) (edges_at net at.before) n spread.edges (before_edge net network at.before n at_b)))
 
-      no_leaving : leaves net news (held stores) at.before ≡ []
+      no_leaving : leaving_state net news (held stores) at.before ≡ []
       no_leaving =
           let before = before_state net network n at.before at_b in
-          let flows = state_flows net kinds stores opened typed reach.gone as_many left_is at.before before.0 before.1 in
-          none_permuted (leaves net news (held stores) at.before) (permuted_from (sym (no_flow (met at.before).spread)) flows.same)
+          let flows = state_flows net kinds stores opened typed reach.remembered as_many left_is at.before before.0 before.1 in
+          none_permuted (leaving_state net news (held stores) at.before) (permuted_from (sym (no_flow (met at.before).spread)) flows.same)
 
   module _ (time : ℕ) (between new : List (Option Plain)) (settled : AreSettledIn reach.settling.numbers time net (streams_of opened) stores between) where
     nearly : (n : ℕ) (w : Wait) → wait_at net n ≡ Some w → IsNearly time w (stores_after net (streams_of opened) (held stores) n) (get_or between n None)

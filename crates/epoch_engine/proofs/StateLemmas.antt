@@ -5,13 +5,13 @@ use Rattle.std.specs.Option.{option_and_then, option_map}
 use Rattle.event_types.specs.declared.kind.Kind.{Kind}
 use Rattle.semantics.specs.Denotation.{Streams}
 use Rattle.automaton.specs.LineKinds.{StepGives, WaitGives}
-use Rattle.automaton.specs.States.{Net, entry_at, root_by, root_at, state_at, wait_at, wait_by}
+use Rattle.automaton.specs.States.{Net, entrance_at, root_by, root_at, state_at, wait_at, wait_by}
 use Rattle.automaton.specs.declared.line.Hop.{Hop}
-use Rattle.automaton.specs.declared.network.Entry.{Entry}
-use Rattle.automaton.specs.declared.network.Entry.TheVariants.{Root, Waiting}
+use Rattle.automaton.specs.declared.network.Entrance.{Entrance}
+use Rattle.automaton.specs.declared.network.Entrance.TheVariants.{Root, Waiting}
 use Rattle.automaton.specs.declared.network.State.{State}
 use Rattle.automaton.specs.declared.wait.Wait.{Wait}
-use Rattle.epoch_laws.specs.Closing.{Stores, leaves, leaves_by}
+use Rattle.epoch_laws.specs.Closing.{Stores, leaving_state, leaving_by}
 use Rattle.epoch_laws.specs.Epochs.{took}
 use Rattle.epoch_engine.specs.Kindings.{EntryFits, Kinding, StatesFit}
 
@@ -24,29 +24,29 @@ pub record AtWait (net : Net) (number : ℕ) (wait : Wait) : Type 0 where
   pub before : ℕ
   pub hop : Hop
   pub found : state_at net number ≡ Some state
-  pub entered : state.entry ≡ Waiting before hop
+  pub entered : state.entrance ≡ Waiting before hop
   pub same : hop.wait ≡ wait
 
 pub at_wait : (net : Net) (n : ℕ) (w : Wait) → wait_at net n ≡ Some w → AtWait net n w
 at_wait net n w h = go (state_at net n) refl h
   where
-    by_entry : (state : State) → state_at net n ≡ Some state → (e : Entry) → state.entry ≡ e → wait_by e ≡ Some w → AtWait net n w
+    by_entry : (state : State) → state_at net n ≡ Some state → (e : Entrance) → state.entrance ≡ e → wait_by e ≡ Some w → AtWait net n w
     by_entry state found (Root s) is h = absurd (cc)
     by_entry state found (Waiting before hop) is h = record { state = state; before = before; hop = hop; found = found; entered = is; same = some_is hop.wait w h }
 
-    go : (o : Option State) → state_at net n ≡ o → option_and_then wait_by (option_map (λ (s : State). s.entry) o) ≡ Some w → AtWait net n w
+    go : (o : Option State) → state_at net n ≡ o → option_and_then wait_by (option_map (λ (s : State). s.entrance) o) ≡ Some w → AtWait net n w
     go None found h = absurd (cc)
-    go (Some state) found h = by_entry state found state.entry refl h
+    go (Some state) found h = by_entry state found state.entrance refl h
 
 -- its entry
-pub wait_entry : (net : Net) (n : ℕ) (w : Wait) (at : AtWait net n w) → entry_at net n ≡ Some (Waiting at.before at.hop)
-wait_entry net n w at = ap (option_map (λ (s : State). s.entry)) at.found ∙ ap Some at.entered
+pub wait_entry : (net : Net) (n : ℕ) (w : Wait) (at : AtWait net n w) → entrance_at net n ≡ Some (Waiting at.before at.hop)
+wait_entry net n w at = ap (option_map (λ (s : State). s.entrance)) at.found ∙ ap Some at.entered
 
 -- what leaves it
-pub wait_leaves : (net : Net) (news : Streams) (stores : Stores) (n : ℕ) (w : Wait) → wait_at net n ≡ Some w → leaves net news stores n ≡ took w.choose w.fold (news w.stream) (stores n)
+pub wait_leaves : (net : Net) (news : Streams) (stores : Stores) (n : ℕ) (w : Wait) → wait_at net n ≡ Some w → leaving_state net news stores n ≡ took w.choose w.fold (news w.stream) (stores n)
 wait_leaves net news stores n w h =
     let at = at_wait net n w h in
-    ap (λ (o : Option Entry). leaves_by o news (stores n)) (wait_entry net n w at) ∙ ap (λ (x : Wait). took x.choose x.fold (news x.stream) (stores n)) at.same
+    ap (λ (o : Option Entrance). leaving_by o news (stores n)) (wait_entry net n w at) ∙ ap (λ (x : Wait). took x.choose x.fold (news x.stream) (stores n)) at.same
 
 -- a wait that is typed
 pub record WaitTyped (kinds : List (List Kind)) (kinding : Kinding) (number : ℕ) (wait : Wait) : Type 0 where
@@ -73,18 +73,18 @@ wait_typed kinds net kinding fits n w h =
 pub record AtRoot (net : Net) (number stream : ℕ) : Type 0 where
   pub state : State
   pub found : state_at net number ≡ Some state
-  pub entered : state.entry ≡ Root stream
+  pub entered : state.entrance ≡ Root stream
 
 pub at_root : (net : Net) (n s : ℕ) → root_at net n ≡ Some s → AtRoot net n s
 at_root net n s h = go (state_at net n) refl h
   where
-    by_entry : (state : State) → state_at net n ≡ Some state → (e : Entry) → state.entry ≡ e → root_by e ≡ Some s → AtRoot net n s
+    by_entry : (state : State) → state_at net n ≡ Some state → (e : Entrance) → state.entrance ≡ e → root_by e ≡ Some s → AtRoot net n s
     by_entry state found (Root r) is h = record { state = state; found = found; entered = is ∙ ap Root (some_is r s h) }
     by_entry state found (Waiting before hop) is h = absurd (cc)
 
-    go : (o : Option State) → state_at net n ≡ o → option_and_then root_by (option_map (λ (s : State). s.entry) o) ≡ Some s → AtRoot net n s
+    go : (o : Option State) → state_at net n ≡ o → option_and_then root_by (option_map (λ (s : State). s.entrance) o) ≡ Some s → AtRoot net n s
     go None found h = absurd (cc)
-    go (Some state) found h = by_entry state found state.entry refl h
+    go (Some state) found h = by_entry state found state.entrance refl h
 
 pub root_typed : (kinds : List (List Kind)) (net : Net) (kinding : Kinding) → StatesFit kinds net kinding → (n s : ℕ) → root_at net n ≡ Some s → slice_get kinds s ≡ Some (kinding.leaving n)
 root_typed kinds net kinding fits n s h =

@@ -59,7 +59,7 @@ before_more net network n old new h noted = record { as_many = noted.as_many ∙
 before_below : (net : Net) (k b : ℕ) → before_at net k ≡ Some b → k < length net
 before_below net k b h = go (state_at net k) refl h
   where
-    go : (o : Option State) → state_at net k ≡ o → option_and_then before_by (option_map (λ (s : State). s.entry) o) ≡ Some b → k < length net
+    go : (o : Option State) → state_at net k ≡ o → option_and_then before_by (option_map (λ (s : State). s.entrance) o) ≡ Some b → k < length net
     go None e h = absurd (none_some b h)
     go (Some state) e h = state_below net k state e
 

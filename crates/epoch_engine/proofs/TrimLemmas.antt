@@ -7,28 +7,28 @@ use Rattle.std.specs.List.Sorted.{IsPermutation}
 use Rattle.std.proofs.lemmas.List.{length-map}
 use Rattle.std.proofs.lemmas.List.Elements.{All-head}
 use Rattle.std.proofs.lemmas.List.Sorted.{IsPermutation-map, IsPermutation-trans, length_permutation}
-use Rattle.event_types.specs.Tuple.{Row, IsSound}
+use Rattle.event_types.specs.Tuple.{TupleView, IsSound}
 use Rattle.instances.specs.Alive.{alive}
 use Rattle.instances.specs.Bounds.{alive_instances}
 use Rattle.instances.specs.declared.instance.Instance.{Instance}
 use Rattle.semantics.specs.Denotation.{streams_of}
-use Rattle.semantics.specs.Histories.{Heard}
+use Rattle.semantics.specs.Histories.{Event}
 use Rattle.automaton.specs.Networks.{IsAt}
 use Rattle.automaton.specs.Prefixes.{Prefix, Root, After}
-use Rattle.automaton.specs.States.{Net, entry_at, entry_in, is_used, root_at, root_by, state_at, wait_at, wait_by}
+use Rattle.automaton.specs.States.{Net, entrance_at, entrance_in, is_used, root_at, root_by, state_at, wait_at, wait_by}
 use Rattle.automaton.specs.Waiting.{waiting}
 use Rattle.automaton.specs.declared.layout.Layout.{Layout}
 use Rattle.automaton.specs.declared.line.Hop.{Hop}
 use Rattle.automaton.specs.declared.line.Line.{Line}
-use Rattle.automaton.specs.declared.network.Entry.{Entry}
-use Rattle.automaton.specs.declared.network.Entry.TheVariants as entry
+use Rattle.automaton.specs.declared.network.Entrance.{Entrance}
+use Rattle.automaton.specs.declared.network.Entrance.TheVariants as entrance
 use Rattle.automaton.specs.declared.network.State.{State}
 use Rattle.epoch_laws.specs.Closing.{Stores}
 use Rattle.epoch_laws.specs.Histories.{streams_over}
 use Rattle.epoch_laws.specs.Instances.{bindings_of}
 use Rattle.epoch_laws.specs.Standing as standing
 use Rattle.epoch_laws.specs.Standing.{closed_part, next_time}
-use Rattle.epoch_laws.specs.Stands.{Serves}
+use Rattle.epoch_laws.specs.StoresStandFor.{Serves}
 use Rattle.epoch_laws.specs.Stores.{IsWithin}
 use Rattle.epoch_laws.proofs.Bags.{no_length, permuted_is}
 use Rattle.epoch_laws.proofs.Standing.{purge_stands, trimmed_is_alive}
@@ -38,14 +38,14 @@ use Rattle.prefix_merge.proofs.CountLemmas.{numbers, places, states, states_dist
 use Rattle.epoch_engine.specs.Closes.{ArePurgedWhole}
 use Rattle.epoch_engine.specs.Counts.{CountsAlive, alive_over, stored_in}
 use Rattle.epoch_engine.specs.Laws.{TrimmedIsCounted, TrimmedStands}
-use Rattle.epoch_engine.specs.StandsFor.{StandsFor}
+use Rattle.epoch_engine.specs.EngineStandsFor.{EngineStandsFor}
 use Rattle.epoch_engine.specs.Trims.{Trims}
-use Rattle.epoch_engine.specs.Views.{View, stores_in}
+use Rattle.epoch_engine.specs.EngineView.{EngineView, stores_in}
 use Rattle.epoch_engine.proofs.PurgeLemmas.{are_purged}
 use Rattle.epoch_engine.proofs.SumLemmas.{sum_map, sum_states}
 
 -- a history all of whose events are detected before the time 0 has none
-none_before : (history : List Heard) → All (λ e. IsSound e.tuple × (e.tuple.at < 0)) history → history ≡ []
+none_before : (history : List Event) → All (λ e. IsSound e.tuple × (e.tuple.at < 0)) history → history ≡ []
 none_before [] all = refl
 none_before (event ∷ later) all = absurd (never event.tuple.at (All-head (λ e. IsSound e.tuple × (e.tuple.at < 0)) event later all).1)
   where
@@ -65,48 +65,48 @@ none_bound store none =
 
 -- no binding waits at a root state, nor where no state is
 root_waits : (net : Net) (number s : ℕ) → root_at net number ≡ Some s → wait_at net number ≡ None
-root_waits net number s at = go (entry_at net number) at
+root_waits net number s at = go (entrance_at net number) at
   where
-    go : (o : Option Entry) → option_and_then root_by o ≡ Some s → option_and_then wait_by o ≡ None
+    go : (o : Option Entrance) → option_and_then root_by o ≡ Some s → option_and_then wait_by o ≡ None
     go None e = refl
-    go (Some (entry.Root t)) e = refl
-    go (Some (entry.Waiting before hop)) e = cc
+    go (Some (entrance.Root t)) e = refl
+    go (Some (entrance.Waiting before hop)) e = cc
 
 free_waits : (net : Net) (number : ℕ) → is_used net number ≡ false → wait_at net number ≡ None
 free_waits net number free = go (state_at net number) free
   where
-    go : (o : Option State) → is_some o ≡ false → option_and_then wait_by (entry_in o) ≡ None
+    go : (o : Option State) → is_some o ≡ false → option_and_then wait_by (entrance_in o) ≡ None
     go None e = refl
     go (Some state) e = cc
 
 from_zero : (k : ℕ) → 0 + k ≡ k
 from_zero k = omega arith
 
-module _ (old new : View) (lines : List Line) (history : List Heard) (stands : StandsFor old lines history) (trims : Trims old new) where
+module _ (old new : EngineView) (lines : List Line) (history : List Event) (stands : EngineStandsFor old lines history) (trims : Trims old new) where
   abbrev order : List ℕ
   order = old.layout.order
 
-  abbrev past : List Heard
+  abbrev past : List Event
   past = closed_part old.time history
 
   abbrev Standing : Option ℕ → Stores → Type 0
-  Standing closed stores = standing.StandsFor old.network lines order stores old.time (streams_of old.opened) closed history
+  Standing closed_time stores = standing.PartsStandFor old.network lines order stores old.time (streams_of old.opened) closed_time history
 
-  purged_at : (time : ℕ) → old.closed ≡ Some time → ArePurgedWhole (time + 1) old.network (stores_in old) (stores_in new)
+  purged_at : (time : ℕ) → old.closed_time ≡ Some time → ArePurgedWhole (time + 1) old.network (stores_in old) (stores_in new)
   purged_at time is = subst (λ (o : Option ℕ). IfSome o (λ t. ArePurgedWhole (t + 1) old.network (stores_in old) (stores_in new))) is trims.purged
 
-  same_stores : old.closed ≡ None → stores_in old ≡ stores_in new
+  same_stores : old.closed_time ≡ None → stores_in old ≡ stores_in new
   same_stores is = λ i n. get_or (sym (trims.none_closed is) i) n []
 
   -- the stores stand for the same history
-  kept : (closed : Option ℕ) → old.closed ≡ closed → Standing old.closed (stores_in new)
-  kept None is = subst (Standing old.closed) (same_stores is) stands.stands
+  kept : (closed_time : Option ℕ) → old.closed_time ≡ closed_time → Standing old.closed_time (stores_in new)
+  kept None is = subst (Standing old.closed_time) (same_stores is) stands.stands
   kept (Some time) is =
       subst (λ (o : Option ℕ). Standing o (stores_in new)) (sym is)
       (purge_stands old.network lines order (stores_in old) (stores_in new) old.time (streams_of old.opened) (Some time) history (subst (λ (o : Option ℕ). Standing o (stores_in old)) is stands.stands)
       (are_purged (time + 1) old.network (stores_in old) (stores_in new) (purged_at time is)))
 
-  pub trims_stands : StandsFor new lines history
+  pub trims_stands : EngineStandsFor new lines history
   trims_stands =
       let same : order ≡ new.layout.order = ap (λ (l : Layout). l.order) (sym trims.plan.layout) in record {
         merged = subst IsMerged (sym trims.plan.network) stands.merged;
@@ -114,11 +114,11 @@ module _ (old new : View) (lines : List Line) (history : List Heard) (stands : S
         as_many = ap length trims.opened ∙ stands.as_many ∙ ap (λ (l : Layout). length l.kinds) (sym trims.plan.layout);
         none_elsewhere = λ n none. let there = ap (λ (net : Net). wait_at net n) (sym trims.plan.network) ∙ none in trims.others n there ∙ stands.none_elsewhere n there;
         stands =
-            subst (λ (n : Net). standing.StandsFor n lines new.layout.order (stores_in new) new.time (streams_of new.opened) new.closed history) (sym trims.plan.network)
-            (subst (λ (o : List ℕ). standing.StandsFor old.network lines o (stores_in new) new.time (streams_of new.opened) new.closed history) same
-            (subst (λ (t : Option ℕ). standing.StandsFor old.network lines order (stores_in new) t (streams_of new.opened) new.closed history) (sym trims.times.time)
-            (subst (λ (t : Option ℕ). standing.StandsFor old.network lines order (stores_in new) old.time (streams_of new.opened) t history) (sym trims.times.closed)
-            (subst (λ (ts : List (List Row)). standing.StandsFor old.network lines order (stores_in new) old.time (streams_of ts) old.closed history) (sym trims.opened) (kept old.closed refl)))));
+            subst (λ (n : Net). standing.PartsStandFor n lines new.layout.order (stores_in new) new.time (streams_of new.opened) new.closed_time history) (sym trims.plan.network)
+            (subst (λ (o : List ℕ). standing.PartsStandFor old.network lines o (stores_in new) new.time (streams_of new.opened) new.closed_time history) same
+            (subst (λ (t : Option ℕ). standing.PartsStandFor old.network lines order (stores_in new) t (streams_of new.opened) new.closed_time history) (sym trims.times.time)
+            (subst (λ (t : Option ℕ). standing.PartsStandFor old.network lines order (stores_in new) old.time (streams_of new.opened) t history) (sym trims.times.closed_time)
+            (subst (λ (ts : List (List TupleView)). standing.PartsStandFor old.network lines order (stores_in new) old.time (streams_of ts) old.closed_time history) (sym trims.opened) (kept old.closed_time refl)))));
       }
 
   module _ (number : ℕ) (p : Prefix) (h : Hop) (at : IsAt old.network number (After p h)) where
@@ -126,16 +126,16 @@ module _ (old new : View) (lines : List Line) (history : List Heard) (stands : S
     waits_there = ap (option_and_then wait_by) at.1
 
     -- before an epoch was closed nothing is stored
-    none_stored : old.closed ≡ None → stores_in old number ≡ []
+    none_stored : old.closed_time ≡ None → stores_in old number ≡ []
     none_stored is =
         let start = subst (λ (o : Option ℕ). Standing o (stores_in old)) is stands.stands in
         let nothing = none_before past start.stores_stand.before in
         let held = start.stores_stand.holds number p h at in
         none_bound (stores_in old number)
-        (within_none (bindings_of (stores_in old number)) (subst (IsWithin (bindings_of (stores_in old number))) (ap (λ (e : List Heard). waiting (streams_over lines order e) p h) nothing ∙ start_waits lines order p h) held.at_most))
+        (within_none (bindings_of (stores_in old number)) (subst (IsWithin (bindings_of (stores_in old number))) (ap (λ (e : List Event). waiting (streams_over lines order e) p h) nothing ∙ start_waits lines order p h) held.at_most))
 
     -- what is alive is stored
-    alive_stored : (closed : Option ℕ) → old.closed ≡ closed → IsPermutation (stores_in new number) (alive_instances (next_time closed) h.wait.choose (stores_in old number))
+    alive_stored : (closed_time : Option ℕ) → old.closed_time ≡ closed_time → IsPermutation (stores_in new number) (alive_instances (next_time closed_time) h.wait.choose (stores_in old number))
     alive_stored None is =
         let none = none_stored is in permuted_is ((λ i. sym (same_stores is) i number) ∙ none ∙ sym (ap (alive_instances 0 h.wait.choose) none))
     alive_stored (Some time) is = purged_at time is number h.wait waits_there
@@ -144,8 +144,8 @@ module _ (old new : View) (lines : List Line) (history : List Heard) (stands : S
     pub stored_exact : IsPermutation (bindings_of (stores_in new number)) (alive_over lines order past (After p h))
     stored_exact =
         subst (λ (o : Option ℕ). IsPermutation (bindings_of (stores_in new number)) (alive (next_time o) h.wait.choose (waiting (streams_over lines order past) p h))) (sym stands.stands.closed_is_last)
-        (IsPermutation-trans _ _ _ (IsPermutation-map (λ (i : Instance). i.tuple) (stores_in new number) _ (alive_stored old.closed refl))
-        (trimmed_is_alive old.network lines order (stores_in old) old.time (streams_of old.opened) old.closed history stands.stands number p h at))
+        (IsPermutation-trans _ _ _ (IsPermutation-map (λ (i : Instance). i.tuple) (stores_in new number) _ (alive_stored old.closed_time refl))
+        (trimmed_is_alive old.network lines order (stores_in old) old.time (streams_of old.opened) old.closed_time history stands.stands number p h at))
 
   -- where no state waits nothing is stored
   none_new : (number : ℕ) → wait_at old.network number ≡ None → stores_in new number ≡ []

@@ -1,6 +1,8 @@
 pub mod Closes
 pub mod Counts
 pub mod Deriving
+pub mod EngineStandsFor
+pub mod EngineView
 pub mod Flows
 pub mod Kindings
 pub mod Laws
@@ -10,10 +12,8 @@ pub mod Purging
 pub mod Reach
 pub mod Running
 pub mod Settling
-pub mod StandsFor
 pub mod Starts
 pub mod Tables
 pub mod Trims
 pub mod Typed
 pub mod ViewCode
-pub mod Views

@@ -2,7 +2,7 @@
 use Rattle.std.specs.Prelude.{◌≡◌, ℕ, ◌<◌, IsTrue, List, [], length, Option, Some, None, Contains, slice_index_or}
 use Rattle.std.specs.List.{All, filter_map}
 use Rattle.std.specs.List.Sorted.{IsPermutation}
-use Rattle.event_types.specs.Tuple.{Row}
+use Rattle.event_types.specs.Tuple.{TupleView}
 use Rattle.instances.specs.Bounds.{alive_instances}
 use Rattle.instances.specs.Plain.{Plain}
 use Rattle.instances.specs.declared.instance.Instance.{Instance}
@@ -17,38 +17,38 @@ use Rattle.epoch_engine.specs.Flows.{IsFlowing, flowing}
 use Rattle.epoch_engine.specs.Typed.{held}
 
 -- a store is made for the wait, which suits it with these tuples, and what left the wait is known
-pub record StoreSettles (wait : Wait) (tuples gone : List Row) (store : Plain) : Type 0 where
+pub record StoreSettles (wait : Wait) (tuples remembered : List TupleView) (store : Plain) : Type 0 where
   pub condition : store.condition ≡ wait.choose
   pub met : All (λ tuple. All (λ instance. WaitSuits wait instance.tuple tuple) store.instances) tuples
-  pub leaving : IsPermutation gone (took wait.choose wait.fold tuples store.instances)
+  pub leaving : IsPermutation remembered (took wait.choose wait.fold tuples store.instances)
 
 -- the step into a state suits what left the state before it, and its store, if it has one, settles
-pub record Settles (net : Net) (opened gone : List (List Row)) (number : ℕ) (wait : Wait) (before : ℕ) (slot : Option Plain) : Type 0 where
+pub record Settles (net : Net) (opened remembered : List (List TupleView)) (number : ℕ) (wait : Wait) (before : ℕ) (slot : Option Plain) : Type 0 where
   pub used : IsTrue (is_used net number)
-  pub below : number < length gone
+  pub below : number < length remembered
   pub stream_below : wait.stream < length opened
-  pub flows : IsFlowing net opened gone before
-  pub entering : All (StepSuits (step_at net number)) (flowing net (streams_of opened) gone before)
-  pub store : (store : Plain) → slot ≡ Some store → StoreSettles wait (streams_of opened wait.stream) (slice_index_or gone number []) store
+  pub flows : IsFlowing net opened remembered before
+  pub entering : All (StepSuits (step_at net number)) (flowing net (streams_of opened) remembered before)
+  pub store : (store : Plain) → slot ≡ Some store → StoreSettles wait (streams_of opened wait.stream) (slice_index_or remembered number []) store
 
 -- there is a store that is made for the wait, and its instances are those of these that are alive at a time
 abbrev pub IsSettled : ℕ → Wait → List Instance → Option Plain → Type 0
 IsSettled time wait after slot = (store : Plain) × (slot ≡ Some store) × (store.condition ≡ wait.choose) × IsPermutation store.instances (alive_instances time wait.choose after)
 
 -- the instances of a state after the epoch, from what is remembered
-abbrev pub settled_from : Net → List (List Row) → List (List Row) → ℕ → Wait → ℕ → List Instance → List Instance
-settled_from net opened gone number wait before store =
-    stepped wait.choose wait.fold (streams_of opened wait.stream) (filter_map (pass (step_at net number)) (flowing net (streams_of opened) gone before)) store
+abbrev pub settled_from : Net → List (List TupleView) → List (List TupleView) → ℕ → Wait → ℕ → List Instance → List Instance
+settled_from net opened remembered number wait before store =
+    stepped wait.choose wait.fold (streams_of opened wait.stream) (filter_map (pass (step_at net number)) (flowing net (streams_of opened) remembered before)) store
 
 -- a waiting state settles, if it is one
-abbrev pub SettlesAt : Net → List (List Row) → List (List Row) → ℕ → Option Plain → Type 0
-SettlesAt net opened gone number slot = (wait : Wait) (before : ℕ) → wait_at net number ≡ Some wait → before_at net number ≡ Some before → Settles net opened gone number wait before slot
+abbrev pub SettlesAt : Net → List (List TupleView) → List (List TupleView) → ℕ → Option Plain → Type 0
+SettlesAt net opened remembered number slot = (wait : Wait) (before : ℕ) → wait_at net number ≡ Some wait → before_at net number ≡ Some before → Settles net opened remembered number wait before slot
 
 -- it is settled
-abbrev pub IsSettledAt : ℕ → Net → List (List Row) → List (List Row) → ℕ → Option Plain → Option Plain → Type 0
-IsSettledAt time net opened gone number old new =
+abbrev pub IsSettledAt : ℕ → Net → List (List TupleView) → List (List TupleView) → ℕ → Option Plain → Option Plain → Type 0
+IsSettledAt time net opened remembered number old new =
     (wait : Wait) (before : ℕ) (store : Plain) → wait_at net number ≡ Some wait → before_at net number ≡ Some before → old ≡ Some store
-    → IsSettled time wait (settled_from net opened gone number wait before store.instances) new
+    → IsSettled time wait (settled_from net opened remembered number wait before store.instances) new
 
 -- each waiting state has the store after the epoch, purged for a time
 abbrev pub AreSettled : ℕ → Net → Streams → List (Option Plain) → List (Option Plain) → Type 0

@@ -4,10 +4,10 @@ use Rattle.semantics.specs.Denotation.{streams_of}
 use Rattle.automaton.specs.States.{Net}
 use Rattle.automaton.specs.declared.layout.Layout.{Layout}
 use Rattle.prefix_merge.specs.Merging.{IsMerged}
-use Rattle.epoch_engine.specs.Views.{View, stores_in}
+use Rattle.epoch_engine.specs.EngineView.{EngineView, stores_in}
 
 -- an engine over this merged network and this layout, with empty stores, an empty list of open tuples for each stream, no open epoch and no closed one, and intact
-pub record IsNew (net : Net) (layout : Layout) (engine : View) : Type 0 where
+pub record IsNew (net : Net) (layout : Layout) (engine : EngineView) : Type 0 where
   pub network : engine.network ≡ net
   pub merged : IsMerged net
   pub same_layout : engine.layout ≡ layout
@@ -15,5 +15,5 @@ pub record IsNew (net : Net) (layout : Layout) (engine : View) : Type 0 where
   pub opened : (stream : ℕ) → streams_of engine.opened stream ≡ []
   pub as_many : length engine.opened ≡ length layout.kinds
   pub none_open : engine.time ≡ None
-  pub none_closed : engine.closed ≡ None
+  pub none_closed : engine.closed_time ≡ None
   pub intact : engine.intact ≡ true

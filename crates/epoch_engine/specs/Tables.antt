@@ -2,27 +2,27 @@
 use Rattle.std.specs.Prelude.{◌≡◌, ℕ, ◌<◌, ◌≤◌, ◌==◌, ◌⊎◌, true, IsTrue, is_some, nat_lt, if◌then◌else◌, List, [], length, map, Option, Some, None, Contains, slice_get, slice_index_or}
 use Rattle.std.specs.Option.{option_map}
 use Rattle.std.specs.List.{All, filter, flat_map, range_with_len}
-use Rattle.event_types.specs.Tuple.{Row}
+use Rattle.event_types.specs.Tuple.{TupleView}
 use Rattle.instances.specs.Alive.{is_alive}
 use Rattle.semantics.specs.Scalars.{Pr}
 use Rattle.automaton.specs.Networks.{IsNetwork}
-use Rattle.automaton.specs.States.{Net, before_at, ends_at, entry_at, wait_at}
+use Rattle.automaton.specs.States.{Net, before_at, ends_at, entrance_at, wait_at}
 use Rattle.automaton.specs.declared.layout.Layout.{Layout}
 use Rattle.automaton.specs.declared.network.End.{End}
-use Rattle.automaton.specs.declared.network.Entry.{Entry}
-use Rattle.automaton.specs.declared.network.Entry.TheVariants.{Root, Waiting}
+use Rattle.automaton.specs.declared.network.Entrance.{Entrance}
+use Rattle.automaton.specs.declared.network.Entrance.TheVariants.{Root, Waiting}
 use Rattle.automaton.specs.declared.wait.Wait.{Wait}
 use Rattle.epoch_engine.specs.declared.tables.EndPlace.{EndPlace}
 use Rattle.epoch_engine.specs.declared.tables.Tables.{Tables}
 
 -- the stream that a state reads: at a root its own, at a waiting state that on which it waits
-abbrev pub reads_by : Entry → ℕ
+abbrev pub reads_by : Entrance → ℕ
 reads_by (Root stream) = stream
 reads_by (Waiting before hop) = hop.wait.stream
 
 -- that of the state with a number
 abbrev pub reads_at : Net → ℕ → Option ℕ
-reads_at net number = option_map reads_by (entry_at net number)
+reads_at net number = option_map reads_by (entrance_at net number)
 
 -- each stream that a state reads, and each of an end, is below a number
 pub record StreamsBelow (net : Net) (streams : ℕ) : Type 0 where
@@ -47,7 +47,7 @@ pub record ListsReaders (net : Net) (streams bound : ℕ) (lists : List (List �
 
 -- no bound of the condition expires
 abbrev pub IsUnbound : List Pr → Type 0
-IsUnbound choose = (time : ℕ) (binding : Row) → is_alive time choose binding ≡ true
+IsUnbound choose = (time : ℕ) (binding : TupleView) → is_alive time choose binding ≡ true
 
 -- the list has each waiting state below a number whose condition has a bound that may expire, and waiting states alone
 pub record ListsBounded (net : Net) (bound : ℕ) (list : List ℕ) : Type 0 where

@@ -2,7 +2,7 @@
 use Rattle.std.specs.Prelude.{◌≡◌, ℕ, List, [], length, Option, Some, None, slice_get, slice_index_or}
 use Rattle.std.specs.List.{All}
 use Rattle.event_types.specs.declared.kind.Kind.{Kind}
-use Rattle.event_types.specs.Tuple.{Row}
+use Rattle.event_types.specs.Tuple.{TupleView}
 use Rattle.instances.specs.declared.instance.Instance.{Instance}
 use Rattle.instances.specs.Plain.{Plain}
 use Rattle.semantics.specs.Denotation.{streams_of}
@@ -27,7 +27,7 @@ pub record IsStoreOf (wait : Wait) (kinds : List Kind) (store : Plain) : Type 0 
   pub instances : All (λ instance. HasKinds kinds instance.tuple) store.instances
 
 -- over streams of these kinds the network is typed, each waiting state has its store, and all bindings and tuples are of the kinds with which they are met
-pub record AreTyped (net : Net) (kinds : List (List Kind)) (stores : List (Option Plain)) (opened : List (List Row)) : Type 0 where
+pub record AreTyped (net : Net) (kinds : List (List Kind)) (stores : List (Option Plain)) (opened : List (List TupleView)) : Type 0 where
   pub kinding : Kinding
   pub states : StatesFit kinds net kinding
   pub as_many_stores : length stores ≡ length net

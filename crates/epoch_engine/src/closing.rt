@@ -3,7 +3,7 @@ ghost use Rattle.std.specs.Prelude.{◌≡◌, ℕ, ◌<◌, [], Contains, lengt
 ghost use Rattle.semantics.specs.Denotation.{streams_of};
 ghost use Rattle.epoch_engine.specs.Closes.{IsTaken};
 ghost use Rattle.epoch_engine.specs.Deriving.{IsDerived, StreamDerived};
-ghost use Rattle.epoch_engine.specs.Reach.{IsReached, IsReady};
+ghost use Rattle.epoch_engine.specs.Reach.{IsReached, IsEngineReady};
 ghost use Rattle.epoch_engine.specs.Running.{IsRunning};
 ghost use Rattle.epoch_engine.specs.Tables.{AreTables};
 ghost use Rattle.epoch_engine.specs.Typed.{AreTyped, held};
@@ -34,10 +34,10 @@ pub(crate) fn take_epoch<L: Ledger>(
     steps: &mut Steps<L>,
 ) -> Result<Batch, Memory>
     requires running { IsRunning network.now layout.now tables.now stores.old opened.old }
-    requires ready { IsReady network.now layout.now opened.old touched.old reach.old }
+    requires ready { IsEngineReady network.now layout.now opened.old touched.old reach.old }
     ensures taken { IfOk result (λ batch. IsTaken network.now layout.now time (held stores.old) (streams_of opened.old) (held stores.new) batch) }
     ensures running { OnOk result (IsRunning network.now layout.now tables.now stores.new opened.new) }
-    ensures ready { OnOk result (IsReady network.now layout.now opened.new touched.new reach.new) }
+    ensures ready { OnOk result (IsEngineReady network.now layout.now opened.new touched.new reach.new) }
     ensures as_many { OnOk result (length opened.new ≡ length opened.old) }
     ensures emptied { OnOk result ((stream : ℕ) → slice_index_or opened.new stream [] ≡ []) }
 {
@@ -88,7 +88,7 @@ fn derive<L: Ledger>(
 ) -> Result<(), Memory>
     requires running { IsRunning network.now layout.now tables.now stores.now opened.old }
     requires reached { IsReached network.now layout.now stores.now opened.old touched.old reach.old }
-    ensures derived { OnOk result (IsDerived network.now layout.now stores.now layout.now.order opened.old opened.new reach.new.gone) }
+    ensures derived { OnOk result (IsDerived network.now layout.now stores.now layout.now.order opened.old opened.new reach.new.remembered) }
     ensures reached { OnOk result (IsReached network.now layout.now stores.now opened.new touched.new reach.new) }
 {
     for stream in layout.order.as_slice() {
@@ -120,11 +120,11 @@ fn derive_stream<L: Ledger>(
     requires stream { stream < length layout.now.kinds }
     requires reached { IsReached network.now layout.now stores.now opened.old touched.old reach.old }
     requires due { Contains reach.old.due.numbers stream }
-    ensures derived { OnOk result (StreamDerived network.now layout.now.kinds stores.now stream opened.old opened.new reach.new.gone) }
+    ensures derived { OnOk result (StreamDerived network.now layout.now.kinds stores.now stream opened.old opened.new reach.new.remembered) }
     ensures reached { OnOk result (IsReached network.now layout.now stores.now opened.new touched.new reach.new) }
 {
     let places = tables.ends.get(stream).as_slice();
-    let tuples = given_by_ends(alloc, network, places, opened, &reach.gone, steps)?;
+    let tuples = given_by_ends(alloc, network, places, opened, &reach.remembered, steps)?;
     if tuples.len() == 0 && opened.get(stream).len() == 0 {
         return Ok(());
     }

@@ -36,27 +36,27 @@ pub struct Engine {
     touched: Marks,
     reach: Reach,
     time: Option<u64>,
-    closed: Option<u64>,
+    closed_time: Option<u64>,
     intact: bool,
 }
 
 impl Model for Engine {
-    ghost use Rattle.epoch_engine.specs.Views.{View};
+    ghost use Rattle.epoch_engine.specs.EngineView.{EngineView};
 
-    ghost Value = { View };
+    ghost Value = { EngineView };
 
     ghost use Rattle.epoch_engine.specs.ViewCode.{view_code};
 
     ghost coded = { view_code };
 
     ghost use Rattle.std.specs.Prelude.{IsTrue, map};
-    ghost use Rattle.epoch_engine.specs.Reach.{IsReady};
+    ghost use Rattle.epoch_engine.specs.Reach.{IsEngineReady};
     ghost use Rattle.epoch_engine.specs.Running.{IsRunning};
     ghost use Rattle.epoch_engine.specs.Typed.{instances_in};
 
-    ghost view = { λ e. record { network = e.merged; layout = e.layout; stores = map instances_in e.stores; opened = e.opened; time = e.time; closed = e.closed; intact = e.intact } };
+    ghost view = { λ e. record { network = e.merged; layout = e.layout; stores = map instances_in e.stores; opened = e.opened; time = e.time; closed_time = e.closed_time; intact = e.intact } };
 
-    ghost invariant = { λ e. IsTrue e.intact → IsRunning e.merged e.layout e.tables e.stores e.opened × IsReady e.merged e.layout e.opened e.touched e.reach };
+    ghost invariant = { λ e. IsTrue e.intact → IsRunning e.merged e.layout e.tables e.stores e.opened × IsEngineReady e.merged e.layout e.opened e.touched e.reach };
 }
 
 impl Engine {
@@ -82,7 +82,7 @@ impl Engine {
             touched,
             reach,
             time: None,
-            closed: None,
+            closed_time: None,
             intact: true,
         })
     }
@@ -129,7 +129,7 @@ impl Engine {
         requires { IsTrue self.old.intact }
         ensures { Trims self.old self.new }
     {
-        if let Some(time) = self.closed {
+        if let Some(time) = self.closed_time {
             purge_all(self.merged.network(), &mut self.stores, time);
         }
     }
@@ -144,9 +144,9 @@ impl Engine {
         ensures kept { OnErr result (self.new ≡ self.old) }
     {
         let at = tuple.at();
-        match late(self.time, self.closed, at) {
+        match late(self.time, self.closed_time, at) {
             Some(seen) => Err(OfferFault::OutOfOrder { at, seen, tuple }),
-            None => match hear(&mut self.opened, &mut self.touched, stream, tuple) {
+            None => match note_tuple(&mut self.opened, &mut self.touched, stream, tuple) {
                 Ok(()) => {
                     self.time = Some(at);
                     Ok(())
@@ -184,14 +184,14 @@ impl Engine {
             steps,
         )?;
         self.time = None;
-        self.closed = Some(time);
+        self.closed_time = Some(time);
         self.intact = true;
         Ok(batch)
     }
 }
 
 // Puts a tuple behind those of its stream, which is marked. Want of memory hands it back.
-fn hear(
+fn note_tuple(
     opened: &mut Lists,
     touched: &mut Marks,
     stream: StreamId,
@@ -211,11 +211,11 @@ fn hear(
 }
 
 // The open epoch or the last closed time, where a detection time is late for it.
-fn late(time: Option<u64>, closed: Option<u64>, at: u64) -> Option<u64>
-    ensures late { IfSome result (λ seen. IsLate time closed at seen) }
-    ensures in_time { IfNone result ((seen : ℕ) → IsLate time closed at seen → ⊥) }
+fn late(time: Option<u64>, closed_time: Option<u64>, at: u64) -> Option<u64>
+    ensures late { IfSome result (λ seen. IsLate time closed_time at seen) }
+    ensures in_time { IfNone result ((seen : ℕ) → IsLate time closed_time at seen → ⊥) }
 {
-    match (time, closed) {
+    match (time, closed_time) {
         (Some(open), _) if at < open => Some(open),
         (None, Some(last)) if at <= last => Some(last),
         _ => None,

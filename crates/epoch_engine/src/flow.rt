@@ -6,7 +6,7 @@ ghost use Rattle.semantics.specs.Denotation.{streams_of};
 ghost use Rattle.automaton.specs.Networks.{IsNetwork};
 ghost use Rattle.automaton.specs.States.{is_used, wait_at};
 ghost use Rattle.automaton.specs.declared.wait.Wait.{Wait};
-ghost use Rattle.epoch_laws.specs.Closing.{leaves};
+ghost use Rattle.epoch_laws.specs.Closing.{leaving_state};
 ghost use Rattle.epoch_engine.specs.Flows.{EndSuits, IsFlowing, flowing, given_at};
 ghost use Rattle.epoch_engine.specs.Reach.{AreTouched, IsMet, MeetsAll, ReachFits, ReachesMore};
 ghost use Rattle.epoch_engine.specs.Tables.{ListsReaders};
@@ -40,7 +40,7 @@ fn leaving_state<L: Ledger>(
 ) -> Result<Tuples, Memory>
     requires number { number < length network.now }
     requires typed { AreTyped network.now kinds.now stores.now opened.now }
-    ensures { IfOk result (λ gone. (wait : Wait) → wait_at network.now number ≡ Some wait → IsPermutation gone (leaves network.now (streams_of opened.now) (held stores.now) number)) }
+    ensures { IfOk result (λ remembered. (wait : Wait) → wait_at network.now number ≡ Some wait → IsPermutation remembered (leaving_state network.now (streams_of opened.now) (held stores.now) number)) }
 {
     if !network.used(number) {
         return Ok(List::new(alloc));
@@ -77,13 +77,13 @@ fn meet<L: Ledger>(
     requires fits { ReachFits (length network.now) (length kinds.now) reach.old }
     ensures more { OnOk result (ReachesMore reach.old reach.new) }
     ensures met { OnOk result (IsMet network.now stores.now opened.now reach.new number) }
-    ensures others { OnOk result ((other : ℕ) → (other ≡ number → ⊥) → slice_index_or reach.new.gone other [] ≡ slice_index_or reach.old.gone other []) }
+    ensures others { OnOk result ((other : ℕ) → (other ≡ number → ⊥) → slice_index_or reach.new.remembered other [] ≡ slice_index_or reach.old.remembered other []) }
 {
     reach.settling.mark(number)?;
-    *reach.gone.get_mut(number) = leaving_state(
+    *reach.remembered.get_mut(number) = leaving_state(
         alloc, network, kinds, number, stores, opened, steps,
     )?;
-    if tuples_of(network, number, opened, &reach.gone).len() == 0 {
+    if tuples_of(network, number, opened, &reach.remembered).len() == 0 {
         return Ok(());
     }
     reach.spread(network, number)
@@ -130,7 +130,7 @@ pub(crate) fn meet_heard<L: Ledger>(
     requires readers { ListsReaders network.now (length kinds.now) (length network.now) readers.now }
     requires touched { AreTouched (length kinds.now) opened.now touched.now }
     requires fits { ReachFits (length network.now) (length kinds.now) reach.old }
-    requires none_gone { (number : ℕ) → slice_index_or reach.old.gone number [] ≡ [] }
+    requires none_gone { (number : ℕ) → slice_index_or reach.old.remembered number [] ≡ [] }
     ensures more { OnOk result (ReachesMore reach.old reach.new) }
     ensures met { OnOk result ((number : ℕ) → IsMet network.now stores.now opened.now reach.new number) }
 {
@@ -155,15 +155,15 @@ pub(crate) fn given_by_ends<L: Ledger>(
     network: &Network,
     places: &[EndPlace],
     opened: &Lists,
-    gone: &Lists,
+    remembered: &Lists,
     steps: &mut Steps<L>,
 ) -> Result<Tuples, Memory>
-    requires { All (EndSuits network.now opened.now gone.now) places.now }
-    ensures { IfOk result (λ out. out ≡ flat_map (given_at network.now (streams_of opened.now) gone.now) places.now) }
+    requires { All (EndSuits network.now opened.now remembered.now) places.now }
+    ensures { IfOk result (λ out. out ≡ flat_map (given_at network.now (streams_of opened.now) remembered.now) places.now) }
 {
     let mut out = List::new(alloc);
     for place in places {
-        add_given(alloc, &mut out, network, *place, opened, gone, steps)?;
+        add_given(alloc, &mut out, network, *place, opened, remembered, steps)?;
     }
     Ok(out)
 }
@@ -175,14 +175,14 @@ fn add_given<L: Ledger>(
     network: &Network,
     place: EndPlace,
     opened: &Lists,
-    gone: &Lists,
+    remembered: &Lists,
     steps: &mut Steps<L>,
 ) -> Result<(), Memory>
-    requires { EndSuits network.now opened.now gone.now place }
-    ensures { OnOk result (out.new ≡ out.old ++ given_at network.now (streams_of opened.now) gone.now place) }
+    requires { EndSuits network.now opened.now remembered.now place }
+    ensures { OnOk result (out.new ≡ out.old ++ given_at network.now (streams_of opened.now) remembered.now place) }
 {
     let end = network.ends(place.state).get(place.place);
-    let tuples = tuples_of(network, place.state, opened, gone);
+    let tuples = tuples_of(network, place.state, opened, remembered);
     add_passed(alloc, out, end.step.as_slice(), tuples.as_slice(), steps)
 }
 
@@ -203,13 +203,13 @@ pub(crate) fn tuples_of<'a>(
     network: &Network,
     number: usize,
     opened: &'a Lists,
-    gone: &'a Lists,
+    remembered: &'a Lists,
 ) -> &'a Tuples
-    requires { IsFlowing network.now opened.now gone.now number }
-    ensures { result.now ≡ flowing network.now (streams_of opened.now) gone.now number }
+    requires { IsFlowing network.now opened.now remembered.now number }
+    ensures { result.now ≡ flowing network.now (streams_of opened.now) remembered.now number }
 {
     match network.root(number) {
         Some(stream) => opened.get(stream),
-        None => gone.get(number),
+        None => remembered.get(number),
     }
 }

@@ -18,7 +18,7 @@ use std::alloc::Global;
 /// states whose stores have to be taken over the epoch.
 #[derive(Drop)]
 pub struct Reach {
-    pub gone: Lists,
+    pub remembered: Lists,
     pub due: Marks,
     pub settling: Marks,
 }
@@ -27,13 +27,13 @@ impl Reach {
     /// Nothing left one of so many states, and none of so many streams is due.
     pub(crate) fn make(alloc: Global, states: usize, streams: usize) -> Result<Reach, Memory>
         ensures fits { IfOk result (λ reach. ReachFits states streams reach) }
-        ensures none_gone { IfOk result (λ reach. (number : ℕ) → slice_index_or reach.gone number [] ≡ []) }
+        ensures none_gone { IfOk result (λ reach. (number : ℕ) → slice_index_or reach.remembered number [] ≡ []) }
     {
-        let gone = empty_lists(alloc, states)?;
+        let remembered = empty_lists(alloc, states)?;
         let due = Marks::make(alloc, streams)?;
         let settling = Marks::make(alloc, states)?;
         Ok(Reach {
-            gone,
+            remembered,
             due,
             settling,
         })
@@ -41,12 +41,12 @@ impl Reach {
 
     /// Forgets all, and keeps the room. Takes no memory.
     pub(crate) fn clear(&mut self)
-        requires fits { ReachFits (length self.old.gone) (length self.old.due.flags) self.old }
-        requires noted { (number : ℕ) → (slice_index_or self.old.gone number [] ≡ []) ⊎ Contains self.old.settling.numbers number }
-        ensures fits { ReachFits (length self.old.gone) (length self.old.due.flags) self.new }
-        ensures none_gone { (number : ℕ) → slice_index_or self.new.gone number [] ≡ [] }
+        requires fits { ReachFits (length self.old.remembered) (length self.old.due.flags) self.old }
+        requires noted { (number : ℕ) → (slice_index_or self.old.remembered number [] ≡ []) ⊎ Contains self.old.settling.numbers number }
+        ensures fits { ReachFits (length self.old.remembered) (length self.old.due.flags) self.new }
+        ensures none_gone { (number : ℕ) → slice_index_or self.new.remembered number [] ≡ [] }
     {
-        clear(&mut self.gone, self.settling.numbers.as_slice());
+        clear(&mut self.remembered, self.settling.numbers.as_slice());
         self.due.clear();
         self.settling.clear();
     }
@@ -58,7 +58,7 @@ impl Reach {
         requires below { StreamsBelow network.now (length self.old.due.flags) }
         requires fits { ReachFits (length network.now) (length self.old.due.flags) self.old }
         ensures more { ReachesMore self.old self.new }
-        ensures gone { self.new.gone ≡ self.old.gone }
+        ensures remembered { self.new.remembered ≡ self.old.remembered }
         ensures spread { OnOk result (IsSpread network.now self.new number) }
     {
         self.settling.mark_all(network.edges(number).as_slice())?;

@@ -4,7 +4,7 @@ ghost use Rattle.instances.specs.Plain.{Plain};
 ghost use Rattle.semantics.specs.Denotation.{streams_of};
 ghost use Rattle.automaton.specs.Networks.{IsNetwork};
 ghost use Rattle.automaton.specs.States.{wait_at};
-ghost use Rattle.epoch_engine.specs.Flows.{AreLeft};
+ghost use Rattle.epoch_engine.specs.Flows.{AreRemembered};
 ghost use Rattle.epoch_engine.specs.Reach.{ReachFits};
 ghost use Rattle.epoch_engine.specs.Settling.{AreSettledIn, IsSettled, IsSettledAt, Settles, SettlesAt, new_store, settled_from};
 ghost use Rattle.epoch_engine.specs.Tables.{IsBefore};
@@ -63,7 +63,7 @@ pub(crate) fn settle_marked<L: Ledger>(
 ) -> Result<(), Memory>
     requires network { IsNetwork network.now }
     requires typed { AreTyped network.now kinds.now stores.old opened.now }
-    requires left { AreLeft network.now (streams_of opened.now) (held stores.old) reach.now.gone }
+    requires left { AreRemembered network.now (streams_of opened.now) (held stores.old) reach.now.remembered }
     requires fits { ReachFits (length network.now) (length kinds.now) reach.now }
     requires before { IsBefore network.now (length network.now) before.now }
     ensures { OnOk result (AreSettledIn reach.now.settling.numbers (time + 1) network.now (streams_of opened.now) stores.old stores.new) }
@@ -76,7 +76,7 @@ pub(crate) fn settle_marked<L: Ledger>(
             before,
             stores,
             opened,
-            &reach.gone,
+            &reach.remembered,
             time,
             steps,
         )?;
@@ -92,7 +92,7 @@ fn settle_at<L: Ledger>(
     before: &List<Option<usize>>,
     stores: &mut Stores,
     opened: &Lists,
-    gone: &Lists,
+    remembered: &Lists,
     time: u64,
     steps: &mut Steps<L>,
 ) -> Result<(), Memory>
@@ -100,11 +100,11 @@ fn settle_at<L: Ledger>(
     requires network { IsNetwork network.now }
     requires before { IsBefore network.now (length network.now) before.now }
     requires stores { length stores.old ≡ length network.now }
-    requires settles { SettlesAt network.now opened.now gone.now number (slice_index_or stores.old number None) }
+    requires settles { SettlesAt network.now opened.now remembered.now number (slice_index_or stores.old number None) }
     ensures as_many { length stores.new ≡ length stores.old }
     ensures others { (other : ℕ) → (other ≡ number → ⊥) → slice_index_or stores.new other None ≡ slice_index_or stores.old other None }
     ensures none { wait_at network.now number ≡ None → stores.new ≡ stores.old }
-    ensures settled { OnOk result (IsSettledAt (time + 1) network.now opened.now gone.now number (slice_index_or stores.old number None) (slice_index_or stores.new number None)) }
+    ensures settled { OnOk result (IsSettledAt (time + 1) network.now opened.now remembered.now number (slice_index_or stores.old number None) (slice_index_or stores.new number None)) }
 {
     if !network.used(number) {
         return Ok(());
@@ -117,7 +117,7 @@ fn settle_at<L: Ledger>(
     };
     let slot = stores.get_mut(number);
     settle_state(
-        alloc, network, number, wait, before, slot, opened, gone, time, steps,
+        alloc, network, number, wait, before, slot, opened, remembered, time, steps,
     )
 }
 
@@ -130,12 +130,12 @@ fn settle_state<L: Ledger>(
     before: usize,
     slot: &mut Option<PlainStore>,
     opened: &Lists,
-    gone: &Lists,
+    remembered: &Lists,
     time: u64,
     steps: &mut Steps<L>,
 ) -> Result<(), Memory>
-    requires { Settles network.now opened.now gone.now number wait.now before slot.old }
-    ensures { OnOk result ((store : Plain) → slot.old ≡ Some store → IsSettled (time + 1) wait.now (settled_from network.now opened.now gone.now number wait.now before store.instances) slot.new) }
+    requires { Settles network.now opened.now remembered.now number wait.now before slot.old }
+    ensures { OnOk result ((store : Plain) → slot.old ≡ Some store → IsSettled (time + 1) wait.now (settled_from network.now opened.now remembered.now number wait.now before store.instances) slot.new) }
 {
     match slot {
         None => Ok(()),
@@ -145,8 +145,8 @@ fn settle_state<L: Ledger>(
             wait,
             network.step(number).as_slice(),
             opened.get(wait.stream).as_slice(),
-            tuples_of(network, before, opened, gone).as_slice(),
-            gone.get(number).as_slice(),
+            tuples_of(network, before, opened, remembered).as_slice(),
+            remembered.get(number).as_slice(),
             time,
             steps,
         ),

@@ -9,7 +9,7 @@ use Rattle.event_types.specs.OrderLaws.{tuple_exact, tuple_total}
 use Rattle.event_types.specs.Tuple.{IsSound}
 use Rattle.event_types.proofs.SortLemmas.{sort_permuted}
 use Rattle.semantics.specs.Denotation.{Streams}
-use Rattle.semantics.specs.Histories.{Heard, heard_on, upto}
+use Rattle.semantics.specs.Histories.{Event, heard_on, upto}
 use Rattle.semantics.specs.Programs.{Program, env}
 use Rattle.semantics.specs.Results.{results}
 use Rattle.semantics.proofs.ReportLemmas.{filter_all}
@@ -18,19 +18,19 @@ use Rattle.automaton.specs.States.{Net}
 use Rattle.automaton.specs.declared.line.Line.{Line}
 use Rattle.epoch_laws.specs.Batch.{Agree}
 use Rattle.epoch_laws.specs.Closing.{IsEpoch, Stores}
-use Rattle.epoch_laws.specs.Stands.{Serves, Stands}
-use Rattle.epoch_laws.proofs.Stands.{closed_batch}
+use Rattle.epoch_laws.specs.StoresStandFor.{Serves, StoresStandFor}
+use Rattle.epoch_laws.proofs.StoresStandFor.{closed_batch}
 
 -- a batch has the results of each query
-pub batch_is_results : (net : Net) (lines : List Line) (order : List ℕ) (now time : ℕ) (stores : Stores) (past events : List Heard) (news : Streams) (program : Program) (stream : ℕ)
-    → Serves net lines order → Stands net lines order now stores past → now ≤ time → All (λ e. IsSound e.tuple × (e.tuple.at ≡ time)) events
+pub batch_is_results : (net : Net) (lines : List Line) (order : List ℕ) (now time : ℕ) (stores : Stores) (past events : List Event) (news : Streams) (program : Program) (stream : ℕ)
+    → Serves net lines order → StoresStandFor net lines order now stores past → now ≤ time → All (λ e. IsSound e.tuple × (e.tuple.at ≡ time)) events
     → IsEpoch net order stores (heard_on events) news → Agree lines order program (past ++ events) stream
     → sorted (news stream) ≡ results program (past ++ events) stream time
 batch_is_results net lines order now time stores past events news program stream serves stands le new epoch agree =
     sort_permuted tuple_cmp tuple_total tuple_exact _ _
     (IsPermutation-trans _ _ _ (closed_batch net lines order now time stores past events news serves stands le new epoch stream)
     (filter_permuted (λ t. t.at == time) _ _ agree))
-    ∙ ap (λ (history : List Heard). sorted (filter (λ t. t.at == time) (env program history stream))) (sym whole)
+    ∙ ap (λ (history : List Event). sorted (filter (λ t. t.at == time) (env program history stream))) (sym whole)
   where
     fits : (at : ℕ) → at < now → nat_le at time ≡ true
     fits at h = grind (arith, nat_tests)

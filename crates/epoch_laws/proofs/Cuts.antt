@@ -4,7 +4,7 @@ use Rattle.std.specs.Prelude.{Some}
 use Rattle.std.specs.List.{All, filter}
 use Rattle.std.proofs.lemmas.Bool.Decides.{nat_tests}
 use Rattle.std.proofs.lemmas.List.Elements.{filter_agree, All-head, All-tail, All-filter}
-use Rattle.event_types.specs.Tuple.{Row, IsSound}
+use Rattle.event_types.specs.Tuple.{TupleView, IsSound}
 use Rattle.semantics.specs.Scalars.{Pr}
 use Rattle.semantics.specs.Truth.{all_true}
 use Rattle.semantics.specs.Nexts.{is_eligible, is_earliest, earliest, nexts}
@@ -43,12 +43,12 @@ pub not_less : (time at : ℕ) → nat_lt at time ≡ false → time ≤ at
 not_less time at e = grind (arith, nat_tests)
 
 -- a list that is empty has no items
-pub empty_is : (xs : List Row) → is_empty xs ≡ true → xs ≡ []
+pub empty_is : (xs : List TupleView) → is_empty xs ≡ true → xs ≡ []
 empty_is [] e = refl
 empty_is (x ∷ xs) e = cc
 
 -- no tuple is before the time: all are at it
-pub all_now : (time : ℕ) (xs : List Row) → All (IsPast time) xs → before time xs ≡ [] → during time xs ≡ xs
+pub all_now : (time : ℕ) (xs : List TupleView) → All (IsPast time) xs → before time xs ≡ [] → during time xs ≡ xs
 all_now time [] all e = refl
 all_now time (x ∷ xs) all e = go (all_now time xs (All-tail (IsPast time) x xs all)) (nat_lt x.at time) refl e
   where
@@ -58,7 +58,7 @@ all_now time (x ∷ xs) all e = go (all_now time xs (All-tail (IsPast time) x xs
         ap (λ b. cond b (x ∷ during time xs) (during time xs)) (now_or time x.at (All-head (IsPast time) x xs all).1 t) ∙ ap (λ ys. x ∷ ys) (rest e)
 
 -- where nothing is at the time, all is before it
-pub all_old : (time : ℕ) (xs : List Row) → All (IsPast time) xs → during time xs ≡ [] → before time xs ≡ xs
+pub all_old : (time : ℕ) (xs : List TupleView) → All (IsPast time) xs → during time xs ≡ [] → before time xs ≡ xs
 all_old time [] all e = refl
 all_old time (x ∷ xs) all e = go (all_old time xs (All-tail (IsPast time) x xs all)) (nat_lt x.at time) refl
   where
@@ -71,7 +71,7 @@ all_old time (x ∷ xs) all e = go (all_old time xs (All-tail (IsPast time) x xs
         absurd (cc)
 
 -- a list has no tuple where it has none at the time and none before it
-pub nil_cut : (time : ℕ) (xs : List Row) → All (IsPast time) xs → is_empty xs ≡ (is_empty (before time xs) && is_empty (during time xs))
+pub nil_cut : (time : ℕ) (xs : List TupleView) → All (IsPast time) xs → is_empty xs ≡ (is_empty (before time xs) && is_empty (during time xs))
 nil_cut time [] all = refl
 nil_cut time (x ∷ xs) all = go (nat_lt x.at time) refl
   where
@@ -82,7 +82,7 @@ nil_cut time (x ∷ xs) all = go (nat_lt x.at time) refl
         ∙ ap (λ b. is_empty (before time xs) && is_empty (cond b (x ∷ during time xs) (during time xs))) (sym (now_or time x.at (All-head (IsPast time) x xs all).1 t))
 
 -- a tuple of the last time comes first where none is before that time
-first_at_end : (time : ℕ) (r : Row) → (r.at == time) ≡ true → (xs : List Row) → All (IsPast time) xs → is_earliest xs r ≡ is_empty (before time xs)
+first_at_end : (time : ℕ) (r : TupleView) → (r.at == time) ≡ true → (xs : List TupleView) → All (IsPast time) xs → is_earliest xs r ≡ is_empty (before time xs)
 first_at_end time r e [] all = refl
 first_at_end time r e (x ∷ xs) all = go (first_at_end time r e xs (All-tail (IsPast time) x xs all)) (nat_lt x.at time) refl
   where
@@ -91,13 +91,13 @@ first_at_end time r e (x ∷ xs) all = go (first_at_end time r e xs (All-tail (I
     go rest false t = let yes' : nat_le r.at x.at ≡ true = grind (arith, nat_tests) in ap (λ b. b && is_earliest xs r) yes' ∙ rest
 
 -- the earliest are at the time where none is before it
-pub during_firsts : (time : ℕ) (xs : List Row) → All (IsPast time) xs → during time (earliest xs) ≡ cond (is_empty (before time xs)) (during time xs) []
+pub during_firsts : (time : ℕ) (xs : List TupleView) → All (IsPast time) xs → during time (earliest xs) ≡ cond (is_empty (before time xs)) (during time xs) []
 during_firsts time xs all =
     filter-filter (λ r. r.at == time) (is_earliest xs) xs
     ∙ filter_agree (λ r. is_earliest xs r && (r.at == time)) (λ r. is_empty (before time xs) && (r.at == time)) (λ r. go r (r.at == time) refl) xs
     ∙ last (is_empty (before time xs))
   where
-    go : (r : Row) (b : Bool) → (r.at == time) ≡ b → (is_earliest xs r && b) ≡ (is_empty (before time xs) && b)
+    go : (r : TupleView) (b : Bool) → (r.at == time) ≡ b → (is_earliest xs r && b) ≡ (is_empty (before time xs) && b)
     go r true e = ap (λ t. t && true) (first_at_end time r e xs all)
     go r false e = and-false (is_earliest xs r) ∙ sym (and-false (is_empty (before time xs)))
 
@@ -119,19 +119,19 @@ and_parts : (a b : Bool) → (a && b) ≡ true → (a ≡ true) × (b ≡ true)
 and_parts true b e = (refl, e)
 and_parts false b e = absurd (cc)
 
-first_lower : (a b : Row) → nat_le a.at b.at ≡ true → (xs : List Row) → is_earliest xs b ≡ true → is_earliest xs a ≡ true
+first_lower : (a b : TupleView) → nat_le a.at b.at ≡ true → (xs : List TupleView) → is_earliest xs b ≡ true → is_earliest xs a ≡ true
 first_lower a b e [] h = refl
 first_lower a b e (x ∷ xs) h =
     let both = and_parts (nat_le b.at x.at) (is_earliest xs b) h in
     λ i. le_through a.at b.at x.at e both.0 i && first_lower a b e xs both.1 i
 
 -- a tuple that comes first, so that each test that it passes leaves a tuple
-record First (x : Row) (xs : List Row) : Type 0 where
-  row : Row
+record First (x : TupleView) (xs : List TupleView) : Type 0 where
+  row : TupleView
   first : is_earliest (x ∷ xs) row ≡ true
-  there : (test : Row → Bool) → test row ≡ true → is_empty (filter test (x ∷ xs)) ≡ false
+  there : (test : TupleView → Bool) → test row ≡ true → is_empty (filter test (x ∷ xs)) ≡ false
 
-first_of_all : (x : Row) (xs : List Row) → First x xs
+first_of_all : (x : TupleView) (xs : List TupleView) → First x xs
 first_of_all x [] = record { row = x; first = ap (λ b. b && true) (le_itself x.at); there = λ test e. ap (λ b. is_empty (cond b (x ∷ []) [])) e }
 first_of_all x (y ∷ ys) = go (first_of_all y ys)
   where
@@ -145,7 +145,7 @@ first_of_all x (y ∷ ys) = go (first_of_all y ys)
           there = λ test t. more test (f.there test t) (test x);
         }
           where
-            more : (test : Row → Bool) → is_empty (filter test (y ∷ ys)) ≡ false → (b : Bool) → is_empty (cond b (x ∷ filter test (y ∷ ys)) (filter test (y ∷ ys))) ≡ false
+            more : (test : TupleView → Bool) → is_empty (filter test (y ∷ ys)) ≡ false → (b : Bool) → is_empty (cond b (x ∷ filter test (y ∷ ys)) (filter test (y ∷ ys))) ≡ false
             more test e true = refl
             more test e false = e
         choose false e = record {
@@ -155,23 +155,23 @@ first_of_all x (y ∷ ys) = go (first_of_all y ys)
         }
 
 -- there are earliest where there are any
-pub nil_firsts : (xs : List Row) → is_empty (earliest xs) ≡ is_empty xs
+pub nil_firsts : (xs : List TupleView) → is_empty (earliest xs) ≡ is_empty xs
 nil_firsts [] = refl
 nil_firsts (x ∷ xs) = let f = first_of_all x xs in f.there (is_earliest (x ∷ xs)) f.first
 
 -- the nexts of one binding
-pub waits_is : (p : List Pr) (rs : List Row) (b : Row) → waits p rs b ≡ is_empty (filter (is_eligible p b) rs)
+pub waits_is : (p : List Pr) (rs : List TupleView) (b : TupleView) → waits p rs b ≡ is_empty (filter (is_eligible p b) rs)
 waits_is p rs b = nil_firsts (filter (is_eligible p b) rs)
 
 -- the nexts at a time are those that are eligible where the binding waited until then
-pub during_nexts : (time : ℕ) (p : List Pr) (b : Row) (rs : List Row) → All (IsPast time) rs → during time (nexts p b rs) ≡ cond (waits p (before time rs) b) (filter (is_eligible p b) (during time rs)) []
+pub during_nexts : (time : ℕ) (p : List Pr) (b : TupleView) (rs : List TupleView) → All (IsPast time) rs → during time (nexts p b rs) ≡ cond (waits p (before time rs) b) (filter (is_eligible p b) (during time rs)) []
 during_nexts time p b rs all =
     during_firsts time (filter (is_eligible p b) rs) (All-filter (is_eligible p b) (IsPast time) rs all)
     ∙ (λ i. cond (is_empty (filter_swap (λ r. nat_lt r.at time) (is_eligible p b) rs i)) (filter_swap (λ r. r.at == time) (is_eligible p b) rs i) [])
     ∙ ap (λ t. cond t (filter (is_eligible p b) (during time rs)) []) (sym (waits_is p (before time rs) b))
 
 -- a binding waits on where none of the epoch is eligible
-pub waits_cut : (time : ℕ) (p : List Pr) (b : Row) (rs : List Row) → All (IsPast time) rs → waits p rs b ≡ (waits p (before time rs) b && is_empty (filter (is_eligible p b) (during time rs)))
+pub waits_cut : (time : ℕ) (p : List Pr) (b : TupleView) (rs : List TupleView) → All (IsPast time) rs → waits p rs b ≡ (waits p (before time rs) b && is_empty (filter (is_eligible p b) (during time rs)))
 waits_cut time p b rs all =
     waits_is p rs b
     ∙ nil_cut time (filter (is_eligible p b) rs) (All-filter (is_eligible p b) (IsPast time) rs all)
@@ -179,7 +179,7 @@ waits_cut time p b rs all =
     ∙ ap (λ t. t && is_empty (filter (is_eligible p b) (during time rs))) (sym (waits_is p (before time rs) b))
 
 -- later tuples don't matter to whether an early one comes first
-first_before : (time : ℕ) (r : Row) → nat_lt r.at time ≡ true → (rs : List Row) → is_earliest rs r ≡ is_earliest (before time rs) r
+first_before : (time : ℕ) (r : TupleView) → nat_lt r.at time ≡ true → (rs : List TupleView) → is_earliest rs r ≡ is_earliest (before time rs) r
 first_before time r e [] = refl
 first_before time r e (s ∷ rs) = go (first_before time r e rs) (nat_lt s.at time) refl
   where
@@ -189,22 +189,22 @@ first_before time r e (s ∷ rs) = go (first_before time r e rs) (nat_lt s.at ti
         let t : nat_le r.at s.at ≡ true = grind (arith, nat_tests) in
         ap (λ b. b && is_earliest rs r) t ∙ rest
 
-before_firsts : (time : ℕ) (rs : List Row) → before time (earliest rs) ≡ earliest (before time rs)
+before_firsts : (time : ℕ) (rs : List TupleView) → before time (earliest rs) ≡ earliest (before time rs)
 before_firsts time rs =
     filter-filter (λ r. nat_lt r.at time) (is_earliest rs) rs
     ∙ filter_agree (λ r. is_earliest rs r && nat_lt r.at time) (λ r. nat_lt r.at time && is_earliest (before time rs) r) (λ r. go r (nat_lt r.at time) refl) rs
     ∙ sym (filter-filter (is_earliest (before time rs)) (λ r. nat_lt r.at time) rs)
   where
-    go : (r : Row) (b : Bool) → nat_lt r.at time ≡ b → (is_earliest rs r && b) ≡ (b && is_earliest (before time rs) r)
+    go : (r : TupleView) (b : Bool) → nat_lt r.at time ≡ b → (is_earliest rs r && b) ≡ (b && is_earliest (before time rs) r)
     go r true e = and-true (is_earliest rs r) ∙ first_before time r e rs
     go r false e = and-false (is_earliest rs r)
 
 -- the nexts before a time are those among the tuples before it
-pub before_nexts : (time : ℕ) (p : List Pr) (b : Row) (rs : List Row) → before time (nexts p b rs) ≡ nexts p b (before time rs)
+pub before_nexts : (time : ℕ) (p : List Pr) (b : TupleView) (rs : List TupleView) → before time (nexts p b rs) ≡ nexts p b (before time rs)
 before_nexts time p b rs = before_firsts time (filter (is_eligible p b) rs) ∙ ap earliest (filter_swap (λ r. nat_lt r.at time) (is_eligible p b) rs)
 
 -- of the tuples before a time none is eligible for a binding of that time
-pub none_early : (time : ℕ) (p : List Pr) (b : Row) → time ≤ b.at → (rs : List Row) → All IsSound rs → filter (is_eligible p b) (before time rs) ≡ []
+pub none_early : (time : ℕ) (p : List Pr) (b : TupleView) → time ≤ b.at → (rs : List TupleView) → All IsSound rs → filter (is_eligible p b) (before time rs) ≡ []
 none_early time p b late [] all = refl
 none_early time p b late (r ∷ rs) all = go (none_early time p b late rs (All-tail IsSound r rs all)) (nat_lt r.at time) refl
   where
@@ -216,28 +216,28 @@ none_early time p b late (r ∷ rs) all = go (none_early time p b late rs (All-t
     go rest false e = rest
 
 -- where a binding waited before, its nexts are the is_eligible tuples of the last time
-pub nexts_now : (time : ℕ) (p : List Pr) (b : Row) (rs : List Row) → All (IsPast time) rs → waits p (before time rs) b ≡ true → nexts p b rs ≡ filter (is_eligible p b) (during time rs)
+pub nexts_now : (time : ℕ) (p : List Pr) (b : TupleView) (rs : List TupleView) → All (IsPast time) rs → waits p (before time rs) b ≡ true → nexts p b rs ≡ filter (is_eligible p b) (during time rs)
 nexts_now time p b rs all e =
     sym (all_now time (nexts p b rs) (nexts_keep (IsPast time) p b rs all) (before_nexts time p b rs ∙ empty_is (nexts p b (before time rs)) e))
     ∙ during_nexts time p b rs all
     ∙ ap (λ t. cond t (filter (is_eligible p b) (during time rs)) []) e
 
 -- where it didn't, they are those that it had before
-pub nexts_then : (time : ℕ) (p : List Pr) (b : Row) (rs : List Row) → All (IsPast time) rs → waits p (before time rs) b ≡ false → nexts p b rs ≡ nexts p b (before time rs)
+pub nexts_then : (time : ℕ) (p : List Pr) (b : TupleView) (rs : List TupleView) → All (IsPast time) rs → waits p (before time rs) b ≡ false → nexts p b rs ≡ nexts p b (before time rs)
 nexts_then time p b rs all e =
     sym (all_old time (nexts p b rs) (nexts_keep (IsPast time) p b rs all) (during_nexts time p b rs all ∙ ap (λ t. cond t (filter (is_eligible p b) (during time rs)) []) e))
     ∙ before_nexts time p b rs
 
 -- no tuple is is_eligible for a binding of the last time
-pub none_now : (time : ℕ) (p : List Pr) (b : Row) → time ≤ b.at → (rs : List Row) → All (IsPast time) rs → filter (is_eligible p b) rs ≡ []
+pub none_now : (time : ℕ) (p : List Pr) (b : TupleView) → time ≤ b.at → (rs : List TupleView) → All (IsPast time) rs → filter (is_eligible p b) rs ≡ []
 none_now time p b late [] all = refl
 none_now time p b late (r ∷ rs) all =
     let past : IsPast time r = All-head (IsPast time) r rs all in
     ap (λ t. cond (t && all_true p r (Some b)) (r ∷ filter (is_eligible p b) rs) (filter (is_eligible p b) rs)) (no_less r past.0 past.1) ∙ none_now time p b late rs (All-tail (IsPast time) r rs all)
   where
-    no_less : (r : Row) → r.from ≤ r.at → r.at ≤ time → nat_lt b.at r.from ≡ false
+    no_less : (r : TupleView) → r.from ≤ r.at → r.at ≤ time → nat_lt b.at r.from ≡ false
     no_less r h g = grind (arith, nat_tests)
 
 -- a binding of the time still waits
-pub waits_now : (time : ℕ) (p : List Pr) (b : Row) → time ≤ b.at → (rs : List Row) → All (IsPast time) rs → waits p rs b ≡ true
+pub waits_now : (time : ℕ) (p : List Pr) (b : TupleView) → time ≤ b.at → (rs : List TupleView) → All (IsPast time) rs → waits p rs b ≡ true
 waits_now time p b late rs all = waits_is p rs b ∙ ap is_empty (none_now time p b late rs all)

@@ -10,7 +10,7 @@ use Rattle.event_types.specs.declared.comparison.Cmp.{Cmp}
 use Rattle.event_types.specs.declared.comparison.Cmp.TheVariants as cmp
 use Rattle.event_types.specs.declared.value.Value.{Value}
 use Rattle.event_types.specs.declared.value.Value.TheVariants as value
-use Rattle.event_types.specs.Tuple.{Row}
+use Rattle.event_types.specs.Tuple.{TupleView}
 use Rattle.instances.specs.Keys.{Key, candidates_of, is_matched, key_matches, unmatched}
 use Rattle.instances.specs.declared.instance.Instance.{Instance}
 use Rattle.semantics.specs.Denotation.{joined}
@@ -24,7 +24,7 @@ use Rattle.scalar_expr.proofs.Bags.{permuted_from, permuted_to}
 use Rattle.scalar_expr.proofs.CanonicalLaws.{turned_met}
 use Rattle.automaton.specs.Waiting.{is_empty}
 use Rattle.automaton.specs.declared.wait.Turn.{Turn}
-use Rattle.epoch_laws.specs.Epochs.{eligible_of, is_unmet, left, taken, took}
+use Rattle.epoch_laws.specs.Epochs.{eligible_of, is_unmet, unmatched_after, taken, took}
 use Rattle.epoch_laws.specs.Events.{IsKeyOf, found, taken_out}
 use Rattle.epoch_laws.proofs.Bags.{flat_map_parts}
 use Rattle.epoch_laws.proofs.Lists.{and-false, every, filter-filter, flat_map-filter}
@@ -54,7 +54,7 @@ bounded_is_no_key e k c value.Over is = absurd (cc)
 bounded_is_no_key e k c (value.Text bytes) is = absurd (cc)
 bounded_is_no_key e k c (value.Dec scale units) is = absurd (cc)
 
-module _ (r b : Row) (e k : ℕ) where
+module _ (r b : TupleView) (e k : ℕ) where
   abbrev Met : Type 0
   Met = is_met cmp.Eq (order_of (value_at r e) (value_at b k)) ≡ true
 
@@ -110,7 +110,7 @@ and_right true y e = e
 and_right false y e = absurd (cc)
 
 -- what is eligible for a binding is looked at with it
-eligible_matches : (key : Option Key) (choose : List Pr) (r b : Row) → IsKeyOf key choose → is_eligible choose b r ≡ true → key_matches key r b ≡ true
+eligible_matches : (key : Option Key) (choose : List Pr) (r b : TupleView) → IsKeyOf key choose → is_eligible choose b r ≡ true → key_matches key r b ≡ true
 eligible_matches None choose r b of e = refl
 eligible_matches (Some key) choose r b of e =
     All-contains (λ c. c ≡ class.Key key.event key.binding → Met r b key.event key.binding) (map class.class_of choose) (class.Key key.event key.binding)
@@ -118,14 +118,14 @@ eligible_matches (Some key) choose r b of e =
 
 module _ (key : Option Key) (choose : List Pr) (of : IsKeyOf key choose) where
   -- so the matched candidates are the instances for which the tuple is eligible
-  matched_is : (r : Row) (i : Instance) → is_matched key choose r i ≡ is_eligible choose i.tuple r
+  matched_is : (r : TupleView) (i : Instance) → is_matched key choose r i ≡ is_eligible choose i.tuple r
   matched_is r i = go (is_eligible choose i.tuple r) refl
     where
       go : (t : Bool) → is_eligible choose i.tuple r ≡ t → (key_matches key r i.tuple && t) ≡ t
       go true e = ap (λ m. m && true) (eligible_matches key choose r i.tuple of e)
       go false e = and-false (key_matches key r i.tuple)
 
-  one_unmet : (r : Row) (rs : List Row) (i : Instance) → (not (is_matched key choose r i) && is_unmet choose rs i.tuple) ≡ is_unmet choose (r ∷ rs) i.tuple
+  one_unmet : (r : TupleView) (rs : List TupleView) (i : Instance) → (not (is_matched key choose r i) && is_unmet choose rs i.tuple) ≡ is_unmet choose (r ∷ rs) i.tuple
   one_unmet r rs i = ap (λ m. not m && is_unmet choose rs i.tuple) (matched_is r i) ∙ go (is_eligible choose i.tuple r)
     where
       go : (t : Bool) → (not t && is_unmet choose rs i.tuple) ≡ is_empty (cond t (r ∷ eligible_of choose rs i.tuple) (eligible_of choose rs i.tuple))
@@ -133,7 +133,7 @@ module _ (key : Option Key) (choose : List Pr) (of : IsKeyOf key choose) where
       go false = refl
 
   -- what all tuples have taken out
-  pub taken_out_is_left : (rs : List Row) (store : List Instance) → taken_out key choose rs store ≡ left choose rs store
+  pub taken_out_is_left : (rs : List TupleView) (store : List Instance) → taken_out key choose rs store ≡ unmatched_after choose rs store
   taken_out_is_left [] store = sym (filter_every store)
     where
       filter_every : (xs : List Instance) → filter (λ _. true) xs ≡ xs
@@ -145,11 +145,11 @@ module _ (key : Option Key) (choose : List Pr) (of : IsKeyOf key choose) where
       ∙ filter_agree (λ i. not (is_matched key choose r i) && is_unmet choose rs i.tuple) (λ i. is_unmet choose (r ∷ rs) i.tuple) (one_unmet r rs) store
 
   module _ (turn : Option Turn) where
-    abbrev one : Row → Instance → List Row
+    abbrev one : TupleView → Instance → List TupleView
     one r i = taken choose turn (r ∷ []) i.tuple
 
     -- a tuple that isn't eligible gives nothing
-    none_taken : (r b : Row) → is_eligible choose b r ≡ false → taken choose turn (r ∷ []) b ≡ []
+    none_taken : (r b : TupleView) → is_eligible choose b r ≡ false → taken choose turn (r ∷ []) b ≡ []
     none_taken r b e = go turn
       where
         none : eligible_of choose (r ∷ []) b ≡ []
@@ -160,7 +160,7 @@ module _ (key : Option Key) (choose : List Pr) (of : IsKeyOf key choose) where
         go (Some t) = ap (λ rs. map (rebound t.set.parts b) (filter (λ r. all_true t.on r (Some b)) rs)) none
 
     -- so the candidates give what the whole store does
-    candidates_give : (r : Row) (store : List Instance) → flat_map (one r) (candidates_of key r store) ≡ flat_map (one r) store
+    candidates_give : (r : TupleView) (store : List Instance) → flat_map (one r) (candidates_of key r store) ≡ flat_map (one r) store
     candidates_give r store = sym (looked key refl)
       where
         looked : (k : Option Key) → key ≡ k → flat_map (one r) store ≡ flat_map (one r) (candidates_of k r store)
@@ -174,13 +174,13 @@ module _ (key : Option Key) (choose : List Pr) (of : IsKeyOf key choose) where
             unmet i e false f = none_taken r i.tuple f
 
     -- tuple by tuple, for one binding
-    taken_each : (rs : List Row) (b : Row) → flat_map (λ r. taken choose turn (r ∷ []) b) rs ≡ taken choose turn rs b
+    taken_each : (rs : List TupleView) (b : TupleView) → flat_map (λ r. taken choose turn (r ∷ []) b) rs ≡ taken choose turn rs b
     taken_each rs b = go turn rs
       where
-        eligible_cut : (r : Row) (rs : List Row) → eligible_of choose (r ∷ rs) b ≡ eligible_of choose (r ∷ []) b ++ eligible_of choose rs b
+        eligible_cut : (r : TupleView) (rs : List TupleView) → eligible_of choose (r ∷ rs) b ≡ eligible_of choose (r ∷ []) b ++ eligible_of choose rs b
         eligible_cut r rs = filter-append (is_eligible choose b) (r ∷ []) rs
 
-        go : (turn : Option Turn) (rs : List Row) → flat_map (λ r. taken choose turn (r ∷ []) b) rs ≡ taken choose turn rs b
+        go : (turn : Option Turn) (rs : List TupleView) → flat_map (λ r. taken choose turn (r ∷ []) b) rs ≡ taken choose turn rs b
         go None [] = refl
         go (Some t) [] = refl
         go None (r ∷ rs) =
@@ -188,24 +188,24 @@ module _ (key : Option Key) (choose : List Pr) (of : IsKeyOf key choose) where
             ∙ sym (map-append (joined b) (eligible_of choose (r ∷ []) b) (eligible_of choose rs b))
             ∙ ap (map (joined b)) (sym (eligible_cut r rs))
         go (Some t) (r ∷ rs) =
-            let goes : Row → Bool = λ r. all_true t.on r (Some b) in
+            let goes : TupleView → Bool = λ r. all_true t.on r (Some b) in
             ap (λ ys. taken choose (Some t) (r ∷ []) b ++ ys) (go (Some t) rs)
             ∙ sym (map-append (rebound t.set.parts b) (filter goes (eligible_of choose (r ∷ []) b)) (filter goes (eligible_of choose rs b)))
             ∙ ap (map (rebound t.set.parts b)) (sym (filter-append goes (eligible_of choose (r ∷ []) b) (eligible_of choose rs b)) ∙ ap (filter goes) (sym (eligible_cut r rs)))
 
-    nothing : (xs : List Instance) → flat_map {X = Instance} {A = Row} (λ _. []) xs ≡ []
+    nothing : (xs : List Instance) → flat_map {X = Instance} {A = TupleView} (λ _. []) xs ≡ []
     nothing [] = refl
     nothing (x ∷ xs) = nothing xs
 
     -- tuples and instances may change places
-    exchange : (rs : List Row) (store : List Instance) → IsPermutation (flat_map (λ r. flat_map (one r) store) rs) (flat_map (λ i. flat_map (λ r. one r i) rs) store)
+    exchange : (rs : List TupleView) (store : List Instance) → IsPermutation (flat_map (λ r. flat_map (one r) store) rs) (flat_map (λ i. flat_map (λ r. one r i) rs) store)
     exchange [] store = permuted_from (sym (nothing store)) (IsPermutation-refl _)
     exchange (r ∷ rs) store =
         IsPermutation-trans _ _ _ (IsPermutation-append_right (flat_map (one r) store) _ _ (exchange rs store))
         (IsPermutation-sym _ _ (flat_map_parts (one r) (λ i. flat_map (λ r. one r i) rs) store))
 
     -- what each tuple finds among its candidates
-    pub found_is_took : (rs : List Row) (store : List Instance) → IsPermutation (found key choose turn rs store) (took choose turn rs store)
+    pub found_is_took : (rs : List TupleView) (store : List Instance) → IsPermutation (found key choose turn rs store) (took choose turn rs store)
     found_is_took rs store =
         permuted_from (flat_map_same (λ r. flat_map (one r) (candidates_of key r store)) (λ r. flat_map (one r) store) rs (every (λ r. flat_map (one r) (candidates_of key r store) ≡ flat_map (one r) store) (λ r. candidates_give r store) rs))
         (permuted_to (exchange rs store)

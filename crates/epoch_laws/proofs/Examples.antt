@@ -3,7 +3,7 @@ use Rattle.std.proofs.Common.{◌≡◌, refl, ℕ, pos, List, [], ◌∷◌, ma
 use Rattle.std.specs.Prelude.{Some, None}
 use Rattle.event_types.specs.declared.comparison.Cmp.TheVariants as cmp
 use Rattle.event_types.specs.declared.value.Value.TheVariants as value
-use Rattle.event_types.specs.Tuple.{Row}
+use Rattle.event_types.specs.Tuple.{TupleView}
 use Rattle.instances.specs.declared.instance.Instance.{Instance}
 use Rattle.semantics.specs.Scalars.{Lit, Event, Dur, Test}
 use Rattle.automaton.specs.declared.wait.Turn.{Turn}
@@ -11,11 +11,11 @@ use Rattle.epoch_laws.specs.Epochs.{stepped, took}
 use Rattle.epoch_laws.specs.Instances.{instance_of}
 
 -- the tuple of one number with these times
-abbrev tuple : ℕ → ℕ → ℕ → Row
+abbrev tuple : ℕ → ℕ → ℕ → TupleView
 tuple n from at = record { vals = value.Int (pos n) ∷ []; from = from; at = at }
 
 -- the tuple of two numbers with these times
-abbrev pair : ℕ → ℕ → ℕ → ℕ → Row
+abbrev pair : ℕ → ℕ → ℕ → ℕ → TupleView
 pair m n from at = record { vals = value.Int (pos m) ∷ value.Int (pos n) ∷ []; from = from; at = at }
 
 -- one binding waits, from the time 1

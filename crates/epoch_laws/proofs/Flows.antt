@@ -6,7 +6,7 @@ use Rattle.std.specs.List.{All, filter, filter_map, flat_map, cons_option}
 use Rattle.std.specs.List.Sorted.{IsPermutation}
 use Rattle.std.proofs.lemmas.List.Elements.{All-nil, All-cons, All-head, All-tail}
 use Rattle.std.proofs.lemmas.List.Sorted.{IsPermutation-map}
-use Rattle.event_types.specs.Tuple.{Row}
+use Rattle.event_types.specs.Tuple.{TupleView}
 use Rattle.semantics.specs.Denotation.{Streams}
 use Rattle.semantics.specs.Truth.{all_true}
 use Rattle.scalar_expr.proofs.Bags.{permuted_to}
@@ -28,11 +28,11 @@ use Rattle.epoch_laws.proofs.Purges.{rows_stepped}
 use Rattle.epoch_laws.proofs.Waits.{chosen_before, chosen_past, few_of, rows_give, rows_keep, stepped_of, took_of}
 
 -- a step keeps the times
-abbrev Timed : Row → Option Row → Type 0
+abbrev Timed : TupleView → Option TupleView → Type 0
 Timed t None = Unit {0}
 Timed t (Some u) = (u.at ≡ t.at) × (u.from ≡ t.from)
 
-passed_timed : (s : Stage) (t : Row) → Timed t (passed s t)
+passed_timed : (s : Stage) (t : TupleView) → Timed t (passed s t)
 passed_timed (Keep c) t = go (all_true c t None)
   where
     go : (b : Bool) → Timed t (cond b (Some t) None)
@@ -40,28 +40,28 @@ passed_timed (Keep c) t = go (all_true c t None)
     go false = tt
 passed_timed (Make m) t = (refl, refl)
 
-pass_timed : (step : List Stage) (t : Row) → Timed t (pass step t)
+pass_timed : (step : List Stage) (t : TupleView) → Timed t (pass step t)
 pass_timed [] t = (refl, refl)
 pass_timed (s ∷ step) t = go (pass_timed step) (passed s t) (passed_timed s t)
   where
-    go : ((u : Row) → Timed u (pass step u)) → (o : Option Row) → Timed t o → Timed t (option_and_then (pass step) o)
+    go : ((u : TupleView) → Timed u (pass step u)) → (o : Option TupleView) → Timed t o → Timed t (option_and_then (pass step) o)
     go more None h = tt
     go more (Some u) h = onward (pass step u) (more u)
       where
-        onward : (o : Option Row) → Timed u o → Timed t o
+        onward : (o : Option TupleView) → Timed u o → Timed t o
         onward None g = tt
         onward (Some v) g = (g.0 ∙ h.0, g.1 ∙ h.1)
 
 -- so a cut by time may come before it or after it
-pub pass_cut : (test : ℕ → Bool) (step : List Stage) (ts : List Row) → filter (λ t. test t.at) (filter_map (pass step) ts) ≡ filter_map (pass step) (filter (λ t. test t.at) ts)
+pub pass_cut : (test : ℕ → Bool) (step : List Stage) (ts : List TupleView) → filter (λ t. test t.at) (filter_map (pass step) ts) ≡ filter_map (pass step) (filter (λ t. test t.at) ts)
 pass_cut test step [] = refl
 pass_cut test step (t ∷ ts) = go (pass_cut test step ts) (pass step t) refl (pass_timed step t)
   where
-    go : filter (λ t. test t.at) (filter_map (pass step) ts) ≡ filter_map (pass step) (filter (λ t. test t.at) ts) → (o : Option Row) → pass step t ≡ o → Timed t o
+    go : filter (λ t. test t.at) (filter_map (pass step) ts) ≡ filter_map (pass step) (filter (λ t. test t.at) ts) → (o : Option TupleView) → pass step t ≡ o → Timed t o
         → filter (λ t. test t.at) (cons_option o (filter_map (pass step) ts)) ≡ filter_map (pass step) (cond (test t.at) (t ∷ filter (λ t. test t.at) ts) (filter (λ t. test t.at) ts))
     go rest o e h = branch (test t.at) refl o e h
       where
-        branch : (b : Bool) → test t.at ≡ b → (o : Option Row) → pass step t ≡ o → Timed t o
+        branch : (b : Bool) → test t.at ≡ b → (o : Option TupleView) → pass step t ≡ o → Timed t o
             → filter (λ t. test t.at) (cons_option o (filter_map (pass step) ts)) ≡ filter_map (pass step) (cond b (t ∷ filter (λ t. test t.at) ts) (filter (λ t. test t.at) ts))
         branch true is None e h = rest ∙ ap (λ o. cons_option o (filter_map (pass step) (filter (λ t. test t.at) ts))) (sym e)
         branch true is (Some u) e h =
@@ -72,16 +72,16 @@ pass_cut test step (t ∷ ts) = go (pass_cut test step ts) (pass step t) refl (p
             ap (λ b. cond b (u ∷ filter (λ t. test t.at) (filter_map (pass step) ts)) (filter (λ t. test t.at) (filter_map (pass step) ts))) (ap test h.0 ∙ is) ∙ rest
 
 -- what passes a step has its times
-pub pass_past : (time : ℕ) (step : List Stage) (ts : List Row) → All (IsPast time) ts → All (IsPast time) (filter_map (pass step) ts)
+pub pass_past : (time : ℕ) (step : List Stage) (ts : List TupleView) → All (IsPast time) ts → All (IsPast time) (filter_map (pass step) ts)
 pass_past time step [] all = All-nil (IsPast time)
 pass_past time step (t ∷ ts) all = go (pass_past time step ts (All-tail (IsPast time) t ts all)) (pass step t) (pass_timed step t) (All-head (IsPast time) t ts all)
   where
-    go : All (IsPast time) (filter_map (pass step) ts) → (o : Option Row) → Timed t o → IsPast time t → All (IsPast time) (cons_option o (filter_map (pass step) ts))
+    go : All (IsPast time) (filter_map (pass step) ts) → (o : Option TupleView) → Timed t o → IsPast time t → All (IsPast time) (cons_option o (filter_map (pass step) ts))
     go rest None h k = rest
     go rest (Some u) h k = All-cons (IsPast time) u (filter_map (pass step) ts) (subst (λ from. from ≤ u.at) (sym h.1) (subst (λ at. t.from ≤ at) (sym h.0) k.0), subst (λ at. at ≤ time) (sym h.0) k.1) rest
 
 -- what flows out of the state of a prefix in an epoch, over bindings
-abbrev pub flow_rows : Streams → Streams → Prefix → List Row
+abbrev pub flow_rows : Streams → Streams → Prefix → List TupleView
 flow_rows now earlier (Root s) = now s
 flow_rows now earlier (After p h) = flat_map (taken h.wait.choose h.wait.fold (now h.wait.stream)) (waiting earlier p h)
 

@@ -10,6 +10,6 @@ pub mod Lists
 pub mod Networks
 pub mod Purges
 pub mod Standing
-pub mod Stands
+pub mod StoresStandFor
 pub mod Streams
 pub mod Waits

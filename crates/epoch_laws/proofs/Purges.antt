@@ -12,7 +12,7 @@ use Rattle.event_types.specs.declared.comparison.Cmp.{Cmp}
 use Rattle.event_types.specs.declared.comparison.Cmp.TheVariants as cmp
 use Rattle.event_types.specs.declared.value.Value.{Value}
 use Rattle.event_types.specs.declared.value.Value.TheVariants as value
-use Rattle.event_types.specs.Tuple.{Row}
+use Rattle.event_types.specs.Tuple.{TupleView}
 use Rattle.semantics.specs.Denotation.{joined}
 use Rattle.semantics.specs.Nexts.{is_eligible}
 use Rattle.semantics.specs.Runs.{rebound}
@@ -30,15 +30,15 @@ use Rattle.epoch_laws.proofs.Bags.{permuted_is, flat_map_alike, no_length}
 use Rattle.epoch_laws.proofs.Lists.{and-false, every, filter-filter, filter_false, flat_map-filter}
 
 -- what is left of bindings after an epoch
-abbrev pub rest_of : List Pr → List Row → List Row → List Row
+abbrev pub rest_of : List Pr → List TupleView → List TupleView → List TupleView
 rest_of choose tuples bindings = filter (is_unmet choose tuples) bindings
 
 -- bindings that step through an epoch
-abbrev pub rows_stepped : List Pr → Option Turn → List Row → List Row → List Row → List Row
+abbrev pub rows_stepped : List Pr → Option Turn → List TupleView → List TupleView → List TupleView → List TupleView
 rows_stepped choose turn tuples entered bindings = rest_of choose tuples bindings ++ (entered ++ again turn (flat_map (taken choose turn tuples) bindings))
 
 -- bindings that are within those that wait and have the same alive ones
-pub record IsStored (now : ℕ) (p : List Pr) (store waits : List Row) : Type 0 where
+pub record IsStored (now : ℕ) (p : List Pr) (store waits : List TupleView) : Type 0 where
   pub within : IsWithin store waits
   pub alive_same : IsPermutation (alive now p store) (alive now p waits)
 
@@ -66,7 +66,7 @@ is_le_not : (x y : ℤ) → int_lt x y ≡ false → int_lt y x ≡ true → is_
 is_le_not x y e f = λ i. is_le (cond (e i) Less (cond (f i) Greater Equal))
 
 -- only a bound on DUR isn't met
-fixed_met : (now : ℕ) (b : Row) (place : ℕ) (c : Cmp) (v : Value) → meets_bound now b (fixed place c v) ≡ true
+fixed_met : (now : ℕ) (b : TupleView) (place : ℕ) (c : Cmp) (v : Value) → meets_bound now b (fixed place c v) ≡ true
 fixed_met now b place cmp.Eq v = refl
 fixed_met now b place cmp.Ne v = refl
 fixed_met now b place cmp.Lt v = refl
@@ -74,7 +74,7 @@ fixed_met now b place cmp.Le v = refl
 fixed_met now b place cmp.Gt v = refl
 fixed_met now b place cmp.Ge v = refl
 
-keyed_met : (now : ℕ) (b : Row) (place : ℕ) (c : Cmp) (bound : ℕ) → meets_bound now b (keyed place c bound) ≡ true
+keyed_met : (now : ℕ) (b : TupleView) (place : ℕ) (c : Cmp) (bound : ℕ) → meets_bound now b (keyed place c bound) ≡ true
 keyed_met now b place cmp.Eq bound = refl
 keyed_met now b place cmp.Ne bound = refl
 keyed_met now b place cmp.Lt bound = refl
@@ -86,12 +86,12 @@ not_both : {P : Type 0} (x : Bool) → x ≡ true → x ≡ false → P
 not_both x e f = let no : true ≡ false = sym e ∙ f in absurd (cc)
 
 -- a part whose bound isn't met at a time is false at it and later
-dead_bound : (now : ℕ) (b r : Row) → now ≤ r.at → (c : Cmp) (most : ℤ) → meets_bound now b (bounded c most) ≡ false → truth (Test Dur c (Lit (value.Int most))) r (Some b) ≡ false
+dead_bound : (now : ℕ) (b r : TupleView) → now ≤ r.at → (c : Cmp) (most : ℤ) → meets_bound now b (bounded c most) ≡ false → truth (Test Dur c (Lit (value.Int most))) r (Some b) ≡ false
 dead_bound now b r le cmp.Lt most e = is_lt_not (pos r.at -ℤ pos b.from) most (not_lower now r.at b.from most le e)
 dead_bound now b r le cmp.Le most e = is_le_not (pos r.at -ℤ pos b.from) most (not_within now r.at b.from most le e) (beyond now r.at b.from most le e)
 dead_bound now b r le c most e = absurd (cc)
 
-dead_part : (now : ℕ) (b r : Row) → now ≤ r.at → (q : Pr) → meets_bound now b (class_of q) ≡ false → truth q r (Some b) ≡ false
+dead_part : (now : ℕ) (b r : TupleView) → now ≤ r.at → (q : Pr) → meets_bound now b (class_of q) ≡ false → truth q r (Some b) ≡ false
 dead_part now b r le (Test Dur c (Lit (value.Int most))) e = dead_bound now b r le c most e
 dead_part now b r le (Test (Event place) c (Lit v)) e = not_both (meets_bound now b (fixed place c v)) (fixed_met now b place c v) e
 dead_part now b r le (Test (Lit v) c (Event place)) e = not_both (meets_bound now b (fixed place (exchanged c) v)) (fixed_met now b place (exchanged c) v) e
@@ -99,12 +99,12 @@ dead_part now b r le (Test (Event place) c (Binding bound)) e = not_both (meets_
 dead_part now b r le (Test (Binding bound) c (Event place)) e = not_both (meets_bound now b (keyed place c bound)) (keyed_met now b place c bound) e
 dead_part now b r le q e = absurd (cc)
 
-dead_bound_later : (now later : ℕ) (b : Row) → now ≤ later → (c : Cmp) (most : ℤ) → meets_bound now b (bounded c most) ≡ false → meets_bound later b (bounded c most) ≡ false
+dead_bound_later : (now later : ℕ) (b : TupleView) → now ≤ later → (c : Cmp) (most : ℤ) → meets_bound now b (bounded c most) ≡ false → meets_bound later b (bounded c most) ≡ false
 dead_bound_later now later b le cmp.Lt most e = not_lower now later b.from most le e
 dead_bound_later now later b le cmp.Le most e = still_beyond now later b.from most le e
 dead_bound_later now later b le c most e = absurd (cc)
 
-dead_later : (now later : ℕ) (b : Row) → now ≤ later → (q : Pr) → meets_bound now b (class_of q) ≡ false → meets_bound later b (class_of q) ≡ false
+dead_later : (now later : ℕ) (b : TupleView) → now ≤ later → (q : Pr) → meets_bound now b (class_of q) ≡ false → meets_bound later b (class_of q) ≡ false
 dead_later now later b le (Test Dur c (Lit (value.Int most))) e = dead_bound_later now later b le c most e
 dead_later now later b le (Test (Event place) c (Lit v)) e = not_both (meets_bound now b (fixed place c v)) (fixed_met now b place c v) e
 dead_later now later b le (Test (Lit v) c (Event place)) e = not_both (meets_bound now b (fixed place (exchanged c) v)) (fixed_met now b place (exchanged c) v) e
@@ -123,41 +123,41 @@ module _ {X : Type 0} (p q : X → Bool) (falls : (x : X) → p x ≡ false → 
       go rest false is e = ap (λ b. b && list_all q xs) (falls x is)
 
 -- no later event is eligible for a binding that is dead
-pub dead_stay_dead : (now : ℕ) (p : List Pr) (b r : Row) → is_alive now p b ≡ false → now ≤ r.at → is_eligible p b r ≡ false
+pub dead_stay_dead : (now : ℕ) (p : List Pr) (b r : TupleView) → is_alive now p b ≡ false → now ≤ r.at → is_eligible p b r ≡ false
 dead_stay_dead now p b r e le =
     ap (λ t. nat_lt b.at r.from && t) (all_falls (λ part. meets_bound now b (class_of part)) (λ q. truth q r (Some b)) (dead_part now b r le) p e) ∙ and-false (nat_lt b.at r.from)
 
 -- what is dead stays dead
-pub dead_on : (now later : ℕ) (p : List Pr) (b : Row) → now ≤ later → is_alive now p b ≡ false → is_alive later p b ≡ false
+pub dead_on : (now later : ℕ) (p : List Pr) (b : TupleView) → now ≤ later → is_alive now p b ≡ false → is_alive later p b ≡ false
 dead_on now later p b le e = all_falls (λ part. meets_bound now b (class_of part)) (λ part. meets_bound later b (class_of part)) (dead_later now later b le) p e
 
 -- those that are alive later are those of them that are alive earlier
-pub alive_alive : (now later : ℕ) (p : List Pr) (bs : List Row) → now ≤ later → alive later p (alive now p bs) ≡ alive later p bs
+pub alive_alive : (now later : ℕ) (p : List Pr) (bs : List TupleView) → now ≤ later → alive later p (alive now p bs) ≡ alive later p bs
 alive_alive now later p bs le =
     filter-filter (is_alive later p) (is_alive now p) bs
     ∙ filter_agree (λ b. is_alive now p b && is_alive later p b) (is_alive later p) (λ b. go b (is_alive now p b) refl) bs
   where
-    go : (b : Row) (t : Bool) → is_alive now p b ≡ t → (t && is_alive later p b) ≡ is_alive later p b
+    go : (b : TupleView) (t : Bool) → is_alive now p b ≡ t → (t && is_alive later p b) ≡ is_alive later p b
     go b true e = refl
     go b false e = sym (dead_on now later p b le e)
 
 -- bags are empty together
-empty_permuted : (xs ys : List Row) → IsPermutation xs ys → is_empty xs ≡ is_empty ys
+empty_permuted : (xs ys : List TupleView) → IsPermutation xs ys → is_empty xs ≡ is_empty ys
 empty_permuted xs ys h = go xs ys (length_permutation xs ys h)
   where
-    go : (xs ys : List Row) → length ys ≡ length xs → is_empty xs ≡ is_empty ys
+    go : (xs ys : List TupleView) → length ys ≡ length xs → is_empty xs ≡ is_empty ys
     go [] [] e = refl
     go [] (y ∷ ys) e = absurd (omega arith)
     go (x ∷ xs) [] e = absurd (omega arith)
     go (x ∷ xs) (y ∷ ys) e = refl
 
 -- a purge that is done once more changes nothing
-filter-filter_same : (now : ℕ) (p : List Pr) (bs : List Row) → alive now p (alive now p bs) ≡ alive now p bs
+filter-filter_same : (now : ℕ) (p : List Pr) (bs : List TupleView) → alive now p (alive now p bs) ≡ alive now p bs
 filter-filter_same now p bs = alive_alive now now p bs (omega arith)
 
 module _ (now : ℕ) (p : List Pr) where
   -- a store with all that is alive, and nothing but what waits, holds what waits
-  pub between_holds : (store waits : List Row) → IsWithin (alive now p waits) store → IsWithin store waits → IsStored now p store waits
+  pub between_holds : (store waits : List TupleView) → IsWithin (alive now p waits) store → IsWithin store waits → IsStored now p store waits
   between_holds store waits low high = record { within = high; alive_same = permuted_from (sym (append-nil (alive now p store)) ∙ ap (λ ys. alive now p store ++ ys) (sym none)) over }
     where
       over : IsPermutation (alive now p store ++ alive now p high.0) (alive now p waits)
@@ -174,7 +174,7 @@ module _ (now : ℕ) (p : List Pr) where
           (omega (arith, length_permutation _ _ over, length_permutation _ _ under, length-append (alive now p store) (alive now p high.0), length-append (alive now p waits) (alive now p low.0)))
 
   -- and a store that holds it has all that is alive
-  pub holds_between : (store waits : List Row) → IsStored now p store waits → IsWithin (alive now p waits) store
+  pub holds_between : (store waits : List TupleView) → IsStored now p store waits → IsWithin (alive now p waits) store
   holds_between store waits h = (
     filter (λ b. not (is_alive now p b)) store,
     IsPermutation-trans _ _ _ (IsPermutation-append_left (filter (λ b. not (is_alive now p b)) store) (alive now p waits) (alive now p store) (IsPermutation-sym _ _ h.alive_same))
@@ -182,7 +182,7 @@ module _ (now : ℕ) (p : List Pr) where
   )
 
 -- a purged store holds it still
-pub purge_holds : (now later : ℕ) (p : List Pr) (store waits : List Row) → now ≤ later → IsStored now p store waits → IsStored later p (alive later p store) waits
+pub purge_holds : (now later : ℕ) (p : List Pr) (store waits : List TupleView) → now ≤ later → IsStored now p store waits → IsStored later p (alive later p store) waits
 purge_holds now later p store waits le h = record {
   within = (
     filter (λ b. not (is_alive later p b)) store ++ h.within.0,
@@ -200,17 +200,17 @@ purge_holds now later p store waits le h = record {
 -- what a store gives
 module _ (now : ℕ) (p : List Pr) (turn : Option Turn) where
   -- bindings that aren't alive give nothing
-  took_alive : (new bs : List Row) → All (λ r. now ≤ r.at) new → flat_map (taken p turn new) bs ≡ flat_map (taken p turn new) (alive now p bs)
+  took_alive : (new bs : List TupleView) → All (λ r. now ≤ r.at) new → flat_map (taken p turn new) bs ≡ flat_map (taken p turn new) (alive now p bs)
   took_alive new bs late = flat_map-filter (is_alive now p) (λ _. Unit {0}) (taken p turn new) (taken p turn new) (λ b _ _. refl) (λ b _ e. none b e turn) bs (λ _ _ _. tt)
     where
-      unmet : (b : Row) → is_alive now p b ≡ false → filter (is_eligible p b) new ≡ []
+      unmet : (b : TupleView) → is_alive now p b ≡ false → filter (is_eligible p b) new ≡ []
       unmet b e = filter_false (is_eligible p b) new (All-weaker (λ r. now ≤ r.at) (λ r. is_eligible p b r ≡ false) (λ r le. dead_stay_dead now p b r e le) new late)
 
-      none : (b : Row) → is_alive now p b ≡ false → (turn : Option Turn) → taken p turn new b ≡ []
+      none : (b : TupleView) → is_alive now p b ≡ false → (turn : Option Turn) → taken p turn new b ≡ []
       none b e None = ap (map (joined b)) (unmet b e)
       none b e (Some t) = ap (λ rs. map (rebound t.set.parts b) (filter (λ r. all_true t.on r (Some b)) rs)) (unmet b e)
 
-  taken_permuted : (news new : List Row) → IsPermutation news new → (b : Row) → IsPermutation (taken p turn news b) (taken p turn new b)
+  taken_permuted : (news new : List TupleView) → IsPermutation news new → (b : TupleView) → IsPermutation (taken p turn news b) (taken p turn new b)
   taken_permuted news new h b = go turn
     where
       found : IsPermutation (filter (is_eligible p b) news) (filter (is_eligible p b) new)
@@ -221,36 +221,36 @@ module _ (now : ℕ) (p : List Pr) (turn : Option Turn) where
       go (Some t) = IsPermutation-map (rebound t.set.parts b) _ _ (filter_permuted (λ r. all_true t.on r (Some b)) _ _ found)
 
   -- a store gives what the waiting bindings give
-  pub store_gives : (new news store waits : List Row) → All (λ r. now ≤ r.at) new → IsPermutation news new → IsStored now p store waits → IsPermutation (flat_map (taken p turn news) store) (flat_map (taken p turn new) waits)
+  pub store_gives : (new news store waits : List TupleView) → All (λ r. now ≤ r.at) new → IsPermutation news new → IsStored now p store waits → IsPermutation (flat_map (taken p turn news) store) (flat_map (taken p turn new) waits)
   store_gives new news store waits late h holds =
       IsPermutation-trans _ _ _ (flat_map_alike (taken p turn news) (taken p turn new) store (every (λ b. IsPermutation (taken p turn news b) (taken p turn new b)) (taken_permuted news new h) store))
       (permuted_from (took_alive new store late)
       (permuted_to (flat_map_permuted (taken p turn new) (alive now p store) (alive now p waits) holds.alive_same) (sym (took_alive new waits late))))
 
-  again_permuted : (xs ys : List Row) → IsPermutation xs ys → IsPermutation (again turn xs) (again turn ys)
+  again_permuted : (xs ys : List TupleView) → IsPermutation xs ys → IsPermutation (again turn xs) (again turn ys)
   again_permuted xs ys h = go turn
     where
       go : (turn : Option Turn) → IsPermutation (again turn xs) (again turn ys)
       go None = IsPermutation-refl []
       go (Some t) = h
 
-  left_alike : (news new bs : List Row) → IsPermutation news new → rest_of p news bs ≡ rest_of p new bs
+  left_alike : (news new bs : List TupleView) → IsPermutation news new → rest_of p news bs ≡ rest_of p new bs
   left_alike news new bs h =
       filter_agree (λ b. is_unmet p news b) (λ b. is_unmet p new b) (λ b. empty_permuted _ _ (filter_permuted (is_eligible p b) news new h)) bs
 
   -- what is left of such a store is such a store of what is left
-  left_alive : (later : ℕ) → now ≤ later → (new store waits : List Row) → IsStored now p store waits → IsPermutation (alive later p (rest_of p new store)) (alive later p (rest_of p new waits))
+  left_alive : (later : ℕ) → now ≤ later → (new store waits : List TupleView) → IsStored now p store waits → IsPermutation (alive later p (rest_of p new store)) (alive later p (rest_of p new waits))
   left_alive later le new store waits holds =
       permuted_from (swapped store) (permuted_to (filter_permuted stands _ _ (filter_permuted (is_alive later p) _ _ holds.alive_same)) (sym (swapped waits)))
     where
-      stands : Row → Bool
+      stands : TupleView → Bool
       stands b = is_unmet p new b
 
-      swapped : (bs : List Row) → alive later p (rest_of p new bs) ≡ filter stands (alive later p (alive now p bs))
+      swapped : (bs : List TupleView) → alive later p (rest_of p new bs) ≡ filter stands (alive later p (alive now p bs))
       swapped bs = filter_swap (is_alive later p) stands bs ∙ ap (filter stands) (sym (alive_alive now later p bs le))
 
   -- and keeps what they keep
-  pub store_keeps : (later : ℕ) (new news entered enters store waits after : List Row) → now ≤ later → All (λ r. now ≤ r.at) new → IsPermutation news new → IsPermutation enters entered
+  pub store_keeps : (later : ℕ) (new news entered enters store waits after : List TupleView) → now ≤ later → All (λ r. now ≤ r.at) new → IsPermutation news new → IsPermutation enters entered
       → IsStored now p store waits → IsPermutation after (rows_stepped p turn new entered waits) → IsStored later p (rows_stepped p turn news enters store) after
   store_keeps later new news entered enters store waits after le late h k holds is = record {
     within = (

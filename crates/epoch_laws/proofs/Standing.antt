@@ -11,7 +11,7 @@ use Rattle.event_types.specs.Order.{sorted}
 use Rattle.event_types.specs.Tuple.{IsSound}
 use Rattle.instances.specs.Bounds.{alive_instances}
 use Rattle.semantics.specs.Denotation.{Streams}
-use Rattle.semantics.specs.Histories.{Heard, heard_on}
+use Rattle.semantics.specs.Histories.{Event, heard_on}
 use Rattle.semantics.specs.Laws.{NeverFalls}
 use Rattle.semantics.specs.Programs.{Program}
 use Rattle.semantics.specs.Results.{results}
@@ -28,22 +28,22 @@ use Rattle.epoch_laws.specs.Batch.{Agree}
 use Rattle.epoch_laws.specs.Closing.{ArePurged, IsEpoch, Stores, stores_after}
 use Rattle.epoch_laws.specs.Histories.{events_before, events_during, streams_over}
 use Rattle.epoch_laws.specs.Instances.{bindings_of}
-use Rattle.epoch_laws.specs.Standing.{MayFollow, StandsFor, closed_part, last_time, next_time, open_part}
-use Rattle.epoch_laws.specs.Stands.{Serves, Stands}
+use Rattle.epoch_laws.specs.Standing.{MayFollow, PartsStandFor, closed_part, last_time, next_time, open_part}
+use Rattle.epoch_laws.specs.StoresStandFor.{Serves, StoresStandFor}
 use Rattle.epoch_laws.specs.Times.{during}
 use Rattle.epoch_laws.proofs.Batches.{batch_is_results}
 use Rattle.epoch_laws.proofs.Lists.{filter_false}
 use Rattle.epoch_laws.proofs.Networks.{is_stored}
-use Rattle.epoch_laws.proofs.Stands.{alive_bindings, stands_at_start, stands_closed, stands_purged}
+use Rattle.epoch_laws.proofs.StoresStandFor.{alive_bindings, stands_at_start, stands_closed, stands_purged}
 
 -- the last time of a history
-last_of : (history : List Heard) (event : Heard) → last_time (history ++ event ∷ []) ≡ Some event.tuple.at
+last_of : (history : List Event) (event : Event) → last_time (history ++ event ∷ []) ≡ Some event.tuple.at
 last_of [] event = refl
 last_of (first ∷ []) event = refl
 last_of (first ∷ next ∷ later) event = last_of (next ∷ later) event
 
 -- no event is later than it
-by_last : (history : List Heard) (time : ℕ) → NeverFalls history → last_time history ≡ Some time → All (λ e. e.tuple.at ≤ time) history
+by_last : (history : List Event) (time : ℕ) → NeverFalls history → last_time history ≡ Some time → All (λ e. e.tuple.at ≤ time) history
 by_last [] time falls is = absurd (cc)
 by_last (event ∷ []) time falls is = All-cons (λ e. e.tuple.at ≤ time) event [] (under event.tuple.at same) (All-nil (λ e. e.tuple.at ≤ time))
   where
@@ -60,7 +60,7 @@ by_last (event ∷ next ∷ later) time falls is =
     through h g = omega arith
 
 -- the next time is at most one that all events are before
-next_below : (history : List Heard) (time : ℕ) → All (λ e. e.tuple.at < time) history → next_time (last_time history) ≤ time
+next_below : (history : List Event) (time : ℕ) → All (λ e. e.tuple.at < time) history → next_time (last_time history) ≤ time
 next_below [] time all = omega arith
 next_below (event ∷ []) time all = below (All-head (λ e. e.tuple.at < time) event [] all)
   where
@@ -69,7 +69,7 @@ next_below (event ∷ []) time all = below (All-head (λ e. e.tuple.at < time) e
 next_below (event ∷ next ∷ later) time all = next_below (next ∷ later) time (All-tail (λ e. e.tuple.at < time) event (next ∷ later) all)
 
 -- a history with an event of the last time at its end
-falls_on : (history : List Heard) (event : Heard) → NeverFalls history → All (λ e. e.tuple.at ≤ event.tuple.at) history → NeverFalls (history ++ event ∷ [])
+falls_on : (history : List Event) (event : Event) → NeverFalls history → All (λ e. e.tuple.at ≤ event.tuple.at) history → NeverFalls (history ++ event ∷ [])
 falls_on [] event falls all = (All-nil (λ late. event.tuple.at ≤ late.tuple.at), tt)
 falls_on (first ∷ later) event falls all = (
   All-append (λ late. first.tuple.at ≤ late.tuple.at) later (event ∷ []) falls.0 (All-cons (λ late. first.tuple.at ≤ late.tuple.at) event [] (All-head (λ e. e.tuple.at ≤ event.tuple.at) first later all) (All-nil (λ late. first.tuple.at ≤ late.tuple.at))),
@@ -102,7 +102,7 @@ at_least : (at late time : ℕ) → at ≡ time → at ≤ late → late ≤ tim
 at_least at late time e h g = omega arith
 
 -- the history is its closed part and then the events of the last time
-parts_are : (history : List Heard) (time : ℕ) → NeverFalls history → All (λ e. e.tuple.at ≤ time) history → events_before time history ++ events_during time history ≡ history
+parts_are : (history : List Event) (time : ℕ) → NeverFalls history → All (λ e. e.tuple.at ≤ time) history → events_before time history ++ events_during time history ≡ history
 parts_are [] time falls all = refl
 parts_are (event ∷ later) time falls all = go (parts_are later time falls.1 (All-tail (λ e. e.tuple.at ≤ time) event later all)) (nat_lt event.tuple.at time) refl
   where
@@ -125,23 +125,23 @@ parts_are (event ∷ later) time falls all = go (parts_are later time falls.1 (A
         all_now : events_during time (event ∷ later) ≡ event ∷ later
         all_now = filter_all (λ e. e.tuple.at == time) (event ∷ later) (All-weaker (λ e. e.tuple.at ≡ time) (λ e. (e.tuple.at == time) ≡ true) (λ e h. now_now e.tuple.at time h) (event ∷ later) (All-cons (λ e. e.tuple.at ≡ time) event later same late))
 
-heard_more : (history more : List Heard) (s : ℕ) → heard_on (history ++ more) s ≡ heard_on history s ++ heard_on more s
-heard_more history more s = ap (map (λ e. e.tuple)) (filter-append (λ e. e.stream == s) history more) ∙ map-append (λ (e : Heard). e.tuple) (filter (λ e. e.stream == s) history) (filter (λ e. e.stream == s) more)
+heard_more : (history more : List Event) (s : ℕ) → heard_on (history ++ more) s ≡ heard_on history s ++ heard_on more s
+heard_more history more s = ap (map (λ e. e.tuple)) (filter-append (λ e. e.stream == s) history more) ∙ map-append (λ (e : Event). e.tuple) (filter (λ e. e.stream == s) history) (filter (λ e. e.stream == s) more)
 
 -- a history that grows by an event of a time
-before_more : (history : List Heard) (event : Heard) → events_before event.tuple.at (history ++ event ∷ []) ≡ events_before event.tuple.at history
+before_more : (history : List Event) (event : Event) → events_before event.tuple.at (history ++ event ∷ []) ≡ events_before event.tuple.at history
 before_more history event =
     filter-append (λ e. nat_lt e.tuple.at event.tuple.at) history (event ∷ [])
     ∙ ap (λ b. events_before event.tuple.at history ++ cond b (event ∷ []) []) (old_now event.tuple.at event.tuple.at refl)
     ∙ append-nil (events_before event.tuple.at history)
 
-during_more : (history : List Heard) (event : Heard) → events_during event.tuple.at (history ++ event ∷ []) ≡ events_during event.tuple.at history ++ event ∷ []
+during_more : (history : List Event) (event : Event) → events_during event.tuple.at (history ++ event ∷ []) ≡ events_during event.tuple.at history ++ event ∷ []
 during_more history event =
     filter-append (λ e. e.tuple.at == event.tuple.at) history (event ∷ [])
     ∙ ap (λ b. events_during event.tuple.at history ++ cond b (event ∷ []) []) (now_now event.tuple.at event.tuple.at refl)
 
 -- at the start the stores stand for no events
-pub start_stands : (net : Net) (lines : List Line) (order : List ℕ) → StandsFor net lines order (λ _. []) None (λ _. []) None []
+pub start_stands : (net : Net) (lines : List Line) (order : List ℕ) → PartsStandFor net lines order (λ _. []) None (λ _. []) None []
 start_stands net lines order = record {
   sound = All-nil (λ e. IsSound e.tuple);
   never_falls = tt;
@@ -152,12 +152,12 @@ start_stands net lines order = record {
 }
 
 -- an offer
-module _ (net : Net) (lines : List Line) (order : List ℕ) (stores : Stores) (tuples more : Streams) (closed_time : Option ℕ) (history : List Heard) (event : Heard)
+module _ (net : Net) (lines : List Line) (order : List ℕ) (stores : Stores) (tuples more : Streams) (closed_time : Option ℕ) (history : List Event) (event : Event)
     (sound : IsSound event.tuple) (added : (s : ℕ) → IsPermutation (more s) (tuples s ++ heard_on (event ∷ []) s)) where
-  grown : (open_time : Option ℕ) → StandsFor net lines order stores open_time tuples closed_time history → All (λ e. e.tuple.at ≤ event.tuple.at) history
+  grown : (open_time : Option ℕ) → PartsStandFor net lines order stores open_time tuples closed_time history → All (λ e. e.tuple.at ≤ event.tuple.at) history
       → closed_part (Some event.tuple.at) (history ++ event ∷ []) ≡ closed_part open_time history
       → open_part (Some event.tuple.at) (history ++ event ∷ []) ≡ open_part open_time history ++ event ∷ []
-      → StandsFor net lines order stores (Some event.tuple.at) more closed_time (history ++ event ∷ [])
+      → PartsStandFor net lines order stores (Some event.tuple.at) more closed_time (history ++ event ∷ [])
   grown open_time stands before same_closed now_open = record {
     sound = All-append (λ e. IsSound e.tuple) history (event ∷ []) stands.sound (All-cons (λ e. IsSound e.tuple) event [] sound (All-nil (λ e. IsSound e.tuple)));
     never_falls = falls_on history event stands.never_falls before;
@@ -165,15 +165,15 @@ module _ (net : Net) (lines : List Line) (order : List ℕ) (stores : Stores) (t
     closed_is_last = ap last_time same_closed ∙ stands.closed_is_last;
     tuples_are_open = λ s.
         permuted_to (IsPermutation-trans _ _ _ (added s) (IsPermutation-append_left (heard_on (event ∷ []) s) (tuples s) (heard_on (open_part open_time history) s) (stands.tuples_are_open s)))
-        (sym (heard_more (open_part open_time history) (event ∷ []) s) ∙ ap (λ (h : List Heard). heard_on h s) (sym now_open));
-    stores_stand = subst (λ (h : List Heard). Stands net lines order (next_time closed_time) stores h) (sym same_closed) stands.stores_stand;
+        (sym (heard_more (open_part open_time history) (event ∷ []) s) ∙ ap (λ (h : List Event). heard_on h s) (sym now_open));
+    stores_stand = subst (λ (h : List Event). StoresStandFor net lines order (next_time closed_time) stores h) (sym same_closed) stands.stores_stand;
   }
 
   -- with one more event they stand for it too
-  pub offer_stands : (open_time : Option ℕ) → StandsFor net lines order stores open_time tuples closed_time history → MayFollow open_time closed_time event.tuple.at
-      → StandsFor net lines order stores (Some event.tuple.at) more closed_time (history ++ event ∷ [])
+  pub offer_stands : (open_time : Option ℕ) → PartsStandFor net lines order stores open_time tuples closed_time history → MayFollow open_time closed_time event.tuple.at
+      → PartsStandFor net lines order stores (Some event.tuple.at) more closed_time (history ++ event ∷ [])
   offer_stands (Some time) stands follows =
-      let here = subst (λ t. StandsFor net lines order stores (Some t) tuples closed_time history) (sym follows) stands in
+      let here = subst (λ t. PartsStandFor net lines order stores (Some t) tuples closed_time history) (sym follows) stands in
       grown (Some event.tuple.at) here (by_last history event.tuple.at here.never_falls here.open_is_last) (before_more history event) (during_more history event)
   offer_stands None stands follows =
       grown None stands (All-weaker (λ e. IsSound e.tuple × (e.tuple.at < next_time closed_time)) (λ e. e.tuple.at ≤ event.tuple.at) (λ e h. under e.tuple.at h.1) history stands.stores_stand.before)
@@ -187,8 +187,8 @@ module _ (net : Net) (lines : List Line) (order : List ℕ) (stores : Stores) (t
       earlier at h = omega (arith, follows)
 
 -- a closing
-module _ (net : Net) (lines : List Line) (order : List ℕ) (stores : Stores) (time : ℕ) (tuples news : Streams) (closed_time : Option ℕ) (history : List Heard)
-    (serves : Serves net lines order) (stands : StandsFor net lines order stores (Some time) tuples closed_time history) (epoch : IsEpoch net order stores tuples news) where
+module _ (net : Net) (lines : List Line) (order : List ℕ) (stores : Stores) (time : ℕ) (tuples news : Streams) (closed_time : Option ℕ) (history : List Event)
+    (serves : Serves net lines order) (stands : PartsStandFor net lines order stores (Some time) tuples closed_time history) (epoch : IsEpoch net order stores tuples news) where
   past_and_now : events_before time history ++ events_during time history ≡ history
   past_and_now = parts_are history time stands.never_falls (by_last history time stands.never_falls stands.open_is_last)
 
@@ -208,29 +208,29 @@ module _ (net : Net) (lines : List Line) (order : List ℕ) (stores : Stores) (t
 
   -- after a closing they stand for the same events
   pub close_stands : (kept : Stores) → ArePurged (time + 1) net (stores_after net news stores) kept
-      → ((s : ℕ) → IsPermutation (news s) (during time (streams_over lines order history s))) × StandsFor net lines order kept None (λ _. []) (Some time) history
+      → ((s : ℕ) → IsPermutation (news s) (during time (streams_over lines order history s))) × PartsStandFor net lines order kept None (λ _. []) (Some time) history
   close_stands kept purged =
       let closed = stands_closed net lines order (next_time closed_time) time stores kept (events_before time history) (events_during time history) news serves stands.stores_stand in_time events_now heard_epoch purged in (
-        λ s. permuted_to (closed.0 s) (ap (λ (h : List Heard). during time (streams_over lines order h s)) past_and_now),
+        λ s. permuted_to (closed.0 s) (ap (λ (h : List Event). during time (streams_over lines order h s)) past_and_now),
         record {
           sound = stands.sound;
           never_falls = stands.never_falls;
           open_is_last = tt;
           closed_is_last = stands.open_is_last;
           tuples_are_open = λ s. IsPermutation-refl [];
-          stores_stand = subst (λ (h : List Heard). Stands net lines order (time + 1) kept h) past_and_now closed.1;
+          stores_stand = subst (λ (h : List Event). StoresStandFor net lines order (time + 1) kept h) past_and_now closed.1;
         },
       )
 
   -- a closing gives the results of a query
   pub closing_is_results : (program : Program) (stream : ℕ) → Agree lines order program history stream → sorted (news stream) ≡ results program history stream time
   closing_is_results program stream agree =
-      batch_is_results net lines order (next_time closed_time) time stores (events_before time history) (events_during time history) news program stream serves stands.stores_stand in_time events_now heard_epoch (subst (λ (h : List Heard). Agree lines order program h stream) (sym past_and_now) agree)
-      ∙ ap (λ (h : List Heard). results program h stream time) past_and_now
+      batch_is_results net lines order (next_time closed_time) time stores (events_before time history) (events_during time history) news program stream serves stands.stores_stand in_time events_now heard_epoch (subst (λ (h : List Event). Agree lines order program h stream) (sym past_and_now) agree)
+      ∙ ap (λ (h : List Event). results program h stream time) past_and_now
 
 -- a purge
-pub purge_stands : (net : Net) (lines : List Line) (order : List ℕ) (stores kept : Stores) (open_time : Option ℕ) (tuples : Streams) (closed_time : Option ℕ) (history : List Heard)
-    → StandsFor net lines order stores open_time tuples closed_time history → ArePurged (next_time closed_time) net stores kept → StandsFor net lines order kept open_time tuples closed_time history
+pub purge_stands : (net : Net) (lines : List Line) (order : List ℕ) (stores kept : Stores) (open_time : Option ℕ) (tuples : Streams) (closed_time : Option ℕ) (history : List Event)
+    → PartsStandFor net lines order stores open_time tuples closed_time history → ArePurged (next_time closed_time) net stores kept → PartsStandFor net lines order kept open_time tuples closed_time history
 purge_stands net lines order stores kept open_time tuples closed_time history stands purged = record {
   sound = stands.sound;
   never_falls = stands.never_falls;
@@ -241,8 +241,8 @@ purge_stands net lines order stores kept open_time tuples closed_time history st
 }
 
 -- what a purge leaves is what is alive
-pub trimmed_is_alive : (net : Net) (lines : List Line) (order : List ℕ) (stores : Stores) (open_time : Option ℕ) (tuples : Streams) (closed_time : Option ℕ) (history : List Heard)
-    → StandsFor net lines order stores open_time tuples closed_time history → (number : ℕ) (p : Prefix) (h : Hop) → IsAt net number (After p h)
+pub trimmed_is_alive : (net : Net) (lines : List Line) (order : List ℕ) (stores : Stores) (open_time : Option ℕ) (tuples : Streams) (closed_time : Option ℕ) (history : List Event)
+    → PartsStandFor net lines order stores open_time tuples closed_time history → (number : ℕ) (p : Prefix) (h : Hop) → IsAt net number (After p h)
     → IsPermutation (bindings_of (alive_instances (next_time closed_time) h.wait.choose (stores number))) (alive (next_time closed_time) h.wait.choose (waiting (streams_over lines order (closed_part open_time history)) p h))
 trimmed_is_alive net lines order stores open_time tuples closed_time history stands number p h at =
     permuted_from (alive_bindings (next_time closed_time) h.wait.choose (stores number))

@@ -4,9 +4,9 @@ use Rattle.std.specs.Prelude.{Option, Some, None}
 use Rattle.std.specs.List.{All, filter, filter_map, flat_map}
 use Rattle.std.proofs.lemmas.Bool.Decides.{nat_tests}
 use Rattle.std.proofs.lemmas.List.Elements.{filter_agree, All-nil, All-filter, All-map, All-weaker}
-use Rattle.event_types.specs.Tuple.{Row}
+use Rattle.event_types.specs.Tuple.{TupleView}
 use Rattle.semantics.specs.Denotation.{Streams}
-use Rattle.semantics.specs.Histories.{Heard, heard_on}
+use Rattle.semantics.specs.Histories.{Event, heard_on}
 use Rattle.semantics.specs.Programs.{with_stream}
 use Rattle.semantics.proofs.ListLemmas.{filter-map, filter_swap}
 use Rattle.automaton.specs.Flow.{derived, entering, flow, given}
@@ -27,7 +27,7 @@ use Rattle.epoch_laws.proofs.Lists.{All-flat_map, every, filter-flat_map, filter
 use Rattle.semantics.proofs.ReportLemmas.{flat_map_same}
 
 -- the other streams stay
-pub with_other : (env : Streams) (n : ℕ) (rows : List Row) (s : ℕ) → (s == n) ≡ false → with_stream env n rows s ≡ env s
+pub with_other : (env : Streams) (n : ℕ) (rows : List TupleView) (s : ℕ) → (s == n) ≡ false → with_stream env n rows s ≡ env s
 with_other env n rows s e = ap (λ b. cond b rows (env s)) e
 
 -- no tuple of a derived stream is later
@@ -38,7 +38,7 @@ module _ (time : ℕ) (lines : List Line) where
   derived_past : (env : Streams) → ArePast time env → (s : ℕ) → All (IsPast time) (derived lines env s)
   derived_past env past s = All-flat_map (IsPast time) (given env) (filter (λ l. l.out == s) lines) (every (λ l. All (IsPast time) (given env l)) (given_past env past) (filter (λ l. l.out == s) lines))
 
-  with_past : (env : Streams) → ArePast time env → (n : ℕ) (rows : List Row) → All (IsPast time) rows → ArePast time (with_stream env n rows)
+  with_past : (env : Streams) → ArePast time env → (n : ℕ) (rows : List TupleView) → All (IsPast time) rows → ArePast time (with_stream env n rows)
   with_past env past n rows all s = go (s == n)
     where
       go : (b : Bool) → All (IsPast time) (cond b rows (env s))
@@ -60,7 +60,7 @@ module _ (time : ℕ) (lines : List Line) where
       ∙ flat_map_same (λ l. before time (given env l)) (given (streams_before time env)) (filter (λ l. l.out == s) lines)
       (every (λ l. before time (given env l) ≡ given (streams_before time env) l) (given_before env past) (filter (λ l. l.out == s) lines))
 
-  with_before : (env : Streams) (n : ℕ) (rows other : List Row) → before time rows ≡ other → streams_before time (with_stream env n rows) ≡ with_stream (streams_before time env) n other
+  with_before : (env : Streams) (n : ℕ) (rows other : List TupleView) → before time rows ≡ other → streams_before time (with_stream env n rows) ≡ with_stream (streams_before time env) n other
   with_before env n rows other e = λ i s. go s (s == n) i
     where
       go : (s : ℕ) (b : Bool) → before time (cond b rows (env s)) ≡ cond b other (before time (env s))
@@ -75,26 +75,26 @@ module _ (time : ℕ) (lines : List Line) where
       ∙ ap (completed lines order) (with_before env s (derived lines env s) (derived lines (streams_before time env) s) (derived_before env past s))
 
 -- over a history
-heard_past : (time : ℕ) (h : List Heard) → All (λ e. IsPast time e.tuple) h → ArePast time (heard_on h)
+heard_past : (time : ℕ) (h : List Event) → All (λ e. IsPast time e.tuple) h → ArePast time (heard_on h)
 heard_past time h all s = All-map (IsPast time) (λ e. e.tuple) (filter (λ e. e.stream == s) h) (All-filter (λ e. e.stream == s) (λ e. IsPast time e.tuple) h all)
 
-heard_before : (time : ℕ) (h : List Heard) → streams_before time (heard_on h) ≡ heard_on (events_before time h)
+heard_before : (time : ℕ) (h : List Event) → streams_before time (heard_on h) ≡ heard_on (events_before time h)
 heard_before time h = λ i s. (filter-map (λ r. nat_lt r.at time) (λ e. e.tuple) (filter (λ e. e.stream == s) h) ∙ ap (map (λ e. e.tuple)) (filter_swap (λ e. nat_lt e.tuple.at time) (λ e. e.stream == s) h)) i
 
 -- what is heard on a stream in an epoch is what the epoch's events bring
-pub heard_now : (time : ℕ) (h : List Heard) (s : ℕ) → during time (heard_on h s) ≡ heard_on (events_during time h) s
+pub heard_now : (time : ℕ) (h : List Event) (s : ℕ) → during time (heard_on h s) ≡ heard_on (events_during time h) s
 heard_now time h s = filter-map (λ r. r.at == time) (λ e. e.tuple) (filter (λ e. e.stream == s) h) ∙ ap (map (λ e. e.tuple)) (filter_swap (λ e. e.tuple.at == time) (λ e. e.stream == s) h)
 
 -- the streams of past events are past
-pub over_past : (time : ℕ) (lines : List Line) (order : List ℕ) (h : List Heard) → All (λ e. IsPast time e.tuple) h → ArePast time (streams_over lines order h)
+pub over_past : (time : ℕ) (lines : List Line) (order : List ℕ) (h : List Event) → All (λ e. IsPast time e.tuple) h → ArePast time (streams_over lines order h)
 over_past time lines order h all = completed_past time lines order (heard_on h) (heard_past time h all)
 
 -- what they have before a time is derived from what is before it
-pub over_before : (time : ℕ) (lines : List Line) (order : List ℕ) (h : List Heard) → All (λ e. IsPast time e.tuple) h → streams_before time (streams_over lines order h) ≡ streams_over lines order (events_before time h)
+pub over_before : (time : ℕ) (lines : List Line) (order : List ℕ) (h : List Event) → All (λ e. IsPast time e.tuple) h → streams_before time (streams_over lines order h) ≡ streams_over lines order (events_before time h)
 over_before time lines order h all = completed_before time lines order (heard_on h) (heard_past time h all) ∙ ap (completed lines order) (heard_before time h)
 
 -- which are the streams of the earlier events
-pub streams_early : (time : ℕ) (lines : List Line) (order : List ℕ) (h : List Heard) → All (λ e. IsPast time e.tuple) h → (s : ℕ) → before time (streams_over lines order h s) ≡ streams_over lines order (events_before time h) s
+pub streams_early : (time : ℕ) (lines : List Line) (order : List ℕ) (h : List Event) → All (λ e. IsPast time e.tuple) h → (s : ℕ) → before time (streams_over lines order h s) ≡ streams_over lines order (events_before time h) s
 streams_early time lines order h all s = λ i. over_before time lines order h all i s
 
 -- at the start nothing waits
@@ -122,7 +122,7 @@ start_waits lines order p h =
     go (Some t) = refl
 
 -- what the lines of a derived stream give in an epoch
-pub streams_give : (time : ℕ) (lines : List Line) (order : List ℕ) (h : List Heard) → All (λ e. IsPast time e.tuple) h → IsInOrder lines order
+pub streams_give : (time : ℕ) (lines : List Line) (order : List ℕ) (h : List Event) → All (λ e. IsPast time e.tuple) h → IsInOrder lines order
     → let streams = streams_over lines order h in All (λ s. during time (streams s) ≡ flat_map (given_now (streams_during time streams) (streams_before time streams)) (filter (λ l. l.out == s) lines)) order
 streams_give time lines order h past ordered =
     All-weaker (λ s. streams_over lines order h s ≡ derived lines (streams_over lines order h) s)

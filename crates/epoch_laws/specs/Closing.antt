@@ -2,15 +2,15 @@
 use Rattle.std.specs.Prelude.{◌≡◌, ℕ, ◌==◌, false, List, [], length, Option, Some, None}
 use Rattle.std.specs.List.{All, filter, filter_map, flat_map, range_with_len}
 use Rattle.std.specs.List.Sorted.{IsPermutation}
-use Rattle.event_types.specs.Tuple.{Row}
+use Rattle.event_types.specs.Tuple.{TupleView}
 use Rattle.instances.specs.declared.instance.Instance.{Instance}
 use Rattle.semantics.specs.Denotation.{Streams}
 use Rattle.automaton.specs.Flow.{entering}
-use Rattle.automaton.specs.States.{Net, ends_at, entry_at, wait_at}
+use Rattle.automaton.specs.States.{Net, ends_at, entrance_at, wait_at}
 use Rattle.automaton.specs.Steps.{pass}
 use Rattle.automaton.specs.Work.{is_in}
-use Rattle.automaton.specs.declared.network.Entry.{Entry}
-use Rattle.automaton.specs.declared.network.Entry.TheVariants.{Root, Waiting}
+use Rattle.automaton.specs.declared.network.Entrance.{Entrance}
+use Rattle.automaton.specs.declared.network.Entrance.TheVariants.{Root, Waiting}
 use Rattle.automaton.specs.declared.wait.Wait.{Wait}
 use Rattle.epoch_laws.specs.Epochs.{stepped, took}
 use Rattle.epoch_laws.specs.Stores.{Purged}
@@ -20,37 +20,37 @@ abbrev pub Stores : Type 0
 Stores = ℕ → List Instance
 
 -- what leaves a state that is entered so, in an epoch: at a root the tuples of its stream, at a waiting state what its instances give
-abbrev pub leaves_by : Option Entry → Streams → List Instance → List Row
-leaves_by None news store = []
-leaves_by (Some (Root stream)) news store = news stream
-leaves_by (Some (Waiting before hop)) news store = took hop.wait.choose hop.wait.fold (news hop.wait.stream) store
+abbrev pub leaving_by : Option Entrance → Streams → List Instance → List TupleView
+leaving_by None news store = []
+leaving_by (Some (Root stream)) news store = news stream
+leaving_by (Some (Waiting before hop)) news store = took hop.wait.choose hop.wait.fold (news hop.wait.stream) store
 
 -- what leaves the state with a number
-abbrev pub leaves : Net → Streams → Stores → ℕ → List Row
-leaves net news stores number = leaves_by (entry_at net number) news (stores number)
+abbrev pub leaving_state : Net → Streams → Stores → ℕ → List TupleView
+leaving_state net news stores number = leaving_by (entrance_at net number) news (stores number)
 
 -- the store of a state that is entered so, after an epoch in which these tuples left each state
-abbrev pub stepped_by : Option Entry → Streams → (ℕ → List Row) → List Instance → List Instance
+abbrev pub stepped_by : Option Entrance → Streams → (ℕ → List TupleView) → List Instance → List Instance
 stepped_by None news leaving store = []
 stepped_by (Some (Root stream)) news leaving store = []
 stepped_by (Some (Waiting before hop)) news leaving store = stepped hop.wait.choose hop.wait.fold (news hop.wait.stream) (entering hop (leaving before)) store
 
 -- the store of each state after the epoch
 abbrev pub stores_after : Net → Streams → Stores → Stores
-stores_after net news stores number = stepped_by (entry_at net number) news (leaves net news stores) (stores number)
+stores_after net news stores number = stepped_by (entrance_at net number) news (leaving_state net news stores) (stores number)
 
 -- what the ends of a stream give in the epoch at one state
-abbrev pub published_at : Net → Streams → Stores → ℕ → ℕ → List Row
-published_at net news stores stream number = flat_map (λ end. filter_map (pass end.step) (leaves net news stores number)) (filter (λ end. end.out == stream) (ends_at net number))
+abbrev pub given_by_ends_at : Net → Streams → Stores → ℕ → ℕ → List TupleView
+given_by_ends_at net news stores stream number = flat_map (λ end. filter_map (pass end.step) (leaving_state net news stores number)) (filter (λ end. end.out == stream) (ends_at net number))
 
 -- what they give at all states
-abbrev pub published : Net → Streams → Stores → ℕ → List Row
-published net news stores stream = flat_map (published_at net news stores stream) (range_with_len 0 (length net))
+abbrev pub given_by_ends : Net → Streams → Stores → ℕ → List TupleView
+given_by_ends net news stores stream = flat_map (given_by_ends_at net news stores stream) (range_with_len 0 (length net))
 
 -- `news` has all tuples of an epoch, up to order: those that were heard, and in each derived stream what its ends give
 pub record IsEpoch (net : Net) (order : List ℕ) (stores : Stores) (heard news : Streams) : Type 0 where
   pub declared : (stream : ℕ) → is_in order stream ≡ false → IsPermutation (news stream) (heard stream)
-  pub derived : All (λ stream. IsPermutation (news stream) (published net news stores stream)) order
+  pub derived : All (λ stream. IsPermutation (news stream) (given_by_ends net news stores stream)) order
 
 -- each store was purged for a time, in whole, in part or not at all
 abbrev pub ArePurged : ℕ → Net → Stores → Stores → Type 0

@@ -1,7 +1,7 @@
 -- An epoch at one wait taken event by event, as a store is asked.
 use Rattle.std.specs.Prelude.{⊤, List, [], ◌∷◌, map, Option, Some, None, Contains}
 use Rattle.std.specs.List.{flat_map}
-use Rattle.event_types.specs.Tuple.{Row}
+use Rattle.event_types.specs.Tuple.{TupleView}
 use Rattle.instances.specs.Keys.{Key, candidates_of, unmatched}
 use Rattle.instances.specs.declared.instance.Instance.{Instance}
 use Rattle.semantics.specs.Scalars.{Pr}
@@ -15,10 +15,10 @@ IsKeyOf None choose = ⊤
 IsKeyOf (Some key) choose = Contains (map class.class_of choose) (class.Key key.event key.binding)
 
 -- the store once each tuple of the epoch in turn has taken out the candidates that it matches
-abbrev pub taken_out : Option Key → List Pr → List Row → List Instance → List Instance
+abbrev pub taken_out : Option Key → List Pr → List TupleView → List Instance → List Instance
 taken_out key choose [] store = store
 taken_out key choose (tuple ∷ tuples) store = taken_out key choose tuples (unmatched key choose tuple store)
 
 -- what each tuple of the epoch in turn gives with its candidates
-abbrev pub found : Option Key → List Pr → Option Turn → List Row → List Instance → List Row
+abbrev pub found : Option Key → List Pr → Option Turn → List TupleView → List Instance → List TupleView
 found key choose turn tuples store = flat_map (λ tuple. flat_map (λ instance. taken choose turn (tuple ∷ []) instance.tuple) (candidates_of key tuple store)) tuples

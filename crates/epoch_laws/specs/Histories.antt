@@ -2,18 +2,18 @@
 use Rattle.std.specs.Prelude.{ℕ, ◌==◌, nat_lt, List}
 use Rattle.std.specs.List.{filter}
 use Rattle.semantics.specs.Denotation.{Streams}
-use Rattle.semantics.specs.Histories.{Heard, heard_on}
+use Rattle.semantics.specs.Histories.{Event, heard_on}
 use Rattle.automaton.specs.Work.{completed}
 use Rattle.automaton.specs.declared.line.Line.{Line}
 
 -- all streams over a history: those that were heard, and each derived stream, made in the order of work
-abbrev pub streams_over : List Line → List ℕ → List Heard → Streams
+abbrev pub streams_over : List Line → List ℕ → List Event → Streams
 streams_over lines order history = completed lines order (heard_on history)
 
 -- the events that are detected before a time
-abbrev pub events_before : ℕ → List Heard → List Heard
+abbrev pub events_before : ℕ → List Event → List Event
 events_before time history = filter (λ event. nat_lt event.tuple.at time) history
 
 -- the events of the epoch of a time
-abbrev pub events_during : ℕ → List Heard → List Heard
+abbrev pub events_during : ℕ → List Event → List Event
 events_during time history = filter (λ event. event.tuple.at == time) history

@@ -11,8 +11,8 @@ pub mod Lines
 pub mod PurgeLaws
 pub mod Standing
 pub mod StandingLaws
-pub mod Stands
 pub mod Stores
+pub mod StoresStandFor
 pub mod StreamLaws
 pub mod Times
 pub mod WaitLaws

@@ -13,8 +13,8 @@ use Rattle.epoch_laws.specs.Lines.{flow_now, given_now}
 use Rattle.epoch_laws.specs.Times.{ArePast, during, streams_before, streams_during}
 
 -- what a line gives in the epoch comes from its tuples and from the bindings that waited before it
-abbrev pub LineGives : Type 0
-LineGives = (time : ℕ) (streams : Streams) → ArePast time streams → (line : Line) → during time (given streams line) ≡ given_now (streams_during time streams) (streams_before time streams) line
+abbrev pub LineGivesInEpoch : Type 0
+LineGivesInEpoch = (time : ℕ) (streams : Streams) → ArePast time streams → (line : Line) → during time (given streams line) ≡ given_now (streams_during time streams) (streams_before time streams) line
 
 -- the bindings that wait at a state after the epoch are those that waited there before it, stepped through it
 abbrev pub StateKeeps : Type 0

@@ -5,7 +5,7 @@ use Rattle.event_types.specs.Order.{sorted}
 use Rattle.event_types.specs.Tuple.{IsSound}
 use Rattle.instances.specs.Bounds.{alive_instances}
 use Rattle.semantics.specs.Denotation.{Streams}
-use Rattle.semantics.specs.Histories.{Heard, heard_on}
+use Rattle.semantics.specs.Histories.{Event, heard_on}
 use Rattle.semantics.specs.Programs.{Program}
 use Rattle.semantics.specs.Results.{results}
 use Rattle.instances.specs.Alive.{alive}
@@ -19,50 +19,50 @@ use Rattle.epoch_laws.specs.Batch.{Agree}
 use Rattle.epoch_laws.specs.Closing.{ArePurged, IsEpoch, Stores, stores_after}
 use Rattle.epoch_laws.specs.Histories.{streams_over}
 use Rattle.epoch_laws.specs.Instances.{bindings_of}
-use Rattle.epoch_laws.specs.Standing.{MayFollow, StandsFor, closed_part, next_time}
-use Rattle.epoch_laws.specs.Stands.{Serves}
+use Rattle.epoch_laws.specs.Standing.{MayFollow, PartsStandFor, closed_part, next_time}
+use Rattle.epoch_laws.specs.StoresStandFor.{Serves}
 use Rattle.epoch_laws.specs.Times.{during}
 
 -- without events, an engine with empty stores stands for the empty history
 abbrev pub StartStands : Type 0
-StartStands = (net : Net) (lines : List Line) (order : List ℕ) → StandsFor net lines order (λ _. []) None (λ _. []) None []
+StartStands = (net : Net) (lines : List Line) (order : List ℕ) → PartsStandFor net lines order (λ _. []) None (λ _. []) None []
 
 -- an offered event that may follow comes to the open tuples and to the end of the history
 abbrev pub OfferStands : Type 0
 OfferStands =
-    (net : Net) (lines : List Line) (order : List ℕ) (stores : Stores) (open_time : Option ℕ) (tuples more : Streams) (closed_time : Option ℕ) (history : List Heard) (event : Heard)
-    → StandsFor net lines order stores open_time tuples closed_time history → IsSound event.tuple → MayFollow open_time closed_time event.tuple.at
+    (net : Net) (lines : List Line) (order : List ℕ) (stores : Stores) (open_time : Option ℕ) (tuples more : Streams) (closed_time : Option ℕ) (history : List Event) (event : Event)
+    → PartsStandFor net lines order stores open_time tuples closed_time history → IsSound event.tuple → MayFollow open_time closed_time event.tuple.at
     → ((stream : ℕ) → IsPermutation (more stream) (tuples stream ++ heard_on (event ∷ []) stream))
-    → StandsFor net lines order stores (Some event.tuple.at) more closed_time (history ++ event ∷ [])
+    → PartsStandFor net lines order stores (Some event.tuple.at) more closed_time (history ++ event ∷ [])
 
 -- a closing gives the tuples that the streams have at the open time, and then no epoch is open
 abbrev pub CloseStands : Type 0
 CloseStands =
-    (net : Net) (lines : List Line) (order : List ℕ) (stores kept : Stores) (time : ℕ) (tuples news : Streams) (closed_time : Option ℕ) (history : List Heard)
-    → Serves net lines order → StandsFor net lines order stores (Some time) tuples closed_time history
+    (net : Net) (lines : List Line) (order : List ℕ) (stores kept : Stores) (time : ℕ) (tuples news : Streams) (closed_time : Option ℕ) (history : List Event)
+    → Serves net lines order → PartsStandFor net lines order stores (Some time) tuples closed_time history
     → IsEpoch net order stores tuples news → ArePurged (time + 1) net (stores_after net news stores) kept
-    → ((stream : ℕ) → IsPermutation (news stream) (during time (streams_over lines order history stream))) × StandsFor net lines order kept None (λ _. []) (Some time) history
+    → ((stream : ℕ) → IsPermutation (news stream) (during time (streams_over lines order history stream))) × PartsStandFor net lines order kept None (λ _. []) (Some time) history
 
 -- these tuples, put in order, are the results of each query whose stream the lines agree on
 abbrev pub ClosingIsResults : Type 0
 ClosingIsResults =
-    (net : Net) (lines : List Line) (order : List ℕ) (stores : Stores) (time : ℕ) (tuples news : Streams) (closed_time : Option ℕ) (history : List Heard) (program : Program) (stream : ℕ)
-    → Serves net lines order → StandsFor net lines order stores (Some time) tuples closed_time history
+    (net : Net) (lines : List Line) (order : List ℕ) (stores : Stores) (time : ℕ) (tuples news : Streams) (closed_time : Option ℕ) (history : List Event) (program : Program) (stream : ℕ)
+    → Serves net lines order → PartsStandFor net lines order stores (Some time) tuples closed_time history
     → IsEpoch net order stores tuples news → Agree lines order program history stream
     → sorted (news stream) ≡ results program history stream time
 
 -- stores that are purged for the next time stand for what they stood for
 abbrev pub PurgeStands : Type 0
 PurgeStands =
-    (net : Net) (lines : List Line) (order : List ℕ) (stores kept : Stores) (open_time : Option ℕ) (tuples : Streams) (closed_time : Option ℕ) (history : List Heard)
-    → StandsFor net lines order stores open_time tuples closed_time history → ArePurged (next_time closed_time) net stores kept
-    → StandsFor net lines order kept open_time tuples closed_time history
+    (net : Net) (lines : List Line) (order : List ℕ) (stores kept : Stores) (open_time : Option ℕ) (tuples : Streams) (closed_time : Option ℕ) (history : List Event)
+    → PartsStandFor net lines order stores open_time tuples closed_time history → ArePurged (next_time closed_time) net stores kept
+    → PartsStandFor net lines order kept open_time tuples closed_time history
 
 -- purged whole, each store has exactly the waiting bindings that are alive
 abbrev pub TrimmedIsAlive : Type 0
 TrimmedIsAlive =
-    (net : Net) (lines : List Line) (order : List ℕ) (stores : Stores) (open_time : Option ℕ) (tuples : Streams) (closed_time : Option ℕ) (history : List Heard)
-    → StandsFor net lines order stores open_time tuples closed_time history
+    (net : Net) (lines : List Line) (order : List ℕ) (stores : Stores) (open_time : Option ℕ) (tuples : Streams) (closed_time : Option ℕ) (history : List Event)
+    → PartsStandFor net lines order stores open_time tuples closed_time history
     → (number : ℕ) (prefix : Prefix) (hop : Hop) → IsAt net number (After prefix hop)
     → IsPermutation (bindings_of (alive_instances (next_time closed_time) hop.wait.choose (stores number)))
     (alive (next_time closed_time) hop.wait.choose (waiting (streams_over lines order (closed_part open_time history)) prefix hop))

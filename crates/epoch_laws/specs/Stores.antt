@@ -1,7 +1,7 @@
 -- Stores of instances: what they may leave out, and what they have to keep.
 use Rattle.std.specs.Prelude.{ℕ, List, ◌++◌}
 use Rattle.std.specs.List.Sorted.{IsPermutation}
-use Rattle.event_types.specs.Tuple.{Row}
+use Rattle.event_types.specs.Tuple.{TupleView}
 use Rattle.instances.specs.Bounds.{alive_instances}
 use Rattle.instances.specs.declared.instance.Instance.{Instance}
 use Rattle.semantics.specs.Scalars.{Pr}
@@ -13,7 +13,7 @@ abbrev pub IsWithin : {X : Type 0} → List X → List X → Type 0
 IsWithin {X} xs ys = (rest : List X) × IsPermutation (xs ++ rest) ys
 
 -- of the bindings that wait, a store holds at least those that are alive at a time, and no others
-pub record Holds (time : ℕ) (choose : List Pr) (store : List Instance) (bindings : List Row) : Type 0 where
+pub record Holds (time : ℕ) (choose : List Pr) (store : List Instance) (bindings : List TupleView) : Type 0 where
   pub at_least : IsWithin (alive time choose bindings) (bindings_of store)
   pub at_most : IsWithin (bindings_of store) bindings
 

@@ -1,19 +1,19 @@
 -- Tuples by their detection time.
 use Rattle.std.specs.Prelude.{ℕ, ◌==◌, ◌≤◌, nat_lt, List}
 use Rattle.std.specs.List.{All, filter}
-use Rattle.event_types.specs.Tuple.{Row}
+use Rattle.event_types.specs.Tuple.{TupleView}
 use Rattle.semantics.specs.Denotation.{Streams}
 
 -- the tuples that are detected before a time
-abbrev pub before : ℕ → List Row → List Row
+abbrev pub before : ℕ → List TupleView → List TupleView
 before time tuples = filter (λ tuple. nat_lt tuple.at time) tuples
 
 -- the tuples of the epoch of a time, which are those that are detected at it
-abbrev pub during : ℕ → List Row → List Row
+abbrev pub during : ℕ → List TupleView → List TupleView
 during time tuples = filter (λ tuple. tuple.at == time) tuples
 
 -- the tuple starts no later than it is detected, and is detected by a time
-abbrev pub IsPast : ℕ → Row → Type 0
+abbrev pub IsPast : ℕ → TupleView → Type 0
 IsPast time tuple = (tuple.from ≤ tuple.at) × (tuple.at ≤ time)
 
 -- the same of all tuples of all streams

@@ -8,15 +8,15 @@
 ghost use Rattle.epoch_laws.specs.Batch.{BatchIsResults};
 ghost use Rattle.epoch_laws.specs.CloseLaws.{EpochGrows, EpochStarts, StandsAtStart, StandsClosed, StandsPurged};
 ghost use Rattle.epoch_laws.specs.EventLaws.{FoundIsTook, TakenOutIsLeft};
-ghost use Rattle.epoch_laws.specs.LineLaws.{LineGives, StateKeeps};
+ghost use Rattle.epoch_laws.specs.LineLaws.{LineGivesInEpoch, StateKeeps};
 ghost use Rattle.epoch_laws.specs.PurgeLaws.{DeadLater, DeadStayDead};
 ghost use Rattle.epoch_laws.specs.StandingLaws.{CloseStands, ClosingIsResults, OfferStands, PurgeStands, StartStands, TrimmedIsAlive};
 ghost use Rattle.epoch_laws.specs.StreamLaws.{StreamsEarly, StreamsGive};
-ghost use Rattle.epoch_laws.specs.WaitLaws.{WaitEarly, WaitGives, WaitKeeps};
+ghost use Rattle.epoch_laws.specs.WaitLaws.{WaitEarly, WaitGivesInEpoch, WaitKeeps};
 
 /// What leaves a wait in an epoch comes from the bindings that waited before it.
 pub fn wait_gives()
-    ensures { WaitGives }
+    ensures { WaitGivesInEpoch }
 {}
 
 /// The bindings that wait after an epoch are those that waited before it, stepped through it.
@@ -41,7 +41,7 @@ pub fn taken_out_is_left()
 
 /// What a line gives in an epoch comes from the bindings that waited before it.
 pub fn line_gives()
-    ensures { LineGives }
+    ensures { LineGivesInEpoch }
 {}
 
 /// The bindings that wait at a state after an epoch are those before it, stepped through it.

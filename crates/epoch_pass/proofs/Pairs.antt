@@ -5,7 +5,7 @@ use Rattle.std.specs.List.{filter, flat_map}
 use Rattle.std.specs.List.Sorted.{IsPermutation}
 use Rattle.std.proofs.lemmas.List.Concat.{flat_map_single}
 use Rattle.std.proofs.lemmas.List.Sorted.{IsPermutation-refl, IsPermutation-sym, IsPermutation-trans, IsPermutation-append_right}
-use Rattle.event_types.specs.Tuple.{Row}
+use Rattle.event_types.specs.Tuple.{TupleView}
 use Rattle.instances.specs.declared.instance.Instance.{Instance}
 use Rattle.semantics.specs.Denotation.{joined}
 use Rattle.semantics.specs.Nexts.{is_eligible}
@@ -44,7 +44,7 @@ pairs_turned f (x ∷ xs) ys =
     (IsPermutation-sym _ _ (flat_map_parts (f x) (λ y. flat_map (λ x. f x y) xs) ys))
 
 -- what a binding gives, tuple by tuple
-taken_by_tuples : (choose : List Pr) (turn : Option Turn) (tuples : List Row) (b : Row) → flat_map (λ t. cond (is_eligible choose b t) (followed turn b t) []) tuples ≡ taken choose turn tuples b
+taken_by_tuples : (choose : List Pr) (turn : Option Turn) (tuples : List TupleView) (b : TupleView) → flat_map (λ t. cond (is_eligible choose b t) (followed turn b t) []) tuples ≡ taken choose turn tuples b
 taken_by_tuples choose None tuples b = flat_map_tested (is_eligible choose b) (followed None b) tuples ∙ flat_map_single (joined b) (filter (is_eligible choose b) tuples)
 taken_by_tuples choose (Some turn) tuples b =
     flat_map_tested (is_eligible choose b) (followed (Some turn) b) tuples
@@ -52,7 +52,7 @@ taken_by_tuples choose (Some turn) tuples b =
     ∙ flat_map_single (rebound turn.set.parts b) (filter (λ t. all_true turn.on t (Some b)) (filter (is_eligible choose b) tuples))
 
 -- what the tuples make of the instances is what leaves the wait
-pub met_took : (w : Wait) (store : List Instance) (tuples : List Row) → IsPermutation (flat_map (met w store) tuples) (took w.choose w.fold tuples store)
+pub met_took : (w : Wait) (store : List Instance) (tuples : List TupleView) → IsPermutation (flat_map (met w store) tuples) (took w.choose w.fold tuples store)
 met_took w store tuples =
     permuted_to (pairs_turned (λ t (i : Instance). paired w i.tuple t) tuples store)
     (flat_map_same (λ (i : Instance). flat_map (λ t. paired w i.tuple t) tuples) (λ (i : Instance). taken w.choose w.fold tuples i.tuple) store

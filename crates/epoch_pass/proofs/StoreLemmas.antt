@@ -6,7 +6,7 @@ use Rattle.std.specs.List.Sorted.{IsPermutation}
 use Rattle.std.proofs.lemmas.List.{map-append, take_more}
 use Rattle.std.proofs.lemmas.List.Elements.{filter-append, filter_agree}
 use Rattle.std.proofs.lemmas.List.Sorted.{IsPermutation-append_left, IsPermutation-append_right, IsPermutation-map, IsPermutation-refl, IsPermutation-sym, IsPermutation-to_front, IsPermutation-trans}
-use Rattle.event_types.specs.Tuple.{Row}
+use Rattle.event_types.specs.Tuple.{TupleView}
 use Rattle.instances.specs.Bounds.{alive_instances}
 use Rattle.instances.specs.declared.instance.Instance.{Instance}
 use Rattle.semantics.specs.Nexts.{is_eligible}
@@ -16,7 +16,7 @@ use Rattle.instances.specs.Alive.{is_alive}
 use Rattle.automaton.specs.Steps.{pass}
 use Rattle.automaton.specs.Waiting.{is_empty}
 use Rattle.automaton.specs.declared.wait.Turn.{Turn}
-use Rattle.epoch_laws.specs.Epochs.{again, is_unmet, left, stepped, took}
+use Rattle.epoch_laws.specs.Epochs.{again, is_unmet, unmatched_after, stepped, took}
 use Rattle.epoch_laws.specs.Instances.{instance_of}
 use Rattle.epoch_laws.proofs.Lists.{filter-filter}
 
@@ -25,17 +25,17 @@ filter_true [] = refl
 filter_true (x ∷ xs) = ap (λ ys. x ∷ ys) (filter_true xs)
 
 -- without tuples all are left
-pub left_none : (choose : List Pr) (store : List Instance) → left choose [] store ≡ store
+pub left_none : (choose : List Pr) (store : List Instance) → unmatched_after choose [] store ≡ store
 left_none choose store = filter_true store
 
-empty-append : (xs : List Row) (b : Bool) (x : Row) → is_empty (xs ++ cond b (x ∷ []) []) ≡ (is_empty xs && not b)
+empty-append : (xs : List TupleView) (b : Bool) (x : TupleView) → is_empty (xs ++ cond b (x ∷ []) []) ≡ (is_empty xs && not b)
 empty-append [] true x = refl
 empty-append [] false x = refl
 empty-append (y ∷ xs) b x = refl
 
 -- one more tuple takes out those for which it is eligible
-pub left_more : (choose : List Pr) (tuples : List Row) (store : List Instance) (i : ℕ) (t : Row) → i < length tuples → t ≡ get_or tuples i t
-    → filter (λ (n : Instance). not (is_eligible choose n.tuple t)) (left choose (take i tuples) store) ≡ left choose (take (i + 1) tuples) store
+pub left_more : (choose : List Pr) (tuples : List TupleView) (store : List Instance) (i : ℕ) (t : TupleView) → i < length tuples → t ≡ get_or tuples i t
+    → filter (λ (n : Instance). not (is_eligible choose n.tuple t)) (unmatched_after choose (take i tuples) store) ≡ unmatched_after choose (take (i + 1) tuples) store
 left_more choose tuples store i t lt is =
     filter-filter (λ (n : Instance). not (is_eligible choose n.tuple t)) (λ (n : Instance). is_unmet choose (take i tuples) n.tuple) store
     ∙ filter_agree (λ (n : Instance). is_unmet choose (take i tuples) n.tuple && not (is_eligible choose n.tuple t)) (λ (n : Instance). is_unmet choose (take (i + 1) tuples) n.tuple) each store
@@ -58,21 +58,21 @@ module _ {X : Type 0} where
       (append_assoc init (map f a) (map f b) ∙ ap (λ xs. init ++ xs) (sym (map-append f a b)) ∙ ap (λ xs. init ++ map f xs) (sym e))
 
 -- every tuple passes a step with no stage
-pub pass_all : (tuples : List Row) → filter_map (pass []) tuples ≡ tuples
+pub pass_all : (tuples : List TupleView) → filter_map (pass []) tuples ≡ tuples
 pass_all [] = refl
 pass_all (t ∷ tuples) = ap (λ ts. t ∷ ts) (pass_all tuples)
 
-again_permuted : (fold : Option Turn) (xs ys : List Row) → IsPermutation xs ys → IsPermutation (again fold xs) (again fold ys)
+again_permuted : (fold : Option Turn) (xs ys : List TupleView) → IsPermutation xs ys → IsPermutation (again fold xs) (again fold ys)
 again_permuted None xs ys h = IsPermutation-refl []
 again_permuted (Some turn) xs ys h = h
 
 -- the store of a wait after an epoch
-pub settled : (time : ℕ) (choose : List Pr) (fold : Option Turn) (tuples entered leaving : List Row) (store met linked again' kept : List Instance)
-    → met ≡ left choose tuples store → IsPermutation linked (met ++ map instance_of entered) → IsPermutation again' (linked ++ map instance_of (again fold leaving)) → kept ≡ alive_instances time choose again'
+pub settled : (time : ℕ) (choose : List Pr) (fold : Option Turn) (tuples entered leaving : List TupleView) (store met linked again' kept : List Instance)
+    → met ≡ unmatched_after choose tuples store → IsPermutation linked (met ++ map instance_of entered) → IsPermutation again' (linked ++ map instance_of (again fold leaving)) → kept ≡ alive_instances time choose again'
     → IsPermutation leaving (took choose fold tuples store) → IsPermutation kept (alive_instances time choose (stepped choose fold tuples entered store))
 settled time choose fold tuples entered leaving store met linked again' kept e1 h2 h3 e4 h =
     permuted_from e4
     (filter_permuted (λ (n : Instance). is_alive time choose n.tuple) again' (stepped choose fold tuples entered store)
     (IsPermutation-trans _ _ _ (put_more instance_of again' linked met entered (again fold leaving) (entered ++ again fold leaving) h3 h2 refl)
     (permuted_from (ap (λ is. is ++ map instance_of (entered ++ again fold leaving)) e1)
-    (IsPermutation-append_right (left choose tuples store) _ _ (IsPermutation-map instance_of _ _ (IsPermutation-append_right entered _ _ (again_permuted fold leaving (took choose fold tuples store) h)))))))
+    (IsPermutation-append_right (unmatched_after choose tuples store) _ _ (IsPermutation-map instance_of _ _ (IsPermutation-append_right entered _ _ (again_permuted fold leaving (took choose fold tuples store) h)))))))

@@ -5,7 +5,7 @@ ghost use Rattle.std.specs.List.Sorted.{IsPermutation};
 ghost use Rattle.instances.specs.Bounds.{alive_instances};
 ghost use Rattle.scalar_expr.specs.Fits.{AllFit};
 ghost use Rattle.automaton.specs.Steps.{pass};
-ghost use Rattle.epoch_laws.specs.Epochs.{again, left, stepped, took};
+ghost use Rattle.epoch_laws.specs.Epochs.{again, unmatched_after, stepped, took};
 ghost use Rattle.epoch_laws.specs.Instances.{instance_of};
 ghost use Rattle.epoch_pass.specs.Pairs.{met};
 ghost use Rattle.epoch_pass.specs.Suits.{StepSuits, WaitSuits};
@@ -62,7 +62,7 @@ fn take_met<L: Ledger>(
     steps: &mut Steps<L>,
 )
     requires { All (λ tuple. All (λ instance. AllFit choose.now tuple (Some instance.tuple)) store.old.instances) tuples.now }
-    ensures instances { store.new.instances ≡ left choose.now tuples.now store.old.instances }
+    ensures instances { store.new.instances ≡ unmatched_after choose.now tuples.now store.old.instances }
     ensures condition { store.new.condition ≡ store.old.condition }
 {
     for tuple in tuples {

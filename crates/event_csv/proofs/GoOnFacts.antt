@@ -6,8 +6,8 @@ use Rattle.std.specs.Prelude.{◌||◌, not, nat_lt}
 use Rattle.std.specs.List.{onto_first}
 use Rattle.csv.specs.Machine.{line_feed}
 use Rattle.csv.specs.Reading.{strip_bom}
-use Rattle.event_csv.specs.Lines.{GoOn, Line, body_of, is_empty, is_feed, is_header, is_long, line_limit, line_pieces, lines_from, lines_past_header, nonempty_lines, numbered_lines, pieces_of}
-use Rattle.event_csv.specs.Fed.{Fed, fed_more, lines_left}
+use Rattle.event_csv.specs.Lines.{GoOn, Line, body_of, is_empty, is_line_feed, is_header, is_long, line_limit, line_pieces, lines_from, lines_past_header, nonempty_lines, numbered_lines, pieces_of}
+use Rattle.event_csv.specs.Fed.{Fed, fed_more, unread_lines}
 use Rattle.event_csv.proofs.LineFacts.{Lacks, is_long-no, is_long-yes, lines_from-none, some_front, strip_bom-append, strip_bom-feed, strip_bom-short}
 
 -- pieces, the last of which goes on with the first of others
@@ -23,7 +23,7 @@ glued-onto_first x p (n ∷ ms) q qs = refl
 -- the pieces of a text that goes on: an induction on the text
 pieces_of-append : (a b : List ℕ) (q : List ℕ) (qs : List (List ℕ)) → pieces_of b ≡ q ∷ qs → pieces_of (a ++ b) ≡ glued (pieces_of a) q qs
 pieces_of-append [] b q qs e = e
-pieces_of-append (x ∷ a) b q qs e = by (is_feed x) (some_front a).more (some_front a).rest (some_front a).is (pieces_of-append a b q qs e)
+pieces_of-append (x ∷ a) b q qs e = by (is_line_feed x) (some_front a).more (some_front a).rest (some_front a).is (pieces_of-append a b q qs e)
   where
     by : (d : Bool) (p : List ℕ) (ps : List (List ℕ)) → pieces_of a ≡ p ∷ ps → pieces_of (a ++ b) ≡ glued (pieces_of a) q qs
         → cond d ([] ∷ pieces_of (a ++ b)) (onto_first x (pieces_of (a ++ b))) ≡ glued (cond d ([] ∷ pieces_of a) (onto_first x (pieces_of a))) q qs
@@ -107,16 +107,16 @@ go_on-none gone met a later few lacks =
 go_on-few : (gone : ℕ) (met : Bool) (a more : List ℕ) (ended : Bool) → length a < 3
     → GoOn (lines_from gone met (strip_bom a) false) (lines_from gone met (strip_bom (a ++ more)) ended)
 go_on-few gone met [] more ended few = go_on-none gone met [] (lines_from gone met (strip_bom more) ended) few tt
-go_on-few gone met (x ∷ []) more ended few = by (is_feed x) refl
+go_on-few gone met (x ∷ []) more ended few = by (is_line_feed x) refl
   where
-    by : (d : Bool) → is_feed x ≡ d → GoOn (lines_from gone met (strip_bom (x ∷ [])) false) (lines_from gone met (strip_bom (x ∷ more)) ended)
+    by : (d : Bool) → is_line_feed x ≡ d → GoOn (lines_from gone met (strip_bom (x ∷ [])) false) (lines_from gone met (strip_bom (x ∷ more)) ended)
     by true e =
         let feed : x ≡ line_feed = eqb-true x line_feed e in
         go_on-same gone met (x ∷ []) more ended (x ∷ []) (strip_bom-short (x ∷ []) few) (rw feed (strip_bom-feed [] more (omega arith)))
     by false e = go_on-none gone met (x ∷ []) (lines_from gone met (strip_bom (x ∷ more)) ended) few (e, tt)
-go_on-few gone met (x ∷ y ∷ []) more ended few = by (is_feed x) (is_feed y) refl refl
+go_on-few gone met (x ∷ y ∷ []) more ended few = by (is_line_feed x) (is_line_feed y) refl refl
   where
-    by : (d f : Bool) → is_feed x ≡ d → is_feed y ≡ f → GoOn (lines_from gone met (strip_bom (x ∷ y ∷ [])) false) (lines_from gone met (strip_bom (x ∷ y ∷ more)) ended)
+    by : (d f : Bool) → is_line_feed x ≡ d → is_line_feed y ≡ f → GoOn (lines_from gone met (strip_bom (x ∷ y ∷ [])) false) (lines_from gone met (strip_bom (x ∷ y ∷ more)) ended)
     by true f e g =
         let feed : x ≡ line_feed = eqb-true x line_feed e in
         go_on-same gone met (x ∷ y ∷ []) more ended (x ∷ y ∷ []) (strip_bom-short (x ∷ y ∷ []) few) (rw feed (strip_bom-feed [] (y ∷ more) (omega arith)))
@@ -135,7 +135,7 @@ go_on-front gone met a more ended = by (nat_lt (length a) 3) refl
     by true e = go_on-few gone met a more ended (ltb-true (length a) 3 e)
 
 -- the lines that are left stay as bytes come
-pub go_on-left : (fed : Fed) (more : List ℕ) (ended : Bool) → GoOn (lines_left fed false) (lines_left (fed_more fed more) ended)
+pub go_on-left : (fed : Fed) (more : List ℕ) (ended : Bool) → GoOn (unread_lines fed false) (unread_lines (fed_more fed more) ended)
 go_on-left fed more ended = by fed.begun
   where
     by : (d : Bool) → GoOn (lines_from fed.gone fed.met (cond d fed.rest (strip_bom fed.rest)) false) (lines_from fed.gone fed.met (cond d (fed.rest ++ more) (strip_bom (fed.rest ++ more))) ended)

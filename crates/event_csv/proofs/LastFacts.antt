@@ -5,7 +5,7 @@ use Rattle.std.specs.Prelude.{slice_get, Some}
 use Rattle.std.specs.Str.Lines.{strip_carriage_return}
 use Rattle.csv.specs.Reading.{strip_bom}
 use Rattle.event_csv.specs.Lines.{Line, is_empty, is_long, lines_from}
-use Rattle.event_csv.specs.Fed.{Fed, Gives, IsLine, IsPart, LeavesLast, Takes, fed_more, lines_left}
+use Rattle.event_csv.specs.Fed.{Fed, HandsOutLines, IsLine, IsPart, LeavesLast, TakesFromFeed, fed_more, unread_lines}
 use Rattle.event_csv.specs.Place.{BegunOrShort, fed_at, is_skipped, met_after}
 use Rattle.event_csv.specs.declared.got.Got.{Got}
 use Rattle.event_csv.specs.declared.got.Got.TheVariants as got
@@ -18,12 +18,12 @@ pub fed_more-nil : (fed : Fed) → fed_more fed [] ≡ fed
 fed_more-nil fed = λ i. record fed { rest = append-nil fed.rest i }
 
 -- where lines are as they were
-same-lines : (old new : Fed) (ended : Bool) → Gives [] old new → lines_left old ended ≡ lines_left new ended
+same-lines : (old new : Fed) (ended : Bool) → HandsOutLines [] old new → unread_lines old ended ≡ unread_lines new ended
 same-lines old new ended given =
-    ap (λ (f : Fed). lines_left f ended) (sym (fed_more-nil old)) ∙ given [] ended ∙ ap (λ (f : Fed). lines_left f ended) (fed_more-nil new)
+    ap (λ (f : Fed). unread_lines f ended) (sym (fed_more-nil old)) ∙ given [] ended ∙ ap (λ (f : Fed). unread_lines f ended) (fed_more-nil new)
 
 -- the last line is the same before lines were passed over
-pub LeavesLast-before : (old new : Fed) (g : Got) → Gives [] old new → LeavesLast new g → LeavesLast old g
+pub LeavesLast-before : (old new : Fed) (g : Got) → HandsOutLines [] old new → LeavesLast new g → LeavesLast old g
 LeavesLast-before old new (got.Line number bytes) given last = (same-lines old new true given ∙ last.0, last.1)
 LeavesLast-before old new (got.Long number) given last = last
 LeavesLast-before old new got.NotYet given last = same-lines old new true given ∙ last
@@ -37,13 +37,13 @@ nil-first lines line none first =
     let both : None ≡ Some line = subst F none first in cc
 
 -- where no line is left, none is taken
-pub none-taken : (old new : Fed) (g : Got) → lines_left old false ≡ [] → Takes old new g → (g ≡ got.NotYet → ⊥) → ⊥
+pub none-taken : (old new : Fed) (g : Got) → unread_lines old false ≡ [] → TakesFromFeed old new g → (g ≡ got.NotYet → ⊥) → ⊥
 none-taken old new (got.Line number bytes) none taken other =
-    nil-cons (lines_left old false) (record { number = number; bytes = bytes.now }) (lines_left (fed_more new []) false) none
-    (ap (λ (f : Fed). lines_left f false) (sym (fed_more-nil old)) ∙ taken.given [] false)
+    nil-cons (unread_lines old false) (record { number = number; bytes = bytes.now }) (unread_lines (fed_more new []) false) none
+    (ap (λ (f : Fed). unread_lines f false) (sym (fed_more-nil old)) ∙ taken.given [] false)
 none-taken old new (got.Long number) none taken other =
-    nil-first (lines_left (fed_more new []) false) (record { number = number; bytes = taken.1.bytes })
-    (sym (taken.0 [] false) ∙ ap (λ (f : Fed). lines_left f false) (fed_more-nil old) ∙ none) (taken.1.next [] false)
+    nil-first (unread_lines (fed_more new []) false) (record { number = number; bytes = taken.1.bytes })
+    (sym (taken.0 [] false) ∙ ap (λ (f : Fed). unread_lines f false) (fed_more-nil old) ∙ none) (taken.1.next [] false)
 none-taken old new got.NotYet none taken other = other refl
 
 is_empty-cons : (x : ℕ) (l : List ℕ) → is_empty (x ∷ l) ≡ false
@@ -79,7 +79,7 @@ last-kept gone met a lacks short kept =
     some (x ∷ l) e = is_empty-cons x l
 
 -- what is left holds no mark where it holds so few bytes
-pub text-last : (bytes : List ℕ) (place : Place) → BegunOrShort bytes place → lines_left (fed_at bytes place) true ≡ lines_from place.gone place.met (drop place.start bytes) true
+pub text-last : (bytes : List ℕ) (place : Place) → BegunOrShort bytes place → unread_lines (fed_at bytes place) true ≡ lines_from place.gone place.met (drop place.start bytes) true
 text-last bytes place begun = by place.begun refl
   where
     by : (d : Bool) → place.begun ≡ d → lines_from place.gone place.met (cond d (drop place.start bytes) (strip_bom (drop place.start bytes))) true
@@ -91,14 +91,14 @@ text-last bytes place begun = by place.begun refl
 
 -- the last line, as what is left tells it
 pub LeavesLast-none : (bytes : List ℕ) (place : Place) → BegunOrShort bytes place → IsPart (fed_at bytes place)
-    → is_skipped place.met (strip_carriage_return (drop place.start bytes)) ≡ true → lines_left (fed_at bytes place) true ≡ []
+    → is_skipped place.met (strip_carriage_return (drop place.start bytes)) ≡ true → unread_lines (fed_at bytes place) true ≡ []
 LeavesLast-none bytes place begun part skipped =
     text-last bytes place begun ∙ last-skipped place.gone place.met (drop place.start bytes) (Lacks-from (drop place.start bytes) part.no_feed) (is_long-no (drop place.start bytes) part.short) skipped
 
 -- else what is left is the last line
 pub LeavesLast-line : (bytes : List ℕ) (place : Place) → BegunOrShort bytes place → IsPart (fed_at bytes place)
     → is_skipped place.met (strip_carriage_return (drop place.start bytes)) ≡ false
-    → (lines_left (fed_at bytes place) true ≡ record { number = place.gone + 1; bytes = strip_carriage_return (drop place.start bytes) } ∷ [])
+    → (unread_lines (fed_at bytes place) true ≡ record { number = place.gone + 1; bytes = strip_carriage_return (drop place.start bytes) } ∷ [])
     × IsLine (strip_carriage_return (drop place.start bytes))
 LeavesLast-line bytes place begun part kept =
     let lacks = Lacks-from (drop place.start bytes) part.no_feed in (

@@ -7,15 +7,15 @@ use Rattle.std.specs.Str.Lines.{strip_carriage_return}
 use Rattle.csv.specs.Machine.{line_feed}
 use Rattle.csv.specs.Reading.{is_bom, strip_bom}
 use Rattle.event_csv.specs.Place.{is_skipped, met_after}
-use Rattle.event_csv.specs.Lines.{Line, body_of, is_empty, is_feed, is_header, is_long, line_limit, line_pieces, lines_from, lines_past_header, nonempty_lines, numbered_lines, pieces_of}
+use Rattle.event_csv.specs.Lines.{Line, body_of, is_empty, is_line_feed, is_header, is_long, line_limit, line_pieces, lines_from, lines_past_header, nonempty_lines, numbered_lines, pieces_of}
 
 -- no byte of the text is a line feed
 abbrev pub Lacks : List ℕ → Type 0
 Lacks [] = Unit {0}
-Lacks (b ∷ text) = (is_feed b ≡ false) × Lacks text
+Lacks (b ∷ text) = (is_line_feed b ≡ false) × Lacks text
 
 -- a text lacks line feeds where no byte of it is one
-pub Lacks-index : (text : List ℕ) → ((k : ℕ) → k < length text → is_feed (get_or text k 0) ≡ false) → Lacks text
+pub Lacks-index : (text : List ℕ) → ((k : ℕ) → k < length text → is_line_feed (get_or text k 0) ≡ false) → Lacks text
 Lacks-index [] h = tt
 Lacks-index (b ∷ text) h = (h 0 (omega arith), Lacks-index text (λ k lt. h (suc k) (omega arith)))
 
@@ -39,7 +39,7 @@ pub record Front (a text : List ℕ) : Type 0 where
 pub some_front : (text : List ℕ) → Front [] text
 some_front [] = record { more = []; rest = []; is = refl }
 some_front (b ∷ text) =
-    let front = by (is_feed b) (some_front text) in record { more = front.0; rest = front.1; is = front.2 }
+    let front = by (is_line_feed b) (some_front text) in record { more = front.0; rest = front.1; is = front.2 }
   where
     by : (d : Bool) → Front [] text → (more : List ℕ) × (rest : List (List ℕ)) × (cond d ([] ∷ pieces_of text) (onto_first b (pieces_of text)) ≡ more ∷ rest)
     by true f = ([], pieces_of text, refl)

@@ -6,8 +6,8 @@ use Rattle.std.specs.Prelude.{◌==◌, ◌&&◌, ◌||◌, not, nat_lt, slice_g
 use Rattle.std.specs.Str.Lines.{strip_carriage_return}
 use Rattle.csv.specs.Machine.{line_feed}
 use Rattle.csv.specs.Reading.{is_bom, strip_bom}
-use Rattle.event_csv.specs.Lines.{Line, is_feed, is_empty, is_header, is_long, line_limit, lines_from}
-use Rattle.event_csv.specs.Fed.{Fed, Gives, IsLine, fed_more, feeds_in, feeds_so_far, text_left, IsLongNext, IsNext, IsPart}
+use Rattle.event_csv.specs.Lines.{Line, is_line_feed, is_empty, is_header, is_long, line_limit, lines_from}
+use Rattle.event_csv.specs.Fed.{Fed, HandsOutLines, IsLine, fed_more, line_feeds_in, line_feeds_so_far, unread_text, IsLongNext, IsNext, IsPart}
 use Rattle.event_csv.specs.Place.{BegunOrShort, HasNumbers, IsFeedAt, IsPlace, NoFeed, fed_at, is_skipped, met_after}
 use Rattle.event_csv.specs.declared.place.Place.{Place}
 use Rattle.event_csv.proofs.LineFacts.{Lacks, Lacks-index, is_long-no, is_long-yes, lines_from-kept, lines_from-long, lines_from-none, lines_from-skipped, strip_bom-append, strip_bom-feed, strip_bom-short}
@@ -37,49 +37,49 @@ rest-cut bytes from end f =
     sym (take-append-drop (end - from) (drop from bytes)) ∙ ap (λ (t : List ℕ). piece bytes from end ++ t) behind
 
 -- two texts have the line feeds of and_parts
-pub feeds_in-append : (a b : List ℕ) → feeds_in (a ++ b) ≡ feeds_in a + feeds_in b
-feeds_in-append a b = sum_by-append (λ x. cond (is_feed x) 1 0) a b
+pub feeds_in-append : (a b : List ℕ) → line_feeds_in (a ++ b) ≡ line_feeds_in a + line_feeds_in b
+feeds_in-append a b = sum_by-append (λ x. cond (is_line_feed x) 1 0) a b
 
 -- no line feed is in a text that lacks them
-pub feeds_in-none : (a : List ℕ) → Lacks a → feeds_in a ≡ 0
+pub feeds_in-none : (a : List ℕ) → Lacks a → line_feeds_in a ≡ 0
 feeds_in-none [] h = refl
 feeds_in-none (x ∷ a) h =
-    let one : feeds_in (x ∷ []) ≡ 0 = rw h.0 refl in
+    let one : line_feeds_in (x ∷ []) ≡ 0 = rw h.0 refl in
     omega (arith, feeds_in-append (x ∷ []) a, one, feeds_in-none a h.1)
 
 -- a text with no line feed in it
-pub Lacks-from : (a : List ℕ) → feeds_in a ≡ 0 → Lacks a
+pub Lacks-from : (a : List ℕ) → line_feeds_in a ≡ 0 → Lacks a
 Lacks-from [] h = tt
-Lacks-from (x ∷ a) h = by (is_feed x) refl (Lacks-from a)
+Lacks-from (x ∷ a) h = by (is_line_feed x) refl (Lacks-from a)
   where
-    by : (d : Bool) → is_feed x ≡ d → (feeds_in a ≡ 0 → Lacks a) → Lacks (x ∷ a)
+    by : (d : Bool) → is_line_feed x ≡ d → (line_feeds_in a ≡ 0 → Lacks a) → Lacks (x ∷ a)
     by true e more =
-        let one : feeds_in (x ∷ []) ≡ 1 = rw e refl in
+        let one : line_feeds_in (x ∷ []) ≡ 1 = rw e refl in
         absurd (omega (arith, feeds_in-append (x ∷ []) a, one))
     by false e more = (e, more (omega (arith, feeds_in-append (x ∷ []) a)))
 
 -- the line feeds of a piece and what follows it
-pub feeds_in-feed : (a b : List ℕ) → Lacks a → feeds_in (a ++ line_feed ∷ b) ≡ feeds_in b + 1
+pub feeds_in-feed : (a b : List ℕ) → Lacks a → line_feeds_in (a ++ line_feed ∷ b) ≡ line_feeds_in b + 1
 feeds_in-feed a b h =
-    let one : feeds_in (line_feed ∷ []) ≡ 1 = refl in
+    let one : line_feeds_in (line_feed ∷ []) ≡ 1 = refl in
     omega (arith, feeds_in-append a (line_feed ∷ b), feeds_in-append (line_feed ∷ []) b, one, feeds_in-none a h)
 
 -- no line feed is in a mark
-pub feeds_in-strip_bom : (a : List ℕ) → feeds_in (strip_bom a) ≡ feeds_in a
+pub feeds_in-strip_bom : (a : List ℕ) → line_feeds_in (strip_bom a) ≡ line_feeds_in a
 unfolding strip_bom
 feeds_in-strip_bom [] = refl
 feeds_in-strip_bom (x ∷ []) = refl
 feeds_in-strip_bom (x ∷ y ∷ []) = refl
 feeds_in-strip_bom (x ∷ y ∷ z ∷ a) = by (is_bom x y z) refl
   where
-    by : (d : Bool) → is_bom x y z ≡ d → feeds_in (cond d a (x ∷ y ∷ z ∷ a)) ≡ feeds_in (x ∷ y ∷ z ∷ a)
+    by : (d : Bool) → is_bom x y z ≡ d → line_feeds_in (cond d a (x ∷ y ∷ z ∷ a)) ≡ line_feeds_in (x ∷ y ∷ z ∷ a)
     by true e =
         let two = and_parts ((x == 0xEF) && (y == 0xBB)) (z == 0xBF) e in
         let one = and_parts (x == 0xEF) (y == 0xBB) two.0 in
         let first : x ≡ 0xEF = eqb-true _ _ one.0 in
         let second : y ≡ 0xBB = eqb-true _ _ one.1 in
         let third : z ≡ 0xBF = eqb-true _ _ two.1 in
-        let none : feeds_in (x ∷ y ∷ z ∷ []) ≡ 0 = rw (first, second, third) refl in
+        let none : line_feeds_in (x ∷ y ∷ z ∷ []) ≡ 0 = rw (first, second, third) refl in
         omega (arith, feeds_in-append (x ∷ y ∷ z ∷ []) a, none)
     by false e = refl
 
@@ -96,14 +96,14 @@ HasNumbers-past gone a b none numbers = λ k lt.
     omega (arith, here, feeds_in-feed a (take k b) none)
 
 -- the number of line feeds among the first bytes
-feeds_in-take : (k : ℕ) (b : List ℕ) → feeds_in (take k b) ≤ k
-feeds_in-take k b = omega (arith, count_by-le-length is_feed (take k b), length-take k b)
+feeds_in-take : (k : ℕ) (b : List ℕ) → line_feeds_in (take k b) ≤ k
+feeds_in-take k b = omega (arith, count_by-le-length is_line_feed (take k b), length-take k b)
 
 -- and as bytes come
-pub HasNumbers-append : (gone : ℕ) (a b : List ℕ) → HasNumbers gone a → gone + feeds_in a + length b < 2 ^ 64 → HasNumbers gone (a ++ b)
+pub HasNumbers-append : (gone : ℕ) (a b : List ℕ) → HasNumbers gone a → gone + line_feeds_in a + length b < 2 ^ 64 → HasNumbers gone (a ++ b)
 HasNumbers-append gone a b numbers room = λ k lt. by k lt (nat_lt k (length a)) refl
   where
-    by : (k : ℕ) → k < length (a ++ b) → (d : Bool) → nat_lt k (length a) ≡ d → gone + feeds_in (take k (a ++ b)) + 1 < 2 ^ 64
+    by : (k : ℕ) → k < length (a ++ b) → (d : Bool) → nat_lt k (length a) ≡ d → gone + line_feeds_in (take k (a ++ b)) + 1 < 2 ^ 64
     by k lt true e =
         let below : k < length a = ltb-true k (length a) e in
         let within : k ≤ length a = omega arith in rw (take-append-le k a b within) (numbers k below)
@@ -115,7 +115,7 @@ HasNumbers-append gone a b numbers room = λ k lt. by k lt (nat_lt k (length a))
 
 -- what is left, whatever bytes come, begins with a piece and its line feed
 pub text_left-cut : (bytes : List ℕ) (place : Place) (end : ℕ) (more : List ℕ) → IsFeedAt bytes place.start end → BegunOrShort bytes place
-    → text_left (fed_more (fed_at bytes place) more) ≡ piece bytes place.start end ++ line_feed ∷ (drop (end + 1) bytes ++ more)
+    → unread_text (fed_more (fed_at bytes place) more) ≡ piece bytes place.start end ++ line_feed ∷ (drop (end + 1) bytes ++ more)
 text_left-cut bytes place end more f begun = by place.begun refl
   where
     cut : drop place.start bytes ++ more ≡ piece bytes place.start end ++ line_feed ∷ (drop (end + 1) bytes ++ more)
@@ -149,14 +149,14 @@ IsPlace-past bytes place end p f = record {
 }
 
 -- a place behind a line feed has counted it
-pub feeds-past : (bytes : List ℕ) (place : Place) (end : ℕ) → IsFeedAt bytes place.start end → feeds_so_far (fed_at bytes (place_past bytes place end)) ≡ feeds_so_far (fed_at bytes place)
+pub feeds-past : (bytes : List ℕ) (place : Place) (end : ℕ) → IsFeedAt bytes place.start end → line_feeds_so_far (fed_at bytes (place_past bytes place end)) ≡ line_feeds_so_far (fed_at bytes place)
 feeds-past bytes place end f =
-    omega (arith, ap feeds_in (rest-cut bytes place.start end f), feeds_in-feed (piece bytes place.start end) (drop (end + 1) bytes) (piece-lacks bytes place.start end f.after (omega (arith, f.within)) f.first))
+    omega (arith, ap line_feeds_in (rest-cut bytes place.start end f), feeds_in-feed (piece bytes place.start end) (drop (end + 1) bytes) (piece-lacks bytes place.start end f.after (omega (arith, f.within)) f.first))
 
 -- a line that is passed over is none of those that are given
 pub gives-skipped : (bytes : List ℕ) (place : Place) (end : ℕ) → IsFeedAt bytes place.start end → end - place.start ≤ line_limit → BegunOrShort bytes place
     → is_skipped place.met (strip_carriage_return (piece bytes place.start end)) ≡ true
-    → Gives [] (fed_at bytes place) (fed_at bytes (place_past bytes place end))
+    → HandsOutLines [] (fed_at bytes place) (fed_at bytes (place_past bytes place end))
 gives-skipped bytes place end f short begun skipped = λ more ended.
     let a = piece bytes place.start end in
     ap (λ (t : List ℕ). lines_from place.gone place.met t ended) (text_left-cut bytes place end more f begun)
@@ -166,7 +166,7 @@ gives-skipped bytes place end f short begun skipped = λ more ended.
 -- a line that is kept is given
 pub gives-kept : (bytes : List ℕ) (place : Place) (end : ℕ) → IsFeedAt bytes place.start end → end - place.start ≤ line_limit → BegunOrShort bytes place
     → is_skipped place.met (strip_carriage_return (piece bytes place.start end)) ≡ false
-    → Gives (record { number = place.gone + 1; bytes = strip_carriage_return (piece bytes place.start end) } ∷ []) (fed_at bytes place) (fed_at bytes (place_past bytes place end))
+    → HandsOutLines (record { number = place.gone + 1; bytes = strip_carriage_return (piece bytes place.start end) } ∷ []) (fed_at bytes place) (fed_at bytes (place_past bytes place end))
 gives-kept bytes place end f short begun kept = λ more ended.
     let a = piece bytes place.start end in
     ap (λ (t : List ℕ). lines_from place.gone place.met t ended) (text_left-cut bytes place end more f begun)
@@ -198,14 +198,14 @@ IsPlace-marked bytes place n p room = record {
 
 -- the mark is in no line
 pub gives-marked : (bytes : List ℕ) (place : Place) (n : ℕ) → place.begun ≡ false → place.start + 3 ≤ length bytes
-    → strip_bom (drop place.start bytes) ≡ drop n (drop place.start bytes) → Gives [] (fed_at bytes place) (fed_at bytes (place_marked place (place.start + n)))
+    → strip_bom (drop place.start bytes) ≡ drop n (drop place.start bytes) → HandsOutLines [] (fed_at bytes place) (fed_at bytes (place_marked place (place.start + n)))
 gives-marked bytes place n begun room mark = λ more ended.
     let long : 3 ≤ length (drop place.start bytes) = omega (arith, length-drop place.start bytes) in
     rw begun (ap (λ (t : List ℕ). lines_from place.gone place.met t ended)
     (strip_bom-append (drop place.start bytes) more long ∙ ap (λ (t : List ℕ). t ++ more) (mark ∙ drop-drop n place.start bytes)))
 
 -- nothing was given, and then what was given
-pub Gives-after : (given : List Line) (a b d : Fed) → Gives [] a b → Gives given b d → Gives given a d
+pub Gives-after : (given : List Line) (a b d : Fed) → HandsOutLines [] a b → HandsOutLines given b d → HandsOutLines given a d
 Gives-after given a b d f g = λ more ended. f more ended ∙ g more ended
 
 -- a text that begins with more than a line may have
@@ -228,7 +228,7 @@ next-long bytes place to far within none begun = record { bytes = head; long = i
     lacks : Lacks head
     lacks = piece-lacks bytes place.start (place.start + (line_limit + 1)) (omega arith) (omega arith) (λ k low high. none k low (omega arith))
 
-    text : (more : List ℕ) → text_left (fed_more (fed_at bytes place) more) ≡ head ++ (drop (line_limit + 1) (drop place.start bytes) ++ more)
+    text : (more : List ℕ) → unread_text (fed_more (fed_at bytes place) more) ≡ head ++ (drop (line_limit + 1) (drop place.start bytes) ++ more)
     text more = by place.begun refl
       where
         by : (d : Bool) → place.begun ≡ d → cond d (drop place.start bytes ++ more) (strip_bom (drop place.start bytes ++ more)) ≡ head ++ (drop (line_limit + 1) (drop place.start bytes) ++ more)
@@ -275,10 +275,10 @@ line-kept met a lacks short kept = record { nonempty = some (strip_carriage_retu
         by true = omega (arith, length-take (length a - 1) a)
         by false = short
 
-    none : feeds_in (strip_carriage_return a) ≡ 0
+    none : line_feeds_in (strip_carriage_return a) ≡ 0
     none = by (get_or a (length a - 1) 0 == 13)
       where
-        by : (d : Bool) → feeds_in (cond d (take (length a - 1) a) a) ≡ 0
+        by : (d : Bool) → line_feeds_in (cond d (take (length a - 1) a) a) ≡ 0
         by true =
             let whole = feeds_in-append (take (length a - 1) a) (drop (length a - 1) a) in
             let both_parts = rw (take-append-drop (length a - 1) a) at whole in
@@ -286,15 +286,15 @@ line-kept met a lacks short kept = record { nonempty = some (strip_carriage_retu
         by false = feeds_in-none a lacks
 
 -- the mark has no line feed
-pub feeds-marked : (bytes : List ℕ) (place : Place) (n : ℕ) → feeds_in (drop n (drop place.start bytes)) ≡ feeds_in (drop place.start bytes)
-    → place.gone + feeds_in (drop (place.start + n) bytes) ≡ place.gone + feeds_in (drop place.start bytes)
+pub feeds-marked : (bytes : List ℕ) (place : Place) (n : ℕ) → line_feeds_in (drop n (drop place.start bytes)) ≡ line_feeds_in (drop place.start bytes)
+    → place.gone + line_feeds_in (drop (place.start + n) bytes) ≡ place.gone + line_feeds_in (drop place.start bytes)
 feeds-marked bytes place n h = rw (← drop-drop n place.start bytes) (omega (arith, h))
 
 -- no line feed on and_parts sides of a place
 pub NoFeed-join : (bytes : List ℕ) (from middle to : ℕ) → NoFeed bytes from middle → NoFeed bytes middle to → NoFeed bytes from to
 NoFeed-join bytes from middle to low high = λ k past below. by k past below (nat_lt k middle) refl
   where
-    by : (k : ℕ) → from ≤ k → k < to → (d : Bool) → nat_lt k middle ≡ d → is_feed (get_or bytes k 0) ≡ false
+    by : (k : ℕ) → from ≤ k → k < to → (d : Bool) → nat_lt k middle ≡ d → is_line_feed (get_or bytes k 0) ≡ false
     by k past below true e = low k past (ltb-true k middle e)
     by k past below false e = high k (ltb-false k middle e) below
 
@@ -321,7 +321,7 @@ IsPlace-searched bytes place p none = record {
 }
 
 -- with more bytes a place is still one
-pub IsPlace-append : (bytes piece : List ℕ) (place : Place) → IsPlace bytes place → place.gone + feeds_in (drop place.start bytes) + length piece < 2 ^ 64 → IsPlace (bytes ++ piece) place
+pub IsPlace-append : (bytes piece : List ℕ) (place : Place) → IsPlace bytes place → place.gone + line_feeds_in (drop place.start bytes) + length piece < 2 ^ 64 → IsPlace (bytes ++ piece) place
 IsPlace-append bytes piece place p room = record {
   in_order = p.in_order;
   within = omega (arith, length-append bytes piece, p.within);
@@ -335,9 +335,9 @@ IsPlace-append bytes piece place p room = record {
 
 -- what was sought behind a place isn't there
 pub none-behind : (bytes : List ℕ) (from many : ℕ) → ((k : ℕ) → 0 ≤ k → k < many → (slice_index (drop from bytes) k == 10) ≡ true → ⊥) → NoFeed bytes from (from + many)
-none-behind bytes from many none k le lt = by (is_feed (slice_index bytes k)) refl
+none-behind bytes from many none k le lt = by (is_line_feed (slice_index bytes k)) refl
   where
-    by : (d : Bool) → is_feed (slice_index bytes k) ≡ d → is_feed (slice_index bytes k) ≡ false
+    by : (d : Bool) → is_line_feed (slice_index bytes k) ≡ d → is_line_feed (slice_index bytes k) ≡ false
     by true e =
         let at : from + (k - from) ≡ k = omega (arith, le) in
         let same : slice_index (drop from bytes) (k - from) ≡ slice_index bytes k = get_or-drop from bytes (k - from) 0 ∙ ap (slice_index bytes) at in
@@ -345,7 +345,7 @@ none-behind bytes from many none k le lt = by (is_feed (slice_index bytes k)) re
     by false e = e
 
 -- what was sought behind a place stands there
-pub feed-behind : (bytes : List ℕ) (from at : ℕ) → (slice_index (drop from bytes) at == 10) ≡ true → is_feed (slice_index bytes (from + at)) ≡ true
+pub feed-behind : (bytes : List ℕ) (from at : ℕ) → (slice_index (drop from bytes) at == 10) ≡ true → is_line_feed (slice_index bytes (from + at)) ≡ true
 feed-behind bytes from at h =
     let same : slice_index (drop from bytes) at ≡ slice_index bytes (from + at) = get_or-drop from bytes at 0 in
     rw same at h

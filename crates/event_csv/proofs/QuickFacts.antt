@@ -9,11 +9,11 @@ use Rattle.std.proofs.lemmas.Bool.{le-leb, leb-true, and_parts}
 use Rattle.std.proofs.lemmas.List.{length-map, length-take-le}
 use Rattle.std.proofs.lemmas.List.Folds.{list_all_more}
 use Rattle.std.proofs.lemmas.List.Sums.{sum_by-cons}
-use Rattle.event_csv.specs.Lines.{is_feed}
+use Rattle.event_csv.specs.Lines.{is_line_feed}
 use Rattle.csv.specs.Machine.{Read, line_feed, next_record}
 use Rattle.csv.specs.Reading.{strip_bom}
 use Rattle.csv.specs.declared.parser.State.TheVariants as st
-use Rattle.event_csv.specs.Fed.{feeds_in}
+use Rattle.event_csv.specs.Fed.{line_feeds_in}
 use Rattle.event_csv.specs.Fields.{comma, is_plain, line_config, line_fields, quote}
 use Rattle.event_csv.specs.Event.{Span, declared_stream, fields_event, span_of, stream_with, values_of}
 use Rattle.event_csv.specs.Numbers.{are_digits, int_of, number_up_to, time_of}
@@ -192,7 +192,7 @@ some-quoted s None some there h = tt
 some-quoted s (Some r) some there h = first-quoted s r.0.now (option_map (λ (t : Bor (List ℕ)). t.now) r.1) some there h
 
 -- the fields of a line are those from its first byte on
-pub line-fields : (line : List ℕ) (fields : List (List ℕ)) → strip_bom line ≡ line → 0 < length line → feeds_in line ≡ 0
+pub line-fields : (line : List ℕ) (fields : List (List ℕ)) → strip_bom line ≡ line → 0 < length line → line_feeds_in line ≡ 0
     → next_record line_config st.StartField [] [] line ≡ Some (fields, st.StartRecord, []) → line_fields line ≡ Some fields
 unfolding line_fields next_record
 line-fields [] fields strip some none reads = absurd (omega arith)
@@ -200,9 +200,9 @@ line-fields (c ∷ line) fields strip some none reads = by (c == line_feed) refl
   where
     by : (d : Bool) → (c == line_feed) ≡ d → line_fields (c ∷ line) ≡ Some fields
     by true e =
-        let count : feeds_in (c ∷ line) ≡ cond (is_feed c) 1 0 + feeds_in line = sum_by-cons (λ x. cond (is_feed x) 1 0) c line in
+        let count : line_feeds_in (c ∷ line) ≡ cond (is_line_feed c) 1 0 + line_feeds_in line = sum_by-cons (λ x. cond (is_line_feed x) 1 0) c line in
         let one : ℕ = 1 in
-        let feed : cond (is_feed c) one 0 ≡ one = rw e refl in
+        let feed : cond (is_line_feed c) one 0 ≡ one = rw e refl in
         absurd (omega (arith, count, feed, none))
     by false e =
         let one : next_record line_config st.StartRecord [] [] (c ∷ line) ≡ next_record line_config st.StartField [] [] (c ∷ line) = rw e refl in

@@ -24,12 +24,12 @@ abbrev pub is_empty : List ℕ → Bool
 is_empty bytes = length bytes == 0
 
 -- a line feed
-abbrev pub is_feed : ℕ → Bool
-is_feed byte = byte == line_feed
+abbrev pub is_line_feed : ℕ → Bool
+is_line_feed byte = byte == line_feed
 
 -- the text between the line feeds
 abbrev pub pieces_of : List ℕ → List (List ℕ)
-pieces_of text = slice_split is_feed text
+pieces_of text = slice_split is_line_feed text
 
 -- the pieces that are lines: each that a line feed ends, and the last one where it is too long already, or the text ends behind it and it isn't empty
 abbrev pub line_pieces : Bool → List (List ℕ) → List (List ℕ)

@@ -1,7 +1,7 @@
 -- The place in the bytes of a feed up to which lines were taken. No public contract cites this module.
 use Rattle.std.specs.Prelude.{◌≡◌, ℕ, ◌+◌, ◌<◌, ◌≤◌, ◌^◌, Bool, true, false, not, ◌&&◌, ◌||◌, List, length, take, drop, slice_index}
-use Rattle.event_csv.specs.Lines.{is_empty, is_feed, is_header}
-use Rattle.event_csv.specs.Fed.{Fed, feeds_in}
+use Rattle.event_csv.specs.Lines.{is_empty, is_line_feed, is_header}
+use Rattle.event_csv.specs.Fed.{Fed, line_feeds_in}
 use Rattle.event_csv.specs.declared.place.Place.{Place}
 
 -- what a feed holds with these bytes and this place
@@ -10,18 +10,18 @@ fed_at bytes place = record { gone = place.gone; begun = place.begun; met = plac
 
 -- no line feed stands from one place up to another
 abbrev pub NoFeed : List ℕ → ℕ → ℕ → Type 0
-NoFeed bytes from to = (k : ℕ) → from ≤ k → k < to → is_feed (slice_index bytes k) ≡ false
+NoFeed bytes from to = (k : ℕ) → from ≤ k → k < to → is_line_feed (slice_index bytes k) ≡ false
 
 -- the first line feed from a place on
 pub record IsFeedAt (bytes : List ℕ) (from end : ℕ) : Type 0 where
   pub after : from ≤ end
   pub within : end < length bytes
   pub first : NoFeed bytes from end
-  pub here : is_feed (slice_index bytes end) ≡ true
+  pub here : is_line_feed (slice_index bytes end) ≡ true
 
 -- the line of each byte that is left has a number of 64 bits
 abbrev pub HasNumbers : ℕ → List ℕ → Type 0
-HasNumbers gone rest = (k : ℕ) → k < length rest → gone + feeds_in (take k rest) + 1 < 2 ^ 64
+HasNumbers gone rest = (k : ℕ) → k < length rest → gone + line_feeds_in (take k rest) + 1 < 2 ^ 64
 
 -- the place lies within the bytes, and up to `searched` there is no line feed
 pub record IsPlace (bytes : List ℕ) (place : Place) : Type 0 where

@@ -2,7 +2,7 @@
 ghost use Rattle.std.specs.Prelude.{◌≡◌, ◌+◌, ◌<◌, ◌^◌, [], false, length, OnOk, OnErr};
 ghost use Rattle.std.specs.Borrow.{sem};
 ghost use Rattle.std.specs.Io.BufRead.{Rests};
-ghost use Rattle.event_csv.specs.Fed.{IsPart, LeavesLast, Takes, fed_more, feeds_so_far, lines_left, unfed};
+ghost use Rattle.event_csv.specs.Fed.{IsPart, LeavesLast, TakesFromFeed, fed_more, line_feeds_so_far, unread_lines, unfed};
 ghost use Rattle.event_csv.specs.Place.{BegunOrShort, IsPlace, fed_at};
 ghost use Rattle.event_csv.specs.contracts.feed.Feed.{the_row};
 
@@ -49,7 +49,7 @@ impl Feed {
 
     /// Puts more bytes at the end of the text. The memory of lines that are gone is used again.
     pub fn push(&mut self, piece: &[u8]) -> Result<(), Memory>
-        requires { feeds_so_far self.old + length piece.now < 2 ^ 64 }
+        requires { line_feeds_so_far self.old + length piece.now < 2 ^ 64 }
         ensures ok { OnOk result (self.new ≡ fed_more self.old piece.now) }
         ensures kept { OnErr result (self.new ≡ self.old) }
     {
@@ -73,15 +73,15 @@ impl Feed {
 
     /// Takes the next line, past empty lines and the header. Takes no memory.
     pub fn next_line(&mut self) -> Got<'_>
-        ensures* taken { sem 𝓛 (Rests the_row self.entry (λ new. Takes self.old new result
-            × (feeds_so_far new ≡ feeds_so_far self.old))) }
+        ensures* taken { sem 𝓛 (Rests the_row self.entry (λ new. TakesFromFeed self.old new result
+            × (line_feeds_so_far new ≡ line_feeds_so_far self.old))) }
     {
         take_line(self.bytes.as_slice(), &mut self.place)
     }
 
     /// The line that is left where the text ends here, unless it is empty or the header. Takes no memory.
     pub fn last_line(&self) -> Got<'_>
-        requires { lines_left self.now false ≡ [] }
+        requires { unread_lines self.now false ≡ [] }
         ensures { LeavesLast self.now result }
     {
         let bytes = self.bytes.as_slice();

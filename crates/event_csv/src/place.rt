@@ -3,7 +3,7 @@ ghost use Rattle.std.specs.Prelude.{◌≡◌, ◌+◌, ◌-◌, ◌≤◌, true
 ghost use Rattle.std.specs.Str.Lines.{strip_carriage_return};
 ghost use Rattle.csv.specs.Reading.{is_bom, strip_bom};
 ghost use Rattle.event_csv.specs.Lines.{begins_with_field, is_header as header_test, line_limit};
-ghost use Rattle.event_csv.specs.Fed.{Gives, IsLine, Takes, feeds_in, feeds_so_far};
+ghost use Rattle.event_csv.specs.Fed.{HandsOutLines, IsLine, TakesFromFeed, line_feeds_in, line_feeds_so_far};
 ghost use Rattle.event_csv.specs.Place.{BegunOrShort, IsFeedAt, IsPlace, NoFeed, fed_at, is_skipped as skip_test, met_after};
 
 use crate::got::Got;
@@ -27,11 +27,11 @@ pub(crate) fn take_line<'b>(bytes: &'b [u8], place: &mut Place) -> Got<'b>
     requires { IsPlace bytes.now place.old }
     ensures place { IsPlace bytes.now place.new }
     ensures begun { BegunOrShort bytes.now place.new }
-    ensures taken { Takes (fed_at bytes.now place.old) (fed_at bytes.now place.new) result }
-    ensures feeds { feeds_so_far (fed_at bytes.now place.new) ≡ feeds_so_far (fed_at bytes.now place.old) }
+    ensures taken { TakesFromFeed (fed_at bytes.now place.old) (fed_at bytes.now place.new) result }
+    ensures feeds { line_feeds_so_far (fed_at bytes.now place.new) ≡ line_feeds_so_far (fed_at bytes.now place.old) }
 {
     pass_mark(bytes, place);
-    'lines: while let Some(end) = feed_from(bytes, place.searched) {
+    'lines: while let Some(end) = next_line_feed(bytes, place.searched) {
         if end - place.start > LINE_LIMIT {
             return Got::Long {
                 number: place.gone + 1,
@@ -58,8 +58,8 @@ pub(crate) fn take_line<'b>(bytes: &'b [u8], place: &mut Place) -> Got<'b>
 fn pass_mark(bytes: &[u8], place: &mut Place)
     requires { IsPlace bytes.now place.old }
     ensures place { IsPlace bytes.now place.new }
-    ensures given { Gives [] (fed_at bytes.now place.old) (fed_at bytes.now place.new) }
-    ensures feeds { feeds_so_far (fed_at bytes.now place.new) ≡ feeds_so_far (fed_at bytes.now place.old) }
+    ensures given { HandsOutLines [] (fed_at bytes.now place.old) (fed_at bytes.now place.new) }
+    ensures feeds { line_feeds_so_far (fed_at bytes.now place.new) ≡ line_feeds_so_far (fed_at bytes.now place.old) }
     ensures begun { BegunOrShort bytes.now place.new }
     ensures forward { place.old.start ≤ place.new.start }
 {
@@ -77,7 +77,7 @@ fn mark_len(text: &[u8]) -> usize
     requires { 3 ≤ length text.now }
     ensures within { result ≤ 3 }
     ensures mark { strip_bom text.now ≡ drop result text.now }
-    ensures feeds { feeds_in (drop result text.now) ≡ feeds_in text.now }
+    ensures feeds { line_feeds_in (drop result text.now) ≡ line_feeds_in text.now }
 {
     if is_mark(text) { 3 } else { 0 }
 }
@@ -90,7 +90,7 @@ fn is_mark(text: &[u8]) -> bool
 }
 
 // The first line feed from a place on.
-fn feed_from(bytes: &[u8], from: usize) -> Option<usize>
+fn next_line_feed(bytes: &[u8], from: usize) -> Option<usize>
     requires { from ≤ length bytes.now }
     ensures { MatchOption result (NoFeed bytes.now from (length bytes.now)) (λ end. IsFeedAt bytes.now from end) }
 {
@@ -107,9 +107,9 @@ fn pass_line<'b>(bytes: &'b [u8], place: &mut Place, end: usize) -> Option<&'b [
     ensures moved { place.new.start ≡ end + 1 }
     ensures begun { place.new.begun ≡ true }
     ensures place { IsPlace bytes.now place.new }
-    ensures given { MatchOption result (Gives [] (fed_at bytes.now place.old) (fed_at bytes.now place.new))
-        (λ line. Gives (record { number = place.old.gone + 1; bytes = line.now } ∷ []) (fed_at bytes.now place.old) (fed_at bytes.now place.new) × IsLine line.now) }
-    ensures feeds { feeds_so_far (fed_at bytes.now place.new) ≡ feeds_so_far (fed_at bytes.now place.old) }
+    ensures given { MatchOption result (HandsOutLines [] (fed_at bytes.now place.old) (fed_at bytes.now place.new))
+        (λ line. HandsOutLines (record { number = place.old.gone + 1; bytes = line.now } ∷ []) (fed_at bytes.now place.old) (fed_at bytes.now place.new) × IsLine line.now) }
+    ensures feeds { line_feeds_so_far (fed_at bytes.now place.new) ≡ line_feeds_so_far (fed_at bytes.now place.old) }
 {
     let line = without_return(&bytes[place.start..end]);
     let skipped = is_skipped(line, place.met);

@@ -3,5 +3,5 @@ pub mod KindWord
 pub mod Lending
 pub mod Order
 pub mod OrderLaws
-pub mod Seen
 pub mod Tuple
+pub mod ValueOfRef

@@ -5,7 +5,7 @@ use Rattle.std.specs.declared.cmp.Ordering.{Ordering}
 use Rattle.std.specs.Cmp.Lexicographic.{slice_cmp}
 use Rattle.event_types.specs.declared.value.Value.{Value}
 use Rattle.event_types.specs.declared.value.Value.TheVariants.{Int, Over, Text, Dec}
-use Rattle.event_types.specs.Tuple.{Row}
+use Rattle.event_types.specs.Tuple.{TupleView}
 
 -- the place of a value's sort in the order: whole numbers, decimals, OVER, texts
 abbrev pub value_place : Value → ℕ
@@ -22,7 +22,7 @@ value_cmp (Text x) (Text y) = slice_cmp nat_cmp x y
 value_cmp x y = nat_cmp (value_place x) (value_place y)
 
 -- by start, then by the values from left to right with the shorter list first, then by detection
-abbrev pub tuple_cmp : Row → Row → Ordering
+abbrev pub tuple_cmp : TupleView → TupleView → Ordering
 tuple_cmp = then_cmp (on (λ t. t.from) nat_cmp) (then_cmp (on (λ t. t.vals) (slice_cmp value_cmp)) (on (λ t. t.at) nat_cmp))
 
 -- the list with one more item, which stands before the first that it isn't greater than
@@ -36,5 +36,5 @@ sort_by cmp [] = []
 sort_by cmp (x ∷ xs) = put cmp x (sort_by cmp xs)
 
 -- the tuples in order
-abbrev pub sorted : List Row → List Row
+abbrev pub sorted : List TupleView → List TupleView
 sorted tuples = sort_by tuple_cmp tuples

@@ -28,9 +28,9 @@ pub struct Tuple {
 
 impl Model for Tuple {
     ghost use Rattle.std.specs.Prelude.{◌≤◌};
-    ghost use Rattle.event_types.specs.Tuple.{Row};
+    ghost use Rattle.event_types.specs.Tuple.{TupleView};
 
-    ghost Value = { Row };
+    ghost Value = { TupleView };
 
     ghost view = { λ t. record { vals = t.vals; from = t.from; at = t.at } };
 

@@ -7,7 +7,7 @@ ghost use Rattle.std.proofs.Common.{ap, rules};
 ghost use Rattle.std.proofs.lemmas.Cmp.{eq_by_cmp_equiv};
 ghost use Rattle.event_types.specs.Order.{value_cmp, value_place};
 ghost use Rattle.event_types.specs.OrderLaws.{tied_values, value_total};
-ghost use Rattle.event_types.specs.Seen.{seen};
+ghost use Rattle.event_types.specs.ValueOfRef.{value_of_ref};
 
 use crate::decimal::Dec;
 use crate::list::{Copied, List};
@@ -79,7 +79,7 @@ impl Value {
 
     /// The value, looked at in place.
     pub fn look(&self) -> ValueRef<'_>
-        ensures { seen result ≡ self.now }
+        ensures { value_of_ref result ≡ self.now }
     {
         match self {
             Value::Int(number) => ValueRef::Int(*number),
@@ -96,7 +96,7 @@ impl Value {
 impl<'a> ValueRef<'a> {
     /// An equal value of its own.
     pub fn to_value(self, alloc: Global) -> Result<Value, Memory>
-        ensures { IfOk result (λ value. value ≡ seen self.entry) }
+        ensures { IfOk result (λ value. value ≡ value_of_ref self.entry) }
     {
         match self {
             ValueRef::Int(number) => Ok(Value::Int(number)),

@@ -17,7 +17,7 @@ use Rattle.resubscribe.proofs.OrderLemmas.{HasEachOnce-order}
 use Rattle.catalogue.specs.Judgement.{Accepts, Judged}
 use Rattle.catalogue.specs.Reading.{numbers_of, reads_in}
 use Rattle.catalogue.specs.Statements.{is_query, queries_in, query_names, reads_by}
-use Rattle.catalogue.specs.Typing.{Declare, none, stream, query}
+use Rattle.catalogue.specs.Typing.{FileDeclares, none, stream, query}
 use Rattle.independence.proofs.PublishedLemmas.{IsOf, apart-from, contains-at, contains-filter, declared-apart, grows, place-of, published-are, publisher}
 use Rattle.independence.proofs.TableLemmas.{get-append, get-back, get-front, number-at}
 
@@ -37,7 +37,7 @@ more-statements : {ss : List Statement} (t : Statement) {e : Entry} → IsOfDecl
 more-statements {ss} t {e} h = record { columns = h.columns; stands = Contains-append_right (t ∷ []) ss (tree.Stream e.name h.columns) h.stands; schema_is = h.schema_is; declared = h.declared }
 
 -- by induction on the declarations
-declared-are : {ss : List Statement} {streams : List Entry} → Declare ss streams → All (IsOfDeclaration ss) streams
+declared-are : {ss : List Statement} {streams : List Entry} → FileDeclares ss streams → All (IsOfDeclaration ss) streams
 declared-are none = All-nil (IsOfDeclaration [])
 declared-are (stream {name = name} {columns = columns} {schema = schema} {later = later} {streams = streams} first rest) =
     All-cons (IsOfDeclaration (tree.Stream name columns ∷ later)) (entry_of name schema) streams (record { columns = columns; stands = (0, omega arith, refl); schema_is = first; declared = refl })
@@ -46,7 +46,7 @@ declared-are (query {items = items} {source = source} {name = name} {later = lat
     All-weaker (IsOfDeclaration later) (IsOfDeclaration (tree.Query items source name ∷ later)) (λ e h. more-statements (tree.Query items source name) h) streams (declared-are rest)
 
 -- each declaration has its stream, by induction on the declarations
-declaration-is : {ss : List Statement} {streams : List Entry} → Declare ss streams → (name : List ℕ) (columns : List Column) (k : ℕ) → slice_get ss k ≡ Some (tree.Stream name columns)
+declaration-is : {ss : List Statement} {streams : List Entry} → FileDeclares ss streams → (name : List ℕ) (columns : List Column) (k : ℕ) → slice_get ss k ≡ Some (tree.Stream name columns)
     → (schema : List Attr) × IsDeclared columns schema × Contains streams (entry_of name schema)
 declaration-is none name columns k at = cc
 declaration-is (stream {name = own} {columns = own_columns} {schema = schema} first rest) name columns zero at =

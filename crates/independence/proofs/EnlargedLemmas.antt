@@ -4,7 +4,7 @@ use Rattle.std.specs.Prelude.{Contains}
 use Rattle.std.proofs.lemmas.List.Elements.{All-contains}
 use Rattle.cel_types.specs.SourceLaws.{kinds_in}
 use Rattle.catalogue.specs.Judgement.{program_of}
-use Rattle.session.specs.Hearing.{closed}
+use Rattle.session.specs.Heard.{closed}
 use Rattle.session.specs.Readings.{readings}
 use Rattle.independence.specs.Enlarging.{AddedQueriesChangeNoEvent, AddedQueriesChangeNoLine}
 use Rattle.independence.specs.Reports.{AddedQueriesChangeNoReport}

@@ -7,7 +7,7 @@ use Rattle.std.proofs.lemmas.Bool.{cases_Bool}
 use Rattle.std.proofs.lemmas.Bool.Decides.{nat_tests}
 use Rattle.std.proofs.lemmas.List.Elements.{All-contains}
 use Rattle.std.proofs.lemmas.Option.{slice_get-get_or, slice_get-map}
-use Rattle.semantics.specs.Histories.{Heard, heard_on, times}
+use Rattle.semantics.specs.Histories.{Event, heard_on, times}
 use Rattle.stream_schema.specs.Streams.{Entry, number_of, stream_names}
 use Rattle.cel_grammar.specs.Trees as tree
 use Rattle.catalogue.specs.Judgement.{Judged}
@@ -56,7 +56,7 @@ unequal m n e same = grind (arith, nat_tests)
 
 module _ (streams others : List Entry) (apart : AllPairs (λ x y. x ≢ y) (stream_names streams)) (apart_too : AllPairs (λ x y. x ≢ y) (stream_names others)) (name : List ℕ) (n m : ℕ) (found : number_of name streams ≡ Some n) (found_too : number_of name others ≡ Some m) where
   -- one event is on the stream of a name in both, or in neither
-  same-test : (event other : Heard) → AreOneEvent streams others event other → (event.stream == n) ≡ (other.stream == m)
+  same-test : (event other : Event) → AreOneEvent streams others event other → (event.stream == n) ≡ (other.stream == m)
   same-test event other one =
       let own = one.streams_are.name in
       elim (cases_Bool (event.stream == n)) [
@@ -75,25 +75,25 @@ module _ (streams others : List Entry) (apart : AllPairs (λ x y. x ≢ y) (stre
       ]
 
   -- so the same tuples were heard there, by induction on the histories
-  heard-same : (history other_history : List Heard) → AreTheSameEvents streams others history other_history → heard_on history n ≡ heard_on other_history m
+  heard-same : (history other_history : List Event) → AreTheSameEvents streams others history other_history → heard_on history n ≡ heard_on other_history m
   heard-same [] [] same = refl
   heard-same [] (other ∷ later) same = absurd same
   heard-same (event ∷ later) [] same = absurd same
   heard-same (event ∷ later) (other ∷ others_later) same =
       let rest = heard-same later others_later same.1 in
       let test = same-test event other same.0 in
-      one-more (event.stream == n) (other.stream == m) event other (filter (λ (e : Heard). e.stream == n) later) (filter (λ (e : Heard). e.stream == m) others_later) test same.0.tuples_are rest
+      one-more (event.stream == n) (other.stream == m) event other (filter (λ (e : Event). e.stream == n) later) (filter (λ (e : Event). e.stream == m) others_later) test same.0.tuples_are rest
     where
       -- one event more
-      one-more : (p q : Bool) (event other : Heard) (xs ys : List Heard) → p ≡ q → event.tuple ≡ other.tuple → map (λ (e : Heard). e.tuple) xs ≡ map (λ (e : Heard). e.tuple) ys
-          → map (λ (e : Heard). e.tuple) (cond p (event ∷ xs) xs) ≡ map (λ (e : Heard). e.tuple) (cond q (other ∷ ys) ys)
+      one-more : (p q : Bool) (event other : Event) (xs ys : List Event) → p ≡ q → event.tuple ≡ other.tuple → map (λ (e : Event). e.tuple) xs ≡ map (λ (e : Event). e.tuple) ys
+          → map (λ (e : Event). e.tuple) (cond p (event ∷ xs) xs) ≡ map (λ (e : Event). e.tuple) (cond q (other ∷ ys) ys)
       one-more true true event other xs ys e tuples rest = λ i. tuples i ∷ rest i
       one-more false false event other xs ys e tuples rest = rest
       one-more true false event other xs ys e tuples rest = cc
       one-more false true event other xs ys e tuples rest = cc
 
 -- on each declared stream the same tuples were heard
-pub hear-same : (a b : Judged) → Stands a → Stands b → AddQueries a.statements b.statements → (history others : List Heard) → AreTheSameEvents a.streams b.streams history others → (query : List ℕ) → HearTheSame a b history others query
+pub hear-same : (a b : Judged) → Stands a → Stands b → AddQueries a.statements b.statements → (history others : List Event) → AreTheSameEvents a.streams b.streams history others → (query : List ℕ) → HearTheSame a b history others query
 hear-same a b s t enlarges history others same query k d inside read =
     at-entry (get_or a.declared k d) (slice_get-get_or a.declared k d inside)
   where

@@ -7,7 +7,7 @@ use Rattle.std.proofs.lemmas.List.Elements.{All-contains, Contains-get_or}
 use Rattle.std.proofs.lemmas.List.Sorted.{All-permutation, Contains-permutation, IsPermutation-sym}
 use Rattle.std.proofs.lemmas.Option.{slice_get-get_or}
 use Rattle.event_types.specs.declared.kind.Kind.{Kind}
-use Rattle.semantics.specs.Histories.{Heard, heard_on}
+use Rattle.semantics.specs.Histories.{Event, heard_on}
 use Rattle.semantics.specs.Programs.{Query}
 use Rattle.semantics.specs.Report.{line}
 use Rattle.semantics.specs.Results.{results}
@@ -56,7 +56,7 @@ module _ (text other : List ℕ) (a b : Judged) (accepts : Accepts text a) (acce
   closed : (u : Statement) (name : List ℕ) → Contains a.statements u → IsTrue (test (name_of u)) → Contains (reads_by u) name → IsTrue (test name)
   closed u name stated shares read = into name (reads-closed text a accepts s.apart query u name stated (from (name_of u) shares) read)
 
-  module _ (history others : List Heard) (hear : HearTheSame a b history others query) where
+  module _ (history others : List Event) (hear : HearTheSame a b history others query) where
     -- the shared declared streams heard the same under their numbers
     hear-by_number : HearTheSameByNumber (λ n. test (name_at a.streams n)) (number_in a.streams b.streams) (length a.declared) history others
     hear-by_number n shares lt =
@@ -106,7 +106,7 @@ module _ (text other : List ℕ) (a b : Judged) (accepts : Accepts text a) (acce
             }
 
 -- results depend on what is read alone
-pub reads_alone : (text other : List ℕ) (a b : Judged) (history others : List Heard) → Accepts text a → Accepts other b → (kinds other_kinds : ℕ → List Kind) → IsProgram kinds (program_of a) → IsProgram other_kinds (program_of b)
+pub reads_alone : (text other : List ℕ) (a b : Judged) (history others : List Event) → Accepts text a → Accepts other b → (kinds other_kinds : ℕ → List Kind) → IsProgram kinds (program_of a) → IsProgram other_kinds (program_of b)
     → All (λ query. ReadsTheSame a.statements b.statements query.name → HearTheSame a b history others query.name → HasTwin a b history others query) (program_of a).queries
 reads_alone text other a b history others accepts accepts_too kinds other_kinds typed typed_too =
     All-permutation (λ query. ReadsTheSame a.statements b.statements query.name → HearTheSame a b history others query.name → HasTwin a b history others query) a.published (program_of a).queries

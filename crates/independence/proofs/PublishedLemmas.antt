@@ -21,7 +21,7 @@ use Rattle.resubscribe.specs.Order.{IsOrder}
 use Rattle.catalogue.specs.Arranging.{AreSound}
 use Rattle.catalogue.specs.Reading.{reads_in}
 use Rattle.catalogue.specs.Statements.{is_query, name_of, names_in, queries_in}
-use Rattle.catalogue.specs.Typing.{Declare, Publish, published_by, none, stream, query, next}
+use Rattle.catalogue.specs.Typing.{FileDeclares, Publish, published_by, none, stream, query, next}
 use Rattle.catalogue.proofs.PublishLemmas.{Publish-push}
 use Rattle.catalogue.proofs.StandLemmas.{is_absent, sound_apart}
 use Rattle.independence.proofs.TableLemmas.{get-end}
@@ -106,12 +106,12 @@ apart-names ss apart i j d lt inside same =
     apart i j e lt (omega arith) (sym (get_or-map name_of ss i e d (omega arith)) ∙ same ∙ get_or-map name_of ss j e d (omega arith))
 
 -- the declared streams are those of the declarations
-declared-names : {ss : List Statement} {streams : List Entry} → Declare ss streams → stream_names streams ≡ names_in (filter (λ s. not (is_query s)) ss)
+declared-names : {ss : List Statement} {streams : List Entry} → FileDeclares ss streams → stream_names streams ≡ names_in (filter (λ s. not (is_query s)) ss)
 declared-names none = refl
 declared-names (stream {name = name} first rest) = ap (λ names. name ∷ names) (declared-names rest)
 declared-names (query rest) = declared-names rest
 
-module _ (ss : List Statement) (declared : List Entry) (order : List ℕ) (sound : AreSound ss) (in_order : IsOrder (reads_in ss) order) (declares : Declare ss declared) where
+module _ (ss : List Statement) (declared : List Entry) (order : List ℕ) (sound : AreSound ss) (in_order : IsOrder (reads_in ss) order) (declares : FileDeclares ss declared) where
   -- declared streams have names that differ
   pub declared-apart : AllPairs (λ x y. x ≢ y) (stream_names declared)
   declared-apart =

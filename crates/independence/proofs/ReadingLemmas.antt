@@ -3,22 +3,22 @@ use Rattle.std.proofs.Common.{◌≡◌, ◌∙◌, ℕ, List, [], ◌∷◌, �
 use Rattle.std.specs.Prelude.{Option, Some, None, Result, Ok, Err, is_none, is_some}
 use Rattle.std.specs.List.{AllZip, filter}
 use Rattle.std.specs.Option.{option_or}
-use Rattle.semantics.specs.Histories.{Heard}
+use Rattle.semantics.specs.Histories.{Event}
 use Rattle.stream_schema.specs.Streams.{Entry}
 use Rattle.event_csv.specs.declared.event.Seen.{Seen}
 use Rattle.event_csv.specs.declared.fault.LineFault.{LineFault}
 use Rattle.event_csv.specs.Event.{event as event_in}
 use Rattle.event_csv.specs.Lines.{Line, lines}
 use Rattle.epoch_laws.specs.Standing.{closed_part, last_time}
-use Rattle.session.specs.Hearing.{Reading, before_last, closed, disorder, events_in, heard, heard_from, refusal_of, refused, refused_from, seen_after}
+use Rattle.session.specs.Heard.{Reading, before_last, closed, disorder, events_in, heard, heard_from, refusal_of, refused, refused_from, last_after}
 use Rattle.session.specs.Readings.{found_of, reading_of, readings}
 use Rattle.independence.specs.Enlarging.{AreReadAlike}
 use Rattle.independence.specs.Hearing.{AreOneEvent, AreTheSameEvents}
 
 module _ (streams others : List Entry) where
   -- two readings of one line: one event by name, or one fault
-  data FoundAlike : Result Heard LineFault → Result Heard LineFault → Type 0 where
-    event : {seen other : Heard} → AreOneEvent streams others seen other → FoundAlike (Ok seen) (Ok other)
+  data FoundAlike : Result Event LineFault → Result Event LineFault → Type 0 where
+    event : {seen other : Event} → AreOneEvent streams others seen other → FoundAlike (Ok seen) (Ok other)
     fault : {why : LineFault} → FoundAlike (Err why) (Err why)
 
   record AreAlike (line other : Reading) : Type 0 where
@@ -36,11 +36,11 @@ module _ (streams others : List Entry) where
   readings-alike alike [] = tt
   readings-alike alike (line ∷ text) = (record { numbers = refl; found = found-alike (event_in streams line.bytes) (event_in others line.bytes) (alike line.bytes) }, readings-alike alike text)
 
-  refusal-same : (number : ℕ) (seen : Option ℕ) {found other : Result Heard LineFault} → FoundAlike found other → refusal_of number seen found ≡ refusal_of number seen other
+  refusal-same : (number : ℕ) (seen : Option ℕ) {found other : Result Event LineFault} → FoundAlike found other → refusal_of number seen found ≡ refusal_of number seen other
   refusal-same number seen (event one) = ap (λ tuple. disorder number seen tuple.at) one.tuples_are
   refusal-same number seen fault = refl
 
-  seen-same : {found other : Result Heard LineFault} → FoundAlike found other → seen_after found ≡ seen_after other
+  seen-same : {found other : Result Event LineFault} → FoundAlike found other → last_after found ≡ last_after other
   seen-same (event one) = ap (λ tuple. Some tuple.at) one.tuples_are
   seen-same fault = refl
 
@@ -55,22 +55,22 @@ module _ (streams others : List Entry) where
   refused-same seen (line ∷ text) [] same = absurd same
   refused-same seen (line ∷ text) (other ∷ other_text) same =
       let first = both-refused seen line other same.0 in
-      let rest : refused_from (seen_after line.found) text ≡ refused_from (seen_after other.found) other_text =
-      refused-same (seen_after line.found) text other_text same.1 ∙ ap (λ time. refused_from time other_text) (seen-same same.0.found) in
+      let rest : refused_from (last_after line.found) text ≡ refused_from (last_after other.found) other_text =
+      refused-same (last_after line.found) text other_text same.1 ∙ ap (λ time. refused_from time other_text) (seen-same same.0.found) in
       λ i. option_or (first i) (rest i)
 
-  events-alike : {found other : Result Heard LineFault} → FoundAlike found other → AreTheSameEvents streams others (events_in found) (events_in other)
+  events-alike : {found other : Result Event LineFault} → FoundAlike found other → AreTheSameEvents streams others (events_in found) (events_in other)
   events-alike (event one) = (one, tt)
   events-alike fault = tt
 
-  behind : (history other_history later other_later : List Heard) → AreTheSameEvents streams others history other_history → AreTheSameEvents streams others later other_later
+  behind : (history other_history later other_later : List Event) → AreTheSameEvents streams others history other_history → AreTheSameEvents streams others later other_later
       → AreTheSameEvents streams others (history ++ later) (other_history ++ other_later)
   behind [] [] later other_later same rest = rest
   behind [] (other ∷ other_history) later other_later same rest = absurd same
   behind (seen ∷ history) [] later other_later same rest = absurd same
   behind (seen ∷ history) (other ∷ other_history) later other_later same rest = (same.0, behind history other_history later other_later same.1 rest)
 
-  by-test : (p q : Bool) (history other_history later other_later : List Heard) → p ≡ q → AreTheSameEvents streams others history other_history → AreTheSameEvents streams others later other_later
+  by-test : (p q : Bool) (history other_history later other_later : List Event) → p ≡ q → AreTheSameEvents streams others history other_history → AreTheSameEvents streams others later other_later
       → AreTheSameEvents streams others (cond p history later) (cond q other_history other_later)
   by-test true true history other_history later other_later e same rest = same
   by-test false false history other_history later other_later e same rest = rest
@@ -83,14 +83,14 @@ module _ (streams others : List Entry) where
   heard-alike seen [] (other ∷ other_text) same = absurd same
   heard-alike seen (line ∷ text) [] same = absurd same
   heard-alike seen (line ∷ text) (other ∷ other_text) same =
-      let rest : AreTheSameEvents streams others (heard_from (seen_after line.found) text) (heard_from (seen_after other.found) other_text) =
-      subst (λ (time : Option ℕ). AreTheSameEvents streams others (heard_from (seen_after line.found) text) (heard_from time other_text)) (seen-same same.0.found) (heard-alike (seen_after line.found) text other_text same.1) in
+      let rest : AreTheSameEvents streams others (heard_from (last_after line.found) text) (heard_from (last_after other.found) other_text) =
+      subst (λ (time : Option ℕ). AreTheSameEvents streams others (heard_from (last_after line.found) text) (heard_from time other_text)) (seen-same same.0.found) (heard-alike (last_after line.found) text other_text same.1) in
       by-test (is_some (refusal_of line.number seen line.found)) (is_some (refusal_of other.number seen other.found)) [] []
-      (events_in line.found ++ heard_from (seen_after line.found) text) (events_in other.found ++ heard_from (seen_after other.found) other_text) (ap is_some (both-refused seen line other same.0)) tt
-      (behind (events_in line.found) (events_in other.found) (heard_from (seen_after line.found) text) (heard_from (seen_after other.found) other_text) (events-alike same.0.found) rest)
+      (events_in line.found ++ heard_from (last_after line.found) text) (events_in other.found ++ heard_from (last_after other.found) other_text) (ap is_some (both-refused seen line other same.0)) tt
+      (behind (events_in line.found) (events_in other.found) (heard_from (last_after line.found) text) (heard_from (last_after other.found) other_text) (events-alike same.0.found) rest)
 
   -- the same events have one last time, by induction on the histories
-  last-same : (history other_history : List Heard) → AreTheSameEvents streams others history other_history → last_time history ≡ last_time other_history
+  last-same : (history other_history : List Event) → AreTheSameEvents streams others history other_history → last_time history ≡ last_time other_history
   last-same [] [] same = refl
   last-same [] (other ∷ other_history) same = absurd same
   last-same (seen ∷ history) [] same = absurd same
@@ -100,19 +100,19 @@ module _ (streams others : List Entry) where
   last-same (seen ∷ next ∷ history) (other ∷ other_next ∷ other_history) same = last-same (next ∷ history) (other_next ∷ other_history) same.1
 
   -- those before a time are the same, by induction on the histories
-  before-alike : (time other_time : ℕ) (history other_history : List Heard) → time ≡ other_time → AreTheSameEvents streams others history other_history
-      → AreTheSameEvents streams others (filter (λ (seen : Heard). nat_lt seen.tuple.at time) history) (filter (λ (seen : Heard). nat_lt seen.tuple.at other_time) other_history)
+  before-alike : (time other_time : ℕ) (history other_history : List Event) → time ≡ other_time → AreTheSameEvents streams others history other_history
+      → AreTheSameEvents streams others (filter (λ (seen : Event). nat_lt seen.tuple.at time) history) (filter (λ (seen : Event). nat_lt seen.tuple.at other_time) other_history)
   before-alike time other_time [] [] e same = tt
   before-alike time other_time [] (other ∷ other_history) e same = absurd same
   before-alike time other_time (seen ∷ history) [] e same = absurd same
   before-alike time other_time (seen ∷ history) (other ∷ other_history) e same =
       let rest = before-alike time other_time history other_history e same.1 in
       let at : seen.tuple.at ≡ other.tuple.at = ap (λ tuple. tuple.at) same.0.tuples_are in
-      by-test (nat_lt seen.tuple.at time) (nat_lt other.tuple.at other_time) (seen ∷ filter (λ (s : Heard). nat_lt s.tuple.at time) history) (other ∷ filter (λ (s : Heard). nat_lt s.tuple.at other_time) other_history)
-      (filter (λ (s : Heard). nat_lt s.tuple.at time) history) (filter (λ (s : Heard). nat_lt s.tuple.at other_time) other_history) (λ i. nat_lt (at i) (e i)) (same.0, rest) rest
+      by-test (nat_lt seen.tuple.at time) (nat_lt other.tuple.at other_time) (seen ∷ filter (λ (s : Event). nat_lt s.tuple.at time) history) (other ∷ filter (λ (s : Event). nat_lt s.tuple.at other_time) other_history)
+      (filter (λ (s : Event). nat_lt s.tuple.at time) history) (filter (λ (s : Event). nat_lt s.tuple.at other_time) other_history) (λ i. nat_lt (at i) (e i)) (same.0, rest) rest
 
   -- so are the parts before the last epoch
-  part-alike : (time other_time : Option ℕ) (history other_history : List Heard) → time ≡ other_time → AreTheSameEvents streams others history other_history
+  part-alike : (time other_time : Option ℕ) (history other_history : List Event) → time ≡ other_time → AreTheSameEvents streams others history other_history
       → AreTheSameEvents streams others (closed_part time history) (closed_part other_time other_history)
   part-alike None None history other_history e same = same
   part-alike None (Some other_time) history other_history e same = cc

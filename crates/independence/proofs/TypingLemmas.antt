@@ -9,7 +9,7 @@ use Rattle.stream_schema.specs.Schema.{Attr}
 use Rattle.stream_schema.specs.Streams.{Entry, number_of, schemas_of}
 use Rattle.cel_grammar.specs.Trees.{Source, Statement}
 use Rattle.cel_grammar.specs.Trees as tree
-use Rattle.cel_types.specs.Sources.{Gives, name, filter, select, union, next, fold}
+use Rattle.cel_types.specs.Sources.{Elaborates, name, filter, select, union, next, fold}
 use Rattle.cel_types.specs.Statements.{Queries, read_names}
 use Rattle.catalogue.specs.Statements.{reads_by}
 use Rattle.independence.proofs.TableLemmas.{get-append, number-append, number-found}
@@ -28,7 +28,7 @@ abbrev pub AreAlike : List Entry → List Entry → (ℕ → ℕ) → List (List
 AreAlike streams others number names = (a : List ℕ) → Contains names a → IsAlike streams others number a
 
 -- by induction on the derivation
-gives-renumbered : {streams others : List Entry} (number : ℕ → ℕ) {e : Source} {schema : List Attr} {x : Ex} → Gives streams e schema x → AreAlike streams others number (read_names e) → Gives others e schema (renumbered number x)
+gives-renumbered : {streams others : List Entry} (number : ℕ → ℕ) {e : Source} {schema : List Attr} {x : Ex} → Elaborates streams e schema x → AreAlike streams others number (read_names e) → Elaborates others e schema (renumbered number x)
 gives-renumbered number (name {a = a} {n = n} {schema = schema} found there) alike =
     let has = alike a (0, omega arith, refl) n schema (record { found = found; there = there }) in name has.found has.there
 gives-renumbered number (filter g m) alike = filter (gives-renumbered number g alike) m
@@ -74,7 +74,7 @@ queries-append streams more s schema x q =
     subst (Queries (streams ++ more) s schema) (renumbered-same x) (queries-renumbered streams (streams ++ more) (λ n. n) s schema x q (λ a stands n own has. has-append streams more a n own has))
 
 -- each stream that it reads has the name of one that its source reads, by induction on the derivation
-gives-reads : {streams : List Entry} (IsSo : ℕ → Type 0) {e : Source} {schema : List Attr} {x : Ex} → Gives streams e schema x
+gives-reads : {streams : List Entry} (IsSo : ℕ → Type 0) {e : Source} {schema : List Attr} {x : Ex} → Elaborates streams e schema x
     → ((a : List ℕ) (n : ℕ) → Contains (read_names e) a → number_of a streams ≡ Some n → IsSo n) → ReadsOnly IsSo x
 gives-reads IsSo (name {a = a} {n = n} found there) so = so a n (0, omega arith, refl) found
 gives-reads IsSo (filter g m) so = gives-reads IsSo g so
@@ -93,7 +93,7 @@ queries-reads streams IsSo (tree.Stream a columns) schema x q so = absurd q
 queries-reads streams IsSo (tree.Query items e a) schema x q so = gives-reads IsSo q so
 
 -- each name that a query reads is a stream's, by induction on the derivation
-gives-named : {streams : List Entry} {e : Source} {schema : List Attr} {x : Ex} → Gives streams e schema x → (a : List ℕ) → Contains (read_names e) a → (n : ℕ) × (number_of a streams ≡ Some n)
+gives-named : {streams : List Entry} {e : Source} {schema : List Attr} {x : Ex} → Elaborates streams e schema x → (a : List ℕ) → Contains (read_names e) a → (n : ℕ) × (number_of a streams ≡ Some n)
 gives-named {streams} (name {n = n} found there) a (zero, inside, same) = (n, subst (λ (b : List ℕ). number_of b streams ≡ Some n) same found)
 gives-named (name found there) a (suc k, inside, same) = absurd (omega arith)
 gives-named (filter g m) a stands = gives-named g a stands

@@ -1,7 +1,7 @@
 -- Texts to which queries are added.
 use Rattle.std.specs.Prelude.{◌≡◌, ℕ, false, List, Contains, Result, Ok, Err}
 use Rattle.std.specs.List.{All}
-use Rattle.semantics.specs.Histories.{Heard, times}
+use Rattle.semantics.specs.Histories.{Event, times}
 use Rattle.stream_schema.specs.Streams.{Entry}
 use Rattle.cel_grammar.specs.Trees.{Statement}
 use Rattle.catalogue.specs.Judgement.{Accepts, Judged, program_of}
@@ -31,10 +31,10 @@ AddedQueriesChangeNoEvent =
 
 -- the same events have the same detection times
 abbrev pub SameEventsHaveSameTimes : Type 0
-SameEventsHaveSameTimes = (streams others : List Entry) (history other_history : List Heard) → AreTheSameEvents streams others history other_history → times history ≡ times other_history
+SameEventsHaveSameTimes = (streams others : List Entry) (history other_history : List Event) → AreTheSameEvents streams others history other_history → times history ≡ times other_history
 
 -- over the same events each old query has the same lines at each time where queries are added
 abbrev pub AddedQueriesChangeNoLine : Type 0
 AddedQueriesChangeNoLine =
-    (text other_text : List ℕ) (judged other : Judged) (history other_history : List Heard) → Accepts text judged → Accepts other_text other → AddQueries judged.statements other.statements
+    (text other_text : List ℕ) (judged other : Judged) (history other_history : List Event) → Accepts text judged → Accepts other_text other → AddQueries judged.statements other.statements
     → AreTheSameEvents judged.streams other.streams history other_history → All (HasTwin judged other history other_history) (program_of judged).queries

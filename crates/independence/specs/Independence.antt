@@ -1,7 +1,7 @@
 -- No result depends on a query that isn't read from.
 use Rattle.std.specs.Prelude.{◌≡◌, ℕ, List, Contains}
 use Rattle.std.specs.List.{All}
-use Rattle.semantics.specs.Histories.{Heard}
+use Rattle.semantics.specs.Histories.{Event}
 use Rattle.semantics.specs.Programs.{Query}
 use Rattle.semantics.specs.Report.{lines_at}
 use Rattle.semantics.specs.Results.{results}
@@ -10,7 +10,7 @@ use Rattle.independence.specs.Hearing.{HearTheSame}
 use Rattle.independence.specs.ReadsFrom.{ReadsTheSame}
 
 -- the other text has a query of the same name, which at each time has the same results over its history, and so the same lines
-pub record HasTwin (judged other : Judged) (history other_history : List Heard) (query : Query) : Type 0 where
+pub record HasTwin (judged other : Judged) (history other_history : List Event) (query : Query) : Type 0 where
   pub twin : Query
   pub stands : Contains (program_of other).queries twin
   pub same_name : twin.name ≡ query.name
@@ -20,5 +20,5 @@ pub record HasTwin (judged other : Judged) (history other_history : List Heard) 
 -- a query has the same results in each accepted text in which it reads the same, over histories in which its declared streams hear the same, whatever else stands or is heard there
 abbrev pub ResultsDependOnReadsAlone : Type 0
 ResultsDependOnReadsAlone =
-    (text other_text : List ℕ) (judged other : Judged) (history other_history : List Heard) → Accepts text judged → Accepts other_text other
+    (text other_text : List ℕ) (judged other : Judged) (history other_history : List Event) → Accepts text judged → Accepts other_text other
     → All (λ query. ReadsTheSame judged.statements other.statements query.name → HearTheSame judged other history other_history query.name → HasTwin judged other history other_history query) (program_of judged).queries

@@ -3,7 +3,7 @@ use Rattle.std.specs.Prelude.{◌≡◌, ℕ, Bool, List}
 use Rattle.std.specs.List.{All}
 use Rattle.semantics.specs.Histories.{times}
 use Rattle.catalogue.specs.Judgement.{Accepts, Judged, program_of}
-use Rattle.session.specs.Hearing.{closed, heard, refused}
+use Rattle.session.specs.Heard.{closed, heard, refused}
 use Rattle.session.specs.Readings.{readings}
 use Rattle.independence.specs.Enlarging.{AddQueries}
 use Rattle.independence.specs.Hearing.{AreTheSameEvents}

@@ -5,7 +5,7 @@ use Rattle.std.specs.Option.{option_map}
 use Rattle.std.specs.List.{All, list_all}
 use Rattle.std.proofs.lemmas.Int.{ints}
 use Rattle.std.proofs.lemmas.List.Elements.{All-weaker}
-use Rattle.event_types.specs.Tuple.{Row}
+use Rattle.event_types.specs.Tuple.{TupleView}
 use Rattle.semantics.specs.Scalars.{Pr}
 use Rattle.semantics.proofs.ReportLemmas.{filter_all}
 use Rattle.instances.specs.Alive.{is_alive, meets_bound}
@@ -14,7 +14,7 @@ use Rattle.instances.specs.Bounds.{alive_instances, started}
 use Rattle.instances.specs.declared.instance.Instance.{Instance}
 
 -- a bound reads the start alone
-meets_started : (time : ℕ) (b : Row) (c : Class) → meets_bound time (started b.from) c ≡ meets_bound time b c
+meets_started : (time : ℕ) (b : TupleView) (c : Class) → meets_bound time (started b.from) c ≡ meets_bound time b c
 meets_started time b (Bound true most) = refl
 meets_started time b (Bound false most) = refl
 meets_started time b (Fixed place cmp v) = refl
@@ -22,7 +22,7 @@ meets_started time b (Key event binding) = refl
 meets_started time b Rest = refl
 
 -- whether an instance is alive depends on its start alone
-pub started_is : (time : ℕ) (choose : List Pr) (b : Row) → is_alive time choose (started b.from) ≡ is_alive time choose b
+pub started_is : (time : ℕ) (choose : List Pr) (b : TupleView) → is_alive time choose (started b.from) ≡ is_alive time choose b
 started_is time [] b = refl
 started_is time (p ∷ ps) b = λ i. meets_started time b (class_of p) i && started_is time ps b i
 
@@ -33,14 +33,14 @@ less_later time from later most le e = grind (arith, ints)
 most_later : (time from later : ℕ) (most : ℤ) → from ≤ later → int_le (pos time -ℤ pos from) most ≡ true → int_le (pos time -ℤ pos later) most ≡ true
 most_later time from later most le e = grind (arith, ints)
 
-meets_later : (time from : ℕ) (b : Row) → from ≤ b.from → (c : Class) → meets_bound time (started from) c ≡ true → meets_bound time b c ≡ true
+meets_later : (time from : ℕ) (b : TupleView) → from ≤ b.from → (c : Class) → meets_bound time (started from) c ≡ true → meets_bound time b c ≡ true
 meets_later time from b le (Bound true most) e = less_later time from b.from most le e
 meets_later time from b le (Bound false most) e = most_later time from b.from most le e
 meets_later time from b le (Fixed place cmp v) e = refl
 meets_later time from b le (Key event binding) e = refl
 meets_later time from b le Rest e = refl
 
-alive_later : (time from : ℕ) (b : Row) → from ≤ b.from → (choose : List Pr) → is_alive time choose (started from) ≡ true → is_alive time choose b ≡ true
+alive_later : (time from : ℕ) (b : TupleView) → from ≤ b.from → (choose : List Pr) → is_alive time choose (started from) ≡ true → is_alive time choose b ≡ true
 alive_later time from b le [] e = refl
 alive_later time from b le (p ∷ ps) e = go (alive_later time from b le ps) (meets_bound time (started from) (class_of p)) refl e
   where

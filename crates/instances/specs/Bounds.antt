@@ -1,7 +1,7 @@
 -- The instances that a later event may still match, as far as the bounds on DUR tell.
 use Rattle.std.specs.Prelude.{ℕ, List, []}
 use Rattle.std.specs.List.{filter}
-use Rattle.event_types.specs.Tuple.{Row}
+use Rattle.event_types.specs.Tuple.{TupleView}
 use Rattle.semantics.specs.Scalars.{Pr}
 use Rattle.instances.specs.Alive.{is_alive}
 use Rattle.instances.specs.declared.instance.Instance.{Instance}
@@ -11,5 +11,5 @@ abbrev pub alive_instances : ℕ → List Pr → List Instance → List Instance
 alive_instances time choose instances = filter (λ instance. is_alive time choose instance.tuple) instances
 
 -- a binding of which only the start is told, as a bound part reads no more
-abbrev pub started : ℕ → Row
+abbrev pub started : ℕ → TupleView
 started from = record { vals = []; from = from; at = from }

@@ -5,7 +5,7 @@ ghost use Rattle.semantics.specs.Scalars.{Pr};
 ghost use Rattle.scalar_expr.specs.Fits.{AllFit};
 ghost use Rattle.instances.specs.declared.instance.Instance.{Instance};
 ghost use Rattle.instances.specs.Bounds.{alive_instances};
-ghost use Rattle.instances.specs.Keys.{BindingFits, EventFits, HasKey, IsReady, KeepsUsedKeys, Key, candidates_of, unmatched};
+ghost use Rattle.instances.specs.Keys.{BindingFits, EventFits, HasKey, IsKeyReady, KeepsUsedKeys, Key, candidates_of, unmatched};
 
 use crate::instance::{Instance, Instances};
 use event_types::{Memory, Tuple};
@@ -49,7 +49,7 @@ pub trait Waiting {
     /// Makes room for an instance with this key.
     fn ready(&mut self, instance: &Instance) -> Result<(), Memory>
         requires { BindingFits (key self.old) instance.now.tuple }
-        ensures ok { OnOk result (IsReady (key self.old) (ready_keys self.new) instance.now.tuple) }
+        ensures ok { OnOk result (IsKeyReady (key self.old) (ready_keys self.new) instance.now.tuple) }
         ensures more_ready { All (Contains (ready_keys self.new)) (ready_keys self.old) }
         ensures only { (value : Value) → Contains (ready_keys self.new) value → Contains (ready_keys self.old) value ⊎ HasKey (key self.old) instance.now.tuple value }
         ensures kept { OnErr result (ready_keys self.new ≡ ready_keys self.old) }
@@ -60,7 +60,7 @@ pub trait Waiting {
     /// Puts an instance where room was made for its key since the last purge. Takes no memory.
     fn link(&mut self, bead: Bead<Instance>)
         requires fits { BindingFits (key self.old) bead.tuple }
-        requires is_ready { IsReady (key self.old) (ready_keys self.old) bead.tuple }
+        requires is_ready { IsKeyReady (key self.old) (ready_keys self.old) bead.tuple }
         ensures linked { IsPermutation (instances self.new) (bead ∷ instances self.old) }
         ensures same_ready { ready_keys self.new ≡ ready_keys self.old }
         ensures same_condition { condition self.new ≡ condition self.old }

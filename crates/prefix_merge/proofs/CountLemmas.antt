@@ -69,7 +69,7 @@ map_read f (x ∷ xs) (suc k) d e lt = map_read f xs k d e (omega (arith, lt))
 -- where a state stands for a root it is a root state, and else a waiting state
 root_there : (net : Net) (number : ℕ) (prefix : Prefix) → IsAt net number prefix → is_root prefix ≡ is_some (root_at net number)
 root_there net number (Root stream) here = sym (ap is_some here)
-root_there net number (After prefix hop) here = sym (ap (λ entry. is_some (option_and_then root_by entry)) here.1)
+root_there net number (After prefix hop) here = sym (ap (λ entrance. is_some (option_and_then root_by entrance)) here.1)
 
 -- as many of the prefixes of states are roots as there are root states
 roots_count : (net : Net) (first : ℕ) (places : ℕ → Prefix) → ((k : ℕ) → is_used net k ≡ true → is_root (places (first + k)) ≡ is_some (root_at net k))

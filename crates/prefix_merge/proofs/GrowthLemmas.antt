@@ -6,11 +6,11 @@ use Rattle.std.specs.Option.{option_and_then}
 use Rattle.std.proofs.lemmas.Bool.{cases_lt}
 use Rattle.automaton.specs.declared.line.Hop.{Hop}
 use Rattle.automaton.specs.declared.network.End.{End}
-use Rattle.automaton.specs.declared.network.Entry.TheVariants as entry
+use Rattle.automaton.specs.declared.network.Entrance.TheVariants as entrance
 use Rattle.automaton.specs.Changes.{AddsHop}
 use Rattle.automaton.specs.Networks.{IsAt, IsNetwork}
 use Rattle.automaton.specs.Prefixes.{Prefix, Root, After, beginnings}
-use Rattle.automaton.specs.States.{Net, before_at, before_by, ends_at, ends_in, entry_at, entry_in, is_used, root_at, root_by, root_in, state_at}
+use Rattle.automaton.specs.States.{Net, before_at, before_by, ends_at, ends_in, entrance_at, entrance_in, is_used, root_at, root_by, root_in, state_at}
 use Rattle.automaton.proofs.ChangeLemmas.{adds_hop_network, free_kept, free_reads, hop_apart, hop_entry}
 use Rattle.automaton.proofs.ClearedLemmas.{before_used}
 use Rattle.automaton.proofs.NumberLemmas.{are_same_or_not}
@@ -52,7 +52,7 @@ pub record IsGrowing (old base : Net) (prefix : Prefix) (tip : ℕ) (net : Net) 
   -- two states of one prefix are one
   pub apart : (number other : ℕ) (p : Prefix) → IsAt net number p → IsAt net other p → number ≡ other
   pub needed : (number : ℕ) (p : Prefix) → IsAt net number p → (IsUsedBy net any_end p) ⊎ (Contains (beginnings prefix) p)
-  pub stay : (number : ℕ) → IsTrue (is_used old number) → entry_at net number ≡ entry_at old number
+  pub stay : (number : ℕ) → IsTrue (is_used old number) → entrance_at net number ≡ entrance_at old number
   pub same_ends : (number : ℕ) → ends_at net number ≡ ends_at old number
   pub came : (p : Prefix) → HasPrefix net p → (HasPrefix old p) ⊎ (Contains (beginnings prefix) p)
   pub numbers : TakesLowest old net
@@ -60,7 +60,7 @@ pub record IsGrowing (old base : Net) (prefix : Prefix) (tip : ℕ) (net : Net) 
   pub longer : length old ≤ length net
 
 -- a state that wasn't there comes
-module _ (net grown : Net) (number : ℕ) (is : IsNetwork net) (free : is_used net number ≡ false) (entries : (other : ℕ) → (other ≡ number → ⊥) → entry_at grown other ≡ entry_at net other) where
+module _ (net grown : Net) (number : ℕ) (is : IsNetwork net) (free : is_used net number ≡ false) (entries : (other : ℕ) → (other ≡ number → ⊥) → entrance_at grown other ≡ entrance_at net other) where
   -- no state stands behind the new one
   pub not_before : (next : ℕ) → before_at net next ≡ Some number → ⊥
   not_before next from = not_both net number (before_used net is next number from) free
@@ -100,18 +100,18 @@ above_tip old net tip number numbers came used lowest = by_order (cases_lt tip n
 
 -- a hop's state comes
 module _ (old base : Net) (prefix : Prefix) (tip number : ℕ) (hop : Hop) (net grown : Net) (growing : IsGrowing old base prefix tip net)
-    (absent : (next : ℕ) → entry_at net next ≡ Some (entry.Waiting tip hop) → ⊥) (lowest : IsLowestFree net number) (adds : AddsHop number tip hop net grown) where
+    (absent : (next : ℕ) → entrance_at net next ≡ Some (entrance.Waiting tip hop) → ⊥) (lowest : IsLowestFree net number) (adds : AddsHop number tip hop net grown) where
   tip_used : is_used net tip ≡ true
   tip_used = at_used net tip prefix growing.here
 
-  entries : (other : ℕ) → (other ≡ number → ⊥) → entry_at grown other ≡ entry_at net other
+  entries : (other : ℕ) → (other ≡ number → ⊥) → entrance_at grown other ≡ entrance_at net other
   entries = hop_entry number tip hop net grown lowest.free tip_used adds growing.network
 
   apart_tip : tip ≡ number → ⊥
   apart_tip = hop_apart number tip hop net grown lowest.free tip_used adds growing.network
 
-  new_entry : entry_at grown number ≡ Some (entry.Waiting tip hop)
-  new_entry = ap entry_in adds.here
+  new_entry : entrance_at grown number ≡ Some (entrance.Waiting tip hop)
+  new_entry = ap entrance_in adds.here
 
   new_here : IsAt grown number (After prefix hop)
   new_here = (tip, new_entry, at_kept net grown (forth net grown number growing.network lowest.free entries) tip prefix growing.here)
@@ -139,7 +139,7 @@ module _ (old base : Net) (prefix : Prefix) (tip number : ℕ) (hop : Hop) (net 
   new_alone other ne there =
       let was = back net grown number growing.network lowest.free entries other (After prefix hop) ne there in
       let same = growing.apart was.0 tip prefix was.2 growing.here in
-      absent other (was.1 ∙ ap (λ n. Some (entry.Waiting n hop)) same)
+      absent other (was.1 ∙ ap (λ n. Some (entrance.Waiting n hop)) same)
 
   new_place : (other : ℕ) (p : Prefix) → other ≡ number → IsAt grown other p → p ≡ After prefix hop
   new_place other p same there = at_one grown number p (After prefix hop) (subst (λ n. IsAt grown n p) same there) new_here
@@ -201,7 +201,7 @@ module _ (old base : Net) (prefix : Prefix) (tip number : ℕ) (hop : Hop) (net 
       by_number (inl e) = ap (root_at grown) e ∙ ap (option_and_then root_by) new_entry ∙ sym (free_reads net grown number lowest.free root_in) ∙ ap (root_at net) (sym e)
       by_number (inr ne) = ap (option_and_then root_by) (entries n ne)
 
-  hop_stay : (n : ℕ) → IsTrue (is_used old n) → entry_at grown n ≡ entry_at old n
+  hop_stay : (n : ℕ) → IsTrue (is_used old n) → entrance_at grown n ≡ entrance_at old n
   hop_stay n used =
       let was : is_used net n ≡ true = sym (entry_there (state_at net n)) ∙ ap is_some (growing.stay n used) ∙ entry_there (state_at old n) ∙ used in
       entries n (λ e. not_both net n was (ap (is_used net) e ∙ lowest.free)) ∙ growing.stay n used

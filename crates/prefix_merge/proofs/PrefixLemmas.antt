@@ -6,8 +6,8 @@ use Rattle.std.proofs.Math.Seq.{drop-cons}
 use Rattle.std.proofs.lemmas.List.Elements.{Contains-append_cases, Contains-append_left, Contains-append_right}
 use Rattle.std.proofs.lemmas.Option.{get_or_from_slice_get, slice_get_within}
 use Rattle.automaton.specs.declared.line.Hop.{Hop}
-use Rattle.automaton.specs.declared.network.Entry.{Entry}
-use Rattle.automaton.specs.declared.network.Entry.TheVariants as entry
+use Rattle.automaton.specs.declared.network.Entrance.{Entrance}
+use Rattle.automaton.specs.declared.network.Entrance.TheVariants as entrance
 use Rattle.automaton.specs.Networks.{IsAt}
 use Rattle.automaton.specs.Prefixes.{Prefix, Root, After, beginnings, extended}
 use Rattle.automaton.specs.States.{Net, root_by}
@@ -16,7 +16,7 @@ use Rattle.automaton.proofs.PlaceLemmas.{extended-push}
 use Rattle.prefix_merge.specs.Merging.{HasPrefix}
 
 -- a root state isn't entered from another
-pub root_or_waiting : (o : Option Entry) (stream before : ℕ) (hop : Hop) → option_and_then root_by o ≡ Some stream → o ≡ Some (entry.Waiting before hop) → ⊥
+pub root_or_waiting : (o : Option Entrance) (stream before : ℕ) (hop : Hop) → option_and_then root_by o ≡ Some stream → o ≡ Some (entrance.Waiting before hop) → ⊥
 root_or_waiting o stream before hop root waiting = let none : option_and_then root_by o ≡ None = ap (option_and_then root_by) waiting in cc
 
 last_item : {X : Type 0} (xs : List X) (x : X) → Contains (xs ++ x ∷ []) x

@@ -10,14 +10,14 @@ use Rattle.automaton.specs.declared.network.State.{State}
 use Rattle.automaton.specs.Changes.{RemovesState, without_edge}
 use Rattle.automaton.specs.Networks.{IsAt, IsNetwork}
 use Rattle.automaton.specs.Prefixes.{Prefix, Root, After, beginnings}
-use Rattle.automaton.specs.States.{Net, before_at, before_by, edges_at, ends_at, ends_in, entry_at, is_used, root_at, root_by, root_in, state_at, tells}
+use Rattle.automaton.specs.States.{Net, before_at, before_by, edges_at, ends_at, ends_in, entrance_at, is_used, root_at, root_by, root_in, state_at, tells}
 use Rattle.automaton.proofs.ClearedLemmas.{before_used, edge_leads, left_at, left_entry, left_reads, none_entered, removes_state_network, told_not, waiting_before}
 use Rattle.event_types.proofs.NumberLemmas.{is_same}
 use Rattle.automaton.proofs.NumberLemmas.{are_same_or_not}
 use Rattle.automaton.proofs.SlotLemmas.{at_used, entry_there}
 use Rattle.prefix_merge.specs.Growth.{IsTable}
 use Rattle.prefix_merge.specs.Merging.{IsUsedBy}
-use Rattle.prefix_merge.specs.Pruning.{IsLeft, IsPruned, IsPruning, IsWanted}
+use Rattle.prefix_merge.specs.Pruning.{IsWithoutUnused, IsPruned, IsPruning, IsWanted}
 use Rattle.prefix_merge.proofs.GrowthLemmas.{any_end, not_both}
 use Rattle.prefix_merge.proofs.PrefixLemmas.{begins_before, begins_cases, begins_root, root_or_waiting}
 
@@ -89,7 +89,7 @@ module _ (whole : Net) (prefix : Prefix) (tip : ℕ) (net : Net) (pruning : IsPr
       go (edge ∷ edges) is =
           let inside : 0 < length (edges_at net tip) = let longer = ap length is in omega (arith, longer) in
           let next = get_or (edges_at net tip) 0 0 in
-          let from = waiting_before (entry_at net next) tip (edge_leads net pruning.left.network tip 0 0 inside) in
+          let from = waiting_before (entrance_at net next) tip (edge_leads net pruning.left.network tip 0 0 inside) in
           let behind : IsAt net next (After prefix from.0) = (tip, from.1, pruning.here) in
           record {
             left = pruning.left;
@@ -104,7 +104,7 @@ module _ (whole : Net) (prefix : Prefix) (tip : ℕ) (net : Net) (pruning : IsPr
     not_tip : (number : ℕ) → is_used left number ≡ true → number ≡ tip → ⊥
     not_tip number used same = not_both left number used (ap (is_used left) same ∙ gone)
 
-    entry_left : (number : ℕ) → (number ≡ tip → ⊥) → entry_at left number ≡ entry_at net number
+    entry_left : (number : ℕ) → (number ≡ tip → ⊥) → entrance_at left number ≡ entrance_at net number
     entry_left = left_entry tip net left removes no_edges pruning.left.network
 
     -- each state that is left had its prefix before
@@ -125,7 +125,7 @@ module _ (whole : Net) (prefix : Prefix) (tip : ℕ) (net : Net) (pruning : IsPr
         by_number (inr ne) = left_reads tip net left removes no_edges pruning.left.network ends_in ends_cut number ne
 
     -- what is left has the prefixes that are wanted
-    pub still_left : IsLeft whole left
+    pub still_left : IsWithoutUnused whole left
     still_left = record {
       network = removes_state_network tip net left removes no_edges pruning.left.network;
       stay = λ number used.
@@ -198,7 +198,7 @@ hop_pruning whole prefix hop tip before net left pruning removes no_edges no_end
 pub goes_on : (whole : Net) (prefix : Prefix) (tip before : ℕ) (net left new : Net) → ((w : Net) (p : Prefix) → IsPruning w p before left → IsPruned w new) → IsPruning whole prefix tip net → RemovesState tip net left → edges_at net tip ≡ [] → ends_at net tip ≡ []
     → before_at net tip ≡ Some before → IsPruned whole new
 goes_on whole (Root stream) tip before net left new rest pruning removes no_edges no_ends from =
-    absurd (let w = waiting_before (entry_at net tip) before from in root_or_waiting (entry_at net tip) stream before w.0 pruning.here w.1)
+    absurd (let w = waiting_before (entrance_at net tip) before from in root_or_waiting (entrance_at net tip) stream before w.0 pruning.here w.1)
 goes_on whole (After prefix hop) tip before net left new rest pruning removes no_edges no_ends from = rest whole prefix (hop_pruning whole prefix hop tip before net left pruning removes no_edges no_ends from)
 
 -- the pruning is over where the state is wanted

@@ -12,7 +12,7 @@ use Rattle.automaton.specs.Changes.{RemovesEnd, without_end, without_numbered}
 use Rattle.automaton.specs.NetworkLines.{Ending, HasEndings, ending_at, endings_by}
 use Rattle.automaton.specs.Networks.{IsAt, IsNetwork}
 use Rattle.automaton.specs.Prefixes.{Prefix, beginnings}
-use Rattle.automaton.specs.States.{Net, ends_at, ends_in, entry_at, entry_in, is_used, root_at, root_by, state_at}
+use Rattle.automaton.specs.States.{Net, ends_at, ends_in, entrance_at, entrance_in, is_used, root_at, root_by, state_at}
 use Rattle.automaton.proofs.ChangeLemmas.{gone_entry, reads_alike, removes_end_network}
 use Rattle.automaton.proofs.CountLemmas.{bit, count-cons}
 use Rattle.event_types.proofs.NumberLemmas.{is_other, same_number}
@@ -90,8 +90,8 @@ lines_left number prefix (end ∷ ends) = go (lines_left number prefix ends) (no
 
 -- the end leaves
 module _ (old middle : Net) (state end : ℕ) (network : IsNetwork old) (merged : IsMerged old) (own : HasOwnNumbers old) (has : 1 ≤ ends_numbered old end state) (removes : RemovesEnd state end old middle) where
-  middle_entry : (number : ℕ) → entry_at middle number ≡ entry_at old number
-  middle_entry = reads_alike entry_in old middle state (ap entry_in removes.here ∙ gone_entry end (state_at old state)) removes.others
+  middle_entry : (number : ℕ) → entrance_at middle number ≡ entrance_at old number
+  middle_entry = reads_alike entrance_in old middle state (ap entrance_in removes.here ∙ gone_entry end (state_at old state)) removes.others
 
   -- without the end the states are the same
   pub middle_used : (number : ℕ) → is_used middle number ≡ is_used old number
@@ -150,7 +150,7 @@ module _ (old middle : Net) (state end : ℕ) (network : IsNetwork old) (merged 
 
   -- and the states that it alone used
   module _ (new : Net) (pruned : IsPruned middle new) where
-    new_entry : (number : ℕ) → IsTrue (is_used new number) → entry_at new number ≡ entry_at old number
+    new_entry : (number : ℕ) → IsTrue (is_used new number) → entrance_at new number ≡ entrance_at old number
     new_entry number used = pruned.left.stay number used ∙ middle_entry number
 
     new_keeps : KeepsEntries new old

@@ -5,11 +5,11 @@ use Rattle.std.specs.List.{list_any}
 use Rattle.std.specs.Option.{option_and_then}
 use Rattle.automaton.specs.declared.line.Hop.{Hop}
 use Rattle.automaton.specs.declared.network.End.{End}
-use Rattle.automaton.specs.declared.network.Entry.TheVariants as entry
+use Rattle.automaton.specs.declared.network.Entrance.TheVariants as entrance
 use Rattle.automaton.specs.Changes.{AddsEnd, AddsRoot}
 use Rattle.automaton.specs.Networks.{IsAt, IsNetwork}
 use Rattle.automaton.specs.Prefixes.{Prefix, Root, After, beginnings, extended}
-use Rattle.automaton.specs.States.{Net, before_at, before_by, before_in, ends_at, ends_in, entry_at, entry_in, is_used, root_at, root_by, state_at}
+use Rattle.automaton.specs.States.{Net, before_at, before_by, before_in, ends_at, ends_in, entrance_at, entrance_in, is_used, root_at, root_by, state_at}
 use Rattle.automaton.proofs.ChangeLemmas.{adds_end_network, adds_root_network, free_reads, reads_alike}
 use Rattle.automaton.proofs.ClearedLemmas.{before_used}
 use Rattle.automaton.proofs.NumberLemmas.{are_same_or_not}
@@ -21,7 +21,7 @@ use Rattle.prefix_merge.proofs.GrowthLemmas.{IsGrowing, any_end, back, forth, ho
 use Rattle.prefix_merge.proofs.PrefixLemmas.{at_beginning, begins_itself}
 
 -- a state keeps the number by which it was entered
-pub stay_keeps : (old net : Net) → ((number : ℕ) → IsTrue (is_used old number) → entry_at net number ≡ entry_at old number) → KeepsEntries old net
+pub stay_keeps : (old net : Net) → ((number : ℕ) → IsTrue (is_used old number) → entrance_at net number ≡ entrance_at old number) → KeepsEntries old net
 stay_keeps old net stay number e is = stay number (sym (entry_there (state_at old number)) ∙ ap is_some is) ∙ is
 
 -- the line begins where a state is there
@@ -44,11 +44,11 @@ found_growing old prefix tip network merged here = record {
 
 -- the line begins at a new root state
 module _ (old base : Net) (number stream : ℕ) (network : IsNetwork old) (merged : IsMerged old) (no_root : (n : ℕ) → root_at old n ≡ Some stream → ⊥) (lowest : IsLowestFree old number) (adds : AddsRoot number stream old base) where
-  entries : (other : ℕ) → (other ≡ number → ⊥) → entry_at base other ≡ entry_at old other
-  entries other ne = ap entry_in (adds.others other ne)
+  entries : (other : ℕ) → (other ≡ number → ⊥) → entrance_at base other ≡ entrance_at old other
+  entries other ne = ap entrance_in (adds.others other ne)
 
   root_here : IsAt base number (Root stream)
-  root_here = ap (λ slot. option_and_then root_by (entry_in slot)) adds.here
+  root_here = ap (λ slot. option_and_then root_by (entrance_in slot)) adds.here
 
   root_place : (other : ℕ) (p : Prefix) → other ≡ number → IsAt base other p → p ≡ Root stream
   root_place other p same there = at_one base number p (Root stream) (subst (λ n. IsAt base n p) same there) root_here
@@ -120,7 +120,7 @@ module _ (old base : Net) (number stream : ℕ) (network : IsNetwork old) (merge
 pub record HasGrown (old base : Net) (whole : Prefix) (end : End) (new : Net) : Type 0 where
   pub network : IsNetwork new
   pub merged : IsMerged new
-  pub stay : (number : ℕ) → IsTrue (is_used old number) → entry_at new number ≡ entry_at old number
+  pub stay : (number : ℕ) → IsTrue (is_used old number) → entrance_at new number ≡ entrance_at old number
   pub prefixes : (p : Prefix) → HasPrefix new p ↔ ((HasPrefix old p) ⊎ (Contains (beginnings whole) p))
   pub numbers : TakesLowest old new
   pub roots : (number : ℕ) → root_at new number ≡ root_at base number
@@ -142,8 +142,8 @@ any_last (first ∷ ends) end = refl
 
 -- the line has come to its end
 module _ (old base : Net) (whole : Prefix) (last : ℕ) (end : End) (net new : Net) (growing : IsGrowing old base whole last net) (adds : AddsEnd last end net new) where
-  same_entries : (number : ℕ) → entry_at new number ≡ entry_at net number
-  same_entries = reads_alike entry_in net new last (ap entry_in adds.here ∙ end_entry end (state_at net last)) adds.others
+  same_entries : (number : ℕ) → entrance_at new number ≡ entrance_at net number
+  same_entries = reads_alike entrance_in net new last (ap entrance_in adds.here ∙ end_entry end (state_at net last)) adds.others
 
   on : KeepsEntries net new
   on number e is = same_entries number ∙ is
@@ -177,7 +177,7 @@ module _ (old base : Net) (whole : Prefix) (last : ℕ) (end : End) (net new : N
   used_same : (number : ℕ) → is_used new number ≡ is_used net number
   used_same number = sym (entry_there (state_at new number)) ∙ ap is_some (same_entries number) ∙ entry_there (state_at net number)
 
-  stays : (number : ℕ) → IsTrue (is_used old number) → entry_at new number ≡ entry_at old number
+  stays : (number : ℕ) → IsTrue (is_used old number) → entrance_at new number ≡ entrance_at old number
   stays number used = same_entries number ∙ growing.stay number used
 
   -- behind all hops the network has grown by the line
@@ -210,9 +210,9 @@ module _ (old base : Net) (whole : Prefix) (last : ℕ) (end : End) (net new : N
 
 -- the line grows to its end
 pub line_grown : (old base : Net) (hops : List Hop) (prefix : Prefix) (tip : ℕ) (end : End) (net new : Net) → IsGrowing old base prefix tip net
-    → ((hop : Hop) (rest : List Hop) (next : ℕ) → hops ≡ hop ∷ rest → entry_at net next ≡ Some (entry.Waiting tip hop) → ⊥) → Grows tip hops end net new → HasGrown old base (extended prefix hops) end new
+    → ((hop : Hop) (rest : List Hop) (next : ℕ) → hops ≡ hop ∷ rest → entrance_at net next ≡ Some (entrance.Waiting tip hop) → ⊥) → Grows tip hops end net new → HasGrown old base (extended prefix hops) end new
 line_grown old base [] prefix tip end net new growing absent grows = end_grown old base prefix tip end net new growing grows
 line_grown old base (hop ∷ hops) prefix tip end net new growing absent (number, grown, lowest, adds, grows) =
-    let here_absent : (next : ℕ) → entry_at net next ≡ Some (entry.Waiting tip hop) → ⊥ = λ next entered. absent hop hops next refl entered in
+    let here_absent : (next : ℕ) → entrance_at net next ≡ Some (entrance.Waiting tip hop) → ⊥ = λ next entered. absent hop hops next refl entered in
     line_grown old base hops (After prefix hop) number end grown new (hop_growing old base prefix tip number hop net grown growing here_absent lowest adds)
     (λ later rest next is entered. none_from old base prefix tip number hop net grown growing here_absent lowest adds next (ap (option_and_then before_by) entered)) grows

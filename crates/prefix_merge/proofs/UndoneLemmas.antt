@@ -29,7 +29,7 @@ edge_undone number (Some state) none =
     let kept : without_number number (state.edges ++ number ∷ []) ≡ state.edges ++ [] =
     filter-append (λ n. not (n == number)) state.edges (number ∷ [])
     ∙ (λ i. none_without number state.edges none i ++ cond (not (is_same number number refl i)) (number ∷ []) []) in
-    λ i. Some (record { entry = state.entry; edges = (kept ∙ append-nil state.edges) i; ends = state.ends })
+    λ i. Some (record { entrance = state.entrance; edges = (kept ∙ append-nil state.edges) i; ends = state.ends })
 
 module _ (number places : ℕ) (old new left undone : Net) (free : is_used old number ≡ false) (next : number ≤ length old) (counted : places ≡ length old) (longer : length new ≡ max (length old) (number + 1))
     (removes : RemovesState number new left) (is : undone ≡ take places left) where

@@ -4,11 +4,11 @@ use Rattle.std.specs.HashMap.{HashMap, get}
 use Rattle.automaton.specs.declared.line.Hop.{Hop}
 use Rattle.automaton.specs.declared.line.Line.{Line}
 use Rattle.automaton.specs.declared.network.End.{End}
-use Rattle.automaton.specs.declared.network.Entry.TheVariants as entry
+use Rattle.automaton.specs.declared.network.Entrance.TheVariants as entrance
 use Rattle.automaton.specs.Changes.{AddsEnd, AddsHop, AddsRoot}
 use Rattle.automaton.specs.Networks.{IsAt, IsNetwork}
 use Rattle.automaton.specs.Prefixes.{Root, extended}
-use Rattle.automaton.specs.States.{Net, entry_at, is_used, root_at}
+use Rattle.automaton.specs.States.{Net, entrance_at, is_used, root_at}
 use Rattle.prefix_merge.specs.Merging.{HasOwnNumbers, IsLowestFree, IsMerged}
 
 -- the table tells the root state of each stream that has one, and of no other stream
@@ -34,7 +34,7 @@ end_of line number = record { step = line.last; out = line.out; number = number 
 -- the line has come to a state by its first hops, and no state is entered from there through the next one
 pub record Reaches (net : Net) (line : Line) (state place : ℕ) : Type 0 where
   pub here : IsAt net state (extended (Root line.root) (take place line.hops))
-  pub last : (hop : Hop) (next : ℕ) → slice_get line.hops place ≡ Some hop → entry_at net next ≢ Some (entry.Waiting state hop)
+  pub last : (hop : Hop) (next : ℕ) → slice_get line.hops place ≡ Some hop → entrance_at net next ≢ Some (entrance.Waiting state hop)
 
 -- from a state on each hop gets a state at the lowest free number, and the last one the end
 abbrev pub Grows : ℕ → List Hop → End → Net → Net → Type 0

@@ -3,7 +3,7 @@ use Rattle.std.specs.Prelude.{◌≡◌, ◌<◌, ◌⊎◌, ◌↔◌, ℕ, fal
 use Rattle.automaton.specs.declared.line.Line.{Line}
 use Rattle.automaton.specs.NetworkLines.{Ending, HasEndings}
 use Rattle.automaton.specs.Prefixes.{Prefix, beginnings, path}
-use Rattle.automaton.specs.States.{Net, before_at, entry_at, is_used}
+use Rattle.automaton.specs.States.{Net, before_at, entrance_at, is_used}
 use Rattle.prefix_merge.specs.Merging.{HasEnd, HasPrefix}
 
 -- the states that come take the lowest free numbers, one after another along the line
@@ -13,7 +13,7 @@ pub record TakesLowest (old new : Net) : Type 0 where
 
 -- each state keeps its number and how it is entered, the states are exactly the old ones and those of the line's prefixes, and the endings are the old ones and the line's with this number
 pub record Inserts (line : Line) (end : ℕ) (old new : Net) : Type 0 where
-  pub stay : (number : ℕ) → IsTrue (is_used old number) → entry_at new number ≡ entry_at old number
+  pub stay : (number : ℕ) → IsTrue (is_used old number) → entrance_at new number ≡ entrance_at old number
   pub prefixes : (prefix : Prefix) → HasPrefix new prefix ↔ (HasPrefix old prefix ⊎ Contains (beginnings (path line)) prefix)
   pub numbers : TakesLowest old new
   pub endings : (endings : List Ending) → HasEndings old endings → HasEndings new (endings ++ record { line = line; number = end } ∷ [])

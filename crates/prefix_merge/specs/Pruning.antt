@@ -2,7 +2,7 @@
 use Rattle.std.specs.Prelude.{◌≡◌, ◌≢◌, ◌⊎◌, ℕ, [], true, IsTrue, Contains, length}
 use Rattle.automaton.specs.Networks.{IsAt, IsNetwork}
 use Rattle.automaton.specs.Prefixes.{Prefix, beginnings}
-use Rattle.automaton.specs.States.{Net, edges_at, ends_at, entry_at, is_used}
+use Rattle.automaton.specs.States.{Net, edges_at, ends_at, entrance_at, is_used}
 use Rattle.prefix_merge.specs.Merging.{IsMerged, IsUsedBy}
 
 -- an edge leads on from the state, or an end stands there
@@ -10,20 +10,20 @@ abbrev pub IsWanted : Net → ℕ → Type 0
 IsWanted net state = (edges_at net state ≢ []) ⊎ (ends_at net state ≢ [])
 
 -- what is left of a network after states without ends left it
-pub record IsLeft (whole net : Net) : Type 0 where
+pub record IsWithoutUnused (whole net : Net) : Type 0 where
   pub network : IsNetwork net
-  pub stay : (number : ℕ) → IsTrue (is_used net number) → entry_at net number ≡ entry_at whole number
+  pub stay : (number : ℕ) → IsTrue (is_used net number) → entrance_at net number ≡ entrance_at whole number
   pub ends : (number : ℕ) → ends_at net number ≡ ends_at whole number
   pub places : length net ≡ length whole
 
 -- no two states stand for one prefix, and each state's prefix is used by an end or is a beginning of this one, for which a state stands
 pub record IsPruning (whole : Net) (prefix : Prefix) (tip : ℕ) (net : Net) : Type 0 where
-  pub left : IsLeft whole net
+  pub left : IsWithoutUnused whole net
   pub here : IsAt net tip prefix
   pub apart : (number other : ℕ) (p : Prefix) → IsAt net number p → IsAt net other p → number ≡ other
   pub needed : (number : ℕ) (p : Prefix) → IsAt net number p → IsUsedBy net (λ end. true) p ⊎ Contains (beginnings prefix) p
 
 -- and in the end each is used
 pub record IsPruned (whole net : Net) : Type 0 where
-  pub left : IsLeft whole net
+  pub left : IsWithoutUnused whole net
   pub merged : IsMerged net

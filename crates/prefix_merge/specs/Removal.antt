@@ -4,12 +4,12 @@ use Rattle.std.specs.List.{filter}
 use Rattle.automaton.specs.NetworkLines.{Ending, HasEndings}
 use Rattle.automaton.specs.Networks.{IsAt}
 use Rattle.automaton.specs.Prefixes.{Prefix}
-use Rattle.automaton.specs.States.{Net, entry_at, is_used}
+use Rattle.automaton.specs.States.{Net, entrance_at, is_used}
 use Rattle.prefix_merge.specs.Merging.{HasEnd, IsUsedBy}
 
 -- the states whose prefix another end uses stay, with their numbers and how they are entered, no other state is there, and the endings are the old ones but that of this number
 pub record Removes (end : ℕ) (old new : Net) : Type 0 where
-  pub stay : (number : ℕ) → IsTrue (is_used new number) → entry_at new number ≡ entry_at old number
+  pub stay : (number : ℕ) → IsTrue (is_used new number) → entrance_at new number ≡ entrance_at old number
   pub states : (number : ℕ) (prefix : Prefix) → IsAt old number prefix → IsTrue (is_used new number) ↔ IsUsedBy old (λ other. not (other.number == end)) prefix
   pub endings : (endings : List Ending) → HasEndings old endings → HasEndings new (filter (λ ending. not (ending.number == end)) endings)
   pub ends : (other : ℕ) → HasEnd new other ↔ (HasEnd old other × (other ≢ end))

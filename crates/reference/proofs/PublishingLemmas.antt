@@ -7,7 +7,7 @@ use Rattle.std.proofs.Math.Seq.{drop-cons, take-length}
 use Rattle.std.proofs.lemmas.List.{length-append, length-take, take-append-le}
 use Rattle.std.proofs.lemmas.List.Elements.{All-nil, All-cons, All-get_or, All-head, All-tail, All-weaker}
 use Rattle.std.proofs.lemmas.List.Sorted.{All-permutation, IsPermutation-sym}
-use Rattle.event_types.specs.Tuple.{Row}
+use Rattle.event_types.specs.Tuple.{TupleView}
 use Rattle.semantics.specs.Denotation.{Streams, denote, streams_of}
 use Rattle.semantics.specs.Programs.{Query as Term, published, with_stream}
 use Rattle.algebra.specs.Suits.{Suits}
@@ -27,7 +27,7 @@ placed-cons : (queries : List Query) (place : ℕ) (places : List ℕ) (query : 
 placed-cons queries place places query lt is = ap (λ found. cons_option found (placed queries places)) (get_placed queries place query lt is)
 
 -- what is left to publish behind the lists that there are, where all was to be published behind the first of them
-abbrev pub IsLeft : List Query → List (List Row) → List ℕ → List (List Row) → List ℕ → Type 0
+abbrev pub IsLeft : List Query → List (List TupleView) → List ℕ → List (List TupleView) → List ℕ → Type 0
 IsLeft queries first order lists places =
     PublishNext (length lists) (placed queries places)
     × SuitInTurn (streams_of lists) (placed queries places)
@@ -36,11 +36,11 @@ IsLeft queries first order lists places =
     × (take (length first) lists ≡ first)
 
 -- at first all is left
-pub all_left : (queries : List Query) (first : List (List Row)) (order : List ℕ) → PublishNext (length first) (placed queries order) → SuitInTurn (streams_of first) (placed queries order) → IsLeft queries first order first order
+pub all_left : (queries : List Query) (first : List (List TupleView)) (order : List ℕ) → PublishNext (length first) (placed queries order) → SuitInTurn (streams_of first) (placed queries order) → IsLeft queries first order first order
 all_left queries first order next suited = (next, suited, refl, refl, take-length first)
 
 -- the next query may be evaluated
-next_suits : (queries : List Query) (first : List (List Row)) (order : List ℕ) (lists : List (List Row)) (place : ℕ) (places : List ℕ) (query : Query)
+next_suits : (queries : List Query) (first : List (List TupleView)) (order : List ℕ) (lists : List (List TupleView)) (place : ℕ) (places : List ℕ) (query : Query)
     → place < length queries → query ≡ get_or queries place query → IsLeft queries first order lists (place ∷ places) → Suits (query_of query).expr (length lists) (streams_of lists)
 next_suits queries first order lists place places query lt is left =
     let cons = placed-cons queries place places query lt is in
@@ -48,7 +48,7 @@ next_suits queries first order lists place places query lt is left =
     let suited = subst (SuitInTurn (streams_of lists)) cons left.1 in subst (λ (n : ℕ). Suits (query_of query).expr n (streams_of lists)) next.0 suited.0
 
 -- and once it is published, the rest is left
-left_after : (queries : List Query) (first : List (List Row)) (order : List ℕ) (lists : List (List Row)) (place : ℕ) (places : List ℕ) (query : Query)
+left_after : (queries : List Query) (first : List (List TupleView)) (order : List ℕ) (lists : List (List TupleView)) (place : ℕ) (places : List ℕ) (query : Query)
     → place < length queries → query ≡ get_or queries place query → IsLeft queries first order lists (place ∷ places)
     → IsLeft queries first order (lists ++ denote (query_of query).expr (streams_of lists) ∷ []) places
 left_after queries first order lists place places query lt is left = (
@@ -62,7 +62,7 @@ left_after queries first order lists place places query lt is left = (
     rest : List Term
     rest = placed queries places
 
-    tuples : List Row
+    tuples : List TupleView
     tuples = denote (query_of query).expr (streams_of lists)
 
     cons : placed queries (place ∷ places) ≡ query_of query ∷ rest
@@ -108,23 +108,23 @@ streams_below number count queries places same next e =
     subst (λ (n : ℕ). All (λ (query : Query). query.stream < n) queries) (sym e) (of_each_query (λ q. q.stream < number + length (placed queries places)) queries all)
 
 -- what is left at an index of the order is the place there, and then the rest
-left_at : (queries : List Query) (first : List (List Row)) (order : List ℕ) (lists : List (List Row)) (index : ℕ) → index < length order
+left_at : (queries : List Query) (first : List (List TupleView)) (order : List ℕ) (lists : List (List TupleView)) (index : ℕ) → index < length order
     → IsLeft queries first order lists (drop index order) → IsLeft queries first order lists (get_or order index 0 ∷ drop (index + 1) order)
 left_at queries first order lists index lt left =
     let here : drop index order ≡ get_or order index 0 ∷ drop (index + 1) order = drop-cons order index 0 lt ∙ ap (λ n. get_or order index 0 ∷ drop n order) (sym (add-one index)) in
     subst (IsLeft queries first order lists) here left
 
 -- the query whose place stands at an index of the order may be evaluated
-pub indexed_suits : (queries : List Query) (first : List (List Row)) (order : List ℕ) (lists : List (List Row)) (index : ℕ) (query : Query)
+pub indexed_suits : (queries : List Query) (first : List (List TupleView)) (order : List ℕ) (lists : List (List TupleView)) (index : ℕ) (query : Query)
     → All (λ place. place < length queries) order → index < length order → query ≡ get_or queries (get_or order index 0) query
     → IsLeft queries first order lists (drop index order) → Suits (query_of query).expr (length lists) (streams_of lists)
 indexed_suits queries first order lists index query places lt is left =
     next_suits queries first order lists (get_or order index 0) (drop (index + 1) order) query (All-get_or (λ place. place < length queries) order index 0 lt places) is (left_at queries first order lists index lt left)
 
 -- once it is published, the rest is left
-pub left_after_index : (queries : List Query) (first : List (List Row)) (order : List ℕ) (lists after : List (List Row)) (index : ℕ) (query : Query)
+pub left_after_index : (queries : List Query) (first : List (List TupleView)) (order : List ℕ) (lists after : List (List TupleView)) (index : ℕ) (query : Query)
     → All (λ place. place < length queries) order → index < length order → query ≡ get_or queries (get_or order index 0) query
     → IsLeft queries first order lists (drop index order) → after ≡ lists ++ denote (query_of query).expr (streams_of lists) ∷ [] → IsLeft queries first order after (drop (index + 1) order)
 left_after_index queries first order lists after index query places lt is left put =
     let more = left_after queries first order lists (get_or order index 0) (drop (index + 1) order) query (All-get_or (λ place. place < length queries) order index 0 lt places) is (left_at queries first order lists index lt left) in
-    subst (λ (ls : List (List Row)). IsLeft queries first order ls (drop (index + 1) order)) (sym put) more
+    subst (λ (ls : List (List TupleView)). IsLeft queries first order ls (drop (index + 1) order)) (sym put) more

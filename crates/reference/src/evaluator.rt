@@ -3,7 +3,7 @@ ghost use Rattle.std.specs.Prelude.{◌≡◌, ℕ, ◌<◌, ◌≤◌, ◌∷�
 ghost use Rattle.std.specs.List.{All};
 ghost use Rattle.std.specs.List.Sorted.{IsPermutation};
 ghost use Rattle.semantics.specs.Denotation.{streams_of};
-ghost use Rattle.semantics.specs.Histories.{Heard};
+ghost use Rattle.semantics.specs.Histories.{Event};
 ghost use Rattle.semantics.specs.Results.{results};
 ghost use Rattle.algebra.specs.SuitedQueries.{SuitInTurn};
 ghost use Rattle.reference.specs.Hearing.{HasHeard};
@@ -26,9 +26,9 @@ pub struct Evaluator {
 
 impl Model for Evaluator {
     ghost use Rattle.std.specs.Prelude.{List};
-    ghost use Rattle.event_types.specs.Tuple.{Row};
+    ghost use Rattle.event_types.specs.Tuple.{TupleView};
 
-    ghost Value = { List (List Row) };
+    ghost Value = { List (List TupleView) };
 
     ghost view = { λ e. e.lists };
 }
@@ -46,9 +46,9 @@ impl Evaluator {
     }
 
     /// Hears an event of a declared stream. Want of memory drops the event.
-    pub fn hear(&mut self, stream: StreamId, tuple: Tuple) -> Result<(), Memory>
+    pub fn note_tuple(&mut self, stream: StreamId, tuple: Tuple) -> Result<(), Memory>
         requires { stream < length self.old }
-        ensures ok { OnOk result ((declared : ℕ) (history : List Heard) → HasHeard declared history self.old → HasHeard declared (history ++ record { stream = stream; tuple = tuple } ∷ []) self.new) }
+        ensures ok { OnOk result ((declared : ℕ) (history : List Event) → HasHeard declared history self.old → HasHeard declared (history ++ record { stream = stream; tuple = tuple } ∷ []) self.new) }
         ensures kept { OnErr result (self.new ≡ self.old) }
         ensures as_many { length self.new ≡ length self.old }
     {
@@ -73,7 +73,7 @@ impl Evaluator {
         requires same_queries { IsPermutation (map query_of queries.now) (placed queries.now order.now) }
         requires next { PublishNext (length self.old) (placed queries.now order.now) }
         requires suited { SuitInTurn (streams_of self.old) (placed queries.now order.now) }
-        ensures value { IfOk result (λ batch. (declared : ℕ) (history : List Heard) → HasHeard declared history self.old → All (λ event. event.tuple.at ≤ time) history → batch ≡ map (λ query. results (program_of declared queries.now order.now) history query.stream time) queries.now) }
+        ensures value { IfOk result (λ batch. (declared : ℕ) (history : List Event) → HasHeard declared history self.old → All (λ event. event.tuple.at ≤ time) history → batch ≡ map (λ query. results (program_of declared queries.now order.now) history query.stream time) queries.now) }
         ensures kept { self.new ≡ self.old }
     {
         let declared = self.lists.len();

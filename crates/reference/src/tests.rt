@@ -38,7 +38,7 @@ fn at_once(alloc: Global) -> Result<Expr, Memory>
 }
 
 // Hears an event of the declared stream that starts when it is detected.
-fn hear(
+fn note_tuple(
     rt: &impl Abort,
     alloc: Global,
     evaluator: &mut Evaluator,
@@ -51,7 +51,7 @@ fn hear(
     let mut vals = List::new(alloc);
     assert!(rt; vals.push(Value::Int(number)).is_ok());
     match Tuple::make(vals, time, time) {
-        Ok(tuple) => evaluator.hear(0, tuple),
+        Ok(tuple) => evaluator.note_tuple(0, tuple),
         Err(_) => panic!(rt; "starts after its detection"),
     }
 }
@@ -141,9 +141,9 @@ fn closes_with(
 fn a_query_is_evaluated_after_the_query_that_it_reads(rt: HostRuntime) -> Result<(), Fail> {
     let alloc = rt.alloc();
     let mut evaluator = Evaluator::make(alloc, 1)?;
-    hear(&rt, alloc, &mut evaluator, 5, 1)?;
-    hear(&rt, alloc, &mut evaluator, 8, 2)?;
-    hear(&rt, alloc, &mut evaluator, 7, 2)?;
+    note_tuple(&rt, alloc, &mut evaluator, 5, 1)?;
+    note_tuple(&rt, alloc, &mut evaluator, 8, 2)?;
+    note_tuple(&rt, alloc, &mut evaluator, 7, 2)?;
     closes_with(
         &rt,
         alloc,
@@ -152,7 +152,7 @@ fn a_query_is_evaluated_after_the_query_that_it_reads(rt: HostRuntime) -> Result
         &[(5, 7), (5, 8)],
         &[(5, 7), (5, 8)],
     )?;
-    hear(&rt, alloc, &mut evaluator, 9, 4)?;
+    note_tuple(&rt, alloc, &mut evaluator, 9, 4)?;
     closes_with(&rt, alloc, &mut evaluator, 4, &[], &[(7, 9), (8, 9)])?;
     Ok(())
 }

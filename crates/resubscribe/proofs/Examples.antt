@@ -2,7 +2,7 @@
 use Rattle.std.proofs.Common.{◌≡◌, ℕ, List, [], ◌∷◌, refl}
 use Rattle.std.specs.Prelude.{Some, None}
 use Rattle.resubscribe.specs.Cycle.{Walks, untaken_read}
-use Rattle.resubscribe.specs.Order.{IsOrder, Takes, first_ready, first_untaken}
+use Rattle.resubscribe.specs.Order.{IsOrder, TakesQuery, first_ready, first_untaken}
 
 -- the first query reads the third, the second reads the first, the third reads none
 abbrev turned : List (List ℕ)
@@ -25,7 +25,7 @@ file_order = record { taken = (refl, (refl, tt)); none_left = refl }
 abbrev circle : List (List ℕ)
 circle = (1 ∷ 2 ∷ []) ∷ [] ∷ (3 ∷ []) ∷ (2 ∷ []) ∷ []
 
-second_is_taken : Takes circle [] (1 ∷ [])
+second_is_taken : TakesQuery circle [] (1 ∷ [])
 second_is_taken = (refl, tt)
 
 none_is_ready : first_ready circle (1 ∷ []) ≡ None

@@ -8,13 +8,13 @@ use Rattle.std.proofs.lemmas.List.Elements.{All-contains, All-nil, All-push, All
 use Rattle.std.proofs.lemmas.List.Quantifiers.{all_pairs_push}
 use Rattle.std.proofs.lemmas.List.Sums.{AllPass-from_list_all}
 use Rattle.resubscribe.specs.Laws.{HasEachOnce, StandsAfterReads}
-use Rattle.resubscribe.specs.Order.{IsOrder, Takes, first_ready, first_untaken, is_among, is_ready, is_untaken, reads_of}
+use Rattle.resubscribe.specs.Order.{IsOrder, TakesQuery, first_ready, first_untaken, is_among, is_ready, is_untaken, reads_of}
 use Rattle.resubscribe.proofs.AmongLemmas.{Contains-from_among, apart}
 use Rattle.resubscribe.proofs.FindLemmas.{find-none, found_below}
 use Rattle.resubscribe.proofs.TakeLemmas.{untaken-from_ready}
 
 -- what is taken one by one until none is ready is determined
-pub taken_same : (reads : List (List ℕ)) (taken xs ys : List ℕ) → Takes reads taken xs → first_ready reads (taken ++ xs) ≡ None → Takes reads taken ys → first_ready reads (taken ++ ys) ≡ None → xs ≡ ys
+pub taken_same : (reads : List (List ℕ)) (taken xs ys : List ℕ) → TakesQuery reads taken xs → first_ready reads (taken ++ xs) ≡ None → TakesQuery reads taken ys → first_ready reads (taken ++ ys) ≡ None → xs ≡ ys
 taken_same reads taken [] [] h e k f = refl
 taken_same reads taken [] (y ∷ ys) h e k f = let e' : first_ready reads taken ≡ None = ap (first_ready reads) (sym (append-nil taken)) ∙ e in let k' : first_ready reads taken ≡ Some y = k.0 in cc
 taken_same reads taken (x ∷ xs) [] h e k f = let f' : first_ready reads taken ≡ None = ap (first_ready reads) (sym (append-nil taken)) ∙ f in let h' : first_ready reads taken ≡ Some x = h.0 in cc
@@ -22,7 +22,7 @@ taken_same reads taken (x ∷ xs) (y ∷ ys) h e k f =
     let h' : first_ready reads taken ≡ Some x = h.0 in
     let k' : first_ready reads taken ≡ Some y = k.0 in
     let same : x ≡ y = cc in
-    let k'' : Takes reads (taken ++ x ∷ []) ys = subst (λ (z : ℕ). Takes reads (taken ++ z ∷ []) ys) (sym same) k.1 in
+    let k'' : TakesQuery reads (taken ++ x ∷ []) ys = subst (λ (z : ℕ). TakesQuery reads (taken ++ z ∷ []) ys) (sym same) k.1 in
     let f' : first_ready reads ((taken ++ x ∷ []) ++ ys) ≡ None = ap (λ zs. first_ready reads zs) (append_assoc taken (x ∷ []) ys ∙ ap (λ z. taken ++ z ∷ ys) same) ∙ f in
     let e' : first_ready reads ((taken ++ x ∷ []) ++ xs) ≡ None = ap (first_ready reads) (append_assoc taken (x ∷ []) xs) ∙ e in
     let rest : xs ≡ ys = taken_same reads (taken ++ x ∷ []) xs ys h.1 e' k'' f' in
@@ -47,14 +47,14 @@ ready_parts reads taken q e =
     )
 
 -- taken queries stay distinct
-takes-distinct : (reads : List (List ℕ)) (taken xs : List ℕ) → Takes reads taken xs → AllPairs (λ x y. x ≢ y) taken → AllPairs (λ x y. x ≢ y) (taken ++ xs)
+takes-distinct : (reads : List (List ℕ)) (taken xs : List ℕ) → TakesQuery reads taken xs → AllPairs (λ x y. x ≢ y) taken → AllPairs (λ x y. x ≢ y) (taken ++ xs)
 takes-distinct reads taken [] h was = subst (λ (zs : List ℕ). AllPairs (λ x y. x ≢ y) zs) (sym (append-nil taken)) was
 takes-distinct reads taken (x ∷ xs) h was =
     subst (λ (zs : List ℕ). AllPairs (λ x y. x ≢ y) zs) (append_assoc taken (x ∷ []) xs)
     (takes-distinct reads (taken ++ x ∷ []) xs h.1 (all_pairs_push (λ x y. x ≢ y) taken x was (apart taken x (ready_parts reads taken x h.0).1)))
 
 -- they are queries
-takes-small : (reads : List (List ℕ)) (taken xs : List ℕ) → Takes reads taken xs → All (λ q. q < length reads) taken → All (λ q. q < length reads) (taken ++ xs)
+takes-small : (reads : List (List ℕ)) (taken xs : List ℕ) → TakesQuery reads taken xs → All (λ q. q < length reads) taken → All (λ q. q < length reads) (taken ++ xs)
 takes-small reads taken [] h was = subst (λ (zs : List ℕ). All (λ q. q < length reads) zs) (sym (append-nil taken)) was
 takes-small reads taken (x ∷ xs) h was =
     subst (λ (zs : List ℕ). All (λ q. q < length reads) zs) (append_assoc taken (x ∷ []) xs)
@@ -71,7 +71,7 @@ HasEachOnce-order reads order is_order = record {
 }
 
 -- each stands after all that it reads
-after : (reads : List (List ℕ)) (taken xs : List ℕ) → Takes reads taken xs → (i : ℕ) → i < length xs → All (Contains (taken ++ take i xs)) (reads_of reads (get_or xs i 0))
+after : (reads : List (List ℕ)) (taken xs : List ℕ) → TakesQuery reads taken xs → (i : ℕ) → i < length xs → All (Contains (taken ++ take i xs)) (reads_of reads (get_or xs i 0))
 after reads taken [] h i within = absurd (omega arith)
 after reads taken (x ∷ xs) h zero within =
     subst (λ (zs : List ℕ). All (Contains zs) (reads_of reads x)) (sym (append-nil taken))

@@ -3,13 +3,13 @@ use Rattle.std.proofs.Common.{◌≡◌, ◌≢◌, ◌∙◌, ℕ, ◌+◌, ◌
 use Rattle.std.specs.Prelude.{◌==◌, Some}
 use Rattle.std.specs.List.{list_all}
 use Rattle.std.proofs.lemmas.Bool.{cases_Bool, cases_eq, or_parts}
-use Rattle.resubscribe.specs.Order.{Takes, first_ready, is_among, is_ready, is_untaken, reads_of}
+use Rattle.resubscribe.specs.Order.{TakesQuery, first_ready, is_among, is_ready, is_untaken, reads_of}
 use Rattle.resubscribe.specs.Readers.{AreBefore}
 use Rattle.resubscribe.proofs.AmongLemmas.{among-other, among-pushed}
 use Rattle.event_types.proofs.NumberLemmas.{self_equal}
 
 -- one more query is taken after others
-pub Takes-push : (reads : List (List ℕ)) (taken xs : List ℕ) (q : ℕ) → Takes reads taken xs → first_ready reads (taken ++ xs) ≡ Some q → Takes reads taken (xs ++ q ∷ [])
+pub Takes-push : (reads : List (List ℕ)) (taken xs : List ℕ) (q : ℕ) → TakesQuery reads taken xs → first_ready reads (taken ++ xs) ≡ Some q → TakesQuery reads taken (xs ++ q ∷ [])
 Takes-push reads taken [] q takes next = (ap (first_ready reads) (sym (append-nil taken)) ∙ next, tt)
 Takes-push reads taken (x ∷ xs) q takes next = (takes.0, Takes-push reads (taken ++ x ∷ []) xs q takes.1 (ap (first_ready reads) (append_assoc taken (x ∷ []) xs) ∙ next))
 

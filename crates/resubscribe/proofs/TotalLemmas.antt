@@ -10,7 +10,7 @@ use Rattle.std.proofs.lemmas.Map.Keys.{IsDistinct-from_apart}
 use Rattle.std.proofs.lemmas.Map.Steps.{length-le_from_distinct_below}
 use Rattle.resubscribe.specs.Cycle.{IsCycle, Walks, untaken_read}
 use Rattle.resubscribe.specs.Laws.{SomeOutcome}
-use Rattle.resubscribe.specs.Order.{IsOrder, Takes, first_ready, first_untaken, is_among, is_untaken, reads_of}
+use Rattle.resubscribe.specs.Order.{IsOrder, TakesQuery, first_ready, first_untaken, is_among, is_untaken, reads_of}
 use Rattle.resubscribe.proofs.AmongLemmas.{Contains-from_among, apart}
 use Rattle.resubscribe.proofs.CycleLemmas.{find-Contains}
 use Rattle.resubscribe.proofs.FindLemmas.{found_below}
@@ -28,11 +28,11 @@ few xs n distinct small =
 -- what is taken until no query is ready
 record Stuck (reads : List (List ℕ)) : Type 0 where
   pub taken : List ℕ
-  pub takes : Takes reads [] taken
+  pub takes : TakesQuery reads [] taken
   pub none_ready : first_ready reads taken ≡ None
 
 -- by induction on how many queries may still be taken
-take_on : (fuel : ℕ) (reads : List (List ℕ)) (taken : List ℕ) → length reads < length taken + fuel → Takes reads [] taken → AllPairs (λ x y. x ≢ y) taken → All (λ q. q < length reads) taken → (next : Option ℕ) → first_ready reads taken ≡ next → Stuck reads
+take_on : (fuel : ℕ) (reads : List (List ℕ)) (taken : List ℕ) → length reads < length taken + fuel → TakesQuery reads [] taken → AllPairs (λ x y. x ≢ y) taken → All (λ q. q < length reads) taken → (next : Option ℕ) → first_ready reads taken ≡ next → Stuck reads
 take_on fuel reads taken left takes distinct small None stuck = record { taken = taken; takes = takes; none_ready = stuck }
 take_on zero reads taken left takes distinct small (Some q) ready = let most : length taken ≤ length reads = few taken (length reads) distinct small in absurd (omega arith)
 take_on (suc fuel) reads taken left takes distinct small (Some q) ready =
@@ -67,7 +67,7 @@ not_true false e = refl
 none_apart : AllPairs (λ (x : ℕ) y. x ≢ y) []
 none_apart i j d before within = absurd (omega arith)
 
-module _ (reads : List (List ℕ)) (small : All (λ numbers. All (λ number. number < length reads) numbers) reads) (taken : List ℕ) (takes : Takes reads [] taken) (stuck : first_ready reads taken ≡ None) (start : ℕ) (first : first_untaken reads taken ≡ Some start) where
+module _ (reads : List (List ℕ)) (small : All (λ numbers. All (λ number. number < length reads) numbers) reads) (taken : List ℕ) (takes : TakesQuery reads [] taken) (stuck : first_ready reads taken ≡ None) (start : ℕ) (first : first_untaken reads taken ≡ Some start) where
   -- by induction on how far the walk may still go
   walk_on : (fuel : ℕ) (walk : List ℕ) (q : ℕ) (there : Bool) (next : Option ℕ) → length reads < length walk + fuel → Walks reads taken (walk ++ q ∷ []) → slice_get (walk ++ q ∷ []) 0 ≡ Some start → AllPairs (λ x y. x ≢ y) walk → All (λ x. x < length reads) walk
       → q < length reads → is_among taken q ≡ false → is_among walk q ≡ there → untaken_read reads taken q ≡ next → (cycle : List ℕ) × IsCycle reads cycle

@@ -6,7 +6,7 @@ use Rattle.std.proofs.lemmas.Bool.{cases_Bool, not-false}
 use Rattle.std.proofs.lemmas.List.Elements.{All-from_get_or}
 use Rattle.std.proofs.lemmas.List.Sums.{list_all-from_AllPass}
 use Rattle.resubscribe.specs.Cycle.{IsCycle, Walks, untaken_read}
-use Rattle.resubscribe.specs.Order.{Takes, first_ready, first_untaken, is_among, is_ready, is_untaken, reads_of}
+use Rattle.resubscribe.specs.Order.{TakesQuery, first_ready, first_untaken, is_among, is_ready, is_untaken, reads_of}
 use Rattle.resubscribe.proofs.FindLemmas.{found_below}
 use Rattle.event_types.proofs.NumberLemmas.{same_number}
 
@@ -68,7 +68,7 @@ front-nonempty [] between q r = refl
 front-nonempty (x ∷ before) between q r = refl
 
 -- the walk that comes to one of its queries again has the cycle
-pub IsCycle-from_walk : (reads : List (List ℕ)) (taken walk rest : List ℕ) (start q : ℕ) → Takes reads [] taken → first_ready reads taken ≡ None → first_untaken reads taken ≡ Some start
+pub IsCycle-from_walk : (reads : List (List ℕ)) (taken walk rest : List ℕ) (start q : ℕ) → TakesQuery reads [] taken → first_ready reads taken ≡ None → first_untaken reads taken ≡ Some start
     → Walks reads taken (walk ++ q ∷ []) → slice_get (walk ++ q ∷ []) 0 ≡ Some start → AllPairs (λ x y. x ≢ y) walk → is_among walk q ≡ true → rest ≡ drop (position_or_len (λ other. q == other) walk) walk → IsCycle reads rest
 IsCycle-from_walk reads taken walk rest start q takes stuck first walks begins distinct there is_rest =
     let cut : CutAt walk q = cut_at walk q there in

@@ -1,7 +1,7 @@
 -- The cycle that is told where queries have no order (this project's profile).
 use Rattle.std.specs.Prelude.{◌≡◌, ◌≢◌, ℕ, ◌++◌, ⊤, List, [], ◌∷◌, Option, Some, None, slice_get, AllPairs}
 use Rattle.std.specs.List.{find}
-use Rattle.resubscribe.specs.Order.{Takes, first_ready, first_untaken, is_untaken, reads_of}
+use Rattle.resubscribe.specs.Order.{TakesQuery, first_ready, first_untaken, is_untaken, reads_of}
 
 -- the leftmost of its read queries that isn't taken
 abbrev pub untaken_read : List (List ℕ) → List ℕ → ℕ → Option ℕ
@@ -19,7 +19,7 @@ pub record IsCycle (reads : List (List ℕ)) (cycle : List ℕ) : Type 0 where
   pub before : List ℕ
   pub repeated : ℕ
   pub between : List ℕ
-  pub takes : Takes reads [] taken
+  pub takes : TakesQuery reads [] taken
   pub none_ready : first_ready reads taken ≡ None
   pub begins : first_untaken reads taken ≡ slice_get (before ++ repeated ∷ between) 0
   pub walks : Walks reads taken (before ++ repeated ∷ between ++ repeated ∷ [])

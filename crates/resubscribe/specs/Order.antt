@@ -31,11 +31,11 @@ abbrev pub first_untaken : List (List ℕ) → List ℕ → Option ℕ
 first_untaken reads taken = find (is_untaken taken) (in_file reads)
 
 -- after the taken queries these are taken one by one, each as the first that is ready
-abbrev pub Takes : List (List ℕ) → List ℕ → List ℕ → Type 0
-Takes reads taken [] = ⊤
-Takes reads taken (query ∷ later) = (first_ready reads taken ≡ Some query) × Takes reads (taken ++ query ∷ []) later
+abbrev pub TakesQuery : List (List ℕ) → List ℕ → List ℕ → Type 0
+TakesQuery reads taken [] = ⊤
+TakesQuery reads taken (query ∷ later) = (first_ready reads taken ≡ Some query) × TakesQuery reads (taken ++ query ∷ []) later
 
 -- the queries are in their order: they are taken so one by one, until none is left
 pub record IsOrder (reads : List (List ℕ)) (order : List ℕ) : Type 0 where
-  pub taken : Takes reads [] order
+  pub taken : TakesQuery reads [] order
   pub none_left : first_untaken reads order ≡ None

@@ -1,7 +1,7 @@
 //! Again and again the first query of the file that isn't taken and whose read queries are all taken.
 ghost use Rattle.std.specs.Prelude.{◌≡◌, ◌<◌, ◌≤◌, ◌++◌, ◌∷◌, [], ℕ, true, false, length, min, None, Some, IfOk, IfErr, MatchOption, slice_index};
 ghost use Rattle.std.specs.List.{All, list_all};
-ghost use Rattle.resubscribe.specs.Order.{IsOrder, Takes, first_ready, first_untaken, is_among, is_ready};
+ghost use Rattle.resubscribe.specs.Order.{IsOrder, TakesQuery, first_ready, first_untaken, is_among, is_ready};
 ghost use Rattle.resubscribe.specs.Laws.{HasEachOnce, ReadsInCircle, StandsAfterReads};
 ghost use Rattle.resubscribe.specs.Outcome.{IsRefusal, IsFirstFrom};
 
@@ -34,7 +34,7 @@ pub fn order(alloc: Global, reads: &Reads) -> Result<Numbers, OrderFault>
 // The queries that can be taken.
 fn take_all(alloc: Global, reads: &Reads) -> Result<Marked, Memory>
     requires { All (λ numbers. All (λ number. number < length reads.now) numbers) reads.now }
-    ensures takes { IfOk result (λ taken. Takes reads.now [] taken.numbers) }
+    ensures takes { IfOk result (λ taken. TakesQuery reads.now [] taken.numbers) }
     ensures none_ready { IfOk result (λ taken. first_ready reads.now taken.numbers ≡ None) }
     ensures size { IfOk result (λ taken. taken.size ≡ length reads.now) }
 {

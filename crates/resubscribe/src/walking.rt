@@ -2,7 +2,7 @@
 ghost use Rattle.std.specs.Prelude.{◌≡◌, ◌<◌, ◌≤◌, ◌==◌, [], ℕ, true, false, drop, length, None, Some, IfOk};
 ghost use Rattle.std.specs.List.{All, position_or_len};
 ghost use Rattle.resubscribe.specs.Cycle.{IsCycle, untaken_read};
-ghost use Rattle.resubscribe.specs.Order.{Takes, first_ready, first_untaken, is_among};
+ghost use Rattle.resubscribe.specs.Order.{TakesQuery, first_ready, first_untaken, is_among};
 
 use crate::marked::Marked;
 use crate::ordering::Reads;
@@ -19,7 +19,7 @@ pub fn cycle_of(
 ) -> Result<Numbers, Memory>
     requires within { All (λ numbers. All (λ number. number < length reads.now) numbers) reads.now }
     requires size { taken.now.size ≡ length reads.now }
-    requires takes { Takes reads.now [] taken.now.numbers }
+    requires takes { TakesQuery reads.now [] taken.now.numbers }
     requires none_ready { first_ready reads.now taken.now.numbers ≡ None }
     requires begins { first_untaken reads.now taken.now.numbers ≡ Some start }
     ensures { IfOk result (IsCycle reads.now) }

@@ -15,7 +15,7 @@ use Rattle.event_types.specs.declared.comparison.Cmp.TheVariants as cmp
 use Rattle.event_types.specs.declared.value.Value.{Value}
 use Rattle.event_types.specs.declared.value.Value.TheVariants as value
 use Rattle.event_types.specs.Order.{put, sort_by}
-use Rattle.event_types.specs.Tuple.{Row}
+use Rattle.event_types.specs.Tuple.{TupleView}
 use Rattle.semantics.specs.Scalars.{Sc, Pr, True, Test, And, Or, Not}
 use Rattle.semantics.specs.Values.{val}
 use Rattle.semantics.specs.Truth.{truth, all_true, order_of, is_accepted, is_met}
@@ -75,7 +75,7 @@ module _ {X : Type 0} (R : X → X → Ordering) (exact : CmpEqualImpliesEq R) (
   all_dedup (x ∷ xs) = all_dedup_from x xs
 
 -- the parts in their canonical form are true where all of them are
-pub parts_keep_truth : (parts : List Pr) (event : Row) (binding : Option Row) → all_true (distinct_parts parts) event binding ≡ all_true parts event binding
+pub parts_keep_truth : (parts : List Pr) (event : TupleView) (binding : Option TupleView) → all_true (distinct_parts parts) event binding ≡ all_true parts event binding
 parts_keep_truth parts event binding =
     let test = λ (p : Pr). truth p event binding in all_dedup pr_cmp pr_exact test (sort_by pr_cmp parts) ∙ all_sort pr_cmp pr_exact test parts
 
@@ -117,14 +117,14 @@ turned_met c (value.Dec s x) (value.Dec t y) =
 turned_met c value.Over value.Over = refl
 turned_met c v w = refl
 
-in_order_keeps : (c : Cmp) → exchanged c ≡ c → (x y : Sc) (event : Row) (binding : Option Row) → truth (test_in_order c x y) event binding ≡ truth (Test x c y) event binding
+in_order_keeps : (c : Cmp) → exchanged c ≡ c → (x y : Sc) (event : TupleView) (binding : Option TupleView) → truth (test_in_order c x y) event binding ≡ truth (Test x c y) event binding
 in_order_keeps c same x y event binding =
     elim (is_gt (sc_cmp x y)) as (λ b. truth (cond b (Test y c x) (Test x c y)) event binding ≡ truth (Test x c y) event binding) [
       | true ↦ turned_met c (val x event binding) (val y event binding) ∙ ap (λ d. is_met d (order_of (val x event binding) (val y event binding))) same
       | false ↦ refl
     ]
 
-turned_keeps_test : (x : Sc) (c : Cmp) (y : Sc) (event : Row) (binding : Option Row) → truth (turned_test x c y) event binding ≡ truth (Test x c y) event binding
+turned_keeps_test : (x : Sc) (c : Cmp) (y : Sc) (event : TupleView) (binding : Option TupleView) → truth (turned_test x c y) event binding ≡ truth (Test x c y) event binding
 turned_keeps_test x cmp.Eq y event binding = in_order_keeps cmp.Eq refl x y event binding
 turned_keeps_test x cmp.Ne y event binding = in_order_keeps cmp.Ne refl x y event binding
 turned_keeps_test x cmp.Lt y event binding = refl
@@ -132,14 +132,14 @@ turned_keeps_test x cmp.Le y event binding = refl
 turned_keeps_test x cmp.Gt y event binding = turned_met cmp.Lt (val x event binding) (val y event binding)
 turned_keeps_test x cmp.Ge y event binding = turned_met cmp.Le (val x event binding) (val y event binding)
 
-turned_keeps : (p : Pr) (event : Row) (binding : Option Row) → truth (turned p) event binding ≡ truth p event binding
+turned_keeps : (p : Pr) (event : TupleView) (binding : Option TupleView) → truth (turned p) event binding ≡ truth p event binding
 turned_keeps True event binding = refl
 turned_keeps (Test x c y) event binding = turned_keeps_test x c y event binding
 turned_keeps (And p q) event binding = λ i. turned_keeps p event binding i && turned_keeps q event binding i
 turned_keeps (Or p q) event binding = λ i. turned_keeps p event binding i || turned_keeps q event binding i
 turned_keeps (Not p) event binding = ap not (turned_keeps p event binding)
 
-conjuncts_keep : (p : Pr) (event : Row) (binding : Option Row) → all_true (conjuncts p) event binding ≡ truth p event binding
+conjuncts_keep : (p : Pr) (event : TupleView) (binding : Option TupleView) → all_true (conjuncts p) event binding ≡ truth p event binding
 conjuncts_keep True event binding = refl
 conjuncts_keep (Test x c y) event binding = and-true (truth (Test x c y) event binding)
 conjuncts_keep (And p q) event binding =
@@ -148,5 +148,5 @@ conjuncts_keep (Or p q) event binding = and-true (truth (Or p q) event binding)
 conjuncts_keep (Not p) event binding = and-true (truth (Not p) event binding)
 
 -- the canonical form is true where the predicate is
-pub canonical_keeps_truth : (p : Pr) (event : Row) (binding : Option Row) → all_true (canonical p) event binding ≡ truth p event binding
+pub canonical_keeps_truth : (p : Pr) (event : TupleView) (binding : Option TupleView) → all_true (canonical p) event binding ≡ truth p event binding
 canonical_keeps_truth p event binding = parts_keep_truth (conjuncts (turned p)) event binding ∙ conjuncts_keep (turned p) event binding ∙ turned_keeps p event binding

@@ -7,7 +7,7 @@ use Rattle.event_types.specs.declared.kind.Kind.{Kind}
 use Rattle.event_types.specs.declared.kind.Kind.TheVariants as kind
 use Rattle.event_types.specs.declared.value.Value.{Value}
 use Rattle.event_types.specs.declared.value.Value.TheVariants as value
-use Rattle.event_types.specs.Tuple.{Row}
+use Rattle.event_types.specs.Tuple.{TupleView}
 use Rattle.semantics.specs.Scalars.{Op, Sc, Lit, Event, Binding, Dur, Two, Pr, True, Test, And, Or, Not}
 use Rattle.scalar_expr.specs.Fits.{Fits, PredFits, AllFit}
 use Rattle.semantics.specs.Values.{val, combined, is_in_range, result_of}
@@ -16,7 +16,7 @@ use Rattle.semantics.proofs.KindLemmas.{kind_at_place, of_its_kind}
 use Rattle.semantics.specs.Typing.{IsOfKind, IsTyped, AreTyped, AreOfKinds}
 
 -- a binding of these kinds, where there is to be one
-abbrev pub BindingHasKinds : Option (List Kind) → Option Row → Type 0
+abbrev pub BindingHasKinds : Option (List Kind) → Option TupleView → Type 0
 BindingHasKinds None None = ⊤
 BindingHasKinds (Some ks) (Some b) = HasKinds ks b
 BindingHasKinds None (Some b) = ⊥
@@ -33,7 +33,7 @@ combined_int o (value.Text x) y hx hy = cc
 combined_int o (value.Dec s x) y hx hy = cc
 
 -- a scalar of a kind fits, and its value is of that kind
-typed_scalar : (s : Sc) (es : List Kind) (bs : Option (List Kind)) (k : Kind) (e : Row) (b : Option Row) → IsOfKind s es bs k → HasKinds es e → BindingHasKinds bs b → Fits s e b × IsOf k (val s e b)
+typed_scalar : (s : Sc) (es : List Kind) (bs : Option (List Kind)) (k : Kind) (e : TupleView) (b : Option TupleView) → IsOfKind s es bs k → HasKinds es e → BindingHasKinds bs b → Fits s e b × IsOf k (val s e b)
 typed_scalar (Lit v) es bs k e b h he hb = (tt, of_its_kind v k h)
 typed_scalar (Event i) es bs k e b h he hb = kind_at_place es e.vals i k he h
 typed_scalar (Binding i) es None k e b h he hb = absurd h
@@ -46,7 +46,7 @@ typed_scalar (Two o x y) es bs k e b h he hb =
     ((left.0, right.0), subst (λ j. IsOf j (combined o (val x e b) (val y e b))) h.2 (combined_int o (val x e b) (val y e b) left.1 right.1))
 
 -- a typed predicate fits
-typed_test : (p : Pr) (es : List Kind) (bs : Option (List Kind)) (e : Row) (b : Option Row) → IsTyped p es bs → HasKinds es e → BindingHasKinds bs b → PredFits p e b
+typed_test : (p : Pr) (es : List Kind) (bs : Option (List Kind)) (e : TupleView) (b : Option TupleView) → IsTyped p es bs → HasKinds es e → BindingHasKinds bs b → PredFits p e b
 typed_test True es bs e b h he hb = tt
 typed_test (Test x c y) es bs e b h he hb = ((typed_scalar x es bs h.0 e b h.1 he hb).0, (typed_scalar y es bs h.0 e b h.2 he hb).0)
 typed_test (And p q) es bs e b h he hb = (typed_test p es bs e b h.0 he hb, typed_test q es bs e b h.1 he hb)
@@ -54,18 +54,18 @@ typed_test (Or p q) es bs e b h he hb = (typed_test p es bs e b h.0 he hb, typed
 typed_test (Not p) es bs e b h he hb = typed_test p es bs e b h he hb
 
 -- a typed condition fits
-pub typed_tests : (ps : List Pr) (es : List Kind) (bs : Option (List Kind)) (e : Row) (b : Option Row) → AreTyped ps es bs → HasKinds es e → BindingHasKinds bs b → AllFit ps e b
+pub typed_tests : (ps : List Pr) (es : List Kind) (bs : Option (List Kind)) (e : TupleView) (b : Option TupleView) → AreTyped ps es bs → HasKinds es e → BindingHasKinds bs b → AllFit ps e b
 typed_tests ps es bs e b h he hb = All-weaker (λ p. IsTyped p es bs) (λ p. PredFits p e b) (λ p hp. typed_test p es bs e b hp he hb) ps h
 
 -- scalars of these kinds fit
-pub typed_fits : (m : List Sc) (es : List Kind) (bs : Option (List Kind)) (ks : List Kind) (e : Row) (b : Option Row) → AreOfKinds m es bs ks → HasKinds es e → BindingHasKinds bs b → All (λ s. Fits s e b) m
+pub typed_fits : (m : List Sc) (es : List Kind) (bs : Option (List Kind)) (ks : List Kind) (e : TupleView) (b : Option TupleView) → AreOfKinds m es bs ks → HasKinds es e → BindingHasKinds bs b → All (λ s. Fits s e b) m
 typed_fits [] es bs [] e b h he hb = All-nil _
 typed_fits [] es bs (k ∷ ks) e b h he hb = All-nil _
 typed_fits (s ∷ m) es bs [] e b h he hb = absurd h
 typed_fits (s ∷ m) es bs (k ∷ ks) e b h he hb = All-cons (λ s. Fits s e b) s m (typed_scalar s es bs k e b h.0 he hb).0 (typed_fits m es bs ks e b h.1 he hb)
 
 -- their values have these kinds
-pub typed_image : (m : List Sc) (es : List Kind) (bs : Option (List Kind)) (ks : List Kind) (e : Row) (b : Option Row) → AreOfKinds m es bs ks → HasKinds es e → BindingHasKinds bs b → AreOf ks (map (λ s. val s e b) m)
+pub typed_image : (m : List Sc) (es : List Kind) (bs : Option (List Kind)) (ks : List Kind) (e : TupleView) (b : Option TupleView) → AreOfKinds m es bs ks → HasKinds es e → BindingHasKinds bs b → AreOf ks (map (λ s. val s e b) m)
 typed_image [] es bs [] e b h he hb = tt
 typed_image [] es bs (k ∷ ks) e b h he hb = absurd h
 typed_image (s ∷ m) es bs [] e b h he hb = absurd h

@@ -1,6 +1,6 @@
 //! Operations on numbers and decimals.
 ghost use Rattle.std.specs.Prelude.{◌≡◌, ◌*ℤ◌};
-ghost use Rattle.event_types.specs.Seen.{seen};
+ghost use Rattle.event_types.specs.ValueOfRef.{value_of_ref};
 ghost use Rattle.event_types.specs.declared.value.Value.TheVariants as value;
 ghost use Rattle.semantics.specs.Scalars.{Add, Sub, Mul, Min, Max};
 ghost use Rattle.semantics.specs.Values.{combined, scaled};
@@ -9,7 +9,7 @@ use event_types::{Dec, ValueRef};
 
 // The sum, or OVER.
 pub(crate) fn sum<'a>(x: ValueRef<'a>, y: ValueRef<'a>) -> ValueRef<'a>
-    ensures { seen result ≡ combined Add (seen x.entry) (seen y.entry) }
+    ensures { value_of_ref result ≡ combined Add (value_of_ref x.entry) (value_of_ref y.entry) }
 {
     match (x, y) {
         (ValueRef::Int(x), ValueRef::Int(y)) => match x.checked_add(y) {
@@ -23,7 +23,7 @@ pub(crate) fn sum<'a>(x: ValueRef<'a>, y: ValueRef<'a>) -> ValueRef<'a>
 
 // The difference, or OVER.
 pub(crate) fn difference<'a>(x: ValueRef<'a>, y: ValueRef<'a>) -> ValueRef<'a>
-    ensures { seen result ≡ combined Sub (seen x.entry) (seen y.entry) }
+    ensures { value_of_ref result ≡ combined Sub (value_of_ref x.entry) (value_of_ref y.entry) }
 {
     match (x, y) {
         (ValueRef::Int(x), ValueRef::Int(y)) => match x.checked_sub(y) {
@@ -37,7 +37,7 @@ pub(crate) fn difference<'a>(x: ValueRef<'a>, y: ValueRef<'a>) -> ValueRef<'a>
 
 // The product, or OVER.
 pub(crate) fn product<'a>(x: ValueRef<'a>, y: ValueRef<'a>) -> ValueRef<'a>
-    ensures { seen result ≡ combined Mul (seen x.entry) (seen y.entry) }
+    ensures { value_of_ref result ≡ combined Mul (value_of_ref x.entry) (value_of_ref y.entry) }
 {
     match (x, y) {
         (ValueRef::Int(x), ValueRef::Int(y)) => match x.checked_mul(y) {
@@ -60,7 +60,7 @@ pub(crate) fn product<'a>(x: ValueRef<'a>, y: ValueRef<'a>) -> ValueRef<'a>
 
 // The decimal of this scale whose units are the product, or OVER.
 fn decimal_product<'a>(scale: u8, x: i128, y: i128) -> ValueRef<'a>
-    ensures { seen result ≡ scaled scale (x *ℤ y) }
+    ensures { value_of_ref result ≡ scaled scale (x *ℤ y) }
 {
     match x.checked_mul(y) {
         Some(units) => ValueRef::Dec(Dec { scale, units }),
@@ -70,7 +70,7 @@ fn decimal_product<'a>(scale: u8, x: i128, y: i128) -> ValueRef<'a>
 
 // The smaller of two numbers, or OVER.
 pub(crate) fn smaller<'a>(x: ValueRef<'a>, y: ValueRef<'a>) -> ValueRef<'a>
-    ensures { seen result ≡ combined Min (seen x.entry) (seen y.entry) }
+    ensures { value_of_ref result ≡ combined Min (value_of_ref x.entry) (value_of_ref y.entry) }
 {
     match (x, y) {
         (ValueRef::Int(x), ValueRef::Int(y)) => ValueRef::Int(x.min(y)),
@@ -81,7 +81,7 @@ pub(crate) fn smaller<'a>(x: ValueRef<'a>, y: ValueRef<'a>) -> ValueRef<'a>
 
 // The larger of two numbers, or OVER.
 pub(crate) fn larger<'a>(x: ValueRef<'a>, y: ValueRef<'a>) -> ValueRef<'a>
-    ensures { seen result ≡ combined Max (seen x.entry) (seen y.entry) }
+    ensures { value_of_ref result ≡ combined Max (value_of_ref x.entry) (value_of_ref y.entry) }
 {
     match (x, y) {
         (ValueRef::Int(x), ValueRef::Int(y)) => ValueRef::Int(x.max(y)),
@@ -92,7 +92,7 @@ pub(crate) fn larger<'a>(x: ValueRef<'a>, y: ValueRef<'a>) -> ValueRef<'a>
 
 // The sum of two decimals, or OVER.
 fn decimal_sum<'a>(x: Dec, y: Dec) -> ValueRef<'a>
-    ensures { seen result ≡ combined Add (value.Dec x.scale x.units) (value.Dec y.scale y.units) }
+    ensures { value_of_ref result ≡ combined Add (value.Dec x.scale x.units) (value.Dec y.scale y.units) }
 {
     if x.scale != y.scale {
         return ValueRef::Over;
@@ -108,7 +108,7 @@ fn decimal_sum<'a>(x: Dec, y: Dec) -> ValueRef<'a>
 
 // The difference of two decimals, or OVER.
 fn decimal_difference<'a>(x: Dec, y: Dec) -> ValueRef<'a>
-    ensures { seen result ≡ combined Sub (value.Dec x.scale x.units) (value.Dec y.scale y.units) }
+    ensures { value_of_ref result ≡ combined Sub (value.Dec x.scale x.units) (value.Dec y.scale y.units) }
 {
     if x.scale != y.scale {
         return ValueRef::Over;
@@ -124,7 +124,7 @@ fn decimal_difference<'a>(x: Dec, y: Dec) -> ValueRef<'a>
 
 // The smaller of two decimals, or OVER.
 fn smaller_decimal<'a>(x: Dec, y: Dec) -> ValueRef<'a>
-    ensures { seen result ≡ combined Min (value.Dec x.scale x.units) (value.Dec y.scale y.units) }
+    ensures { value_of_ref result ≡ combined Min (value.Dec x.scale x.units) (value.Dec y.scale y.units) }
 {
     if x.scale != y.scale {
         return ValueRef::Over;
@@ -137,7 +137,7 @@ fn smaller_decimal<'a>(x: Dec, y: Dec) -> ValueRef<'a>
 
 // The larger of two decimals, or OVER.
 fn larger_decimal<'a>(x: Dec, y: Dec) -> ValueRef<'a>
-    ensures { seen result ≡ combined Max (value.Dec x.scale x.units) (value.Dec y.scale y.units) }
+    ensures { value_of_ref result ≡ combined Max (value.Dec x.scale x.units) (value.Dec y.scale y.units) }
 {
     if x.scale != y.scale {
         return ValueRef::Over;

@@ -2,7 +2,7 @@
 ghost use Rattle.std.specs.Prelude.{◌≡◌, ◌+◌};
 ghost use Rattle.std.specs.List.{All, list_all};
 ghost use Rattle.std.specs.Option.{option_copied};
-ghost use Rattle.event_types.specs.Seen.{seen};
+ghost use Rattle.event_types.specs.ValueOfRef.{value_of_ref};
 ghost use Rattle.event_types.specs.declared.value.Value.TheVariants as value;
 ghost use Rattle.semantics.specs.Truth.{truth, all_true, order_of, is_met};
 ghost use Rattle.scalar_expr.specs.Fits.{PredFits, AllFit};
@@ -65,14 +65,14 @@ fn is_true(predicate: &Pred, event: &Tuple, binding: Option<&Tuple>) -> bool
 ///
 /// Takes no memory.
 pub fn compares(cmp: Cmp, x: ValueRef<'_>, y: ValueRef<'_>) -> bool
-    ensures { result ≡ is_met cmp (order_of (seen x.entry) (seen y.entry)) }
+    ensures { result ≡ is_met cmp (order_of (value_of_ref x.entry) (value_of_ref y.entry)) }
 {
     is_accepted(cmp, order(x, y))
 }
 
 // The order of two values that have one.
 fn order(x: ValueRef<'_>, y: ValueRef<'_>) -> Option<Ordering>
-    ensures { result ≡ order_of (seen x.entry) (seen y.entry) }
+    ensures { result ≡ order_of (value_of_ref x.entry) (value_of_ref y.entry) }
 {
     match (x, y) {
         (ValueRef::Int(x), ValueRef::Int(y)) => Some(x.cmp(&y)),

@@ -1,7 +1,7 @@
 //! The values of scalars.
 ghost use Rattle.std.specs.Prelude.{◌≡◌, pos, ◌-ℤ◌};
 ghost use Rattle.std.specs.Option.{option_copied};
-ghost use Rattle.event_types.specs.Seen.{seen};
+ghost use Rattle.event_types.specs.ValueOfRef.{value_of_ref};
 ghost use Rattle.semantics.specs.Values.{val, span_start};
 ghost use Rattle.scalar_expr.specs.Fits.{Fits};
 ghost use Rattle.scalar_expr.specs.Views.{sc_of};
@@ -19,7 +19,7 @@ pub fn value_of<'a>(
     binding: Option<&'a Tuple>,
 ) -> ValueRef<'a>
     requires { Fits (sc_of scalar.now) event.now (option_copied binding) }
-    ensures { seen result ≡ val (sc_of scalar.now) event.now (option_copied binding.entry) }
+    ensures { value_of_ref result ≡ val (sc_of scalar.now) event.now (option_copied binding.entry) }
 {
     match scalar {
         Scalar::Lit(value) => value.look(),

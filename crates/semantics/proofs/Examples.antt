@@ -6,7 +6,7 @@ use Rattle.std.proofs.lemmas.Fmt.{decimal_digit}
 use Rattle.event_types.specs.declared.comparison.Cmp.TheVariants as cmp
 use Rattle.event_types.specs.declared.value.Value.{Value}
 use Rattle.event_types.specs.declared.value.Value.TheVariants as value
-use Rattle.event_types.specs.Tuple.{Row}
+use Rattle.event_types.specs.Tuple.{TupleView}
 use Rattle.semantics.specs.Scalars.{Sc, Lit, Event, Binding, Dur, Two, Add, Sub, Mul, Min, Max, Pr, Test, Not, Op}
 use Rattle.semantics.specs.Values.{val}
 use Rattle.semantics.specs.Truth.{truth}
@@ -14,7 +14,7 @@ use Rattle.semantics.specs.Nexts.{is_eligible, nexts}
 use Rattle.semantics.specs.Runs.{runs}
 use Rattle.semantics.specs.Expressions.{Read, Filter, Select, Union, Next, Fold}
 use Rattle.semantics.specs.Denotation.{Streams, denote}
-use Rattle.semantics.specs.Histories.{Heard, times}
+use Rattle.semantics.specs.Histories.{Event as TheEvent, times}
 use Rattle.semantics.specs.Programs.{Program, Query}
 use Rattle.semantics.specs.Results.{results}
 use Rattle.semantics.specs.Report.{decimal_text, quoted, line, report}
@@ -24,11 +24,11 @@ abbrev number : ℕ → Sc
 number n = Lit (value.Int (pos n))
 
 -- the tuple of one number with these times
-abbrev tuple : ℕ → ℕ → ℕ → Row
+abbrev tuple : ℕ → ℕ → ℕ → TupleView
 tuple n from at = record { vals = value.Int (pos n) ∷ []; from = from; at = at }
 
 -- the tuple of two numbers with these times
-abbrev pair : ℕ → ℕ → ℕ → ℕ → Row
+abbrev pair : ℕ → ℕ → ℕ → ℕ → TupleView
 pair m n from at = record { vals = value.Int (pos m) ∷ value.Int (pos n) ∷ []; from = from; at = at }
 
 -- the largest and the least number of 128 bits
@@ -238,10 +238,10 @@ up = record { name = codes "Up"; stream = 1; hidden = 3; expr = Next rises (Read
 abbrev program : Program
 program = record { declared = 1; queries = high ∷ up ∷ []; order = up ∷ high ∷ [] }
 
-abbrev heard : ℕ → ℕ → ℕ → Heard
+abbrev heard : ℕ → ℕ → ℕ → TheEvent
 heard n from at = record { stream = 0; tuple = tuple n from at }
 
-abbrev history : List Heard
+abbrev history : List TheEvent
 history = heard 5 1 1 ∷ heard 7 2 2 ∷ heard 9 3 3 ∷ heard 8 3 3 ∷ heard 9 4 4 ∷ []
 
 -- each detection time once

@@ -5,7 +5,7 @@ use Rattle.std.proofs.lemmas.Bool.Decides.{nat_tests}
 use Rattle.std.proofs.lemmas.Grind.{flat_map-append}
 use Rattle.std.proofs.lemmas.List.Elements.{filter-append, All-nil, All-cons, All-head, All-tail, All-weaker, All-filter}
 use Rattle.event_types.specs.Order.{sorted}
-use Rattle.semantics.specs.Histories.{Heard, upto, times}
+use Rattle.semantics.specs.Histories.{Event, upto, times}
 use Rattle.semantics.specs.Programs.{Program, env}
 use Rattle.semantics.specs.Results.{results}
 use Rattle.semantics.specs.Report.{epoch, line, report}
@@ -43,7 +43,7 @@ later_is_past : (time other : ℕ) → time < other → nat_le other time ≡ fa
 later_is_past time other lt = grind (arith, nat_tests)
 
 -- what holds of each event's time holds of each time
-times_all : (P : ℕ → Type 0) (history : List Heard) → All (λ event. P event.tuple.at) history → All P (times history)
+times_all : (P : ℕ → Type 0) (history : List Event) → All (λ event. P event.tuple.at) history → All P (times history)
 times_all P [] all = All-nil P
 times_all P (event ∷ later) all =
     All-cons P event.tuple.at (filter (differs event.tuple.at) (times later)) (All-head (λ event. P event.tuple.at) event later all)
@@ -68,16 +68,16 @@ above time (t ∷ ts) all = go (above time ts (All-tail (λ t. time ≤ t) t ts 
     go rest false e = rest
 
 -- the times of a history ascend
-pub times_ascend : (history : List Heard) → NeverFalls history → Ascends (times history)
+pub times_ascend : (history : List Event) → NeverFalls history → Ascends (times history)
 times_ascend [] up = up
 times_ascend (event ∷ later) up =
     (above event.tuple.at (times later) (times_all (λ t. event.tuple.at ≤ t) later up.0), Ascends-filter (differs event.tuple.at) (times later) (times_ascend later up.1))
 
 -- the times of a history that grows by later events are the old ones, then those of the later events
-pub times-append : (history later : List Heard) → IsBefore history later → times (history ++ later) ≡ times history ++ times later
+pub times-append : (history later : List Event) → IsBefore history later → times (history ++ later) ≡ times history ++ times later
 times-append [] later before = refl
 times-append (event ∷ history) later before =
-    let is_before = λ (early : Heard). All (λ (late : Heard). early.tuple.at < late.tuple.at) later in
+    let is_before = λ (early : Event). All (λ (late : Event). early.tuple.at < late.tuple.at) later in
     let rest = times-append history later (All-tail is_before event history before) in
     let apart = All-weaker (λ t. event.tuple.at < t) (λ t. differs event.tuple.at t ≡ true) (later_differs event.tuple.at) (times later) (times_all (λ t. event.tuple.at < t) later (All-head is_before event history before)) in
     ap (λ ts. event.tuple.at ∷ filter (differs event.tuple.at) ts) rest
@@ -85,29 +85,29 @@ times-append (event ∷ history) later before =
     ∙ ap (λ ts. event.tuple.at ∷ (filter (differs event.tuple.at) (times history) ++ ts)) (filter_all (differs event.tuple.at) (times later) apart)
 
 -- events of one time have that time
-pub times_of_one : (time : ℕ) (event : Heard) (events : List Heard) → All (λ event. event.tuple.at ≡ time) (event ∷ events) → times (event ∷ events) ≡ time ∷ []
+pub times_of_one : (time : ℕ) (event : Event) (events : List Event) → All (λ event. event.tuple.at ≡ time) (event ∷ events) → times (event ∷ events) ≡ time ∷ []
 times_of_one time event events all =
     let first = All-head (λ event. event.tuple.at ≡ time) event events all in
     let same = All-weaker (λ t. t ≡ time) (λ t. differs event.tuple.at t ≡ false) (λ t e. same_differs event.tuple.at t (e ∙ sym first)) (times events) (times_all (λ t. t ≡ time) events (All-tail (λ event. event.tuple.at ≡ time) event events all)) in
     ap (λ ts. event.tuple.at ∷ ts) (filter_none (differs event.tuple.at) (times events) same) ∙ ap (λ t. t ∷ []) first
 
 -- later events are left out
-upto_later : (time : ℕ) (history later : List Heard) → All (λ event. time < event.tuple.at) later → upto time (history ++ later) ≡ upto time history
+upto_later : (time : ℕ) (history later : List Event) → All (λ event. time < event.tuple.at) later → upto time (history ++ later) ≡ upto time history
 upto_later time history later all =
-    let none = All-weaker (λ (event : Heard). time < event.tuple.at) (λ event. nat_le event.tuple.at time ≡ false) (λ event lt. later_is_past time event.tuple.at lt) later all in
+    let none = All-weaker (λ (event : Event). time < event.tuple.at) (λ event. nat_le event.tuple.at time ≡ false) (λ event lt. later_is_past time event.tuple.at lt) later all in
     filter-append (λ event. nat_le event.tuple.at time) history later
     ∙ ap (λ events. upto time history ++ events) (filter_none (λ event. nat_le event.tuple.at time) later none)
     ∙ append-nil (upto time history)
 
 -- the results at a time are unchanged by later events
-pub results_stand : (program : Program) (history later : List Heard) (stream time : ℕ) → All (λ event. time < event.tuple.at) later → results program (history ++ later) stream time ≡ results program history stream time
+pub results_stand : (program : Program) (history later : List Event) (stream time : ℕ) → All (λ event. time < event.tuple.at) later → results program (history ++ later) stream time ≡ results program history stream time
 results_stand program history later stream time all =
-    ap (λ (events : List Heard). sorted (filter (λ tuple. tuple.at == time) (env program events stream))) (upto_later time history later all)
+    ap (λ (events : List Event). sorted (filter (λ tuple. tuple.at == time) (env program events stream))) (upto_later time history later all)
 
 -- and so are the lines of an epoch
-epoch_stands : (program : Program) (history later : List Heard) (time : ℕ) → All (λ event. time < event.tuple.at) later → epoch program (history ++ later) time ≡ epoch program history time
+epoch_stands : (program : Program) (history later : List Event) (time : ℕ) → All (λ event. time < event.tuple.at) later → epoch program (history ++ later) time ≡ epoch program history time
 epoch_stands program history later time all =
-    ap (λ (events : List Heard). flat_map (λ query. flat_map (line query.name) (sorted (filter (λ tuple. tuple.at == time) (env program events query.stream)))) program.queries) (upto_later time history later all)
+    ap (λ (events : List Event). flat_map (λ query. flat_map (line query.name) (sorted (filter (λ tuple. tuple.at == time) (env program events query.stream)))) program.queries) (upto_later time history later all)
 
 -- two functions that agree on the items of a list
 pub flat_map_same : {X Y : Type 0} (f g : X → List Y) (xs : List X) → All (λ x. f x ≡ g x) xs → flat_map f xs ≡ flat_map g xs
@@ -118,7 +118,7 @@ flat_map_same f g (x ∷ xs) all =
     λ i. one i ++ more i
 
 -- later events add the lines of their epochs
-pub report_grows : (program : Program) (history later : List Heard) → IsBefore history later → report program (history ++ later) ≡ report program history ++ flat_map (epoch program (history ++ later)) (times later)
+pub report_grows : (program : Program) (history later : List Event) → IsBefore history later → report program (history ++ later) ≡ report program history ++ flat_map (epoch program (history ++ later)) (times later)
 report_grows program history later before =
     let whole = epoch program (history ++ later) in
     let same = flat_map_same whole (epoch program history) (times history)
@@ -129,16 +129,16 @@ report_grows program history later before =
     ∙ ap (λ text. text ++ flat_map whole (times later)) same
 
 -- a history below a time is before events of that time
-below_is_before : (time : ℕ) (history events : List Heard) → All (λ event. event.tuple.at < time) history → All (λ event. event.tuple.at ≡ time) events → IsBefore history events
+below_is_before : (time : ℕ) (history events : List Event) → All (λ event. event.tuple.at < time) history → All (λ event. event.tuple.at ≡ time) events → IsBefore history events
 below_is_before time history events below all =
     All-weaker (λ event. event.tuple.at < time) (λ event. All (λ late. event.tuple.at < late.tuple.at) events)
     (λ event lt. All-weaker (λ late. late.tuple.at ≡ time) (λ late. event.tuple.at < late.tuple.at) (λ late e. step event late lt e) events all) history below
   where
-    step : (event late : Heard) → event.tuple.at < time → late.tuple.at ≡ time → event.tuple.at < late.tuple.at
+    step : (event late : Event) → event.tuple.at < time → late.tuple.at ≡ time → event.tuple.at < late.tuple.at
     step event late lt e = omega arith
 
 -- events of one later time add the lines of its epoch
-pub report_grows_by_epochs : (program : Program) (history events : List Heard) (time : ℕ) → All (λ event. event.tuple.at < time) history → All (λ event. event.tuple.at ≡ time) events → 0 < length events
+pub report_grows_by_epochs : (program : Program) (history events : List Event) (time : ℕ) → All (λ event. event.tuple.at < time) history → All (λ event. event.tuple.at ≡ time) events → 0 < length events
     → report program (history ++ events) ≡ report program history ++ epoch program (history ++ events) time
 report_grows_by_epochs program history [] time below all some = absurd (omega arith)
 report_grows_by_epochs program history (event ∷ events) time below all some =

@@ -8,10 +8,10 @@ use Rattle.std.proofs.lemmas.List.FromFn.{get_or-range_with_len, length-range_wi
 use Rattle.std.proofs.lemmas.List.Sorted.{All-permutation, IsPermutation-sym}
 use Rattle.event_types.specs.declared.kind.Kind.{Kind}
 use Rattle.event_types.specs.Order.{sorted}
-use Rattle.event_types.specs.Tuple.{Row}
+use Rattle.event_types.specs.Tuple.{TupleView}
 use Rattle.semantics.specs.Denotation.{Streams, denote}
 use Rattle.semantics.specs.Expressions.{Ex}
-use Rattle.semantics.specs.Histories.{Heard, heard_on, upto}
+use Rattle.semantics.specs.Histories.{Event, heard_on, upto}
 use Rattle.semantics.specs.Programs.{Program, Query, declared_streams, env, published, with_stream}
 use Rattle.semantics.specs.Reading.{ReadsOnly, renumbered}
 use Rattle.semantics.specs.Results.{results}
@@ -33,10 +33,10 @@ there_declared declared stream has =
     let same : 0 + has.0 ≡ stream = sym (get_or-range_with_len 0 declared has.0 stream within) ∙ has.2 in omega arith
 
 -- a stream that is put at a number is there, and the others stay
-with_stream_same : (streams : Streams) (number : ℕ) (tuples : List Row) → with_stream streams number tuples number ≡ tuples
+with_stream_same : (streams : Streams) (number : ℕ) (tuples : List TupleView) → with_stream streams number tuples number ≡ tuples
 with_stream_same streams number tuples = ap (λ b. cond b tuples (streams number)) (is_same number number refl)
 
-with_stream_other : (streams : Streams) (number : ℕ) (tuples : List Row) (stream : ℕ) → (stream ≡ number → ⊥) → with_stream streams number tuples stream ≡ streams stream
+with_stream_other : (streams : Streams) (number : ℕ) (tuples : List TupleView) (stream : ℕ) → (stream ≡ number → ⊥) → with_stream streams number tuples stream ≡ streams stream
 with_stream_other streams number tuples stream other = ap (λ b. cond b tuples (streams stream)) (is_other stream number other)
 
 -- queries that publish in turn leave the streams that are there: by induction on the queries
@@ -61,23 +61,23 @@ published_denoted kinds there streams (query ∷ order) turn =
     All-cons (λ q. last q.stream ≡ denote q.expr last) query order (here ∙ agrees) (published_denoted kinds more (with_stream streams query.stream tuples) order turn.3)
 
 -- a declared stream has what was heard on it
-pub declared_is : (kinds : ℕ → List Kind) (program : Program) (history : List Heard) → IsProgram kinds program → (stream : ℕ) → stream < program.declared → env program history stream ≡ heard_on history stream
+pub declared_is : (kinds : ℕ → List Kind) (program : Program) (history : List Event) → IsProgram kinds program → (stream : ℕ) → stream < program.declared → env program history stream ≡ heard_on history stream
 declared_is kinds program history typed stream lt =
     published_there kinds (range_with_len 0 program.declared) (declared_streams program.declared history) program.order typed.in_turn stream (declared_there program.declared stream lt)
     ∙ ap (λ b. cond b (heard_on history stream) []) (is_below stream program.declared lt)
 
 -- a query's stream has what its expression denotes over the streams of the program
-pub published_is : (kinds : ℕ → List Kind) (program : Program) (history : List Heard) → IsProgram kinds program → All (λ query. env program history query.stream ≡ denote query.expr (env program history)) program.queries
+pub published_is : (kinds : ℕ → List Kind) (program : Program) (history : List Event) → IsProgram kinds program → All (λ query. env program history query.stream ≡ denote query.expr (env program history)) program.queries
 published_is kinds program history typed =
     All-permutation (λ query. env program history query.stream ≡ denote query.expr (env program history)) program.order program.queries (IsPermutation-sym program.queries program.order typed.same_queries)
     (published_denoted kinds (range_with_len 0 program.declared) (declared_streams program.declared history) program.order typed.in_turn)
 
 -- what was heard on a stream by a time
-heard_on-upto : (time stream : ℕ) (history : List Heard) → heard_on (upto time history) stream ≡ filter (λ tuple. nat_le tuple.at time) (heard_on history stream)
+heard_on-upto : (time stream : ℕ) (history : List Event) → heard_on (upto time history) stream ≡ filter (λ tuple. nat_le tuple.at time) (heard_on history stream)
 heard_on-upto time stream history =
-    let on : Heard → Bool = λ event. event.stream == stream in
-    let early : Heard → Bool = λ event. nat_le event.tuple.at time in
-    ap (map (λ (event : Heard). event.tuple)) (filter_swap on early history) ∙ sym (filter-map (λ (tuple : Row). nat_le tuple.at time) (λ (event : Heard). event.tuple) (filter on history))
+    let on : Event → Bool = λ event. event.stream == stream in
+    let early : Event → Bool = λ event. nat_le event.tuple.at time in
+    ap (map (λ (event : Event). event.tuple)) (filter_swap on early history) ∙ sym (filter-map (λ (tuple : TupleView). nat_le tuple.at time) (λ (event : Event). event.tuple) (filter on history))
 
 -- what a query's stream has in the other program, where it is shared
 abbrev IsFollowed : (ℕ → Bool) → (ℕ → ℕ) → Streams → Query → Type 0
@@ -117,14 +117,14 @@ all_agree is_shared number streams others kinds there (query ∷ order) turn is 
         go (inr same) = subst (λ (s : ℕ). IsTrue (is_shared s) → streams s ≡ others (number s)) same here
 
 -- the query that publishes a stream in the other program tells what it has
-publisher_is : (kinds : ℕ → List Kind) (program : Program) (history : List Heard) → IsProgram kinds program → (stream : ℕ) (expr : Ex) → Publishes program stream expr → env program history stream ≡ denote expr (env program history)
+publisher_is : (kinds : ℕ → List Kind) (program : Program) (history : List Event) → IsProgram kinds program → (stream : ℕ) (expr : Ex) → Publishes program stream expr → env program history stream ≡ denote expr (env program history)
 publisher_is kinds program history typed stream expr found =
     let streams = env program history in
     let is = All-contains (λ query. streams query.stream ≡ denote query.expr streams) program.queries found.0 (published_is kinds program history typed) found.1 in
     ap streams (sym found.2) ∙ is ∙ ap (λ e. denote e streams) found.3
 
 -- the streams that two programs share agree over histories that agree
-shared_agree : (is_shared : ℕ → Bool) (number : ℕ → ℕ) (kinds other_kinds : ℕ → List Kind) (program other : Program) (history others : List Heard)
+shared_agree : (is_shared : ℕ → Bool) (number : ℕ → ℕ) (kinds other_kinds : ℕ → List Kind) (program other : Program) (history others : List Event)
     → IsProgram kinds program → IsProgram other_kinds other → HaveSameStatements is_shared number program other → HearTheSame is_shared number program.declared history others
     → All (λ query. IsTrue (is_shared query.stream) → env program history query.stream ≡ env other others (number query.stream)) program.queries
 shared_agree is_shared number kinds other_kinds program other history others typed other_typed same hear =
@@ -142,13 +142,13 @@ shared_agree is_shared number kinds other_kinds program other history others typ
     (All-permutation (IsFollowed is_shared number there) program.queries program.order typed.same_queries followed) declared)
 
 -- so have their results at each time
-pub same_results : (is_shared : ℕ → Bool) (number : ℕ → ℕ) (kinds other_kinds : ℕ → List Kind) (program other : Program) (history others : List Heard)
+pub same_results : (is_shared : ℕ → Bool) (number : ℕ → ℕ) (kinds other_kinds : ℕ → List Kind) (program other : Program) (history others : List Event)
     → IsProgram kinds program → IsProgram other_kinds other → HaveSameStatements is_shared number program other → HearTheSame is_shared number program.declared history others
     → All (λ query. IsTrue (is_shared query.stream) → (time : ℕ) → results program history query.stream time ≡ results other others (number query.stream) time) program.queries
 same_results is_shared number kinds other_kinds program other history others typed other_typed same hear = λ k d lt shared time.
-    ap (λ tuples. sorted (filter (λ (tuple : Row). tuple.at == time) tuples))
+    ap (λ tuples. sorted (filter (λ (tuple : TupleView). tuple.at == time) tuples))
     (shared_agree is_shared number kinds other_kinds program other (upto time history) (upto time others) typed other_typed same (early time) k d lt shared)
   where
     early : (time : ℕ) → HearTheSame is_shared number program.declared (upto time history) (upto time others)
     early time stream shared lt =
-        heard_on-upto time stream history ∙ ap (filter (λ (tuple : Row). nat_le tuple.at time)) (hear stream shared lt) ∙ sym (heard_on-upto time (number stream) others)
+        heard_on-upto time stream history ∙ ap (filter (λ (tuple : TupleView). nat_le tuple.at time)) (hear stream shared lt) ∙ sym (heard_on-upto time (number stream) others)

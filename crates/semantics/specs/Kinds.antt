@@ -5,7 +5,7 @@ use Rattle.event_types.specs.declared.kind.Kind.{Kind}
 use Rattle.event_types.specs.declared.kind.Kind.TheVariants as kind
 use Rattle.event_types.specs.declared.value.Value.{Value}
 use Rattle.event_types.specs.declared.value.Value.TheVariants as value
-use Rattle.event_types.specs.Tuple.{Row}
+use Rattle.event_types.specs.Tuple.{TupleView}
 use Rattle.semantics.specs.Denotation.{Streams}
 
 -- the kind of a value; OVER by itself counts as a whole number
@@ -32,7 +32,7 @@ AreOf (k ∷ kinds) (v ∷ vals) = IsOf k v × AreOf kinds vals
 AreOf kinds vals = ⊥
 
 -- the values of the tuple have these kinds, one by one
-abbrev pub HasKinds : List Kind → Row → Type 0
+abbrev pub HasKinds : List Kind → TupleView → Type 0
 HasKinds kinds tuple = AreOf kinds tuple.vals
 
 -- each tuple of the first so many streams has the kinds of its stream

@@ -1,9 +1,9 @@
 -- Programs, and the streams of a program over a history.
 use Rattle.std.specs.Prelude.{ℕ, ◌==◌, nat_lt, if◌then◌else◌, List, [], ◌∷◌}
-use Rattle.event_types.specs.Tuple.{Row}
+use Rattle.event_types.specs.Tuple.{TupleView}
 use Rattle.semantics.specs.Expressions.{Ex}
 use Rattle.semantics.specs.Denotation.{Streams, denote}
-use Rattle.semantics.specs.Histories.{Heard, heard_on}
+use Rattle.semantics.specs.Histories.{Event, heard_on}
 
 -- a query: its name, the number of the stream that it publishes, that of the first of its hidden streams, on which its lines keep what its results are made of, and its expression
 pub record Query : Type 0 where
@@ -19,11 +19,11 @@ pub record Program : Type 0 where
   pub order : List Query
 
 -- each declared stream has the tuples that were heard on it, and no other stream has any
-abbrev pub declared_streams : ℕ → List Heard → Streams
+abbrev pub declared_streams : ℕ → List Event → Streams
 declared_streams declared history stream = if nat_lt stream declared then heard_on history stream else []
 
 -- the streams with these tuples at one number
-abbrev pub with_stream : Streams → ℕ → List Row → Streams
+abbrev pub with_stream : Streams → ℕ → List TupleView → Streams
 with_stream streams number tuples stream = if stream == number then tuples else streams stream
 
 -- the streams once each query in turn has published what its expression denotes over the streams before it (CIDR 2007, resubscription)
@@ -32,5 +32,5 @@ published streams [] = streams
 published streams (query ∷ order) = published (with_stream streams query.stream (denote query.expr streams)) order
 
 -- the streams of a program over a history
-abbrev pub env : Program → List Heard → Streams
+abbrev pub env : Program → List Event → Streams
 env program history = published (declared_streams program.declared history) program.order

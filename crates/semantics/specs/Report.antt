@@ -4,8 +4,8 @@ use Rattle.std.specs.List.{flat_map, list_any, join_with_byte}
 use Rattle.std.specs.Fmt.{decimal, signed_decimal}
 use Rattle.event_types.specs.declared.value.Value.{Value}
 use Rattle.event_types.specs.declared.value.Value.TheVariants as value
-use Rattle.event_types.specs.Tuple.{Row}
-use Rattle.semantics.specs.Histories.{Heard, times}
+use Rattle.event_types.specs.Tuple.{TupleView}
+use Rattle.semantics.specs.Histories.{Event, times}
 use Rattle.semantics.specs.Programs.{Program, Query}
 use Rattle.semantics.specs.Results.{results}
 
@@ -44,17 +44,17 @@ value_text (value.Text text) = quoted text
 value_text (value.Dec scale units) = decimal_text scale units
 
 -- a result line: the query's name, the start, the detection and the values, joined by commas, and an LF
-abbrev pub line : List ℕ → Row → List ℕ
+abbrev pub line : List ℕ → TupleView → List ℕ
 line name tuple = join_with_byte 44 (quoted name ∷ decimal tuple.from ∷ decimal tuple.at ∷ map value_text tuple.vals) ++ 10 ∷ []
 
 -- the lines of a query's results at a time
-abbrev pub lines_at : Program → List Heard → ℕ → Query → List ℕ
+abbrev pub lines_at : Program → List Event → ℕ → Query → List ℕ
 lines_at program history time query = flat_map (line query.name) (results program history query.stream time)
 
 -- the lines of an epoch: those of each query in the order of the file
-abbrev pub epoch : Program → List Heard → ℕ → List ℕ
+abbrev pub epoch : Program → List Event → ℕ → List ℕ
 epoch program history time = flat_map (lines_at program history time) program.queries
 
 -- the report: the lines of each epoch of the history
-abbrev pub report : Program → List Heard → List ℕ
+abbrev pub report : Program → List Event → List ℕ
 report program history = flat_map (epoch program history) (times history)

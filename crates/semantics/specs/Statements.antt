@@ -4,7 +4,7 @@ use Rattle.std.specs.List.{All, Contains}
 use Rattle.event_types.specs.declared.kind.Kind.{Kind}
 use Rattle.semantics.specs.Denotation.{denote}
 use Rattle.semantics.specs.Expressions.{Ex}
-use Rattle.semantics.specs.Histories.{Heard, heard_on}
+use Rattle.semantics.specs.Histories.{Event, heard_on}
 use Rattle.semantics.specs.Programs.{Program, Query, env}
 use Rattle.semantics.specs.Reading.{ReadsOnly, renumbered}
 use Rattle.semantics.specs.Results.{results}
@@ -20,19 +20,19 @@ pub record HaveSameStatements (is_shared : ℕ → Bool) (number : ℕ → ℕ) 
   pub published : All (λ query. IsTrue (is_shared query.stream) → ReadsOnly (λ stream. IsTrue (is_shared stream)) query.expr × Publishes other (number query.stream) (renumbered number query.expr)) program.queries
 
 -- over these histories the shared declared streams have the same tuples
-abbrev pub HearTheSame : (ℕ → Bool) → (ℕ → ℕ) → ℕ → List Heard → List Heard → Type 0
+abbrev pub HearTheSame : (ℕ → Bool) → (ℕ → ℕ) → ℕ → List Event → List Event → Type 0
 HearTheSame is_shared number declared history others = (stream : ℕ) → IsTrue (is_shared stream) → stream < declared → heard_on history stream ≡ heard_on others (number stream)
 
 -- a declared stream has what was heard on it, and a published one what its query's expression denotes over the streams of the program (CIDR 2007, resubscription)
 abbrev pub StreamsAreDenoted : Type 0
 StreamsAreDenoted =
-    (kinds : ℕ → List Kind) (program : Program) (history : List Heard) → IsProgram kinds program
+    (kinds : ℕ → List Kind) (program : Program) (history : List Event) → IsProgram kinds program
     → ((stream : ℕ) → stream < program.declared → env program history stream ≡ heard_on history stream)
     × All (λ query. env program history query.stream ≡ denote query.expr (env program history)) program.queries
 
 -- a query whose stream has the same statement in two programs, with all that it reads, directly or through published streams, has the same results in both
 abbrev pub SameStatementsGiveSameResults : Type 0
 SameStatementsGiveSameResults =
-    (is_shared : ℕ → Bool) (number : ℕ → ℕ) (kinds other_kinds : ℕ → List Kind) (program other : Program) (history others : List Heard)
+    (is_shared : ℕ → Bool) (number : ℕ → ℕ) (kinds other_kinds : ℕ → List Kind) (program other : Program) (history others : List Event)
     → IsProgram kinds program → IsProgram other_kinds other → HaveSameStatements is_shared number program other → HearTheSame is_shared number program.declared history others
     → All (λ query. IsTrue (is_shared query.stream) → (time : ℕ) → results program history query.stream time ≡ results other others (number query.stream) time) program.queries

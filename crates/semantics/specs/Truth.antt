@@ -8,7 +8,7 @@ use Rattle.event_types.specs.declared.comparison.Cmp.{Cmp}
 use Rattle.event_types.specs.declared.comparison.Cmp.TheVariants as cmp
 use Rattle.event_types.specs.declared.value.Value.{Value}
 use Rattle.event_types.specs.declared.value.Value.TheVariants as value
-use Rattle.event_types.specs.Tuple.{Row}
+use Rattle.event_types.specs.Tuple.{TupleView}
 use Rattle.semantics.specs.Scalars.{Pr, True, Test, And, Or, Not}
 use Rattle.semantics.specs.Values.{val}
 
@@ -34,7 +34,7 @@ is_met c None = false
 is_met c (Some order) = is_accepted c order
 
 -- the truth of a predicate; AND, OR and NOT are two-valued
-abbrev pub truth : Pr → Row → Option Row → Bool
+abbrev pub truth : Pr → TupleView → Option TupleView → Bool
 truth True event binding = true
 truth (Test x c y) event binding = is_met c (order_of (val x event binding) (val y event binding))
 truth (And p q) event binding = truth p event binding && truth q event binding
@@ -42,5 +42,5 @@ truth (Or p q) event binding = truth p event binding || truth q event binding
 truth (Not p) event binding = not (truth p event binding)
 
 -- a conjunction is true where all its parts are
-abbrev pub all_true : List Pr → Row → Option Row → Bool
+abbrev pub all_true : List Pr → TupleView → Option TupleView → Bool
 all_true parts event binding = list_all (λ p. truth p event binding) parts

@@ -36,12 +36,12 @@ abbrev pub AreTyped : List Pr → List Kind → Option (List Kind) → Type 0
 AreTyped condition event binding = All (λ p. IsTyped p event binding) condition
 
 -- the expression reads the first so many streams, which are of these kinds, and gives tuples of those kinds
-abbrev pub Gives : Ex → ℕ → (ℕ → List Kind) → List Kind → Type 0
-Gives (Read stream) count kinds out = (stream < count) × (kinds stream ≡ out)
-Gives (Filter p e) count kinds out = Gives e count kinds out × AreTyped p out None
-Gives (Select m e) count kinds out = (mid : List Kind) × Gives e count kinds mid × AreOfKinds m.parts mid None out
-Gives (Union e f) count kinds out = Gives e count kinds out × Gives f count kinds out
-Gives (Next p e f) count kinds out = (left : List Kind) × (right : List Kind) × Gives e count kinds left × Gives f count kinds right × AreTyped p right (Some left) × (left ++ right ≡ out)
-Gives (Fold p q m e f) count kinds out =
-    (right : List Kind) × Gives e count kinds out × Gives f count kinds right
+abbrev pub IsTypedOver : Ex → ℕ → (ℕ → List Kind) → List Kind → Type 0
+IsTypedOver (Read stream) count kinds out = (stream < count) × (kinds stream ≡ out)
+IsTypedOver (Filter p e) count kinds out = IsTypedOver e count kinds out × AreTyped p out None
+IsTypedOver (Select m e) count kinds out = (mid : List Kind) × IsTypedOver e count kinds mid × AreOfKinds m.parts mid None out
+IsTypedOver (Union e f) count kinds out = IsTypedOver e count kinds out × IsTypedOver f count kinds out
+IsTypedOver (Next p e f) count kinds out = (left : List Kind) × (right : List Kind) × IsTypedOver e count kinds left × IsTypedOver f count kinds right × AreTyped p right (Some left) × (left ++ right ≡ out)
+IsTypedOver (Fold p q m e f) count kinds out =
+    (right : List Kind) × IsTypedOver e count kinds out × IsTypedOver f count kinds right
     × AreTyped p right (Some out) × AreTyped q right (Some out) × AreOfKinds m.parts right (Some out) out

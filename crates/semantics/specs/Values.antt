@@ -3,7 +3,7 @@ use Rattle.std.specs.Prelude.{ℕ, ◌+◌, ◌==◌, ℤ, pos, negsuc, ◌^◌,
 use Rattle.std.specs.Int.{int_min, int_max}
 use Rattle.event_types.specs.declared.value.Value.{Value}
 use Rattle.event_types.specs.declared.value.Value.TheVariants as value
-use Rattle.event_types.specs.Tuple.{Row}
+use Rattle.event_types.specs.Tuple.{TupleView}
 use Rattle.semantics.specs.Scalars.{Op, Add, Sub, Mul, Min, Max, Sc, Lit, Event, Binding, Dur, Two}
 
 -- whether a whole number lies from -2^127 to 2^127-1
@@ -41,21 +41,21 @@ combined op (value.Dec s x) (value.Dec t y) = if s == t then scaled s (result_of
 combined op x y = value.Over
 
 -- the value at a place of a tuple
-abbrev pub value_at : Row → ℕ → Value
+abbrev pub value_at : TupleView → ℕ → Value
 value_at tuple place = slice_index_or tuple.vals place value.Over
 
 -- the value at a place of the binding
-abbrev pub bound_at : Option Row → ℕ → Value
+abbrev pub bound_at : Option TupleView → ℕ → Value
 bound_at None place = value.Over
 bound_at (Some binding) place = value_at binding place
 
 -- where the span of DUR begins: at the start of the binding, and without a binding at that of the event itself
-abbrev pub span_start : Row → Option Row → ℕ
+abbrev pub span_start : TupleView → Option TupleView → ℕ
 span_start event None = event.from
 span_start event (Some binding) = binding.from
 
 -- the value of a scalar (EDBT 2006, predicates; OVER is this project's profile)
-abbrev pub val : Sc → Row → Option Row → Value
+abbrev pub val : Sc → TupleView → Option TupleView → Value
 val (Lit v) event binding = v
 val (Event place) event binding = value_at event place
 val (Binding place) event binding = bound_at binding place
@@ -63,5 +63,5 @@ val Dur event binding = value.Int (pos event.at -ℤ pos (span_start event bindi
 val (Two op x y) event binding = combined op (val x event binding) (val y event binding)
 
 -- the tuple of the scalars' values, with these times
-abbrev pub applied : List Sc → Row → Option Row → ℕ → ℕ → Row
+abbrev pub applied : List Sc → TupleView → Option TupleView → ℕ → ℕ → TupleView
 applied parts event binding from at = record { vals = map (λ s. val s event binding) parts; from = from; at = at }

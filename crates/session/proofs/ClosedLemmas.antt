@@ -2,21 +2,21 @@
 use Rattle.std.proofs.Common.{◌≡◌, ◌∙◌, sym, ap, subst, ℕ, ◌<◌, cond, List, [], ◌++◌, append_assoc, Option, Some}
 use Rattle.std.proofs.lemmas.Bool.{lt-ltb}
 use Rattle.cay_host.specs.Told.{Told}
-use Rattle.event_types.specs.Tuple.{Row}
-use Rattle.semantics.specs.Histories.{Heard}
+use Rattle.event_types.specs.Tuple.{TupleView}
+use Rattle.semantics.specs.Histories.{Event}
 use Rattle.semantics.specs.Programs.{Program}
 use Rattle.epoch_engine.specs.Closes.{Closes, KeepsPlan}
-use Rattle.epoch_engine.specs.StandsFor as engines
-use Rattle.epoch_engine.specs.Views as engine
+use Rattle.epoch_engine.specs.EngineStandsFor as engines
+use Rattle.epoch_engine.specs.EngineView as engine
 use Rattle.epoch_engine.proofs.StandsLemmas.{closed_stands}
 use Rattle.catalogue.specs.Catalogued.{Catalogued, IsAccepted, judged_of}
-use Rattle.session.specs.Batches.{batch_lines}
-use Rattle.session.specs.Standing.{IsPlanned, Stands, lines_over, program_over}
-use Rattle.session.specs.Working.{Owes, closing, is_later, open_rows}
-use Rattle.session.proofs.BatchLemmas.{batch_at, lines_are}
+use Rattle.session.specs.BatchLines.{batch_lines}
+use Rattle.session.specs.StandsWithLastOpen.{IsPlanned, StandsWithLastOpen, lines_over, program_over}
+use Rattle.session.specs.Owes.{Owes, closing, is_later, open_rows}
+use Rattle.session.proofs.BatchLinesLemmas.{batch_at, lines_are}
 use Rattle.session.proofs.ResultLemmas.{closing_gives_results}
 
-module _ (c : Catalogued) (accepted : IsAccepted c) (old new : engine.View) (batch : List (List Row)) (planned : IsPlanned c old) (closes : Closes old new batch) (history : List Heard) (stands : Stands c history old) where
+module _ (c : Catalogued) (accepted : IsAccepted c) (old new : engine.EngineView) (batch : List (List TupleView)) (planned : IsPlanned c old) (closes : Closes old new batch) (history : List Event) (stands : StandsWithLastOpen c history old) where
   -- the batch has the results of the queries over what was heard
   batch_is : batch ≡ batch_at (program_over c) history closes.time (program_over c).queries
   batch_is = closing_gives_results accepted.text (judged_of c) old new history batch accepted.accepts planned.layout stands.engine stands.declared closes
@@ -29,14 +29,14 @@ module _ (c : Catalogued) (accepted : IsAccepted c) (old new : engine.View) (bat
       ∙ ap (λ o. rows ++ open_rows program history o) (sym closes.was_open)
 
   -- the engine stands for the same events
-  pub still_stands : KeepsPlan old new → engines.StandsFor new (lines_over c) history
+  pub still_stands : KeepsPlan old new → engines.EngineStandsFor new (lines_over c) history
   still_stands plan = closed_stands old new (lines_over c) history batch stands.engine closes plan
 
 -- a later event closes the open epoch
-closing_is : (program : Program) (history : List Heard) (seen : Option ℕ) (last at : ℕ) → seen ≡ Some last → last < at → closing program history seen at ≡ open_rows program history seen
+closing_is : (program : Program) (history : List Event) (seen : Option ℕ) (last at : ℕ) → seen ≡ Some last → last < at → closing program history seen at ≡ open_rows program history seen
 closing_is program history seen last at e less = ap (λ b. cond b (open_rows program history seen) []) (ap (λ o. is_later o at) e ∙ lt-ltb last at less)
 
-module _ (program : Program) (history : List Heard) (seen : Option ℕ) (last at : ℕ) (e : seen ≡ Some last) (less : last < at) (old closed : List ℕ) (f : closed ≡ old ++ open_rows program history seen) where
+module _ (program : Program) (history : List Event) (seen : Option ℕ) (last at : ℕ) (e : seen ≡ Some last) (less : last < at) (old closed : List ℕ) (f : closed ≡ old ++ open_rows program history seen) where
   -- the rows with those of the epoch that it closed
   pub closed_rows : closed ≡ old ++ closing program history seen at
   closed_rows = f ∙ ap (λ rows. old ++ rows) (sym (closing_is program history seen last at e less))

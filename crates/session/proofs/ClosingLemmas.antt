@@ -4,7 +4,7 @@ use Rattle.std.specs.List.{All, filter}
 use Rattle.std.specs.Option.{option_or}
 use Rattle.std.proofs.lemmas.List.Elements.{filter-append, All-nil, All-cons, All-head, All-tail, All-append, All-weaker}
 use Rattle.std.proofs.lemmas.Bool.{lt-ltb, le-ltb, ltb-true, ltb-false}
-use Rattle.semantics.specs.Histories.{Heard}
+use Rattle.semantics.specs.Histories.{Event}
 use Rattle.semantics.specs.Laws.{NeverFalls}
 use Rattle.semantics.specs.Programs.{Program}
 use Rattle.semantics.specs.Report.{epoch, report}
@@ -12,53 +12,53 @@ use Rattle.semantics.proofs.ReportLemmas.{report_grows_by_epochs}
 use Rattle.event_csv.specs.declared.fault.LineFault.{LineFault}
 use Rattle.epoch_laws.specs.Standing.{closed_part, last_time}
 use Rattle.session.specs.declared.refusal.Refusal.TheVariants.{IsOutOfOrder}
-use Rattle.session.specs.Working.{rows_left}
-use Rattle.session.specs.Hearing.{Reading, refused_from, heard_from, before_last, closed, closed_after}
+use Rattle.session.specs.Owes.{rows_left}
+use Rattle.session.specs.Heard.{Reading, refused_from, heard_from, before_last, closed, closed_after}
 
 -- an event of an earlier time; an event of this time
-abbrev pub IsEarlier : ℕ → Heard → Type 0
+abbrev pub IsEarlier : ℕ → Event → Type 0
 IsEarlier time event = event.tuple.at < time
 
 -- an event is of a time
-abbrev pub IsOf : ℕ → Heard → Type 0
+abbrev pub IsOf : ℕ → Event → Type 0
 IsOf time event = event.tuple.at ≡ time
 
 -- the events before the open epoch, and those of it
-pub record Standing (before now : List Heard) (time : ℕ) : Type 0 where
+pub record Standing (before now : List Event) (time : ℕ) : Type 0 where
   pub early : All (IsEarlier time) before
   pub same : All (IsOf time) now
   pub some : 0 < length now
 
 -- the events of the closed epochs, once some have been heard
-abbrev closed_then : Bool → List Reading → List Heard → List Heard → ℕ → List Heard
+abbrev closed_then : Bool → List Reading → List Event → List Event → ℕ → List Event
 closed_then ended lines before now time =
     cond (ended && is_none (refused_from (Some time) lines)) ((before ++ now) ++ heard_from (Some time) lines) (before_last ((before ++ now) ++ heard_from (Some time) lines))
 
 -- the law of one more epoch
 abbrev pub EpochLaw : Program → Type 0
-EpochLaw program = (before now : List Heard) (time : ℕ) → Standing before now time → report program (before ++ now) ≡ report program before ++ epoch program (before ++ now) time
+EpochLaw program = (before now : List Event) (time : ℕ) → Standing before now time → report program (before ++ now) ≡ report program before ++ epoch program (before ++ now) time
 
-last_append : (xs : List Heard) (y : Heard) (ys : List Heard) → last_time (xs ++ y ∷ ys) ≡ last_time (y ∷ ys)
+last_append : (xs : List Event) (y : Event) (ys : List Event) → last_time (xs ++ y ∷ ys) ≡ last_time (y ∷ ys)
 last_append [] y ys = refl
 last_append (x ∷ []) y ys = refl
 last_append (x ∷ next ∷ xs) y ys = last_append (next ∷ xs) y ys
 
-last_of_one_time : (time : ℕ) (x : Heard) (now : List Heard) → All (IsOf time) (x ∷ now) → last_time (x ∷ now) ≡ Some time
+last_of_one_time : (time : ℕ) (x : Event) (now : List Event) → All (IsOf time) (x ∷ now) → last_time (x ∷ now) ≡ Some time
 last_of_one_time time x [] all = ap Some (All-head (IsOf time) x [] all)
 last_of_one_time time x (next ∷ now) all = last_of_one_time time next now (All-tail (IsOf time) x (next ∷ now) all)
 
 -- the last time is that of the open epoch
-pub last_is : (before now : List Heard) (time : ℕ) → Standing before now time → last_time (before ++ now) ≡ Some time
+pub last_is : (before now : List Event) (time : ℕ) → Standing before now time → last_time (before ++ now) ≡ Some time
 last_is before [] time s = absurd (let some = s.some in omega arith)
 last_is before (x ∷ xs) time s = last_append before x xs ∙ last_of_one_time time x xs s.same
 
-keeps_earlier : (time : ℕ) (xs : List Heard) → All (IsEarlier time) xs → filter (λ event. nat_lt event.tuple.at time) xs ≡ xs
+keeps_earlier : (time : ℕ) (xs : List Event) → All (IsEarlier time) xs → filter (λ event. nat_lt event.tuple.at time) xs ≡ xs
 keeps_earlier time [] all = refl
 keeps_earlier time (x ∷ xs) all =
     let e : nat_lt x.tuple.at time ≡ true = lt-ltb _ _ (All-head (IsEarlier time) x xs all) in
     ap (λ b. cond b (x ∷ filter (λ event. nat_lt event.tuple.at time) xs) (filter (λ event. nat_lt event.tuple.at time) xs)) e ∙ ap (λ ys. x ∷ ys) (keeps_earlier time xs (All-tail (IsEarlier time) x xs all))
 
-drops_this : (time : ℕ) (xs : List Heard) → All (IsOf time) xs → filter (λ event. nat_lt event.tuple.at time) xs ≡ []
+drops_this : (time : ℕ) (xs : List Event) → All (IsOf time) xs → filter (λ event. nat_lt event.tuple.at time) xs ≡ []
 drops_this time [] all = refl
 drops_this time (x ∷ xs) all =
     let same = All-head (IsOf time) x xs all in
@@ -66,7 +66,7 @@ drops_this time (x ∷ xs) all =
     ap (λ b. cond b (x ∷ filter (λ event. nat_lt event.tuple.at time) xs) (filter (λ event. nat_lt event.tuple.at time) xs)) e ∙ drops_this time xs (All-tail (IsOf time) x xs all)
 
 -- the events before the last time are those before the open epoch
-pub before_is : (before now : List Heard) (time : ℕ) → Standing before now time → before_last (before ++ now) ≡ before
+pub before_is : (before now : List Event) (time : ℕ) → Standing before now time → before_last (before ++ now) ≡ before
 before_is before now time s =
     ap (λ t. closed_part t (before ++ now)) (last_is before now time s)
     ∙ filter-append (λ event. nat_lt event.tuple.at time) before now
@@ -75,7 +75,7 @@ before_is before now time s =
     ∙ append-nil before
 
 -- nothing more is heard
-none_more : (program : Program) (before now : List Heard) (time : ℕ) → Standing before now time → report program before ++ [] ≡ report program (before_last ((before ++ now) ++ []))
+none_more : (program : Program) (before now : List Event) (time : ℕ) → Standing before now time → report program before ++ [] ≡ report program (before_last ((before ++ now) ++ []))
 none_more program before now time s =
     append-nil _ ∙ ap (report program) (sym (ap before_last (append-nil (before ++ now)) ∙ before_is before now time s))
 
@@ -84,7 +84,7 @@ and-false true = refl
 and-false false = refl
 
 -- a later event begins a new epoch
-pub later_stands : (before now : List Heard) (time : ℕ) (event : Heard) → Standing before now time → nat_lt time event.tuple.at ≡ true → Standing (before ++ now) (event ∷ []) event.tuple.at
+pub later_stands : (before now : List Event) (time : ℕ) (event : Event) → Standing before now time → nat_lt time event.tuple.at ≡ true → Standing (before ++ now) (event ∷ []) event.tuple.at
 later_stands before now time event s m =
     let up : time < event.tuple.at = ltb-true _ _ m in
     record {
@@ -96,14 +96,14 @@ later_stands before now time event s m =
     }
 
 -- an event that is neither earlier nor later has the open epoch's time
-pub same_time : (time : ℕ) (event : Heard) → nat_lt event.tuple.at time ≡ false → nat_lt time event.tuple.at ≡ false → event.tuple.at ≡ time
+pub same_time : (time : ℕ) (event : Event) → nat_lt event.tuple.at time ≡ false → nat_lt time event.tuple.at ≡ false → event.tuple.at ≡ time
 same_time time event l m =
     let low : time ≤ event.tuple.at = ltb-false _ _ l in
     let high : event.tuple.at ≤ time = ltb-false _ _ m in
     omega (arith, low, high)
 
 -- one more event of the time belongs to the open epoch
-pub same_stands : (before now : List Heard) (time : ℕ) (event : Heard) → Standing before now time → event.tuple.at ≡ time → Standing before (now ++ event ∷ []) time
+pub same_stands : (before now : List Event) (time : ℕ) (event : Event) → Standing before now time → event.tuple.at ≡ time → Standing before (now ++ event ∷ []) time
 same_stands before now time event s same = record {
   early = s.early;
   same = All-append (IsOf time) now (event ∷ []) s.same (All-cons (IsOf time) event [] same (All-nil _));
@@ -111,12 +111,12 @@ same_stands before now time event s same = record {
 }
 
 -- the first event opens an epoch
-pub first_stands : (event : Heard) → Standing [] (event ∷ []) event.tuple.at
+pub first_stands : (event : Event) → Standing [] (event ∷ []) event.tuple.at
 first_stands event = record { early = All-nil _; same = All-cons (IsOf event.tuple.at) event [] refl (All-nil _); some = omega arith }
 
 module _ (program : Program) (law : EpochLaw program) (ended : Bool) where
   -- what is to be shown of a line's event, by whether it is late and whether it opens a later epoch
-  abbrev Goal : List Heard → List Heard → ℕ → ℕ → Heard → List Reading → Bool → Bool → Type 0
+  abbrev Goal : List Event → List Event → ℕ → ℕ → Event → List Reading → Bool → Bool → Type 0
   Goal before now time number event lines late later =
       let refusal = cond late (Some (IsOutOfOrder number event.tuple.at time)) None in
       let more = cond (is_some refusal) [] ((event ∷ []) ++ heard_from (Some event.tuple.at) lines) in
@@ -125,9 +125,9 @@ module _ (program : Program) (law : EpochLaw program) (ended : Bool) where
       ≡ report program (cond (ended && is_none (option_or refusal (refused_from (Some event.tuple.at) lines))) ((before ++ now) ++ more) (before_last ((before ++ now) ++ more)))
 
   abbrev Law : List Reading → Type 0
-  Law lines = (before now : List Heard) (time : ℕ) → Standing before now time → report program before ++ rows_left program ended lines (Some time) (before ++ now) ≡ report program (closed_then ended lines before now time)
+  Law lines = (before now : List Event) (time : ℕ) → Standing before now time → report program before ++ rows_left program ended lines (Some time) (before ++ now) ≡ report program (closed_then ended lines before now time)
 
-  event_law : (lines : List Reading) → Law lines → (before now : List Heard) (time number : ℕ) (event : Heard) → Standing before now time
+  event_law : (lines : List Reading) → Law lines → (before now : List Event) (time number : ℕ) (event : Event) → Standing before now time
       → (late later : Bool) → nat_lt event.tuple.at time ≡ late → nat_lt time event.tuple.at ≡ later → Goal before now time number event lines late later
   event_law lines ih before now time number event s true later l m =
       none_more program before now time s ∙ ap (λ b. report program (cond b ((before ++ now) ++ []) (before_last ((before ++ now) ++ [])))) (sym (and-false ended))
@@ -147,12 +147,12 @@ module _ (program : Program) (law : EpochLaw program) (ended : Bool) where
       ∙ ap (λ h. report program (cond (ended && is_none (refused_from (Some time) lines)) h (before_last h))) (append_assoc (before ++ now) (event ∷ []) (heard_from (Some time) lines))
       ∙ ap (λ t. report program (cond (ended && is_none (refused_from (Some t) lines)) ((before ++ now) ++ ((event ∷ []) ++ heard_from (Some t) lines)) (before_last ((before ++ now) ++ ((event ∷ []) ++ heard_from (Some t) lines))))) (sym same)
 
-  line_law : (lines : List Reading) → Law lines → (number : ℕ) (found : Result Heard LineFault) → Law (record { number = number; found = found } ∷ lines)
+  line_law : (lines : List Reading) → Law lines → (number : ℕ) (found : Result Event LineFault) → Law (record { number = number; found = found } ∷ lines)
   line_law lines ih number (Ok event) before now time s = event_law lines ih before now time number event s (nat_lt event.tuple.at time) (nat_lt time event.tuple.at) refl refl
   line_law lines ih number (Err fault) before now time s =
       none_more program before now time s ∙ ap (λ b. report program (cond b ((before ++ now) ++ []) (before_last ((before ++ now) ++ [])))) (sym (and-false ended))
 
-  end_law : (before now : List Heard) (time : ℕ) → Standing before now time → (b : Bool)
+  end_law : (before now : List Event) (time : ℕ) → Standing before now time → (b : Bool)
       → report program before ++ cond b (epoch program (before ++ now) time) [] ≡ report program (cond (b && true) ((before ++ now) ++ []) (before_last ((before ++ now) ++ [])))
   end_law before now time s true = sym (law before now time s) ∙ ap (report program) (sym (append-nil (before ++ now)))
   end_law before now time s false = none_more program before now time s
@@ -162,7 +162,7 @@ module _ (program : Program) (law : EpochLaw program) (ended : Bool) where
   after_law [] = λ before now time s. end_law before now time s ended
   after_law (line ∷ lines) = line_law lines (after_law lines) line.number line.found
 
-  first_law : (lines : List Reading) (number : ℕ) (found : Result Heard LineFault)
+  first_law : (lines : List Reading) (number : ℕ) (found : Result Event LineFault)
       → rows_left program ended (record { number = number; found = found } ∷ lines) None [] ≡ report program (closed (record { number = number; found = found } ∷ lines) ended)
   first_law lines number (Ok event) = after_law lines [] (event ∷ []) event.tuple.at (first_stands event)
   first_law lines number (Err fault) = ap (λ b. report program (cond b [] [])) (sym (and-false ended))
@@ -185,16 +185,16 @@ pub rows_left_are_report : (program : Program) (ended : Bool) (lines : List Read
 rows_left_are_report program ended lines = rows_are_report program (law_of program) ended lines
 
 -- a history is its closed epochs and its open one
-pub record Parted (history : List Heard) : Type 0 where
-  pub before : List Heard
-  pub now : List Heard
+pub record Parted (history : List Event) : Type 0 where
+  pub before : List Event
+  pub now : List Event
   pub time : ℕ
   pub standing : Standing before now time
   pub all : before ++ now ≡ history
 
 -- one more event comes after them
-parted_more : (before now : List Heard) (time : ℕ) (event : Heard) (rest : List Heard) → Standing before now time → time ≤ event.tuple.at → All (λ other. time ≤ other.tuple.at) rest → All (λ other. event.tuple.at ≤ other.tuple.at) rest
-    → ((before now : List Heard) (time : ℕ) → Standing before now time → All (λ other. time ≤ other.tuple.at) rest → Parted ((before ++ now) ++ rest)) → Parted ((before ++ now) ++ event ∷ rest)
+parted_more : (before now : List Event) (time : ℕ) (event : Event) (rest : List Event) → Standing before now time → time ≤ event.tuple.at → All (λ other. time ≤ other.tuple.at) rest → All (λ other. event.tuple.at ≤ other.tuple.at) rest
+    → ((before now : List Event) (time : ℕ) → Standing before now time → All (λ other. time ≤ other.tuple.at) rest → Parted ((before ++ now) ++ rest)) → Parted ((before ++ now) ++ event ∷ rest)
 parted_more before now time event rest s here low falls more = by_later (nat_lt time event.tuple.at) refl
   where
     by_later : (b : Bool) → nat_lt time event.tuple.at ≡ b → Parted ((before ++ now) ++ event ∷ rest)
@@ -205,20 +205,20 @@ parted_more before now time event rest s here low falls more = by_later (nat_lt 
         (more before (now ++ event ∷ []) time (same_stands before now time event s (omega (arith, high, here))) low)
 
 -- by induction on the later events
-parted_from : (rest : List Heard) (before now : List Heard) (time : ℕ) → Standing before now time → All (λ event. time ≤ event.tuple.at) rest → NeverFalls rest → Parted ((before ++ now) ++ rest)
+parted_from : (rest : List Event) (before now : List Event) (time : ℕ) → Standing before now time → All (λ event. time ≤ event.tuple.at) rest → NeverFalls rest → Parted ((before ++ now) ++ rest)
 parted_from [] before now time s low falls = record { before = before; now = now; time = time; standing = s; all = sym (append-nil (before ++ now)) }
 parted_from (event ∷ rest) before now time s low falls =
     parted_more before now time event rest s (All-head (λ other. time ≤ other.tuple.at) event rest low) (All-tail (λ other. time ≤ other.tuple.at) event rest low) falls.0
     (λ b n t stands below. parted_from rest b n t stands below falls.1)
 
-parted : (event : Heard) (later : List Heard) → NeverFalls (event ∷ later) → Parted (event ∷ later)
+parted : (event : Event) (later : List Event) → NeverFalls (event ∷ later) → Parted (event ∷ later)
 parted event later falls = parted_from later [] (event ∷ []) event.tuple.at (first_stands event) falls.0 falls.1
 
 -- what is closed of a history and the rows that come after it are what is closed then
-abbrev IsAfter : Program → Bool → List Reading → List Heard → Type 0
+abbrev IsAfter : Program → Bool → List Reading → List Event → Type 0
 IsAfter program ended lines history = report program (before_last history) ++ rows_left program ended lines (last_time history) history ≡ report program (closed_after history lines ended)
 
-after_parts : (program : Program) (ended : Bool) (lines : List Reading) (history : List Heard) → Parted history → IsAfter program ended lines history
+after_parts : (program : Program) (ended : Bool) (lines : List Reading) (history : List Event) → Parted history → IsAfter program ended lines history
 after_parts program ended lines history parts =
     let whole = parts.before ++ parts.now in
     let last = last_is parts.before parts.now parts.time parts.standing in
@@ -229,7 +229,7 @@ after_parts program ended lines history parts =
     ∙ ap (λ o. report program (cond (ended && is_none (refused_from o lines)) (whole ++ heard_from o lines) (before_last (whole ++ heard_from o lines)))) (sym last))
 
 -- the report of what is closed of a history, and the rows that come after it, are the report of what is closed then
-pub rows_left_after : (program : Program) (ended : Bool) (lines : List Reading) (history : List Heard) → NeverFalls history
+pub rows_left_after : (program : Program) (ended : Bool) (lines : List Reading) (history : List Event) → NeverFalls history
     → report program (before_last history) ++ rows_left program ended lines (last_time history) history ≡ report program (closed_after history lines ended)
 rows_left_after program ended lines [] falls = rows_left_are_report program ended lines
 rows_left_after program ended lines (event ∷ later) falls = after_parts program ended lines (event ∷ later) (parted event later falls)

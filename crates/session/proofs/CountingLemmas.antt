@@ -1,7 +1,7 @@
 -- The counts of a session.
 use Rattle.std.proofs.Common.{◌≡◌, ◌∙◌, sym, subst, ℕ, ◌+◌, ◌-◌, ◌<◌, ◌^◌, IsTrue, List, length, min, arith}
 use Rattle.std.specs.Prelude.{count_by, is_some, sum_by}
-use Rattle.semantics.specs.Histories.{Heard}
+use Rattle.semantics.specs.Histories.{Event}
 use Rattle.automaton.specs.States.{root_in}
 use Rattle.prefix_merge.specs.Counts.{CountsPlain, CountsStates}
 use Rattle.prefix_merge.specs.Laws.{ListsStates}
@@ -12,17 +12,17 @@ use Rattle.splitter.specs.Layouts.{IsLayoutOf}
 use Rattle.epoch_laws.specs.Standing.{closed_part}
 use Rattle.epoch_engine.specs.Counts.{CountsAlive, stored_in}
 use Rattle.epoch_engine.specs.Trims.{Trims}
-use Rattle.epoch_engine.specs.Views as engine
+use Rattle.epoch_engine.specs.EngineView as engine
 use Rattle.epoch_engine.proofs.TrimLemmas.{trimmed_is_counted, trimmed_stands}
 use Rattle.catalogue.specs.Catalogued.{Catalogued, judged_of}
 use Rattle.catalogue.specs.Chained.{kinds_of_each}
 use Rattle.event_csv.specs.Fed.{Fed}
 use Rattle.session.specs.declared.work.Work.{Work}
-use Rattle.session.specs.Sessions.{StandsFor, TrimsEngine, View, WorksFor, program_in}
-use Rattle.session.specs.Standing.{IsGoing}
+use Rattle.session.specs.SessionView.{SessionStandsFor, TrimsEngine, SessionView, WorksFor, program_in}
+use Rattle.session.specs.StandsWithLastOpen.{IsGoing}
 use Rattle.session.proofs.PlanLemmas.{planned_still}
 
-module _ (session : View) (history : List Heard) (works : WorksFor session history) where
+module _ (session : SessionView) (history : List Event) (works : WorksFor session history) where
   -- the distinct prefixes of the lines
   listed : ListsStates session.engine.network (lines_of (program_in session))
   listed = states_are_listed session.engine.network (lines_of (program_in session)) works.engine.merged works.engine.serves.has_lines
@@ -43,15 +43,15 @@ module _ (session : View) (history : List Heard) (works : WorksFor session histo
         let small = plain_few (lines_of (program_in session)) listed.distinct listed.are few in omega (arith, here, all, both, small);
   }
 
-module _ (old new : View) (trims : TrimsEngine old new) where
-  abbrev mid : View
+module _ (old new : SessionView) (trims : TrimsEngine old new) where
+  abbrev mid : SessionView
   mid = record old { engine = new.engine }
 
   -- it is the session with the new engine
   mid_is : mid ≡ new
   mid_is = λ i. record { catalogue = sym trims.catalogue i; engine = new.engine; limit = sym trims.limit i; feed = sym trims.feed i; fed = sym trims.fed i; ended = sym trims.ended i }
 
-  module _ (history : List Heard) (works : WorksFor old history) where
+  module _ (history : List Event) (works : WorksFor old history) where
     -- what is stored then are the bindings that wait and are alive
     pub alive_counted : (live : ℕ) → live ≡ min (stored_in new.engine) (2 ^ 64 - 1)
         → CountsAlive (lines_of (program_in old)) (order_of (program_in old)) (closed_part old.engine.time history) live
@@ -73,9 +73,9 @@ module _ (old new : View) (trims : TrimsEngine old new) where
     works_still = subst (λ s. WorksFor s history) mid_is mid_works
 
   -- the session stands for the same text
-  pub stands_still : (past : List Heard) (text : List ℕ) → StandsFor old past text → StandsFor new past text
+  pub stands_still : (past : List Event) (text : List ℕ) → SessionStandsFor old past text → SessionStandsFor new past text
   stands_still past text stands =
-      subst (λ s. StandsFor s past text) mid_is (record {
+      subst (λ s. SessionStandsFor s past text) mid_is (record {
         going = stands.going;
         within = stands.within;
         none_refused = stands.none_refused;
@@ -87,12 +87,12 @@ module _ (old new : View) (trims : TrimsEngine old new) where
       })
 
 -- the work may go on with purged stores
-pub going_still : (c : Catalogued) (limit : ℕ) (feed : Fed) (fed : ℕ) (work : Work) (now : engine.View) → Trims work.engine now → IsGoing c limit feed fed work → IsGoing c limit feed fed (record work { engine = now })
+pub going_still : (c : Catalogued) (limit : ℕ) (feed : Fed) (fed : ℕ) (work : Work) (now : engine.EngineView) → Trims work.engine now → IsGoing c limit feed fed work → IsGoing c limit feed fed (record work { engine = now })
 going_still c limit feed fed work now trims going = record {
   at_work = record {
     intact = subst IsTrue (sym trims.intact) going.at_work.intact;
     planned = planned_still c work.engine now trims.plan going.at_work.planned;
-    opened = λ none. trims.times.closed ∙ going.at_work.opened (sym trims.times.time ∙ none);
+    opened = λ none. trims.times.closed_time ∙ going.at_work.opened (sym trims.times.time ∙ none);
   };
   none_owed = going.none_owed;
   within = going.within;

@@ -8,7 +8,7 @@ use Rattle.std.proofs.lemmas.List.{length-map}
 use Rattle.std.proofs.lemmas.List.Elements.{All-nil, All-cons, All-contains, All-head, All-tail, All-append, Contains-append_left}
 use Rattle.std.proofs.lemmas.Option.{get_or_from_slice_get, slice_get-map}
 use Rattle.event_types.specs.declared.kind.Kind.{Kind}
-use Rattle.event_types.specs.Tuple.{Row}
+use Rattle.event_types.specs.Tuple.{TupleView}
 use Rattle.event_types.specs.Order.{sorted}
 use Rattle.semantics.proofs.StatementLemmas.{declared_there}
 use Rattle.semantics.specs.Kinds.{HasKinds}
@@ -26,18 +26,18 @@ use Rattle.splitter.specs.Chains.{HideApart, chain_order, hidden_end, order_of}
 use Rattle.splitter.specs.Layouts.{IsLayoutOf}
 use Rattle.splitter.proofs.ApartLemmas.{range_all}
 use Rattle.splitter.proofs.LineLemmas.{get_more}
-use Rattle.epoch_laws.specs.Stands.{Serves}
+use Rattle.epoch_laws.specs.StoresStandFor.{Serves}
 use Rattle.epoch_engine.specs.Closes.{Closes, KeepsPlan}
 use Rattle.epoch_engine.specs.Offers.{IsHeard}
 use Rattle.epoch_engine.specs.Starts.{IsNew}
-use Rattle.epoch_engine.specs.Views as engine
+use Rattle.epoch_engine.specs.EngineView as engine
 use Rattle.catalogue.specs.Catalogued.{Catalogued, IsAccepted, judged_of}
 use Rattle.catalogue.specs.Chained.{kinds_of_each}
 use Rattle.catalogue.proofs.ProgramLemmas.{accepted_are_wide_programs, declared_are_told}
 use Rattle.event_csv.specs.declared.event.Seen.{Seen}
-use Rattle.session.specs.Fitting.{Fits}
-use Rattle.session.specs.Standing.{IsPlanned, lines_over, program_over}
-use Rattle.session.proofs.BatchLemmas.{as_many}
+use Rattle.session.specs.Fits.{Fits}
+use Rattle.session.specs.StandsWithLastOpen.{IsPlanned, lines_over, program_over}
+use Rattle.session.proofs.BatchLinesLemmas.{as_many}
 
 -- the derived streams of queries have greater numbers than a stream that is there, by induction on the queries
 order_above : (kinds : ℕ → List Kind) (stream : ℕ) (there : List ℕ) (order : List Query) → Contains there stream → PublishInTurn kinds there order → HideApart order → All (λ number. stream < number) (chain_order order)
@@ -80,7 +80,7 @@ module _ (c : Catalogued) (accepted : IsAccepted c) where
     of_its_kinds = fits.kinds ∙ ap kinds_of (sym (get_or_from_slice_get (schemas_of (judged_of c).streams) event.stream fits.entry.schema [] schema_there))
 
     -- an engine of the catalogue may be offered the event
-    pub may_hear : (now : engine.View) → IsPlanned c now → IsHeard now.layout event.stream event.tuple
+    pub may_hear : (now : engine.EngineView) → IsPlanned c now → IsHeard now.layout event.stream event.tuple
     may_hear now planned = record {
       kinds = kinds_of fits.entry.schema;
       known =
@@ -92,13 +92,13 @@ module _ (c : Catalogued) (accepted : IsAccepted c) where
     }
 
 -- a batch has a list for each query
-pub batch_count : (c : Catalogued) (old new : engine.View) (batch : List (List Row)) → IsPlanned c old → Closes old new batch → length batch ≡ length c.order
+pub batch_count : (c : Catalogued) (old new : engine.EngineView) (batch : List (List TupleView)) → IsPlanned c old → Closes old new batch → length batch ≡ length c.order
 batch_count c old new batch planned closes =
     ap length closes.taken.results ∙ length-map old.layout.outs (λ stream. sorted (closes.taken.news stream)) ∙ ap length planned.layout.outs
     ∙ length-map (program_over c).queries (λ query. query.stream) ∙ as_many c
 
 -- a changed engine of the same network and layout
-pub planned_still : (c : Catalogued) (old new : engine.View) → KeepsPlan old new → IsPlanned c old → IsPlanned c new
+pub planned_still : (c : Catalogued) (old new : engine.EngineView) → KeepsPlan old new → IsPlanned c old → IsPlanned c new
 planned_still c old new plan planned = record {
   lines = subst (λ (net : Net). HasLines net (lines_over c)) (sym plan.network) planned.lines;
   layout = subst (IsLayoutOf (program_over c) (kinds_of_each (judged_of c).streams)) (sym plan.layout) planned.layout;
@@ -109,7 +109,7 @@ pub lines_serve : (c : Catalogued) (net : Net) (layout : Layout) → HasLines ne
 lines_serve c net layout lines fits = record { has_lines = lines; in_order = fits.fits.in_order }
 
 -- an engine that was made over them has them
-pub new_planned : (c : Catalogued) (net : Net) (layout : Layout) (now : engine.View) → HasLines net (lines_over c) → IsLayoutOf (program_over c) (kinds_of_each (judged_of c).streams) layout → IsNew net layout now → IsPlanned c now
+pub new_planned : (c : Catalogued) (net : Net) (layout : Layout) (now : engine.EngineView) → HasLines net (lines_over c) → IsLayoutOf (program_over c) (kinds_of_each (judged_of c).streams) layout → IsNew net layout now → IsPlanned c now
 new_planned c net layout now lines fits new = record {
   lines = subst (λ (n : Net). HasLines n (lines_over c)) (sym new.network) lines;
   layout = subst (IsLayoutOf (program_over c) (kinds_of_each (judged_of c).streams)) (sym new.same_layout) fits;

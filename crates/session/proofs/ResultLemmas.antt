@@ -7,9 +7,9 @@ use Rattle.std.proofs.lemmas.Bool.Decides.{nat_tests}
 use Rattle.std.proofs.lemmas.List.Elements.{All-head, All-tail, All-weaker}
 use Rattle.event_types.specs.declared.kind.Kind.{Kind}
 use Rattle.event_types.specs.Order.{sorted}
-use Rattle.event_types.specs.Tuple.{Row}
+use Rattle.event_types.specs.Tuple.{TupleView}
 use Rattle.semantics.specs.Denotation.{Streams, streams_of}
-use Rattle.semantics.specs.Histories.{Heard, heard_on}
+use Rattle.semantics.specs.Histories.{Event, heard_on}
 use Rattle.semantics.specs.Programs.{Program, Query, declared_streams, env}
 use Rattle.semantics.specs.Results.{results}
 use Rattle.semantics.specs.TypedPrograms.{HaveTheirKinds}
@@ -19,8 +19,8 @@ use Rattle.epoch_laws.specs.Standing as standing
 use Rattle.epoch_laws.proofs.Lists.{filter_false}
 use Rattle.epoch_laws.proofs.Standing.{closing_is_results}
 use Rattle.epoch_engine.specs.Closes.{Closes}
-use Rattle.epoch_engine.specs.StandsFor.{StandsFor}
-use Rattle.epoch_engine.specs.Views.{View, stores_in}
+use Rattle.epoch_engine.specs.EngineStandsFor.{EngineStandsFor}
+use Rattle.epoch_engine.specs.EngineView.{EngineView, stores_in}
 use Rattle.splitter.specs.Chains.{lines_of, order_of}
 use Rattle.splitter.specs.ProgramLaws.{IsWideProgram}
 use Rattle.splitter.specs.Layouts.{IsLayoutOf}
@@ -29,14 +29,14 @@ use Rattle.catalogue.specs.Chained.{kinds_of_each}
 use Rattle.catalogue.specs.Judgement.{program_of}
 use Rattle.cel_types.specs.SourceLaws.{kinds_in}
 use Rattle.catalogue.proofs.ProgramLemmas.{accepted_are_wide_programs}
-use Rattle.session.specs.BatchLaws.{ClosingGivesResults}
+use Rattle.session.specs.ClosingGivesResults.{ClosingGivesResults}
 
 -- an event of a declared stream is of no other stream
 other_stream : (at stream declared : ℕ) → at < declared → nat_lt stream declared ≡ false → (at == stream) ≡ false
 other_stream at stream declared within past = grind (arith, nat_tests)
 
 -- what is given for the stream of each query is given for the query
-by_queries : (f : ℕ → List Row) (g : Query → List Row) (queries : List Query) → All (λ query. f query.stream ≡ g query) queries → map f (map (λ (query : Query). query.stream) queries) ≡ map g queries
+by_queries : (f : ℕ → List TupleView) (g : Query → List TupleView) (queries : List Query) → All (λ query. f query.stream ≡ g query) queries → map f (map (λ (query : Query). query.stream) queries) ≡ map g queries
 by_queries f g [] all = refl
 by_queries f g (query ∷ queries) all =
     let first : f query.stream ≡ g query = All-head (λ (q : Query). f q.stream ≡ g q) query queries all in
@@ -44,13 +44,13 @@ by_queries f g (query ∷ queries) all =
     λ i. first i ∷ rest i
 
 -- over events of the declared streams, the lines of a program give its streams up to order
-module _ (kinds : ℕ → List Kind) (program : Program) (wide : IsWideProgram kinds program) (history : List Heard) (all : HaveTheirKinds kinds history) (inside : All (λ event. event.stream < program.declared) history) where
+module _ (kinds : ℕ → List Kind) (program : Program) (wide : IsWideProgram kinds program) (history : List Event) (all : HaveTheirKinds kinds history) (inside : All (λ event. event.stream < program.declared) history) where
   -- nothing is heard on another stream
   heard_none : (stream : ℕ) → nat_lt stream program.declared ≡ false → heard_on history stream ≡ []
   heard_none stream past =
-      ap (map (λ (event : Heard). event.tuple))
-      (filter_false (λ (event : Heard). event.stream == stream) history
-      (All-weaker (λ (event : Heard). event.stream < program.declared) (λ event. (event.stream == stream) ≡ false) (λ event within. other_stream event.stream stream program.declared within past) history inside))
+      ap (map (λ (event : Event). event.tuple))
+      (filter_false (λ (event : Event). event.stream == stream) history
+      (All-weaker (λ (event : Event). event.stream < program.declared) (λ event. (event.stream == stream) ≡ false) (λ event within. other_stream event.stream stream program.declared within past) history inside))
 
   heard_declared : (stream : ℕ) → heard_on history stream ≡ declared_streams program.declared history stream
   heard_declared stream = by_test (nat_lt stream program.declared) refl
@@ -64,15 +64,15 @@ module _ (kinds : ℕ → List Kind) (program : Program) (wide : IsWideProgram k
       subst (λ (s : Streams × List ℕ). All (λ (query : Query). IsPermutation (completed (lines_of program) s.1 s.0 query.stream) (env program history query.stream)) program.queries)
       (λ i. (λ stream. sym (heard_declared stream) i, sym same i)) (derived_so kinds program history wide all)
 
-  module _ (of_streams : List (List Kind)) (old new : View) (batch : List (List Row)) (layout : IsLayoutOf program of_streams old.layout) (stands : StandsFor old (lines_of program) history) (closes : Closes old new batch) where
-    open_stands : standing.StandsFor old.network (lines_of program) old.layout.order (stores_in old) (Some closes.time) (streams_of old.opened) old.closed history
+  module _ (of_streams : List (List Kind)) (old new : EngineView) (batch : List (List TupleView)) (layout : IsLayoutOf program of_streams old.layout) (stands : EngineStandsFor old (lines_of program) history) (closes : Closes old new batch) where
+    open_stands : standing.PartsStandFor old.network (lines_of program) old.layout.order (stores_in old) (Some closes.time) (streams_of old.opened) old.closed_time history
     open_stands =
-        subst (λ (t : Option ℕ). standing.StandsFor old.network (lines_of program) old.layout.order (stores_in old) t (streams_of old.opened) old.closed history) closes.was_open stands.stands
+        subst (λ (t : Option ℕ). standing.PartsStandFor old.network (lines_of program) old.layout.order (stores_in old) t (streams_of old.opened) old.closed_time history) closes.was_open stands.stands
 
     each : All (λ query. sorted (closes.taken.news query.stream) ≡ results program history query.stream closes.time) program.queries
     each =
         All-weaker (λ (query : Query). Agree (lines_of program) old.layout.order program history query.stream) (λ query. sorted (closes.taken.news query.stream) ≡ results program history query.stream closes.time)
-        (λ query. closing_is_results old.network (lines_of program) old.layout.order (stores_in old) closes.time (streams_of old.opened) closes.taken.news old.closed history stands.serves open_stands closes.taken.epoch program query.stream)
+        (λ query. closing_is_results old.network (lines_of program) old.layout.order (stores_in old) closes.time (streams_of old.opened) closes.taken.news old.closed_time history stands.serves open_stands closes.taken.epoch program query.stream)
         program.queries (agree old.layout.order layout.order)
 
     -- what a closing gives is the results of the queries

@@ -6,14 +6,14 @@ use Rattle.std.proofs.lemmas.List.Elements.{All-nil, All-cons, All-append, All-w
 use Rattle.std.proofs.Math.Seq.{take-append-add}
 use Rattle.std.proofs.lemmas.List.{map-append}
 use Rattle.std.proofs.lemmas.List.Sums.{sum_by-append}
-use Rattle.semantics.specs.Histories.{Heard}
+use Rattle.semantics.specs.Histories.{Event}
 use Rattle.semantics.specs.Kinds.{HasKinds}
 use Rattle.automaton.specs.declared.line.Line as automaton
 use Rattle.cel_types.specs.SourceLaws.{kinds_in}
 use Rattle.splitter.specs.Chains.{lines_of}
 use Rattle.splitter.specs.Layouts.{IsLayoutOf}
-use Rattle.epoch_engine.specs.StandsFor as engines
-use Rattle.epoch_engine.specs.Views as engine
+use Rattle.epoch_engine.specs.EngineStandsFor as engines
+use Rattle.epoch_engine.specs.EngineView as engine
 use Rattle.catalogue.specs.Chained.{kinds_of_each}
 use Rattle.semantics.specs.Report.{report}
 use Rattle.cay_host.specs.Output.{Wrote, WrotePart}
@@ -23,24 +23,24 @@ use Rattle.epoch_laws.specs.Standing.{closed_part, last_time}
 use Rattle.event_csv.specs.declared.event.Seen.{Seen}
 use Rattle.event_csv.specs.declared.fault.LineFault.{LineFault}
 use Rattle.event_csv.specs.Event.{event}
-use Rattle.event_csv.specs.Fed.{Fed, IsPart, fed_more, feeds_in, lines_left, unfed}
+use Rattle.event_csv.specs.Fed.{Fed, IsPart, fed_more, line_feeds_in, unread_lines, unfed}
 use Rattle.event_csv.specs.Lines.{Line, lines, lines_from}
 use Rattle.event_csv.proofs.LineFacts.{lines_from-nil, strip_bom-short}
 use Rattle.session.specs.declared.fault.SessionFault.{SessionFault}
 use Rattle.session.specs.declared.fault.SessionFault.TheVariants as fault
 use Rattle.session.specs.declared.refusal.Refusal.{Refusal}
 use Rattle.session.specs.declared.work.Work.{Work}
-use Rattle.session.specs.Feeding.{StopsAt}
-use Rattle.session.specs.Hearing.{Reading, before_last, closed_after, disorder, heard_after, heard_from, refused_after, refused_from}
-use Rattle.session.specs.Owing.{Beyond, WroteFront}
+use Rattle.session.specs.Feeds.{StopsAt}
+use Rattle.session.specs.Heard.{Reading, before_last, closed_after, disorder, heard_after, heard_from, refused_after, refused_from}
+use Rattle.session.specs.WroteFront.{Beyond, WroteFront}
 use Rattle.session.specs.Readings.{found_of, heard_of, reading_of, readings_left}
-use Rattle.session.specs.Sessions.{AreDeclared, HasGiven, StandsFor, View, program_in, readings_in, report_in}
-use Rattle.session.specs.Standing.{Stands}
-use Rattle.session.specs.Taking.{Gone}
-use Rattle.session.specs.Working.{Stops, left_of, rows_left}
+use Rattle.session.specs.SessionView.{AreDeclared, HasGiven, SessionStandsFor, SessionView, program_in, readings_in, report_in}
+use Rattle.session.specs.StandsWithLastOpen.{StandsWithLastOpen}
+use Rattle.session.specs.LinesHandedOut.{LinesHandedOut}
+use Rattle.session.specs.Owes.{Stops, left_of, rows_left}
 use Rattle.session.proofs.ClosingLemmas.{rows_left_after}
-use Rattle.session.proofs.FittingLemmas.{event_fits}
-use Rattle.session.proofs.HearingLemmas.{GoOn, closed_on, go_on}
+use Rattle.session.proofs.FitsLemmas.{event_fits}
+use Rattle.session.proofs.HeardLemmas.{GoOn, closed_on, go_on}
 use Rattle.session.proofs.PlanLemmas.{is_declared, of_its_kinds}
 
 -- a limit cuts the later bytes
@@ -49,29 +49,29 @@ cut_within text piece limit h =
     let whole : limit ≡ length text + (limit - length text) = omega arith in
     ap (λ n. take n (text ++ piece)) whole ∙ take-append-add text piece (limit - length text)
 
-module _ (text piece : List ℕ) (feed new : Fed) (given : HasGiven text feed) (gone : Gone (fed_more feed piece) new) (part : IsPart new) where
-  lines_on : (more : List ℕ) (ended : Bool) → lines ((text ++ piece) ++ more) ended ≡ (lines text false ++ gone.lines) ++ lines_left (fed_more new more) ended
+module _ (text piece : List ℕ) (feed new : Fed) (given : HasGiven text feed) (gone : LinesHandedOut (fed_more feed piece) new) (part : IsPart new) where
+  lines_on : (more : List ℕ) (ended : Bool) → lines ((text ++ piece) ++ more) ended ≡ (lines text false ++ gone.lines) ++ unread_lines (fed_more new more) ended
   lines_on more ended =
       ap (λ t. lines t ended) (append_assoc text piece more)
       ∙ given.gives (piece ++ more) ended
-      ∙ ap (λ r. lines text false ++ lines_left (record feed { rest = r }) ended) (sym (append_assoc feed.rest piece more))
+      ∙ ap (λ r. lines text false ++ unread_lines (record feed { rest = r }) ended) (sym (append_assoc feed.rest piece more))
       ∙ ap (λ ls. lines text false ++ ls) (gone.gives more ended)
-      ∙ sym (append_assoc (lines text false) gone.lines (lines_left (fed_more new more) ended))
+      ∙ sym (append_assoc (lines text false) gone.lines (unread_lines (fed_more new more) ended))
 
   all_given : lines text false ++ gone.lines ≡ lines (text ++ piece) false
   all_given =
       sym (append-nil (lines text false ++ gone.lines))
-      ∙ ap (λ ls. (lines text false ++ gone.lines) ++ ls) (sym part.none ∙ ap (λ r. lines_left (record new { rest = r }) false) (sym (append-nil new.rest)))
+      ∙ ap (λ ls. (lines text false ++ gone.lines) ++ ls) (sym part.none ∙ ap (λ r. unread_lines (record new { rest = r }) false) (sym (append-nil new.rest)))
       ∙ sym (lines_on [] false)
       ∙ ap (λ t. lines t false) (append-nil (text ++ piece))
 
-  feeds_on : (one two : List ℕ) → feeds_in (one ++ two) ≡ feeds_in one + feeds_in two
+  feeds_on : (one two : List ℕ) → line_feeds_in (one ++ two) ≡ line_feeds_in one + line_feeds_in two
   feeds_on one two = sum_by-append _ one two
 
   -- the feed has given the lines of the longer text
   pub given_more : HasGiven (text ++ piece) new
   given_more = record {
-    gives = λ more ended. lines_on more ended ∙ ap (λ ls. ls ++ lines_left (fed_more new more) ended) all_given;
+    gives = λ more ended. lines_on more ended ∙ ap (λ ls. ls ++ unread_lines (fed_more new more) ended) all_given;
     none_held = part.no_feed;
     line_feeds =
         let one = feeds_on feed.rest piece in
@@ -82,7 +82,7 @@ module _ (text piece : List ℕ) (feed new : Fed) (given : HasGiven text feed) (
 
 -- the events that are heard of lines that were read are on declared streams, and have their kinds
 module _ (c : Catalogued) (accepted : IsAccepted c) where
-  abbrev IsDeclared : Heard → Type 0
+  abbrev IsDeclared : Event → Type 0
   IsDeclared event = (event.stream < length (judged_of c).declared) × HasKinds (kinds_in (judged_of c).streams event.stream) event.tuple
 
   -- one more line
@@ -109,7 +109,7 @@ module _ (c : Catalogued) (accepted : IsAccepted c) where
   heard_declared (line ∷ ls) seen = line_declared seen line ls (heard_declared ls)
 
   -- the same of those that were heard before too
-  declared_more : (past : List Heard) (seen : Option ℕ) (ls : List Line) → AreDeclared (judged_of c) past → AreDeclared (judged_of c) (past ++ heard_from seen (map (reading_of (judged_of c).streams) ls))
+  declared_more : (past : List Event) (seen : Option ℕ) (ls : List Line) → AreDeclared (judged_of c) past → AreDeclared (judged_of c) (past ++ heard_from seen (map (reading_of (judged_of c).streams) ls))
   declared_more past seen ls are =
       let more = heard_from seen (map (reading_of (judged_of c).streams) ls) in (
         All-append (λ event. event.stream < length (judged_of c).declared) past more are.0 (All-weaker IsDeclared (λ event. event.stream < length (judged_of c).declared) (λ event h. h.0) more (heard_declared ls seen)),
@@ -117,17 +117,17 @@ module _ (c : Catalogued) (accepted : IsAccepted c) where
             (All-weaker IsDeclared (λ event. HasKinds (kinds_in (judged_of c).streams event.stream) event.tuple) (λ event h. h.1) more (heard_declared ls seen)),
       )
 
-module _ (session : View) (past : List Heard) (text : List ℕ) (stands : StandsFor session past text) where
+module _ (session : SessionView) (past : List Event) (text : List ℕ) (stands : SessionStandsFor session past text) where
   -- the lines of the text before the piece
   abbrev pub before : List Reading
   before = readings_in session text false
 
   -- all that was heard
-  abbrev pub so_far : List Heard
+  abbrev pub so_far : List Event
   so_far = heard_after past before
 
   -- the engine stands for it
-  pub engine_stands : IsAccepted session.catalogue → Stands session.catalogue so_far session.engine
+  pub engine_stands : IsAccepted session.catalogue → StandsWithLastOpen session.catalogue so_far session.engine
   engine_stands accepted = record {
     declared = declared_more session.catalogue accepted past (last_time past) (lines text false) stands.declared;
     engine = stands.works.engine;
@@ -142,7 +142,7 @@ module _ (session : View) (past : List Heard) (text : List ℕ) (stands : Stands
     readings_on : readings_in session (text ++ piece) ended ≡ before ++ later
     readings_on =
         let read = reading_of (judged_of session.catalogue).streams in
-        ap (map read) (stands.feed.gives piece ended) ∙ map-append read (lines text false) (lines_left (fed_more session.feed piece) ended)
+        ap (map read) (stands.feed.gives piece ended) ∙ map-append read (lines text false) (unread_lines (fed_more session.feed piece) ended)
 
     on : GoOn past before later
     on = go_on before later past stands.none_refused
@@ -197,17 +197,17 @@ pub unfed_part : IsPart unfed
 unfed_part = record { none = no_lines false; short = omega arith; no_feed = refl }
 
 -- an engine that stands for a history, and has no epoch closed where none is open, has the last one open
-last_open : (now : engine.View) (ls : List automaton.Line) (past : List Heard) → engines.StandsFor now ls past → (now.time ≡ None → now.closed ≡ None) → now.time ≡ last_time past
+last_open : (now : engine.EngineView) (ls : List automaton.Line) (past : List Event) → engines.EngineStandsFor now ls past → (now.time ≡ None → now.closed_time ≡ None) → now.time ≡ last_time past
 last_open now ls past stands opened = by_time now.time refl
   where
     by_time : (o : Option ℕ) → now.time ≡ o → now.time ≡ last_time past
     by_time (Some time) e = e ∙ sym (subst (λ o. IfSome o (λ t. last_time past ≡ Some t)) e stands.stands.open_is_last)
-    by_time None e = e ∙ sym (opened e) ∙ sym (subst (λ o. last_time (closed_part o past) ≡ now.closed) e stands.stands.closed_is_last)
+    by_time None e = e ∙ sym (opened e) ∙ sym (subst (λ o. last_time (closed_part o past) ≡ now.closed_time) e stands.stands.closed_is_last)
 
 -- a session that was fed nothing stands for what its engine stands for
-pub begins : (session : View) (past : List Heard) → session.ended ≡ false → session.fed ≡ 0 → session.feed ≡ unfed → AreDeclared (judged_of session.catalogue) past
+pub begins : (session : SessionView) (past : List Event) → session.ended ≡ false → session.fed ≡ 0 → session.feed ≡ unfed → AreDeclared (judged_of session.catalogue) past
     → IsTrue session.engine.intact → IsLayoutOf (program_in session) (kinds_of_each (judged_of session.catalogue).streams) session.engine.layout
-    → (session.engine.time ≡ None → session.engine.closed ≡ None) → engines.StandsFor session.engine (lines_of (program_in session)) past → StandsFor session past []
+    → (session.engine.time ≡ None → session.engine.closed_time ≡ None) → engines.EngineStandsFor session.engine (lines_of (program_in session)) past → SessionStandsFor session past []
 begins session past going fed feed declared intact layout opened stands =
     let read = reading_of (judged_of session.catalogue).streams in
     let same = sym (append-nil past) ∙ ap (λ ls. heard_after past (map read ls)) (sym (no_lines false)) in
@@ -216,8 +216,8 @@ begins session past going fed feed declared intact layout opened stands =
       within = omega arith;
       none_refused = ap (λ ls. refused_after past (map read ls)) (no_lines false);
       declared = declared;
-      works = record { intact = intact; layout = layout; engine = subst (engines.StandsFor session.engine (lines_of (program_in session))) same stands };
+      works = record { intact = intact; layout = layout; engine = subst (engines.EngineStandsFor session.engine (lines_of (program_in session))) same stands };
       last_is_open = last_open session.engine (lines_of (program_in session)) past stands opened ∙ ap last_time same;
       counted = fed;
-      feed = subst (HasGiven []) (sym feed) (record { gives = λ more ended. ap (λ ls. ls ++ lines_left (fed_more unfed more) ended) (sym (no_lines false)); line_feeds = refl; none_held = refl });
+      feed = subst (HasGiven []) (sym feed) (record { gives = λ more ended. ap (λ ls. ls ++ unread_lines (fed_more unfed more) ended) (sym (no_lines false)); line_feeds = refl; none_held = refl });
     }

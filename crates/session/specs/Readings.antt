@@ -1,22 +1,22 @@
 -- The lines of an event text, and those that are left of one, as they are read.
 use Rattle.std.specs.Prelude.{◌≡◌, ℕ, Bool, true, List, [], ◌∷◌, map, Ok, Err, Result}
 use Rattle.stream_schema.specs.Streams.{Entry}
-use Rattle.semantics.specs.Histories.{Heard}
+use Rattle.semantics.specs.Histories.{Event}
 use Rattle.event_csv.specs.declared.event.Seen.{Seen}
 use Rattle.event_csv.specs.declared.fault.LineFault.{LineFault}
 use Rattle.event_csv.specs.Event.{event}
-use Rattle.event_csv.specs.Fed.{Fed, IsPart, lines_left}
+use Rattle.event_csv.specs.Fed.{Fed, IsPart, unread_lines}
 use Rattle.event_csv.specs.Lines.{Line, lines}
 use Rattle.session.specs.declared.reading.Next.{Next}
 use Rattle.session.specs.declared.reading.Next.TheVariants as next
-use Rattle.session.specs.Hearing.{Reading}
+use Rattle.session.specs.Heard.{Reading}
 
 -- the event that was read
-abbrev pub heard_of : Seen → Heard
+abbrev pub heard_of : Seen → Event
 heard_of seen = record { stream = seen.stream; tuple = seen.tuple }
 
 -- the same, or the fault of a line
-abbrev pub found_of : Result Seen LineFault → Result Heard LineFault
+abbrev pub found_of : Result Seen LineFault → Result Event LineFault
 found_of (Ok seen) = Ok (heard_of seen)
 found_of (Err why) = Err why
 
@@ -30,7 +30,7 @@ readings streams text ended = map (reading_of streams) (lines text ended)
 
 -- the lines that are left in a feed, as they are read
 abbrev pub readings_left : List Entry → Fed → Bool → List Reading
-readings_left streams feed ended = map (reading_of streams) (lines_left feed ended)
+readings_left streams feed ended = map (reading_of streams) (unread_lines feed ended)
 
 -- what comes next of the lines that are left: a line, which is then gone; or a fault; or no line that has its end
 abbrev pub Shows : List Entry → Fed → Fed → Next → Type 0

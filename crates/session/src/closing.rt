@@ -1,16 +1,16 @@
 //! The closing of epochs.
 ghost use Rattle.std.specs.Prelude.{◌≡◌, true, None, [], ℕ, List, IsSome, IfErr, OnOk};
 ghost use Rattle.cay_host.specs.Output.{SameButOutput};
-ghost use Rattle.semantics.specs.Histories.{Heard};
-ghost use Rattle.session.specs.Feeding.{BlamesWriting};
-ghost use Rattle.session.specs.Hearing.{disorder};
-ghost use Rattle.session.specs.Standing.{HasClosed, IsAtWork, IsReady, Stands, program_over};
+ghost use Rattle.semantics.specs.Histories.{Event};
+ghost use Rattle.session.specs.Feeds.{BlamesWriting};
+ghost use Rattle.session.specs.Heard.{disorder};
+ghost use Rattle.session.specs.StandsWithLastOpen.{HasClosed, IsAtWork, IsReadyForEvent, StandsWithLastOpen, program_over};
 ghost use Rattle.session.specs.Whatever.{FailsInClosing, OwesClosing, PutsOpenRows};
-ghost use Rattle.session.specs.Working.{Ends};
+ghost use Rattle.session.specs.Owes.{StoppedBy};
 
 use crate::fault::SessionFault;
 use crate::work::Work;
-use crate::writing::{put_batch, write_many, write_rows};
+use crate::writing::{put_batch, write_if_full, write_rows};
 use catalogue::Catalogue;
 use cay_host::{Host, Ledger, Steps};
 use event_types::Memory;
@@ -44,14 +44,14 @@ pub fn close_before<H: Host, L: Ledger>(
     requires at_work { IsAtWork catalogue.now work.old }
     requires timely { (number : ℕ) → disorder number work.old.engine.time at ≡ None }
     ensures owes { OnOk result (OwesClosing catalogue.now at work.old work.new (H.told host.old) (H.told host.new)) }
-    ensures ready { OnOk result (IsReady catalogue.now at work.old.engine work.new.engine) }
+    ensures ready { OnOk result (IsReadyForEvent catalogue.now at work.old.engine work.new.engine) }
     ensures fails { IfErr result (FailsInClosing catalogue.now at work.old (H.told host.old) (H.told host.new)) }
     ensures quiet { BlamesWriting result (H.told host.old) (H.told host.new) }
     ensures same { SameButOutput (H.told host.old) (H.told host.new) }
 {
     match work.engine.open_time() {
         Some(seen) if seen < at => match close_epoch(alloc, catalogue, work, steps) {
-            Ok(()) => match write_many(host, &mut work.rows) {
+            Ok(()) => match write_if_full(host, &mut work.rows) {
                 Ok(()) => Ok(()),
                 Err(_) => Err(SessionFault::WriteFault),
             },
@@ -70,7 +70,7 @@ pub fn close_last<H: Host, L: Ledger>(
     steps: &mut Steps<L>,
 ) -> Result<(), SessionFault>
     requires { IsAtWork catalogue.now work.old }
-    ensures ends { (history : List Heard) → Stands catalogue.now history work.old.engine → Ends (program_over catalogue.now) true [] history work.old (H.told host.old) (H.told host.new) result }
+    ensures ends { (history : List Event) → StandsWithLastOpen catalogue.now history work.old.engine → StoppedBy (program_over catalogue.now) true [] history work.old (H.told host.old) (H.told host.new) result }
     ensures closed { OnOk result (HasClosed catalogue.now work.old.engine work.new.engine) }
     ensures quiet { BlamesWriting result (H.told host.old) (H.told host.new) }
     ensures same { SameButOutput (H.told host.old) (H.told host.new) }

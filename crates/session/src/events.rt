@@ -3,12 +3,12 @@ ghost use Rattle.std.specs.Prelude.{◌≡◌, ℕ, IsTrue, None, IfErr, OnOk};
 ghost use Rattle.cay_host.specs.Output.{SameButOutput};
 ghost use Rattle.catalogue.specs.Catalogued.{IsAccepted, judged_of};
 ghost use Rattle.epoch_engine.specs.Offers.{IsHeard, IsLate, IsNotAhead, with_tuple};
-ghost use Rattle.session.specs.Feeding.{BlamesWriting};
-ghost use Rattle.session.specs.Fitting.{Fits};
-ghost use Rattle.session.specs.Hearing.{disorder};
-ghost use Rattle.session.specs.Standing.{IsAtWork};
+ghost use Rattle.session.specs.Feeds.{BlamesWriting};
+ghost use Rattle.session.specs.Fits.{Fits};
+ghost use Rattle.session.specs.Heard.{disorder};
+ghost use Rattle.session.specs.StandsWithLastOpen.{IsAtWork};
 ghost use Rattle.session.specs.Whatever.{StopsAtEvent, TakesEvent};
-ghost use Rattle.session.specs.Working.{Blames, RefusesBy};
+ghost use Rattle.session.specs.Owes.{Blames, RefusesBy};
 
 use crate::closing::close_before;
 use crate::fault::SessionFault;
@@ -35,11 +35,11 @@ pub fn refuse<H: Host>(host: &mut H, work: &mut Work, refusal: Refusal) -> Sessi
 }
 
 // Offers an event to the engine, and keeps its stream.
-fn hear(work: &mut Work, event: Seen) -> Result<(), Memory>
+fn offer_event(work: &mut Work, event: Seen) -> Result<(), Memory>
     requires intact { IsTrue work.old.engine.intact }
     requires heard { IsHeard work.old.engine.layout event.stream event.tuple }
     requires not_ahead { IsNotAhead work.old.engine.time event.tuple.at }
-    requires in_time { (seen : ℕ) → IsLate work.old.engine.time work.old.engine.closed event.tuple.at seen → ⊥ }
+    requires in_time { (seen : ℕ) → IsLate work.old.engine.time work.old.engine.closed_time event.tuple.at seen → ⊥ }
     ensures heard { OnOk result (work.new.engine ≡ with_tuple work.old.engine event.stream event.tuple) }
     ensures rows { work.new.rows ≡ work.old.rows }
 {
@@ -52,7 +52,7 @@ fn hear(work: &mut Work, event: Seen) -> Result<(), Memory>
 }
 
 // Works on an event that isn't late.
-fn take_timely<H: Host, L: Ledger>(
+fn close_and_offer<H: Host, L: Ledger>(
     alloc: Global,
     host: &mut H,
     catalogue: &Catalogue,
@@ -73,7 +73,7 @@ fn take_timely<H: Host, L: Ledger>(
 {
     let at = event.tuple.at();
     match close_before(alloc, host, catalogue, work, at, steps) {
-        Ok(()) => match hear(work, event) {
+        Ok(()) => match offer_event(work, event) {
             Ok(()) => Ok(()),
             Err(_) => Err(SessionFault::Memory),
         },
@@ -82,7 +82,7 @@ fn take_timely<H: Host, L: Ledger>(
 }
 
 /// Works on an event, or refuses it.
-pub fn take_event<H: Host, L: Ledger>(
+pub fn work_on_event<H: Host, L: Ledger>(
     alloc: Global,
     host: &mut H,
     catalogue: &Catalogue,
@@ -111,6 +111,6 @@ pub fn take_event<H: Host, L: Ledger>(
                 seen,
             },
         )),
-        _ => take_timely(alloc, host, catalogue, work, number, event, steps),
+        _ => close_and_offer(alloc, host, catalogue, work, number, event, steps),
     }
 }

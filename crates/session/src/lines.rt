@@ -2,15 +2,15 @@
 ghost use Rattle.std.specs.Prelude.{◌≡◌, false, true, [], IfErr, IfOk, OnOk};
 ghost use Rattle.cay_host.specs.Output.{SameButOutput};
 ghost use Rattle.catalogue.specs.Catalogued.{IsAccepted};
-ghost use Rattle.event_csv.specs.Fed.{IsPart, lines_left};
-ghost use Rattle.session.specs.Feeding.{BlamesWriting};
-ghost use Rattle.session.specs.Standing.{IsAtWork, IsThrough};
-ghost use Rattle.session.specs.Taking.{Gone, Progresses};
+ghost use Rattle.event_csv.specs.Fed.{IsPart, unread_lines};
+ghost use Rattle.session.specs.Feeds.{BlamesWriting};
+ghost use Rattle.session.specs.StandsWithLastOpen.{IsAtWork, IsThrough};
+ghost use Rattle.session.specs.LinesHandedOut.{LinesHandedOut, Progresses};
 ghost use Rattle.session.specs.Whatever.{EndsOver, GoesThrough, HearsLines, HearsRest, StopsOver};
-ghost use Rattle.session.specs.Working.{Blames};
+ghost use Rattle.session.specs.Owes.{Blames};
 
 use crate::closing::close_last;
-use crate::events::{refuse, take_event};
+use crate::events::{refuse, work_on_event};
 use crate::fault::SessionFault;
 use crate::reading::{Next, last_reading, next_reading};
 use crate::refusal::Refusal;
@@ -22,7 +22,7 @@ use event_csv::Feed;
 use std::alloc::Global;
 
 /// Works on all lines that have their end, and writes the rows.
-pub fn take_lines<H: Host, L: Ledger>(
+pub fn work_on_lines<H: Host, L: Ledger>(
     alloc: Global,
     host: &mut H,
     catalogue: &Catalogue,
@@ -35,7 +35,7 @@ pub fn take_lines<H: Host, L: Ledger>(
     ensures stands { OnOk result (HearsLines catalogue.now feed.old work.old work.new) }
     ensures at_work { OnOk result (IsAtWork catalogue.now work.new) }
     ensures none_owed { OnOk result (work.new.rows ≡ []) }
-    ensures gone { OnOk result (Gone feed.old feed.new) }
+    ensures gone { OnOk result (LinesHandedOut feed.old feed.new) }
     ensures part { OnOk result (IsPart feed.new) }
     ensures accepted { IsAccepted catalogue.now }
     ensures quiet { BlamesWriting result (H.told host.old) (H.told host.new) }
@@ -62,7 +62,7 @@ fn work_through<H: Host, L: Ledger>(
     requires { IsAtWork catalogue.now work.old }
     ensures goes_on { OnOk result (GoesThrough catalogue.now feed.old work.old work.new (H.told host.old) (H.told host.new)) }
     ensures at_work { OnOk result (IsAtWork catalogue.now work.new) }
-    ensures gone { OnOk result (Gone feed.old feed.new) }
+    ensures gone { OnOk result (LinesHandedOut feed.old feed.new) }
     ensures part { OnOk result (IsPart feed.new) }
     ensures stops { IfErr result (StopsOver catalogue.now feed.old work.old (H.told host.old) (H.told host.new)) }
     ensures accepted { IsAccepted catalogue.now }
@@ -70,7 +70,7 @@ fn work_through<H: Host, L: Ledger>(
     ensures same { SameButOutput (H.told host.old) (H.told host.new) }
 {
     'lines: loop {
-        match take_line(alloc, host, catalogue, feed, work, steps) {
+        match work_on_line(alloc, host, catalogue, feed, work, steps) {
             Ok(true) => {}
             Ok(false) => return Ok(()),
             Err(fault) => return Err(fault),
@@ -79,7 +79,7 @@ fn work_through<H: Host, L: Ledger>(
 }
 
 // Works on the next line, and says whether there was one.
-fn take_line<H: Host, L: Ledger>(
+fn work_on_line<H: Host, L: Ledger>(
     alloc: Global,
     host: &mut H,
     catalogue: &Catalogue,
@@ -90,7 +90,7 @@ fn take_line<H: Host, L: Ledger>(
     requires { IsAtWork catalogue.now work.old }
     ensures progress { IfOk result (Progresses catalogue.now feed.old feed.new work.old work.new (H.told host.old) (H.told host.new)) }
     ensures at_work { OnOk result (IsAtWork catalogue.now work.new) }
-    ensures gone { Gone feed.old feed.new }
+    ensures gone { LinesHandedOut feed.old feed.new }
     ensures accepted { IsAccepted catalogue.now }
     ensures stops { IfErr result (StopsOver catalogue.now feed.old work.old (H.told host.old) (H.told host.new)) }
     ensures quiet { OnOk result ((H.told host.new).write_faults ≡ (H.told host.old).write_faults) }
@@ -102,7 +102,7 @@ fn take_line<H: Host, L: Ledger>(
         Ok(Next::NotYet) => Ok(false),
         Ok(Next::Fault(line, why)) => Err(refuse(host, work, Refusal::HasFault { line, why })),
         Ok(Next::Event(line, event)) => {
-            match take_event(alloc, host, catalogue, work, line, event, steps) {
+            match work_on_event(alloc, host, catalogue, work, line, event, steps) {
                 Ok(()) => Ok(true),
                 Err(fault) => Err(fault),
             }
@@ -111,7 +111,7 @@ fn take_line<H: Host, L: Ledger>(
 }
 
 /// Works on what is left where the text ends here, closes the last epoch and writes the rows.
-pub fn take_rest<H: Host, L: Ledger>(
+pub fn work_on_rest<H: Host, L: Ledger>(
     alloc: Global,
     host: &mut H,
     catalogue: &Catalogue,
@@ -120,7 +120,7 @@ pub fn take_rest<H: Host, L: Ledger>(
     steps: &mut Steps<L>,
 ) -> Result<(), SessionFault>
     requires at_work { IsAtWork catalogue.now work.old }
-    requires none_left { lines_left feed.now false ≡ [] }
+    requires none_left { unread_lines feed.now false ≡ [] }
     ensures ends { EndsOver catalogue.now feed.now true work.old (H.told host.old) (H.told host.new) result }
     ensures stands { OnOk result (HearsRest catalogue.now feed.now work.old work.new) }
     ensures through { OnOk result (IsThrough catalogue.now work.new.engine) }
@@ -137,7 +137,7 @@ pub fn take_rest<H: Host, L: Ledger>(
             Refusal::HasFault { line: number, why },
         )),
         Ok(Next::Event(number, event)) => {
-            match take_event(alloc, host, catalogue, work, number, event, steps) {
+            match work_on_event(alloc, host, catalogue, work, number, event, steps) {
                 Ok(()) => close_last(alloc, host, catalogue, work, steps),
                 Err(fault) => Err(fault),
             }

@@ -1,9 +1,9 @@
 //! Event lines as they are read.
 ghost use Rattle.std.specs.Prelude.{◌≡◌, false, [], IfOk};
-ghost use Rattle.event_csv.specs.Fed.{IsLine, lines_left};
-ghost use Rattle.session.specs.Fitting.{FitsNext};
+ghost use Rattle.event_csv.specs.Fed.{IsLine, unread_lines};
+ghost use Rattle.session.specs.Fits.{FitsNext};
 ghost use Rattle.session.specs.Readings.{IsReading, Shows, ShowsLast};
-ghost use Rattle.session.specs.Taking.{Gone};
+ghost use Rattle.session.specs.LinesHandedOut.{LinesHandedOut};
 
 use event_csv::{Feed, Got, LineFault, ReadFail, Seen, read_event_near};
 use event_types::{Memory, StreamId};
@@ -29,7 +29,7 @@ pub fn next_reading(
     feed: &mut Feed,
 ) -> Result<Next, Memory>
     ensures shows { IfOk result (Shows streams.now feed.old feed.new) }
-    ensures gone { Gone feed.old feed.new }
+    ensures gone { LinesHandedOut feed.old feed.new }
     ensures fits { IfOk result (FitsNext streams.now) }
 {
     match feed.next_line() {
@@ -46,7 +46,7 @@ pub fn last_reading(
     near: StreamId,
     feed: &Feed,
 ) -> Result<Next, Memory>
-    requires { lines_left feed.now false ≡ [] }
+    requires { unread_lines feed.now false ≡ [] }
     ensures shows { IfOk result (ShowsLast streams.now feed.now) }
     ensures fits { IfOk result (FitsNext streams.now) }
 {

@@ -1,23 +1,23 @@
 //! Sessions.
 ghost use Rattle.std.specs.Prelude.{◌≡◌, ℕ, ◌-◌, ◌^◌, [], List, None, false, min, true, IsTrue, IfErr, IfOk, OnErr, OnOk, take};
-ghost use Rattle.semantics.specs.Histories.{Heard};
+ghost use Rattle.semantics.specs.Histories.{Event};
 ghost use Rattle.automaton.specs.NetworkLines.{HasLines};
 ghost use Rattle.splitter.specs.Chains.{lines_of};
 ghost use Rattle.splitter.specs.Layouts.{IsLayoutOf};
 ghost use Rattle.cay_host.specs.Output.{SameButOutput};
 ghost use Rattle.prefix_merge.specs.Counts.{CountsPlain, CountsStates};
 ghost use Rattle.epoch_engine.specs.Counts.{stored_in};
-ghost use Rattle.epoch_engine.specs.StandsFor as engines;
+ghost use Rattle.epoch_engine.specs.EngineStandsFor as engines;
 ghost use Rattle.catalogue.specs.Catalogued.{judged_of};
 ghost use Rattle.catalogue.specs.Chained.{kinds_of_each};
 ghost use Rattle.catalogue.specs.Judgement.{program_of};
-ghost use Rattle.session.specs.Feeding.{BlamesWriting, BreaksAtPiece, Feeds, Finishes};
-ghost use Rattle.session.specs.Sessions.{AreDeclared, CountsWaiting, KeepsQueries, StandsFor, TrimsEngine, WorksFor, program_in};
-ghost use Rattle.session.specs.Standing.{IsPlanned, lines_over};
+ghost use Rattle.session.specs.Feeds.{BlamesWriting, BreaksAtPiece, Feeds, Finishes};
+ghost use Rattle.session.specs.SessionView.{AreDeclared, CountsWaiting, KeepsQueries, SessionStandsFor, TrimsEngine, WorksFor, program_in};
+ghost use Rattle.session.specs.StandsWithLastOpen.{IsPlanned, lines_over};
 
 use crate::counting::{hops_of, root_states};
 use crate::fault::SessionFault;
-use crate::lines::{take_lines, take_rest};
+use crate::lines::{work_on_lines, work_on_rest};
 use crate::work::Work;
 use catalogue::Catalogue;
 use cay_host::{Host, Ledger, Steps};
@@ -44,16 +44,16 @@ pub struct Session {
 
 impl Model for Session {
     ghost use Rattle.session.specs.SessionCode.{session_code};
-    ghost use Rattle.session.specs.Sessions.{View};
+    ghost use Rattle.session.specs.SessionView.{SessionView};
 
-    ghost Value = { View };
+    ghost Value = { SessionView };
 
     ghost coded = { session_code };
 
     ghost view = { λ s. record { catalogue = s.catalogue; engine = s.work.engine; limit = s.limit; feed = s.feed; fed = s.fed; ended = s.ended } };
 
     ghost use Rattle.std.specs.Prelude.{◌≡◌, false};
-    ghost use Rattle.session.specs.Standing.{IsGoing};
+    ghost use Rattle.session.specs.StandsWithLastOpen.{IsGoing};
 
     ghost invariant = { λ s. s.ended ≡ false → IsGoing s.catalogue s.limit s.feed s.fed s.work };
 }
@@ -64,7 +64,7 @@ impl Session {
     pub fn make(alloc: Global, catalogue: Catalogue, limit: u64) -> Result<Session, Memory>
         ensures queries { IfOk result (λ session. session.catalogue ≡ catalogue) }
         ensures limit { IfOk result (λ session. session.limit ≡ limit) }
-        ensures stands { IfOk result (λ session. StandsFor session [] []) }
+        ensures stands { IfOk result (λ session. SessionStandsFor session [] []) }
     {
         let engine = engine_of(alloc, &catalogue)?;
         Ok(Session::over(alloc, catalogue, engine, limit))
@@ -75,12 +75,12 @@ impl Session {
         requires lines { HasLines engine.network (lines_of (program_of (judged_of catalogue))) }
         requires layout { IsLayoutOf (program_of (judged_of catalogue)) (kinds_of_each (judged_of catalogue).streams) engine.layout }
         requires intact { IsTrue engine.intact }
-        requires opened { engine.time ≡ None → engine.closed ≡ None }
+        requires opened { engine.time ≡ None → engine.closed_time ≡ None }
         ensures queries { result.catalogue ≡ catalogue }
         ensures limit { result.limit ≡ limit }
         ensures engine { result.engine ≡ engine }
         ensures going { result.ended ≡ false }
-        ensures stands { (past : List Heard) → AreDeclared (judged_of catalogue) past → engines.StandsFor engine (lines_of (program_of (judged_of catalogue))) past → StandsFor result past [] }
+        ensures stands { (past : List Event) → AreDeclared (judged_of catalogue) past → engines.EngineStandsFor engine (lines_of (program_of (judged_of catalogue))) past → SessionStandsFor result past [] }
     {
         Session {
             catalogue,
@@ -105,7 +105,7 @@ impl Session {
 
     /// The number of states of the merged network of the queries. Takes no memory.
     pub fn states(&self) -> usize
-        ensures counted { (history : List Heard) → WorksFor self.now history → CountsStates (lines_of (program_in self.now)) result }
+        ensures counted { (history : List Event) → WorksFor self.now history → CountsStates (lines_of (program_in self.now)) result }
     {
         self.work.engine.network().states()
     }
@@ -113,7 +113,7 @@ impl Session {
     /// The number of states that the queries would have if their lines shared no waiting state. Takes no
     /// memory.
     pub fn plain_states(&self) -> usize
-        ensures counted { (history : List Heard) → WorksFor self.now history → CountsPlain (lines_of (program_in self.now)) result }
+        ensures counted { (history : List Event) → WorksFor self.now history → CountsPlain (lines_of (program_in self.now)) result }
     {
         root_states(self.work.engine.network()).saturating_add(hops_of(self.catalogue.lines()))
     }
@@ -128,8 +128,8 @@ impl Session {
         ensures same { self.old.engine.intact ≡ false → self.new ≡ self.old }
         ensures stored { self.old.engine.intact ≡ false → result ≡ min (stored_in self.old.engine) (2 ^ 64 - 1) }
         ensures ended { self.new.ended ≡ self.old.ended }
-        ensures works { (history : List Heard) → WorksFor self.old history → WorksFor self.new history }
-        ensures stands { (past : List Heard) (text : List ℕ) → StandsFor self.old past text → StandsFor self.new past text }
+        ensures works { (history : List Event) → WorksFor self.old history → WorksFor self.new history }
+        ensures stands { (past : List Event) (text : List ℕ) → SessionStandsFor self.old past text → SessionStandsFor self.new past text }
     {
         if !self.work.engine.intact() {
             return self.work.engine.live();
@@ -148,7 +148,7 @@ impl Session {
         steps: &mut Steps<L>,
     ) -> Result<(), SessionFault>
         requires { self.old.ended ≡ false }
-        ensures fed { OnOk result ((past : List Heard) (text : List ℕ) → StandsFor self.old past text → Feeds self.old self.new past text piece.now (H.told host.old) (H.told host.new)) }
+        ensures fed { OnOk result ((past : List Event) (text : List ℕ) → SessionStandsFor self.old past text → Feeds self.old self.new past text piece.now (H.told host.old) (H.told host.new)) }
         ensures broken { IfErr result (BreaksAtPiece self.old piece.now (H.told host.old) (H.told host.new)) }
         ensures going { OnOk result (self.new.ended ≡ false) }
         ensures ended { OnErr result (self.new.ended ≡ true) }
@@ -161,7 +161,7 @@ impl Session {
         if self.feed.push(within).is_err() {
             return Err(SessionFault::Memory);
         }
-        take_lines(
+        work_on_lines(
             alloc,
             host,
             &self.catalogue,
@@ -186,14 +186,14 @@ impl Session {
         steps: &mut Steps<L>,
     ) -> Result<(), SessionFault>
         requires { self.old.ended ≡ false }
-        ensures finished { (past : List Heard) (text : List ℕ) → StandsFor self.old past text → Finishes self.old self.new past text (H.told host.old) (H.told host.new) result }
+        ensures finished { (past : List Event) (text : List ℕ) → SessionStandsFor self.old past text → Finishes self.old self.new past text (H.told host.old) (H.told host.new) result }
         ensures ended { self.new.ended ≡ true }
         ensures queries { KeepsQueries self.old self.new }
         ensures quiet { BlamesWriting result (H.told host.old) (H.told host.new) }
         ensures same { SameButOutput (H.told host.old) (H.told host.new) }
     {
         self.ended = true;
-        take_rest(
+        work_on_rest(
             alloc,
             host,
             &self.catalogue,
@@ -208,8 +208,8 @@ impl Session {
 pub(crate) fn engine_of(alloc: Global, catalogue: &Catalogue) -> Result<Engine, Memory>
     ensures planned { IfOk result (IsPlanned catalogue.now) }
     ensures intact { IfOk result (λ engine. IsTrue engine.intact) }
-    ensures none_closed { IfOk result (λ engine. engine.closed ≡ None) }
-    ensures stands { IfOk result (λ engine. engines.StandsFor engine (lines_over catalogue.now) []) }
+    ensures none_closed { IfOk result (λ engine. engine.closed_time ≡ None) }
+    ensures stands { IfOk result (λ engine. engines.EngineStandsFor engine (lines_over catalogue.now) []) }
 {
     let merged = Merged::of(alloc, catalogue.lines())?;
     let layout = catalogue.layout().copy(alloc)?;

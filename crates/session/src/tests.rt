@@ -1,11 +1,11 @@
 //! What no clause says: that memory is had, and what is written.
 ghost use Rattle.std.specs.Prelude.{◌≡◌, ◌<◌, false, None, IfOk, IsTrue, OnOk};
 ghost use Rattle.catalogue.specs.Catalogued.{IsAccepted, judged_of};
-ghost use Rattle.session.specs.Fitting.{Fits};
-ghost use Rattle.session.specs.Standing.{IsAtWork, IsPlanned};
+ghost use Rattle.session.specs.Fits.{Fits};
+ghost use Rattle.session.specs.StandsWithLastOpen.{IsAtWork, IsPlanned};
 
 use crate::Session;
-use crate::events::take_event;
+use crate::events::work_on_event;
 use crate::reading::{Next, next_reading};
 use crate::session::engine_of;
 use crate::work::Work;
@@ -57,7 +57,7 @@ fn take<L: Ledger>(
     ensures { OnOk result (IsAtWork catalogue.now work.new) }
 {
     let event = event_of(rt, alloc, catalogue, line)?;
-    match take_event(alloc, host, catalogue, work, 1, event, steps) {
+    match work_on_event(alloc, host, catalogue, work, 1, event, steps) {
         Ok(()) => Ok(()),
         Err(_) => panic!(rt; "an event isn't taken"),
     }
@@ -73,7 +73,7 @@ fn engine_that_heard<L: Ledger>(
 ) -> Result<Engine, Memory>
     ensures planned { IfOk result (IsPlanned catalogue.now) }
     ensures intact { IfOk result (λ engine. IsTrue engine.intact) }
-    ensures opened { IfOk result (λ engine. engine.time ≡ None → engine.closed ≡ None) }
+    ensures opened { IfOk result (λ engine. engine.time ≡ None → engine.closed_time ≡ None) }
 {
     let mut work = Work {
         engine: engine_of(alloc, catalogue)?,

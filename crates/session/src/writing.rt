@@ -5,9 +5,9 @@ ghost use Rattle.cay_host.specs.Faults.{Rose};
 ghost use Rattle.cay_host.specs.Output.{Wrote, WrotePart, SameButOutput};
 ghost use Rattle.semantics.specs.Report.{line};
 ghost use Rattle.catalogue.specs.Catalogued.{IsAccepted};
-ghost use Rattle.session.specs.Batches.{batch_lines};
-ghost use Rattle.session.specs.Standing.{program_over};
-ghost use Rattle.session.specs.Working.{Owes};
+ghost use Rattle.session.specs.BatchLines.{batch_lines};
+ghost use Rattle.session.specs.StandsWithLastOpen.{program_over};
+ghost use Rattle.session.specs.Owes.{Owes};
 
 use catalogue::Catalogue;
 use cay_host::{Failed, Host, write_whole};
@@ -42,7 +42,7 @@ fn put_tuples(name: &str, tuples: &Tuples, rows: &mut Rows) -> Result<(), Memory
 }
 
 /// Writes the rows once there are many. Takes no memory.
-pub fn write_many<H: Host>(host: &mut H, rows: &mut Rows) -> Result<(), Failed>
+pub fn write_if_full<H: Host>(host: &mut H, rows: &mut Rows) -> Result<(), Failed>
     ensures ok { OnOk result ((rest : List ℕ) → Owes (rows.old ++ rest) (rows.new ++ rest) (H.told host.old) (H.told host.new)) }
     ensures quiet { OnOk result ((H.told host.new).write_faults ≡ (H.told host.old).write_faults) }
     ensures part { OnErr result (WrotePart rows.old (H.told host.old) (H.told host.new)) }

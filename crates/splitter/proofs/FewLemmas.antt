@@ -10,7 +10,7 @@ use Rattle.automaton.specs.declared.step.Stage.{Stage}
 use Rattle.automaton.specs.declared.step.Stage.TheVariants.{Keep, Make}
 use Rattle.automaton.specs.declared.wait.Wait.{Wait}
 use Rattle.splitter.specs.declared.open.Open.{Open}
-use Rattle.splitter.specs.Splitting.{Parts, parts_of, published_on, source_of, split_lines, waiting_on, with_hop, with_stage}
+use Rattle.splitter.specs.Splitting.{Parts, parts_of, published_on, right_side_of, split_lines, waiting_on, with_hop, with_stage}
 
 -- how many nodes an expression has
 abbrev pub nodes : Ex → ℕ
@@ -22,7 +22,7 @@ nodes (Next p e f) = nodes e + nodes f + 1
 nodes (Fold p q m e f) = nodes e + nodes f + 1
 
 -- a right side takes at most one number
-source_most : (e : Ex) (right : Parts) → (source_of e right).next ≤ right.next + 1
+source_most : (e : Ex) (right : Parts) → (right_side_of e right).next ≤ right.next + 1
 source_most (Read stream) right = omega arith
 source_most e right = omega arith
 
@@ -61,7 +61,7 @@ hop_size wait (line ∷ lines) =
     omega (arith, sum_by-cons open_weight (with_hop wait line) (map (with_hop wait) lines), sum_by-cons open_weight line lines, length_push line.hops hop, hop_size wait lines)
 
 -- the hidden lines of a right side are those within it, and its own
-source_size : (e : Ex) (right : Parts) → size (source_of e right).hidden ≤ open_size right.open_lines + size right.hidden
+source_size : (e : Ex) (right : Parts) → size (right_side_of e right).hidden ≤ open_size right.open_lines + size right.hidden
 source_size (Read stream) right = omega arith
 source_size e right =
     let own : size (map (published_on right.next) right.open_lines) ≡ open_size right.open_lines = sum_by-map weight (published_on right.next) right.open_lines in
@@ -85,9 +85,9 @@ both_few m n left right few others = record {
   all = omega (arith, few.all, others.all, sum_by-append open_weight left.open_lines right.open_lines, sum_by-append weight left.hidden right.hidden);
 }
 
-waiting_few : (wait : ℕ → Wait) (e : Ex) (m n : ℕ) (left right : Parts) → AreFew m left → AreFew n right → AreFew (m + n + 1) (waiting_on wait left (source_of e right))
+waiting_few : (wait : ℕ → Wait) (e : Ex) (m n : ℕ) (left right : Parts) → AreFew m left → AreFew n right → AreFew (m + n + 1) (waiting_on wait left (right_side_of e right))
 waiting_few wait e m n left right few others =
-    let source = source_of e right in record {
+    let source = right_side_of e right in record {
       lines = omega (arith, few.lines, length-map left.open_lines (with_hop (wait source.stream)));
       all = omega (arith, few.lines, few.all, others.all, hop_size (wait source.stream) left.open_lines, sum_by-append weight left.hidden source.hidden, source_size e right);
     }

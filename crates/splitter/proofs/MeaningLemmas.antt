@@ -6,7 +6,7 @@ use Rattle.std.specs.List.{All, cons_option, filter, filter_map, flat_map}
 use Rattle.std.proofs.lemmas.Grind.{flat_map-append}
 use Rattle.std.proofs.lemmas.List.Folds.{flat_map-map}
 use Rattle.std.proofs.lemmas.List.Elements.{All-nil, All-cons, All-head, All-tail, All-weaker}
-use Rattle.event_types.specs.Tuple.{Row}
+use Rattle.event_types.specs.Tuple.{TupleView}
 use Rattle.semantics.specs.Denotation.{Streams, denote, matches, selected}
 use Rattle.semantics.specs.Expressions.{Ex, Read, Filter, Select, Union, Next, Fold}
 use Rattle.semantics.specs.Runs.{runs}
@@ -22,7 +22,7 @@ use Rattle.automaton.specs.Prefixes.{Root, extended}
 use Rattle.automaton.specs.Steps.{pass, passed}
 use Rattle.automaton.specs.Waits.{chosen}
 use Rattle.splitter.specs.declared.open.Open.{Open}
-use Rattle.splitter.specs.Splitting.{Parts, parts_of, source_of, with_hop, with_stage}
+use Rattle.splitter.specs.Splitting.{Parts, parts_of, right_side_of, with_hop, with_stage}
 use Rattle.splitter.specs.Stages.{staged}
 use Rattle.splitter.specs.Widths.{MeetWidths}
 use Rattle.splitter.proofs.ListLemmas.{All-parts, filter_map_agree, filter_map_all, filter_map_some, filter_map_test, filter_map-flat_map, filter_map-then, flat_map_agree, flat_map-then}
@@ -30,23 +30,23 @@ use Rattle.splitter.proofs.StageLemmas.{AreWide, IsWide, pass_staged}
 use Rattle.semantics.proofs.ListLemmas.{every}
 
 -- what an open line gives
-abbrev pub open_given : Streams → Open → List Row
+abbrev pub open_given : Streams → Open → List TupleView
 open_given streams line = filter_map (pass line.last) (flow streams (extended (Root line.root) line.hops))
 
 -- what all open lines give
-abbrev pub parts_given : Streams → Parts → List Row
+abbrev pub parts_given : Streams → Parts → List TupleView
 parts_given streams parts = flat_map (open_given streams) parts.open_lines
 
 -- one more stage
-wide_one : (stage : Stage) (o : Option Row) (rest : List Row) → All (IsWide stage) (cons_option o rest) → AreWide stage o
+wide_one : (stage : Stage) (o : Option TupleView) (rest : List TupleView) → All (IsWide stage) (cons_option o rest) → AreWide stage o
 wide_one stage None rest all = tt
 wide_one stage (Some t) rest all = All-head (IsWide stage) t rest all
 
-wide_rest : (stage : Stage) (o : Option Row) (rest : List Row) → All (IsWide stage) (cons_option o rest) → All (IsWide stage) rest
+wide_rest : (stage : Stage) (o : Option TupleView) (rest : List TupleView) → All (IsWide stage) (cons_option o rest) → All (IsWide stage) rest
 wide_rest stage None rest all = all
 wide_rest stage (Some t) rest all = All-tail (IsWide stage) t rest all
 
-wide_each : (stage : Stage) (g : Row → Option Row) (ts : List Row) → All (IsWide stage) (filter_map g ts) → All (λ t. AreWide stage (g t)) ts
+wide_each : (stage : Stage) (g : TupleView → Option TupleView) (ts : List TupleView) → All (IsWide stage) (filter_map g ts) → All (λ t. AreWide stage (g t)) ts
 wide_each stage g [] all = All-nil (λ t. AreWide stage (g t))
 wide_each stage g (t ∷ ts) all = All-cons (λ t. AreWide stage (g t)) t ts (wide_one stage (g t) (filter_map g ts) all) (wide_each stage g ts (wide_rest stage (g t) (filter_map g ts) all))
 
@@ -73,7 +73,7 @@ module _ (streams : Streams) where
   hop_gives wait line =
       filter_map_all (flow streams (extended (Root line.root) (with_hop wait line).hops)) ∙ ap (flow streams) (extended-push (Root line.root) line.hops (record { step = line.last; wait = wait }))
 
-  chosen_parts : {X : Type 0} (choose : List Pr) (turn : Option Turn) (tuples : List Row) (f : X → List Row) (xs : List X)
+  chosen_parts : {X : Type 0} (choose : List Pr) (turn : Option Turn) (tuples : List TupleView) (f : X → List TupleView) (xs : List X)
       → flat_map (λ x. chosen choose turn tuples (f x)) xs ≡ chosen choose turn tuples (flat_map f xs)
   chosen_parts choose None tuples f xs = flat_map-then (matches choose tuples) f xs
   chosen_parts choose (Some turn) tuples f xs = flat_map-then (runs choose turn.on turn.set.parts tuples) f xs
@@ -101,7 +101,7 @@ HasSources streams (Union e f) next = HasSources streams e next × HasSources st
 HasSources streams (Next p e f) next = HasSources streams e next × HasSources streams f (parts_of e next).next × HasSource streams f (parts_of f (parts_of e next).next)
 HasSources streams (Fold p q m e f) next = HasSources streams e next × HasSources streams f (parts_of e next).next × HasSource streams f (parts_of f (parts_of e next).next)
 
-source_gives : (streams : Streams) (f : Ex) (right : Parts) → HasSource streams f right → parts_given streams right ≡ denote f streams → streams (source_of f right).stream ≡ denote f streams
+source_gives : (streams : Streams) (f : Ex) (right : Parts) → HasSource streams f right → parts_given streams right ≡ denote f streams → streams (right_side_of f right).stream ≡ denote f streams
 source_gives streams (Read stream) right has gives = refl
 source_gives streams f right has gives = has ∙ gives
 
@@ -121,10 +121,10 @@ parts_give (Union e f) next streams has wide =
 parts_give (Next p e f) next streams has wide =
     let right = parts_of f (parts_of e next).next in
     let there = source_gives streams f right has.2 (parts_give f (parts_of e next).next streams has.1 wide.1) in
-    hops_give streams (record { stream = (source_of f right).stream; choose = p; fold = None }) (parts_of e next).open_lines
+    hops_give streams (record { stream = (right_side_of f right).stream; choose = p; fold = None }) (parts_of e next).open_lines
     ∙ (λ i. flat_map (matches p (there i)) (parts_give e next streams has.0 wide.0 i))
 parts_give (Fold p q m e f) next streams has wide =
     let right = parts_of f (parts_of e next).next in
     let there = source_gives streams f right has.2 (parts_give f (parts_of e next).next streams has.1 wide.1) in
-    hops_give streams (record { stream = (source_of f right).stream; choose = p; fold = Some (record { on = q; set = m }) }) (parts_of e next).open_lines
+    hops_give streams (record { stream = (right_side_of f right).stream; choose = p; fold = Some (record { on = q; set = m }) }) (parts_of e next).open_lines
     ∙ (λ i. flat_map (runs p q m.parts (there i)) (parts_give e next streams has.0 wide.0 i))

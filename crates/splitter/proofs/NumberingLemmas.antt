@@ -2,10 +2,10 @@
 use Rattle.std.proofs.Common.{ℕ, ◌^◌, ◌≤◌, arith}
 use Rattle.semantics.specs.Expressions.{Ex, Read, Filter, Select, Union, Next, Fold}
 use Rattle.splitter.specs.Room.{HasRoom}
-use Rattle.splitter.specs.Splitting.{Parts, parts_of, source_of}
+use Rattle.splitter.specs.Splitting.{Parts, parts_of, right_side_of}
 
 -- a right side takes no number back
-pub source_up : (e : Ex) (right : Parts) → right.next ≤ (source_of e right).next
+pub source_up : (e : Ex) (right : Parts) → right.next ≤ (right_side_of e right).next
 source_up (Read stream) right = omega arith
 source_up e right = omega arith
 

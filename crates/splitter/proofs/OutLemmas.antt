@@ -8,7 +8,7 @@ use Rattle.semantics.specs.Expressions.{Ex, Read, Filter, Select, Union, Next, F
 use Rattle.automaton.specs.declared.line.Line.{Line}
 use Rattle.automaton.specs.Flow.{given}
 use Rattle.splitter.specs.declared.open.Open.{Open}
-use Rattle.splitter.specs.Splitting.{Parts, parts_of, published_on, source_of}
+use Rattle.splitter.specs.Splitting.{Parts, parts_of, published_on, right_side_of}
 use Rattle.splitter.proofs.ListLemmas.{filter_whole}
 use Rattle.splitter.proofs.MeaningLemmas.{HasSource, HasSources, open_given}
 use Rattle.splitter.proofs.NumberingLemmas.{parts_up, source_up}
@@ -35,7 +35,7 @@ published_outs stream lines =
     All-map (λ line. Within stream (stream + 1) line.out) (published_on stream) lines (every (λ o. Within stream (stream + 1) stream) (λ o. record { above = omega arith; below = omega arith }) lines)
 
 -- each hidden line publishes one of the numbers that the expression takes
-source_outs : (f : Ex) (low : ℕ) (right : Parts) → low ≤ right.next → OutsWithin low right.next right.hidden → OutsWithin low (source_of f right).next (source_of f right).hidden
+source_outs : (f : Ex) (low : ℕ) (right : Parts) → low ≤ right.next → OutsWithin low right.next right.hidden → OutsWithin low (right_side_of f right).next (right_side_of f right).hidden
 source_outs (Read stream) low right up all = All-nil (λ line. Within low right.next line.out)
 source_outs f low right up all =
     All-append (λ line. Within low (right.next + 1) line.out) right.hidden (map (published_on right.next) right.open_lines)
@@ -104,14 +104,14 @@ right_has streams low mid high lefts rights up outs has stream above below =
 
 -- the hidden lines of a right side, and its own
 source_has : (streams : Streams) (f : Ex) (low : ℕ) (right : Parts) → low ≤ right.next → OutsWithin low right.next right.hidden
-    → HasStreams streams low (source_of f right).next (source_of f right).hidden → HasSource streams f right
+    → HasStreams streams low (right_side_of f right).next (right_side_of f right).hidden → HasSource streams f right
 source_has streams (Read stream) low right up outs has = tt
 source_has streams f low right up outs has =
     has right.next up (omega arith) ∙ ap (flat_map (given streams)) (right_alone right.next right.hidden (map (published_on right.next) right.open_lines) (none_above low right.next right.next (omega arith) right.hidden outs))
     ∙ published_give streams right.next right.open_lines
 
 inner_has : (streams : Streams) (f : Ex) (low : ℕ) (right : Parts) → low ≤ right.next → OutsWithin low right.next right.hidden
-    → ((stream : ℕ) → f ≡ Read stream → right.next ≡ low) → HasStreams streams low (source_of f right).next (source_of f right).hidden → HasStreams streams low right.next right.hidden
+    → ((stream : ℕ) → f ≡ Read stream → right.next ≡ low) → HasStreams streams low (right_side_of f right).next (right_side_of f right).hidden → HasStreams streams low right.next right.hidden
 inner_has streams (Read s) low right up outs reads has = λ stream above below. absurd (let same = reads s refl in omega arith)
 inner_has streams f low right up outs reads has =
     left_has streams low right.next (right.next + 1) right.hidden (map (published_on right.next) right.open_lines) (omega arith) (published_outs right.next right.open_lines) has
@@ -122,7 +122,7 @@ reads_none f next stream is = ap (λ e. (parts_of e next).next) is
 joined_has : (streams : Streams) (e f : Ex) (next : ℕ)
     → (HasStreams streams next (parts_of e next).next (parts_of e next).hidden → HasSources streams e next)
     → (HasStreams streams (parts_of e next).next (parts_of f (parts_of e next).next).next (parts_of f (parts_of e next).next).hidden → HasSources streams f (parts_of e next).next)
-    → HasStreams streams next (source_of f (parts_of f (parts_of e next).next)).next ((parts_of e next).hidden ++ (source_of f (parts_of f (parts_of e next).next)).hidden)
+    → HasStreams streams next (right_side_of f (parts_of f (parts_of e next).next)).next ((parts_of e next).hidden ++ (right_side_of f (parts_of f (parts_of e next).next)).hidden)
     → HasSources streams e next × HasSources streams f (parts_of e next).next × HasSource streams f (parts_of f (parts_of e next).next)
 joined_has streams e f next left right has =
     let mid : ℕ = (parts_of e next).next in
@@ -133,7 +133,7 @@ joined_has streams e f next left right has =
     let outs = parts_outs f (parts_of e next).next in
     let source = source_outs f (parts_of e next).next (parts_of f (parts_of e next).next) up' outs in
     let behind = right_has streams next (parts_of e next).next _ (parts_of e next).hidden _ up (parts_outs e next) has in (
-      left (left_has streams next (parts_of e next).next (source_of f (parts_of f (parts_of e next).next)).next (parts_of e next).hidden _ (omega arith) source has),
+      left (left_has streams next (parts_of e next).next (right_side_of f (parts_of f (parts_of e next).next)).next (parts_of e next).hidden _ (omega arith) source has),
       right (inner_has streams f (parts_of e next).next (parts_of f (parts_of e next).next) up' outs (reads_none f (parts_of e next).next) behind),
       source_has streams f (parts_of e next).next (parts_of f (parts_of e next).next) up' outs behind,
     )

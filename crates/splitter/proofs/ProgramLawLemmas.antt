@@ -9,7 +9,7 @@ use Rattle.std.proofs.lemmas.List.Sorted.{All-permutation, IsPermutation-refl, I
 use Rattle.event_types.specs.declared.kind.Kind.{Kind}
 use Rattle.semantics.proofs.StatementLemmas.{declared_there}
 use Rattle.semantics.specs.Denotation.{Streams}
-use Rattle.semantics.specs.Histories.{Heard}
+use Rattle.semantics.specs.Histories.{Event}
 use Rattle.semantics.specs.Programs.{Program, Query, declared_streams, env}
 use Rattle.semantics.specs.TypedPrograms.{HaveTheirKinds, IsProgram}
 use Rattle.algebra.proofs.ProgramLemmas.{declared_kinds}
@@ -26,7 +26,7 @@ stream_among order query has =
     let stream_of : Query → ℕ = λ q. q.stream in
     (has.0, subst (λ n. has.0 < n) (sym (length-map order stream_of)) has.1, get_or-map stream_of order has.0 query query.stream has.1 ∙ ap stream_of has.2)
 
-module _ (kinds : ℕ → List Kind) (program : Program) (history : List Heard) (is : IsWideProgram kinds program) (all : HaveTheirKinds kinds history) where
+module _ (kinds : ℕ → List Kind) (program : Program) (history : List Event) (is : IsWideProgram kinds program) (all : HaveTheirKinds kinds history) where
   abbrev made : Streams
   made = completed (lines_of program) (order_of program) (declared_streams program.declared history)
 

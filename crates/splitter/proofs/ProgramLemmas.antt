@@ -11,7 +11,7 @@ use Rattle.semantics.specs.Expressions.{Ex}
 use Rattle.semantics.specs.Programs.{Program, Query}
 use Rattle.semantics.specs.Reading.{ReadsOnly}
 use Rattle.semantics.specs.TypedPrograms.{PublishInTurn}
-use Rattle.semantics.specs.Typing.{Gives}
+use Rattle.semantics.specs.Typing.{IsTypedOver}
 use Rattle.algebra.specs.declared.expression.Expr.{Expr}
 use Rattle.algebra.specs.Views.{ex_of}
 use Rattle.automaton.specs.declared.line.Line.{Line}
@@ -34,7 +34,7 @@ module _ (kinds : ℕ → List Kind) where
   -- the next query, where its stream has this number
   abbrev Turns : List ℕ → Query → List Query → ℕ → Type 0
   Turns there query order number =
-      All (λ stream. stream < number) there × ReadsOnly (Contains there) query.expr × Gives query.expr number kinds (kinds number) × PublishInTurn kinds (there ++ number ∷ []) order
+      All (λ stream. stream < number) there × ReadsOnly (Contains there) query.expr × IsTypedOver query.expr number kinds (kinds number) × PublishInTurn kinds (there ++ number ∷ []) order
 
   turn_from : (number hidden : ℕ) (there : List ℕ) (order : List Query) → AreNumbered number hidden order → PublishInTurn kinds there order → PublishInTurn kinds there (queries_from number hidden (expressions_of order))
   turn_from number hidden there [] h turn = tt

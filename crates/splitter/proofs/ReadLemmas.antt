@@ -11,7 +11,7 @@ use Rattle.automaton.specs.declared.step.Stage.{Stage}
 use Rattle.automaton.specs.declared.step.Stage.TheVariants.{Keep, Make}
 use Rattle.automaton.specs.declared.wait.Wait.{Wait}
 use Rattle.splitter.specs.declared.open.Open.{Open}
-use Rattle.splitter.specs.Splitting.{Parts, parts_of, published_on, source_of, waiting_on, with_hop, with_stage}
+use Rattle.splitter.specs.Splitting.{Parts, parts_of, published_on, right_side_of, waiting_on, with_hop, with_stage}
 use Rattle.splitter.proofs.NumberingLemmas.{parts_up, source_up}
 
 -- a stream below a number, and not the one that is published
@@ -68,8 +68,8 @@ stages_read out most stage lines all = All-map (λ line. LineReads out most line
 
 -- the hidden lines of a right side, and the stream on which it is waited for
 pub record SourceRead (out : ℕ) (f : Ex) (right : Parts) : Type 0 where
-  pub stream : Reads out (source_of f right).next (source_of f right).stream
-  pub hiddens : HiddenRead out (source_of f right).hidden
+  pub stream : Reads out (right_side_of f right).next (right_side_of f right).stream
+  pub hiddens : HiddenRead out (right_side_of f right).hidden
 
 source_read : (out first : ℕ) (f : Ex) (right : Parts) → out < first → first ≤ right.next → ReadsOnly (λ stream. (stream < first) × (stream ≢ out)) f → PartsRead out right → SourceRead out f right
 source_read out first (Read stream) right above up reads parts = record {
@@ -83,13 +83,13 @@ source_read out first f right above up reads parts = record {
       (All-map (λ line. LineReads out line.out line.root line.hops) (published_on right.next) right.open_lines parts.opens);
 }
 
-joined_read : (out : ℕ) (wait : ℕ → Wait) (left : Parts) (f : Ex) (right : Parts) → ((stream : ℕ) → (wait stream).stream ≡ stream) → left.next ≤ (source_of f right).next → PartsRead out left → SourceRead out f right
-    → PartsRead out (waiting_on wait left (source_of f right))
+joined_read : (out : ℕ) (wait : ℕ → Wait) (left : Parts) (f : Ex) (right : Parts) → ((stream : ℕ) → (wait stream).stream ≡ stream) → left.next ≤ (right_side_of f right).next → PartsRead out left → SourceRead out f right
+    → PartsRead out (waiting_on wait left (right_side_of f right))
 joined_read out wait left f right named up l s = record {
   opens =
-      hops_read out (source_of f right).next (wait (source_of f right).stream) left.open_lines (subst (Reads out (source_of f right).next) (sym (named (source_of f right).stream)) s.stream)
-      (open_more out left.next (source_of f right).next left.open_lines up l.opens);
-  hiddens = All-append (λ line. LineReads out line.out line.root line.hops) left.hidden (source_of f right).hidden l.hiddens s.hiddens;
+      hops_read out (right_side_of f right).next (wait (right_side_of f right).stream) left.open_lines (subst (Reads out (right_side_of f right).next) (sym (named (right_side_of f right).stream)) s.stream)
+      (open_more out left.next (right_side_of f right).next left.open_lines up l.opens);
+  hiddens = All-append (λ line. LineReads out line.out line.root line.hops) left.hidden (right_side_of f right).hidden l.hiddens s.hiddens;
 }
 
 -- the lines of an expression read what it reads, and its hidden streams

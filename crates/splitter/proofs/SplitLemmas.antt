@@ -6,12 +6,12 @@ use Rattle.std.proofs.lemmas.List.{length-append, length-map}
 use Rattle.std.proofs.lemmas.List.Elements.{All-nil, All-cons, All-append, All-map, All-weaker}
 use Rattle.event_types.specs.declared.kind.Kind.{Kind}
 use Rattle.semantics.specs.Expressions.{Ex, Read, Filter, Select, Union, Next, Fold}
-use Rattle.semantics.specs.Typing.{Gives}
+use Rattle.semantics.specs.Typing.{IsTypedOver}
 use Rattle.automaton.specs.declared.step.Stage.TheVariants.{Keep, Make}
 use Rattle.automaton.specs.declared.wait.Wait.{Wait}
 use Rattle.automaton.specs.LineKinds.{WaitGives}
 use Rattle.splitter.specs.declared.open.Open.{Open}
-use Rattle.splitter.specs.Splitting.{Parts, Source, parts_of, published_on, source_of, split_lines, waiting_on, with_hop, with_stage}
+use Rattle.splitter.specs.Splitting.{Parts, RightSide, parts_of, published_on, right_side_of, split_lines, waiting_on, with_hop, with_stage}
 use Rattle.splitter.specs.Stages.{staged}
 use Rattle.splitter.specs.Growing.{GrowInTurn}
 use Rattle.splitter.specs.SourceWidths.{HasWidths}
@@ -28,10 +28,10 @@ some_lines (Select m e) next = omega (arith, some_lines e next, length-map (part
 some_lines (Union e f) next = omega (arith, some_lines e next, length-append (parts_of e next).open_lines (parts_of f (parts_of e next).next).open_lines)
 some_lines (Next p e f) next =
     let wait : ℕ → Wait = λ stream. record { stream = stream; choose = p; fold = None } in
-    omega (arith, some_lines e next, length-map (parts_of e next).open_lines (with_hop (wait (source_of f (parts_of f (parts_of e next).next)).stream)))
+    omega (arith, some_lines e next, length-map (parts_of e next).open_lines (with_hop (wait (right_side_of f (parts_of f (parts_of e next).next)).stream)))
 some_lines (Fold p q m e f) next =
     let wait : ℕ → Wait = λ stream. record { stream = stream; choose = p; fold = Some (record { on = q; set = m }) } in
-    omega (arith, some_lines e next, length-map (parts_of e next).open_lines (with_hop (wait (source_of f (parts_of f (parts_of e next).next)).stream)))
+    omega (arith, some_lines e next, length-map (parts_of e next).open_lines (with_hop (wait (right_side_of f (parts_of f (parts_of e next).next)).stream)))
 
 -- behind these kinds come those of the hidden streams, and over all of them each open line gives these
 pub record AreTypedParts (kinds : List (List Kind)) (parts : Parts) (out : List Kind) : Type 0 where
@@ -41,7 +41,7 @@ pub record AreTypedParts (kinds : List (List Kind)) (parts : Parts) (out : List 
   pub opens : All (OpenGives after out) parts.open_lines
 
 -- the same of a right side, which is waited for on a stream of these kinds
-record IsTypedSource (kinds : List (List Kind)) (source : Source) (out : List Kind) : Type 0 where
+record IsTypedSource (kinds : List (List Kind)) (source : RightSide) (out : List Kind) : Type 0 where
   pub after : List (List Kind)
   pub size : length after ≡ source.next
   pub hidden : GrowInTurn kinds source.hidden after
@@ -51,7 +51,7 @@ opens_longer : (old new : List (List Kind)) (out : List Kind) (lines : List Open
 opens_longer old new out lines long all = All-weaker (OpenGives old out) (OpenGives new out) (λ line h. open_longer old new out line long h) lines all
 
 -- a wait on the right side behind each line of the left
-joined_typed : (wait : ℕ → Wait) → ((stream : ℕ) → (wait stream).stream ≡ stream) → (kinds : List (List Kind)) (left : Parts) (source : Source) (binding event out : List Kind)
+joined_typed : (wait : ℕ → Wait) → ((stream : ℕ) → (wait stream).stream ≡ stream) → (kinds : List (List Kind)) (left : Parts) (source : RightSide) (binding event out : List Kind)
     → (one : AreTypedParts kinds left binding) → IsTypedSource one.after source event → WaitGives (wait source.stream) binding event out → AreTypedParts kinds (waiting_on wait left source) out
 joined_typed wait is kinds left source binding event out one two gives = record {
   after = two.after;
@@ -84,7 +84,7 @@ module _ (count : ℕ) (kinds : ℕ → List Kind) where
   agrees_longer : (old new : List (List Kind)) → IsLonger old new → Agrees old → Agrees new
   agrees_longer old new long agrees stream less = get_longer old new stream (kinds stream) long (agrees stream less)
 
-  source_typed : (f : Ex) (next : ℕ) (lists : List (List Kind)) (out : List Kind) → Agrees lists → Gives f count kinds out → AreTypedParts lists (parts_of f next) out → IsTypedSource lists (source_of f (parts_of f next)) out
+  source_typed : (f : Ex) (next : ℕ) (lists : List (List Kind)) (out : List Kind) → Agrees lists → IsTypedOver f count kinds out → AreTypedParts lists (parts_of f next) out → IsTypedSource lists (right_side_of f (parts_of f next)) out
   source_typed (Read stream) next lists out agrees gives one = record {
     after = one.after;
     size = one.size;
@@ -94,7 +94,7 @@ module _ (count : ℕ) (kinds : ℕ → List Kind) where
   source_typed f next lists out agrees gives one = hidden_typed lists (parts_of f next) out (some_lines f next) one
 
   -- by induction on the expression
-  pub parts_typed : (e : Ex) (next : ℕ) (lists : List (List Kind)) (out : List Kind) → Agrees lists → length lists ≡ next → Gives e count kinds out → HasWidths kinds e → AreTypedParts lists (parts_of e next) out
+  pub parts_typed : (e : Ex) (next : ℕ) (lists : List (List Kind)) (out : List Kind) → Agrees lists → length lists ≡ next → IsTypedOver e count kinds out → HasWidths kinds e → AreTypedParts lists (parts_of e next) out
   parts_typed (Read stream) next lists out agrees size gives wide = record {
     after = lists;
     size = size;
@@ -139,12 +139,12 @@ module _ (count : ℕ) (kinds : ℕ → List Kind) where
       let one = parts_typed e next lists gives.0 agrees size gives.2 wide.0 in
       let still = agrees_longer lists one.after (longer lists (parts_of e next).hidden one.after one.hidden) agrees in
       let two = source_typed f (parts_of e next).next one.after gives.1 still gives.3 (parts_typed f (parts_of e next).next one.after gives.1 still one.size gives.3 wide.1) in
-      joined_typed (λ stream. record { stream = stream; choose = p; fold = None }) (λ stream. refl) lists (parts_of e next) (source_of f (parts_of f (parts_of e next).next)) gives.0 gives.1 out one two (gives.4, gives.5)
+      joined_typed (λ stream. record { stream = stream; choose = p; fold = None }) (λ stream. refl) lists (parts_of e next) (right_side_of f (parts_of f (parts_of e next).next)) gives.0 gives.1 out one two (gives.4, gives.5)
   parts_typed (Fold p q m e f) next lists out agrees size gives wide =
       let one = parts_typed e next lists out agrees size gives.1 wide.0 in
       let still = agrees_longer lists one.after (longer lists (parts_of e next).hidden one.after one.hidden) agrees in
       let two = source_typed f (parts_of e next).next one.after gives.0 still gives.2 (parts_typed f (parts_of e next).next one.after gives.0 still one.size gives.2 wide.1) in
-      joined_typed (λ stream. record { stream = stream; choose = p; fold = Some (record { on = q; set = m }) }) (λ stream. refl) lists (parts_of e next) (source_of f (parts_of f (parts_of e next).next)) out gives.0 out one two
+      joined_typed (λ stream. record { stream = stream; choose = p; fold = Some (record { on = q; set = m }) }) (λ stream. refl) lists (parts_of e next) (right_side_of f (parts_of f (parts_of e next).next)) out gives.0 out one two
       (gives.3, (gives.4, gives.5, refl))
 
   -- kinds that grow by the lines of an expression, up to the next number
@@ -154,7 +154,7 @@ module _ (count : ℕ) (kinds : ℕ → List Kind) where
     pub size : length all ≡ (parts_of e next).next
 
   -- the lines of a typed expression are typed in turn
-  pub split_typed : (e : Ex) (stream next : ℕ) (lists : List (List Kind)) (out : List Kind) → Agrees lists → length lists ≡ next → slice_get lists stream ≡ Some out → Gives e count kinds out → HasWidths kinds e → GrowBy lists e stream next
+  pub split_typed : (e : Ex) (stream next : ℕ) (lists : List (List Kind)) (out : List Kind) → Agrees lists → length lists ≡ next → slice_get lists stream ≡ Some out → IsTypedOver e count kinds out → HasWidths kinds e → GrowBy lists e stream next
   split_typed e stream next lists out agrees size there gives wide =
       let one = parts_typed e next lists out agrees size gives wide in record {
         all = one.after;

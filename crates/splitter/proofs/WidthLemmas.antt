@@ -11,7 +11,7 @@ use Rattle.semantics.specs.Expressions.{Ex, Read, Filter, Select, Union, Next, F
 use Rattle.semantics.specs.Kinds.{HasKinds, HaveKinds}
 use Rattle.semantics.specs.Reading.{ReadsOnly}
 use Rattle.semantics.proofs.KindLemmas.{kinds_length}
-use Rattle.semantics.specs.Typing.{Gives}
+use Rattle.semantics.specs.Typing.{IsTypedOver}
 use Rattle.scalar_expr.specs.Kinds.{sc_kind}
 use Rattle.algebra.proofs.TypingLemmas.{typed}
 use Rattle.automaton.proofs.TypingLemmas.{kinds_are}
@@ -20,7 +20,7 @@ use Rattle.splitter.specs.SourceWidths.{HasWidths, width_of}
 
 module _ (count : ℕ) (kinds : ℕ → List Kind) where
   -- the width of an expression is the count of its kinds
-  pub width_is : (e : Ex) (out : List Kind) → Gives e count kinds out → length out ≡ width_of kinds e
+  pub width_is : (e : Ex) (out : List Kind) → IsTypedOver e count kinds out → length out ≡ width_of kinds e
   width_is (Read stream) out h = ap length (sym h.1)
   width_is (Filter p e) out h = width_is e out h.0
   width_is (Select m e) out h = ap length (kinds_are m.parts h.0 None out h.2) ∙ length-map m.parts (λ s. sc_kind s h.0 None)
@@ -29,7 +29,7 @@ module _ (count : ℕ) (kinds : ℕ → List Kind) where
   width_is (Fold p q m e f) out h = width_is e out h.1
 
   -- over streams of their kinds an expression with widths meets them
-  pub wide_meets : (streams : Streams) → HaveKinds kinds count streams → (e : Ex) (out : List Kind) → Gives e count kinds out → HasWidths kinds e → MeetWidths e streams
+  pub wide_meets : (streams : Streams) → HaveKinds kinds count streams → (e : Ex) (out : List Kind) → IsTypedOver e count kinds out → HasWidths kinds e → MeetWidths e streams
   wide_meets streams all (Read stream) out h wide = tt
   wide_meets streams all (Filter p e) out h wide = wide_meets streams all e out h.0 wide
   wide_meets streams all (Select m e) out h wide = (

@@ -27,18 +27,18 @@ abbrev pub published_on : ℕ → Open → Line
 published_on out line = record { root = line.root; hops = line.hops; last = line.last; out = out }
 
 -- the stream on which the right side of a NEXT or FOLD is waited for, its hidden lines, and the next number
-pub record Source : Type 0 where
+pub record RightSide : Type 0 where
   pub stream : ℕ
   pub hidden : List Line
   pub next : ℕ
 
 -- a right side that reads a stream is waited for on it; another is published on the next hidden stream, behind those within it
-abbrev pub source_of : Ex → Parts → Source
-source_of (Read stream) right = record { stream = stream; hidden = []; next = right.next }
-source_of f right = record { stream = right.next; hidden = right.hidden ++ map (published_on right.next) right.open_lines; next = right.next + 1 }
+abbrev pub right_side_of : Ex → Parts → RightSide
+right_side_of (Read stream) right = record { stream = stream; hidden = []; next = right.next }
+right_side_of f right = record { stream = right.next; hidden = right.hidden ++ map (published_on right.next) right.open_lines; next = right.next + 1 }
 
 -- the left side's lines with a wait on the right side's stream
-abbrev pub waiting_on : (ℕ → Wait) → Parts → Source → Parts
+abbrev pub waiting_on : (ℕ → Wait) → Parts → RightSide → Parts
 waiting_on wait left source = record { open_lines = map (with_hop (wait source.stream)) left.open_lines; hidden = left.hidden ++ source.hidden; next = source.next }
 
 -- the lines of an expression, where hidden streams have the numbers from one on (CIDR 2007, resubscription; the numbers are this project's profile)
@@ -50,9 +50,9 @@ parts_of (Union e f) next =
     let left = parts_of e next in
     let right = parts_of f left.next in record { open_lines = left.open_lines ++ right.open_lines; hidden = left.hidden ++ right.hidden; next = right.next }
 parts_of (Next p e f) next =
-    let left = parts_of e next in waiting_on (λ stream. record { stream = stream; choose = p; fold = None }) left (source_of f (parts_of f left.next))
+    let left = parts_of e next in waiting_on (λ stream. record { stream = stream; choose = p; fold = None }) left (right_side_of f (parts_of f left.next))
 parts_of (Fold p q m e f) next =
-    let left = parts_of e next in waiting_on (λ stream. record { stream = stream; choose = p; fold = Some (record { on = q; set = m }) }) left (source_of f (parts_of f left.next))
+    let left = parts_of e next in waiting_on (λ stream. record { stream = stream; choose = p; fold = Some (record { on = q; set = m }) }) left (right_side_of f (parts_of f left.next))
 
 -- the lines that publish an expression on a stream: those of hidden streams stand before those that read them
 abbrev pub split_lines : Ex → ℕ → ℕ → List Line

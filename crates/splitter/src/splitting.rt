@@ -3,7 +3,7 @@ ghost use Rattle.std.specs.Prelude.{◌≡◌, ◌≢◌, ◌<◌, ◌≤◌, �
 ghost use Rattle.semantics.specs.Reading.{ReadsOnly};
 ghost use Rattle.algebra.specs.Views.{ex_of};
 ghost use Rattle.splitter.specs.Room.{HasRoom};
-ghost use Rattle.splitter.specs.Splitting.{parts_of, source_of, split_lines};
+ghost use Rattle.splitter.specs.Splitting.{parts_of, right_side_of, split_lines};
 
 use crate::namer::Namer;
 use crate::open::{Open, hop_each, keep_each, make_each, publish_each, read_line};
@@ -104,10 +104,10 @@ fn right_stream(
     hidden: &mut Lines,
 ) -> Result<StreamId, Memory>
     requires room { HasRoom (ex_of expr.now) namer.old }
-    requires last { (source_of (ex_of expr.now) (parts_of (ex_of expr.now) namer.old)).next ≤ 2 ^ 64 }
-    ensures value { IfOk result (λ stream. stream ≡ (source_of (ex_of expr.now) (parts_of (ex_of expr.now) namer.old)).stream) }
-    ensures hidden { OnOk result (hidden.new ≡ hidden.old ++ (source_of (ex_of expr.now) (parts_of (ex_of expr.now) namer.old)).hidden) }
-    ensures next { OnOk result (namer.new ≡ (source_of (ex_of expr.now) (parts_of (ex_of expr.now) namer.old)).next) }
+    requires last { (right_side_of (ex_of expr.now) (parts_of (ex_of expr.now) namer.old)).next ≤ 2 ^ 64 }
+    ensures value { IfOk result (λ stream. stream ≡ (right_side_of (ex_of expr.now) (parts_of (ex_of expr.now) namer.old)).stream) }
+    ensures hidden { OnOk result (hidden.new ≡ hidden.old ++ (right_side_of (ex_of expr.now) (parts_of (ex_of expr.now) namer.old)).hidden) }
+    ensures next { OnOk result (namer.new ≡ (right_side_of (ex_of expr.now) (parts_of (ex_of expr.now) namer.old)).next) }
 {
     match expr {
         Expr::Read(stream) => Ok(*stream),

@@ -11,7 +11,7 @@ use Rattle.std.proofs.lemmas.Bool.Decides.{nat_tests}
 use Rattle.std.proofs.lemmas.List.Elements.{All-head, All-tail}
 use Rattle.std.proofs.lemmas.Cmp.{nat_cmp_total}
 use Rattle.std.proofs.lemmas.List.Kept.{IsStrictlySortedBy-dedup, IsStrictlySortedBy-filter}
-use Rattle.event_types.specs.Tuple.{Row}
+use Rattle.event_types.specs.Tuple.{TupleView}
 use Rattle.static_index.specs.Conditions.{Ascends, Condition, ids_of}
 use Rattle.static_index.specs.Narrowing.{passing}
 use Rattle.static_index.specs.Table.{asked_ids, condition_of, conditions_of, entry_meets, holds_as, meets}
@@ -41,7 +41,7 @@ at_itself x z same = grind (arith, nat_tests)
 not_above : (x z : ℕ) → nat_cmp x z ≡ Less → is_at (nat_cmp z) x ≡ false
 not_above x z less = grind (arith, nat_tests)
 
-module _ (asked : Asked) (event : Row) where
+module _ (asked : Asked) (event : TupleView) where
   abbrev pub test : Condition → Bool
   test condition = holds_as asked event condition.parts
 

@@ -4,19 +4,19 @@ use Rattle.std.specs.Prelude.{Option, Some, None, slice_get}
 use Rattle.std.specs.Option.{option_map}
 use Rattle.std.proofs.lemmas.Bool.{cases_lt}
 use Rattle.std.proofs.lemmas.Option.{get_or_from_slice_get}
-use Rattle.event_types.specs.Tuple.{Row}
+use Rattle.event_types.specs.Tuple.{TupleView}
 use Rattle.static_index.specs.Choosing.{rank}
 use Rattle.static_index.specs.FixedParts.{all_hold, first_holds, holds_if_any, part_holds}
 use Rattle.static_index.specs.Headings.{MeetsAny, Part}
 use Rattle.static_index.specs.declared.fixed_part.FixedPart.{FixedPart}
 
 -- where the first of parts holds, an event meets it
-pub first_given : (event : Row) (parts : List FixedPart) → first_holds event parts ≡ true → MeetsAny event (option_map Part (slice_get parts 0))
+pub first_given : (event : TupleView) (parts : List FixedPart) → first_holds event parts ≡ true → MeetsAny event (option_map Part (slice_get parts 0))
 first_given event [] e = tt
 first_given event (p ∷ ps) e = e
 
 -- a part of parts that all hold, by induction on the parts
-pub part_given : (event : Row) (parts : List FixedPart) (place : ℕ) → all_hold event parts ≡ true → holds_if_any event (slice_get parts place) ≡ true
+pub part_given : (event : TupleView) (parts : List FixedPart) (place : ℕ) → all_hold event parts ≡ true → holds_if_any event (slice_get parts place) ≡ true
 part_given event [] place e = refl
 part_given event (p ∷ ps) place e = go (part_holds event p) refl e place (part_given event ps)
   where
@@ -27,11 +27,11 @@ part_given event (p ∷ ps) place e = go (part_holds event p) refl e place (part
     go false is e place rest = absurd (cc)
 
 -- an event meets a part that holds, if there is one
-met_if_any : (event : Row) (part : Option FixedPart) → holds_if_any event part ≡ true → MeetsAny event (option_map Part part)
+met_if_any : (event : TupleView) (part : Option FixedPart) → holds_if_any event part ≡ true → MeetsAny event (option_map Part part)
 met_if_any event None e = tt
 met_if_any event (Some part) e = e
 
-pub all_given : (event : Row) (parts : List FixedPart) (place : ℕ) → all_hold event parts ≡ true → MeetsAny event (option_map Part (slice_get parts place))
+pub all_given : (event : TupleView) (parts : List FixedPart) (place : ℕ) → all_hold event parts ≡ true → MeetsAny event (option_map Part (slice_get parts place))
 all_given event parts place e = met_if_any event (slice_get parts place) (part_given event parts place e)
 
 -- the better of the best so far and one more

@@ -2,7 +2,7 @@
 use Rattle.std.proofs.Common.{◌≡◌, ◌∙◌, refl, sym, ℕ, ℤ, Bool, true, false, ◌&&◌, List, [], ◌∷◌}
 use Rattle.std.specs.Prelude.{Option, Some, None}
 use Rattle.std.specs.List.{cons_option}
-use Rattle.event_types.specs.Tuple.{Row}
+use Rattle.event_types.specs.Tuple.{TupleView}
 use Rattle.event_types.specs.declared.comparison.Cmp.{Cmp}
 use Rattle.event_types.specs.declared.comparison.Cmp.TheVariants as cmp
 use Rattle.event_types.specs.declared.value.Value.{Value}
@@ -16,7 +16,7 @@ use Rattle.static_index.specs.FixedParts.{all_hold, first_holds, fixed_part_of, 
 use Rattle.static_index.specs.declared.fixed_part.FixedPart.{FixedPart}
 
 -- each class of comparison
-fixed_given : (event : Row) (place : ℕ) (c : Cmp) (v : Value) → is_met c (order_of (value_at event place) v) ≡ true → holds_if_any event (fixed_part_of (fixed place c v)) ≡ true
+fixed_given : (event : TupleView) (place : ℕ) (c : Cmp) (v : Value) → is_met c (order_of (value_at event place) v) ≡ true → holds_if_any event (fixed_part_of (fixed place c v)) ≡ true
 fixed_given event place cmp.Eq v e = e
 fixed_given event place cmp.Ne v e = refl
 fixed_given event place cmp.Lt v e = e
@@ -24,17 +24,17 @@ fixed_given event place cmp.Le v e = e
 fixed_given event place cmp.Gt v e = e
 fixed_given event place cmp.Ge v e = e
 
-keyed_given : (event : Row) (place : ℕ) (c : Cmp) (bound : ℕ) → holds_if_any event (fixed_part_of (keyed place c bound)) ≡ true
+keyed_given : (event : TupleView) (place : ℕ) (c : Cmp) (bound : ℕ) → holds_if_any event (fixed_part_of (keyed place c bound)) ≡ true
 keyed_given event place cmp.Eq bound = refl
 keyed_given event place c bound = refl
 
-bounded_given : (event : Row) (c : Cmp) (most : ℤ) → holds_if_any event (fixed_part_of (bounded c most)) ≡ true
+bounded_given : (event : TupleView) (c : Cmp) (most : ℤ) → holds_if_any event (fixed_part_of (bounded c most)) ≡ true
 bounded_given event cmp.Lt most = refl
 bounded_given event cmp.Le most = refl
 bounded_given event c most = refl
 
 -- a part that holds, holds as far as it is fixed
-part_given : (p : Pr) (event : Row) (binding : Option Row) → truth p event binding ≡ true → holds_if_any event (fixed_part_of (class_of p)) ≡ true
+part_given : (p : Pr) (event : TupleView) (binding : Option TupleView) → truth p event binding ≡ true → holds_if_any event (fixed_part_of (class_of p)) ≡ true
 part_given (Test (Event place) c (Lit v)) event binding e = fixed_given event place c v e
 part_given (Test (Lit v) c (Event place)) event binding e = fixed_given event place (exchanged c) v (sym (turned_met c (value_at event place) v) ∙ e)
 part_given (Test (Event place) c (Binding bound)) event binding e = keyed_given event place c bound
@@ -43,7 +43,7 @@ part_given (Test Dur c (Lit (value.Int most))) event binding e = bounded_given e
 part_given p event binding e = refl
 
 -- so do all of them, by induction on the parts
-pub holding_is_matched : (condition : List Pr) (event : Row) (binding : Option Row) → all_true condition event binding ≡ true → all_hold event (fixed_parts condition) ≡ true
+pub holding_is_matched : (condition : List Pr) (event : TupleView) (binding : Option TupleView) → all_true condition event binding ≡ true → all_hold event (fixed_parts condition) ≡ true
 holding_is_matched [] event binding e = refl
 holding_is_matched (p ∷ ps) event binding e = go (truth p event binding) refl e (holding_is_matched ps event binding)
   where
@@ -55,7 +55,7 @@ holding_is_matched (p ∷ ps) event binding e = go (truth p event binding) refl 
     go true is all rest = join (fixed_part_of (class_of p)) (part_given p event binding is) (rest all)
     go false is all rest = absurd (cc)
 
-pub matched_is_looked_up : (event : Row) (parts : List FixedPart) → all_hold event parts ≡ true → first_holds event parts ≡ true
+pub matched_is_looked_up : (event : TupleView) (parts : List FixedPart) → all_hold event parts ≡ true → first_holds event parts ≡ true
 matched_is_looked_up event [] e = refl
 matched_is_looked_up event (p ∷ ps) e = go (part_holds event p) e
   where

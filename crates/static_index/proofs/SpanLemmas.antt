@@ -7,7 +7,7 @@ use Rattle.std.specs.Ordering.{nat_cmp}
 use Rattle.std.proofs.lemmas.Int.{ints}
 use Rattle.std.proofs.lemmas.List.Elements.{Contains-push_cases}
 use Rattle.std.proofs.lemmas.Map.Views.{Contains-from_lookup}
-use Rattle.event_types.specs.Tuple.{Row}
+use Rattle.event_types.specs.Tuple.{TupleView}
 use Rattle.event_types.specs.declared.value.Value.{Value}
 use Rattle.semantics.specs.Values.{value_at}
 use Rattle.event_types.specs.declared.value.Value.TheVariants.{Int, Over, Text}
@@ -57,17 +57,17 @@ up_to_more high more (Int x) le is = omega (arith, ints, le, is)
 up_to_more high more v le is = is
 
 -- a value between two ends lies in their span
-pub lies_between : (low high : ℤ) (reach : ℕ) (event : Row) (attr other : ℕ) → attr ≡ other → high ≤ℤ (low +ℤ pos reach) → IsFrom low (value_at event attr) → IsUpTo high (value_at event other) → LiesIn (record { attr = attr; low = low; reach = reach }) (value_at event attr)
+pub lies_between : (low high : ℤ) (reach : ℕ) (event : TupleView) (attr other : ℕ) → attr ≡ other → high ≤ℤ (low +ℤ pos reach) → IsFrom low (value_at event attr) → IsUpTo high (value_at event other) → LiesIn (record { attr = attr; low = low; reach = reach }) (value_at event attr)
 lies_between low high reach event attr other same le from up_to =
     (from, up_to_more high (low +ℤ pos reach) (value_at event attr) le (subst (λ (k : ℕ). IsUpTo high (value_at event k)) (sym same) up_to))
 
 -- a part at a place holds where all do
-holds_at : (event : Row) (parts : List FixedPart) (place : ℕ) (part : FixedPart) → slice_get parts place ≡ Some part → all_hold event parts ≡ true → part_holds event part ≡ true
+holds_at : (event : TupleView) (parts : List FixedPart) (place : ℕ) (part : FixedPart) → slice_get parts place ≡ Some part → all_hold event parts ≡ true → part_holds event part ≡ true
 holds_at event parts place part at all = subst (λ (o : Option FixedPart). holds_if_any event o ≡ true) at (part_given event parts place all)
 
 -- the span of two parts is one of all of them
 pub within_all : (parts : List FixedPart) (low high : ℕ) (x y : FixedPart) (o : Option Span) → slice_get parts low ≡ Some x → slice_get parts high ≡ Some y
-    → IfSome o (λ span. (event : Row) → part_holds event x ≡ true → part_holds event y ≡ true → LiesIn span (value_at event span.attr)) → IfSome o (LiesWithin parts)
+    → IfSome o (λ span. (event : TupleView) → part_holds event x ≡ true → part_holds event y ≡ true → LiesIn span (value_at event span.attr)) → IfSome o (LiesWithin parts)
 within_all parts low high x y None at_low at_high lies = tt
 within_all parts low high x y (Some span) at_low at_high lies = λ event all. lies event (holds_at event parts low x at_low all) (holds_at event parts high y at_high all)
 

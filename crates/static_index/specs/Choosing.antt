@@ -1,6 +1,6 @@
 -- Under what a condition is found. No public clause cites it.
 use Rattle.std.specs.Prelude.{◌≡◌, ℕ, true, ◌≤◌, ◌<◌, List, length, slice_index_or}
-use Rattle.event_types.specs.Tuple.{Row}
+use Rattle.event_types.specs.Tuple.{TupleView}
 use Rattle.event_types.specs.declared.comparison.Cmp.{Cmp}
 use Rattle.event_types.specs.declared.comparison.Cmp.TheVariants as cmp
 use Rattle.semantics.specs.Values.{value_at}
@@ -14,11 +14,11 @@ use Rattle.static_index.specs.declared.span.Span as span
 
 -- where all parts hold for an event, it meets what is chosen
 abbrev pub Covers : List FixedPart → Choice → Type 0
-Covers parts choice = (event : Row) → all_hold event parts ≡ true → MeetsAny event (label_of parts choice)
+Covers parts choice = (event : TupleView) → all_hold event parts ≡ true → MeetsAny event (label_of parts choice)
 
 -- the same of a span
 abbrev pub LiesWithin : List FixedPart → span.Span → Type 0
-LiesWithin parts span = (event : Row) → all_hold event parts ≡ true → LiesIn span (value_at event span.attr)
+LiesWithin parts span = (event : TupleView) → all_hold event parts ≡ true → LiesIn span (value_at event span.attr)
 
 -- an equality comes before a range, and a range before `<>`
 abbrev pub rank : Cmp → ℕ

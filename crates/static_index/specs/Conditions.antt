@@ -3,7 +3,7 @@ use Rattle.std.specs.Prelude.{ℕ, not, ◌==◌, nat_lt, if◌then◌else◌, L
 use Rattle.std.specs.List.{filter}
 use Rattle.std.specs.Ordering.{nat_cmp}
 use Rattle.std.specs.List.Sorted.{IsStrictlySortedBy}
-use Rattle.event_types.specs.Tuple.{Row}
+use Rattle.event_types.specs.Tuple.{TupleView}
 use Rattle.static_index.specs.declared.fixed_part.FixedPart.{FixedPart}
 use Rattle.static_index.specs.FixedParts.{all_hold, first_holds}
 
@@ -25,11 +25,11 @@ abbrev pub Ascends : List ℕ → Type 0
 Ascends ids = IsStrictlySortedBy nat_cmp ids
 
 -- the ids of the conditions whose first fixed part holds for an event, or that have none
-abbrev pub looked_up : Row → List Condition → List ℕ
+abbrev pub looked_up : TupleView → List Condition → List ℕ
 looked_up event conditions = ids_of (filter (λ condition. first_holds event condition.parts) conditions)
 
 -- the ids of the conditions whose fixed parts all hold for an event
-abbrev pub matched : Row → List Condition → List ℕ
+abbrev pub matched : TupleView → List Condition → List ℕ
 matched event conditions = ids_of (filter (λ condition. all_hold event condition.parts) conditions)
 
 -- the conditions with one more, which stands before the first of a greater id

@@ -3,7 +3,7 @@ use Rattle.std.specs.Prelude.{◌≡◌, ◌≢◌, ℕ, true, List, Contains}
 use Rattle.std.specs.BTreeMap.{BTreeMap, IsOrdered}
 use Rattle.std.specs.List.{All}
 use Rattle.std.specs.Ordering.{nat_cmp}
-use Rattle.event_types.specs.Tuple.{Row}
+use Rattle.event_types.specs.Tuple.{TupleView}
 use Rattle.static_index.specs.Choosing.{Covers, IsBest}
 use Rattle.static_index.specs.Headings.{label_of}
 use Rattle.static_index.specs.Table.{holds_as}
@@ -24,7 +24,7 @@ abbrev pub KeepsOthers : ℕ → Filing → Filing → Type 0
 KeepsOthers id old new = (n : ℕ) (e : Entry) → n ≢ id → IsFiled old n e → IsFiled new n e
 
 -- each id is found whose parts that are asked hold for an event
-abbrev pub FindsAsked : Asked → Row → Filing → List ℕ → Type 0
+abbrev pub FindsAsked : Asked → TupleView → Filing → List ℕ → Type 0
 FindsAsked asked event filing found = (n : ℕ) (e : Entry) → IsFiled filing n e → holds_as asked event e.parts ≡ true → Contains found n
 
 -- what an index keeps: its entries stand in order, each is filed, and none under what comes after another of its parts

@@ -1,7 +1,7 @@
 -- What ids are filed under, and when an event meets it. No public clause cites it.
 use Rattle.std.specs.Prelude.{◌≡◌, ℕ, true, List, Option, Some, None, slice_get}
 use Rattle.std.specs.Option.{option_map}
-use Rattle.event_types.specs.Tuple.{Row}
+use Rattle.event_types.specs.Tuple.{TupleView}
 use Rattle.event_types.specs.declared.value.Value.{Value}
 use Rattle.semantics.specs.Truth.{is_met, order_of}
 use Rattle.semantics.specs.Values.{value_at}
@@ -34,7 +34,7 @@ IsMetBy value (Part part) = is_met part.cmp (order_of value part.lit) ≡ true
 IsMetBy value (Within span) = LiesIn span value
 
 -- an event's attribute does, where there is a label
-abbrev pub MeetsAny : Row → Option Label → Type 0
+abbrev pub MeetsAny : TupleView → Option Label → Type 0
 MeetsAny event None = Unit {0}
 MeetsAny event (Some label) = IsMetBy (value_at event (attr_of label)) label
 

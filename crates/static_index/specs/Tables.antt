@@ -2,7 +2,7 @@
 use Rattle.std.specs.Prelude.{ℕ, List, [], Option, Some, None, Contains}
 use Rattle.std.specs.BTreeMap.{get}
 use Rattle.std.specs.Ordering.{nat_cmp}
-use Rattle.event_types.specs.Tuple.{Row}
+use Rattle.event_types.specs.Tuple.{TupleView}
 use Rattle.event_types.specs.declared.comparison.Cmp.TheVariants.{Eq}
 use Rattle.static_index.specs.Columns.{ids_under}
 use Rattle.static_index.specs.Headings.{Label, MeetsAny, Part, attr_of}
@@ -21,7 +21,7 @@ filed_ids tables None = tables.rest
 filed_ids tables (Some label) = ids_in_column (get nat_cmp tables.columns (attr_of label)) label
 
 -- each id under a label that an event meets, and the rest, is found
-abbrev pub FindsFiled : Row → Tables → List ℕ → Type 0
+abbrev pub FindsFiled : TupleView → Tables → List ℕ → Type 0
 FindsFiled event tables found = (label : Option Label) (n : ℕ) → MeetsAny event label → Contains (filed_ids tables label) n → Contains found n
 
 -- equality with the literal of a part

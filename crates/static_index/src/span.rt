@@ -1,6 +1,6 @@
 //! Ranges of numbers that are bounded on both sides.
 ghost use Rattle.std.specs.Prelude.{◌≡◌, true, pos, ◌+ℤ◌, ◌≤ℤ◌, IfSome};
-ghost use Rattle.event_types.specs.Tuple.{Row};
+ghost use Rattle.event_types.specs.Tuple.{TupleView};
 ghost use Rattle.semantics.specs.Values.{value_at};
 ghost use Rattle.static_index.specs.FixedParts.{part_holds};
 ghost use Rattle.static_index.specs.Spans.{IsFrom, IsUpTo, LiesIn};
@@ -19,7 +19,7 @@ pub(crate) struct Span {
 
 // The span of two parts, where they are the low end and the high end of one range of numbers.
 pub(crate) fn span_between(low: &FixedPart, high: &FixedPart) -> Option<Span>
-    ensures { IfSome result (λ span. (event : Row) → part_holds event low.now ≡ true → part_holds event high.now ≡ true → LiesIn span (value_at event span.attr)) }
+    ensures { IfSome result (λ span. (event : TupleView) → part_holds event low.now ≡ true → part_holds event high.now ≡ true → LiesIn span (value_at event span.attr)) }
 {
     if low.attr != high.attr {
         return None;
@@ -35,7 +35,7 @@ pub(crate) fn span_between(low: &FixedPart, high: &FixedPart) -> Option<Span>
 
 // The number that an attribute is to be no less than, if a part asks for one.
 fn low_end(part: &FixedPart) -> Option<i128>
-    ensures { IfSome result (λ low. (event : Row) → part_holds event part.now ≡ true → IsFrom low (value_at event part.now.attr)) }
+    ensures { IfSome result (λ low. (event : TupleView) → part_holds event part.now ≡ true → IsFrom low (value_at event part.now.attr)) }
 {
     match (part.cmp, &part.lit) {
         (Cmp::Gt | Cmp::Ge, Value::Int(low)) => Some(*low),
@@ -45,7 +45,7 @@ fn low_end(part: &FixedPart) -> Option<i128>
 
 // The number that an attribute is to be at most, if a part asks for one.
 fn high_end(part: &FixedPart) -> Option<i128>
-    ensures { IfSome result (λ high. (event : Row) → part_holds event part.now ≡ true → IsUpTo high (value_at event part.now.attr)) }
+    ensures { IfSome result (λ high. (event : TupleView) → part_holds event part.now ≡ true → IsUpTo high (value_at event part.now.attr)) }
 {
     match (part.cmp, &part.lit) {
         (Cmp::Lt | Cmp::Le, Value::Int(high)) => Some(*high),

@@ -28,8 +28,8 @@ abbrev pub with_free : List Attr → Attr → List Attr
 with_free attrs attr = attrs ++ record { name = free_name attrs attr.name; kind = attr.kind } ∷ []
 
 -- the left attributes, then each right one under a name that is free among those before it
-abbrev pub joined : List Attr → List Attr → List Attr
-joined left right = fold with_free left right
+abbrev pub joined_schema : List Attr → List Attr → List Attr
+joined_schema left right = fold with_free left right
 
 -- a number of at least 2 makes the name free, and no smaller one of at least 2 does
 pub record IsLeastSuffix (attrs : List Attr) (name : List ℕ) (number : ℕ) : Type 0 where

@@ -1,7 +1,7 @@
 //! The schema of NEXT.
 ghost use Rattle.std.specs.Prelude.{◌≡◌, ◌+◌, ◌<◌, ◌↔◌, length, string_bytes, IfOk, IfErr, OnOk};
 ghost use Rattle.stream_schema.specs.Faults.{Tells};
-ghost use Rattle.stream_schema.specs.Joining.{IsLeastSuffix, joined, suffix_of, suffixed, with_free};
+ghost use Rattle.stream_schema.specs.Joining.{IsLeastSuffix, joined_schema, suffix_of, suffixed, with_free};
 ghost use Rattle.stream_schema.specs.Schema.{names_of};
 
 use crate::fault::SchemaFault;
@@ -13,7 +13,7 @@ use std::alloc::Global;
 /// is already there gets the suffix `_n` with the least `n` of at least 2 that makes it free:
 /// `(a)` with `(a, a_2)` gives `(a, a_2, a_2_2)`.
 pub fn join(alloc: Global, left: &Schema, right: &Schema) -> Result<Schema, SchemaFault>
-    ensures ok { IfOk result (λ schema. schema ≡ joined left.now right.now) }
+    ensures ok { IfOk result (λ schema. schema ≡ joined_schema left.now right.now) }
     ensures too_wide { (result ≡ Err (SchemaFault.TooWide (length left.now + length right.now))) ↔ (256 < length left.now + length right.now) }
     ensures err { IfErr result (Tells (length left.now + length right.now)) }
 {

@@ -2,10 +2,10 @@
 ghost use Rattle.std.specs.Prelude.{◌≡◌, ◌≢◌, ◌<◌, ◌≤◌, ◌-◌, ◌↔◌, ℕ, [], IfNone, IfOk, IfSome, IsTrue, OnErr, OnOk, Some, false, length, take};
 ghost use Rattle.automaton.specs.Changes.{AddsEnd, AddsHop, AddsRoot, RemovesEnd, RemovesState, hop_in, without_edge, without_end, without_number, without_numbered};
 ghost use Rattle.automaton.specs.Growing.{edged, placed, unedged, without_last};
-ghost use Rattle.automaton.specs.States.{Net, before_at, edges_at, entry_at, is_used};
-ghost use Rattle.automaton.specs.declared.network.Entry.TheVariants.{Waiting};
+ghost use Rattle.automaton.specs.States.{Net, before_at, edges_at, entrance_at, is_used};
+ghost use Rattle.automaton.specs.declared.network.Entrance.TheVariants.{Waiting};
 
-use super::{End, Ends, Entry, Network, State};
+use super::{End, Ends, Entrance, Network, State};
 use crate::line::Hop;
 use crate::plain::{entered, put_edge, put_end};
 use event_types::{List, Memory, Numbers, StreamId};
@@ -28,17 +28,17 @@ impl Network {
         requires { IsTrue (is_used self.now state) }
         ensures { result ≡ before_at self.now state }
     {
-        match &self.state(state).entry {
-            Entry::Root(_) => None,
-            Entry::Waiting { from, .. } => Some(*from),
+        match &self.state(state).entrance {
+            Entrance::Root(_) => None,
+            Entrance::Waiting { from, .. } => Some(*from),
         }
     }
 
     /// The number of a state that is entered from this one through the hop. Takes no memory.
     pub fn next(&self, state: usize, hop: &Hop) -> Option<usize>
         requires { IsTrue (is_used self.now state) }
-        ensures found { IfSome result (λ next. entry_at self.now next ≡ Some (Waiting state hop.now)) }
-        ensures absent { IfNone result ((next : ℕ) → entry_at self.now next ≢ Some (Waiting state hop.now)) }
+        ensures found { IfSome result (λ next. entrance_at self.now next ≡ Some (Waiting state hop.now)) }
+        ensures absent { IfNone result ((next : ℕ) → entrance_at self.now next ≢ Some (Waiting state hop.now)) }
     {
         for edge in self.edges(state).as_slice() {
             if is_entered(&self.slots[*edge], hop) {
@@ -55,7 +55,7 @@ impl Network {
         ensures added { OnOk result (AddsRoot number stream self.old self.new) }
         ensures kept { OnErr result (self.new ≡ self.old) }
     {
-        let state = entered(alloc, Entry::Root(stream));
+        let state = entered(alloc, Entrance::Root(stream));
         put_slot(&mut self.slots, number, state)?;
         self.states += 1;
         Ok(())
@@ -76,7 +76,7 @@ impl Network {
         ensures kept { OnErr result (self.new ≡ self.old) }
     {
         let hop = hop.copy(alloc)?;
-        let state = entered(alloc, Entry::Waiting { from: before, hop });
+        let state = entered(alloc, Entrance::Waiting { from: before, hop });
         put_hop(&mut self.slots, number, before, state)?;
         self.states += 1;
         Ok(())
@@ -126,9 +126,9 @@ fn is_entered(slot: &Option<State>, hop: &Hop) -> bool
     ensures { IsTrue result ↔ (hop_in slot.now ≡ Some hop.now) }
 {
     match slot {
-        Some(state) => match &state.entry {
-            Entry::Root(_) => false,
-            Entry::Waiting { hop: own, .. } => own.is_same(hop),
+        Some(state) => match &state.entrance {
+            Entrance::Root(_) => false,
+            Entrance::Waiting { hop: own, .. } => own.is_same(hop),
         },
         None => false,
     }

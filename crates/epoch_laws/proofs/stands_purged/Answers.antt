@@ -1,4 +1,4 @@
-use Rattle.epoch_laws.proofs.Stands as lemma
+use Rattle.epoch_laws.proofs.StoresStandFor as lemma
 use Rattle.epoch_laws.proofs.stands_purged.Goals as goal
 
 pub returns : goal.returns

@@ -1,5 +1,5 @@
 use Rattle.std.proofs.Common.{◌∙◌, ◌<◌, ◌-◌, arith, subst, sym}
-use Rattle.event_types.specs.Tuple.{Row}
+use Rattle.event_types.specs.Tuple.{TupleView}
 use Rattle.algebra.specs.Suits.{SuitsRuns}
 use Rattle.algebra.proofs.FoldLemmas.{SuitsBranch, suits_branches}
 use Rattle.scalar_expr.proofs.ListLemmas.{All_read}
@@ -9,7 +9,7 @@ use Rattle.scalar_expr.proofs.RunsLemmas.{goers_start_later}
 -- the event is a goer, which starts after the binding was detected
 pub rebind-requires-clause-later : goal.rebind-requires-clause-later
 rebind-requires-clause-later g t c =
-    All_read (λ (r : Row). c.args.binding.now.at < r.from) _ _ (c.as_slice-event-items.ensures ∙ c.in_ok-found.ensures)
+    All_read (λ (r : TupleView). c.args.binding.now.at < r.from) _ _ (c.as_slice-event-items.ensures ∙ c.in_ok-found.ensures)
     (goers_start_later c.args.choose.now c.args.on.now c.args.tuples.now c.args.binding.now) c.loop-event.event-index c.event-item.result (omega arith) c.event-item.is
 
 -- the scalars fit each goer
@@ -27,4 +27,4 @@ add_runs-requires g t c κs within =
     let suits = suits_branches c.args.most c.args.choose.now c.args.on.now c.args.projection.now.parts c.args.tuples.now c.args.binding.now some c.requires in
     let one = All_read (SuitsBranch (c.args.most - 1) c.args.choose.now c.args.on.now c.args.projection.now.parts c.args.tuples.now c.args.binding.now) _ _
     (c.as_slice-event-items.ensures ∙ c.in_ok-found.ensures) suits.2 c.loop-event.event-index c.event-item.result (omega arith) c.event-item.is in
-    (omega arith, (within, subst (λ (b : Row). SuitsRuns (c.args.most - 1) c.args.choose.now c.args.on.now c.args.projection.now.parts c.args.tuples.now b) (sym c.in_ok-new_binding.ensures) one.1))
+    (omega arith, (within, subst (λ (b : TupleView). SuitsRuns (c.args.most - 1) c.args.choose.now c.args.on.now c.args.projection.now.parts c.args.tuples.now b) (sym c.in_ok-new_binding.ensures) one.1))

@@ -3,14 +3,14 @@ use Rattle.std.specs.Prelude.{Some, slice_get}
 use Rattle.std.proofs.lemmas.Result.{err_from_is_err_and}
 use Rattle.cel_grammar.specs.Views.{statement_of}
 use Rattle.stream_schema.specs.Streams.{Entry}
-use Rattle.catalogue.specs.Typing.{Declare, none}
+use Rattle.catalogue.specs.Typing.{FileDeclares, none}
 use Rattle.catalogue.proofs.DeclareLemmas.{Declare-more, absent_at, tells_declared}
 use Rattle.catalogue.proofs.PlaceLemmas.{slice_get-map, slice_get-within}
 use Rattle.catalogue.proofs.declaring.declare_all.Goals as goal
 
 -- no statement was looked at
 pub loop-place-init : goal.loop-place-init
-loop-place-init c = subst (λ (streams : List Entry). Declare [] streams) (sym c.new-streams.ensures) none
+loop-place-init c = subst (λ (streams : List Entry). FileDeclares [] streams) (sym c.new-streams.ensures) none
 
 -- the name of the statement is new
 pub declare_one-requires : goal.declare_one-requires

@@ -27,8 +27,8 @@ returns-clause-accepted g c =
       files = search rules;
       silent = record { written = search rules; lines = search rules };
     } in
-    IfOk-weaker c.take_queries.result (λ catalogue. HasRead (judged_of catalogue) mid (told c.take_queries.new.host)) (λ catalogue. HasAccepted queries (judged_of catalogue) old (told c.take_queries.new.host))
-    (λ catalogue accepts. queries_accepted queries (judged_of catalogue) old mid (told c.take_queries.new.host) has c.take_queries.ensures.same accepts) c.take_queries.ensures.accepted
+    IfOk-weaker c.read_queries.result (λ catalogue. HasRead (judged_of catalogue) mid (told c.read_queries.new.host)) (λ catalogue. HasAccepted queries (judged_of catalogue) old (told c.read_queries.new.host))
+    (λ catalogue accepts. queries_accepted queries (judged_of catalogue) old mid (told c.read_queries.new.host) has c.read_queries.ensures.same accepts) c.read_queries.ensures.accepted
 
 -- the queries are attached, and weren't accepted
 pub returns-clause-fails : goal.returns-clause-fails
@@ -49,8 +49,8 @@ returns-clause-fails g c =
       files = search rules;
       silent = record { written = search rules; lines = search rules };
     } in
-    IfErr-weaker c.take_queries.result (QueriesFail mid (told c.take_queries.new.host)) (AreNotAccepted queries old (told c.take_queries.new.host))
-    (λ status fails. queries_fail queries old mid (told c.take_queries.new.host) status has c.take_queries.ensures.same fails) c.take_queries.ensures.fails
+    IfErr-weaker c.read_queries.result (QueriesFail mid (told c.read_queries.new.host)) (AreNotAccepted queries old (told c.read_queries.new.host))
+    (λ status fails. queries_fail queries old mid (told c.read_queries.new.host) status has c.read_queries.ensures.same fails) c.read_queries.ensures.fails
 
 -- the queries couldn't be attached
 pub returns-then-is_err-clause-blames : goal.returns-then-is_err-clause-blames

@@ -27,10 +27,10 @@ returns-in_default-clause-blames g c =
 pub returns-clause-outcome : goal.returns-clause-outcome
 returns-clause-outcome g c =
     let told = g.H.Host.told in
-    c.hear_events.ensures.outcome c.args.queries.now (told c.args.host.now)
+    c.attach_and_read.ensures.outcome c.args.queries.now (told c.args.host.now)
     (subst (λ (k : Catalogued). HasAccepted c.args.queries.now (judged_of k) (told c.args.host.now) (told c.accept.new.host)) (sym c.in-Ok-make.ensures.queries) c.in-Ok.ensures.accepted)
 
 pub returns-clause-blames : goal.returns-clause-blames
 returns-clause-blames g c =
     let accepted = c.in-Ok.ensures.accepted in
-    blames_after c.hear_events.result (record { attach = accepted.attach_faults; read = accepted.read_faults; write = accepted.write_faults }) c.hear_events.ensures.blames
+    blames_after c.attach_and_read.result (record { attach = accepted.attach_faults; read = accepted.read_faults; write = accepted.write_faults }) c.attach_and_read.ensures.blames

@@ -1,5 +1,5 @@
 use Rattle.std.proofs.Common.{sym, subst, ◌+◌, List}
-use Rattle.event_types.specs.Tuple.{Row}
+use Rattle.event_types.specs.Tuple.{TupleView}
 use Rattle.semantics.specs.Denotation.{streams_of}
 use Rattle.epoch_laws.specs.Closing.{IsEpoch}
 use Rattle.epoch_draft.specs.Deriving.{AreOrdered, news_of}
@@ -14,7 +14,7 @@ returns-clause-closed g c =
     let stores = c.args.stores.now in
     let opened = c.args.opened.now in
     record {
-      epoch = subst (λ (made : List (List Row)). IsEpoch net order (held stores) (streams_of opened) (news_of opened made order)) (sym c.settle.ensures.made) c.in_ok-draw.ensures.drawn.epoch;
-      ordered = subst (λ (made : List (List Row)). AreOrdered made order) (sym c.settle.ensures.made) c.in_ok-draw.ensures.drawn.ordered;
-      closed = subst (λ (made : List (List Row)). AreClosed (c.args.time + 1) net (news_of opened made order) stores c.settle.new.stores) (sym c.settle.ensures.made) c.settle.ensures.closed;
+      epoch = subst (λ (made : List (List TupleView)). IsEpoch net order (held stores) (streams_of opened) (news_of opened made order)) (sym c.settle.ensures.made) c.in_ok-draw.ensures.drawn.epoch;
+      ordered = subst (λ (made : List (List TupleView)). AreOrdered made order) (sym c.settle.ensures.made) c.in_ok-draw.ensures.drawn.ordered;
+      closed = subst (λ (made : List (List TupleView)). AreClosed (c.args.time + 1) net (news_of opened made order) stores c.settle.new.stores) (sym c.settle.ensures.made) c.settle.ensures.closed;
     }

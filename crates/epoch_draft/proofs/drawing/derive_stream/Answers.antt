@@ -3,7 +3,7 @@ use Rattle.std.specs.List.{All}
 use Rattle.std.proofs.lemmas.List.{length-set}
 use Rattle.std.proofs.lemmas.List.Sorted.{All-permutation, IsPermutation-sym, sum_by-IsPermutation}
 use Rattle.event_types.specs.Order.{sorted}
-use Rattle.event_types.specs.Tuple.{Row}
+use Rattle.event_types.specs.Tuple.{TupleView}
 use Rattle.scalar_expr.proofs.Bags.{permuted_from}
 use Rattle.epoch_draft.specs.Deriving.{Derives}
 use Rattle.epoch_draft.specs.Drafts.{DraftFits, Grows, without}
@@ -36,7 +36,7 @@ returns-clause-derives g c =
     let is : tuples ≡ sorted rows = c.put_in_order.ensures ∙ ap sorted c.take_made-tuples.ensures.value in
     let grows : Grows net (moves_of_all net stores s tuples) (without old s) met =
     subst (λ (d : Draft). Grows net (moves_of_all net stores s tuples) d met) c.take_made-tuples.ensures.taken
-    (subst (λ (ts : List Row). Grows net (moves_of_all net stores s ts) c.take_made-tuples.new.self met) c.as_slice.ensures c.in_ok-meet_stream.ensures.grows) in
+    (subst (λ (ts : List TupleView). Grows net (moves_of_all net stores s ts) c.take_made-tuples.new.self met) c.as_slice.ensures c.in_ok-meet_stream.ensures.grows) in
     on_ok_three c.put_made.result (new.made ≡ set met.made s tuples) (new.beads ≡ met.beads) (DraftFits (length met.made) (length met.beads) new)
     (Derives net stores s old new c.args.pairs.now c.meet_stream.new.pairs)
     (λ made beads fits. record {
@@ -48,7 +48,7 @@ returns-clause-derives g c =
       made = made;
       beads = beads;
       fits = subst (λ (m : ℕ). DraftFits m (length net) new) (grows.fits.made ∙ length-set old.made s []) (subst (λ (m : ℕ). DraftFits (length met.made) m new) grows.fits.beads fits);
-      lists = subst (λ (ts : List Row). ListsAll net s ts c.args.pairs.now c.meet_stream.new.pairs) c.as_slice.ensures c.in_ok-meet_stream.ensures.lists;
+      lists = subst (λ (ts : List TupleView). ListsAll net s ts c.args.pairs.now c.meet_stream.new.pairs) c.as_slice.ensures c.in_ok-meet_stream.ensures.lists;
     }) c.put_made.ensures.made c.put_made.ensures.beads c.put_made.ensures.fits
 
 pub returns-clause-ticks : goal.returns-clause-ticks
@@ -62,4 +62,4 @@ returns-clause-ticks g c =
     let is : c.as_slice.result.now ≡ sorted rows = c.as_slice.ensures ∙ c.put_in_order.ensures ∙ ap sorted c.take_made-tuples.ensures.value in
     let work : stream_work net stores s (sorted rows) ≡ stream_work net stores s rows = sym (sum_by-IsPermutation (tuple_work net stores s) (sorted rows) rows (sort_permutes rows)) in
     ok_holds c.put_made.result (end ≤ start + stream_work net stores s rows)
-    (subst (λ (n : ℕ). end ≤ start + n) work (subst (λ (ts : List Row). end ≤ start + stream_work net stores s ts) is c.in_ok-meet_stream.ensures.ticks))
+    (subst (λ (n : ℕ). end ≤ start + n) work (subst (λ (ts : List TupleView). end ≤ start + stream_work net stores s ts) is c.in_ok-meet_stream.ensures.ticks))

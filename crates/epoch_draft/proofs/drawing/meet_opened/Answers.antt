@@ -2,7 +2,7 @@ use Rattle.std.proofs.Common.{◌≡◌, ◌∙◌, sym, subst, ℕ, ◌+◌, �
 use Rattle.std.specs.List.{All}
 use Rattle.std.proofs.lemmas.List.Elements.{All-get_or}
 use Rattle.std.proofs.lemmas.Option.{get_or_from_slice_get}
-use Rattle.event_types.specs.Tuple.{Row}
+use Rattle.event_types.specs.Tuple.{TupleView}
 use Rattle.epoch_draft.specs.Deriving.{opened_of}
 use Rattle.epoch_draft.specs.Drafts.{DraftFits, Grows}
 use Rattle.epoch_draft.specs.Drawn.{Drawn, Paired}
@@ -48,8 +48,8 @@ loop-stream-preserved g c =
     let old = c.loop-stream.draft in
     let new = c.meet_stream.new.draft in
     let is : c.as_slice.result.now ≡ get_or opened s [] = c.as_slice.ensures ∙ sym (get_or_from_slice_get opened s c.get.result.now [] c.get.ensures) in
-    let grows : Grows net (moves_of_all net stores s (get_or opened s [])) old new = subst (λ (ts : List Row). Grows net (moves_of_all net stores s ts) old new) is c.in_ok-meet_stream.ensures.grows in
-    let lists : ListsAll net s (get_or opened s []) c.loop-stream.pairs c.meet_stream.new.pairs = subst (λ (ts : List Row). ListsAll net s ts c.loop-stream.pairs c.meet_stream.new.pairs) is c.in_ok-meet_stream.ensures.lists in
+    let grows : Grows net (moves_of_all net stores s (get_or opened s [])) old new = subst (λ (ts : List TupleView). Grows net (moves_of_all net stores s ts) old new) is c.in_ok-meet_stream.ensures.grows in
+    let lists : ListsAll net s (get_or opened s []) c.loop-stream.pairs c.meet_stream.new.pairs = subst (λ (ts : List TupleView). ListsAll net s ts c.loop-stream.pairs c.meet_stream.new.pairs) is c.in_ok-meet_stream.ensures.lists in
     let both =
     opened_more net stores opened touched i old new c.loop-stream.pairs c.meet_stream.new.pairs c.requires.can_draw.network c.loop-stream-test.true (c.requires.touched.once i c.loop-stream-test.true) c.loop-stream.invariant.drawn
     c.loop-stream.invariant.paired grows lists in
@@ -59,7 +59,7 @@ loop-stream-preserved g c =
       paired = both.1;
       ticks =
           let was = c.loop-stream.invariant.ticks in
-          let one = subst (λ (ts : List Row). c.meet_stream.new.steps ≤ c.loop-stream.steps + stream_work net stores s ts) is c.in_ok-meet_stream.ensures.ticks in
+          let one = subst (λ (ts : List TupleView). c.meet_stream.new.steps ≤ c.loop-stream.steps + stream_work net stores s ts) is c.in_ok-meet_stream.ensures.ticks in
           let more = sum_by_more (λ s. stream_work net stores s (get_or opened s [])) touched i 0 c.loop-stream-test.true in omega (arith, was, one, more);
     }
 

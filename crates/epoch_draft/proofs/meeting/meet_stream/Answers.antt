@@ -2,7 +2,7 @@ use Rattle.std.proofs.Common.{sym, subst, ◌+◌, ◌≤◌, arith}
 use Rattle.std.proofs.lemmas.List.Sums.{sum_by_more}
 use Rattle.epoch_draft.specs.Tests.{tuple_work}
 use Rattle.std.proofs.lemmas.List.Elements.{All-get_or}
-use Rattle.event_types.specs.Tuple.{Row}
+use Rattle.event_types.specs.Tuple.{TupleView}
 use Rattle.epoch_draft.specs.Drafts.{Grows}
 use Rattle.epoch_draft.specs.Held.{held}
 use Rattle.epoch_draft.specs.Meeting.{Lists, moves_of}
@@ -29,12 +29,12 @@ loop-place-preserved g c =
     record {
       grows =
           moves_more (moves_of net stores s) net rows i t c.args.draft.now c.loop-place.draft c.meet_tuple.new.draft c.loop-place-test.true c.loop-place.invariant.grows
-          (subst (λ (r : Row). Grows net (moves_of net stores s r) c.loop-place.draft c.meet_tuple.new.draft) c.index-tuples-place.is c.in_ok-meet_tuple.ensures.grows);
+          (subst (λ (r : TupleView). Grows net (moves_of net stores s r) c.loop-place.draft c.meet_tuple.new.draft) c.index-tuples-place.is c.in_ok-meet_tuple.ensures.grows);
       lists =
           lists_more net s rows i t c.args.pairs.now c.loop-place.pairs c.meet_tuple.new.pairs c.loop-place-test.true c.loop-place.invariant.lists
-          (subst (λ (r : Row). Lists net s i r c.loop-place.pairs c.meet_tuple.new.pairs) c.index-tuples-place.is c.in_ok-meet_tuple.ensures.lists);
+          (subst (λ (r : TupleView). Lists net s i r c.loop-place.pairs c.meet_tuple.new.pairs) c.index-tuples-place.is c.in_ok-meet_tuple.ensures.lists);
       ticks =
           let was = c.loop-place.invariant.ticks in
-          let one = subst (λ (r : Row). c.meet_tuple.new.steps ≤ c.loop-place.steps + tuple_work net stores s r) c.index-tuples-place.is c.in_ok-meet_tuple.ensures.ticks in
+          let one = subst (λ (r : TupleView). c.meet_tuple.new.steps ≤ c.loop-place.steps + tuple_work net stores s r) c.index-tuples-place.is c.in_ok-meet_tuple.ensures.ticks in
           let more = sum_by_more (tuple_work net stores s) rows i t c.loop-place-test.true in omega (arith, was, one, more);
     }

@@ -2,7 +2,7 @@ use Rattle.std.proofs.Common.{◌≡◌, ◌∙◌, sym, ap, subst, [], List}
 use Rattle.std.specs.Prelude.{Option, None, OnOk}
 use Rattle.std.specs.List.{All}
 use Rattle.std.proofs.lemmas.Option.{get_or_from_slice_get}
-use Rattle.event_types.specs.Tuple.{Row}
+use Rattle.event_types.specs.Tuple.{TupleView}
 use Rattle.instances.specs.declared.instance.Instance.{Instance}
 use Rattle.automaton.specs.declared.wait.Wait.{Wait}
 use Rattle.epoch_pass.specs.Pairs.{met}
@@ -33,7 +33,7 @@ returns-in-Some-get-clause-grows g c =
     let stores = c.args.stores.now in
     let is : held stores n ≡ c.candidates.result = ap instances_in (get_or_from_slice_get stores n c.get.result.now None c.get.ensures ∙ c.in-Some-get.is) ∙ sym c.candidates.ensures in
     let same : met w c.candidates.result t ≡ met_at net (held stores) t n = ap (λ (is : List Instance). met w is t) (sym is) ∙ ap (λ (o : Option Wait). met_by o (held stores n) t) c.in-Some.ensures in
-    subst (λ (rows : List Row). OnOk c.meet_instances.result (Grows net (moves_from net n rows) c.args.draft.now c.meet_instances.new.draft)) same c.meet_instances.ensures.grows
+    subst (λ (rows : List TupleView). OnOk c.meet_instances.result (Grows net (moves_from net n rows) c.args.draft.now c.meet_instances.new.draft)) same c.meet_instances.ensures.grows
 
 pub returns-in-None-clause-grows : goal.returns-in-None-clause-grows
 returns-in-None-clause-grows g c =
@@ -44,5 +44,5 @@ returns-in-None-clause-grows g c =
     let stores = c.args.stores.now in
     let is : held stores n ≡ [] = ap instances_in (get_or_from_slice_get stores n c.get.result.now None c.get.ensures ∙ c.in-None.is) in
     let same : [] ≡ met_at net (held stores) t n = ap (λ (is : List Instance). met w is t) (sym is) ∙ ap (λ (o : Option Wait). met_by o (held stores n) t) c.in-Some.ensures in
-    subst (λ (rows : List Row). Grows net (moves_from net n rows) c.args.draft.now c.args.draft.now) same
+    subst (λ (rows : List TupleView). Grows net (moves_from net n rows) c.args.draft.now c.args.draft.now) same
     (grows_none net c.args.draft.now c.requires.fits)

@@ -2,7 +2,7 @@ use Rattle.std.proofs.Common.{◌≡◌, ◌∙◌, sym, ap, length, get_or, tak
 use Rattle.std.proofs.lemmas.List.Sums.{sum_by_more}
 use Rattle.std.specs.Prelude.{Some, slice_get}
 use Rattle.std.proofs.lemmas.List.Elements.{All-get_or}
-use Rattle.event_types.specs.Tuple.{Row}
+use Rattle.event_types.specs.Tuple.{TupleView}
 use Rattle.epoch_draft.specs.Held.{held}
 use Rattle.epoch_draft.specs.Settling.{PairSuits, tuples_in}
 use Rattle.epoch_draft.specs.declared.draft.Pair.{Pair}
@@ -23,7 +23,7 @@ take_at-requires-clause-fits g c =
     let i = c.loop-pair.pair-index in
     let p = get_or pairs i nowhere in
     let suits = All-get_or (PairSuits net news (length c.args.opened.now) (held c.args.stores.now)) pairs i nowhere c.loop-pair-test.true c.requires.pairs in
-    let got : slice_get (news p.stream) p.place ≡ Some c.get.result.now = ap (λ (ts : List Row). slice_get ts p.place) (sym c.tuples_on-tuples.ensures) ∙ c.get.ensures in
+    let got : slice_get (news p.stream) p.place ≡ Some c.get.result.now = ap (λ (ts : List TupleView). slice_get ts p.place) (sym c.tuples_on-tuples.ensures) ∙ c.get.ensures in
     taken_fits net news (length c.args.opened.now) pairs (take i pairs) p c.args.stores.now c.loop-pair.stores c.loop-pair.invariant.taken suits c.get.result.now got
 
 -- one pair more
@@ -34,7 +34,7 @@ loop-pair-preserved g c =
     let pairs = c.args.pairs.now in
     let i = c.loop-pair.pair-index in
     let p = get_or pairs i nowhere in
-    let got : slice_get (news p.stream) p.place ≡ Some c.get.result.now = ap (λ (ts : List Row). slice_get ts p.place) (sym c.tuples_on-tuples.ensures) ∙ c.get.ensures in
+    let got : slice_get (news p.stream) p.place ≡ Some c.get.result.now = ap (λ (ts : List TupleView). slice_get ts p.place) (sym c.tuples_on-tuples.ensures) ∙ c.get.ensures in
     let more = sum_by_more (λ (q : Pair). length (held c.args.stores.now q.state)) pairs i nowhere c.loop-pair-test.true in
     let fewer = taken_fewer net news (take i pairs) c.args.stores.now c.loop-pair.stores c.loop-pair.invariant.taken p.state in
     let was = c.loop-pair.invariant.ticks in

@@ -2,7 +2,7 @@ use Rattle.std.proofs.Common.{◌≡◌, ◌∙◌, sym, ap, subst, inl, inr, �
 use Rattle.std.proofs.lemmas.List.{length-set}
 use Rattle.std.proofs.lemmas.List.Elements.{All-get_or}
 use Rattle.std.proofs.lemmas.Option.{get_or_from_slice_get}
-use Rattle.event_types.specs.Tuple.{Row}
+use Rattle.event_types.specs.Tuple.{TupleView}
 use Rattle.event_types.specs.Order.{sorted}
 use Rattle.semantics.specs.Denotation.{streams_of}
 use Rattle.epoch_engine.proofs.BatchLemmas.{kept_or_moved, later_kept}
@@ -36,6 +36,6 @@ loop-place-preserved c =
       kept_or_moved outs last (length first) i s first opened rows is below (moved rows c.get_mut.result.now (get_or opened s []) had c.in_order.ensures.moved) was.3,
     )
   where
-    moved : (xs ys zs : List Row) → zs ≡ ys → (xs ≡ ys) ⊎ (xs ≡ []) → (xs ≡ zs) ⊎ (xs ≡ [])
+    moved : (xs ys zs : List TupleView) → zs ≡ ys → (xs ≡ ys) ⊎ (xs ≡ []) → (xs ≡ zs) ⊎ (xs ≡ [])
     moved xs ys zs e (inl kept) = inl (kept ∙ sym e)
     moved xs ys zs e (inr none) = inr none

@@ -15,8 +15,8 @@ item_has P items order i same lt all = All-get_or P items i 0 lt (subst (All P) 
 -- no stream yet
 pub loop-stream-init : goal.loop-stream-init
 loop-stream-init g c = (
-  derived_none c.args.network.now c.args.layout.now c.args.stores.now c.args.opened.now c.args.reach.now.gone c.requires.running.typed
-      (reached_left c.args.network.now c.args.layout.now c.args.stores.now c.args.opened.now c.args.touched.now c.args.reach.now c.requires.running.typed c.requires.reached) c.requires.reached.fits.gone,
+  derived_none c.args.network.now c.args.layout.now c.args.stores.now c.args.opened.now c.args.reach.now.remembered c.requires.running.typed
+      (reached_left c.args.network.now c.args.layout.now c.args.stores.now c.args.opened.now c.args.touched.now c.args.reach.now c.requires.running.typed c.requires.reached) c.requires.reached.fits.remembered,
   c.requires.reached,
 )
 
@@ -46,7 +46,7 @@ loop-stream-preserved-then-not-is_marked g c =
     let reach = c.loop-stream.reach in
     let was = c.loop-stream.invariant in
     let derived = item_has (λ t. (get_or opened t [] ≡ []) ⊎ Contains reach.due.numbers t) items layout.order i same lt was.1.derived in (
-      derived_more net layout c.requires.running.lines stores i s c.args.opened.now opened opened reach.gone reach.gone c.requires.running.serves (subst (λ (xs : List ℕ). i < length xs) same lt)
+      derived_more net layout c.requires.running.lines stores i s c.args.opened.now opened opened reach.remembered reach.remembered c.requires.running.serves (subst (λ (xs : List ℕ). i < length xs) same lt)
           (ap (λ (xs : List ℕ). get_or xs i 0) same) (item_has (λ t. t < length layout.kinds) items layout.order i same lt c.requires.running.order) was.0
           (idle_derived net layout stores opened c.loop-stream.touched reach was.0.met.typed was.1 s (c.is_marked.ensures.unmarked c.if-not-is_marked.true) derived),
       was.1,
@@ -60,8 +60,8 @@ loop-stream-preserved g c =
     let i = c.loop-stream.stream-index in
     let same = c.as_slice-stream-items.ensures in
     let lt = c.loop-stream-test.true in (
-      derived_more c.args.network.now layout c.requires.running.lines c.args.stores.now i (get_or items i 0) c.args.opened.now c.loop-stream.opened c.derive_stream.new.opened c.loop-stream.reach.gone
-          c.derive_stream.new.reach.gone c.requires.running.serves (subst (λ (xs : List ℕ). i < length xs) same lt) (ap (λ (xs : List ℕ). get_or xs i 0) same)
+      derived_more c.args.network.now layout c.requires.running.lines c.args.stores.now i (get_or items i 0) c.args.opened.now c.loop-stream.opened c.derive_stream.new.opened c.loop-stream.reach.remembered
+          c.derive_stream.new.reach.remembered c.requires.running.serves (subst (λ (xs : List ℕ). i < length xs) same lt) (ap (λ (xs : List ℕ). get_or xs i 0) same)
           (item_has (λ t. t < length layout.kinds) items layout.order i same lt c.requires.running.order) c.loop-stream.invariant.0 c.in_ok-derive_stream.ensures.derived,
       c.in_ok-derive_stream.ensures.reached,
     )
@@ -71,5 +71,5 @@ pub returns-clause-derived : goal.returns-clause-derived
 returns-clause-derived g c =
     let layout = c.args.layout.now in
     let past : length layout.order ≤ c.loop-stream.stream-index = subst (λ (xs : List ℕ). length xs ≤ c.loop-stream.stream-index) c.as_slice-stream-items.ensures c.loop-stream-test.false in
-    subst (λ (order : List ℕ). IsDerived c.args.network.now layout c.args.stores.now order c.args.opened.now c.loop-stream.opened c.loop-stream.reach.gone) (taken_all layout.order c.loop-stream.stream-index past)
+    subst (λ (order : List ℕ). IsDerived c.args.network.now layout c.args.stores.now order c.args.opened.now c.loop-stream.opened c.loop-stream.reach.remembered) (taken_all layout.order c.loop-stream.stream-index past)
     c.loop-stream.invariant.0

@@ -63,10 +63,10 @@ returns-clause-taken g c =
       results = c.in_ok-batch.ensures.batch;
       purged =
           settled_purged net layout.kinds stores opened met.typed (c.args.time + 1) c.purge_listed.new.stores
-          (all_settled net layout.kinds stores opened met.typed reach reached.fits.gone reached.met network (c.args.time + 1) c.settle_marked.new.stores c.purge_listed.new.stores c.in_ok-settle_marked.ensures c.as_slice.result.now lists c.purge_listed.ensures);
+          (all_settled net layout.kinds stores opened met.typed reach reached.fits.remembered reached.met network (c.args.time + 1) c.settle_marked.new.stores c.purge_listed.new.stores c.in_ok-settle_marked.ensures c.as_slice.result.now lists c.purge_listed.ensures);
       others = λ n none.
           ap instances_in
-          (all_others net layout.kinds stores opened met.typed reach reached.fits.gone reached.met network (c.args.time + 1) c.settle_marked.new.stores c.purge_listed.new.stores c.in_ok-settle_marked.ensures c.as_slice.result.now lists c.purge_listed.ensures n none);
+          (all_others net layout.kinds stores opened met.typed reach reached.fits.remembered reached.met network (c.args.time + 1) c.settle_marked.new.stores c.purge_listed.new.stores c.in_ok-settle_marked.ensures c.as_slice.result.now lists c.purge_listed.ensures n none);
     }
 
 -- and the parts are fit for the next one
@@ -85,9 +85,9 @@ returns-clause-running g c =
       lines = c.requires.running.lines;
       serves = c.requires.running.serves;
       typed =
-          settled_typed net layout.kinds stores opened met.typed reach.gone met.as_many met.left network (c.args.time + 1) c.purge_listed.new.stores c.clear.new.lists
-          (all_settled net layout.kinds stores opened met.typed reach reached.fits.gone reached.met network (c.args.time + 1) c.settle_marked.new.stores c.purge_listed.new.stores c.in_ok-settle_marked.ensures c.as_slice.result.now lists c.purge_listed.ensures)
-          (all_many net layout.kinds stores opened met.typed reach reached.fits.gone reached.met network (c.args.time + 1) c.settle_marked.new.stores c.purge_listed.new.stores c.in_ok-settle_marked.ensures c.as_slice.result.now lists c.purge_listed.ensures)
+          settled_typed net layout.kinds stores opened met.typed reach.remembered met.as_many met.left network (c.args.time + 1) c.purge_listed.new.stores c.clear.new.lists
+          (all_settled net layout.kinds stores opened met.typed reach reached.fits.remembered reached.met network (c.args.time + 1) c.settle_marked.new.stores c.purge_listed.new.stores c.in_ok-settle_marked.ensures c.as_slice.result.now lists c.purge_listed.ensures)
+          (all_many net layout.kinds stores opened met.typed reach reached.fits.remembered reached.met network (c.args.time + 1) c.settle_marked.new.stores c.purge_listed.new.stores c.in_ok-settle_marked.ensures c.as_slice.result.now lists c.purge_listed.ensures)
           (c.clear.ensures.as_many ∙ c.batch_of.ensures.as_many) c.clear.ensures.empty;
       tables_are = c.requires.running.tables_are;
       order = c.requires.running.order;

@@ -6,4 +6,4 @@ use Rattle.epoch_engine.proofs.flow.given_by_ends.Given as goal
 
 -- what the ends so far give was added
 abbrev pub invariant-loop-place : goal.invariant-loop-place
-invariant-loop-place g l = l.out ≡ flat_map (given_at l.network (streams_of l.opened) l.gone) (take l.place-index l.places)
+invariant-loop-place g l = l.out ≡ flat_map (given_at l.network (streams_of l.opened) l.remembered) (take l.place-index l.places)

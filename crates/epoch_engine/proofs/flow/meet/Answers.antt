@@ -2,7 +2,7 @@ use Rattle.std.proofs.Common.{◌≡◌, ◌∙◌, sym, ap, refl, subst, inr, �
 use Rattle.std.specs.Prelude.{Contains}
 use Rattle.std.proofs.lemmas.Grind.{get_or-set_at}
 use Rattle.std.proofs.lemmas.List.{length-set}
-use Rattle.event_types.specs.Tuple.{Row}
+use Rattle.event_types.specs.Tuple.{TupleView}
 use Rattle.scalar_expr.proofs.Bags.{permuted_from}
 use Rattle.epoch_engine.specs.Reach.{IsMet, IsSpread, ReachesMore}
 use Rattle.epoch_engine.specs.Tables.{StreamsBelow}
@@ -20,10 +20,10 @@ spread-requires-clause-below g c =
 -- what was marked still is
 pub returns-clause-more : goal.returns-clause-more
 returns-clause-more g c =
-    let between : Reach = record { gone = set c.args.reach.now.gone c.args.number c.in_ok-reach.field-0; due = c.args.reach.now.due; settling = c.mark.new.self } in
+    let between : Reach = record { remembered = set c.args.reach.now.remembered c.args.number c.in_ok-reach.field-0; due = c.args.reach.now.due; settling = c.mark.new.self } in
     ok_holds c.spread.result (ReachesMore c.args.reach.now c.spread.new.self)
     (reaches_trans c.args.reach.now between c.spread.new.self (record {
-      gone = length-set c.args.reach.now.gone c.args.number c.in_ok-reach.field-0;
+      remembered = length-set c.args.reach.now.remembered c.args.number c.in_ok-reach.field-0;
       due = marks_same c.args.reach.now.due c.requires.fits.due;
       settling = c.mark.ensures.more;
     }) c.spread.ensures.more)
@@ -34,9 +34,9 @@ returns-clause-met g c =
     let net = c.args.network.now in
     let n = c.args.number in
     let new = c.spread.new.self in
-    let lt : n < length c.args.reach.now.gone = omega (arith, c.requires.fits.gone, used_below net n c.requires.used) in
-    let gone : get_or new.gone n [] ≡ c.in_ok-reach.field-0 =
-    ap (λ (l : List (List Row)). get_or l n []) c.spread.ensures.gone ∙ get_or-set_at c.args.reach.now.gone n n c.in_ok-reach.field-0 [] refl lt in
+    let lt : n < length c.args.reach.now.remembered = omega (arith, c.requires.fits.remembered, used_below net n c.requires.used) in
+    let remembered : get_or new.remembered n [] ≡ c.in_ok-reach.field-0 =
+    ap (λ (l : List (List TupleView)). get_or l n []) c.spread.ensures.remembered ∙ get_or-set_at c.args.reach.now.remembered n n c.in_ok-reach.field-0 [] refl lt in
     let marked : Contains new.settling.numbers n = c.spread.ensures.more.settling.kept n c.in_ok-mark.ensures.marked in
     on_ok c.spread.result (IsSpread net new n) (IsMet net c.args.stores.now c.args.opened.now new n)
-    (λ spread. record { left = λ w at. permuted_from gone (c.in_ok-reach.ensures w at); spread = inr spread; matched = λ w at. inr marked; noted = inr marked }) c.spread.ensures.spread
+    (λ spread. record { left = λ w at. permuted_from remembered (c.in_ok-reach.ensures w at); spread = inr spread; matched = λ w at. inr marked; noted = inr marked }) c.spread.ensures.spread

@@ -14,7 +14,7 @@ settle_state-requires g c =
     let n = c.args.number in
     let w = c.in-Some.wait.now in
     let b = c.in-Some-get.before in
-    subst (Settles net c.args.opened.now c.args.gone.now n w b) (get_or_from_slice_get c.args.stores.now n c.get_mut-slot.result.now None c.get_mut-slot.ensures.value)
+    subst (Settles net c.args.opened.now c.args.remembered.now n w b) (get_or_from_slice_get c.args.stores.now n c.get_mut-slot.result.now None c.get_mut-slot.ensures.value)
     (c.requires.settles w b (sym c.in-Some.ensures) (before_found net c.args.before.now c.requires.before n b (c.get.ensures ∙ ap Some c.in-Some-get.is)))
 
 -- and is settled
@@ -22,7 +22,7 @@ pub returns-clause-settled : goal.returns-clause-settled
 returns-clause-settled g c =
     let net = c.args.network.now in
     let opened = c.args.opened.now in
-    let gone = c.args.gone.now in
+    let remembered = c.args.remembered.now in
     let n = c.args.number in
     let w = c.in-Some.wait.now in
     let b = c.in-Some-get.before in
@@ -30,9 +30,9 @@ returns-clause-settled g c =
     let slot = c.get_mut-slot.result.now in
     let new = c.settle_state.new.slot in
     let lt : n < length stores = omega (arith, c.requires.stores, c.requires.number) in
-    on_ok c.settle_state.result ((store : Plain) → slot ≡ Some store → IsSettled (c.args.time + 1) w (settled_from net opened gone n w b store.instances) new)
-    (IsSettledAt (c.args.time + 1) net opened gone n (get_or stores n None) (get_or (set stores n new) n None))
-    (settled_slot (c.args.time + 1) net opened gone n w b stores slot new lt c.get_mut-slot.ensures.value (sym c.in-Some.ensures)
+    on_ok c.settle_state.result ((store : Plain) → slot ≡ Some store → IsSettled (c.args.time + 1) w (settled_from net opened remembered n w b store.instances) new)
+    (IsSettledAt (c.args.time + 1) net opened remembered n (get_or stores n None) (get_or (set stores n new) n None))
+    (settled_slot (c.args.time + 1) net opened remembered n w b stores slot new lt c.get_mut-slot.ensures.value (sym c.in-Some.ensures)
     (before_found net c.args.before.now c.requires.before n b (c.get.ensures ∙ ap Some c.in-Some-get.is)))
     c.settle_state.ensures
 

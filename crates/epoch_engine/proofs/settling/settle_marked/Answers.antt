@@ -25,7 +25,7 @@ settle_at-requires g c =
       before = c.requires.before;
       stores = c.loop-number.invariant.as_many ∙ c.requires.typed.as_many_stores;
       settles =
-          settles_at c.args.network.now c.args.kinds.now c.args.stores.now c.args.opened.now c.requires.typed c.args.reach.now.gone c.requires.fits.gone c.requires.left c.requires.network n
+          settles_at c.args.network.now c.args.kinds.now c.args.stores.now c.args.opened.now c.requires.typed c.args.reach.now.remembered c.requires.fits.remembered c.requires.left c.requires.network n
           (get_or c.loop-number.stores n None) (c.loop-number.invariant.others n (λ has. c.requires.fits.settling.once i lt (subst (Contains (take i numbers)) is has)));
     }
 
@@ -37,7 +37,7 @@ loop-number-preserved g c =
     let i = c.loop-number.number-index in
     let lt : i < length numbers = subst (λ (xs : List ℕ). i < length xs) c.as_slice-number-items.ensures c.loop-number-test.true in
     let is : get_or items i 0 ≡ get_or numbers i 0 = ap (λ (xs : List ℕ). get_or xs i 0) c.as_slice-number-items.ensures in
-    settle_more c.args.network.now c.args.kinds.now c.args.stores.now c.args.opened.now c.requires.typed c.args.reach.now.gone c.requires.fits.gone c.requires.left c.requires.network (c.args.time + 1) numbers i
+    settle_more c.args.network.now c.args.kinds.now c.args.stores.now c.args.opened.now c.requires.typed c.args.reach.now.remembered c.requires.fits.remembered c.requires.left c.requires.network (c.args.time + 1) numbers i
     (get_or items i 0) c.loop-number.stores c.settle_at.new.stores lt is (λ has. c.requires.fits.settling.once i lt (subst (Contains (take i numbers)) is has)) c.loop-number.invariant c.settle_at.ensures.as_many
     c.settle_at.ensures.others c.in_ok-settle_at.ensures.settled c.settle_at.ensures.none
 

@@ -3,7 +3,7 @@ use Rattle.std.specs.Prelude.{Some}
 use Rattle.std.specs.List.{All, filter_map}
 use Rattle.std.specs.List.Sorted.{IsPermutation}
 use Rattle.std.proofs.lemmas.Option.{get_or_from_slice_get}
-use Rattle.event_types.specs.Tuple.{Row}
+use Rattle.event_types.specs.Tuple.{TupleView}
 use Rattle.instances.specs.Bounds.{alive_instances}
 use Rattle.instances.specs.Plain.{Plain}
 use Rattle.instances.specs.declared.instance.Instance.{Instance}
@@ -22,13 +22,13 @@ settle-requires-clause-condition g c = (c.requires.store c.in-Some.store c.in-So
 pub settle-requires-clause-met : goal.settle-requires-clause-met
 settle-requires-clause-met g c =
     let e = c.as_slice-in-Some.ensures ∙ sym (get_or_from_slice_get c.args.opened.now c.args.wait.now.stream c.get.result.now [] c.get.ensures) in
-    subst (λ (ts : List Row). All (λ t. All (λ (i : Instance). WaitSuits c.args.wait.now i.tuple t) c.in-Some.store.instances) ts) (sym e) (c.requires.store c.in-Some.store c.in-Some.is).met
+    subst (λ (ts : List TupleView). All (λ t. All (λ (i : Instance). WaitSuits c.args.wait.now i.tuple t) c.in-Some.store.instances) ts) (sym e) (c.requires.store c.in-Some.store c.in-Some.is).met
 
 pub settle-requires-clause-leaving : goal.settle-requires-clause-leaving
 settle-requires-clause-leaving g c =
     let w = c.args.wait.now in
     let e = c.as_slice-in-Some.ensures ∙ sym (get_or_from_slice_get c.args.opened.now w.stream c.get.result.now [] c.get.ensures) in
-    let went = c.as_slice-in-Some-3.ensures ∙ sym (get_or_from_slice_get c.args.gone.now c.args.number c.get-in-Some.result.now [] c.get-in-Some.ensures) in
+    let went = c.as_slice-in-Some-3.ensures ∙ sym (get_or_from_slice_get c.args.remembered.now c.args.number c.get-in-Some.result.now [] c.get-in-Some.ensures) in
     permuted_from went (permuted_to (c.requires.store c.in-Some.store c.in-Some.is).leaving (ap (λ ts. took w.choose w.fold ts c.in-Some.store.instances) (sym e)))
 
 -- the store is settled
@@ -38,7 +38,7 @@ returns-in-Some g c =
     let e = c.as_slice-in-Some.ensures ∙ sym (get_or_from_slice_get c.args.opened.now w.stream c.get.result.now [] c.get.ensures) in
     let step = c.as_slice.ensures ∙ c.step.ensures in
     let came = c.as_slice-in-Some-2.ensures ∙ c.tuples_of.ensures in
-    let after = settled_from c.args.network.now c.args.opened.now c.args.gone.now c.args.number w c.args.before in
+    let after = settled_from c.args.network.now c.args.opened.now c.args.remembered.now c.args.number w c.args.before in
     let got = stepped w.choose w.fold c.as_slice-in-Some.result.now (filter_map (pass c.as_slice.result.now) c.as_slice-in-Some-2.result.now) c.in-Some.store.instances in
     let same : got ≡ after c.in-Some.store.instances = λ i. stepped w.choose w.fold (e i) (filter_map (pass (step i)) (came i)) c.in-Some.store.instances in
     on_ok c.settle.result (IsPermutation c.settle.new.store.instances (alive_instances (c.args.time + 1) w.choose got))

@@ -3,7 +3,7 @@ use Rattle.std.specs.Prelude.{Some}
 use Rattle.std.specs.List.{All, filter}
 use Rattle.std.proofs.lemmas.List.Elements.{All-filter}
 use Rattle.scalar_expr.proofs.ListLemmas.{All_read}
-use Rattle.event_types.specs.Tuple.{Row}
+use Rattle.event_types.specs.Tuple.{TupleView}
 use Rattle.instances.specs.declared.instance.Instance.{Instance}
 use Rattle.scalar_expr.specs.Fits.{AllFit}
 use Rattle.semantics.specs.Nexts.{is_eligible}
@@ -21,7 +21,7 @@ take-requires-clause-condition_fits g c =
     let ts = c.args.tuples.now in
     let store = c.args.store.now.instances in
     let i = c.loop-tuple.tuple-index in
-    let P : Row → Instance → Type 0 = λ t n. AllFit c.args.choose.now t (Some n.tuple) in
+    let P : TupleView → Instance → Type 0 = λ t n. AllFit c.args.choose.now t (Some n.tuple) in
     let below : i < length ts = omega arith in
     let t = c.tuple-item.result in
     subst (λ (is : List Instance). All (P t) is) (sym c.loop-tuple.invariant.0)

@@ -2,7 +2,7 @@ use Rattle.std.proofs.Common.{◌≡◌, ◌==◌, length, map, subst}
 use Rattle.std.specs.Prelude.{IfOk}
 use Rattle.std.specs.List.{filter}
 use Rattle.event_types.specs.Order.{sorted}
-use Rattle.event_types.specs.Tuple.{Row}
+use Rattle.event_types.specs.Tuple.{TupleView}
 use Rattle.semantics.specs.Denotation.{Streams}
 use Rattle.reference.specs.declared.query.Query.{Query}
 use Rattle.reference.proofs.PublishingLemmas.{streams_below}
@@ -17,5 +17,5 @@ tuples_of_each-requires g c =
 -- the streams are those that were published
 pub returns-clause-value : goal.returns-clause-value
 returns-clause-value g c =
-    subst (λ (streams : Streams). IfOk c.tuples_of_each.result (λ batch. batch ≡ map (λ (query : Query). sorted (filter (λ (tuple : Row). tuple.at == c.args.time) (streams query.stream))) c.args.queries.now))
+    subst (λ (streams : Streams). IfOk c.tuples_of_each.result (λ batch. batch ≡ map (λ (query : Query). sorted (filter (λ (tuple : TupleView). tuple.at == c.args.time) (streams query.stream))) c.args.queries.now))
     c.in_ok-publish.ensures.published c.tuples_of_each.ensures

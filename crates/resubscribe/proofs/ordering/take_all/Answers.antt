@@ -1,7 +1,7 @@
 use Rattle.std.proofs.Common.{◌≡◌, ◌<◌, ◌++◌, ◌∷◌, [], ◌∙◌, ℕ, length, false, sym, ap, arith, subst, get_or}
 use Rattle.std.proofs.lemmas.List.{get_or_default}
 use Rattle.resubscribe.specs.Marks.{Few}
-use Rattle.resubscribe.specs.Order.{Takes, is_ready}
+use Rattle.resubscribe.specs.Order.{TakesQuery, is_ready}
 use Rattle.resubscribe.proofs.FindLemmas.{find-none, find-some, none_below}
 use Rattle.resubscribe.proofs.TakeLemmas.{Takes-push, none_before-more}
 use Rattle.resubscribe.proofs.ordering.take_all.Goals as goal
@@ -18,7 +18,7 @@ loop-query-preserved c =
     none_below (is_ready c.args.reads.now c.loop-query.taken.numbers) c.loop-query.from c.in-Some.query c.loop-query.invariant.none_before c.in-Some.ensures.3 in
     record {
       size = ap (λ (s : Few). s.size) put ∙ c.loop-query.invariant.size;
-      takes = subst (λ (s : Few). Takes c.args.reads.now [] s.numbers) (sym put)
+      takes = subst (λ (s : Few). TakesQuery c.args.reads.now [] s.numbers) (sym put)
           (Takes-push c.args.reads.now [] c.loop-query.taken.numbers c.in-Some.query c.loop-query.invariant.takes
           (find-some (is_ready c.args.reads.now c.loop-query.taken.numbers) 0 (length c.args.reads.now) c.in-Some.query (omega arith) (omega arith) c.in-Some.ensures.2 (λ k low high. none k high)));
       none_before = subst (λ (s : Few). (k : ℕ) → k < c.min-from.result → is_ready c.args.reads.now s.numbers k ≡ false) (sym put)

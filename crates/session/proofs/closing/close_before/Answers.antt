@@ -1,28 +1,28 @@
 use Rattle.std.proofs.Common.{List, ℕ, sym, subst, Option}
 use Rattle.epoch_engine.specs.Offers.{IsNotAhead}
 use Rattle.cay_host.specs.Output.{WrotePart}
-use Rattle.session.specs.Standing.{program_over}
+use Rattle.session.specs.StandsWithLastOpen.{program_over}
 use Rattle.session.proofs.ClosedLemmas.{closed_rows, owes_closed}
-use Rattle.session.proofs.StandingLemmas.{ready_later, ready_now}
+use Rattle.session.proofs.StandsLemmas.{ready_later, ready_now}
 use Rattle.session.proofs.closing.close_before.Goals as goal
 
 -- the rows of the open epoch were put, and written if there were many
-pub returns-in-Ok-write_many-clause-owes : goal.returns-in-Ok-write_many-clause-owes
-returns-in-Ok-write_many-clause-owes g c = λ history stands.
+pub returns-in-Ok-write_if_full-clause-owes : goal.returns-in-Ok-write_if_full-clause-owes
+returns-in-Ok-write_if_full-clause-owes g c = λ history stands.
     let work = c.args.work.now in
     owes_closed (program_over c.args.catalogue.now) history work.engine.time c.in-Some.seen c.args.at (sym c.in-Some.ensures) c.if-seen-at.true work.rows c.close_epoch.new.work.rows (c.in-Ok.ensures.rows history stands)
-    c.write_many.new.rows (g.H.Host.told c.args.host.now) (g.H.Host.told c.write_many.new.host) c.in-Ok-write_many.ensures.ok
+    c.write_if_full.new.rows (g.H.Host.told c.args.host.now) (g.H.Host.told c.write_if_full.new.host) c.in-Ok-write_if_full.ensures.ok
 
 -- a later event may be offered
-pub returns-in-Ok-write_many-clause-ready : goal.returns-in-Ok-write_many-clause-ready
-returns-in-Ok-write_many-clause-ready g c = ready_later c.args.catalogue.now c.in-Some.seen c.args.at c.args.work.now.engine c.close_epoch.new.work.engine c.in-Ok.ensures.closed (sym c.in-Some.ensures) c.if-seen-at.true
+pub returns-in-Ok-write_if_full-clause-ready : goal.returns-in-Ok-write_if_full-clause-ready
+returns-in-Ok-write_if_full-clause-ready g c = ready_later c.args.catalogue.now c.in-Some.seen c.args.at c.args.work.now.engine c.close_epoch.new.work.engine c.in-Ok.ensures.closed (sym c.in-Some.ensures) c.if-seen-at.true
 
 -- they couldn't be written
-pub returns-in-Err-write_many-clause-fails : goal.returns-in-Err-write_many-clause-fails
-returns-in-Err-write_many-clause-fails g c = λ history stands.
+pub returns-in-Err-write_if_full-clause-fails : goal.returns-in-Err-write_if_full-clause-fails
+returns-in-Err-write_if_full-clause-fails g c = λ history stands.
     let work = c.args.work.now in
     let same = closed_rows (program_over c.args.catalogue.now) history work.engine.time c.in-Some.seen c.args.at (sym c.in-Some.ensures) c.if-seen-at.true work.rows c.close_epoch.new.work.rows (c.in-Ok.ensures.rows history stands) in
-    (c.in-Err-write_many.ensures.cause, subst (λ (t : List ℕ). WrotePart t (g.H.Host.told c.args.host.now) (g.H.Host.told c.write_many.new.host)) same c.in-Err-write_many.ensures.part)
+    (c.in-Err-write_if_full.ensures.cause, subst (λ (t : List ℕ). WrotePart t (g.H.Host.told c.args.host.now) (g.H.Host.told c.write_if_full.new.host)) same c.in-Err-write_if_full.ensures.part)
 
 -- the event is of the open epoch
 pub returns-in_default-clause-ready : goal.returns-in_default-clause-ready

@@ -2,9 +2,9 @@ use Rattle.std.proofs.Common.{◌∙◌, false}
 use Rattle.cay_host.proofs.OutputLemmas.{SameButOutput-trans}
 use Rattle.catalogue.specs.Catalogued.{judged_of}
 use Rattle.session.specs.Readings.{readings_left}
-use Rattle.session.specs.Standing.{program_over}
-use Rattle.session.proofs.TakingLemmas.{Gone-trans}
-use Rattle.session.proofs.WorkingLemmas.{advances_stops, goes_further}
+use Rattle.session.specs.StandsWithLastOpen.{program_over}
+use Rattle.session.proofs.LinesLemmas.{Gone-trans}
+use Rattle.session.proofs.OwesLemmas.{advances_stops, goes_further}
 use Rattle.session.proofs.lines.work_through.Goals as goal
 
 -- one more line is done
@@ -12,14 +12,14 @@ pub lines-preserved : goal.lines-preserved
 lines-preserved g c = record {
   goes_on = λ history stands. goes_further (c.lines.invariant.goes_on history stands) (rw c.in-Ok-true.field-0-test at c.in-Ok-true.ensures.progress).0;
   at_work = c.in-Ok-true.ensures.at_work;
-  gone = Gone-trans c.lines.invariant.gone c.take_line.ensures.gone;
+  gone = Gone-trans c.lines.invariant.gone c.work_on_line.ensures.gone;
   quiet = c.in-Ok-true.ensures.quiet ∙ c.lines.invariant.quiet;
-  same = SameButOutput-trans c.lines.invariant.same c.take_line.ensures.same;
+  same = SameButOutput-trans c.lines.invariant.same c.work_on_line.ensures.same;
 }
 
 -- no more line has its end
 pub returns-in-Ok-false-clause-gone : goal.returns-in-Ok-false-clause-gone
-returns-in-Ok-false-clause-gone g c = Gone-trans c.lines.invariant.gone c.take_line.ensures.gone
+returns-in-Ok-false-clause-gone g c = Gone-trans c.lines.invariant.gone c.work_on_line.ensures.gone
 
 -- the work stopped at a line
 pub returns-in-Err-clause-stops : goal.returns-in-Err-clause-stops
@@ -28,5 +28,5 @@ returns-in-Err-clause-stops g c =
     let streams = (judged_of c.args.catalogue.now).streams in
     λ history stands. let gone = c.lines.invariant.goes_on history stands in
     advances_stops (program_over c.args.catalogue.now) false (readings_left streams c.args.feed.now false) (readings_left streams c.lines.feed false) history gone.heard
-    c.args.work.now c.lines.work (told c.args.host.now) (told c.lines.host) (told c.take_line.new.host) c.in-Err.fault
+    c.args.work.now c.lines.work (told c.args.host.now) (told c.lines.host) (told c.work_on_line.new.host) c.in-Err.fault
     c.lines.invariant.same.later gone.advances (c.in-Err.ensures.stops gone.heard gone.stands)

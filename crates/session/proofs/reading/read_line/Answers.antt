@@ -1,4 +1,4 @@
-use Rattle.session.proofs.FittingLemmas.{event_fits}
+use Rattle.session.proofs.FitsLemmas.{event_fits}
 use Rattle.session.proofs.reading.read_line.Goals as goal
 
 -- the event that was read fits its stream

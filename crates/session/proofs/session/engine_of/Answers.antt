@@ -3,10 +3,10 @@ use Rattle.std.proofs.lemmas.Result.{IfOk-weaker}
 use Rattle.splitter.specs.Layouts.{IsLayoutOf}
 use Rattle.catalogue.specs.Catalogued.{judged_of}
 use Rattle.catalogue.specs.Chained.{kinds_of_each}
-use Rattle.epoch_engine.specs.StandsFor as engines
+use Rattle.epoch_engine.specs.EngineStandsFor as engines
 use Rattle.epoch_engine.specs.Starts.{IsNew}
 use Rattle.epoch_engine.proofs.StandsLemmas.{new_stands}
-use Rattle.session.specs.Standing.{IsPlanned, lines_over, program_over}
+use Rattle.session.specs.StandsWithLastOpen.{IsPlanned, lines_over, program_over}
 use Rattle.session.proofs.PlanLemmas.{lines_serve, new_planned}
 use Rattle.session.proofs.session.engine_of.Goals as goal
 
@@ -33,5 +33,5 @@ returns-clause-stands c =
     let lines = rw c.lines.ensures.value at c.in_ok-merged.ensures.lines in
     let layout = subst (IsLayoutOf (program_over now) (kinds_of_each (judged_of now).streams)) (sym c.in_ok-layout.ensures) c.layout.ensures in
     let serves = lines_serve now c.in_ok-merged.merged c.in_ok-layout.layout lines layout in
-    IfOk-weaker c.make.result (IsNew c.in_ok-merged.merged c.in_ok-layout.layout) (λ engine. engines.StandsFor engine (lines_over now) [])
+    IfOk-weaker c.make.result (IsNew c.in_ok-merged.merged c.in_ok-layout.layout) (λ engine. engines.EngineStandsFor engine (lines_over now) [])
     (λ engine new. new_stands c.in_ok-merged.merged c.in_ok-layout.layout (lines_over now) engine serves new) c.make.ensures

@@ -1,5 +1,5 @@
-use Rattle.session.specs.Standing.{program_over}
-use Rattle.session.proofs.BatchLemmas.{IsPut}
+use Rattle.session.specs.StandsWithLastOpen.{program_over}
+use Rattle.session.proofs.BatchLinesLemmas.{IsPut}
 use Rattle.session.proofs.writing.put_batch.Given as goal
 
 -- the lines of the queries so far were put

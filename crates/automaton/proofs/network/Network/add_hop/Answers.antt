@@ -1,5 +1,5 @@
 use Rattle.std.proofs.Common.{◌≡◌, ◌∙◌, ◌≤◌, IsTrue, [], ap, false, length, subst, sym}
-use Rattle.automaton.specs.declared.network.Entry.TheVariants as entry
+use Rattle.automaton.specs.declared.network.Entrance.TheVariants as entrance
 use Rattle.automaton.specs.declared.network.State.{State}
 use Rattle.automaton.specs.Changes.{AddsHop}
 use Rattle.automaton.specs.States.{Net, is_used}
@@ -21,7 +21,7 @@ returns-clause-added c =
     let next = subst (λ (net : Net). c.args.number ≤ length net) (sym c.self.view_is) c.requires.next in
     let free = subst (λ (net : Net). is_used net c.args.number ≡ false) (sym c.self.view_is) c.requires.free in
     let used = subst (λ (net : Net). IsTrue (is_used net c.args.before)) (sym c.self.view_is) c.requires.before in
-    let entered_is : c.entered-state.result ≡ record { entry = entry.Waiting c.args.before c.args.hop.now; edges = []; ends = [] } =
-    c.entered-state.ensures ∙ ap (λ hop. let state : State = record { entry = entry.Waiting c.args.before hop; edges = []; ends = [] } in state) c.in_ok-hop.ensures in
+    let entered_is : c.entered-state.result ≡ record { entrance = entrance.Waiting c.args.before c.args.hop.now; edges = []; ends = [] } =
+    c.entered-state.ensures ∙ ap (λ hop. let state : State = record { entrance = entrance.Waiting c.args.before hop; edges = []; ends = [] } in state) c.in_ok-hop.ensures in
     subst (λ (net : Net). AddsHop c.args.number c.args.before c.args.hop.now net c.put_hop.new.slots.items) c.self.view_is
     (hop_added c.self.inside.states c.args.number c.args.before c.args.hop.now c.self.inside.slots.items c.put_hop.new.slots.items c.entered-state.result next free used entered_is c.in_ok-put_hop.ensures.placed)

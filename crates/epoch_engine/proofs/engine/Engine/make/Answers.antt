@@ -30,7 +30,7 @@ invariant_of-result c = λ intact.
           (subst (λ (net : Net). AreTables net c.args.layout c.in_ok-tables.tables) same c.in_ok-tables.ensures)
           (subst (λ (net : Net). (length stores ≡ length net) × ((n : ℕ) → get_or stores n None ≡ new_store (wait_at net n))) same c.in_ok-stores.ensures) (c.in_ok-opened.ensures.0 ∙ streams, c.in_ok-opened.ensures.1),
       ready_first c.args.merged c.args.layout c.in_ok-opened.opened c.in_ok-touched.touched c.in_ok-reach.reach c.in_ok-touched.ensures.are (c.in_ok-touched.ensures.as_many ∙ streams) (record {
-        gone = room.gone ∙ places;
+        remembered = room.remembered ∙ places;
         due = room.due;
         due_below = room.due_below ∙ streams;
         settling = room.settling;

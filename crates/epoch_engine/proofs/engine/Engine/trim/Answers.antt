@@ -4,7 +4,7 @@ use Rattle.automaton.specs.States.{Net, wait_at}
 use Rattle.epoch_engine.specs.Purging.{purged_slot}
 use Rattle.epoch_engine.specs.Trims.{Trims}
 use Rattle.epoch_engine.specs.Typed.{instances_in}
-use Rattle.epoch_engine.specs.Views.{View}
+use Rattle.epoch_engine.specs.EngineView.{EngineView}
 use Rattle.epoch_engine.proofs.PurgedLemmas.{purged_running, trims_view, with_stores}
 use Rattle.epoch_engine.proofs.engine.Engine.trim.Goals as goal
 
@@ -25,9 +25,9 @@ returns-in-Some c =
     let e = c.self.inside in
     let purged = c.purge_all.new.stores in
     let time = c.in-Some.time in
-    let running = (c.self.invariant (ap (λ (v : View). v.intact) c.self.view_is ∙ c.requires)).0 in
-    let old : View =
-    record { network = e.merged; layout = e.layout; stores = map instances_in e.stores; opened = e.opened; time = e.time; closed = e.closed; intact = e.intact } in
-    subst (λ (v : View). Trims v (with_stores old purged)) c.self.view_is
+    let running = (c.self.invariant (ap (λ (v : EngineView). v.intact) c.self.view_is ∙ c.requires)).0 in
+    let old : EngineView =
+    record { network = e.merged; layout = e.layout; stores = map instances_in e.stores; opened = e.opened; time = e.time; closed_time = e.closed_time; intact = e.intact } in
+    subst (λ (v : EngineView). Trims v (with_stores old purged)) c.self.view_is
     (trims_view old time e.stores purged c.in-Some.is running.typed
     (subst (λ (net : Net). (n : ℕ) → get_or purged n None ≡ purged_slot (time + 1) (is_some (wait_at net n)) (get_or e.stores n None)) c.network.ensures.value c.purge_all.ensures.purged))

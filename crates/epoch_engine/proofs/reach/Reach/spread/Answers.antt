@@ -16,7 +16,7 @@ mark_all-requires-clause-numbers c =
 pub returns-clause-spread : goal.returns-clause-spread
 returns-clause-spread c =
     on_ok c.mark_outs.result (All (λ (e : End). Contains c.mark_outs.new.due.numbers e.out) c.as_slice-2.result.now)
-    (IsSpread c.args.network.now (record { gone = c.args.self.now.gone; due = c.mark_outs.new.due; settling = c.mark_all.new.self }) c.args.number)
+    (IsSpread c.args.network.now (record { remembered = c.args.self.now.remembered; due = c.mark_outs.new.due; settling = c.mark_all.new.self }) c.args.number)
     (λ ends. record {
       ends = subst (All (λ (e : End). Contains c.mark_outs.new.due.numbers e.out)) (c.as_slice-2.ensures ∙ c.ends.ensures) ends;
       edges = subst (All (Contains c.mark_all.new.self.numbers)) (c.as_slice.ensures ∙ c.edges.ensures) c.in_ok-mark_all.ensures.marked;

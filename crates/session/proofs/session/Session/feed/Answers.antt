@@ -1,11 +1,11 @@
 use Rattle.std.proofs.Common.{◌≡◌, ◌∙◌, ◌+◌, false, ℕ, List, ap, sym, refl, subst, length}
 use Rattle.std.proofs.lemmas.Result.{err_from_is_err_and}
-use Rattle.semantics.specs.Histories.{Heard}
+use Rattle.semantics.specs.Histories.{Event}
 use Rattle.session.specs.declared.fault.SessionFault.TheVariants as fault
-use Rattle.session.specs.Feeding.{Feeds, StopsAtPiece}
-use Rattle.session.specs.Sessions.{StandsFor, View}
-use Rattle.session.proofs.FeedingLemmas.{all_within, feeds, fits_within, of_ok, stops_at_piece, too_much}
-use Rattle.session.proofs.OwingLemmas.{front_none}
+use Rattle.session.specs.Feeds.{Feeds, StopsAtPiece}
+use Rattle.session.specs.SessionView.{SessionStandsFor, SessionView}
+use Rattle.session.proofs.FeedsLemmas.{all_within, feeds, fits_within, of_ok, stops_at_piece, too_much}
+use Rattle.session.proofs.WroteFrontLemmas.{front_none}
 use Rattle.session.proofs.SessionLemmas.{engine_stands, so_far}
 use Rattle.session.proofs.session.Session.feed.Goals as goal
 
@@ -13,50 +13,50 @@ use Rattle.session.proofs.session.Session.feed.Goals as goal
 pub returns-then-is_err-clause-broken : goal.returns-then-is_err-clause-broken
 returns-then-is_err-clause-broken g c =
     let before = g.H.Host.told c.args.host.now in
-    let going = c.self.invariant (ap (λ (s : View). s.ended) c.self.view_is ∙ c.requires) in
-    subst (λ (s : View). (past : List Heard) (text : List ℕ) → StandsFor s past text → StopsAtPiece s past text c.args.piece.now before before fault.Memory) c.self.view_is
+    let going = c.self.invariant (ap (λ (s : SessionView). s.ended) c.self.view_is ∙ c.requires) in
+    subst (λ (s : SessionView). (past : List Event) (text : List ℕ) → SessionStandsFor s past text → StopsAtPiece s past text c.args.piece.now before before fault.Memory) c.self.view_is
     (λ past text stands. stops_at_piece _ past text stands c.self.inside.work refl going.none_owed before before c.args.piece.now c.front_of-within.result.now c.front_of-within.ensures fault.Memory (front_none _ before))
 
 -- the work on the lines stopped
-pub returns-in_err-take_lines-clause-broken : goal.returns-in_err-take_lines-clause-broken
-returns-in_err-take_lines-clause-broken g c =
+pub returns-in_err-work_on_lines-clause-broken : goal.returns-in_err-work_on_lines-clause-broken
+returns-in_err-work_on_lines-clause-broken g c =
     let p = err_from_is_err_and c.from_residual.result c.from_residual.ensures.1 in
     let before = g.H.Host.told c.args.host.now in
-    let after = g.H.Host.told c.take_lines.new.host in
-    let going = c.self.invariant (ap (λ (s : View). s.ended) c.self.view_is ∙ c.requires) in
-    let stop = c.in_err-take_lines.field-0.0 in
+    let after = g.H.Host.told c.work_on_lines.new.host in
+    let going = c.self.invariant (ap (λ (s : SessionView). s.ended) c.self.view_is ∙ c.requires) in
+    let stop = c.in_err-work_on_lines.field-0.0 in
     let pushed = of_ok c.push.result (sym c.is_err.ensures.value ∙ c.if-is_err.false) c.push.ensures.ok in
-    rw (p.1, p.2) (subst (λ (s : View). (past : List Heard) (text : List ℕ) → StandsFor s past text → StopsAtPiece s past text c.args.piece.now before after stop) c.self.view_is
+    rw (p.1, p.2) (subst (λ (s : SessionView). (past : List Event) (text : List ℕ) → SessionStandsFor s past text → StopsAtPiece s past text c.args.piece.now before after stop) c.self.view_is
     (λ past text stands. stops_at_piece _ past text stands c.self.inside.work refl going.none_owed before after c.args.piece.now c.front_of-within.result.now c.front_of-within.ensures stop
-    (rw pushed at c.in_err-take_lines.ensures.ends (so_far _ past text stands) (engine_stands _ past text stands c.take_lines.ensures.accepted))))
+    (rw pushed at c.in_err-work_on_lines.ensures.ends (so_far _ past text stands) (engine_stands _ past text stands c.work_on_lines.ensures.accepted))))
 
 -- more bytes came
 pub returns-then-within-piece-clause-broken : goal.returns-then-within-piece-clause-broken
 returns-then-within-piece-clause-broken g c =
     let before = g.H.Host.told c.args.host.now in
-    let after = g.H.Host.told c.take_lines.new.host in
-    let going = c.self.invariant (ap (λ (s : View). s.ended) c.self.view_is ∙ c.requires) in
+    let after = g.H.Host.told c.work_on_lines.new.host in
+    let going = c.self.invariant (ap (λ (s : SessionView). s.ended) c.self.view_is ∙ c.requires) in
     let pushed = of_ok c.push.result (sym c.is_err.ensures.value ∙ c.if-is_err.false) c.push.ensures.ok in
-    subst (λ (s : View). (past : List Heard) (text : List ℕ) → StandsFor s past text → StopsAtPiece s past text c.args.piece.now before after (fault.TooMuch c.self.inside.limit)) c.self.view_is
+    subst (λ (s : SessionView). (past : List Event) (text : List ℕ) → SessionStandsFor s past text → StopsAtPiece s past text c.args.piece.now before after (fault.TooMuch c.self.inside.limit)) c.self.view_is
     (λ past text stands. too_much _ past text stands c.self.inside.work refl going.none_owed before after c.args.piece.now c.front_of-within.result.now c.front_of-within.ensures c.if-within-piece.true
-    (rw pushed at c.in_ok-take_lines.ensures.ends (so_far _ past text stands) (engine_stands _ past text stands c.take_lines.ensures.accepted)))
+    (rw pushed at c.in_ok-work_on_lines.ensures.ends (so_far _ past text stands) (engine_stands _ past text stands c.work_on_lines.ensures.accepted)))
 
 -- the session goes on
 pub returns-clause-fed : goal.returns-clause-fed
 returns-clause-fed g c =
     let before = g.H.Host.told c.args.host.now in
-    let after = g.H.Host.told c.take_lines.new.host in
-    let going = c.self.invariant (ap (λ (s : View). s.ended) c.self.view_is ∙ c.requires) in
+    let after = g.H.Host.told c.work_on_lines.new.host in
+    let going = c.self.invariant (ap (λ (s : SessionView). s.ended) c.self.view_is ∙ c.requires) in
     let pushed = of_ok c.push.result (sym c.is_err.ensures.value ∙ c.if-is_err.false) c.push.ensures.ok in
     let within = c.front_of-within.result.now in
-    let old : View = record { catalogue = c.self.inside.catalogue; engine = c.self.inside.work.engine; limit = c.self.inside.limit; feed = c.self.inside.feed; fed = c.self.inside.fed; ended = c.self.inside.ended } in
-    let new : View = record { catalogue = c.self.inside.catalogue; engine = c.take_lines.new.work.engine; limit = c.self.inside.limit; feed = c.take_lines.new.feed; fed = c.self.inside.fed + length within; ended = false } in
+    let old : SessionView = record { catalogue = c.self.inside.catalogue; engine = c.self.inside.work.engine; limit = c.self.inside.limit; feed = c.self.inside.feed; fed = c.self.inside.fed; ended = c.self.inside.ended } in
+    let new : SessionView = record { catalogue = c.self.inside.catalogue; engine = c.work_on_lines.new.work.engine; limit = c.self.inside.limit; feed = c.work_on_lines.new.feed; fed = c.self.inside.fed + length within; ended = false } in
     let whole : within ≡ c.args.piece.now = all_within c.self.inside.limit c.self.inside.fed c.args.piece.now within c.front_of-within.ensures c.if-within-piece.false in
-    subst (λ (s : View). (past : List Heard) (text : List ℕ) → StandsFor s past text → Feeds s new past text c.args.piece.now before after) c.self.view_is
-    (λ past text stands. let accepted = engine_stands _ past text stands c.take_lines.ensures.accepted in
+    subst (λ (s : SessionView). (past : List Event) (text : List ℕ) → SessionStandsFor s past text → Feeds s new past text c.args.piece.now before after) c.self.view_is
+    (λ past text stands. let accepted = engine_stands _ past text stands c.work_on_lines.ensures.accepted in
     subst (λ (p : List ℕ). Feeds old new past text p before after) whole
     (feeds _ past text stands c.self.inside.work refl going.none_owed before after within
     (fits_within _ past text stands c.args.piece.now within c.front_of-within.ensures)
-    c.take_lines.new.work c.take_lines.new.feed (rw pushed at c.in_ok-take_lines.ensures.gone) c.in_ok-take_lines.ensures.part c.in_ok-take_lines.ensures.at_work
-    (rw pushed at c.in_ok-take_lines.ensures.ends (so_far _ past text stands) accepted)
-    (rw pushed at c.in_ok-take_lines.ensures.stands (so_far _ past text stands) accepted)))
+    c.work_on_lines.new.work c.work_on_lines.new.feed (rw pushed at c.in_ok-work_on_lines.ensures.gone) c.in_ok-work_on_lines.ensures.part c.in_ok-work_on_lines.ensures.at_work
+    (rw pushed at c.in_ok-work_on_lines.ensures.ends (so_far _ past text stands) accepted)
+    (rw pushed at c.in_ok-work_on_lines.ensures.stands (so_far _ past text stands) accepted)))

@@ -1,9 +1,9 @@
 use Rattle.std.proofs.Common.{◌∙◌, ℕ, List, true, ap, refl, subst}
-use Rattle.semantics.specs.Histories.{Heard}
-use Rattle.session.specs.Feeding.{Finishes}
-use Rattle.session.specs.Sessions.{StandsFor, View}
+use Rattle.semantics.specs.Histories.{Event}
+use Rattle.session.specs.Feeds.{Finishes}
+use Rattle.session.specs.SessionView.{SessionStandsFor, SessionView}
 use Rattle.std.proofs.lemmas.Result.{on_ok_weaker}
-use Rattle.session.proofs.FeedingLemmas.{finishes}
+use Rattle.session.proofs.FeedsLemmas.{finishes}
 use Rattle.session.proofs.SessionLemmas.{engine_stands, so_far}
 use Rattle.session.proofs.session.Session.finish.Goals as goal
 
@@ -11,12 +11,12 @@ use Rattle.session.proofs.session.Session.finish.Goals as goal
 pub returns-clause-finished : goal.returns-clause-finished
 returns-clause-finished g c =
     let before = g.H.Host.told c.args.host.now in
-    let after = g.H.Host.told c.take_rest.new.host in
+    let after = g.H.Host.told c.work_on_rest.new.host in
     let e = c.self.inside in
-    let going = c.self.invariant (ap (λ (s : View). s.ended) c.self.view_is ∙ c.requires) in
-    let new : View = record { catalogue = e.catalogue; engine = c.take_rest.new.work.engine; limit = e.limit; feed = e.feed; fed = e.fed; ended = true } in
-    subst (λ (s : View). (past : List Heard) (text : List ℕ) → StandsFor s past text → Finishes s new past text before after c.take_rest.result) c.self.view_is
-    (λ past text stands. let accepted = engine_stands _ past text stands c.take_rest.ensures.accepted in
-    finishes _ past text stands e.work refl going.none_owed before after c.take_rest.new.work c.take_rest.result
-    (c.take_rest.ensures.ends (so_far _ past text stands) accepted) c.take_rest.ensures.through
-    (on_ok_weaker c.take_rest.result (λ each. each (so_far _ past text stands) accepted) c.take_rest.ensures.stands))
+    let going = c.self.invariant (ap (λ (s : SessionView). s.ended) c.self.view_is ∙ c.requires) in
+    let new : SessionView = record { catalogue = e.catalogue; engine = c.work_on_rest.new.work.engine; limit = e.limit; feed = e.feed; fed = e.fed; ended = true } in
+    subst (λ (s : SessionView). (past : List Event) (text : List ℕ) → SessionStandsFor s past text → Finishes s new past text before after c.work_on_rest.result) c.self.view_is
+    (λ past text stands. let accepted = engine_stands _ past text stands c.work_on_rest.ensures.accepted in
+    finishes _ past text stands e.work refl going.none_owed before after c.work_on_rest.new.work c.work_on_rest.result
+    (c.work_on_rest.ensures.ends (so_far _ past text stands) accepted) c.work_on_rest.ensures.through
+    (on_ok_weaker c.work_on_rest.result (λ each. each (so_far _ past text stands) accepted) c.work_on_rest.ensures.stands))

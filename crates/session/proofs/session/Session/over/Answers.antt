@@ -1,5 +1,5 @@
 use Rattle.std.proofs.Common.{◌≤◌, sym, subst, refl, arith}
-use Rattle.event_csv.specs.Fed.{Fed, IsPart, feeds_so_far}
+use Rattle.event_csv.specs.Fed.{Fed, IsPart, line_feeds_so_far}
 use Rattle.session.proofs.SessionLemmas.{begins, unfed_part}
 use Rattle.session.proofs.session.Session.over.Goals as goal
 
@@ -9,7 +9,7 @@ invariant_of-result c = λ going. record {
   at_work = record { intact = c.requires.intact; planned = record { lines = c.requires.lines; layout = c.requires.layout }; opened = c.requires.opened };
   none_owed = c.new.ensures;
   within = omega arith;
-  counted = subst (λ (feed : Fed). feeds_so_far feed ≤ 0) (sym c.new-2.ensures) (omega arith);
+  counted = subst (λ (feed : Fed). line_feeds_so_far feed ≤ 0) (sym c.new-2.ensures) (omega arith);
   part = subst IsPart (sym c.new-2.ensures) unfed_part;
 }
 

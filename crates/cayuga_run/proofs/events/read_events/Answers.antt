@@ -1,0 +1,94 @@
+use Rattle.std.proofs.Common.{◌≤◌, [], ◌++◌, length, length-take, take, drop, refl, subst, sym, ap, arith}
+use Rattle.std.proofs.Math.Facts.{Fits-of_lt}
+use Rattle.catalogue.specs.Catalogued.{judged_of}
+use Rattle.cayuga_run.specs.HearingOutcome.{Hears}
+use Rattle.cayuga_run.proofs.HearingLemmas.{blames_read, heard_more, heard_none, heard_within, hears_all, piece_is, read_failed, stops_at_end, stops_at_piece, taken_more}
+use Rattle.cayuga_run.proofs.events.read_events.Goals as goal
+
+-- nothing is read before the first piece
+pub pieces-init : goal.pieces-init
+pieces-init g c = heard_none (judged_of c.args.session.now.catalogue) c.args.limit c.args.session.now (g.H.Host.told c.args.host.now) c.requires.stands refl c.requires.limit
+
+-- a read failed
+pub returns-in-Err-clause-hears : goal.returns-in-Err-clause-hears
+returns-in-Err-clause-hears g c = read_failed c.pieces.invariant c.in-Err.ensures.kept c.in-Err.ensures.cause c.read.ensures.same
+
+pub returns-in-Err-clause-blames : goal.returns-in-Err-clause-blames
+returns-in-Err-clause-blames g c = blames_read c.pieces.invariant c.read.ensures.same
+
+-- the events have ended
+pub returns-in-Ok-finish-clause-hears : goal.returns-in-Ok-finish-clause-hears
+returns-in-Ok-finish-clause-hears g c =
+    let buffer = c.read.new.buf in
+    let rest = drop c.piece_size-want.result c.pieces.piece in
+    let slice = length-take c.piece_size-want.result c.pieces.piece in
+    let room : length buffer ≤ 65536 = omega (arith, slice) in
+    let t = taken_more c.pieces.invariant c.in-Ok.count buffer rest room c.in-Ok.ensures.took c.read.ensures.same c.in-Ok.ensures.quiet in
+    let none = ap (λ n. take n (buffer ++ rest)) c.if-count-eq0.true in
+    hears_all t c.finish.ensures.same none (c.in-Ok.ensures.took.end c.if-count-eq0.true) c.finish.new.self c.finish.ensures.queries (c.in-Ok-finish.ensures.finished [] c.pieces.invariant.bytes c.pieces.invariant.stands)
+
+pub returns-in-Err-finish-clause-hears : goal.returns-in-Err-finish-clause-hears
+returns-in-Err-finish-clause-hears g c =
+    let buffer = c.read.new.buf in
+    let rest = drop c.piece_size-want.result c.pieces.piece in
+    let slice = length-take c.piece_size-want.result c.pieces.piece in
+    let room : length buffer ≤ 65536 = omega (arith, slice) in
+    let t = taken_more c.pieces.invariant c.in-Ok.count buffer rest room c.in-Ok.ensures.took c.read.ensures.same c.in-Ok.ensures.quiet in
+    let none = ap (λ n. take n (buffer ++ rest)) c.if-count-eq0.true in
+    subst (Hears (judged_of c.args.session.now.catalogue) c.args.limit c.finish.new.self (g.H.Host.told c.args.host.now) (g.H.Host.told c.finish.new.host)) (sym c.status_of.ensures)
+    (stops_at_end t c.finish.ensures.same none (c.in-Ok.ensures.took.end c.if-count-eq0.true) c.finish.new.self c.in-Err-finish.fault (c.in-Err-finish.ensures.finished [] c.pieces.invariant.bytes c.pieces.invariant.stands))
+
+-- one more piece was heard
+pub pieces-preserved : goal.pieces-preserved
+pieces-preserved g c =
+    let buffer = c.read.new.buf in
+    let rest = drop c.piece_size-want.result c.pieces.piece in
+    let slice = length-take c.piece_size-want.result c.pieces.piece in
+    let room : length buffer ≤ 65536 = omega (arith, slice) in
+    let t = taken_more c.pieces.invariant c.in-Ok.count buffer rest room c.in-Ok.ensures.took c.read.ensures.same c.in-Ok.ensures.quiet in
+    let heard = c.pieces.invariant in
+    let feeds = c.in-Ok-feed.ensures.fed [] heard.bytes heard.stands in
+    let sized = piece_is c.in-Ok.count buffer rest c.in-Ok.ensures.took in
+    let more = heard_more t c.feed.ensures.same c.feed.new.self c.pieces.taken c.in-Ok.count heard.counted sized feeds c.feed.ensures.queries c.in-Ok-feed.ensures.quiet in
+    more
+
+pub overflow_add-taken : goal.overflow_add-taken
+overflow_add-taken g c =
+    let buffer = c.read.new.buf in
+    let rest = drop c.piece_size-want.result c.pieces.piece in
+    let slice = length-take c.piece_size-want.result c.pieces.piece in
+    let room : length buffer ≤ 65536 = omega (arith, slice) in
+    let t = taken_more c.pieces.invariant c.in-Ok.count buffer rest room c.in-Ok.ensures.took c.read.ensures.same c.in-Ok.ensures.quiet in
+    let heard = c.pieces.invariant in
+    let feeds = c.in-Ok-feed.ensures.fed [] heard.bytes heard.stands in
+    let sized = piece_is c.in-Ok.count buffer rest c.in-Ok.ensures.took in
+    let more = heard_more t c.feed.ensures.same c.feed.new.self c.pieces.taken c.in-Ok.count heard.counted sized feeds c.feed.ensures.queries c.in-Ok-feed.ensures.quiet in
+    let within = heard_within more in
+    let fits = c.ranges.limit.fits in
+    Fits-of_lt (omega (arith, within, fits))
+
+pub pieces-smaller : goal.pieces-smaller
+pieces-smaller g c =
+    let buffer = c.read.new.buf in
+    let rest = drop c.piece_size-want.result c.pieces.piece in
+    let slice = length-take c.piece_size-want.result c.pieces.piece in
+    let room : length buffer ≤ 65536 = omega (arith, slice) in
+    let t = taken_more c.pieces.invariant c.in-Ok.count buffer rest room c.in-Ok.ensures.took c.read.ensures.same c.in-Ok.ensures.quiet in
+    let heard = c.pieces.invariant in
+    let feeds = c.in-Ok-feed.ensures.fed [] heard.bytes heard.stands in
+    let sized = piece_is c.in-Ok.count buffer rest c.in-Ok.ensures.took in
+    let more = heard_more t c.feed.ensures.same c.feed.new.self c.pieces.taken c.in-Ok.count heard.counted sized feeds c.feed.ensures.queries c.in-Ok-feed.ensures.quiet in
+    let within = heard_within more in
+    let some = c.if-count-eq0.false in
+    omega (arith, within, some)
+
+-- the session stopped at a piece
+pub returns-in-Err-feed-clause-hears : goal.returns-in-Err-feed-clause-hears
+returns-in-Err-feed-clause-hears g c =
+    let buffer = c.read.new.buf in
+    let rest = drop c.piece_size-want.result c.pieces.piece in
+    let slice = length-take c.piece_size-want.result c.pieces.piece in
+    let room : length buffer ≤ 65536 = omega (arith, slice) in
+    let t = taken_more c.pieces.invariant c.in-Ok.count buffer rest room c.in-Ok.ensures.took c.read.ensures.same c.in-Ok.ensures.quiet in
+    subst (Hears (judged_of c.args.session.now.catalogue) c.args.limit c.feed.new.self (g.H.Host.told c.args.host.now) (g.H.Host.told c.feed.new.host)) (sym c.status_of-in-Err-feed.ensures)
+    (stops_at_piece t c.feed.ensures.same c.feed.new.self c.in-Err-feed.fault (c.in-Err-feed.ensures.broken [] c.pieces.invariant.bytes c.pieces.invariant.stands))

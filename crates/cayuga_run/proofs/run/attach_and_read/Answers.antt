@@ -1,0 +1,66 @@
+use Rattle.std.proofs.Common.{◌≡◌, refl, subst, false, Result, Ok, Err}
+use Rattle.std.specs.Result.{OnOk, is_err}
+use Rattle.cay_host.specs.declared.side.Side.TheVariants.{Events}
+use Rattle.catalogue.specs.Catalogued.{judged_of}
+use Rattle.catalogue.specs.Judgement.{Judged}
+use Rattle.cayuga_run.specs.declared.status.Status.TheVariants.{Done}
+use Rattle.cayuga_run.specs.Reports.{heard_in}
+use Rattle.cayuga_run.specs.StatsOutcome.{StatsOutcome}
+use Rattle.cayuga_run.specs.Works.{Run}
+use Rattle.cayuga_run.proofs.BlamingLemmas.{blames_after, none_blamed}
+use Rattle.cayuga_run.proofs.EndLemmas.{run_hears, run_tells}
+use Rattle.cayuga_run.proofs.OutcomeLemmas.{ready}
+use Rattle.cayuga_run.proofs.run.attach_and_read.Goals as goal
+
+-- what a call promises of its Ok, where it is no Err
+from_ok : {T E P : Type 0} (r : Result T E) → false ≡ is_err r → OnOk r P → P
+from_ok (Ok value) none holds = holds
+from_ok (Err fault) none holds = absurd cc
+
+-- the events couldn't be attached
+pub returns-then-is_err-clause-blames : goal.returns-then-is_err-clause-blames
+returns-then-is_err-clause-blames g c = record {
+  attach = λ other. absurd (other Events refl);
+  read = λ other. c.attach.ensures.same.read_faults;
+  write = λ other. c.attach.ensures.same.write_faults;
+}
+
+-- the events were heard, and then the stats line was written
+pub returns-then-stats-clause-outcome : goal.returns-then-stats-clause-outcome
+returns-then-stats-clause-outcome g c = λ queries first accepted.
+    let told = g.H.Host.told in
+    let run : Run = record { queries = queries; events = c.args.events.now; stats = c.args.stats } in
+    let judged = judged_of c.args.session.now.catalogue in
+    let all = c.in-Done.ensures.hears in
+    run_tells run c.args.limit judged first (told c.attach.new.self) (told c.read_events.new.host) (told c.write_stats.new.host) all.bytes c.write_stats.result
+    (ready run judged first (told c.args.host.now) (told c.attach.new.self) accepted (from_ok c.attach.result c.if-is_err.ensures.value c.attach.ensures.ok) c.attach.ensures.same)
+    all.heard c.read_events.ensures.alone (none_blamed c.in-Done.ensures.blames).write c.if-stats.true c.write_stats.ensures.same
+    (subst (λ (j : Judged). StatsOutcome j (heard_in j all.bytes) (told c.read_events.new.host) (told c.write_stats.new.host) c.write_stats.result) all.queries (c.write_stats.ensures.writes _ all.finished.works))
+
+-- the events were heard, and no stats are asked for
+pub returns-else-stats-clause-outcome : goal.returns-else-stats-clause-outcome
+returns-else-stats-clause-outcome g c = λ queries first accepted.
+    let told = g.H.Host.told in
+    let run : Run = record { queries = queries; events = c.args.events.now; stats = c.args.stats } in
+    let judged = judged_of c.args.session.now.catalogue in
+    run_hears run c.args.limit judged c.read_events.new.session first (told c.attach.new.self) (told c.read_events.new.host) Done
+    (ready run judged first (told c.args.host.now) (told c.attach.new.self) accepted (from_ok c.attach.result c.if-is_err.ensures.value c.attach.ensures.ok) c.attach.ensures.same)
+    c.in-Done.ensures.hears c.read_events.ensures.alone (λ e. c.if-stats.false)
+
+-- the hearing stopped before the end of the events
+pub returns-in_default : goal.returns-in_default
+returns-in_default g c =
+    let told = g.H.Host.told in
+    let judged = judged_of c.args.session.now.catalogue in
+    record {
+      outcome = λ queries first accepted.
+          let run : Run = record { queries = queries; events = c.args.events.now; stats = c.args.stats } in
+          run_hears run c.args.limit judged c.read_events.new.session first (told c.attach.new.self) (told c.read_events.new.host) c.read_events.result
+          (ready run judged first (told c.args.host.now) (told c.attach.new.self) accepted (from_ok c.attach.result c.if-is_err.ensures.value c.attach.ensures.ok) c.attach.ensures.same)
+          c.read_events.ensures.hears c.read_events.ensures.alone (λ e. absurd (c.in_default.not-Done e));
+      blames = blames_after c.read_events.result (record {
+        attach = from_ok c.attach.result c.if-is_err.ensures.value c.attach.ensures.quiet;
+        read = c.attach.ensures.same.read_faults;
+        write = c.attach.ensures.same.write_faults;
+      }) c.read_events.ensures.blames;
+    }

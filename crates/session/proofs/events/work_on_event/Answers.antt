@@ -1,0 +1,14 @@
+use Rattle.std.proofs.Common.{◌∙◌, ap, sym, Some}
+use Rattle.session.specs.Heard.{disorder}
+use Rattle.session.specs.StandsWithLastOpen.{program_over}
+use Rattle.session.specs.Owes.{line_of}
+use Rattle.session.proofs.OwesLemmas.{late_is, refuses}
+use Rattle.session.proofs.events.work_on_event.Goals as goal
+
+-- a late event is refused
+pub returns-in-Some-clause-stops : goal.returns-in-Some-clause-stops
+returns-in-Some-clause-stops g c =
+    let late = ap (λ s. disorder c.args.number s c.args.event.tuple.at) (sym c.in-Some.ensures)
+    ∙ ap (disorder c.args.number (Some c.in-Some.seen)) (sym c.at-at.ensures.value)
+    ∙ late_is c.args.number c.at-at.result c.in-Some.seen c.if-at-seen.true in
+    λ ended lines history stands. refuses (program_over c.args.catalogue.now) ended lines history (line_of c.args.number c.args.event) c.args.work.now _ _ _ c.refuse.result late c.refuse.ensures.by

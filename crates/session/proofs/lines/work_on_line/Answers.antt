@@ -1,0 +1,33 @@
+use Rattle.std.proofs.Common.{ap, length, false, arith, Err, refl}
+use Rattle.catalogue.specs.Catalogued.{judged_of}
+use Rattle.session.specs.Readings.{readings_left}
+use Rattle.session.specs.StandsWithLastOpen.{program_over}
+use Rattle.session.proofs.OwesLemmas.{refuses, stops_same, took}
+use Rattle.session.proofs.lines.work_on_line.Goals as goal
+
+-- a line with a fault is refused
+pub returns-in-Ok-Fault-clause-stops : goal.returns-in-Ok-Fault-clause-stops
+returns-in-Ok-Fault-clause-stops g c =
+    let shows = rw (c.in-Ok-Fault.field-0-is, c.streams.ensures.value) at c.in-Ok-Fault.ensures.shows in
+    let left = shows false in
+    let before = g.H.Host.told c.args.host.now in
+    let after = g.H.Host.told c.refuse.new.host in
+    let program = program_over c.args.catalogue.now in
+    λ history stands. stops_same program false _ _ history c.args.work.now before after c.refuse.result left.1
+    (refuses program false left.0 history (record { number = c.in-Ok-Fault.line; found = Err c.in-Ok-Fault.why }) c.args.work.now _ before after c.refuse.result refl c.refuse.ensures.by)
+
+-- an event was taken
+pub returns-in-Ok-clause-progress : goal.returns-in-Ok-clause-progress
+returns-in-Ok-clause-progress g c =
+    let shows = rw (c.in-Ok-Event.field-0-is, c.streams.ensures.value) at c.in-Ok-Event.ensures.shows in
+    let streams = (judged_of c.args.catalogue.now).streams in (
+      λ history stands. took (readings_left streams c.args.feed.now false) (readings_left streams c.next_reading.new.feed false) (shows false) (c.in-Ok.ensures.more history stands),
+      let fewer = ap length (shows false) in omega (arith, fewer),
+    )
+
+-- an event wasn't taken
+pub returns-in-Err-work_on_event-clause-stops : goal.returns-in-Err-work_on_event-clause-stops
+returns-in-Err-work_on_event-clause-stops g c =
+    let shows = rw (c.in-Ok-Event.field-0-is, c.streams.ensures.value) at c.in-Ok-Event.ensures.shows in
+    λ history stands. stops_same (program_over c.args.catalogue.now) false _ _ history c.args.work.now (g.H.Host.told c.args.host.now) (g.H.Host.told c.work_on_event.new.host) c.in-Err-work_on_event.fault (shows false)
+    (c.in-Err-work_on_event.ensures.stops false _ history stands)

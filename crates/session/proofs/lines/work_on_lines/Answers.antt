@@ -1,0 +1,19 @@
+use Rattle.std.proofs.Common.{List, ℕ, [], false, subst}
+use Rattle.cay_host.specs.Output.{WrotePart}
+use Rattle.catalogue.specs.Catalogued.{judged_of}
+use Rattle.session.specs.declared.fault.SessionFault.TheVariants as fault
+use Rattle.session.specs.Readings.{readings_left}
+use Rattle.session.specs.StandsWithLastOpen.{program_over}
+use Rattle.session.proofs.OwesLemmas.{advances_stops, nothing_left}
+use Rattle.session.proofs.lines.work_on_lines.Goals as goal
+
+-- the rows couldn't be written
+pub returns-in-Err-write_rows-clause-ends : goal.returns-in-Err-write_rows-clause-ends
+returns-in-Err-write_rows-clause-ends g c =
+    let told = g.H.Host.told in
+    let program = program_over c.args.catalogue.now in
+    λ history stands. let gone = c.in-Ok.ensures.goes_on history stands in
+    advances_stops program false (readings_left (judged_of c.args.catalogue.now).streams c.args.feed.now false) [] history gone.heard
+    c.args.work.now c.work_through.new.work (told c.args.host.now) (told c.work_through.new.host) (told c.write_rows.new.host) fault.WriteFault
+    c.work_through.ensures.same.later gone.advances
+    (c.in-Err-write_rows.ensures.cause, subst (λ (t : List ℕ). WrotePart t (told c.work_through.new.host) (told c.write_rows.new.host)) (nothing_left program gone.heard c.work_through.new.work) c.in-Err-write_rows.ensures.part)

@@ -1,0 +1,61 @@
+use Rattle.std.proofs.Common.{true, [], ◌∷◌, ◌++◌, refl, Err}
+use Rattle.std.proofs.lemmas.Result.{on_ok_weaker}
+use Rattle.session.specs.Readings.{heard_of}
+use Rattle.session.specs.StandsWithLastOpen.{program_over}
+use Rattle.session.specs.Owes.{line_of}
+use Rattle.session.proofs.RestLemmas.{none_left, one_left, through_closed}
+use Rattle.session.proofs.OwesLemmas.{advances_ends, ends_same, refuses, stops_same}
+use Rattle.session.proofs.lines.work_on_rest.Goals as goal
+
+-- no line was left, and the open epoch was closed
+pub returns-in-Ok-NotYet-clause-stands : goal.returns-in-Ok-NotYet-clause-stands
+returns-in-Ok-NotYet-clause-stands g c =
+    let shows = rw (c.in-Ok-NotYet.field-0-is, c.streams.ensures.value) at c.in-Ok-NotYet.ensures.shows in
+    on_ok_weaker c.close_last.result (λ closed history stands. none_left c.args.catalogue.now history _ c.args.work.now c.close_last.new.work.engine shows (closed.stands history stands)) c.close_last.ensures.closed
+
+pub returns-in-Ok-NotYet-clause-through : goal.returns-in-Ok-NotYet-clause-through
+returns-in-Ok-NotYet-clause-through g c =
+    on_ok_weaker c.close_last.result (through_closed c.args.catalogue.now c.args.work.now.engine c.close_last.new.work.engine c.requires.at_work.planned) c.close_last.ensures.closed
+
+-- the last event was taken, and its epoch was closed
+pub returns-in-Ok-clause-stands : goal.returns-in-Ok-clause-stands
+returns-in-Ok-clause-stands g c =
+    let shows = rw (c.in-Ok-Event.field-0-is, c.streams.ensures.value) at c.in-Ok-Event.ensures.shows in
+    let last = c.close_last-in-Ok in
+    on_ok_weaker last.result
+    (λ closed history stands. let takes = c.in-Ok.ensures.more history stands in
+    one_left c.args.catalogue.now history _ c.args.work.now last.new.work.engine (line_of c.in-Ok-Event.number c.in-Ok-Event.event) c.work_on_event.new.work _ _ shows takes (closed.stands _ takes.stands)) last.ensures.closed
+
+pub returns-in-Ok-clause-through : goal.returns-in-Ok-clause-through
+returns-in-Ok-clause-through g c =
+    let last = c.close_last-in-Ok in
+    on_ok_weaker last.result (through_closed c.args.catalogue.now c.work_on_event.new.work.engine last.new.work.engine c.in-Ok.ensures.at_work.planned) last.ensures.closed
+
+pub returns-in-Ok-clause-ends : goal.returns-in-Ok-clause-ends
+returns-in-Ok-clause-ends g c =
+    let shows = rw (c.in-Ok-Event.field-0-is, c.streams.ensures.value) at c.in-Ok-Event.ensures.shows in
+    let before = g.H.Host.told c.args.host.now in
+    let mid = g.H.Host.told c.work_on_event.new.host in
+    let after = g.H.Host.told c.close_last-in-Ok.new.host in
+    let program = program_over c.args.catalogue.now in
+    λ history stands. let takes = c.in-Ok.ensures.more history stands in
+    ends_same program true _ _ history c.args.work.now before after c.close_last-in-Ok.result shows
+    (advances_ends program true _ [] history (history ++ heard_of c.in-Ok-Event.event ∷ []) c.args.work.now c.work_on_event.new.work before mid after c.close_last-in-Ok.result c.work_on_event.ensures.same.later
+    (takes.advances true []) (c.close_last-in-Ok.ensures.ends _ takes.stands))
+
+-- the last event wasn't taken
+pub returns-in-Err-work_on_event-clause-ends : goal.returns-in-Err-work_on_event-clause-ends
+returns-in-Err-work_on_event-clause-ends g c =
+    let shows = rw (c.in-Ok-Event.field-0-is, c.streams.ensures.value) at c.in-Ok-Event.ensures.shows in
+    λ history stands. stops_same (program_over c.args.catalogue.now) true _ _ history c.args.work.now (g.H.Host.told c.args.host.now) (g.H.Host.told c.work_on_event.new.host) c.in-Err-work_on_event.fault shows
+    (c.in-Err-work_on_event.ensures.stops true [] history stands)
+
+-- the last line has a fault
+pub returns-in-Ok-Fault-clause-ends : goal.returns-in-Ok-Fault-clause-ends
+returns-in-Ok-Fault-clause-ends g c =
+    let shows = rw (c.in-Ok-Fault.field-0-is, c.streams.ensures.value) at c.in-Ok-Fault.ensures.shows in
+    let before = g.H.Host.told c.args.host.now in
+    let after = g.H.Host.told c.refuse.new.host in
+    let program = program_over c.args.catalogue.now in
+    λ history stands. stops_same program true _ _ history c.args.work.now before after c.refuse.result shows
+    (refuses program true [] history (record { number = c.in-Ok-Fault.number; found = Err c.in-Ok-Fault.why }) c.args.work.now _ before after c.refuse.result refl c.refuse.ensures.by)

@@ -1,0 +1,74 @@
+-- The events that the work stands for, and what holds of the work whatever was heard. No public clause cites this module.
+use Rattle.std.specs.Prelude.{◌≡◌, ◌≤◌, ℕ, IsTrue, List, [], None}
+use Rattle.semantics.specs.Histories.{Event}
+use Rattle.semantics.specs.Programs.{Program}
+use Rattle.automaton.specs.declared.line.Line.{Line}
+use Rattle.automaton.specs.NetworkLines.{HasLines}
+use Rattle.splitter.specs.Chains.{lines_of}
+use Rattle.splitter.specs.Layouts.{IsLayoutOf}
+use Rattle.epoch_laws.specs.Standing.{last_time}
+use Rattle.epoch_engine.specs.Closes.{KeepsPlan}
+use Rattle.epoch_engine.specs.Offers.{IsLate, IsNotAhead}
+use Rattle.epoch_engine.specs.EngineStandsFor as engines
+use Rattle.epoch_engine.specs.EngineView as engine
+use Rattle.event_csv.specs.Fed.{Fed, IsPart, line_feeds_so_far}
+use Rattle.catalogue.specs.Catalogued.{Catalogued, judged_of}
+use Rattle.catalogue.specs.Chained.{kinds_of_each}
+use Rattle.catalogue.specs.Judgement.{program_of}
+use Rattle.session.specs.SessionView.{AreDeclared}
+use Rattle.session.specs.declared.work.Work.{Work}
+
+-- the program of a catalogue
+abbrev pub program_over : Catalogued → Program
+program_over c = program_of (judged_of c)
+
+-- its automaton lines
+abbrev pub lines_over : Catalogued → List Line
+lines_over c = lines_of (program_over c)
+
+-- the engine stands for events on declared streams, with the last of their epochs open
+pub record StandsWithLastOpen (c : Catalogued) (history : List Event) (now : engine.EngineView) : Type 0 where
+  pub declared : AreDeclared (judged_of c) history
+  pub engine : engines.EngineStandsFor now (lines_over c) history
+  pub last_is_open : now.time ≡ last_time history
+
+-- the engine's network has the lines of the catalogue's program, and its layout is one of it
+pub record IsPlanned (c : Catalogued) (now : engine.EngineView) : Type 0 where
+  pub lines : HasLines now.network (lines_over c)
+  pub layout : IsLayoutOf (program_over c) (kinds_of_each (judged_of c).streams) now.layout
+
+-- the engine is intact and planned, and where no epoch is open, none was closed
+pub record IsAtWork (c : Catalogued) (work : Work) : Type 0 where
+  pub intact : IsTrue work.engine.intact
+  pub planned : IsPlanned c work.engine
+  pub opened : work.engine.time ≡ None → work.engine.closed_time ≡ None
+
+-- the open epoch was closed, and the engine stands for the same events
+pub record HasClosed (c : Catalogued) (old new : engine.EngineView) : Type 0 where
+  pub plan : KeepsPlan old new
+  pub intact : IsTrue new.intact
+  pub none_open : new.time ≡ None
+  pub now_closed : new.closed_time ≡ old.time
+  pub stands : (history : List Event) → StandsWithLastOpen c history old → engines.EngineStandsFor new (lines_over c) history
+
+-- no epoch is open, and the engine is intact and planned
+pub record IsThrough (c : Catalogued) (now : engine.EngineView) : Type 0 where
+  pub intact : IsTrue now.intact
+  pub planned : IsPlanned c now
+  pub none_open : now.time ≡ None
+
+-- an event of this time may be offered, and the engine stands for the same events
+pub record IsReadyForEvent (c : Catalogued) (at : ℕ) (old new : engine.EngineView) : Type 0 where
+  pub plan : KeepsPlan old new
+  pub intact : IsTrue new.intact
+  pub not_ahead : IsNotAhead new.time at
+  pub in_time : (seen : ℕ) → IsLate new.time new.closed_time at seen → ⊥
+  pub stands : (history : List Event) → StandsWithLastOpen c history old → engines.EngineStandsFor new (lines_over c) history
+
+-- the work may go on: no rows wait to be written, the bytes are within the limit, as many line feeds at most came, and what is left is part of one line
+pub record IsGoing (c : Catalogued) (limit : ℕ) (feed : Fed) (fed : ℕ) (work : Work) : Type 0 where
+  pub at_work : IsAtWork c work
+  pub none_owed : work.rows ≡ []
+  pub within : fed ≤ limit
+  pub counted : line_feeds_so_far feed ≤ fed
+  pub part : IsPart feed
