@@ -9,8 +9,8 @@ ghost use Rattle.cayuga_run.specs.Blaming.{BlamesHost};
 ghost use Rattle.cayuga_run.specs.QueryFailing.{QueriesFail, TextFails};
 ghost use Rattle.cayuga_run.specs.Refusing.{AreNotAccepted};
 
-use crate::status::Status;
 use crate::sides::{ReadEnd, read_side};
+use crate::status::Status;
 use catalogue::{Catalogue, LoadFault, load};
 use cay_host::{Host, Side};
 use std::alloc::Global;

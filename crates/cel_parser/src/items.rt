@@ -17,11 +17,7 @@ use std::alloc::Global;
 
 /// Items between commas at the front, and the symbols behind them.
 #[tactic(auto, using(crate::proofs::ListNext::items_alone))]
-pub(crate) fn read_items<'a>(
-    alloc: Global,
-    fuel: usize,
-    symbols: Symbols<'a>,
-) -> Reading<'a, Items>
+pub(crate) fn read_items<'a>(alloc: Global, fuel: usize, symbols: Symbols<'a>) -> Reading<'a, Items>
     ensures { ReturnsReading (λ p. (map item_of p.0, map grammar_symbol_of p.1.now)) result (items_at fuel (map grammar_symbol_of symbols.now)) }
 {
     more_items(alloc, fuel, Items::new(alloc), symbols)
