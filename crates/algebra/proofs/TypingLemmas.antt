@@ -18,7 +18,7 @@ use Rattle.semantics.specs.Kinds.{HasKinds, HaveKinds}
 use Rattle.semantics.proofs.KindLemmas.{kinds_append}
 use Rattle.semantics.specs.Typing.{AreTyped, AreOfKinds, IsTypedOver}
 use Rattle.scalar_expr.proofs.ListLemmas.{All-flat_map}
-use Rattle.scalar_expr.proofs.FitLemmas.{typed_tests, typed_fits, typed_image}
+use Rattle.scalar_expr.proofs.FitLemmas.{typed_tests, typed_image, typed_fits}
 
 -- it fits each tuple with the binding
 typed_pairs : (ps : List Pr) (es bs : List Kind) (rs : List TupleView) (b : TupleView) → AreTyped ps es (Some bs) → All (HasKinds es) rs → HasKinds bs b → FitsPairs ps rs b
