@@ -1,7 +1,7 @@
 //! The engine, which keeps the bindings that wait and closes one epoch after another.
 //!
 //! Contracts see an `Engine` as its network and layout, the instances of each state, the open tuples of
-//! each stream, the open epoch, the last closed time and whether it is intact (`View`).
+//! each stream, the open epoch, the last closed time and whether it is intact (`EngineView`).
 #![tactic(auto)]
 
 mod batch;

@@ -15,7 +15,7 @@ FoundIsTook =
     (key : Option Key) (choose : List Pr) (turn : Option Turn) (tuples : List TupleView) (store : List Instance) → IsKeyOf key choose
     → IsPermutation (found key choose turn tuples store) (took choose turn tuples store)
 
--- what all have taken out are the instances for which one of them is eligible
+-- what is left once all have taken out their candidates are the instances for which none of them is eligible
 abbrev pub TakenOutIsLeft : Type 0
 TakenOutIsLeft =
     (key : Option Key) (choose : List Pr) (tuples : List TupleView) (store : List Instance) → IsKeyOf key choose

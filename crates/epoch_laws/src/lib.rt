@@ -2,7 +2,7 @@
 //!
 //! The definitions stand in `specs/`. The functions are laws: they do nothing, and their contracts say
 //! what follows from the definitions. An engine that closes an epoch as `IsEpoch` and `ArePurged` say
-//! goes on standing for its history (`Stands`), and its batch is what the queries denote.
+//! goes on standing for its history (`StoresStandFor`), and its batch is what the queries denote.
 #![tactic(auto)]
 
 ghost use Rattle.epoch_laws.specs.Batch.{BatchIsResults};

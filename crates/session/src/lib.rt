@@ -1,7 +1,7 @@
 //! Sessions: the report of queries over an event text, written as its bytes come.
 //!
 //! Contracts see a `Session` as its catalogue, its engine, the limit on the bytes of its event text, its
-//! feed, the number of bytes that it was fed, and whether it has ended (`View`).
+//! feed, the number of bytes that it was fed, and whether it has ended (`SessionView`).
 #![tactic(auto)]
 
 mod closing;
