@@ -1,10 +1,10 @@
-//! Which prefixes are one, and which numbers states have.
+//! Which states a removed line takes away, and which numbers states have.
 ghost use Rattle.std.specs.Prelude.{◌≡◌, IfOk, length};
 
 use crate::Merged;
-use automaton::{Hop, Hops, Line, Lines, Stage, Turn, Wait};
+use automaton::{Hop, Hops, Line, Lines, Wait};
 use event_types::{Cmp, List, Memory, Value};
-use scalar_expr::{Map, Pred, Scalar, normal};
+use scalar_expr::{Pred, Scalar, normal};
 use std::alloc::Global;
 use std::test::Fail;
 
@@ -13,38 +13,16 @@ fn above(place: usize) -> Pred {
     Pred::Test(Scalar::Event(place), Cmp::Gt, Scalar::Lit(Value::Int(5)))
 }
 
-// Both hold.
-fn both(alloc: Global, left: Pred, right: Pred) -> Result<Pred, Memory> {
-    Ok(Pred::And(Box::new(alloc, left)?, Box::new(alloc, right)?))
-}
-
-// It doesn't hold.
-fn not(alloc: Global, denied: Pred) -> Result<Pred, Memory> {
-    Ok(Pred::Not(Box::new(alloc, denied)?))
-}
-
 // A hop with a wait on the stream 1.
-fn hop(alloc: Global, choose: Pred, fold: Option<Turn>) -> Result<Hop, Memory> {
+fn hop(alloc: Global, choose: Pred) -> Result<Hop, Memory> {
     let wait = Wait {
         stream: 1,
         choose: normal(alloc, choose)?,
-        fold,
+        fold: None,
     };
     Ok(Hop {
         step: List::new(alloc),
         wait,
-    })
-}
-
-// A rebind edge that goes on under this condition.
-fn turn(alloc: Global, on: Pred) -> Result<Turn, Memory> {
-    let set = Map {
-        width: 1,
-        parts: List::new(alloc),
-    };
-    Ok(Turn {
-        on: normal(alloc, on)?,
-        set,
     })
 }
 
@@ -75,105 +53,13 @@ fn two(alloc: Global, first: Line, second: Line) -> Result<Lines, Memory>
     Ok(lines)
 }
 
-// How many states two lines from the stream 0 have with one hop each.
-fn states(alloc: Global, first: Hop, second: Hop) -> Result<usize, Memory> {
-    let first = line(alloc, 0, only(alloc, first)?);
-    let second = line(alloc, 0, only(alloc, second)?);
-    let merged = Merged::of(alloc, &two(alloc, first, second)?)?;
-    Ok(merged.network().states())
-}
-
-#[test]
-fn equal_hops_are_one_state(rt: HostRuntime) -> Result<(), Fail> {
-    let alloc = rt.alloc();
-    let states = states(
-        alloc,
-        hop(alloc, above(0), None)?,
-        hop(alloc, above(0), None)?,
-    )?;
-    assert_eq!(rt; states, 2);
-    Ok(())
-}
-
-#[test]
-fn conditions_in_another_order_are_one_state(rt: HostRuntime) -> Result<(), Fail> {
-    let alloc = rt.alloc();
-    let first = both(alloc, above(0), above(1))?;
-    let second = both(alloc, above(1), above(0))?;
-    let states = states(alloc, hop(alloc, first, None)?, hop(alloc, second, None)?)?;
-    assert_eq!(rt; states, 2);
-    Ok(())
-}
-
-#[test]
-fn less_and_the_greater_turned_round_are_one_state(rt: HostRuntime) -> Result<(), Fail> {
-    let alloc = rt.alloc();
-    let first = Pred::Test(Scalar::Event(0), Cmp::Lt, Scalar::Event(1));
-    let second = Pred::Test(Scalar::Event(1), Cmp::Gt, Scalar::Event(0));
-    let states = states(alloc, hop(alloc, first, None)?, hop(alloc, second, None)?)?;
-    assert_eq!(rt; states, 2);
-    Ok(())
-}
-
-#[test]
-fn not_in_another_place_is_another_state(rt: HostRuntime) -> Result<(), Fail> {
-    let alloc = rt.alloc();
-    let first = not(alloc, both(alloc, above(0), above(1))?)?;
-    let second = both(alloc, not(alloc, above(0))?, above(1))?;
-    let states = states(alloc, hop(alloc, first, None)?, hop(alloc, second, None)?)?;
-    assert_eq!(rt; states, 3);
-    Ok(())
-}
-
-#[test]
-fn another_condition_to_go_on_is_another_state(rt: HostRuntime) -> Result<(), Fail> {
-    let alloc = rt.alloc();
-    let first = turn(alloc, above(0))?;
-    let second = turn(alloc, above(1))?;
-    let states = states(
-        alloc,
-        hop(alloc, Pred::True, Some(first))?,
-        hop(alloc, Pred::True, Some(second))?,
-    )?;
-    assert_eq!(rt; states, 3);
-    Ok(())
-}
-
-#[test]
-fn lines_that_differ_in_the_last_step_share_all_states(rt: HostRuntime) -> Result<(), Fail> {
-    let alloc = rt.alloc();
-    let first = line(alloc, 0, only(alloc, hop(alloc, above(0), None)?)?);
-    let mut second = line(alloc, 0, only(alloc, hop(alloc, above(0), None)?)?);
-    let parts = List::new(alloc);
-    assert!(rt;
-        second
-            .last
-            .push(Stage::Make(Map { width: 2, parts }))
-            .is_ok()
-    );
-    let merged = Merged::of(alloc, &two(alloc, first, second)?)?;
-    let network = merged.network();
-    assert_eq!(rt; network.states(), 2);
-    assert!(rt; 1 < network.places() && network.used(1));
-    match network.ends(1).as_slice() {
-        [first, second] => {
-            assert_eq!(rt; first.number, 0);
-            assert_eq!(rt; first.step.len(), 0);
-            assert_eq!(rt; second.number, 1);
-            assert_eq!(rt; second.step.len(), 1);
-        }
-        _ => panic!(rt; "not two ends"),
-    }
-    Ok(())
-}
-
 #[test]
 fn removed_line_takes_away_the_states_that_it_alone_uses(rt: HostRuntime) -> Result<(), Fail> {
     let alloc = rt.alloc();
-    let mut hops = only(alloc, hop(alloc, above(0), None)?)?;
-    assert!(rt; hops.push(hop(alloc, above(1), None)?).is_ok());
+    let mut hops = only(alloc, hop(alloc, above(0))?)?;
+    assert!(rt; hops.push(hop(alloc, above(1))?).is_ok());
     let longer = line(alloc, 0, hops);
-    let shorter = line(alloc, 0, only(alloc, hop(alloc, above(0), None)?)?);
+    let shorter = line(alloc, 0, only(alloc, hop(alloc, above(0))?)?);
     let lines = two(alloc, longer, shorter)?;
     let mut merged = Merged::of(alloc, &lines)?;
     assert_eq!(rt; merged.network().states(), 3);
