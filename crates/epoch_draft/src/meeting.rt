@@ -129,8 +129,8 @@ fn meet_instances<L: Ledger>(
     requires fits { DraftFits (length draft.old.made) (length network.now) draft.old }
     requires suits { All (λ instance. WaitSuits wait.now instance.tuple tuple.now) instances }
     requires leaving { All (LeavingSuits network.now state) (met wait.now instances tuple.now) }
-    ensures grows { OnOk result (Grows network.now (moves_from network.now state (met wait.now instances.entrance tuple.now)) draft.old draft.new) }
-    ensures ticks { OnOk result (steps.new ≤ steps.old + sum_by (binding_work network.now state wait.now tuple.now) instances.entrance) }
+    ensures grows { OnOk result (Grows network.now (moves_from network.now state (met wait.now instances.entry tuple.now)) draft.old draft.new) }
+    ensures ticks { OnOk result (steps.new ≤ steps.old + sum_by (binding_work network.now state wait.now tuple.now) instances.entry) }
 {
     while let Some(instance) = instances.next() {
         meet_binding(

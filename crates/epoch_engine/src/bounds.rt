@@ -21,7 +21,7 @@ pub(crate) fn has_bound(condition: &Conj) -> bool
 
 // Whether a part is a bound on DUR.
 fn is_bound(part: Part<'_>) -> bool
-    ensures { result ≡ false → (time : ℕ) (binding : TupleView) → meets_bound time binding (class_seen part.entrance) ≡ true }
+    ensures { result ≡ false → (time : ℕ) (binding : TupleView) → meets_bound time binding (class_seen part.entry) ≡ true }
 {
     match part {
         Part::Bound { .. } => true,

@@ -24,7 +24,7 @@ pub fn add_met<L: Ledger>(
     steps: &mut Steps<L>,
 ) -> Result<(), Memory>
     requires { All (λ instance. WaitSuits wait.now instance.tuple tuple.now) instances }
-    ensures { OnOk result (out.new ≡ out.old ++ met wait.now instances.entrance tuple.now) }
+    ensures { OnOk result (out.new ≡ out.old ++ met wait.now instances.entry tuple.now) }
 {
     while let Some(instance) = instances.next() {
         add_paired(alloc, out, wait, &instance.tuple, tuple, steps)?;
