@@ -1,4 +1,4 @@
+pub use Rattle.expressions.specs.Views
 pub mod Laws
 pub mod SuitedQueries
 pub mod Suits
-pub mod Views

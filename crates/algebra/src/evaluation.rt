@@ -5,15 +5,18 @@ ghost use Rattle.semantics.specs.Denotation.{denote, selected, streams_of};
 ghost use Rattle.semantics.specs.Truth.{all_true};
 ghost use Rattle.scalar_expr.specs.Fits.{Fits};
 ghost use Rattle.algebra.specs.Suits.{FitsEach, Suits};
-ghost use Rattle.algebra.specs.Views.{ex_of};
+ghost use Rattle.expressions.specs.Views.{ex_of};
 
-use crate::expression::{Env, Expr};
 use crate::iteration::add_all_runs;
 use crate::matching::add_all_matches;
 use event_types::{List, Memory, Tuple, Tuples};
+use expressions::Expr;
 use scalar_expr::{Conj, Map, apply, holds};
 use std::alloc::Global;
 use steps::{Ledger, Steps};
+
+/// The tuples of each stream, by its number.
+pub type Env = List<Tuples>;
 
 /// What the expression denotes, in the order of its meaning. Want of memory drops what was found.
 #[cycle(evaluation)]

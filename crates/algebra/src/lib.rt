@@ -1,16 +1,15 @@
-//! Expressions over streams, and a plain evaluator of what they denote.
+//! A plain evaluator of what expressions over streams denote.
 //!
-//! Contracts see an `Expr` as a term (`ex_of`), and an `Env` as the tuples of each stream (`streams_of`).
+//! Contracts see an `Env` as the tuples of each stream (`streams_of`).
 #![tactic(auto)]
 
 mod evaluation;
-mod expression;
 mod iteration;
 mod laws;
 mod matching;
 
-pub use evaluation::evaluate;
-pub use expression::{Env, Expr};
+pub use evaluation::{Env, evaluate};
+pub use expressions::Expr;
 pub use laws::{sound_streams_give_sound_tuples, typed_programs_suit, typed_suits};
 
 #[cfg(test)]

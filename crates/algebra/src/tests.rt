@@ -6,7 +6,7 @@ ghost use Rattle.semantics.specs.Denotation.{streams_of};
 ghost use Rattle.semantics.specs.Expressions.{Fold, Next, Read};
 ghost use Rattle.semantics.specs.Scalars.{Dur, Lit, Test};
 ghost use Rattle.algebra.specs.Suits.{Suits};
-ghost use Rattle.algebra.specs.Views.{ex_of};
+ghost use Rattle.expressions.specs.Views.{ex_of};
 
 use crate::{Env, Expr, evaluate};
 use event_types::{List, Memory, Tuple, Tuples, Value};

@@ -1,9 +1,9 @@
 -- What contracts see of a `Catalogue`.
 use Rattle.std.specs.Prelude.{◌+◌, ◌-◌, ℕ, List, [], ◌∷◌, ◌++◌, length, map, take, drop, refl}
 use Rattle.std.specs.Coded.{Coded, code_by, coded×, coded_list, coded_ℕ}
-use Rattle.algebra.specs.contracts.expression.Expr as expression
-use Rattle.algebra.specs.declared.expression.Expr.{Expr}
-use Rattle.algebra.specs.Views.{ex_of}
+use Rattle.expressions.specs.contracts.expression.Expr as expression
+use Rattle.expressions.specs.declared.expression.Expr.{Expr}
+use Rattle.expressions.specs.Views.{ex_of}
 use Rattle.semantics.specs.Programs.{Query}
 use Rattle.splitter.specs.Splitting as split
 use Rattle.stream_schema.specs.contracts.streams.Streams as table

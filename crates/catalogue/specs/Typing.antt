@@ -1,8 +1,8 @@
 -- The types of a file: its declarations in file order, then its queries in the order of work.
 use Rattle.std.specs.Prelude.{◌≡◌, ℕ, true, false, List, [], ◌∷◌, ◌++◌, length, map, Some, slice_get}
 use Rattle.std.specs.List.{items_where_true}
-use Rattle.algebra.specs.declared.expression.Expr.{Expr}
-use Rattle.algebra.specs.Views.{ex_of}
+use Rattle.expressions.specs.declared.expression.Expr.{Expr}
+use Rattle.expressions.specs.Views.{ex_of}
 use Rattle.semantics.specs.Expressions.{Ex}
 use Rattle.semantics.specs.Programs.{Query}
 use Rattle.splitter.specs.Splitting.{parts_of}

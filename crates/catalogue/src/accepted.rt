@@ -1,7 +1,7 @@
 //! Catalogues: query texts that are accepted.
 ghost use Rattle.std.specs.Prelude.{◌≡◌, ◌≢◌, ◌<◌, ◌+◌, ◌^◌, ◌==◌, ◌++◌, ◌∷◌, [], AllPairs, IfOk, OnOk, length, sum_by};
 ghost use Rattle.std.specs.List.{All, position_or_len};
-ghost use Rattle.algebra.specs.Views.{ex_of};
+ghost use Rattle.expressions.specs.Views.{ex_of};
 ghost use Rattle.splitter.specs.Chains.{lines_of};
 ghost use Rattle.splitter.specs.Layouts.{IsLayoutOf};
 ghost use Rattle.catalogue.specs.Catalogued.{IsAccepted, parts_of, judged_of};
@@ -9,10 +9,10 @@ ghost use Rattle.catalogue.specs.Chained.{kinds_of_each};
 ghost use Rattle.catalogue.specs.Judgement.{program_of, query_at};
 ghost use Rattle.catalogue.specs.Tables.{HasPlaces};
 
-use algebra::Expr;
 use automaton::{Layout, Lines};
 use cel_parser::File;
 use event_types::{KindLists, List, Memory, Numbers, StreamId};
+use expressions::Expr;
 use splitter::Chains;
 use std::alloc::Global;
 use std::marker::Model;

@@ -11,9 +11,9 @@ use crate::declaring::declare_all;
 use crate::fault::LoadFault;
 use crate::filing::file_of;
 use crate::publishing::publish_all;
-use algebra::Expr;
 use cel_parser::File;
 use event_types::{List, Numbers};
+use expressions::Expr;
 use std::alloc::Global;
 use stream_schema::Streams;
 

@@ -1,6 +1,6 @@
 //! The streams that the queries of a file publish.
 ghost use Rattle.std.specs.Prelude.{◌≡◌, ◌++◌, ◌∷◌, [], None, IfErr, IfOk, OnOk, map, if◌then◌else◌};
-ghost use Rattle.algebra.specs.Views.{ex_of};
+ghost use Rattle.expressions.specs.Views.{ex_of};
 ghost use Rattle.cel_grammar.specs.Views.{statement_of};
 ghost use Rattle.cel_types.specs.Statements.{FailsAsQuery, IsQueryOver};
 ghost use Rattle.resubscribe.specs.Order.{IsOrder};
@@ -15,11 +15,11 @@ ghost use Rattle.catalogue.specs.Typing.{AddsQuery, ArePublished, FileDeclares, 
 use crate::declaring::of_types;
 use crate::fault::LoadFault;
 use crate::statements::{is_a_query, name};
-use algebra::Expr;
 use cel_grammar::Statement;
 use cel_parser::File;
 use cel_types::elaborate;
 use event_types::{List, Memory, Numbers};
+use expressions::Expr;
 use std::alloc::Global;
 use stream_schema::Streams;
 

@@ -1,6 +1,6 @@
 //! What no clause says: that memory is had.
 use crate::load;
-use algebra::Expr;
+use expressions::Expr;
 use std::test::Fail;
 
 #[test]

@@ -1,6 +1,6 @@
 -- What holds while sources are typed. No public clause cites this module.
 use Rattle.std.specs.Prelude.{List, Contains}
-use Rattle.algebra.specs.Views.{ex_of}
+use Rattle.expressions.specs.Views.{ex_of}
 use Rattle.stream_schema.specs.Streams.{Entry, stream_names}
 use Rattle.cel_grammar.specs.Trees.{Source}
 use Rattle.cel_grammar.specs.Trees as tree

@@ -1,7 +1,7 @@
 //! The schemas and the expressions of queries.
 ghost use Rattle.std.specs.Prelude.{◌≢◌, Contains, IfOk, IfErr, map};
 ghost use Rattle.std.specs.List.{All};
-ghost use Rattle.algebra.specs.Views.{ex_of};
+ghost use Rattle.expressions.specs.Views.{ex_of};
 ghost use Rattle.cel_grammar.specs.Trees as tree;
 ghost use Rattle.cel_grammar.specs.Views.{item_of, source_of, statement_of};
 ghost use Rattle.cel_types.specs.Sources.{FailsToElaborate, Elaborates};
@@ -10,8 +10,8 @@ ghost use Rattle.stream_schema.specs.Streams.{stream_names};
 
 use crate::fault::TypeFault;
 use crate::sources::{Typed, selected, source};
-use algebra::Expr;
 use cel_grammar::{Item, Source, Statement};
+use expressions::Expr;
 use std::alloc::Global;
 use stream_schema::{Schema, Streams};
 

@@ -1,6 +1,6 @@
 //! The schema and the expression of a source.
 ghost use Rattle.std.specs.Prelude.{◌≡◌, ◌≢◌, ◌+◌, ◌<◌, ◌≤◌, length, map, Contains, IfOk, IfErr, List};
-ghost use Rattle.algebra.specs.Views.{ex_of};
+ghost use Rattle.expressions.specs.Views.{ex_of};
 ghost use Rattle.cel_grammar.specs.Trees as tree;
 ghost use Rattle.cel_grammar.specs.Views.{agg_of, item_of, pred_of, source_of};
 ghost use Rattle.cel_types.specs.Predicates.{Fails, Means};
@@ -19,9 +19,9 @@ use crate::fault::TypeFault;
 use crate::items::make;
 use crate::scope::Scope;
 use crate::unions::difference;
-use algebra::Expr;
 use cel_grammar::{Agg, Item, RawPred, Source};
 use event_types::Copied;
+use expressions::Expr;
 use scalar_expr::{Conj, Map};
 use std::alloc::Global;
 use stream_schema::{Schema, SchemaFault, Streams, join};

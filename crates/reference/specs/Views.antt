@@ -2,7 +2,7 @@
 use Rattle.std.specs.Prelude.{◌≡◌, ⊤, ℕ, ◌+◌, List, [], ◌∷◌, map, slice_get}
 use Rattle.std.specs.List.{filter_map}
 use Rattle.semantics.specs.Programs.{Program, Query as Term}
-use Rattle.algebra.specs.Views.{ex_of}
+use Rattle.expressions.specs.Views.{ex_of}
 use Rattle.reference.specs.declared.query.Query.{Query}
 
 -- the query as a term; it has no lines, so the number of its hidden streams is of no account

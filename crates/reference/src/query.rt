@@ -1,6 +1,6 @@
 //! Queries as they are evaluated.
-use algebra::Expr;
 use event_types::StreamId;
+use expressions::Expr;
 
 /// A query: its name, the number of the stream that it publishes, and the expression that says what.
 #[derive(Clone, Copy)]

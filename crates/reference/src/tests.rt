@@ -4,11 +4,11 @@ ghost use Rattle.event_types.specs.declared.comparison.Cmp.TheVariants.{Lt};
 ghost use Rattle.event_types.specs.declared.value.Value.TheVariants.{Int};
 ghost use Rattle.semantics.specs.Expressions.{Filter, Next, Read};
 ghost use Rattle.semantics.specs.Scalars.{Dur, Lit, Test};
-ghost use Rattle.algebra.specs.Views.{ex_of};
+ghost use Rattle.expressions.specs.Views.{ex_of};
 
 use crate::{Batch, Evaluator, Query};
-use algebra::Expr;
 use event_types::{List, Memory, Numbers, Tuple, Tuples, Value};
+use expressions::Expr;
 use scalar_expr::{Cmp, Pred, Scalar, normal};
 use std::alloc::Global;
 use std::process::Abort;

@@ -11,7 +11,7 @@ use Rattle.semantics.specs.Kinds.{HasKinds}
 use Rattle.semantics.specs.Programs.{Query, published, with_stream}
 use Rattle.semantics.specs.Reading.{ReadsOnly}
 use Rattle.semantics.specs.TypedPrograms.{PublishInTurn}
-use Rattle.algebra.proofs.ProgramLemmas.{typed_in_turn}
+use Rattle.expressions.proofs.ProgramLemmas.{kinds_in_turn}
 use Rattle.automaton.proofs.AdditionLemmas.{added_alone, added_in_order}
 use Rattle.automaton.specs.Additions.{AreFresh}
 use Rattle.automaton.specs.Work.{IsInOrder, completed, is_in}
@@ -142,7 +142,7 @@ module _ (kinds : ℕ → List Kind) where
       let more = there ++ query.stream ∷ [] in
       ap (λ (all : Streams). all s) (added_alone (split_lines query.expr query.stream query.hidden) (split_order query.expr query.stream query.hidden) (chain_lines order) (chain_order order) streams (later_fresh there query order turn apart))
       ∙ chain_means more order done (with_stream plain query.stream tuples) turn.3 apart.2 (All-tail (λ (q : Query). HasWidths kinds q.expr) query order wide)
-      (typed_in_turn kinds there plain (query ∷ []) have (turn.0, turn.1, turn.2, tt)).1 (turn_means there query order turn apart.0 streams plain same meet) s
+      (kinds_in_turn kinds there plain (query ∷ []) have (turn.0, turn.1, turn.2, tt)) (turn_means there query order turn apart.0 streams plain same meet) s
       (subst (λ (xs : List ℕ). Contains xs s) (sym (append_assoc there (query.stream ∷ []) (map (λ (q : Query). q.stream) order))) has)
 
 -- each line publishes a stream of the order

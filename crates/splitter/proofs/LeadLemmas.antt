@@ -10,8 +10,8 @@ use Rattle.event_types.specs.declared.kind.Kind.{Kind}
 use Rattle.semantics.specs.Expressions.{Ex}
 use Rattle.semantics.specs.Programs.{Query}
 use Rattle.semantics.specs.TypedPrograms.{PublishInTurn}
-use Rattle.algebra.specs.declared.expression.Expr.{Expr}
-use Rattle.algebra.specs.Views.{ex_of}
+use Rattle.expressions.specs.declared.expression.Expr.{Expr}
+use Rattle.expressions.specs.Views.{ex_of}
 use Rattle.automaton.specs.declared.layout.Layout.{Layout}
 use Rattle.automaton.specs.declared.line.Line.{Line}
 use Rattle.automaton.specs.Layouts.{LayoutFits}

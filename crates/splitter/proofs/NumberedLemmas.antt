@@ -6,8 +6,8 @@ use Rattle.std.proofs.lemmas.List.{length-map}
 use Rattle.std.proofs.lemmas.List.Elements.{All-nil, All-cons, All-head, All-tail}
 use Rattle.semantics.specs.Expressions.{Ex}
 use Rattle.semantics.specs.Programs.{Query}
-use Rattle.algebra.specs.declared.expression.Expr.{Expr}
-use Rattle.algebra.specs.Views.{ex_of}
+use Rattle.expressions.specs.declared.expression.Expr.{Expr}
+use Rattle.expressions.specs.Views.{ex_of}
 use Rattle.splitter.specs.Splitting.{parts_of}
 use Rattle.splitter.proofs.NumberingLemmas.{parts_up}
 use Rattle.splitter.specs.Chains.{HideApart, LeavesHidden, hidden_end}

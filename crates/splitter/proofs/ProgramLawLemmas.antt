@@ -12,7 +12,7 @@ use Rattle.semantics.specs.Denotation.{Streams}
 use Rattle.semantics.specs.Histories.{Event}
 use Rattle.semantics.specs.Programs.{Program, Query, declared_streams, env}
 use Rattle.semantics.specs.TypedPrograms.{HaveTheirKinds, IsProgram}
-use Rattle.algebra.proofs.ProgramLemmas.{declared_kinds}
+use Rattle.expressions.proofs.ProgramLemmas.{declared_kinds}
 use Rattle.automaton.specs.Work.{IsInOrder, completed}
 use Rattle.splitter.specs.Chains.{HideApart, lines_of, order_of}
 use Rattle.splitter.specs.ProgramLaws.{IsWideProgram}

@@ -12,8 +12,8 @@ use Rattle.semantics.specs.Programs.{Program, Query}
 use Rattle.semantics.specs.Reading.{ReadsOnly}
 use Rattle.semantics.specs.TypedPrograms.{PublishInTurn}
 use Rattle.semantics.specs.Typing.{IsTypedOver}
-use Rattle.algebra.specs.declared.expression.Expr.{Expr}
-use Rattle.algebra.specs.Views.{ex_of}
+use Rattle.expressions.specs.declared.expression.Expr.{Expr}
+use Rattle.expressions.specs.Views.{ex_of}
 use Rattle.automaton.specs.declared.line.Line.{Line}
 use Rattle.automaton.specs.Layouts.{LayoutFits}
 use Rattle.splitter.specs.Laws.{split_order}

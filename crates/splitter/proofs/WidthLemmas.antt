@@ -13,7 +13,7 @@ use Rattle.semantics.specs.Reading.{ReadsOnly}
 use Rattle.semantics.proofs.KindLemmas.{kinds_length}
 use Rattle.semantics.specs.Typing.{IsTypedOver}
 use Rattle.scalar_expr.specs.Kinds.{sc_kind}
-use Rattle.algebra.proofs.TypingLemmas.{typed}
+use Rattle.expressions.proofs.TypingLemmas.{typed_kinds}
 use Rattle.automaton.proofs.TypingLemmas.{kinds_are}
 use Rattle.splitter.specs.Widths.{MeetWidths}
 use Rattle.splitter.specs.SourceWidths.{HasWidths, width_of}
@@ -35,7 +35,7 @@ module _ (count : ℕ) (kinds : ℕ → List Kind) where
   wide_meets streams all (Select m e) out h wide = (
     wide_meets streams all e h.0 h.1 wide.0,
     All-weaker (HasKinds h.0) (λ tuple. length tuple.vals ≡ m.width) (λ tuple has. kinds_length h.0 tuple.vals has ∙ width_is e h.0 h.1 ∙ wide.1) (denote e streams)
-        (typed e count kinds h.0 streams all h.1).1,
+        (typed_kinds e count kinds h.0 streams all h.1),
   )
   wide_meets streams all (Union e f) out h wide = (wide_meets streams all e out h.0 wide.0, wide_meets streams all f out h.1 wide.1)
   wide_meets streams all (Next p e f) out h wide = (wide_meets streams all e h.0 h.2 wide.0, wide_meets streams all f h.1 h.3 wide.1)

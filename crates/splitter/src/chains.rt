@@ -3,7 +3,7 @@ ghost use Rattle.std.specs.Prelude.{◌≡◌, ◌+◌, ◌-◌, ◌<◌, ◌≤
 ghost use Rattle.std.specs.List.{All, range_with_len};
 ghost use Rattle.event_types.specs.declared.kind.Kind.{Kind};
 ghost use Rattle.semantics.specs.TypedPrograms.{PublishInTurn};
-ghost use Rattle.algebra.specs.Views.{ex_of};
+ghost use Rattle.expressions.specs.Views.{ex_of};
 ghost use Rattle.splitter.specs.Laws.{IsApart, split_order};
 ghost use Rattle.splitter.specs.Splitting.{parts_of, split_lines};
 ghost use Rattle.splitter.specs.Chains.{chain_end};
@@ -14,9 +14,9 @@ ghost use Rattle.splitter.specs.Work.{AreChains, kinds_by, work_of};
 use crate::kinds::add_kinds;
 use crate::namer::Namer;
 use crate::splitting::split;
-use algebra::Expr;
 use automaton::{Layout, Lines};
 use event_types::{KindLists, List, Memory, Numbers, StreamId};
+use expressions::Expr;
 use std::alloc::Global;
 
 /// The automaton lines of queries, and the layout of their streams.

@@ -1,15 +1,15 @@
 //! Expressions as lines.
 ghost use Rattle.std.specs.Prelude.{◌≡◌, ◌≢◌, ◌<◌, ◌≤◌, ◌^◌, ◌++◌, IfOk, OnErr, OnOk};
 ghost use Rattle.semantics.specs.Reading.{ReadsOnly};
-ghost use Rattle.algebra.specs.Views.{ex_of};
+ghost use Rattle.expressions.specs.Views.{ex_of};
 ghost use Rattle.splitter.specs.Room.{HasRoom};
 ghost use Rattle.splitter.specs.Splitting.{parts_of, right_side_of, split_lines};
 
 use crate::namer::Namer;
 use crate::open::{Open, hop_each, keep_each, make_each, publish_each, read_line};
-use algebra::Expr;
 use automaton::{Lines, Turn, Wait};
 use event_types::{List, Memory, StreamId};
+use expressions::Expr;
 use std::alloc::Global;
 
 /// The automaton lines that publish the expression on a stream, those of its hidden streams before

@@ -5,14 +5,14 @@ ghost use Rattle.event_types.specs.declared.value.Value.TheVariants.{Int};
 ghost use Rattle.semantics.specs.Expressions.{Filter, Next, Read, Select};
 ghost use Rattle.semantics.specs.Scalars.{Event, Lit, Test};
 ghost use Rattle.scalar_expr.specs.Canonical.{canonical};
-ghost use Rattle.algebra.specs.Views.{ex_of};
+ghost use Rattle.expressions.specs.Views.{ex_of};
 ghost use Rattle.splitter.specs.Laws.{IsApart};
 ghost use Rattle.splitter.specs.Splitting.{parts_of};
 
 use crate::{Namer, split};
-use algebra::Expr;
 use automaton::{Line, Lines};
 use event_types::{List, Memory, Value};
+use expressions::Expr;
 use scalar_expr::{Cmp, Conj, Map, Pred, Scalar, normal};
 use std::alloc::Global;
 use std::test::Fail;

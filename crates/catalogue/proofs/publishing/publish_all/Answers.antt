@@ -2,7 +2,7 @@ use Rattle.std.proofs.Common.{◌≡◌, ◌∙◌, ◌++◌, ◌∷◌, ◌<◌
 use Rattle.std.specs.Prelude.{Some, slice_get}
 use Rattle.std.proofs.lemmas.List.{length-map}
 use Rattle.std.proofs.lemmas.Result.{err_from_is_err_and}
-use Rattle.algebra.specs.declared.expression.Expr.{Expr}
+use Rattle.expressions.specs.declared.expression.Expr.{Expr}
 use Rattle.cel_grammar.specs.Views.{statement_of}
 use Rattle.catalogue.specs.Typing.{ArePublished}
 use Rattle.catalogue.proofs.PlaceLemmas.{slice_get-map}

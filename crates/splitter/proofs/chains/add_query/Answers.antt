@@ -1,5 +1,5 @@
 use Rattle.std.proofs.Common.{◌≡◌, arith}
-use Rattle.algebra.specs.Views.{ex_of}
+use Rattle.expressions.specs.Views.{ex_of}
 use Rattle.splitter.specs.Splitting.{parts_of}
 use Rattle.splitter.proofs.NumberingLemmas.{parts_up}
 use Rattle.splitter.proofs.chains.add_query.Goals as goal

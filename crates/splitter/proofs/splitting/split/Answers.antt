@@ -1,5 +1,5 @@
 use Rattle.std.proofs.Common.{subst, sym}
-use Rattle.algebra.specs.Views.{ex_of}
+use Rattle.expressions.specs.Views.{ex_of}
 use Rattle.splitter.specs.Room.{HasRoom}
 use Rattle.splitter.proofs.NumberingLemmas.{room_for}
 use Rattle.splitter.proofs.splitting.split.Goals as goal

@@ -1,7 +1,7 @@
 -- Expressions of the program as terms, without where they lie in memory.
 use Rattle.semantics.specs.Expressions.{Ex, Read, Filter, Select, Union, Next, Fold}
-use Rattle.algebra.specs.declared.expression.Expr.{Expr}
-use Rattle.algebra.specs.declared.expression.Expr.TheVariants as expr
+use Rattle.expressions.specs.declared.expression.Expr.{Expr}
+use Rattle.expressions.specs.declared.expression.Expr.TheVariants as expr
 
 -- the expression as a term
 abbrev pub ex_of : Expr → Ex

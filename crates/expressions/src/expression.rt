@@ -1,5 +1,5 @@
 //! Expressions over streams.
-use event_types::{List, StreamId, Tuples};
+use event_types::StreamId;
 use scalar_expr::{Conj, Map};
 
 /// An expression of the algebra: `a NEXT {c} b` is `Next` of the condition `c`, with the streams `a` and
@@ -16,6 +16,3 @@ pub enum Expr {
     Next(Conj, Box<Expr>, Box<Expr>),
     Fold(Conj, Conj, Map, Box<Expr>, Box<Expr>),
 }
-
-/// The tuples of each stream, by its number.
-pub type Env = List<Tuples>;
