@@ -105,7 +105,31 @@ fn hear_all<L: Ledger>(
     assert!(rt; session.ended());
 }
 
-// A session over an engine that heard two events hears the third.
+// The catalogue of the queries.
+fn pairs(rt: &impl Abort, alloc: Global) -> Catalogue
+    ensures { IsAccepted result }
+{
+    match load(alloc, PAIR) {
+        Ok(catalogue) => catalogue,
+        Err(_) => panic!(rt; "refused"),
+    }
+}
+
+// A session over an engine that heard two events.
+fn session_over<L: Ledger>(
+    rt: &impl Abort,
+    alloc: Global,
+    host: &mut MemHost,
+    steps: &mut Steps<L>,
+) -> Result<Session, Memory>
+    ensures { IfOk result (λ session. session.ended ≡ false) }
+{
+    let catalogue = pairs(rt, alloc);
+    let engine = engine_that_heard(rt, alloc, host, &catalogue, steps)?;
+    Ok(Session::over(alloc, catalogue, engine, 19))
+}
+
+// Such a session hears the third event.
 fn go_on<L: Ledger>(
     rt: &impl Abort,
     alloc: Global,
@@ -117,11 +141,7 @@ fn go_on<L: Ledger>(
     requires some { 0 < blank.parts }
 {
     let mut steps = Steps::<L>::new(blank);
-    let Ok(catalogue) = load(alloc, PAIR) else {
-        panic!(rt; "refused");
-    };
-    let engine = engine_that_heard(rt, alloc, host, &catalogue, &mut steps)?;
-    let mut session = Session::over(alloc, catalogue, engine, 19);
+    let mut session = session_over(rt, alloc, host, &mut steps)?;
     let third = b"Stock,3,3,IBM,12,7\n";
     hear_all(rt, alloc, host, &mut session, third, &mut steps);
     Ok(())
