@@ -1,13 +1,13 @@
 //! What was heard, and the closing of an epoch.
-ghost use Rattle.std.specs.Prelude.{◌≡◌, ℕ, ◌<◌, ◌≤◌, ◌∷◌, [], ◌++◌, List, length, map, IfOk, OnErr, OnOk};
+ghost use Rattle.std.specs.Prelude.{◌≡◌, ℕ, ◌<◌, ◌∷◌, [], ◌++◌, List, length, map, IfOk, OnErr, OnOk};
 ghost use Rattle.std.specs.List.{All};
 ghost use Rattle.std.specs.List.Sorted.{IsPermutation};
 ghost use Rattle.semantics.specs.Denotation.{streams_of};
 ghost use Rattle.semantics.specs.Histories.{Event};
-ghost use Rattle.semantics.specs.Results.{results};
 ghost use Rattle.algebra.specs.SuitedQueries.{SuitInTurn};
+ghost use Rattle.reference.specs.Closing.{GivesResults};
 ghost use Rattle.reference.specs.Hearing.{HasHeard};
-ghost use Rattle.reference.specs.Views.{PublishNext, placed, program_of, query_of};
+ghost use Rattle.reference.specs.Views.{PublishNext, placed, query_of};
 
 use crate::publishing::{Batch, batch_of};
 use crate::query::Query;
@@ -73,7 +73,7 @@ impl Evaluator {
         requires same_queries { IsPermutation (map query_of queries.now) (placed queries.now order.now) }
         requires next { PublishNext (length self.old) (placed queries.now order.now) }
         requires suited { SuitInTurn (streams_of self.old) (placed queries.now order.now) }
-        ensures value { IfOk result (λ batch. (declared : ℕ) (history : List Event) → HasHeard declared history self.old → All (λ event. event.tuple.at ≤ time) history → batch ≡ map (λ query. results (program_of declared queries.now order.now) history query.stream time) queries.now) }
+        ensures value { IfOk result (GivesResults queries.now order.now time self.old) }
         ensures kept { self.new ≡ self.old }
     {
         let declared = self.lists.len();

@@ -7,6 +7,7 @@ ghost use Rattle.semantics.specs.Denotation.{denote, streams_of};
 ghost use Rattle.semantics.specs.Programs.{published};
 ghost use Rattle.algebra.specs.SuitedQueries.{SuitInTurn};
 ghost use Rattle.algebra.specs.Suits.{Suits};
+ghost use Rattle.reference.specs.Closing.{published_at};
 ghost use Rattle.reference.specs.Views.{PublishNext, placed, query_of};
 
 use crate::query::Query;
@@ -31,7 +32,7 @@ pub(crate) fn batch_of<L: Ledger>(
     requires same_queries { IsPermutation (map query_of queries.now) (placed queries.now order.now) }
     requires next { PublishNext (length streams.old) (placed queries.now order.now) }
     requires suited { SuitInTurn (streams_of streams.old) (placed queries.now order.now) }
-    ensures value { IfOk result (λ batch. batch ≡ map (λ query. sorted (filter (λ tuple. tuple.at == time) (published (streams_of streams.old) (placed queries.now order.now) query.stream))) queries.now) }
+    ensures value { IfOk result (λ batch. batch ≡ published_at streams.old queries.now order.now time) }
     ensures kept { take (length streams.old) streams.new ≡ streams.old }
 {
     publish(alloc, streams, queries, order, steps)?;

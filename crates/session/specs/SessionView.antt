@@ -1,5 +1,5 @@
 -- What contracts see of a session, and what it stands for.
-use Rattle.std.specs.Prelude.{◌≡◌, ◌<◌, ◌≤◌, ℕ, Bool, true, false, IsTrue, List, length, None}
+use Rattle.std.specs.Prelude.{◌≡◌, ◌<◌, ◌≤◌, ℕ, Bool, true, false, IsTrue, List, [], length, None}
 use Rattle.std.specs.List.{All}
 use Rattle.semantics.specs.Histories.{Event}
 use Rattle.semantics.specs.Programs.{Program}
@@ -68,6 +68,11 @@ pub record SessionStandsFor (session : SessionView) (past : List Event) (text : 
   pub last_is_open : session.engine.time ≡ last_time (heard_after past (readings_in session text false))
   pub counted : session.fed ≡ length text
   pub feed : HasGiven text session.feed
+
+-- whatever events of declared streams an engine stands for, a session stands for them and for no text behind them
+abbrev pub StandsForPast : Catalogued → engine.EngineView → SessionView → Type 0
+StandsForPast c over session =
+    (past : List Event) → AreDeclared (judged_of c) past → engines.EngineStandsFor over (lines_of (program_of (judged_of c))) past → SessionStandsFor session past []
 
 -- the engine works for all that was heard of the whole text, with no epoch open
 pub record HasFinished (session : SessionView) (past : List Event) (text : List ℕ) : Type 0 where

@@ -47,6 +47,11 @@ abbrev pub EndsOver : Catalogued → Fed → Bool → Work → Told → Told →
 EndsOver c feed ended work before after result =
     (history : List Event) → StandsWithLastOpen c history work.engine → StoppedBy (program_over c) ended (lines_in c feed ended) history work before after result
 
+-- how the work ended at the end of a text of which no line is left
+abbrev pub EndsAtLast : Catalogued → Work → Told → Told → Result (Unit {0}) SessionFault → Type 0
+EndsAtLast c work before after result =
+    (history : List Event) → StandsWithLastOpen c history work.engine → StoppedBy (program_over c) true [] history work before after result
+
 -- why it ended at one of them, of a text that hasn't ended
 abbrev pub StopsOver : Catalogued → Fed → Work → Told → Told → SessionFault → Type 0
 StopsOver c feed work before after fault =

@@ -1,12 +1,10 @@
 //! The closing of epochs.
-ghost use Rattle.std.specs.Prelude.{◌≡◌, true, None, [], ℕ, List, IsSome, IfErr, OnOk};
+ghost use Rattle.std.specs.Prelude.{◌≡◌, None, ℕ, IsSome, IfErr, OnOk};
 ghost use Rattle.cay_host.specs.Output.{SameButOutput};
-ghost use Rattle.semantics.specs.Histories.{Event};
 ghost use Rattle.session.specs.Feeds.{BlamesWriting};
 ghost use Rattle.session.specs.Heard.{disorder};
-ghost use Rattle.session.specs.StandsWithLastOpen.{HasClosed, IsAtWork, IsReadyForEvent, StandsWithLastOpen, program_over};
-ghost use Rattle.session.specs.Whatever.{FailsInClosing, OwesClosing, PutsOpenRows};
-ghost use Rattle.session.specs.Owes.{StoppedBy};
+ghost use Rattle.session.specs.StandsWithLastOpen.{HasClosed, IsAtWork, IsReadyForEvent};
+ghost use Rattle.session.specs.Whatever.{EndsAtLast, FailsInClosing, OwesClosing, PutsOpenRows};
 
 use crate::fault::SessionFault;
 use crate::work::Work;
@@ -70,7 +68,7 @@ pub fn close_last<H: Host, L: Ledger>(
     steps: &mut Steps<L>,
 ) -> Result<(), SessionFault>
     requires { IsAtWork catalogue.now work.old }
-    ensures ends { (history : List Event) → StandsWithLastOpen catalogue.now history work.old.engine → StoppedBy (program_over catalogue.now) true [] history work.old (H.told host.old) (H.told host.new) result }
+    ensures ends { EndsAtLast catalogue.now work.old (H.told host.old) (H.told host.new) result }
     ensures closed { OnOk result (HasClosed catalogue.now work.old.engine work.new.engine) }
     ensures quiet { BlamesWriting result (H.told host.old) (H.told host.new) }
     ensures same { SameButOutput (H.told host.old) (H.told host.new) }

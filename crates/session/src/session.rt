@@ -12,7 +12,7 @@ ghost use Rattle.catalogue.specs.Catalogued.{judged_of};
 ghost use Rattle.catalogue.specs.Chained.{kinds_of_each};
 ghost use Rattle.catalogue.specs.Judgement.{program_of};
 ghost use Rattle.session.specs.Feeds.{BlamesWriting, BreaksAtPiece, Feeds, Finishes};
-ghost use Rattle.session.specs.SessionView.{AreDeclared, CountsWaiting, KeepsQueries, SessionStandsFor, TrimsEngine, WorksFor, program_in};
+ghost use Rattle.session.specs.SessionView.{CountsWaiting, KeepsQueries, SessionStandsFor, StandsForPast, TrimsEngine, WorksFor, program_in};
 ghost use Rattle.session.specs.StandsWithLastOpen.{IsPlanned, lines_over};
 
 use crate::counting::{hops_of, root_states};
@@ -80,7 +80,7 @@ impl Session {
         ensures limit { result.limit ≡ limit }
         ensures engine { result.engine ≡ engine }
         ensures going { result.ended ≡ false }
-        ensures stands { (past : List Event) → AreDeclared (judged_of catalogue) past → engines.EngineStandsFor engine (lines_of (program_of (judged_of catalogue))) past → SessionStandsFor result past [] }
+        ensures stands { StandsForPast catalogue engine result }
     {
         Session {
             catalogue,
