@@ -167,7 +167,7 @@ derived_more net layout lines stores i s old opened new remembered more serves l
 pub derived_none : (net : Net) (layout : Layout) (stores : List (Option Plain)) (opened remembered : List (List TupleView)) → AreTyped net layout.kinds stores opened → AreRemembered net (streams_of opened) (held stores) remembered → length remembered ≡ length net → IsDerived net layout stores [] opened opened remembered
 derived_none net layout stores opened remembered typed left_is as_many = record {
   epoch = epoch_starts net (held stores) (streams_of opened) (streams_of opened) (λ s. IsPermutation-refl (get_or opened s []));
-  met = record { typed = typed; unmatched_after = left_is; as_many = as_many };
+  met = record { typed = typed; left = left_is; as_many = as_many };
 }
 
 -- the instances of each state, as a view has them

@@ -101,7 +101,7 @@ module _ (net : Net) (stores : List (Option Plain)) (opened : List (List TupleVi
   -- a state stays met while others are
   pub met_more : (old new : Reach) (n : ℕ) → IsMet net stores opened old n → ReachesMore old new → get_or new.remembered n [] ≡ get_or old.remembered n [] → IsMet net stores opened new n
   met_more old new n met more same = record {
-    unmatched_after = λ w at. permuted_from same (met.left w at);
+    left = λ w at. permuted_from same (met.left w at);
     spread = flows met.spread;
     matched = λ w at. marked (met.matched w at);
     noted = known met.noted;
@@ -142,7 +142,7 @@ module _ (net : Net) (stores : List (Option Plain)) (opened : List (List TupleVi
   -- a state to which nothing comes is met
   pub met_nothing : (reach : Reach) (n : ℕ) → get_or reach.remembered n [] ≡ [] → ((s : ℕ) → reads_at net n ≡ Some s → get_or opened s [] ≡ []) → IsMet net stores opened reach n
   met_nothing reach n none empty = record {
-    unmatched_after = λ w at.
+    left = λ w at.
         permuted_is
         (none
         ∙ sym
@@ -199,7 +199,7 @@ module _ (net : Net) (stores : List (Option Plain)) (opened : List (List TupleVi
   -- a state that doesn't read the stream stays met when the stream gets tuples
   pub met_other : (reach : Reach) (s n : ℕ) (tuples : List TupleView) → (reads_at net n ≡ Some s → ⊥) → IsMet net stores opened reach n → IsMet net stores (set opened s tuples) reach n
   met_other reach s n tuples absent met = record {
-    unmatched_after = λ w at.
+    left = λ w at.
         permuted_to (met.left w at)
         (wait_leaves net (streams_of opened) (held stores) n w at ∙ ap (λ rows. took w.choose w.fold rows (held stores n)) (sym (kept w.stream (reads_wait net n w at)))
         ∙ sym (wait_leaves net (streams_of (set opened s tuples)) (held stores) n w at));
