@@ -1,7 +1,7 @@
-use Rattle.std.proofs.Common.{◌≡◌, [], length, take, refl, ◌∙◌, ap}
+use Rattle.std.proofs.Common.{◌≡◌, [], length, take, refl}
 use Rattle.std.specs.Prelude.{None, Some, slice_get}
 use Rattle.std.proofs.lemmas.Option.{slice_get_read}
-use Rattle.stream_schema.specs.Schema.{Attr, place_of}
+use Rattle.stream_schema.specs.Schema.{place_of}
 use Rattle.cel_types.proofs.NewLemmas.{new-at}
 use Rattle.cel_types.proofs.attributes.schema_of.Goals as goal
 
@@ -12,5 +12,5 @@ put-requires-clause-new c =
     let a = c.attribute-item.result in
     let at : slice_get attrs i ≡ Some a = slice_get_read attrs (length attrs) i a refl c.loop-attribute-test.true c.attribute-item.is in
     let new : place_of a.name (take i attrs) ≡ None = new-at [] attrs i a c.requires at in
-    let name : c.as_str.result.now ≡ a.name = c.as_str.ensures ∙ ap (λ (x : Attr). x.name) c.attribute.view_is in
+    let name : c.name.result.now ≡ a.name = c.name.ensures in
     rw (name, c.loop-attribute.invariant) new
