@@ -18,7 +18,7 @@ use Rattle.cayuga_run.specs.declared.status.Status.{Status}
 use Rattle.cayuga_run.specs.declared.status.Status.TheVariants.{Done, Usage, BadQuery, Cycle, BadEvent, OutOfOrder, AttachFault, ReadFault, WriteFault, TooMuch, Memory}
 use Rattle.cayuga_run.specs.HearingOutcome.{Hears, HearsAlone, HearsUpTo}
 use Rattle.cayuga_run.specs.Reports.{heard_in, refused_in, report_of_closed, report_of_heard}
-use Rattle.cayuga_run.specs.RunOutcome.{IsDone, IsMemory, IsReadFault, IsWriteFault, RunOutcome, StoppedBy}
+use Rattle.cayuga_run.specs.RunOutcome.{IsDone, IsMemory, IsReadFault, IsWriteFault, RunOutcome, WritingStopped}
 use Rattle.cayuga_run.specs.Stats.{ComesBehind}
 use Rattle.cayuga_run.specs.StatsOutcome.{StatsOutcome, WritesStats}
 use Rattle.cayuga_run.specs.Works.{Run}
@@ -88,9 +88,9 @@ module _ {run : Run} {limit : ℕ} {judged : Judged} {old mid heard new : Told} 
     cause = rose;
     there = r.there;
     others = queries_read r alone;
-    text = of_both _ _ (new.left Events) judged bytes (λ c e. StoppedBy run.stats c limit e old new) r.accept (sym r.events ∙ all_taken)
+    text = of_both _ _ (new.left Events) judged bytes (λ c e. WritingStopped run.stats c limit e old new) r.accept (sym r.events ∙ all_taken)
         (λ rest e.
-        subst (λ t. StoppedBy run.stats judged limit t old new) (whole_file rest e)
+        subst (λ t. WritingStopped run.stats judged limit t old new) (whole_file rest e)
         (inr (
           asked,
           record {

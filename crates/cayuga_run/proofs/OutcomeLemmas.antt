@@ -20,7 +20,7 @@ use Rattle.cayuga_run.specs.Accepting.{IsAcceptedWith}
 use Rattle.cayuga_run.specs.Begun.{HasAccepted}
 use Rattle.cayuga_run.specs.HearingOutcome.{HearsAlone, HearsFront, HearsRefused, HearsUpTo, TakesEvents}
 use Rattle.cayuga_run.specs.Reports.{refused_in, report_of_closed}
-use Rattle.cayuga_run.specs.RunOutcome.{AreThere, IsAttachFault, IsReadFault, AnswersRefusal, IsTooMuch, IsWriteFault, IsMemory, MemoryText, StoppedBy, is_whole}
+use Rattle.cayuga_run.specs.RunOutcome.{AreThere, IsAttachFault, IsReadFault, AnswersRefusal, IsTooMuch, IsWriteFault, IsMemory, MemoryText, WritingStopped, is_whole}
 use Rattle.cayuga_run.specs.StoppedWriting.{StoppedWriting}
 use Rattle.cayuga_run.specs.Works.{Run}
 use Rattle.cayuga_run.proofs.GrowingLemmas.{more_bytes, report_grows_with_bytes}
@@ -167,7 +167,7 @@ module _ {run : Run} {limit : ℕ} {judged : Judged} {old mid new : Told} (r : I
     cause = subst (λ n. Rose n new.write_faults) r.write_faults rose;
     there = r.there;
     others = queries_read r alone;
-    text = of_both _ _ (new.left Events) judged (s.before ++ s.piece) (λ c e. StoppedBy run.stats c limit e old new) r.accept (sym r.events ∙ s.taken)
+    text = of_both _ _ (new.left Events) judged (s.before ++ s.piece) (λ c e. WritingStopped run.stats c limit e old new) r.accept (sym r.events ∙ s.taken)
         (λ rest e. inl (record {
           before = s.before;
           piece = s.piece;

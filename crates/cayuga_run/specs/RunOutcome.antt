@@ -81,15 +81,15 @@ pub record IsReadFault (side : Side) (run : Run) (limit : ℕ) (old new : Told) 
   pub events : side ≡ Events → StoppedInEvents run limit old new
 
 -- the writing stopped in the report, or with `--stats` in the stats line behind it
-abbrev pub StoppedBy : Bool → Judged → ℕ → List ℕ → Told → Told → Type 0
-StoppedBy stats judged limit events old new = StoppedWriting judged limit (Some events) old new ⊎ ((stats ≡ true) × StoppedInStats judged limit events old new)
+abbrev pub WritingStopped : Bool → Judged → ℕ → List ℕ → Told → Told → Type 0
+WritingStopped stats judged limit events old new = StoppedWriting judged limit (Some events) old new ⊎ ((stats ≡ true) × StoppedInStats judged limit events old new)
 
 -- the count of write faults rose, and the report was written up to a proper prefix of the rows that the last piece or the end of the events adds, or whole and with a proper prefix of the stats line
 pub record IsWriteFault (run : Run) (limit : ℕ) (old new : Told) : Type 0 where
   pub cause : Rose old.write_faults new.write_faults
   pub there : AreThere run old
   pub others : ReadsUpTo Events old new
-  pub text : OfFiles run old (λ queries events. IsAcceptedWith queries (λ judged. StoppedBy run.stats judged limit events old new))
+  pub text : OfFiles run old (λ queries events. IsAcceptedWith queries (λ judged. WritingStopped run.stats judged limit events old new))
 
 -- what was written before memory was wanting: a front of the report of the closed epochs, and nothing where the query text is refused; no byte of a stats line is written then
 abbrev pub MemoryText : Verdict → ℕ → List ℕ → Told → Told → Type 0
