@@ -10,5 +10,5 @@ use Rattle.plan_text.proofs.reads.reads_of.Goals as goal
 -- all names were added to none
 pub returns : goal.returns
 returns c =
-    let whole = take_all c.loop-name.name-index c.loop-name.name-items (omega (arith, c.loop-name-test.false)) in
-    c.loop-name.invariant ∙ ap (fold with_name []) (whole ∙ c.as_slice.ensures ∙ c.in_ok-read.ensures) ∙ fold-with_name-once (read_names (source_of c.args.source.now))
+    let whole = take_all c.loop-name.name-index c.as_slice-name-items.result.now (omega (arith, c.loop-name-test.false)) in
+    c.loop-name.invariant ∙ ap (fold with_name []) (whole ∙ c.as_slice-name-items.ensures ∙ c.in_ok-read.ensures) ∙ fold-with_name-once (read_names (source_of c.args.source.now))
