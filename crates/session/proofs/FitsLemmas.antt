@@ -119,7 +119,7 @@ event_fits streams line seen e = by_length (is_long line) e
           entry = at.entry;
           there = ap (slice_get streams) of.0 ∙ at.there;
           declared = at.declared;
-          kinds = of.1 ∙ sym at.same;
+          kinds = subst (λ kinds. HasKinds kinds seen.tuple) (sym at.same) of.1;
         }
 
     by_fields : (o : Option (List (List ℕ))) → record_event streams o ≡ Ok seen → Fits streams seen

@@ -77,7 +77,8 @@ module _ (c : Catalogued) (accepted : IsAccepted c) where
 
     -- it has the kinds of its stream
     pub of_its_kinds : HasKinds (kinds_in (judged_of c).streams event.stream) event.tuple
-    of_its_kinds = fits.kinds ∙ ap kinds_of (sym (get_or_from_slice_get (schemas_of (judged_of c).streams) event.stream fits.entry.schema [] schema_there))
+    of_its_kinds =
+        subst (λ kinds. HasKinds kinds event.tuple) (ap kinds_of (sym (get_or_from_slice_get (schemas_of (judged_of c).streams) event.stream fits.entry.schema [] schema_there))) fits.kinds
 
     -- an engine of the catalogue may be offered the event
     pub may_hear : (now : engine.EngineView) → IsPlanned c now → IsHeard now.layout event.stream event.tuple

@@ -1,5 +1,5 @@
 -- What the work does, whatever events its engine stands for. No public clause cites this module.
-use Rattle.std.specs.Prelude.{◌≡◌, ℕ, Bool, false, List, [], ◌∷◌, ◌++◌, Result}
+use Rattle.std.specs.Prelude.{◌≡◌, ℕ, Bool, false, true, List, [], ◌∷◌, ◌++◌, Result}
 use Rattle.cay_host.specs.Told.{Told}
 use Rattle.semantics.specs.Histories.{Event}
 use Rattle.catalogue.specs.Catalogued.{Catalogued, judged_of}
