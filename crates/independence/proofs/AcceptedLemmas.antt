@@ -75,7 +75,7 @@ pub accepted-stands : (text : List ℕ) (judged : Judged) → Accepts text judge
 accepted-stands text judged h =
     let (more, parts, undeclared) = grows h.publishes in
     record {
-      apart = apart-from judged.statements judged.declared judged.order h.sound h.in_order h.declares [] judged.order refl none (declared-apart judged.statements judged.declared judged.order h.sound h.in_order h.declares) h.publishes;
+      apart = apart-from judged.statements judged.declared judged.order h.sound h.in_order h.declares {hidden = length judged.statements} [] judged.order refl none (declared-apart judged.statements judged.declared judged.order h.sound h.in_order h.declares) h.publishes;
       more = more;
       parts = parts;
       undeclared = undeclared;
