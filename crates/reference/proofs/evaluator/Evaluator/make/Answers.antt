@@ -2,7 +2,6 @@ use Rattle.std.proofs.Common.{◌∙◌, ◌+◌, [], ◌∷◌, ◌++◌, ap, s
 use Rattle.reference.specs.Hearing.{HasHeard}
 use Rattle.reference.proofs.HearingLemmas.{one_more_stream}
 use Rattle.reference.proofs.evaluator.Evaluator.make.Goals as goal
-use Rattle.event_types.proofs.ResultLemmas.{when_ok}
 
 -- one more empty list was put
 pub loop-preserved : goal.loop-preserved

@@ -4,7 +4,6 @@ use Rattle.event_types.specs.Tuple.{TupleView}
 use Rattle.reference.specs.Hearing.{HasHeard}
 use Rattle.reference.proofs.HearingLemmas.{hears_it, put_back}
 use Rattle.reference.proofs.evaluator.Evaluator.note_tuple.Goals as goal
-use Rattle.event_types.proofs.ResultLemmas.{when_ok, when_err}
 
 -- without memory the list stays
 pub returns-in_err-add-clause-kept : goal.returns-in_err-add-clause-kept
