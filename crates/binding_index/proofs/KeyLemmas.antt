@@ -5,7 +5,7 @@ use Rattle.std.specs.Option.{option_map, option_or}
 use Rattle.semantics.specs.Scalars.{Pr}
 use Rattle.scalar_expr.specs.Classes.{Class, class_of}
 use Rattle.instances.specs.Keys.{Key}
-use Rattle.binding_index.specs.KeyParts.{first_key, key_in, key_seen}
+use Rattle.binding_index.specs.KeyParts.{first_key, key_in, key_of_part}
 use Rattle.binding_index.specs.declared.key.KeyPart.{KeyPart}
 
 -- the part at a place is looked at before those behind it
@@ -15,10 +15,10 @@ first_at (p ∷ ps) zero c is = let same : class_of p ≡ c = cc in ap (λ d. op
 first_at (p ∷ ps) (suc place) c is = first_at ps place c is
 
 -- a key that was found there is the first, and else it is looked for behind
-pub is_first : (r : Option KeyPart) (k rest : Option Key) → is_some r ≡ true → option_map key_seen r ≡ k → option_map key_seen r ≡ option_or k rest
+pub is_first : (r : Option KeyPart) (k rest : Option Key) → is_some r ≡ true → option_map key_of_part r ≡ k → option_map key_of_part r ≡ option_or k rest
 is_first None k rest some e = cc
 is_first (Some part) k rest some e = ap (λ o. option_or o rest) e
 
-pub is_behind : (r : Option KeyPart) (k rest : Option Key) → is_some r ≡ false → option_map key_seen r ≡ k → option_or k rest ≡ rest
+pub is_behind : (r : Option KeyPart) (k rest : Option Key) → is_some r ≡ false → option_map key_of_part r ≡ k → option_or k rest ≡ rest
 is_behind None k rest none e = sym (ap (λ o. option_or o rest) e)
 is_behind (Some part) k rest none e = cc

@@ -13,7 +13,7 @@ use Rattle.indexmap.proofs.CallerLemmas.{insert_entry-new}
 use Rattle.instances.specs.declared.instance.Instance.{Instance}
 use Rattle.binding_index.specs.Buckets.{AreSame, Bucket}
 use Rattle.binding_index.specs.Among.{is_key}
-use Rattle.binding_index.specs.Entries.{Stands, has_any, is_live, items_at}
+use Rattle.binding_index.specs.Entries.{IsKeptAt, has_any, is_live, items_at}
 use Rattle.binding_index.proofs.EqualityLemmas.{eq_same, key_decides}
 
 -- a map in another order has the same buckets
@@ -34,16 +34,16 @@ pub by_order : {V : Type 0} (bs : List (Value × V)) (key : Value) (found : Opti
 by_order {V} bs key found h = subst (λ (e : Value → Value → Bool). lookup (e key) bs ≡ found) eq_same h
 
 -- the entry that is found for a key is its own
-pub found_entry : {V : Type 0} (bs : List (Value × V)) (i : ℕ) (k key : Value) (v : V) → slice_get bs i ≡ Some (k, v) → lookup_key ((derived.eq-value).it key) bs ≡ Some k → lookup ((derived.eq-value).it key) bs ≡ Some v → Stands bs key i
+pub found_entry : {V : Type 0} (bs : List (Value × V)) (i : ℕ) (k key : Value) (v : V) → slice_get bs i ≡ Some (k, v) → lookup_key ((derived.eq-value).it key) bs ≡ Some k → lookup ((derived.eq-value).it key) bs ≡ Some v → IsKeptAt bs key i
 found_entry {V} bs i k key v at own value =
     let same : key ≡ k = lookup_key_same key_decides key bs k (subst (λ (e : Value → Value → Bool). lookup_key (e key) bs ≡ Some k) eq_same own) in
     (v, at ∙ (λ j. Some (sym same j, v)), by_order bs key (Some v) value)
 
 -- its items are those that are kept under the key
-pub items_stand : {Y : Type 0} (bs : List (Value × List Y)) (key : Value) (i : ℕ) → Stands bs key i → slice_get bs i ≡ Some (key, items_at bs key)
+pub items_stand : {Y : Type 0} (bs : List (Value × List Y)) (key : Value) (i : ℕ) → IsKeptAt bs key i → slice_get bs i ≡ Some (key, items_at bs key)
 items_stand {Y} bs key i (v, at, found) = at ∙ ap (λ (o : Option (List Y)). Some (key, unwrap_or o [])) (sym found)
 
-pub items_found : {Y : Type 0} (bs : List (Value × List Y)) (key : Value) (r : Option ℕ) → IfSome r (Stands bs key) → IfSome r (λ i. slice_get bs i ≡ Some (key, items_at bs key))
+pub items_found : {Y : Type 0} (bs : List (Value × List Y)) (key : Value) (r : Option ℕ) → IfSome r (IsKeptAt bs key) → IfSome r (λ i. slice_get bs i ≡ Some (key, items_at bs key))
 items_found {Y} bs key None h = h
 items_found {Y} bs key (Some i) h = items_stand bs key i h
 

@@ -6,8 +6,8 @@ use Rattle.event_types.specs.declared.value.Value.{Value}
 use Rattle.binding_index.specs.Among.{is_key}
 
 -- what is kept under a key stands at a place
-abbrev pub Stands : {V : Type 0} → List (Value × V) → Value → ℕ → Type 0
-Stands {V} entries key place = (kept : V) × (slice_get entries place ≡ Some (key, kept)) × (lookup (is_key key) entries ≡ Some kept)
+abbrev pub IsKeptAt : {V : Type 0} → List (Value × V) → Value → ℕ → Type 0
+IsKeptAt {V} entries key place = (kept : V) × (slice_get entries place ≡ Some (key, kept)) × (lookup (is_key key) entries ≡ Some kept)
 
 -- what is kept under a key
 abbrev pub items_at : {Y : Type 0} → List (Value × List Y) → Value → List Y

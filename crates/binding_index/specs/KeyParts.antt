@@ -18,5 +18,5 @@ first_key [] = None
 first_key (part ∷ parts) = option_or (key_in (class_of part)) (first_key parts)
 
 -- the key that is handed out
-abbrev pub key_seen : KeyPart → Key
-key_seen part = record { event = part.event; binding = part.binding }
+abbrev pub key_of_part : KeyPart → Key
+key_of_part part = record { event = part.event; binding = part.binding }

@@ -1,8 +1,8 @@
 //! The key of a condition.
 ghost use Rattle.std.specs.Prelude.{◌≡◌};
 ghost use Rattle.std.specs.Option.{option_map};
-ghost use Rattle.binding_index.specs.KeyParts.{first_key as first_key_of, key_in, key_seen};
-ghost use Rattle.scalar_expr.specs.Classes.{class_seen};
+ghost use Rattle.binding_index.specs.KeyParts.{first_key as first_key_of, key_in, key_of_part};
+ghost use Rattle.scalar_expr.specs.Classes.{class_of_part};
 
 use scalar_expr::{Conj, Part};
 
@@ -16,7 +16,7 @@ pub struct KeyPart {
 
 /// The first key part of a condition. Takes no memory.
 pub fn first_key(condition: &Conj) -> Option<KeyPart>
-    ensures { option_map key_seen result ≡ first_key_of condition.now }
+    ensures { option_map key_of_part result ≡ first_key_of condition.now }
 {
     let mut place = 0;
     while place < condition.size() {
@@ -31,7 +31,7 @@ pub fn first_key(condition: &Conj) -> Option<KeyPart>
 
 // The key of a part, where it is a key part.
 fn key_of(part: Part<'_>) -> Option<KeyPart>
-    ensures { option_map key_seen result ≡ key_in (class_seen part.entry) }
+    ensures { option_map key_of_part result ≡ key_in (class_of_part part.entry) }
 {
     match part {
         Part::Key { event, binding } => Some(KeyPart { event, binding }),

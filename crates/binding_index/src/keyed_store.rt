@@ -2,7 +2,7 @@
 ghost use Rattle.std.specs.Prelude.{◌≡◌, [], All, Contains, IfOk, IsSome, OnOk, Some};
 ghost use Rattle.semantics.specs.Values.{value_at};
 ghost use Rattle.binding_index.specs.Among.{is_among};
-ghost use Rattle.binding_index.specs.KeyParts.{first_key as first_key_of, key_seen};
+ghost use Rattle.binding_index.specs.KeyParts.{first_key as first_key_of, key_of_part};
 
 use crate::buckets::{
     Buckets, add_bucket, arrange, candidate_place, copy_all, count_all, forget, keep_all_alive,
@@ -41,9 +41,9 @@ impl Model for KeyedStore {
     ghost coded = { keyed_code };
 
     ghost use Rattle.binding_index.specs.Buckets.{AreBuckets, in_order, keys_in_order};
-    ghost use Rattle.binding_index.specs.KeyParts.{key_seen};
+    ghost use Rattle.binding_index.specs.KeyParts.{key_of_part};
 
-    ghost view = { λ s. record { condition = s.condition; key = key_seen s.key; ready = keys_in_order s.buckets.entries; instances = in_order s.buckets.entries } };
+    ghost view = { λ s. record { condition = s.condition; key = key_of_part s.key; ready = keys_in_order s.buckets.entries; instances = in_order s.buckets.entries } };
 
     ghost invariant = { λ s. AreBuckets s.key.binding s.live s.oldest s.buckets.entries };
 }

@@ -1,7 +1,7 @@
 -- The stats line of a run.
 use Rattle.std.specs.Prelude.{◌≡◌, ℕ, List, [], ◌∷◌, ◌++◌, Bool, true, false, codes, decimal}
 use Rattle.semantics.specs.Histories.{Event}
-use Rattle.splitter.specs.Chains.{lines_of, order_of}
+use Rattle.splitter.specs.Chains.{lines_of, work_order}
 use Rattle.prefix_merge.specs.Counts.{CountsPlain, CountsStates}
 use Rattle.epoch_engine.specs.Counts.{CountsAlive}
 use Rattle.catalogue.specs.Judgement.{Judged, program_of}
@@ -16,7 +16,7 @@ pub record Stats : Type 0 where
 pub record AreStats (judged : Judged) (history : List Event) (stats : Stats) : Type 0 where
   pub states : CountsStates (lines_of (program_of judged)) stats.states
   pub plain : CountsPlain (lines_of (program_of judged)) stats.plain
-  pub live : CountsAlive (lines_of (program_of judged)) (order_of (program_of judged)) history stats.live
+  pub live : CountsAlive (lines_of (program_of judged)) (work_order (program_of judged)) history stats.live
 
 -- the line: `# states 3, plain 4, live 2` and an LF
 abbrev pub stats_line : Stats → List ℕ

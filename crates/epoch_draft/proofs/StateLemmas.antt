@@ -13,7 +13,7 @@ use Rattle.automaton.specs.declared.network.State.{State}
 use Rattle.automaton.specs.declared.wait.Wait.{Wait}
 use Rattle.epoch_laws.specs.Closing.{Stores, leaving_state, leaving_by}
 use Rattle.epoch_laws.specs.Epochs.{took}
-use Rattle.epoch_draft.specs.Kindings.{EntryFits, Kinding, StatesFit}
+use Rattle.epoch_draft.specs.Kindings.{EntranceFits, Kinding, StatesFit}
 
 -- what stands under Some
 pub some_is : {X : Type 0} (x y : X) → Some x ≡ Some y → x ≡ y
@@ -64,7 +64,7 @@ pub record HopTyped (kinds : List (List Kind)) (kinding : Kinding) (number befor
 -- the hop of a waiting state of a typed network
 pub hop_typed : (kinds : List (List Kind)) (net : Net) (kinding : Kinding) → StatesFit kinds net kinding → (n : ℕ) (w : Wait) (at : AtWait net n w) → HopTyped kinds kinding n at.before at.hop
 hop_typed kinds net kinding fits n w at =
-    let fit = subst (EntryFits kinds kinding n) at.entered (fits n at.state at.found).0 in
+    let fit = subst (EntranceFits kinds kinding n) at.entered (fits n at.state at.found).0 in
     record { step = fit.2; wait = record { event = fit.0; known = fit.1; gives = fit.3 } }
 
 -- and its wait
@@ -95,4 +95,4 @@ at_root net n s h = go (state_at net n) refl h
 pub root_typed : (kinds : List (List Kind)) (net : Net) (kinding : Kinding) → StatesFit kinds net kinding → (n s : ℕ) → root_at net n ≡ Some s → slice_get kinds s ≡ Some (kinding.leaving n)
 root_typed kinds net kinding fits n s h =
     let at = at_root net n s h in
-    subst (EntryFits kinds kinding n) at.entered (fits n at.state at.found).0
+    subst (EntranceFits kinds kinding n) at.entered (fits n at.state at.found).0

@@ -15,9 +15,9 @@ pub record Kinding : Type 0 where
   pub waiting : ℕ → List Kind
 
 -- over streams of these kinds a state is typed as it is entered
-abbrev pub EntryFits : List (List Kind) → Kinding → ℕ → Entrance → Type 0
-EntryFits kinds kinding number (Root stream) = slice_get kinds stream ≡ Some (kinding.leaving number)
-EntryFits kinds kinding number (Waiting before hop) =
+abbrev pub EntranceFits : List (List Kind) → Kinding → ℕ → Entrance → Type 0
+EntranceFits kinds kinding number (Root stream) = slice_get kinds stream ≡ Some (kinding.leaving number)
+EntranceFits kinds kinding number (Waiting before hop) =
     (event : List Kind) × (slice_get kinds hop.wait.stream ≡ Some event) × StepGives hop.step (kinding.leaving before) (kinding.waiting number)
     × WaitGives hop.wait (kinding.waiting number) event (kinding.leaving number)
 
@@ -27,4 +27,4 @@ EndFits kinds leaving end = (out : List Kind) × StepGives end.step leaving out 
 
 -- all states and ends of a network are typed
 abbrev pub StatesFit : List (List Kind) → Net → Kinding → Type 0
-StatesFit kinds net kinding = (number : ℕ) (state : State) → state_at net number ≡ Some state → EntryFits kinds kinding number state.entrance × All (EndFits kinds (kinding.leaving number)) state.ends
+StatesFit kinds net kinding = (number : ℕ) (state : State) → state_at net number ≡ Some state → EntranceFits kinds kinding number state.entrance × All (EndFits kinds (kinding.leaving number)) state.ends

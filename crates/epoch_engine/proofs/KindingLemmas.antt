@@ -28,7 +28,7 @@ use Rattle.automaton.proofs.SlotLemmas.{at_one, at_used, root_entry, used_below}
 use Rattle.automaton.proofs.TypingLemmas.{kinds_are}
 use Rattle.epoch_laws.proofs.Lists.{All-flat_map, map_all}
 use Rattle.epoch_laws.proofs.Networks.{flat_all, line_at, path_back}
-use Rattle.epoch_engine.specs.Kindings.{AreStatesTyped, EndFits, EntryFits, Kinding}
+use Rattle.epoch_engine.specs.Kindings.{AreStatesTyped, EndFits, EntranceFits, Kinding}
 use Rattle.epoch_engine.proofs.StateLemmas.{some_is}
 
 -- what passes a stage, a step and a wait has these kinds
@@ -141,16 +141,16 @@ module _ (kinds : List (List Kind)) (net : Net) (lines : List Line) (has : HasLi
   place_fits number used = All-contains (PrefixFits kinds) (prefixes lines) (place number) (prefixes_fit kinds lines fit) (has.3 number (place number) (has.1.are_places number used))
 
   -- each state is typed as it is entered
-  entry_fits : (number : ℕ) (entered : Entrance) → entrance_at net number ≡ Some entered → (prefix : Prefix) → place number ≡ prefix → IsAt net number prefix → PrefixFits kinds prefix → EntryFits kinds kinding number entered
+  entry_fits : (number : ℕ) (entered : Entrance) → entrance_at net number ≡ Some entered → (prefix : Prefix) → place number ≡ prefix → IsAt net number prefix → PrefixFits kinds prefix → EntranceFits kinds kinding number entered
   entry_fits number entered is (Root stream) same here fits =
       let root = some_is entered (entrance.Root stream) (sym is ∙ root_entry (entrance_at net number) stream here) in
-      subst (EntryFits kinds kinding number) (sym root) (subst (λ (p : Prefix). slice_get kinds stream ≡ Some (leaving_kinds kinds p)) (sym same) fits)
+      subst (EntranceFits kinds kinding number) (sym root) (subst (λ (p : Prefix). slice_get kinds stream ≡ Some (leaving_kinds kinds p)) (sym same) fits)
   entry_fits number entered is (After prefix hop) same here fits =
       let waiting = some_is entered (entrance.Waiting here.0 hop) (sym is ∙ here.1) in
       let before = at_one net here.0 prefix (place here.0) here.2 (has.1.are_places here.0 (at_used net here.0 prefix here.2)) in
       let gives = fits.1 in
       let bound = sym (step_kinds_are hop.step (leaving_kinds kinds prefix) gives.0 gives.2) in
-      subst (EntryFits kinds kinding number) (sym waiting) (
+      subst (EntranceFits kinds kinding number) (sym waiting) (
         gives.1,
         gives.3,
         subst (λ (s : Prefix × Prefix). StepGives hop.step (leaving_kinds kinds s.0) (waiting_kinds kinds s.1)) (λ i. (before i, sym same i)) (subst (StepGives hop.step (leaving_kinds kinds prefix)) bound gives.2),
@@ -165,7 +165,7 @@ module _ (kinds : List (List Kind)) (net : Net) (lines : List Line) (has : HasLi
   states_typed : AreStatesTyped kinds net
   states_typed = (kinding, fits)
     where
-      fits : (number : ℕ) (state : State) → state_at net number ≡ Some state → EntryFits kinds kinding number state.entrance × All (EndFits kinds (kinding.leaving number)) state.ends
+      fits : (number : ℕ) (state : State) → state_at net number ≡ Some state → EntranceFits kinds kinding number state.entrance × All (EndFits kinds (kinding.leaving number)) state.ends
       fits number state found =
           let used : is_used net number ≡ true = ap is_some found in
           let ends = ap (λ (o : Option State). unwrap_or (option_map (λ (s : State). s.ends) o) []) found in (

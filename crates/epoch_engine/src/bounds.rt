@@ -2,7 +2,7 @@
 ghost use Rattle.std.specs.Prelude.{◌≡◌, ℕ, false, true};
 ghost use Rattle.event_types.specs.Tuple.{TupleView};
 ghost use Rattle.instances.specs.Alive.{meets_bound};
-ghost use Rattle.scalar_expr.specs.Classes.{class_seen};
+ghost use Rattle.scalar_expr.specs.Classes.{class_of_part};
 ghost use Rattle.epoch_engine.specs.Tables.{IsUnbound};
 
 use scalar_expr::{Conj, Part};
@@ -21,7 +21,7 @@ pub(crate) fn has_bound(condition: &Conj) -> bool
 
 // Whether a part is a bound on DUR.
 fn is_bound(part: Part<'_>) -> bool
-    ensures { result ≡ false → (time : ℕ) (binding : TupleView) → meets_bound time binding (class_seen part.entry) ≡ true }
+    ensures { result ≡ false → (time : ℕ) (binding : TupleView) → meets_bound time binding (class_of_part part.entry) ≡ true }
 {
     match part {
         Part::Bound { .. } => true,

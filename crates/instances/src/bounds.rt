@@ -1,7 +1,7 @@
 //! Instances whose bounds on DUR can still be met.
 ghost use Rattle.std.specs.Prelude.{◌≡◌, ◌+◌, ◌≤◌, All};
 ghost use Rattle.instances.specs.Alive.{is_alive, meets_bound};
-ghost use Rattle.scalar_expr.specs.Classes.{class_seen};
+ghost use Rattle.scalar_expr.specs.Classes.{class_of_part};
 ghost use Rattle.instances.specs.Bounds.{alive_instances, started};
 
 use crate::instance::Instance;
@@ -44,7 +44,7 @@ pub fn can_be_met(condition: &Conj, now: u64, from: u64) -> bool
 
 // Whether a part can be met by an event after `now`, as far as a bound tells.
 fn is_within(part: Part<'_>, now: u64, from: u64) -> bool
-    ensures { result ≡ meets_bound (now + 1) (started from) (class_seen part.entry) }
+    ensures { result ≡ meets_bound (now + 1) (started from) (class_of_part part.entry) }
 {
     match part {
         Part::Bound { strict, most } => {

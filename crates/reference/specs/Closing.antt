@@ -17,7 +17,7 @@ published_at lists queries places time =
     map (λ query. sorted (filter (λ tuple. tuple.at == time) (published (streams_of lists) (placed queries places) query.stream))) queries
 
 -- whatever events the lists have heard, none after a time: the lists given are the results of each query at that time
-abbrev pub GivesResults : List Query → List ℕ → ℕ → List (List TupleView) → List (List TupleView) → Type 0
-GivesResults queries places time lists batch =
+abbrev pub AreResultsOfEach : List Query → List ℕ → ℕ → List (List TupleView) → List (List TupleView) → Type 0
+AreResultsOfEach queries places time lists batch =
     (declared : ℕ) (history : List Event) → HasHeard declared history lists → All (λ event. event.tuple.at ≤ time) history
     → batch ≡ map (λ query. results (program_of declared queries places) history query.stream time) queries

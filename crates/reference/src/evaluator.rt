@@ -5,7 +5,7 @@ ghost use Rattle.std.specs.List.Sorted.{IsPermutation};
 ghost use Rattle.semantics.specs.Denotation.{streams_of};
 ghost use Rattle.semantics.specs.Histories.{Event};
 ghost use Rattle.algebra.specs.SuitedQueries.{SuitInTurn};
-ghost use Rattle.reference.specs.Closing.{GivesResults};
+ghost use Rattle.reference.specs.Closing.{AreResultsOfEach};
 ghost use Rattle.reference.specs.Hearing.{HasHeard};
 ghost use Rattle.reference.specs.Views.{PublishNext, placed, query_of};
 
@@ -73,7 +73,7 @@ impl Evaluator {
         requires same_queries { IsPermutation (map query_of queries.now) (placed queries.now order.now) }
         requires next { PublishNext (length self.old) (placed queries.now order.now) }
         requires suited { SuitInTurn (streams_of self.old) (placed queries.now order.now) }
-        ensures value { IfOk result (GivesResults queries.now order.now time self.old) }
+        ensures value { IfOk result (AreResultsOfEach queries.now order.now time self.old) }
         ensures kept { self.new ≡ self.old }
     {
         let declared = self.lists.len();

@@ -11,7 +11,7 @@ use Rattle.event_types.specs.Tuple.{TupleView}
 use Rattle.semantics.specs.Scalars.{Op, Sc, Lit, Event, Binding, Dur, Two, Pr, True, Test, And, Or, Not}
 use Rattle.scalar_expr.specs.Fits.{Fits, PredFits, AllFit}
 use Rattle.semantics.specs.Values.{val, combined, is_in_range, result_of}
-use Rattle.semantics.specs.Kinds.{AreOf, IsOf, HasKinds}
+use Rattle.semantics.specs.Kinds.{ValuesHaveKinds, ValueHasKind, HasKinds}
 use Rattle.semantics.proofs.KindLemmas.{kind_at_place, of_its_kind}
 use Rattle.semantics.specs.Typing.{IsOfKind, IsTyped, AreTyped, AreOfKinds}
 
@@ -23,8 +23,8 @@ BindingHasKinds None (Some b) = ⊥
 BindingHasKinds (Some ks) None = ⊥
 
 -- an operation on whole numbers gives one, or OVER
-combined_int : (o : Op) (x y : Value) → IsOf kind.Int x → IsOf kind.Int y → IsOf kind.Int (combined o x y)
-combined_int o (value.Int x) (value.Int y) hx hy = elim (is_in_range (result_of o x y)) as (λ b. IsOf kind.Int (cond b (value.Int (result_of o x y)) value.Over)) [ true ↦ refl | false ↦ tt ]
+combined_int : (o : Op) (x y : Value) → ValueHasKind kind.Int x → ValueHasKind kind.Int y → ValueHasKind kind.Int (combined o x y)
+combined_int o (value.Int x) (value.Int y) hx hy = elim (is_in_range (result_of o x y)) as (λ b. ValueHasKind kind.Int (cond b (value.Int (result_of o x y)) value.Over)) [ true ↦ refl | false ↦ tt ]
 combined_int o (value.Int x) value.Over hx hy = tt
 combined_int o (value.Int x) (value.Text y) hx hy = cc
 combined_int o (value.Int x) (value.Dec t y) hx hy = cc
@@ -33,7 +33,7 @@ combined_int o (value.Text x) y hx hy = cc
 combined_int o (value.Dec s x) y hx hy = cc
 
 -- a scalar of a kind fits, and its value is of that kind
-typed_scalar : (s : Sc) (es : List Kind) (bs : Option (List Kind)) (k : Kind) (e : TupleView) (b : Option TupleView) → IsOfKind s es bs k → HasKinds es e → BindingHasKinds bs b → Fits s e b × IsOf k (val s e b)
+typed_scalar : (s : Sc) (es : List Kind) (bs : Option (List Kind)) (k : Kind) (e : TupleView) (b : Option TupleView) → IsOfKind s es bs k → HasKinds es e → BindingHasKinds bs b → Fits s e b × ValueHasKind k (val s e b)
 typed_scalar (Lit v) es bs k e b h he hb = (tt, of_its_kind v k h)
 typed_scalar (Event i) es bs k e b h he hb = kind_at_place es e.vals i k he h
 typed_scalar (Binding i) es None k e b h he hb = absurd h
@@ -43,7 +43,7 @@ typed_scalar Dur es bs k e b h he hb = (tt, h)
 typed_scalar (Two o x y) es bs k e b h he hb =
     let left = typed_scalar x es bs kind.Int e b h.0 he hb in
     let right = typed_scalar y es bs kind.Int e b h.1 he hb in
-    ((left.0, right.0), subst (λ j. IsOf j (combined o (val x e b) (val y e b))) h.2 (combined_int o (val x e b) (val y e b) left.1 right.1))
+    ((left.0, right.0), subst (λ j. ValueHasKind j (combined o (val x e b) (val y e b))) h.2 (combined_int o (val x e b) (val y e b) left.1 right.1))
 
 -- a typed predicate fits
 typed_test : (p : Pr) (es : List Kind) (bs : Option (List Kind)) (e : TupleView) (b : Option TupleView) → IsTyped p es bs → HasKinds es e → BindingHasKinds bs b → PredFits p e b
@@ -65,7 +65,7 @@ typed_fits (s ∷ m) es bs [] e b h he hb = absurd h
 typed_fits (s ∷ m) es bs (k ∷ ks) e b h he hb = All-cons (λ s. Fits s e b) s m (typed_scalar s es bs k e b h.0 he hb).0 (typed_fits m es bs ks e b h.1 he hb)
 
 -- their values have these kinds
-pub typed_image : (m : List Sc) (es : List Kind) (bs : Option (List Kind)) (ks : List Kind) (e : TupleView) (b : Option TupleView) → AreOfKinds m es bs ks → HasKinds es e → BindingHasKinds bs b → AreOf ks (map (λ s. val s e b) m)
+pub typed_image : (m : List Sc) (es : List Kind) (bs : Option (List Kind)) (ks : List Kind) (e : TupleView) (b : Option TupleView) → AreOfKinds m es bs ks → HasKinds es e → BindingHasKinds bs b → ValuesHaveKinds ks (map (λ s. val s e b) m)
 typed_image [] es bs [] e b h he hb = tt
 typed_image [] es bs (k ∷ ks) e b h he hb = absurd h
 typed_image (s ∷ m) es bs [] e b h he hb = absurd h

@@ -50,8 +50,8 @@ class_of (Test Dur c (Lit (value.Int most))) = bounded c most
 class_of p = Rest
 
 -- the class that is handed out, without where its literal lies in memory
-abbrev pub class_seen : Part → Class
-class_seen (part.Fixed place c v) = Fixed place c v.now
-class_seen (part.Key place bound) = Key place bound
-class_seen (part.Bound strict most) = Bound strict most
-class_seen part.Rest = Rest
+abbrev pub class_of_part : Part → Class
+class_of_part (part.Fixed place c v) = Fixed place c v.now
+class_of_part (part.Key place bound) = Key place bound
+class_of_part (part.Bound strict most) = Bound strict most
+class_of_part part.Rest = Rest

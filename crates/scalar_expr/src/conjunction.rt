@@ -2,7 +2,7 @@
 ghost use Rattle.std.specs.Prelude.{◌≡◌, ◌<◌, ◌++◌, ◌↔◌, length, map, slice_get, IfOk, IsTrue, OnOk};
 ghost use Rattle.std.specs.Option.{option_map};
 ghost use Rattle.scalar_expr.specs.Canonical.{AreCanonical, distinct_parts};
-ghost use Rattle.scalar_expr.specs.Classes.{class_of, class_seen};
+ghost use Rattle.scalar_expr.specs.Classes.{class_of, class_of_part};
 ghost use Rattle.scalar_expr.specs.Views.{pr_of};
 
 use crate::copying::copy_pred;
@@ -63,7 +63,7 @@ impl Conj {
     /// The class of the part at a place, counted from 0. Takes no memory.
     pub fn part(&self, place: usize) -> Part<'_>
         requires { place < length self.now }
-        ensures { option_map class_of (slice_get self.now place) ≡ Some (class_seen result) }
+        ensures { option_map class_of (slice_get self.now place) ≡ Some (class_of_part result) }
     {
         classed(&self.parts[place])
     }

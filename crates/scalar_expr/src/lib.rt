@@ -1,7 +1,7 @@
 //! Scalars, predicates and projections over an event and a binding, and what they mean there.
 //!
 //! Contracts see a `Scalar` and a `Pred` as terms (`sc_of`, `pr_of`), a `Conj` as the list of its parts
-//! as terms, which ascend in the canonical order, a `Part` as its class (`class_seen`), and a `Map` as its
+//! as terms, which ascend in the canonical order, a `Part` as its class (`class_of_part`), and a `Map` as its
 //! width and its scalars as terms.
 #![tactic(auto)]
 

@@ -1,7 +1,7 @@
 //! The classes of a conjunction's parts.
 ghost use Rattle.std.specs.Prelude.{◌≡◌};
 ghost use Rattle.semantics.specs.Scalars.{Dur, Lit, Test};
-ghost use Rattle.scalar_expr.specs.Classes.{bounded, class_of, class_seen, exchanged, fixed, keyed};
+ghost use Rattle.scalar_expr.specs.Classes.{bounded, class_of, class_of_part, exchanged, fixed, keyed};
 ghost use Rattle.scalar_expr.specs.Views.{pr_of, sc_of};
 
 use crate::predicate::Pred;
@@ -33,7 +33,7 @@ pub enum Part<'a> {
 
 // The class of a predicate.
 pub(crate) fn classed(predicate: &Pred) -> Part<'_>
-    ensures { class_seen result ≡ class_of (pr_of predicate.now) }
+    ensures { class_of_part result ≡ class_of (pr_of predicate.now) }
 {
     match predicate {
         Pred::Test(x, cmp, y) => test_class(x, *cmp, y),
@@ -43,7 +43,7 @@ pub(crate) fn classed(predicate: &Pred) -> Part<'_>
 
 // The class of a comparison.
 fn test_class<'a>(x: &'a Scalar, cmp: Cmp, y: &'a Scalar) -> Part<'a>
-    ensures { class_seen result ≡ class_of (Test (sc_of x.entry.now) cmp (sc_of y.entry.now)) }
+    ensures { class_of_part result ≡ class_of (Test (sc_of x.entry.now) cmp (sc_of y.entry.now)) }
 {
     match x {
         Scalar::Event(place) => match y {
@@ -83,7 +83,7 @@ fn exchange(cmp: Cmp) -> Cmp
 
 // An attribute of the event against a literal.
 fn fixed_part<'a>(attr: usize, cmp: Cmp, lit: &'a Value) -> Part<'a>
-    ensures { class_seen result ≡ fixed attr cmp lit.entry.now }
+    ensures { class_of_part result ≡ fixed attr cmp lit.entry.now }
 {
     match cmp {
         Cmp::Ne => Part::Rest,
@@ -93,7 +93,7 @@ fn fixed_part<'a>(attr: usize, cmp: Cmp, lit: &'a Value) -> Part<'a>
 
 // An attribute of the event against one of the binding.
 fn key_part<'a>(event: usize, cmp: Cmp, binding: usize) -> Part<'a>
-    ensures { class_seen result ≡ keyed event cmp binding }
+    ensures { class_of_part result ≡ keyed event cmp binding }
 {
     match cmp {
         Cmp::Eq => Part::Key { event, binding },
@@ -103,7 +103,7 @@ fn key_part<'a>(event: usize, cmp: Cmp, binding: usize) -> Part<'a>
 
 // DUR against a literal.
 fn bound_part<'a>(cmp: Cmp, lit: &'a Value) -> Part<'a>
-    ensures { class_seen result ≡ class_of (Test Dur cmp (Lit lit.entry.now)) }
+    ensures { class_of_part result ≡ class_of (Test Dur cmp (Lit lit.entry.now)) }
 {
     match lit {
         Value::Int(most) => limit(cmp, *most),
@@ -113,7 +113,7 @@ fn bound_part<'a>(cmp: Cmp, lit: &'a Value) -> Part<'a>
 
 // DUR against a number.
 fn limit<'a>(cmp: Cmp, most: i128) -> Part<'a>
-    ensures { class_seen result ≡ bounded cmp most }
+    ensures { class_of_part result ≡ bounded cmp most }
 {
     match cmp {
         Cmp::Lt => Part::Bound { strict: true, most },

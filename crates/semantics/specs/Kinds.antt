@@ -21,19 +21,19 @@ TakesOver kind.Text = ⊥
 TakesOver k = ⊤
 
 -- the value is of this kind
-abbrev pub IsOf : Kind → Value → Type 0
-IsOf k value.Over = TakesOver k
-IsOf k v = value_kind v ≡ k
+abbrev pub ValueHasKind : Kind → Value → Type 0
+ValueHasKind k value.Over = TakesOver k
+ValueHasKind k v = value_kind v ≡ k
 
 -- the values are of these kinds, one by one
-abbrev pub AreOf : List Kind → List Value → Type 0
-AreOf [] [] = ⊤
-AreOf (k ∷ kinds) (v ∷ vals) = IsOf k v × AreOf kinds vals
-AreOf kinds vals = ⊥
+abbrev pub ValuesHaveKinds : List Kind → List Value → Type 0
+ValuesHaveKinds [] [] = ⊤
+ValuesHaveKinds (k ∷ kinds) (v ∷ vals) = ValueHasKind k v × ValuesHaveKinds kinds vals
+ValuesHaveKinds kinds vals = ⊥
 
 -- the values of the tuple have these kinds, one by one
 abbrev pub HasKinds : List Kind → TupleView → Type 0
-HasKinds kinds tuple = AreOf kinds tuple.vals
+HasKinds kinds tuple = ValuesHaveKinds kinds tuple.vals
 
 -- each tuple of the first so many streams has the kinds of its stream
 abbrev pub HaveKinds : (ℕ → List Kind) → ℕ → Streams → Type 0

@@ -15,7 +15,7 @@ use Rattle.catalogue.specs.Catalogued.{Catalogued, IsAccepted, judged_of}
 use Rattle.catalogue.specs.Judgement.{query_at}
 use Rattle.catalogue.proofs.ProgramLemmas.{streams_have_their_names}
 use Rattle.session.specs.BatchLines.{batch_lines}
-use Rattle.session.specs.StandsWithLastOpen.{program_over}
+use Rattle.session.specs.EngineStandsWithLastOpen.{program_over}
 
 -- the tuples of each query at a time
 abbrev pub batch_at : Program → List Event → ℕ → List Query → List (List TupleView)

@@ -11,12 +11,12 @@ use Rattle.epoch_engine.specs.EngineView as engine
 use Rattle.epoch_engine.proofs.StandsLemmas.{closed_stands}
 use Rattle.catalogue.specs.Catalogued.{Catalogued, IsAccepted, judged_of}
 use Rattle.session.specs.BatchLines.{batch_lines}
-use Rattle.session.specs.StandsWithLastOpen.{IsPlanned, StandsWithLastOpen, lines_over, program_over}
+use Rattle.session.specs.EngineStandsWithLastOpen.{IsPlanned, EngineStandsWithLastOpen, lines_over, program_over}
 use Rattle.session.specs.Owes.{Owes, closing, is_later, open_rows}
 use Rattle.session.proofs.BatchLinesLemmas.{batch_at, lines_are}
 use Rattle.session.proofs.ResultLemmas.{closing_gives_results}
 
-module _ (c : Catalogued) (accepted : IsAccepted c) (old new : engine.EngineView) (batch : List (List TupleView)) (planned : IsPlanned c old) (closes : Closes old new batch) (history : List Event) (stands : StandsWithLastOpen c history old) where
+module _ (c : Catalogued) (accepted : IsAccepted c) (old new : engine.EngineView) (batch : List (List TupleView)) (planned : IsPlanned c old) (closes : Closes old new batch) (history : List Event) (stands : EngineStandsWithLastOpen c history old) where
   -- the batch has the results of the queries over what was heard
   batch_is : batch ≡ batch_at (program_over c) history closes.time (program_over c).queries
   batch_is = closing_gives_results accepted.text (judged_of c) old new history batch accepted.accepts planned.layout stands.engine stands.declared closes

@@ -7,7 +7,7 @@ use Rattle.prefix_merge.specs.Counts.{CountsPlain, CountsStates}
 use Rattle.prefix_merge.specs.Laws.{ListsStates}
 use Rattle.prefix_merge.proofs.CountLemmas.{states_are_listed}
 use Rattle.prefix_merge.proofs.RootLemmas.{plain_few}
-use Rattle.splitter.specs.Chains.{lines_of, order_of}
+use Rattle.splitter.specs.Chains.{lines_of, work_order}
 use Rattle.splitter.specs.Layouts.{IsLayoutOf}
 use Rattle.epoch_laws.specs.Standing.{closed_part}
 use Rattle.epoch_engine.specs.Counts.{CountsAlive, stored_in}
@@ -19,7 +19,7 @@ use Rattle.catalogue.specs.Chained.{kinds_of_each}
 use Rattle.event_csv.specs.Fed.{Fed}
 use Rattle.session.specs.declared.work.Work.{Work}
 use Rattle.session.specs.SessionView.{SessionStandsFor, TrimsEngine, SessionView, WorksFor, program_in}
-use Rattle.session.specs.StandsWithLastOpen.{IsGoing}
+use Rattle.session.specs.EngineStandsWithLastOpen.{IsGoing}
 use Rattle.session.proofs.PlanLemmas.{planned_still}
 
 module _ (session : SessionView) (history : List Event) (works : WorksFor session history) where
@@ -54,11 +54,11 @@ module _ (old new : SessionView) (trims : TrimsEngine old new) where
   module _ (history : List Event) (works : WorksFor old history) where
     -- what is stored then are the bindings that wait and are alive
     pub alive_counted : (live : ℕ) → live ≡ min (stored_in new.engine) (2 ^ 64 - 1)
-        → CountsAlive (lines_of (program_in old)) (order_of (program_in old)) (closed_part old.engine.time history) live
+        → CountsAlive (lines_of (program_in old)) (work_order (program_in old)) (closed_part old.engine.time history) live
     alive_counted live same =
         let program = program_in old in
         let counted = trimmed_is_counted old.engine new.engine (lines_of program) history works.engine trims.engine in
-        subst (λ n. CountsAlive (lines_of program) (order_of program) (closed_part old.engine.time history) n) (sym same)
+        subst (λ n. CountsAlive (lines_of program) (work_order program) (closed_part old.engine.time history) n) (sym same)
         (subst (λ order. CountsAlive (lines_of program) order (closed_part old.engine.time history) (min (stored_in new.engine) (2 ^ 64 - 1))) works.layout.order counted)
 
     mid_works : WorksFor mid history

@@ -17,8 +17,8 @@ use Rattle.session.specs.Heard.{heard_after, heard_from, refused_after}
 use Rattle.session.specs.WroteFront.{Beyond}
 use Rattle.session.specs.Readings.{reading_of, readings_left}
 use Rattle.session.specs.SessionView.{HasFinished, SessionStandsFor, SessionView, program_in, readings_in, report_in}
-use Rattle.session.specs.StandsWithLastOpen.{IsAtWork, IsThrough, StandsWithLastOpen, lines_over}
-use Rattle.session.specs.LinesHandedOut.{LinesHandedOut}
+use Rattle.session.specs.EngineStandsWithLastOpen.{IsAtWork, IsThrough, EngineStandsWithLastOpen, lines_over}
+use Rattle.session.specs.HandsOutSomeLines.{HandsOutSomeLines}
 use Rattle.session.specs.Owes.{StoppedBy, Stops}
 use Rattle.session.proofs.ReadingLemmas.{same_left}
 use Rattle.session.proofs.SessionLemmas.{cut_within, done_at, given_more, heard_on, later, so_far, stops_at}
@@ -79,14 +79,14 @@ module _ (session : SessionView) (past : List Event) (text : List ℕ) (stands :
     fed_session = record session { engine = worked.engine; feed = feed; fed = session.fed + length piece; ended = false }
 
     -- it was done, and the session stands for the longer text
-    pub feeds : LinesHandedOut (fed_more session.feed piece) feed → IsPart feed → IsAtWork session.catalogue worked
+    pub feeds : HandsOutSomeLines (fed_more session.feed piece) feed → IsPart feed → IsAtWork session.catalogue worked
         → StoppedBy (program_in session) false (later session past text stands piece false) (so_far session past text stands) work a b (Ok tt)
-        → StandsWithLastOpen session.catalogue (so_far session past text stands ++ heard_from work.engine.time (later session past text stands piece false)) worked.engine
+        → EngineStandsWithLastOpen session.catalogue (so_far session past text stands ++ heard_from work.engine.time (later session past text stands piece false)) worked.engine
         → Feeds session fed_session past text piece a b
     feeds gone part at_work ends now =
         let done = done_at session past text stands piece false work same none_owed a b ends.0 ends.1 in
         let all = sym (heard_on session past text stands piece false ∙ ap (λ e. so_far session past text stands ++ heard_from e.time (later session past text stands piece false)) (sym same)) in
-        let standing = subst (λ h. StandsWithLastOpen session.catalogue h worked.engine) all now in
+        let standing = subst (λ h. EngineStandsWithLastOpen session.catalogue h worked.engine) all now in
         record {
           stands = record {
             going = refl;

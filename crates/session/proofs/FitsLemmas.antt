@@ -7,7 +7,7 @@ use Rattle.event_types.specs.declared.kind.Kind.{Kind}
 use Rattle.event_types.specs.declared.kind.Kind.TheVariants as kind
 use Rattle.event_types.specs.declared.value.Value.{Value}
 use Rattle.event_types.specs.declared.value.Value.TheVariants as value
-use Rattle.semantics.specs.Kinds.{AreOf, HasKinds, IsOf}
+use Rattle.semantics.specs.Kinds.{ValuesHaveKinds, HasKinds, ValueHasKind}
 use Rattle.stream_schema.specs.Schema.{kinds_of}
 use Rattle.stream_schema.specs.Streams.{Entry, number_of}
 use Rattle.event_csv.specs.declared.event.Seen.{Seen}
@@ -21,29 +21,29 @@ use Rattle.event_csv.specs.Numbers.{int_of}
 use Rattle.session.specs.Fits.{Fits}
 
 -- the value of a field is of the field's kind
-value_is : (k : Kind) (field : List ℕ) (v : Value) → value_of k field ≡ Some v → IsOf k v
+value_is : (k : Kind) (field : List ℕ) (v : Value) → value_of k field ≡ Some v → ValueHasKind k v
 value_is kind.Int field v e = by_number (int_of field) e
   where
-    by_number : (o : Option ℤ) → option_map value.Int o ≡ Some v → IsOf kind.Int v
+    by_number : (o : Option ℤ) → option_map value.Int o ≡ Some v → ValueHasKind kind.Int v
     by_number None e = cc
-    by_number (Some n) e = let same : value.Int n ≡ v = cc in subst (IsOf kind.Int) same refl
+    by_number (Some n) e = let same : value.Int n ≡ v = cc in subst (ValueHasKind kind.Int) same refl
 value_is (kind.Dec places) field v e = by_units (units_of places field) e
   where
-    by_units : (o : Option ℤ) → option_map (value.Dec places) o ≡ Some v → IsOf (kind.Dec places) v
+    by_units : (o : Option ℤ) → option_map (value.Dec places) o ≡ Some v → ValueHasKind (kind.Dec places) v
     by_units None e = cc
-    by_units (Some n) e = let same : value.Dec places n ≡ v = cc in subst (IsOf (kind.Dec places)) same refl
-value_is kind.Text field v e = let same : value.Text field ≡ v = cc in subst (IsOf kind.Text) same refl
+    by_units (Some n) e = let same : value.Dec places n ≡ v = cc in subst (ValueHasKind (kind.Dec places)) same refl
+value_is kind.Text field v e = let same : value.Text field ≡ v = cc in subst (ValueHasKind kind.Text) same refl
 
 one_more : (none : LineFault) (k : Kind) (kinds : List Kind) (o : Option Value) (more : Result (List Value) LineFault) (vals : List Value)
-    → ((v : Value) → o ≡ Some v → IsOf k v) → ((rest : List Value) → more ≡ Ok rest → AreOf kinds rest) → value_before none o more ≡ Ok vals → AreOf (k ∷ kinds) vals
+    → ((v : Value) → o ≡ Some v → ValueHasKind k v) → ((rest : List Value) → more ≡ Ok rest → ValuesHaveKinds kinds rest) → value_before none o more ≡ Ok vals → ValuesHaveKinds (k ∷ kinds) vals
 one_more none k kinds None more vals is ih e = cc
 one_more none k kinds (Some v) (Err why) vals is ih e = cc
 one_more none k kinds (Some v) (Ok rest) vals is ih e =
-    let whole : v ∷ rest ≡ vals = cc in subst (AreOf (k ∷ kinds)) whole (is v refl, ih rest refl)
+    let whole : v ∷ rest ≡ vals = cc in subst (ValuesHaveKinds (k ∷ kinds)) whole (is v refl, ih rest refl)
 
 -- the values of as many fields as there are kinds are of these kinds, by induction on the kinds
-values_are : (number : ℕ) (kinds : List Kind) (fields : List (List ℕ)) (vals : List Value) → length fields ≡ length kinds → values_of number kinds fields ≡ Ok vals → AreOf kinds vals
-values_are number [] fields vals same e = let v : [] ≡ vals = cc in subst (AreOf []) v tt
+values_are : (number : ℕ) (kinds : List Kind) (fields : List (List ℕ)) (vals : List Value) → length fields ≡ length kinds → values_of number kinds fields ≡ Ok vals → ValuesHaveKinds kinds vals
+values_are number [] fields vals same e = let v : [] ≡ vals = cc in subst (ValuesHaveKinds []) v tt
 values_are number (k ∷ kinds) [] vals same e = absurd (omega (arith, same))
 values_are number (k ∷ kinds) (field ∷ fields) vals same e =
     let left : length fields ≡ length kinds = omega (arith, same) in

@@ -18,8 +18,8 @@ use Rattle.session.specs.declared.work.Work.{Work}
 use Rattle.session.specs.Heard.{Reading, disorder, refusal_of, refused_from, heard_from, last_after, events_in}
 use Rattle.session.specs.WroteFront.{WroteFront}
 use Rattle.session.specs.Readings.{heard_of}
-use Rattle.session.specs.StandsWithLastOpen.{StandsWithLastOpen, program_over}
-use Rattle.session.specs.Owes.{Advances, StoppedBy, FailsBy, GoesOn, Owes, RefusesBy, Stops, TakesLineReading, closing, closes, left_of, line_of, open_rows, rows_left}
+use Rattle.session.specs.EngineStandsWithLastOpen.{EngineStandsWithLastOpen, program_over}
+use Rattle.session.specs.Owes.{Advances, StoppedBy, FailsBy, GoesOn, Owes, RefusesBy, Stops, AdvancesPastLine, closing, closes, left_of, line_of, open_rows, rows_left}
 use Rattle.session.proofs.WroteFrontLemmas.{Owes-trans, Owes-all, part_after, front_after, front_none, all_written}
 
 -- an event before the one that was seen is out of order
@@ -144,14 +144,14 @@ ends_same program ended lines others history work a b end e ends = subst (λ l. 
 
 -- the work goes on, and on
 pub goes_further : {c : Catalogued} {first second third : List Reading} {history : List Event} {x y z : Work} {a b d : Told}
-    → GoesOn c first second history x y a b → ((heard : List Event) → StandsWithLastOpen c heard y.engine → GoesOn c second third heard y z b d) → GoesOn c first third history x z a d
+    → GoesOn c first second history x y a b → ((heard : List Event) → EngineStandsWithLastOpen c heard y.engine → GoesOn c second third heard y z b d) → GoesOn c first third history x z a d
 goes_further p more =
     let q = more p.heard p.stands in
     record { heard = q.heard; stands = q.stands; advances = advances_trans p.advances q.advances }
 
 -- an event was taken, and the lines are others
 pub took : {c : Catalogued} {line : Reading} {history : List Event} {old new : Work} {a b : Told} (lines others : List Reading)
-    → lines ≡ line ∷ others → TakesLineReading c line history old new a b → GoesOn c lines others history old new a b
+    → lines ≡ line ∷ others → AdvancesPastLine c line history old new a b → GoesOn c lines others history old new a b
 took {c} {line} {history} {old} {new} {a} {b} lines others shows takes = record {
   heard = history ++ events_in line.found;
   stands = takes.stands;

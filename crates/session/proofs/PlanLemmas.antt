@@ -22,7 +22,7 @@ use Rattle.automaton.specs.States.{Net}
 use Rattle.automaton.specs.Work.{is_in}
 use Rattle.splitter.specs.Laws.{hidden_streams, split_order}
 use Rattle.cel_types.specs.SourceLaws.{kinds_in}
-use Rattle.splitter.specs.Chains.{HideApart, chain_order, hidden_end, order_of}
+use Rattle.splitter.specs.Chains.{HideApart, chain_order, hidden_end, work_order}
 use Rattle.splitter.specs.Layouts.{IsLayoutOf}
 use Rattle.splitter.proofs.ApartLemmas.{range_all}
 use Rattle.splitter.proofs.LineLemmas.{get_more}
@@ -36,7 +36,7 @@ use Rattle.catalogue.specs.Chained.{kinds_of_each}
 use Rattle.catalogue.proofs.ProgramLemmas.{accepted_are_wide_programs, declared_are_told}
 use Rattle.event_csv.specs.declared.event.Seen.{Seen}
 use Rattle.session.specs.Fits.{Fits}
-use Rattle.session.specs.StandsWithLastOpen.{IsPlanned, lines_over, program_over}
+use Rattle.session.specs.EngineStandsWithLastOpen.{IsPlanned, lines_over, program_over}
 use Rattle.session.proofs.BatchLinesLemmas.{as_many}
 
 -- the derived streams of queries have greater numbers than a stream that is there, by induction on the queries
@@ -60,11 +60,11 @@ none_is stream (number ∷ numbers) all =
 
 module _ (c : Catalogued) (accepted : IsAccepted c) where
   -- a declared stream isn't derived
-  not_derived : (stream : ℕ) → stream < length (judged_of c).declared → is_in (order_of (program_over c)) stream ≡ false
+  not_derived : (stream : ℕ) → stream < length (judged_of c).declared → is_in (work_order (program_over c)) stream ≡ false
   not_derived stream less =
       let program = program_over c in
       let wide = accepted_are_wide_programs accepted.text (judged_of c) accepted.accepts in
-      none_is stream (order_of program)
+      none_is stream (work_order program)
       (order_above (kinds_in (judged_of c).streams) stream (range_with_len 0 program.declared) program.order (declared_there program.declared stream less) wide.typed.in_turn wide.apart)
 
   module _ (event : Seen) (fits : Fits (judged_of c).streams event) where

@@ -6,8 +6,8 @@ use Rattle.epoch_engine.specs.EngineStandsFor as engines
 use Rattle.epoch_engine.specs.EngineView as engine
 use Rattle.catalogue.specs.Catalogued.{Catalogued}
 use Rattle.session.specs.Heard.{Reading, events_in, heard_from}
-use Rattle.session.specs.StandsWithLastOpen.{HasClosed, IsPlanned, IsThrough, lines_over}
-use Rattle.session.specs.Owes.{TakesLineReading}
+use Rattle.session.specs.EngineStandsWithLastOpen.{HasClosed, IsPlanned, IsThrough, lines_over}
+use Rattle.session.specs.Owes.{AdvancesPastLine}
 use Rattle.session.specs.declared.work.Work.{Work}
 use Rattle.session.proofs.PlanLemmas.{planned_still}
 
@@ -21,7 +21,7 @@ module _ (c : Catalogued) (history : List Event) (lines : List Reading) (old : W
   none_left none stands = subst (engines.EngineStandsFor now (lines_over c)) (sym (append-nil history) ∙ ap (λ ls. history ++ heard_from old.engine.time ls) (sym none)) stands
 
   -- one line was left, and its event was taken
-  pub one_left : (line : Reading) (mid : Work) (a b : Told) → lines ≡ line ∷ [] → TakesLineReading c line history old mid a b
+  pub one_left : (line : Reading) (mid : Work) (a b : Told) → lines ≡ line ∷ [] → AdvancesPastLine c line history old mid a b
       → engines.EngineStandsFor now (lines_over c) (history ++ events_in line.found) → engines.EngineStandsFor now (lines_over c) (history ++ heard_from old.engine.time lines)
   one_left line mid a b one takes stands =
       subst (engines.EngineStandsFor now (lines_over c))

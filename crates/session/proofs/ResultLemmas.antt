@@ -21,7 +21,7 @@ use Rattle.epoch_laws.proofs.Standing.{closing_is_results}
 use Rattle.epoch_engine.specs.Closes.{Closes}
 use Rattle.epoch_engine.specs.EngineStandsFor.{EngineStandsFor}
 use Rattle.epoch_engine.specs.EngineView.{EngineView, stores_in}
-use Rattle.splitter.specs.Chains.{lines_of, order_of}
+use Rattle.splitter.specs.Chains.{lines_of, work_order}
 use Rattle.splitter.specs.ProgramLaws.{IsWideProgram}
 use Rattle.splitter.specs.Layouts.{IsLayoutOf}
 use Rattle.splitter.proofs.ProgramLawLemmas.{derived_so}
@@ -59,7 +59,7 @@ module _ (kinds : ℕ → List Kind) (program : Program) (wide : IsWideProgram k
       by_test true e = refl
       by_test false e = heard_none stream e
 
-  agree : (order : List ℕ) → order ≡ order_of program → All (λ query. Agree (lines_of program) order program history query.stream) program.queries
+  agree : (order : List ℕ) → order ≡ work_order program → All (λ query. Agree (lines_of program) order program history query.stream) program.queries
   agree order same =
       subst (λ (s : Streams × List ℕ). All (λ (query : Query). IsPermutation (completed (lines_of program) s.1 s.0 query.stream) (env program history query.stream)) program.queries)
       (λ i. (λ stream. sym (heard_declared stream) i, sym same i)) (derived_so kinds program history wide all)

@@ -35,8 +35,8 @@ use Rattle.session.specs.Heard.{Reading, before_last, closed_after, disorder, he
 use Rattle.session.specs.WroteFront.{Beyond, WroteFront}
 use Rattle.session.specs.Readings.{found_of, heard_of, reading_of, readings_left}
 use Rattle.session.specs.SessionView.{AreDeclared, HasGiven, SessionStandsFor, SessionView, program_in, readings_in, report_in}
-use Rattle.session.specs.StandsWithLastOpen.{StandsWithLastOpen}
-use Rattle.session.specs.LinesHandedOut.{LinesHandedOut}
+use Rattle.session.specs.EngineStandsWithLastOpen.{EngineStandsWithLastOpen}
+use Rattle.session.specs.HandsOutSomeLines.{HandsOutSomeLines}
 use Rattle.session.specs.Owes.{Stops, left_of, rows_left}
 use Rattle.session.proofs.ClosingLemmas.{rows_left_after}
 use Rattle.session.proofs.FitsLemmas.{event_fits}
@@ -49,7 +49,7 @@ cut_within text piece limit h =
     let whole : limit ≡ length text + (limit - length text) = omega arith in
     ap (λ n. take n (text ++ piece)) whole ∙ take-append-add text piece (limit - length text)
 
-module _ (text piece : List ℕ) (feed new : Fed) (given : HasGiven text feed) (gone : LinesHandedOut (fed_more feed piece) new) (part : IsPart new) where
+module _ (text piece : List ℕ) (feed new : Fed) (given : HasGiven text feed) (gone : HandsOutSomeLines (fed_more feed piece) new) (part : IsPart new) where
   lines_on : (more : List ℕ) (ended : Bool) → lines ((text ++ piece) ++ more) ended ≡ (lines text false ++ gone.lines) ++ unread_lines (fed_more new more) ended
   lines_on more ended =
       ap (λ t. lines t ended) (append_assoc text piece more)
@@ -127,7 +127,7 @@ module _ (session : SessionView) (past : List Event) (text : List ℕ) (stands :
   so_far = heard_after past before
 
   -- the engine stands for it
-  pub engine_stands : IsAccepted session.catalogue → StandsWithLastOpen session.catalogue so_far session.engine
+  pub engine_stands : IsAccepted session.catalogue → EngineStandsWithLastOpen session.catalogue so_far session.engine
   engine_stands accepted = record {
     declared = declared_more session.catalogue accepted past (last_time past) (lines text false) stands.declared;
     engine = stands.works.engine;

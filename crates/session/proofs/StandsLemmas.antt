@@ -18,7 +18,7 @@ use Rattle.session.specs.declared.work.Work.{Work}
 use Rattle.session.specs.Fits.{Fits}
 use Rattle.session.specs.Heard.{disorder}
 use Rattle.session.specs.Readings.{heard_of}
-use Rattle.session.specs.StandsWithLastOpen.{HasClosed, IsAtWork, IsPlanned, IsReadyForEvent, StandsWithLastOpen, lines_over}
+use Rattle.session.specs.EngineStandsWithLastOpen.{HasClosed, IsAtWork, IsPlanned, IsReadyForEvent, EngineStandsWithLastOpen, lines_over}
 use Rattle.session.proofs.PlanLemmas.{is_declared, may_hear, of_its_kinds, planned_still}
 
 -- the last time of a history with an event at its end
@@ -91,7 +91,7 @@ module _ (c : Catalogued) (accepted : IsAccepted c) (event : Seen) (fits : Fits 
         }
 
     -- and it stands for one more event
-    pub stands_more : (history : List Event) → IsSound event.tuple → StandsWithLastOpen c history old → StandsWithLastOpen c (history ++ heard_of event ∷ []) new.engine
+    pub stands_more : (history : List Event) → IsSound event.tuple → EngineStandsWithLastOpen c history old → EngineStandsWithLastOpen c (history ++ heard_of event ∷ []) new.engine
     stands_more history sound stands = record {
       declared = (
         All-append (λ other. other.stream < length (judged_of c).declared) history (heard_of event ∷ []) stands.declared.0

@@ -3,11 +3,11 @@ pub mod ClosingGivesResults
 pub mod Feeds
 pub mod Fits
 pub mod Heard
-pub mod LinesHandedOut
+pub mod HandsOutSomeLines
 pub mod Owes
 pub mod Readings
 pub mod SessionCode
 pub mod SessionView
-pub mod StandsWithLastOpen
-pub mod Whatever
+pub mod EngineStandsWithLastOpen
+pub mod ForEachHistory
 pub mod WroteFront

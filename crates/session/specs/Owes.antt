@@ -16,7 +16,7 @@ use Rattle.session.specs.declared.work.Work.{Work}
 use Rattle.session.specs.Heard.{Reading, refusal_of, refused_from, heard_from, last_after, events_in}
 use Rattle.session.specs.WroteFront.{WroteFront}
 use Rattle.session.specs.Readings.{heard_of}
-use Rattle.session.specs.StandsWithLastOpen.{StandsWithLastOpen, program_over}
+use Rattle.session.specs.EngineStandsWithLastOpen.{EngineStandsWithLastOpen, program_over}
 
 -- a front of the text was appended, and the rest of it is still owed
 pub record Owes (text rest : List ℕ) (old new : Told) : Type 0 where
@@ -93,12 +93,12 @@ Blames WriteFault before after = ⊤
 Blames other before after = after.write_faults ≡ before.write_faults
 
 -- a line's event was heard too, whatever lines follow
-pub record TakesLineReading (c : Catalogued) (line : Reading) (history : List Event) (old new : Work) (before after : Told) : Type 0 where
-  pub stands : StandsWithLastOpen c (history ++ events_in line.found) new.engine
+pub record AdvancesPastLine (c : Catalogued) (line : Reading) (history : List Event) (old new : Work) (before after : Told) : Type 0 where
+  pub stands : EngineStandsWithLastOpen c (history ++ events_in line.found) new.engine
   pub advances : (ended : Bool) (lines : List Reading) → Advances (program_over c) ended (line ∷ lines) lines history (history ++ events_in line.found) old new before after
 
 -- the work has gone on to other lines of a text that hasn't ended, where more was heard
 pub record GoesOn (c : Catalogued) (lines others : List Reading) (history : List Event) (old new : Work) (before after : Told) : Type 0 where
   pub heard : List Event
-  pub stands : StandsWithLastOpen c heard new.engine
+  pub stands : EngineStandsWithLastOpen c heard new.engine
   pub advances : Advances (program_over c) false lines others history heard old new before after

@@ -5,7 +5,7 @@ use Rattle.semantics.specs.Histories.{Event}
 use Rattle.semantics.specs.Programs.{Program}
 use Rattle.semantics.specs.Report.{report}
 use Rattle.semantics.specs.TypedPrograms.{HaveTheirKinds}
-use Rattle.splitter.specs.Chains.{lines_of, order_of}
+use Rattle.splitter.specs.Chains.{lines_of, work_order}
 use Rattle.splitter.specs.Layouts.{IsLayoutOf}
 use Rattle.epoch_laws.specs.Standing.{closed_part, last_time}
 use Rattle.epoch_engine.specs.Counts.{CountsAlive}
@@ -96,4 +96,4 @@ pub record KeepsQueries (old new : SessionView) : Type 0 where
 -- the number of bindings that wait after the closed epochs of what the session works for
 abbrev pub CountsWaiting : SessionView → ℕ → Type 0
 CountsWaiting session count =
-    (history : List Event) → WorksFor session history → CountsAlive (lines_of (program_in session)) (order_of (program_in session)) (closed_part session.engine.time history) count
+    (history : List Event) → WorksFor session history → CountsAlive (lines_of (program_in session)) (work_order (program_in session)) (closed_part session.engine.time history) count

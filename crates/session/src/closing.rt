@@ -3,8 +3,8 @@ ghost use Rattle.std.specs.Prelude.{◌≡◌, None, ℕ, IsSome, IfErr, OnOk};
 ghost use Rattle.cay_host.specs.Output.{SameButOutput};
 ghost use Rattle.session.specs.Feeds.{BlamesWriting};
 ghost use Rattle.session.specs.Heard.{disorder};
-ghost use Rattle.session.specs.StandsWithLastOpen.{HasClosed, IsAtWork, IsReadyForEvent};
-ghost use Rattle.session.specs.Whatever.{EndsAtLast, FailsInClosing, OwesClosing, PutsOpenRows};
+ghost use Rattle.session.specs.EngineStandsWithLastOpen.{HasClosed, IsAtWork, IsReadyForEvent};
+ghost use Rattle.session.specs.ForEachHistory.{EndsAtLast, FailsInClosing, OwesClosing, PutsOpenRows};
 
 use crate::fault::SessionFault;
 use crate::work::Work;

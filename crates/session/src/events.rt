@@ -6,8 +6,8 @@ ghost use Rattle.epoch_engine.specs.Offers.{IsHeard, IsLate, IsNotAhead, with_tu
 ghost use Rattle.session.specs.Feeds.{BlamesWriting};
 ghost use Rattle.session.specs.Fits.{Fits};
 ghost use Rattle.session.specs.Heard.{disorder};
-ghost use Rattle.session.specs.StandsWithLastOpen.{IsAtWork};
-ghost use Rattle.session.specs.Whatever.{StopsAtEvent, TakesEvent};
+ghost use Rattle.session.specs.EngineStandsWithLastOpen.{IsAtWork};
+ghost use Rattle.session.specs.ForEachHistory.{StopsAtEvent, TakesEvent};
 ghost use Rattle.session.specs.Owes.{Blames, RefusesBy};
 
 use crate::closing::close_before;

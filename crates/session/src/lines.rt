@@ -4,9 +4,9 @@ ghost use Rattle.cay_host.specs.Output.{SameButOutput};
 ghost use Rattle.catalogue.specs.Catalogued.{IsAccepted};
 ghost use Rattle.event_csv.specs.Fed.{IsPart, unread_lines};
 ghost use Rattle.session.specs.Feeds.{BlamesWriting};
-ghost use Rattle.session.specs.StandsWithLastOpen.{IsAtWork, IsThrough};
-ghost use Rattle.session.specs.LinesHandedOut.{LinesHandedOut, Progresses};
-ghost use Rattle.session.specs.Whatever.{EndsOver, GoesThrough, HearsLines, HearsRest, StopsOver};
+ghost use Rattle.session.specs.EngineStandsWithLastOpen.{IsAtWork, IsThrough};
+ghost use Rattle.session.specs.HandsOutSomeLines.{HandsOutSomeLines, Progresses};
+ghost use Rattle.session.specs.ForEachHistory.{EndsOver, GoesThrough, HearsLines, HearsRest, StopsOver};
 ghost use Rattle.session.specs.Owes.{Blames};
 
 use crate::closing::close_last;
@@ -35,7 +35,7 @@ pub fn work_on_lines<H: Host, L: Ledger>(
     ensures stands { OnOk result (HearsLines catalogue.now feed.old work.old work.new) }
     ensures at_work { OnOk result (IsAtWork catalogue.now work.new) }
     ensures none_owed { OnOk result (work.new.rows ≡ []) }
-    ensures gone { OnOk result (LinesHandedOut feed.old feed.new) }
+    ensures gone { OnOk result (HandsOutSomeLines feed.old feed.new) }
     ensures part { OnOk result (IsPart feed.new) }
     ensures accepted { IsAccepted catalogue.now }
     ensures quiet { BlamesWriting result (H.told host.old) (H.told host.new) }
@@ -62,7 +62,7 @@ fn work_through<H: Host, L: Ledger>(
     requires { IsAtWork catalogue.now work.old }
     ensures goes_on { OnOk result (GoesThrough catalogue.now feed.old work.old work.new (H.told host.old) (H.told host.new)) }
     ensures at_work { OnOk result (IsAtWork catalogue.now work.new) }
-    ensures gone { OnOk result (LinesHandedOut feed.old feed.new) }
+    ensures gone { OnOk result (HandsOutSomeLines feed.old feed.new) }
     ensures part { OnOk result (IsPart feed.new) }
     ensures stops { IfErr result (StopsOver catalogue.now feed.old work.old (H.told host.old) (H.told host.new)) }
     ensures accepted { IsAccepted catalogue.now }
@@ -90,7 +90,7 @@ fn work_on_line<H: Host, L: Ledger>(
     requires { IsAtWork catalogue.now work.old }
     ensures progress { IfOk result (Progresses catalogue.now feed.old feed.new work.old work.new (H.told host.old) (H.told host.new)) }
     ensures at_work { OnOk result (IsAtWork catalogue.now work.new) }
-    ensures gone { LinesHandedOut feed.old feed.new }
+    ensures gone { HandsOutSomeLines feed.old feed.new }
     ensures accepted { IsAccepted catalogue.now }
     ensures stops { IfErr result (StopsOver catalogue.now feed.old work.old (H.told host.old) (H.told host.new)) }
     ensures quiet { OnOk result ((H.told host.new).write_faults ≡ (H.told host.old).write_faults) }

@@ -3,7 +3,7 @@ ghost use Rattle.std.specs.Prelude.{◌≡◌, false, [], IfOk};
 ghost use Rattle.event_csv.specs.Fed.{IsLine, unread_lines};
 ghost use Rattle.session.specs.Fits.{FitsNext};
 ghost use Rattle.session.specs.Readings.{IsReading, Shows, ShowsLast};
-ghost use Rattle.session.specs.LinesHandedOut.{LinesHandedOut};
+ghost use Rattle.session.specs.HandsOutSomeLines.{HandsOutSomeLines};
 
 use event_csv::{Feed, Got, LineFault, ReadFail, Seen, read_event_near};
 use event_types::{Memory, StreamId};
@@ -29,7 +29,7 @@ pub fn next_reading(
     feed: &mut Feed,
 ) -> Result<Next, Memory>
     ensures shows { IfOk result (Shows streams.now feed.old feed.new) }
-    ensures gone { LinesHandedOut feed.old feed.new }
+    ensures gone { HandsOutSomeLines feed.old feed.new }
     ensures fits { IfOk result (FitsNext streams.now) }
 {
     match feed.next_line() {

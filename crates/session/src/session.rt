@@ -13,7 +13,7 @@ ghost use Rattle.catalogue.specs.Chained.{kinds_of_each};
 ghost use Rattle.catalogue.specs.Judgement.{program_of};
 ghost use Rattle.session.specs.Feeds.{BlamesWriting, BreaksAtPiece, Feeds, Finishes};
 ghost use Rattle.session.specs.SessionView.{CountsWaiting, KeepsQueries, SessionStandsFor, StandsForPast, TrimsEngine, WorksFor, program_in};
-ghost use Rattle.session.specs.StandsWithLastOpen.{IsPlanned, lines_over};
+ghost use Rattle.session.specs.EngineStandsWithLastOpen.{IsPlanned, lines_over};
 
 use crate::counting::{hops_of, root_states};
 use crate::fault::SessionFault;
@@ -53,7 +53,7 @@ impl Model for Session {
     ghost view = { λ s. record { catalogue = s.catalogue; engine = s.work.engine; limit = s.limit; feed = s.feed; fed = s.fed; ended = s.ended } };
 
     ghost use Rattle.std.specs.Prelude.{◌≡◌, false};
-    ghost use Rattle.session.specs.StandsWithLastOpen.{IsGoing};
+    ghost use Rattle.session.specs.EngineStandsWithLastOpen.{IsGoing};
 
     ghost invariant = { λ s. s.ended ≡ false → IsGoing s.catalogue s.limit s.feed s.fed s.work };
 }

@@ -2,7 +2,7 @@
 ghost use Rattle.std.specs.Prelude.{◌≡◌, ◌<◌, false, None, IfOk, IsTrue, OnOk};
 ghost use Rattle.catalogue.specs.Catalogued.{IsAccepted, judged_of};
 ghost use Rattle.session.specs.Fits.{Fits};
-ghost use Rattle.session.specs.StandsWithLastOpen.{IsAtWork, IsPlanned};
+ghost use Rattle.session.specs.EngineStandsWithLastOpen.{IsAtWork, IsPlanned};
 
 use crate::Session;
 use crate::events::work_on_event;

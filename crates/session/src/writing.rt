@@ -6,7 +6,7 @@ ghost use Rattle.cay_host.specs.Output.{Wrote, WrotePart, SameButOutput};
 ghost use Rattle.semantics.specs.Report.{line};
 ghost use Rattle.catalogue.specs.Catalogued.{IsAccepted};
 ghost use Rattle.session.specs.BatchLines.{batch_lines};
-ghost use Rattle.session.specs.StandsWithLastOpen.{program_over};
+ghost use Rattle.session.specs.EngineStandsWithLastOpen.{program_over};
 ghost use Rattle.session.specs.Owes.{Owes};
 
 use catalogue::Catalogue;

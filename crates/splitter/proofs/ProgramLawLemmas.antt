@@ -14,11 +14,11 @@ use Rattle.semantics.specs.Programs.{Program, Query, declared_streams, env}
 use Rattle.semantics.specs.TypedPrograms.{HaveTheirKinds, IsProgram}
 use Rattle.expressions.proofs.ProgramLemmas.{declared_kinds}
 use Rattle.automaton.specs.Work.{IsInOrder, completed}
-use Rattle.splitter.specs.Chains.{HideApart, lines_of, order_of}
+use Rattle.splitter.specs.Chains.{HideApart, lines_of, work_order}
 use Rattle.splitter.specs.ProgramLaws.{IsWideProgram}
 use Rattle.splitter.proofs.ChainLemmas.{chain_means, chain_ordered}
 
-pub ordered : (kinds : ℕ → List Kind) (program : Program) → IsProgram kinds program → HideApart program.order → IsInOrder (lines_of program) (order_of program)
+pub ordered : (kinds : ℕ → List Kind) (program : Program) → IsProgram kinds program → HideApart program.order → IsInOrder (lines_of program) (work_order program)
 ordered kinds program typed apart = chain_ordered kinds (range_with_len 0 program.declared) program.order typed.in_turn apart
 
 stream_among : (order : List Query) (query : Query) → Contains order query → Contains (map (λ q. q.stream) order) query.stream
@@ -28,7 +28,7 @@ stream_among order query has =
 
 module _ (kinds : ℕ → List Kind) (program : Program) (history : List Event) (is : IsWideProgram kinds program) (all : HaveTheirKinds kinds history) where
   abbrev made : Streams
-  made = completed (lines_of program) (order_of program) (declared_streams program.declared history)
+  made = completed (lines_of program) (work_order program) (declared_streams program.declared history)
 
   abbrev numbers : List ℕ
   numbers = range_with_len 0 program.declared

@@ -37,8 +37,8 @@ abbrev pub lines_of : Program → List Line
 lines_of program = chain_lines program.order
 
 -- the derived streams of a program in the order of work, hidden ones included
-abbrev pub order_of : Program → List ℕ
-order_of program = chain_order program.order
+abbrev pub work_order : Program → List ℕ
+work_order program = chain_order program.order
 
 -- the streams of a program that are printed: those of its queries, in the order of the file
 abbrev pub outs_of : Program → List ℕ

@@ -13,7 +13,7 @@ use Rattle.automaton.specs.NetworkLines.{NetworkFits}
 use Rattle.automaton.specs.Plain.{IsPlain}
 use Rattle.automaton.specs.States.{Net}
 use Rattle.automaton.specs.Work.{IsInOrder, completed}
-use Rattle.splitter.specs.Chains.{HideApart, lines_of, order_of}
+use Rattle.splitter.specs.Chains.{HideApart, lines_of, work_order}
 use Rattle.splitter.specs.SourceWidths.{HasWidths}
 
 -- a program over streams of these kinds, whose projections have the widths of their sources, and whose queries hide streams apart
@@ -24,20 +24,20 @@ pub record IsWideProgram (kinds : ℕ → List Kind) (program : Program) : Type 
 
 -- the lines of a program whose queries hide streams apart are in the order of work
 abbrev pub ChainsAreInOrder : Type 0
-ChainsAreInOrder = (kinds : ℕ → List Kind) (program : Program) → IsProgram kinds program → HideApart program.order → IsInOrder (lines_of program) (order_of program)
+ChainsAreInOrder = (kinds : ℕ → List Kind) (program : Program) → IsProgram kinds program → HideApart program.order → IsInOrder (lines_of program) (work_order program)
 
 -- over events of their streams' kinds, each declared and each published stream is by the lines exactly what it is by the program
 abbrev pub ChainsMeanTheirProgram : Type 0
 ChainsMeanTheirProgram =
     (kinds : ℕ → List Kind) (program : Program) (history : List Event) → IsWideProgram kinds program → HaveTheirKinds kinds history
-    → ((stream : ℕ) → stream < program.declared → completed (lines_of program) (order_of program) (declared_streams program.declared history) stream ≡ env program history stream)
-    × All (λ query. completed (lines_of program) (order_of program) (declared_streams program.declared history) query.stream ≡ env program history query.stream) program.queries
+    → ((stream : ℕ) → stream < program.declared → completed (lines_of program) (work_order program) (declared_streams program.declared history) stream ≡ env program history stream)
+    × All (λ query. completed (lines_of program) (work_order program) (declared_streams program.declared history) query.stream ≡ env program history query.stream) program.queries
 
 -- so each query's stream is a permutation of what it is by the program
 abbrev pub QueriesAreDerived : Type 0
 QueriesAreDerived =
     (kinds : ℕ → List Kind) (program : Program) (history : List Event) → IsWideProgram kinds program → HaveTheirKinds kinds history
-    → All (λ query. IsPermutation (completed (lines_of program) (order_of program) (declared_streams program.declared history) query.stream) (env program history query.stream)) program.queries
+    → All (λ query. IsPermutation (completed (lines_of program) (work_order program) (declared_streams program.declared history) query.stream) (env program history query.stream)) program.queries
 
 -- a layout that fits lines fits their plain network
 abbrev pub PlainNetworksFit : Type 0

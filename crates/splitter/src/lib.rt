@@ -2,7 +2,7 @@
 //!
 //! Contracts see a `Namer` as the next number that it hands out, which is 2^64 where none is left, queries
 //! in the order of work as the numbers and the expressions of their streams (`work_of`), and a program as
-//! `semantics` has it (`lines_of`, `order_of`).
+//! `semantics` has it (`lines_of`, `work_order`).
 #![tactic(auto)]
 
 mod chains;

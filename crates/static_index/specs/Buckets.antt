@@ -58,8 +58,8 @@ abbrev pub FindsOnlyMet : Cmp → Value → BTreeMap Value (List ℕ) → List �
 FindsOnlyMet cmp value buckets old new = (n : ℕ) → Contains new n → Contains old n ⊎ IsAmongMet cmp value buckets.entries n
 
 -- a bound that is looked at in place
-abbrev pub bound_seen : Bound (Bor Value) → Bound Value
-bound_seen bound = bound_map (λ x. x.now) bound
+abbrev pub value_bound : Bound (Bor Value) → Bound Value
+value_bound bound = bound_map (λ x. x.now) bound
 
 -- the ids of the literals between two bounds, by ascending literals
 abbrev pub ids_between : Bound Value → Bound Value → BTreeMap Value (List ℕ) → List ℕ

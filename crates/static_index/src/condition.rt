@@ -1,7 +1,7 @@
 //! The fixed parts of a condition.
 ghost use Rattle.std.specs.Prelude.{◌≡◌, ◌++◌, IfOk, OnOk};
 ghost use Rattle.std.specs.Option.{option_to_list};
-ghost use Rattle.scalar_expr.specs.Classes.{class_seen};
+ghost use Rattle.scalar_expr.specs.Classes.{class_of_part};
 ghost use Rattle.static_index.specs.FixedParts.{all_hold, fixed_part_of, fixed_parts, holds_if_any};
 
 use crate::fixed_part::{FixedPart, FixedParts};
@@ -27,7 +27,7 @@ pub fn fixed_hold(condition: &Conj, event: &Tuple) -> bool
 
 // Whether a part holds as far as it is fixed.
 fn is_met(part: Part<'_>, event: &Tuple) -> bool
-    ensures { result ≡ holds_if_any event.now (fixed_part_of (class_seen part.entry)) }
+    ensures { result ≡ holds_if_any event.now (fixed_part_of (class_of_part part.entry)) }
 {
     match part {
         Part::Fixed { attr, cmp, lit } => meets(event, attr, cmp, lit),
@@ -51,7 +51,7 @@ pub(crate) fn copy_fixed(alloc: Global, condition: &Conj) -> Result<FixedParts, 
 
 // A copy of a part, if it is fixed.
 fn copy_part(alloc: Global, part: Part<'_>) -> Result<Option<FixedPart>, Memory>
-    ensures { IfOk result (λ copy. copy ≡ fixed_part_of (class_seen part.entry)) }
+    ensures { IfOk result (λ copy. copy ≡ fixed_part_of (class_of_part part.entry)) }
 {
     match part {
         Part::Fixed { attr, cmp, lit } => {

@@ -3,7 +3,7 @@ ghost use Rattle.std.specs.Prelude.{◌≡◌, ◌++◌, pos, ◌-ℤ◌, Contai
 ghost use Rattle.event_types.specs.declared.value.Value.{Value};
 ghost use Rattle.std.specs.BTreeMap.Range.{IsLeBy, IsLtBy};
 ghost use Rattle.std.specs.Bound.{IsForward};
-ghost use Rattle.static_index.specs.Buckets.{FindsMet, FindsOnlyMet, KeepsIds, KeepsOtherIds, bound_seen, ids_between, met_ids_between, ordered, ordered_ids};
+ghost use Rattle.static_index.specs.Buckets.{FindsMet, FindsOnlyMet, KeepsIds, KeepsOtherIds, value_bound, ids_between, met_ids_between, ordered, ordered_ids};
 ghost use Rattle.static_index.specs.Spans.{FindsNear};
 ghost use Rattle.event_types.specs.declared.comparison.Cmp.TheVariants.{Ge, Le};
 
@@ -100,8 +100,8 @@ fn collect_met(
     value: &Value,
     found: &mut Numbers,
 ) -> Result<(), Memory>
-    requires { IsForward (IsLeBy ordered) (IsLtBy ordered) (bound_seen low) (bound_seen high) }
-    ensures { OnOk result (found.new ≡ found.old ++ met_ids_between cmp value.now (bound_seen low.entry) (bound_seen high.entry) buckets.now) }
+    requires { IsForward (IsLeBy ordered) (IsLtBy ordered) (value_bound low) (value_bound high) }
+    ensures { OnOk result (found.new ≡ found.old ++ met_ids_between cmp value.now (value_bound low.entry) (value_bound high.entry) buckets.now) }
 {
     'buckets: for (lit, ids) in buckets.range((low, high)) {
         if compares(cmp, value.look(), lit.look()) {
@@ -153,8 +153,8 @@ fn collect_range(
     high: Bound<&Value>,
     found: &mut Numbers,
 ) -> Result<(), Memory>
-    requires { IsForward (IsLeBy ordered) (IsLtBy ordered) (bound_seen low) (bound_seen high) }
-    ensures { OnOk result (found.new ≡ found.old ++ ids_between (bound_seen low.entry) (bound_seen high.entry) buckets.now) }
+    requires { IsForward (IsLeBy ordered) (IsLtBy ordered) (value_bound low) (value_bound high) }
+    ensures { OnOk result (found.new ≡ found.old ++ ids_between (value_bound low.entry) (value_bound high.entry) buckets.now) }
 {
     'buckets: for (_, ids) in buckets.range((low, high)) {
         append(found, ids)?;

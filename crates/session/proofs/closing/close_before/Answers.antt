@@ -1,7 +1,7 @@
 use Rattle.std.proofs.Common.{List, ℕ, sym, subst, Option}
 use Rattle.epoch_engine.specs.Offers.{IsNotAhead}
 use Rattle.cay_host.specs.Output.{WrotePart}
-use Rattle.session.specs.StandsWithLastOpen.{program_over}
+use Rattle.session.specs.EngineStandsWithLastOpen.{program_over}
 use Rattle.session.proofs.ClosedLemmas.{closed_rows, owes_closed}
 use Rattle.session.proofs.StandsLemmas.{ready_later, ready_now}
 use Rattle.session.proofs.closing.close_before.Goals as goal

@@ -1,6 +1,6 @@
 use Rattle.std.proofs.Common.{ap}
 use Rattle.epoch_engine.specs.EngineView as engine
-use Rattle.session.specs.StandsWithLastOpen.{program_over}
+use Rattle.session.specs.EngineStandsWithLastOpen.{program_over}
 use Rattle.session.proofs.StandsLemmas.{at_work_more, may_offer, stands_more}
 use Rattle.session.proofs.OwesLemmas.{fails, goes_on, no_memory}
 use Rattle.session.proofs.events.close_and_offer.Goals as goal

@@ -1,6 +1,6 @@
 use Rattle.std.proofs.Common.{◌∙◌, ap, sym, Some}
 use Rattle.session.specs.Heard.{disorder}
-use Rattle.session.specs.StandsWithLastOpen.{program_over}
+use Rattle.session.specs.EngineStandsWithLastOpen.{program_over}
 use Rattle.session.specs.Owes.{line_of}
 use Rattle.session.proofs.OwesLemmas.{late_is, refuses}
 use Rattle.session.proofs.events.work_on_event.Goals as goal

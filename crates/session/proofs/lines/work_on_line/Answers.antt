@@ -1,7 +1,7 @@
 use Rattle.std.proofs.Common.{ap, length, false, arith, Err, refl}
 use Rattle.catalogue.specs.Catalogued.{judged_of}
 use Rattle.session.specs.Readings.{readings_left}
-use Rattle.session.specs.StandsWithLastOpen.{program_over}
+use Rattle.session.specs.EngineStandsWithLastOpen.{program_over}
 use Rattle.session.proofs.OwesLemmas.{refuses, stops_same, took}
 use Rattle.session.proofs.lines.work_on_line.Goals as goal
 

@@ -3,7 +3,7 @@ use Rattle.cay_host.specs.Output.{WrotePart}
 use Rattle.catalogue.specs.Catalogued.{judged_of}
 use Rattle.session.specs.declared.fault.SessionFault.TheVariants as fault
 use Rattle.session.specs.Readings.{readings_left}
-use Rattle.session.specs.StandsWithLastOpen.{program_over}
+use Rattle.session.specs.EngineStandsWithLastOpen.{program_over}
 use Rattle.session.proofs.OwesLemmas.{advances_stops, nothing_left}
 use Rattle.session.proofs.lines.work_on_lines.Goals as goal
 

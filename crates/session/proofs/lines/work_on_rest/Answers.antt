@@ -1,7 +1,7 @@
 use Rattle.std.proofs.Common.{true, [], ◌∷◌, ◌++◌, refl, Err}
 use Rattle.std.proofs.lemmas.Result.{on_ok_weaker}
 use Rattle.session.specs.Readings.{heard_of}
-use Rattle.session.specs.StandsWithLastOpen.{program_over}
+use Rattle.session.specs.EngineStandsWithLastOpen.{program_over}
 use Rattle.session.specs.Owes.{line_of}
 use Rattle.session.proofs.RestLemmas.{none_left, one_left, through_closed}
 use Rattle.session.proofs.OwesLemmas.{advances_ends, ends_same, refuses, stops_same}

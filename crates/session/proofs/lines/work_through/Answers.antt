@@ -2,7 +2,7 @@ use Rattle.std.proofs.Common.{◌∙◌, false}
 use Rattle.cay_host.proofs.OutputLemmas.{SameButOutput-trans}
 use Rattle.catalogue.specs.Catalogued.{judged_of}
 use Rattle.session.specs.Readings.{readings_left}
-use Rattle.session.specs.StandsWithLastOpen.{program_over}
+use Rattle.session.specs.EngineStandsWithLastOpen.{program_over}
 use Rattle.session.proofs.LinesLemmas.{Gone-trans}
 use Rattle.session.proofs.OwesLemmas.{advances_stops, goes_further}
 use Rattle.session.proofs.lines.work_through.Goals as goal

@@ -6,7 +6,7 @@ use Rattle.catalogue.specs.Chained.{kinds_of_each}
 use Rattle.epoch_engine.specs.EngineStandsFor as engines
 use Rattle.epoch_engine.specs.Starts.{IsNew}
 use Rattle.epoch_engine.proofs.StandsLemmas.{new_stands}
-use Rattle.session.specs.StandsWithLastOpen.{IsPlanned, lines_over, program_over}
+use Rattle.session.specs.EngineStandsWithLastOpen.{IsPlanned, lines_over, program_over}
 use Rattle.session.proofs.PlanLemmas.{lines_serve, new_planned}
 use Rattle.session.proofs.session.engine_of.Goals as goal
 

@@ -3,7 +3,7 @@ use Rattle.std.specs.List.{flat_map}
 use Rattle.semantics.specs.Report.{line}
 use Rattle.catalogue.specs.Catalogued.{judged_of}
 use Rattle.catalogue.specs.Judgement.{query_at}
-use Rattle.session.specs.StandsWithLastOpen.{program_over}
+use Rattle.session.specs.EngineStandsWithLastOpen.{program_over}
 use Rattle.session.proofs.BatchLinesLemmas.{as_many, name_is, put_all, put_next, query_there}
 use Rattle.session.proofs.writing.put_batch.Goals as goal
 

@@ -1,4 +1,4 @@
-use Rattle.session.specs.StandsWithLastOpen.{program_over}
+use Rattle.session.specs.EngineStandsWithLastOpen.{program_over}
 use Rattle.session.proofs.BatchLinesLemmas.{IsPut}
 use Rattle.session.proofs.writing.put_batch.Given as goal
 

@@ -11,7 +11,7 @@ use Rattle.semantics.specs.Values.{value_at}
 use Rattle.scalar_expr.specs.Fits.{AllFit}
 use Rattle.binding_index.specs.Buckets.{IsKeyed, StartsFrom, in_order, instances_at}
 use Rattle.binding_index.specs.Keyed.{Keyed}
-use Rattle.binding_index.specs.KeyParts.{key_seen}
+use Rattle.binding_index.specs.KeyParts.{key_of_part}
 use Rattle.binding_index.proofs.BucketLemmas.{same_keys}
 use Rattle.binding_index.proofs.StoreLemmas.{arranged, value_is, value_there}
 use Rattle.binding_index.proofs.TakeLemmas.{found_are, found_go, none_go}
@@ -23,7 +23,7 @@ index_mut-requires g c = slice_get_within c.self.inside.buckets.entries c.in-Som
 
 pub take_eligible-requires : goal.take_eligible-requires
 take_eligible-requires g c =
-    let key = key_seen c.self.inside.key in
+    let key = key_of_part c.self.inside.key in
     let bs = c.self.inside.buckets.entries in
     let are : c.index_mut.result.now ≡ candidates_of (Some key) c.args.event.now (in_order bs) =
     found_are key c.args.event.now bs c.self.invariant.keyed c.self.invariant.distinct c.get.result.now (value_is c.args.event.now c.vals.result.now c.self.inside.key.event c.get.result.now c.vals.ensures c.get.ensures) c.in-Some.place c.in-Some.ensures.found
@@ -58,14 +58,14 @@ invariant_of-self g c =
 
 pub returns-in-Some-clause-others : goal.returns-in-Some-clause-others
 returns-in-Some-clause-others g c =
-    rw (← c.self.view_is) (found_go (key_seen c.self.inside.key) c.args.event.now c.self.inside.buckets.entries c.self.invariant.keyed c.self.invariant.distinct c.get.result.now
+    rw (← c.self.view_is) (found_go (key_of_part c.self.inside.key) c.args.event.now c.self.inside.buckets.entries c.self.invariant.keyed c.self.invariant.distinct c.get.result.now
     (value_is c.args.event.now c.vals.result.now c.self.inside.key.event c.get.result.now c.vals.ensures c.get.ensures) c.in-Some.place c.in-Some.ensures.found c.index_mut.result.now c.index_mut.ensures.value c.args.choose.now c.take_eligible.new.chain
     c.arrange-self-inside.new.buckets.entries c.take_eligible.ensures.others c.arrange-self-inside.ensures.same)
 
 -- each candidate is tested once
 pub returns-in-Some-clause-ticks : goal.returns-in-Some-clause-ticks
 returns-in-Some-clause-ticks g c =
-    let key = key_seen c.self.inside.key in
+    let key = key_of_part c.self.inside.key in
     let bs = c.self.inside.buckets.entries in
     let are : length c.index_mut.result.now ≡ length (candidates_of (Some key) c.args.event.now (in_order bs)) =
     ap length (found_are key c.args.event.now bs c.self.invariant.keyed c.self.invariant.distinct c.get.result.now (value_is c.args.event.now c.vals.result.now c.self.inside.key.event c.get.result.now c.vals.ensures c.get.ensures) c.in-Some.place c.in-Some.ensures.found
@@ -78,5 +78,5 @@ returns-in-Some-clause-same_ready g c =
 
 pub returns-in_default-clause-others : goal.returns-in_default-clause-others
 returns-in_default-clause-others g c =
-    rw (← c.self.view_is) (none_go (key_seen c.self.inside.key) c.args.event.now c.self.inside.buckets.entries c.self.invariant.keyed c.self.invariant.distinct c.get.result.now
+    rw (← c.self.view_is) (none_go (key_of_part c.self.inside.key) c.args.event.now c.self.inside.buckets.entries c.self.invariant.keyed c.self.invariant.distinct c.get.result.now
     (value_is c.args.event.now c.vals.result.now c.self.inside.key.event c.get.result.now c.vals.ensures c.get.ensures) c.args.choose.now c.in_default.ensures.absent)

@@ -1,6 +1,6 @@
 use Rattle.std.proofs.Common.{ℕ, List, refl, subst}
 use Rattle.semantics.specs.Histories.{Event}
-use Rattle.splitter.specs.Chains.{lines_of, order_of}
+use Rattle.splitter.specs.Chains.{lines_of, work_order}
 use Rattle.epoch_laws.specs.Standing.{closed_part}
 use Rattle.epoch_engine.specs.Counts.{CountsAlive}
 use Rattle.epoch_engine.specs.Trims.{Trims}
@@ -22,7 +22,7 @@ returns-clause-counted c =
     let e = c.self.inside in
     let old : SessionView = record { catalogue = e.catalogue; engine = e.work.engine; limit = e.limit; feed = e.feed; fed = e.fed; ended = e.ended } in
     let now = c.trim.new.self in
-    subst (λ (s : SessionView). (history : List Event) → WorksFor s history → CountsAlive (lines_of (program_in s)) (order_of (program_in s)) (closed_part s.engine.time history) c.live-2.result) c.self.view_is
+    subst (λ (s : SessionView). (history : List Event) → WorksFor s history → CountsAlive (lines_of (program_in s)) (work_order (program_in s)) (closed_part s.engine.time history) c.live-2.result) c.self.view_is
     (λ history works. alive_counted old (with_engine old now) (trims_engine old now c.trim.ensures) history works c.live-2.result c.live-2.ensures)
 
 -- the engine works for the same events

@@ -27,7 +27,7 @@ abbrev pub lines_over : Catalogued → List Line
 lines_over c = lines_of (program_over c)
 
 -- the engine stands for events on declared streams, with the last of their epochs open
-pub record StandsWithLastOpen (c : Catalogued) (history : List Event) (now : engine.EngineView) : Type 0 where
+pub record EngineStandsWithLastOpen (c : Catalogued) (history : List Event) (now : engine.EngineView) : Type 0 where
   pub declared : AreDeclared (judged_of c) history
   pub engine : engines.EngineStandsFor now (lines_over c) history
   pub last_is_open : now.time ≡ last_time history
@@ -49,7 +49,7 @@ pub record HasClosed (c : Catalogued) (old new : engine.EngineView) : Type 0 whe
   pub intact : IsTrue new.intact
   pub none_open : new.time ≡ None
   pub now_closed : new.closed_time ≡ old.time
-  pub stands : (history : List Event) → StandsWithLastOpen c history old → engines.EngineStandsFor new (lines_over c) history
+  pub stands : (history : List Event) → EngineStandsWithLastOpen c history old → engines.EngineStandsFor new (lines_over c) history
 
 -- no epoch is open, and the engine is intact and planned
 pub record IsThrough (c : Catalogued) (now : engine.EngineView) : Type 0 where
@@ -63,7 +63,7 @@ pub record IsReadyForEvent (c : Catalogued) (at : ℕ) (old new : engine.EngineV
   pub intact : IsTrue new.intact
   pub not_ahead : IsNotAhead new.time at
   pub in_time : (seen : ℕ) → IsLate new.time new.closed_time at seen → ⊥
-  pub stands : (history : List Event) → StandsWithLastOpen c history old → engines.EngineStandsFor new (lines_over c) history
+  pub stands : (history : List Event) → EngineStandsWithLastOpen c history old → engines.EngineStandsFor new (lines_over c) history
 
 -- the work may go on: no rows wait to be written, the bytes are within the limit, as many line feeds at most came, and what is left is part of one line
 pub record IsGoing (c : Catalogued) (limit : ℕ) (feed : Fed) (fed : ℕ) (work : Work) : Type 0 where

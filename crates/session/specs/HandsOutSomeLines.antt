@@ -7,11 +7,11 @@ use Rattle.event_csv.specs.Fed.{Fed, HandsOutLines, IsPart, line_feeds_so_far}
 use Rattle.event_csv.specs.Lines.{Line}
 use Rattle.session.specs.declared.work.Work.{Work}
 use Rattle.session.specs.Readings.{readings_left}
-use Rattle.session.specs.StandsWithLastOpen.{StandsWithLastOpen}
+use Rattle.session.specs.EngineStandsWithLastOpen.{EngineStandsWithLastOpen}
 use Rattle.session.specs.Owes.{GoesOn}
 
 -- some lines were taken from a feed and are gone, whatever bytes come, and as many line feeds came as before
-pub record LinesHandedOut (old new : Fed) : Type 0 where
+pub record HandsOutSomeLines (old new : Fed) : Type 0 where
   pub lines : List Line
   pub gives : HandsOutLines lines old new
   pub feeds : line_feeds_so_far new ≡ line_feeds_so_far old
@@ -19,7 +19,7 @@ pub record LinesHandedOut (old new : Fed) : Type 0 where
 -- the work on the next line: it is done, or no line was there
 abbrev pub Progresses : Catalogued → Fed → Fed → Work → Work → Told → Told → Bool → Type 0
 Progresses c old new work worked before after true =
-    ((history : List Event) → StandsWithLastOpen c history work.engine → GoesOn c (readings_left (judged_of c).streams old false) (readings_left (judged_of c).streams new false) history work worked before after)
+    ((history : List Event) → EngineStandsWithLastOpen c history work.engine → GoesOn c (readings_left (judged_of c).streams old false) (readings_left (judged_of c).streams new false) history work worked before after)
     × (length (readings_left (judged_of c).streams new false) < length (readings_left (judged_of c).streams old false))
 Progresses c old new work worked before after false =
     IsPart new × (readings_left (judged_of c).streams old false ≡ []) × (worked ≡ work) × (after ≡ before)
