@@ -30,7 +30,7 @@ fn with_binding(alloc: Global, price: Value) -> Result<Store, Memory>
     let choose = normal(alloc, same_price)?;
     let mut store = Store::make(alloc, &choose)?;
     let tuple = priced(alloc, price)?;
-    let instance = Instance { tuple };
+    let instance = Instance { tuple, first: 1 };
     store.ready(&instance)?;
     match Bead::make(alloc, instance) {
         Ok(bead) => {

@@ -7,6 +7,8 @@ use std::alloc::Global;
 #[derive(Drop)]
 pub struct Instance {
     pub tuple: Tuple,
+    /// The detection time of the tuple of the root stream with which the binding began.
+    pub first: u64,
 }
 
 /// A list of instances.
@@ -15,6 +17,9 @@ pub type Instances = List<Instance>;
 impl Copied for Instance {
     fn copied(&self, alloc: Global) -> Result<Self, Memory> {
         let tuple = self.tuple.copy(alloc)?;
-        Ok(Instance { tuple })
+        Ok(Instance {
+            tuple,
+            first: self.first,
+        })
     }
 }

@@ -1,7 +1,8 @@
 //! Instances, and stores in which they wait for their nexts.
 //!
-//! Contracts see an `Instance` as its tuple, a store that is `Waiting` as its condition, its key, its
-//! instances and the keys that are ready, and a `PlainStore` as its condition and its instances.
+//! Contracts see an `Instance` as its tuple and the detection time with which it began, a store that is
+//! `Waiting` as its condition, its key, its instances and the keys that are ready, and a `PlainStore` as its
+//! condition and its instances.
 #![tactic(auto)]
 
 mod bounds;

@@ -46,7 +46,7 @@ fn store_of(
     let mut store = PlainStore::make(alloc, choose)?;
     for (from, at) in times {
         let tuple = tuple(rt, alloc, *from, *at);
-        let instance = Instance { tuple };
+        let instance = Instance { tuple, first: *at };
         store.ready(&instance)?;
         match Bead::make(alloc, instance) {
             Ok(bead) => store.link(bead),
