@@ -1,9 +1,8 @@
 -- What an epoch brings, as far as it is made.
-use Rattle.std.specs.Prelude.{◌≡◌, ℕ, ◌<◌, ◌⊎◌, List, [], ◌++◌, Contains, length, map, slice_index_or, slice_set}
+use Rattle.std.specs.Prelude.{◌≡◌, ℕ, ◌<◌, ◌⊎◌, List, [], ◌++◌, Contains, length, slice_index_or, slice_set}
 use Rattle.std.specs.List.{All}
 use Rattle.std.specs.List.Sorted.{IsPermutation}
 use Rattle.automaton.specs.States.{Net, ends_at}
-use Rattle.epoch_laws.specs.Instances.{instance_of}
 use Rattle.epoch_draft.specs.Marks.{AreMarks}
 use Rattle.epoch_draft.specs.Moves.{Move, bound_of, made_of}
 use Rattle.epoch_draft.specs.declared.draft.Draft.{Draft}
@@ -37,4 +36,4 @@ pub record Adds {X : Type 0} (more old new : List X) : Type 0 where
 pub record Grows (net : Net) (moves : List Move) (old new : Draft) : Type 0 where
   pub fits : DraftFits (length old.made) (length net) new
   pub made : (stream : ℕ) → Adds (made_of stream moves) (slice_index_or old.made stream []) (slice_index_or new.made stream [])
-  pub bound : (state : ℕ) → IsPermutation (slice_index_or new.beads state []) (slice_index_or old.beads state [] ++ map instance_of (bound_of net state moves))
+  pub bound : (state : ℕ) → IsPermutation (slice_index_or new.beads state []) (slice_index_or old.beads state [] ++ bound_of net state moves)

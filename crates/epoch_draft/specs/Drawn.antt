@@ -1,11 +1,10 @@
 -- What is made of an epoch once some of its tuples are met.
-use Rattle.std.specs.Prelude.{◌≡◌, ℕ, ◌<◌, ◌⊎◌, false, List, [], ◌++◌, Contains, length, map, None, Some, slice_get, slice_index_or}
+use Rattle.std.specs.Prelude.{◌≡◌, ℕ, ◌<◌, ◌⊎◌, false, List, [], ◌++◌, Contains, length, None, Some, slice_get, slice_index_or}
 use Rattle.std.specs.List.{All}
 use Rattle.std.specs.List.Sorted.{IsPermutation}
 use Rattle.event_types.specs.Tuple.{TupleView}
 use Rattle.semantics.specs.Denotation.{Streams}
 use Rattle.semantics.specs.Programs.{with_stream}
-use Rattle.automaton.specs.Flow.{entering}
 use Rattle.automaton.specs.Networks.{IsNetwork}
 use Rattle.automaton.specs.States.{Net, entrance_at, wait_at}
 use Rattle.automaton.specs.Work.{is_in}
@@ -13,7 +12,7 @@ use Rattle.automaton.specs.declared.line.Hop.{Hop}
 use Rattle.automaton.specs.declared.network.Entrance.TheVariants.{Waiting}
 use Rattle.epoch_laws.specs.Closing.{IsEpoch, Stores, leaving_state, given_by_ends, stores_after}
 use Rattle.epoch_laws.specs.Epochs.{again, unmatched_after, took}
-use Rattle.epoch_laws.specs.Instances.{instance_of}
+use Rattle.epoch_laws.specs.Instances.{instances_entering}
 use Rattle.epoch_draft.specs.Drafts.{Grows}
 use Rattle.epoch_draft.specs.Finding.{IsDeaf, waits_on}
 use Rattle.epoch_draft.specs.Meeting.{ListsAll, moves_of_all, pair_of}
@@ -24,7 +23,7 @@ use Rattle.epoch_draft.specs.declared.draft.Pair.{Pair}
 pub record Drawn (net : Net) (stores : Stores) (seen : Streams) (draft : Draft) : Type 0 where
   pub made : (stream : ℕ) → IsPermutation (slice_index_or draft.made stream []) (given_by_ends net seen stores stream)
   pub bound : (number before : ℕ) (hop : Hop) → entrance_at net number ≡ Some (Waiting before hop)
-      → IsPermutation (slice_index_or draft.beads number []) (map instance_of (entering hop (leaving_state net seen stores before) ++ again hop.wait.fold (took hop.wait.choose hop.wait.fold (seen hop.wait.stream) (stores number))))
+      → IsPermutation (slice_index_or draft.beads number []) (instances_entering hop (leaving_state net seen stores before) ++ again hop.wait.fold (took hop.wait.choose hop.wait.fold (seen hop.wait.stream) (stores number)))
   pub unbound : (number : ℕ) → wait_at net number ≡ None → slice_index_or draft.beads number [] ≡ []
 
 -- the pairs are those of waiting states with tuples that are met, and each that isn't listed is of a tuple that is eligible for no binding at its state

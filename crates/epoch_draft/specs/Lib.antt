@@ -9,6 +9,7 @@ pub mod Kindings
 pub mod Marks
 pub mod Meeting
 pub mod Moves
+pub mod Pairs
 pub mod Purging
 pub mod Settling
 pub mod Suits

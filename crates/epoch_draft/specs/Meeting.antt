@@ -6,19 +6,19 @@ use Rattle.instances.specs.declared.instance.Instance.{Instance}
 use Rattle.automaton.specs.States.{Net, wait_at}
 use Rattle.automaton.specs.declared.wait.Wait.{Wait}
 use Rattle.epoch_laws.specs.Closing.{Stores}
-use Rattle.epoch_pass.specs.Pairs.{met}
 use Rattle.epoch_draft.specs.Comes.{gets}
 use Rattle.epoch_draft.specs.Finding.{FindsWaits, IsDeaf, waits_on}
 use Rattle.epoch_draft.specs.Moves.{Move, moves_from, moves_over}
+use Rattle.epoch_draft.specs.Pairs.{met}
 use Rattle.epoch_draft.specs.declared.draft.Pair.{Pair}
 
 -- what a tuple makes of the instances at a state, if it waits so
-abbrev pub met_by : Option Wait → List Instance → TupleView → List TupleView
+abbrev pub met_by : Option Wait → List Instance → TupleView → List Instance
 met_by None store tuple = []
 met_by (Some wait) store tuple = met wait store tuple
 
 -- what a tuple makes of the instances at the state with a number
-abbrev pub met_at : Net → Stores → TupleView → ℕ → List TupleView
+abbrev pub met_at : Net → Stores → TupleView → ℕ → List Instance
 met_at net stores tuple number = met_by (wait_at net number) (stores number) tuple
 
 -- the moves of what leaves waiting states so

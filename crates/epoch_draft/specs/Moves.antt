@@ -1,12 +1,14 @@
--- The ways on which a tuple leaves a state, and what it comes to on each.
+-- The ways on which an instance leaves a state, and what it comes to on each.
 use Rattle.std.specs.Prelude.{ℕ, ◌==◌, if◌then◌else◌, List, [], ◌∷◌, ◌++◌, length, map, Option, Some, None, option_to_list}
 use Rattle.std.specs.List.{flat_map, range_with_len}
 use Rattle.event_types.specs.Tuple.{TupleView}
+use Rattle.instances.specs.declared.instance.Instance.{Instance}
 use Rattle.automaton.specs.States.{Net, edges_at, ends_at, step_at, wait_at}
 use Rattle.automaton.specs.Steps.{pass}
 use Rattle.automaton.specs.declared.network.End.{End}
 use Rattle.automaton.specs.declared.wait.Turn.{Turn}
 use Rattle.automaton.specs.declared.wait.Wait.{Wait}
+use Rattle.epoch_laws.specs.Instances.{pass_instance}
 
 -- a way out of a state: by a forward edge into a waiting state, by an end out to a stream, or in a FOLD back to the state as a new binding
 pub data Way : Type 0 where
@@ -14,9 +16,9 @@ pub data Way : Type 0 where
   Out : End → Way
   Back : ℕ → Way
 
--- a tuple that goes a way
+-- an instance that goes a way
 pub record Move : Type 0 where
-  pub tuple : TupleView
+  pub instance : Instance
   pub way : Way
 
 -- in a FOLD what leaves a state goes back to it as well
@@ -33,34 +35,34 @@ backs_by number (Some wait) = backs_in number wait.fold
 abbrev pub ways_at : Net → ℕ → List Way
 ways_at net number = map Into (edges_at net number) ++ (map Out (ends_at net number) ++ backs_by number (wait_at net number))
 
--- what a tuple makes of a way for a stream
-abbrev pub made_by : ℕ → TupleView → Way → List TupleView
-made_by stream tuple (Into next) = []
-made_by stream tuple (Out end) = if end.out == stream then option_to_list (pass end.step tuple) else []
-made_by stream tuple (Back number) = []
+-- what an instance makes of a way for a stream: a tuple, of which it no longer matters when it began
+abbrev pub made_by : ℕ → Instance → Way → List TupleView
+made_by stream instance (Into next) = []
+made_by stream instance (Out end) = if end.out == stream then option_to_list (pass end.step instance.tuple) else []
+made_by stream instance (Back number) = []
 
--- the bindings that a tuple makes of a way for a waiting state
-abbrev pub bound_by : Net → ℕ → TupleView → Way → List TupleView
-bound_by net state tuple (Into next) = if next == state then option_to_list (pass (step_at net next) tuple) else []
-bound_by net state tuple (Out end) = []
-bound_by net state tuple (Back number) = if number == state then tuple ∷ [] else []
+-- what an instance makes of a way for a waiting state: an instance that began when it did
+abbrev pub bound_by : Net → ℕ → Instance → Way → List Instance
+bound_by net state instance (Into next) = if next == state then option_to_list (pass_instance (step_at net next) instance) else []
+bound_by net state instance (Out end) = []
+bound_by net state instance (Back number) = if number == state then instance ∷ [] else []
 
 -- what moves make for a stream
 abbrev pub made_of : ℕ → List Move → List TupleView
-made_of stream moves = flat_map (λ move. made_by stream move.tuple move.way) moves
+made_of stream moves = flat_map (λ move. made_by stream move.instance move.way) moves
 
--- the bindings that moves make for a waiting state
-abbrev pub bound_of : Net → ℕ → List Move → List TupleView
-bound_of net state moves = flat_map (λ move. bound_by net state move.tuple move.way) moves
+-- the instances that moves make for a waiting state
+abbrev pub bound_of : Net → ℕ → List Move → List Instance
+bound_of net state moves = flat_map (λ move. bound_by net state move.instance move.way) moves
 
--- a tuple that goes each of these ways
-abbrev pub moves_on : List Way → TupleView → List Move
-moves_on ways tuple = map (λ way. record { tuple = tuple; way = way }) ways
+-- an instance that goes each of these ways
+abbrev pub moves_on : List Way → Instance → List Move
+moves_on ways instance = map (λ way. record { instance = instance; way = way }) ways
 
--- all moves of tuples that leave a state
-abbrev pub moves_from : Net → ℕ → List TupleView → List Move
-moves_from net number tuples = flat_map (moves_on (ways_at net number)) tuples
+-- all moves of instances that leave a state
+abbrev pub moves_from : Net → ℕ → List Instance → List Move
+moves_from net number instances = flat_map (moves_on (ways_at net number)) instances
 
--- all moves, where these tuples leave each state
-abbrev pub moves_over : Net → (ℕ → List TupleView) → List Move
+-- all moves, where these instances leave each state
+abbrev pub moves_over : Net → (ℕ → List Instance) → List Move
 moves_over net leaving = flat_map (λ number. moves_from net number (leaving number)) (range_with_len 0 (length net))

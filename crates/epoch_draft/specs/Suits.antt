@@ -1,14 +1,33 @@
 -- What has to hold before a tuple of a stream is met. No public clause cites this module.
-use Rattle.std.specs.Prelude.{◌≡◌, ⊤, ℕ, Some}
+use Rattle.std.specs.Prelude.{◌≡◌, ⊤, ℕ, List, [], ◌∷◌, Option, Some, None}
 use Rattle.std.specs.List.{All}
 use Rattle.event_types.specs.Tuple.{TupleView}
+use Rattle.semantics.specs.Denotation.{selected}
+use Rattle.scalar_expr.specs.Fits.{AllFit, Fits}
 use Rattle.automaton.specs.States.{Net, step_at, wait_at}
+use Rattle.automaton.specs.declared.step.Stage.{Stage}
+use Rattle.automaton.specs.declared.step.Stage.TheVariants.{Keep, Make}
+use Rattle.automaton.specs.declared.wait.Turn.{Turn}
 use Rattle.automaton.specs.declared.wait.Wait.{Wait}
 use Rattle.epoch_laws.specs.Closing.{Stores}
-use Rattle.epoch_pass.specs.Pairs.{met}
-use Rattle.epoch_pass.specs.Suits.{StepSuits, WaitSuits}
 use Rattle.epoch_draft.specs.Finding.{waits_on, ways_on}
 use Rattle.epoch_draft.specs.Moves.{Back, Into, Out, Way, ways_at}
+use Rattle.epoch_draft.specs.Pairs.{met}
+
+-- the conditions and the scalars of a step fit the tuple as it comes to them
+abbrev pub StepSuits : List Stage → TupleView → Type 0
+StepSuits [] tuple = ⊤
+StepSuits (Keep condition ∷ step) tuple = AllFit condition tuple None × StepSuits step tuple
+StepSuits (Make m ∷ step) tuple = All (λ s. Fits s tuple None) m.parts × StepSuits step (selected m.parts tuple)
+
+-- those of a rebind edge fit the tuple and the binding
+abbrev pub TurnSuits : Option Turn → TupleView → TupleView → Type 0
+TurnSuits None binding tuple = ⊤
+TurnSuits (Some turn) binding tuple = AllFit turn.on tuple (Some binding) × All (λ s. Fits s tuple (Some binding)) turn.set.parts
+
+-- those of a wait fit the tuple and the binding
+abbrev pub WaitSuits : Wait → TupleView → TupleView → Type 0
+WaitSuits wait binding tuple = AllFit wait.choose tuple (Some binding) × TurnSuits wait.fold binding tuple
 
 -- the step on a way suits the tuple
 abbrev pub WaySuits : Net → TupleView → Way → Type 0
@@ -23,7 +42,7 @@ LeavingSuits net number tuple = All (WaySuits net tuple) (ways_at net number)
 -- the wait of a state, if it has one, suits the tuple with each instance there, and the ways out of the state suit what leaves it then
 abbrev pub MeetingSuits : Net → Stores → TupleView → ℕ → Type 0
 MeetingSuits net stores tuple number =
-    (wait : Wait) → wait_at net number ≡ Some wait → All (λ instance. WaitSuits wait instance.tuple tuple) (stores number) × All (LeavingSuits net number) (met wait (stores number) tuple)
+    (wait : Wait) → wait_at net number ≡ Some wait → All (λ instance. WaitSuits wait instance.tuple tuple) (stores number) × All (λ made. LeavingSuits net number made.tuple) (met wait (stores number) tuple)
 
 -- all that reads the stream suits the tuple
 pub record TupleSuits (net : Net) (stores : Stores) (stream : ℕ) (tuple : TupleView) : Type 0 where

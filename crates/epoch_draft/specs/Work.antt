@@ -8,8 +8,8 @@ use Rattle.automaton.specs.declared.step.Stage.TheVariants.{Keep, Make}
 use Rattle.automaton.specs.declared.wait.Turn.{Turn}
 use Rattle.automaton.specs.declared.wait.Wait.{Wait}
 use Rattle.epoch_laws.specs.Closing.{Stores}
-use Rattle.epoch_pass.specs.Pairs.{paired}
 use Rattle.epoch_draft.specs.Moves.{Back, Into, Out, Way, ways_at}
+use Rattle.epoch_draft.specs.Pairs.{paired}
 
 -- the tests of a tuple in a step: one for each condition
 abbrev pub keeps : List Stage → ℕ

@@ -1,6 +1,5 @@
 //! What an epoch brings, as far as it is made.
 ghost use Rattle.std.specs.Prelude.{◌≡◌, ◌<◌, ◌++◌, ◌∷◌, [], IfOk, OnOk, ℕ, length, slice_index_or, slice_set};
-ghost use Rattle.epoch_laws.specs.Instances.{instance_of};
 ghost use Rattle.epoch_draft.specs.Drafts.{DraftFits, without};
 
 use crate::filling::{add, empty_lists};
@@ -96,21 +95,21 @@ impl Draft {
         Ok(())
     }
 
-    /// Makes a bead of the instance of a tuple for a state. After want of memory the draft is of no more use.
+    /// Makes a bead of an instance for a state. After want of memory the draft is of no more use.
     pub(crate) fn add_bead(
         &mut self,
         alloc: Global,
         state: usize,
-        tuple: Tuple,
+        instance: Instance,
     ) -> Result<(), Memory>
         requires fits { DraftFits (length self.old.made) (length self.old.beads) self.old }
         requires state { state < length self.old.beads }
-        ensures beads { OnOk result (self.new.beads ≡ slice_set self.old.beads state (instance_of tuple ∷ slice_index_or self.old.beads state [])) }
+        ensures beads { OnOk result (self.new.beads ≡ slice_set self.old.beads state (instance ∷ slice_index_or self.old.beads state [])) }
         ensures made { OnOk result (self.new.made ≡ self.old.made) }
         ensures fits { OnOk result (DraftFits (length self.old.made) (length self.old.beads) self.new) }
     {
         self.reached.mark(state)?;
-        match Bead::make(alloc, Instance { tuple }) {
+        match Bead::make(alloc, instance) {
             Ok(bead) => {
                 put_first(self.beads.get_mut(state), bead);
                 Ok(())

@@ -1,22 +1,23 @@
-//! Tuples on their ways out of a state.
-ghost use Rattle.std.specs.Prelude.{◌≡◌, ◌+◌, ◌<◌, ◌≤◌, ◌∷◌, [], IsTrue, OnOk, Some, length, map};
+//! Instances on their ways out of a state.
+ghost use Rattle.std.specs.Prelude.{◌≡◌, ◌+◌, ◌<◌, ◌≤◌, ◌∷◌, [], ℕ, IsTrue, OnOk, Some, length, map};
 ghost use Rattle.std.specs.List.{All};
 ghost use Rattle.automaton.specs.Networks.{IsNetwork};
 ghost use Rattle.automaton.specs.States.{Net, is_used, step_at, wait_at};
-ghost use Rattle.epoch_pass.specs.Suits.{StepSuits};
+ghost use Rattle.epoch_laws.specs.Instances.{began};
 ghost use Rattle.epoch_draft.specs.Drafts.{DraftFits, EndsBelow, Grows};
 ghost use Rattle.epoch_draft.specs.Moves.{Into, Out, moves_on, ways_at};
-ghost use Rattle.epoch_draft.specs.Suits.{LeavingSuits};
+ghost use Rattle.epoch_draft.specs.Suits.{LeavingSuits, StepSuits};
 ghost use Rattle.epoch_draft.specs.Work.{keeps, ways_work};
 
 use crate::draft::Draft;
 use crate::passing::pass_on;
 use automaton::{End, Network, Wait};
 use event_types::{Memory, Tuple};
+use instances::Instance;
 use std::alloc::Global;
 use steps::{Ledger, Steps};
 
-/// A tuple goes out by an end. After want of memory the draft is of no more use.
+/// A tuple goes out by an end, whenever it began. After want of memory the draft is of no more use.
 pub(crate) fn go_out<L: Ledger>(
     alloc: Global,
     draft: &mut Draft,
@@ -27,7 +28,7 @@ pub(crate) fn go_out<L: Ledger>(
     requires fits { DraftFits (length draft.old.made) (length draft.old.beads) draft.old }
     requires below { end.now.out < length draft.old.made }
     requires suits { StepSuits end.now.step tuple.now }
-    ensures grows { OnOk result ((net : Net) → length draft.old.beads ≡ length net → Grows net (moves_on (Out end.now ∷ []) tuple.now) draft.old draft.new) }
+    ensures grows { OnOk result ((net : Net) (first : ℕ) → length draft.old.beads ≡ length net → Grows net (moves_on (Out end.now ∷ []) (began first tuple.now)) draft.old draft.new) }
     ensures ticks { steps.new ≤ steps.old + keeps end.now.step }
 {
     match pass_on(alloc, end.step.as_slice(), tuple, steps)? {
@@ -36,71 +37,86 @@ pub(crate) fn go_out<L: Ledger>(
     }
 }
 
-/// A tuple goes by a forward edge into the state with a number. After want of memory the draft is of no
-/// more use.
+/// A tuple that began at the time `first` goes by a forward edge into the state with a number. After want
+/// of memory the draft is of no more use.
 pub(crate) fn go_into<L: Ledger>(
     alloc: Global,
     network: &Network,
     draft: &mut Draft,
     state: usize,
     tuple: &Tuple,
+    first: u64,
     steps: &mut Steps<L>,
 ) -> Result<(), Memory>
     requires used { IsTrue (is_used network.now state) }
     requires fits { DraftFits (length draft.old.made) (length network.now) draft.old }
     requires suits { StepSuits (step_at network.now state) tuple.now }
-    ensures grows { OnOk result (Grows network.now (moves_on (Into state ∷ []) tuple.now) draft.old draft.new) }
+    ensures grows { OnOk result (Grows network.now (moves_on (Into state ∷ []) (began first tuple.now)) draft.old draft.new) }
     ensures ticks { steps.new ≤ steps.old + keeps (step_at network.now state) }
 {
     match pass_on(alloc, network.step(state).as_slice(), tuple, steps)? {
-        Some(passed) => draft.add_bead(alloc, state, passed),
+        Some(passed) => {
+            let instance = Instance {
+                tuple: passed,
+                first,
+            };
+            draft.add_bead(alloc, state, instance)
+        }
         None => Ok(()),
     }
 }
 
-// A tuple goes into each of these states.
+// An instance goes into each of these states.
 fn go_into_all<L: Ledger>(
     alloc: Global,
     network: &Network,
     draft: &mut Draft,
     states: &[usize],
-    tuple: &Tuple,
+    instance: &Instance,
     steps: &mut Steps<L>,
 ) -> Result<(), Memory>
     requires used { All (λ state. IsTrue (is_used network.now state)) states.now }
     requires fits { DraftFits (length draft.old.made) (length network.now) draft.old }
-    requires suits { All (λ state. StepSuits (step_at network.now state) tuple.now) states.now }
-    ensures grows { OnOk result (Grows network.now (moves_on (map Into states.now) tuple.now) draft.old draft.new) }
+    requires suits { All (λ state. StepSuits (step_at network.now state) instance.now.tuple) states.now }
+    ensures grows { OnOk result (Grows network.now (moves_on (map Into states.now) instance.now) draft.old draft.new) }
     ensures ticks { OnOk result (steps.new ≤ steps.old + ways_work network.now (map Into states.now)) }
 {
     for state in states {
-        go_into(alloc, network, draft, *state, tuple, steps)?;
+        go_into(
+            alloc,
+            network,
+            draft,
+            *state,
+            &instance.tuple,
+            instance.first,
+            steps,
+        )?;
     }
     Ok(())
 }
 
-// A tuple goes out by each of these ends.
+// An instance goes out by each of these ends.
 fn go_out_all<L: Ledger>(
     alloc: Global,
     network: &Network,
     draft: &mut Draft,
     ends: &[End],
-    tuple: &Tuple,
+    instance: &Instance,
     steps: &mut Steps<L>,
 ) -> Result<(), Memory>
     requires below { All (λ end. end.out < length draft.old.made) ends.now }
     requires fits { DraftFits (length draft.old.made) (length network.now) draft.old }
-    requires suits { All (λ end. StepSuits end.step tuple.now) ends.now }
-    ensures grows { OnOk result (Grows network.now (moves_on (map Out ends.now) tuple.now) draft.old draft.new) }
+    requires suits { All (λ end. StepSuits end.step instance.now.tuple) ends.now }
+    ensures grows { OnOk result (Grows network.now (moves_on (map Out ends.now) instance.now) draft.old draft.new) }
     ensures ticks { OnOk result (steps.new ≤ steps.old + ways_work network.now (map Out ends.now)) }
 {
     for end in ends {
-        go_out(alloc, draft, end, tuple, steps)?;
+        go_out(alloc, draft, end, &instance.tuple, steps)?;
     }
     Ok(())
 }
 
-/// A tuple leaves the waiting state with a number on all ways. After want of memory the draft is of no
+/// An instance leaves the waiting state with a number on all ways. After want of memory the draft is of no
 /// more use.
 pub(crate) fn leave<L: Ledger>(
     alloc: Global,
@@ -108,7 +124,7 @@ pub(crate) fn leave<L: Ledger>(
     draft: &mut Draft,
     state: usize,
     wait: &Wait,
-    tuple: Tuple,
+    instance: Instance,
     steps: &mut Steps<L>,
 ) -> Result<(), Memory>
     requires network { IsNetwork network.now }
@@ -116,8 +132,8 @@ pub(crate) fn leave<L: Ledger>(
     requires wait { wait_at network.now state ≡ Some wait.now }
     requires below { EndsBelow network.now (length draft.old.made) }
     requires fits { DraftFits (length draft.old.made) (length network.now) draft.old }
-    requires suits { LeavingSuits network.now state tuple }
-    ensures grows { OnOk result (Grows network.now (moves_on (ways_at network.now state) tuple) draft.old draft.new) }
+    requires suits { LeavingSuits network.now state instance.tuple }
+    ensures grows { OnOk result (Grows network.now (moves_on (ways_at network.now state) instance) draft.old draft.new) }
     ensures ticks { OnOk result (steps.new ≤ steps.old + ways_work network.now (ways_at network.now state)) }
 {
     go_into_all(
@@ -125,7 +141,7 @@ pub(crate) fn leave<L: Ledger>(
         network,
         draft,
         network.edges(state).as_slice(),
-        &tuple,
+        &instance,
         steps,
     )?;
     go_out_all(
@@ -133,11 +149,11 @@ pub(crate) fn leave<L: Ledger>(
         network,
         draft,
         network.ends(state).as_slice(),
-        &tuple,
+        &instance,
         steps,
     )?;
     match &wait.fold {
-        Some(_) => draft.add_bead(alloc, state, tuple),
+        Some(_) => draft.add_bead(alloc, state, instance),
         None => Ok(()),
     }
 }

@@ -5,14 +5,14 @@ ghost use Rattle.semantics.specs.Nexts.{is_eligible};
 ghost use Rattle.scalar_expr.specs.Fits.{AllFit};
 ghost use Rattle.automaton.specs.Networks.{IsNetwork};
 ghost use Rattle.automaton.specs.States.{is_used, wait_at};
-ghost use Rattle.epoch_pass.specs.Pairs.{followed, met, paired};
-ghost use Rattle.epoch_pass.specs.Suits.{TurnSuits, WaitSuits};
+ghost use Rattle.epoch_laws.specs.Instances.{begins};
 ghost use Rattle.epoch_draft.specs.Drafts.{DraftFits, EndsBelow, Grows};
 ghost use Rattle.epoch_draft.specs.Finding.{IsTarget, way_of};
 ghost use Rattle.epoch_draft.specs.Held.{held};
 ghost use Rattle.epoch_draft.specs.Meeting.{Lists, ListsAll, met_at, moves_met, moves_of, moves_of_all, pair_of};
 ghost use Rattle.epoch_draft.specs.Moves.{moves_from, moves_on, ways_at};
-ghost use Rattle.epoch_draft.specs.Suits.{LeavingSuits, MeetingSuits, TupleSuits, WaySuits};
+ghost use Rattle.epoch_draft.specs.Pairs.{followed, met, paired, paired_with};
+ghost use Rattle.epoch_draft.specs.Suits.{LeavingSuits, MeetingSuits, TupleSuits, TurnSuits, WaitSuits, WaySuits};
 ghost use Rattle.epoch_draft.specs.Tests.{stream_work, tuple_work};
 ghost use Rattle.epoch_draft.specs.Work.{binding_work, pair_work, state_work, turn_work, ways_work};
 
@@ -84,14 +84,14 @@ fn follow<L: Ledger>(
     }
 }
 
-// What the tuple makes of a binding leaves the state where it waits.
-fn meet_binding<L: Ledger>(
+// What the tuple makes of an instance leaves the state where it waits.
+fn meet_instance<L: Ledger>(
     alloc: Global,
     network: &Network,
     draft: &mut Draft,
     state: usize,
     wait: &Wait,
-    binding: &Tuple,
+    instance: &Instance,
     tuple: &Tuple,
     steps: &mut Steps<L>,
 ) -> Result<(), Memory>
@@ -100,13 +100,19 @@ fn meet_binding<L: Ledger>(
     requires wait { wait_at network.now state ≡ Some wait.now }
     requires below { EndsBelow network.now (length draft.old.made) }
     requires fits { DraftFits (length draft.old.made) (length network.now) draft.old }
-    requires suits { WaitSuits wait.now binding.now tuple.now }
-    requires leaving { All (LeavingSuits network.now state) (paired wait.now binding.now tuple.now) }
-    ensures grows { OnOk result (Grows network.now (moves_from network.now state (paired wait.now binding.now tuple.now)) draft.old draft.new) }
-    ensures ticks { OnOk result (steps.new ≤ steps.old + (pair_work wait.now + sum_by (λ made. ways_work network.now (ways_at network.now state)) (paired wait.now binding.now tuple.now))) }
+    requires suits { WaitSuits wait.now instance.now.tuple tuple.now }
+    requires leaving { All (λ made. LeavingSuits network.now state made.tuple) (paired_with wait.now tuple.now instance.now) }
+    ensures grows { OnOk result (Grows network.now (moves_from network.now state (paired_with wait.now tuple.now instance.now)) draft.old draft.new) }
+    ensures ticks { OnOk result (steps.new ≤ steps.old + binding_work network.now state wait.now tuple.now instance.now) }
 {
-    match pair_up(alloc, wait, binding, tuple, steps)? {
-        Some(made) => leave(alloc, network, draft, state, wait, made, steps),
+    match pair_up(alloc, wait, &instance.tuple, tuple, steps)? {
+        Some(made) => {
+            let made = Instance {
+                tuple: made,
+                first: instance.first,
+            };
+            leave(alloc, network, draft, state, wait, made, steps)
+        }
         None => Ok(()),
     }
 }
@@ -128,21 +134,12 @@ fn meet_instances<L: Ledger>(
     requires below { EndsBelow network.now (length draft.old.made) }
     requires fits { DraftFits (length draft.old.made) (length network.now) draft.old }
     requires suits { All (λ instance. WaitSuits wait.now instance.tuple tuple.now) instances }
-    requires leaving { All (LeavingSuits network.now state) (met wait.now instances tuple.now) }
+    requires leaving { All (λ made. LeavingSuits network.now state made.tuple) (met wait.now instances tuple.now) }
     ensures grows { OnOk result (Grows network.now (moves_from network.now state (met wait.now instances.entry tuple.now)) draft.old draft.new) }
     ensures ticks { OnOk result (steps.new ≤ steps.old + sum_by (binding_work network.now state wait.now tuple.now) instances.entry) }
 {
     while let Some(instance) = instances.next() {
-        meet_binding(
-            alloc,
-            network,
-            draft,
-            state,
-            wait,
-            &instance.tuple,
-            tuple,
-            steps,
-        )?;
+        meet_instance(alloc, network, draft, state, wait, instance, tuple, steps)?;
     }
     Ok(())
 }
@@ -221,7 +218,7 @@ fn meet_waits<L: Ledger>(
     Ok(())
 }
 
-// A tuple goes to each of these targets.
+// A tuple, which begins here, goes to each of these targets.
 fn go_all<L: Ledger>(
     alloc: Global,
     network: &Network,
@@ -234,7 +231,7 @@ fn go_all<L: Ledger>(
     requires below { EndsBelow network.now (length draft.old.made) }
     requires fits { DraftFits (length draft.old.made) (length network.now) draft.old }
     requires suits { All (λ target. All (WaySuits network.now tuple.now) (way_of network.now target)) targets.now }
-    ensures grows { OnOk result (Grows network.now (moves_on (flat_map (way_of network.now) targets.now) tuple.now) draft.old draft.new) }
+    ensures grows { OnOk result (Grows network.now (moves_on (flat_map (way_of network.now) targets.now) (begins tuple.now)) draft.old draft.new) }
     ensures ticks { OnOk result (steps.new ≤ steps.old + ways_work network.now (flat_map (way_of network.now) targets.now)) }
 {
     for target in targets {
@@ -243,7 +240,7 @@ fn go_all<L: Ledger>(
     Ok(())
 }
 
-// A tuple goes to a target.
+// A tuple, which begins here, goes to a target.
 fn go<L: Ledger>(
     alloc: Global,
     network: &Network,
@@ -256,11 +253,11 @@ fn go<L: Ledger>(
     requires below { EndsBelow network.now (length draft.old.made) }
     requires fits { DraftFits (length draft.old.made) (length network.now) draft.old }
     requires suits { All (WaySuits network.now tuple.now) (way_of network.now target) }
-    ensures grows { OnOk result (Grows network.now (moves_on (way_of network.now target) tuple.now) draft.old draft.new) }
+    ensures grows { OnOk result (Grows network.now (moves_on (way_of network.now target) (begins tuple.now)) draft.old draft.new) }
     ensures ticks { OnOk result (steps.new ≤ steps.old + ways_work network.now (way_of network.now target)) }
 {
     match target {
-        Target::Edge(state) => go_into(alloc, network, draft, state, tuple, steps),
+        Target::Edge(state) => { go_into(alloc, network, draft, state, tuple, tuple.at(), steps) }
         Target::Exit(place) => {
             let end = network.ends(place.state).get(place.place);
             go_out(alloc, draft, end, tuple, steps)

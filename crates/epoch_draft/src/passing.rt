@@ -1,8 +1,8 @@
 //! Tuples on their way through steps, with the number of tests.
 ghost use Rattle.std.specs.Prelude.{◌≡◌, ◌+◌, ◌≤◌, IfOk};
 ghost use Rattle.automaton.specs.Steps.{pass};
+ghost use Rattle.epoch_draft.specs.Suits.{StepSuits};
 ghost use Rattle.epoch_draft.specs.Work.{keeps};
-ghost use Rattle.epoch_pass.specs.Suits.{StepSuits};
 
 use automaton::Stage;
 use event_types::{Memory, Tuple};

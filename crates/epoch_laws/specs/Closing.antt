@@ -1,11 +1,10 @@
 -- One epoch over the states of a network, where each waiting state has a store of its own.
-use Rattle.std.specs.Prelude.{◌≡◌, ℕ, ◌==◌, false, List, [], length, Option, Some, None}
+use Rattle.std.specs.Prelude.{◌≡◌, ℕ, ◌==◌, false, List, [], length, map, Option, Some, None}
 use Rattle.std.specs.List.{All, filter, filter_map, flat_map, range_with_len}
 use Rattle.std.specs.List.Sorted.{IsPermutation}
 use Rattle.event_types.specs.Tuple.{TupleView}
 use Rattle.instances.specs.declared.instance.Instance.{Instance}
 use Rattle.semantics.specs.Denotation.{Streams}
-use Rattle.automaton.specs.Flow.{entering}
 use Rattle.automaton.specs.States.{Net, ends_at, entrance_at, wait_at}
 use Rattle.automaton.specs.Steps.{pass}
 use Rattle.automaton.specs.Work.{is_in}
@@ -13,27 +12,28 @@ use Rattle.automaton.specs.declared.network.Entrance.{Entrance}
 use Rattle.automaton.specs.declared.network.Entrance.TheVariants.{Root, Waiting}
 use Rattle.automaton.specs.declared.wait.Wait.{Wait}
 use Rattle.epoch_laws.specs.Epochs.{stepped, took}
+use Rattle.epoch_laws.specs.Instances.{begins, bindings_of, instances_entering}
 use Rattle.epoch_laws.specs.Stores.{Purged}
 
 -- the instances of each waiting state, by its number
 abbrev pub Stores : Type 0
 Stores = ℕ → List Instance
 
--- what leaves a state that is entered so, in an epoch: at a root the tuples of its stream, at a waiting state what its instances give
-abbrev pub leaving_by : Option Entrance → Streams → List Instance → List TupleView
+-- what leaves a state that is entered so, in an epoch: at a root the tuples of its stream, which begin here, at a waiting state what its instances give
+abbrev pub leaving_by : Option Entrance → Streams → List Instance → List Instance
 leaving_by None news store = []
-leaving_by (Some (Root stream)) news store = news stream
+leaving_by (Some (Root stream)) news store = map begins (news stream)
 leaving_by (Some (Waiting before hop)) news store = took hop.wait.choose hop.wait.fold (news hop.wait.stream) store
 
 -- what leaves the state with a number
-abbrev pub leaving_state : Net → Streams → Stores → ℕ → List TupleView
+abbrev pub leaving_state : Net → Streams → Stores → ℕ → List Instance
 leaving_state net news stores number = leaving_by (entrance_at net number) news (stores number)
 
--- the store of a state that is entered so, after an epoch in which these tuples left each state
-abbrev pub stepped_by : Option Entrance → Streams → (ℕ → List TupleView) → List Instance → List Instance
+-- the store of a state that is entered so, after an epoch in which these instances left each state
+abbrev pub stepped_by : Option Entrance → Streams → (ℕ → List Instance) → List Instance → List Instance
 stepped_by None news leaving store = []
 stepped_by (Some (Root stream)) news leaving store = []
-stepped_by (Some (Waiting before hop)) news leaving store = stepped hop.wait.choose hop.wait.fold (news hop.wait.stream) (entering hop (leaving before)) store
+stepped_by (Some (Waiting before hop)) news leaving store = stepped hop.wait.choose hop.wait.fold (news hop.wait.stream) (instances_entering hop (leaving before)) store
 
 -- the store of each state after the epoch
 abbrev pub stores_after : Net → Streams → Stores → Stores
@@ -41,7 +41,7 @@ stores_after net news stores number = stepped_by (entrance_at net number) news (
 
 -- what the ends of a stream give in the epoch at one state
 abbrev pub given_by_ends_at : Net → Streams → Stores → ℕ → ℕ → List TupleView
-given_by_ends_at net news stores stream number = flat_map (λ end. filter_map (pass end.step) (leaving_state net news stores number)) (filter (λ end. end.out == stream) (ends_at net number))
+given_by_ends_at net news stores stream number = flat_map (λ end. filter_map (pass end.step) (bindings_of (leaving_state net news stores number))) (filter (λ end. end.out == stream) (ends_at net number))
 
 -- what they give at all states
 abbrev pub given_by_ends : Net → Streams → Stores → ℕ → List TupleView

@@ -7,7 +7,7 @@ use Rattle.instances.specs.declared.instance.Instance.{Instance}
 use Rattle.semantics.specs.Scalars.{Pr}
 use Rattle.scalar_expr.specs.Classes as class
 use Rattle.automaton.specs.declared.wait.Turn.{Turn}
-use Rattle.epoch_laws.specs.Epochs.{taken}
+use Rattle.epoch_laws.specs.Epochs.{took}
 
 -- the key is one of the condition's key parts, or there is none
 abbrev pub IsKeyOf : Option Key → List Pr → Type 0
@@ -20,5 +20,5 @@ taken_out key choose [] store = store
 taken_out key choose (tuple ∷ tuples) store = taken_out key choose tuples (unmatched key choose tuple store)
 
 -- what each tuple of the epoch in turn gives with its candidates
-abbrev pub found : Option Key → List Pr → Option Turn → List TupleView → List Instance → List TupleView
-found key choose turn tuples store = flat_map (λ tuple. flat_map (λ instance. taken choose turn (tuple ∷ []) instance.tuple) (candidates_of key tuple store)) tuples
+abbrev pub found : Option Key → List Pr → Option Turn → List TupleView → List Instance → List Instance
+found key choose turn tuples store = flat_map (λ tuple. took choose turn (tuple ∷ []) (candidates_of key tuple store)) tuples

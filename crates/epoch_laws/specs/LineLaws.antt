@@ -1,6 +1,7 @@
 -- Laws of one epoch along lines, over streams up to its time.
-use Rattle.std.specs.Prelude.{◌≡◌, ℕ, map}
+use Rattle.std.specs.Prelude.{◌≡◌, ℕ, List}
 use Rattle.std.specs.List.Sorted.{IsPermutation}
+use Rattle.instances.specs.declared.instance.Instance.{Instance}
 use Rattle.semantics.specs.Denotation.{Streams}
 use Rattle.automaton.specs.Flow.{entering, given}
 use Rattle.automaton.specs.Prefixes.{Prefix}
@@ -8,7 +9,7 @@ use Rattle.automaton.specs.Waiting.{waiting}
 use Rattle.automaton.specs.declared.line.Hop.{Hop}
 use Rattle.automaton.specs.declared.line.Line.{Line}
 use Rattle.epoch_laws.specs.Epochs.{stepped}
-use Rattle.epoch_laws.specs.Instances.{instance_of}
+use Rattle.epoch_laws.specs.Instances.{bindings_of}
 use Rattle.epoch_laws.specs.Lines.{flow_now, given_now}
 use Rattle.epoch_laws.specs.Times.{ArePast, during, streams_before, streams_during}
 
@@ -19,7 +20,6 @@ LineGivesInEpoch = (time : ℕ) (streams : Streams) → ArePast time streams →
 -- the bindings that wait at a state after the epoch are those that waited there before it, stepped through it
 abbrev pub StateKeeps : Type 0
 StateKeeps =
-    (time : ℕ) (streams : Streams) → ArePast time streams → (prefix : Prefix) (hop : Hop)
-    → IsPermutation (map instance_of (waiting streams prefix hop))
-    (stepped hop.wait.choose hop.wait.fold (during time (streams hop.wait.stream)) (entering hop (flow_now (streams_during time streams) (streams_before time streams) prefix))
-    (map instance_of (waiting (streams_before time streams) prefix hop)))
+    (time : ℕ) (streams : Streams) → ArePast time streams → (prefix : Prefix) (hop : Hop) (entered store : List Instance)
+    → bindings_of entered ≡ entering hop (flow_now (streams_during time streams) (streams_before time streams) prefix) → bindings_of store ≡ waiting (streams_before time streams) prefix hop
+    → IsPermutation (waiting streams prefix hop) (bindings_of (stepped hop.wait.choose hop.wait.fold (during time (streams hop.wait.stream)) entered store))

@@ -75,7 +75,8 @@ fn link(alloc: Global, store: &mut PlainStore, tuple: Tuple) -> Result<(), Memor
     ensures instances { OnOk result (IsPermutation store.new.instances (store.old.instances ++ instance_of tuple ∷ [])) }
     ensures condition { store.new.condition ≡ store.old.condition }
 {
-    let instance = Instance { tuple };
+    let first = tuple.at();
+    let instance = Instance { tuple, first };
     store.ready(&instance)?;
     match Bead::make(alloc, instance) {
         Ok(bead) => {

@@ -14,13 +14,13 @@ use Rattle.epoch_draft.proofs.GoingLemmas.{all_left, all_right}
 use Rattle.epoch_draft.proofs.MeetLemmas.{Follows, follows_more, follows_none, head_none}
 use Rattle.epoch_draft.proofs.meeting.meet_instances.Goals as goal
 
-pub meet_binding-requires-clause-suits : goal.meet_binding-requires-clause-suits
-meet_binding-requires-clause-suits g c =
+pub meet_instance-requires-clause-suits : goal.meet_instance-requires-clause-suits
+meet_instance-requires-clause-suits g c =
     let suits = λ (i : Instance). WaitSuits c.args.wait.now i.tuple c.args.tuple.now in
     All-head suits c.in-Some.instance.now c.next.new.self (subst (All suits) c.in-Some.ensures.rest c.loop-instance.invariant.suits)
 
-pub meet_binding-requires-clause-leaving : goal.meet_binding-requires-clause-leaving
-meet_binding-requires-clause-leaving g c =
+pub meet_instance-requires-clause-leaving : goal.meet_instance-requires-clause-leaving
+meet_instance-requires-clause-leaving g c =
     let w = c.args.wait.now in
     let t = c.args.tuple.now in
     let leaving = LeavingSuits c.args.network.now c.args.state in
@@ -43,11 +43,11 @@ loop-instance-preserved g c =
       suits = All-tail suits i rest (subst (All suits) c.in-Some.ensures.rest c.loop-instance.invariant.suits);
       leaving = all_right leaving (paired w i.tuple t) (met w rest t) (subst (λ (is : List Instance). All leaving (met w is t)) c.in-Some.ensures.rest c.loop-instance.invariant.leaving);
       follows =
-          follows_more net a b all c.args.draft.now c.loop-instance.draft c.meet_binding.new.draft
+          follows_more net a b all c.args.draft.now c.loop-instance.draft c.meet_instance.new.draft
           (subst (λ (ms : List Move). Follows net ms all c.args.draft.now c.loop-instance.draft)
           (ap (λ (is : List Instance). moves_from net n (met w is t)) c.in-Some.ensures.rest ∙ flat_map-append (moves_on (ways_at net n)) (paired w i.tuple t) (met w rest t)) c.loop-instance.invariant.follows)
-          c.in_ok-meet_binding.ensures.grows;
-      ticks = let was = c.loop-instance.invariant.ticks in let one = c.in_ok-meet_binding.ensures.ticks in let work = binding_work net n w t in let all = ap (sum_by work) c.in-Some.ensures.rest ∙ sum_by-cons work i rest in omega (arith, was, one, all);
+          c.in_ok-meet_instance.ensures.grows;
+      ticks = let was = c.loop-instance.invariant.ticks in let one = c.in_ok-meet_instance.ensures.ticks in let work = binding_work net n w t in let all = ap (sum_by work) c.in-Some.ensures.rest ∙ sum_by-cons work i rest in omega (arith, was, one, all);
     }
 
 pub returns-clause-grows : goal.returns-clause-grows

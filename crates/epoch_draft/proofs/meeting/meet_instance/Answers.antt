@@ -5,7 +5,7 @@ use Rattle.std.proofs.lemmas.List.Elements.{All-head}
 use Rattle.event_types.specs.Tuple.{TupleView}
 use Rattle.epoch_pass.specs.Pairs.{paired}
 use Rattle.epoch_draft.specs.Suits.{LeavingSuits}
-use Rattle.epoch_draft.proofs.meeting.meet_binding.Goals as goal
+use Rattle.epoch_draft.proofs.meeting.meet_instance.Goals as goal
 
 pub leave-requires-clause-suits : goal.leave-requires-clause-suits
 leave-requires-clause-suits g c =
