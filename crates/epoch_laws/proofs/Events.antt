@@ -24,10 +24,11 @@ use Rattle.scalar_expr.proofs.Bags.{permuted_from, permuted_to}
 use Rattle.scalar_expr.proofs.CanonicalLaws.{turned_met}
 use Rattle.automaton.specs.Waiting.{is_empty}
 use Rattle.automaton.specs.declared.wait.Turn.{Turn}
-use Rattle.epoch_laws.specs.Epochs.{eligible_of, is_unmet, unmatched_after, taken, took}
+use Rattle.epoch_laws.specs.Epochs.{eligible_of, is_unmet, unmatched_after, taken, taken_from, took}
 use Rattle.epoch_laws.specs.Events.{IsKeyOf, found, taken_out}
+use Rattle.epoch_laws.specs.Instances.{began}
 use Rattle.epoch_laws.proofs.Bags.{flat_map_parts}
-use Rattle.epoch_laws.proofs.Lists.{and-false, every, filter-filter, flat_map-filter}
+use Rattle.epoch_laws.proofs.Lists.{and-false, every, filter-filter, flat_map-filter, map-flat_map}
 use Rattle.semantics.proofs.ReportLemmas.{flat_map_same}
 
 -- equality of values doesn't depend on the side
@@ -145,8 +146,8 @@ module _ (key : Option Key) (choose : List Pr) (of : IsKeyOf key choose) where
       ∙ filter_agree (λ i. not (is_matched key choose r i) && is_unmet choose rs i.tuple) (λ i. is_unmet choose (r ∷ rs) i.tuple) (one_unmet r rs) store
 
   module _ (turn : Option Turn) where
-    abbrev one : TupleView → Instance → List TupleView
-    one r i = taken choose turn (r ∷ []) i.tuple
+    abbrev one : TupleView → Instance → List Instance
+    one r i = taken_from choose turn (r ∷ []) i
 
     -- a tuple that isn't eligible gives nothing
     none_taken : (r b : TupleView) → is_eligible choose b r ≡ false → taken choose turn (r ∷ []) b ≡ []
@@ -171,7 +172,7 @@ module _ (key : Option Key) (choose : List Pr) (of : IsKeyOf key choose) where
           where
             unmet : (i : Instance) → key_matches key r i.tuple ≡ false → (t : Bool) → is_eligible choose i.tuple r ≡ t → one r i ≡ []
             unmet i e true f = let no : true ≡ false = sym (eligible_matches key choose r i.tuple of f) ∙ e in absurd (cc)
-            unmet i e false f = none_taken r i.tuple f
+            unmet i e false f = ap (map (began i.first)) (none_taken r i.tuple f)
 
     -- tuple by tuple, for one binding
     taken_each : (rs : List TupleView) (b : TupleView) → flat_map (λ r. taken choose turn (r ∷ []) b) rs ≡ taken choose turn rs b
@@ -193,7 +194,11 @@ module _ (key : Option Key) (choose : List Pr) (of : IsKeyOf key choose) where
             ∙ sym (map-append (rebound t.set.parts b) (filter goes (eligible_of choose (r ∷ []) b)) (filter goes (eligible_of choose rs b)))
             ∙ ap (map (rebound t.set.parts b)) (sym (filter-append goes (eligible_of choose (r ∷ []) b) (eligible_of choose rs b)) ∙ ap (filter goes) (sym (eligible_cut r rs)))
 
-    nothing : (xs : List Instance) → flat_map {X = Instance} {A = TupleView} (λ _. []) xs ≡ []
+    -- for one instance
+    one_each : (rs : List TupleView) (i : Instance) → flat_map (λ r. one r i) rs ≡ taken_from choose turn rs i
+    one_each rs i = sym (map-flat_map (began i.first) (λ r. taken choose turn (r ∷ []) i.tuple) rs) ∙ ap (map (began i.first)) (taken_each rs i.tuple)
+
+    nothing : (xs : List Instance) → flat_map {X = Instance} {A = Instance} (λ _. []) xs ≡ []
     nothing [] = refl
     nothing (x ∷ xs) = nothing xs
 
@@ -209,4 +214,4 @@ module _ (key : Option Key) (choose : List Pr) (of : IsKeyOf key choose) where
     found_is_took rs store =
         permuted_from (flat_map_same (λ r. flat_map (one r) (candidates_of key r store)) (λ r. flat_map (one r) store) rs (every (λ r. flat_map (one r) (candidates_of key r store) ≡ flat_map (one r) store) (λ r. candidates_give r store) rs))
         (permuted_to (exchange rs store)
-        (flat_map_same (λ i. flat_map (λ r. one r i) rs) (λ i. taken choose turn rs i.tuple) store (every (λ (i : Instance). flat_map (λ r. one r i) rs ≡ taken choose turn rs i.tuple) (λ i. taken_each rs i.tuple) store)))
+        (flat_map_same (λ i. flat_map (λ r. one r i) rs) (taken_from choose turn rs) store (every (λ (i : Instance). flat_map (λ r. one r i) rs ≡ taken_from choose turn rs i) (one_each rs) store)))

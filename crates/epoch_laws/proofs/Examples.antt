@@ -6,9 +6,10 @@ use Rattle.event_types.specs.declared.value.Value.TheVariants as value
 use Rattle.event_types.specs.Tuple.{TupleView}
 use Rattle.instances.specs.declared.instance.Instance.{Instance}
 use Rattle.semantics.specs.Scalars.{Lit, Event, Dur, Test}
+use Rattle.automaton.specs.declared.line.Hop.{Hop}
 use Rattle.automaton.specs.declared.wait.Turn.{Turn}
 use Rattle.epoch_laws.specs.Epochs.{stepped, took}
-use Rattle.epoch_laws.specs.Instances.{instance_of}
+use Rattle.epoch_laws.specs.Instances.{began, begins, instances_entering}
 
 -- the tuple of one number with these times
 abbrev tuple : ℕ → ℕ → ℕ → TupleView
@@ -18,20 +19,28 @@ tuple n from at = record { vals = value.Int (pos n) ∷ []; from = from; at = at
 abbrev pair : ℕ → ℕ → ℕ → ℕ → TupleView
 pair m n from at = record { vals = value.Int (pos m) ∷ value.Int (pos n) ∷ []; from = from; at = at }
 
+-- the tuple of three numbers with these times
+abbrev triple : ℕ → ℕ → ℕ → ℕ → ℕ → TupleView
+triple l m n from at = record { vals = value.Int (pos l) ∷ value.Int (pos m) ∷ value.Int (pos n) ∷ []; from = from; at = at }
+
 -- one binding waits, from the time 1
 abbrev waiting : List Instance
-waiting = map instance_of (tuple 1 1 1 ∷ [])
+waiting = map begins (tuple 1 1 1 ∷ [])
+
+-- NEXT {} with a stream
+abbrev next : ℕ → Hop
+next stream = record { step = []; wait = record { stream = stream; choose = []; fold = None } }
 
 -- FOLD {.., DUR < most, $2.a AS a}
 abbrev turn : ℕ → Turn
 turn most = record { on = Test Dur cmp.Lt (Lit (value.Int (pos most))) ∷ []; set = record { width = 1; parts = Event 0 ∷ [] } }
 
 -- each of two equal tuples is joined with the binding, and one that starts at the binding's detection isn't
-pub both_are_joined : took [] None (tuple 7 2 2 ∷ tuple 8 1 2 ∷ tuple 7 2 2 ∷ []) waiting ≡ pair 1 7 1 2 ∷ pair 1 7 1 2 ∷ []
+pub both_are_joined : took [] None (tuple 7 2 2 ∷ tuple 8 1 2 ∷ tuple 7 2 2 ∷ []) waiting ≡ map (began 1) (pair 1 7 1 2 ∷ pair 1 7 1 2 ∷ [])
 both_are_joined = refl
 
 -- a binding for which no tuple is eligible is kept, beside the one that enters
-pub unmet_is_kept : stepped [] None (tuple 8 1 2 ∷ []) (tuple 9 2 2 ∷ []) waiting ≡ map instance_of (tuple 1 1 1 ∷ tuple 9 2 2 ∷ [])
+pub unmet_is_kept : stepped [] None (tuple 8 1 2 ∷ []) (map begins (tuple 9 2 2 ∷ [])) waiting ≡ began 1 (tuple 1 1 1) ∷ began 2 (tuple 9 2 2) ∷ []
 unmet_is_kept = refl
 
 -- a binding with an eligible tuple isn't
@@ -39,9 +48,17 @@ pub met_is_gone : stepped [] None (tuple 7 2 2 ∷ []) [] waiting ≡ []
 met_is_gone = refl
 
 -- in a FOLD it goes on as the new binding where the go-on condition holds
-pub fold_goes_on : stepped [] (Some (turn 2)) (tuple 7 2 2 ∷ []) [] waiting ≡ map instance_of (tuple 7 1 2 ∷ [])
+pub fold_goes_on : stepped [] (Some (turn 2)) (tuple 7 2 2 ∷ []) [] waiting ≡ began 1 (tuple 7 1 2) ∷ []
 fold_goes_on = refl
 
 -- and ends without a result where it doesn't
 pub fold_ends : took [] (Some (turn 1)) (tuple 7 2 2 ∷ []) waiting ≡ []
 fold_ends = refl
+
+-- the store at the second wait of S NEXT T NEXT U, once a tuple of S came at 1 and one of T at 2
+abbrev second : List Instance
+second = stepped [] None [] (instances_entering (next 2) (took [] None (tuple 7 2 2 ∷ []) (stepped [] None [] (instances_entering (next 1) waiting) []))) []
+
+-- what leaves it with a tuple of U at 3 began with the tuple of S
+pub first_is_kept : took [] None (tuple 8 3 3 ∷ []) second ≡ began 1 (triple 1 7 8 1 3) ∷ []
+first_is_kept = refl

@@ -1,12 +1,12 @@
 -- One epoch along prefixes and lines.
-use Rattle.std.proofs.Common.{◌≡◌, ◌∙◌, sym, ap, refl, subst, ℕ, ◌≤◌, ◌==◌, Bool, true, false, cond, nat_lt, List, [], ◌∷◌, map}
+use Rattle.std.proofs.Common.{◌≡◌, ◌∙◌, sym, ap, refl, subst, ℕ, ◌≤◌, ◌==◌, Bool, true, false, cond, nat_lt, List, [], ◌∷◌}
 use Rattle.std.specs.Prelude.{Option, Some, None}
 use Rattle.std.specs.Option.{option_and_then}
 use Rattle.std.specs.List.{All, filter, filter_map, flat_map, cons_option}
 use Rattle.std.specs.List.Sorted.{IsPermutation}
 use Rattle.std.proofs.lemmas.List.Elements.{All-nil, All-cons, All-head, All-tail}
-use Rattle.std.proofs.lemmas.List.Sorted.{IsPermutation-map}
 use Rattle.event_types.specs.Tuple.{TupleView}
+use Rattle.instances.specs.declared.instance.Instance.{Instance}
 use Rattle.semantics.specs.Denotation.{Streams}
 use Rattle.semantics.specs.Truth.{all_true}
 use Rattle.scalar_expr.proofs.Bags.{permuted_to}
@@ -20,12 +20,13 @@ use Rattle.automaton.specs.declared.line.Line.{Line}
 use Rattle.automaton.specs.declared.step.Stage.{Stage}
 use Rattle.automaton.specs.declared.step.Stage.TheVariants.{Keep, Make}
 use Rattle.epoch_laws.specs.Epochs.{stepped, taken}
-use Rattle.epoch_laws.specs.Instances.{instance_of}
+use Rattle.epoch_laws.specs.Instances.{bindings_of}
 use Rattle.epoch_laws.specs.Lines.{flow_now, given_now}
 use Rattle.epoch_laws.specs.Times.{ArePast, before, during, IsPast, streams_before, streams_during}
+use Rattle.epoch_laws.proofs.Bindings.{stepped_bindings}
 use Rattle.epoch_laws.proofs.Folds.{sound_past}
 use Rattle.epoch_laws.proofs.Purges.{rows_stepped}
-use Rattle.epoch_laws.proofs.Waits.{chosen_before, chosen_past, few_of, rows_give, rows_keep, stepped_of, took_of}
+use Rattle.epoch_laws.proofs.Waits.{chosen_before, chosen_past, few_of, rows_give, rows_keep}
 
 -- a step keeps the times
 abbrev Timed : TupleView → Option TupleView → Type 0
@@ -80,16 +81,6 @@ pass_past time step (t ∷ ts) all = go (pass_past time step ts (All-tail (IsPas
     go rest None h k = rest
     go rest (Some u) h k = All-cons (IsPast time) u (filter_map (pass step) ts) (subst (λ from. from ≤ u.at) (sym h.1) (subst (λ at. t.from ≤ at) (sym h.0) k.0), subst (λ at. at ≤ time) (sym h.0) k.1) rest
 
--- what flows out of the state of a prefix in an epoch, over bindings
-abbrev pub flow_rows : Streams → Streams → Prefix → List TupleView
-flow_rows now earlier (Root s) = now s
-flow_rows now earlier (After p h) = flat_map (taken h.wait.choose h.wait.fold (now h.wait.stream)) (waiting earlier p h)
-
--- the same over their instances
-pub flow_is : (now earlier : Streams) (p : Prefix) → flow_now now earlier p ≡ flow_rows now earlier p
-flow_is now earlier (Root s) = refl
-flow_is now earlier (After p h) = took_of h.wait.choose h.wait.fold (now h.wait.stream) (waiting earlier p h)
-
 module _ (time : ℕ) (env : Streams) (past : ArePast time env) where
   -- what comes to a state is past
   pub flow_past : (p : Prefix) → All (IsPast time) (flow env p)
@@ -110,37 +101,32 @@ module _ (time : ℕ) (env : Streams) (past : ArePast time env) where
   entering_before p h = pass_cut (λ at. nat_lt at time) h.step (flow env p) ∙ ap (entering h) (flow_before p)
 
   -- what flows at the last time comes from what waited before it
-  pub flow_gives : (p : Prefix) → during time (flow env p) ≡ flow_rows (streams_during time env) (streams_before time env) p
+  pub flow_gives : (p : Prefix) → during time (flow env p) ≡ flow_now (streams_during time env) (streams_before time env) p
   flow_gives (Root s) = refl
   flow_gives (After p h) =
       rows_give time h.wait.choose h.wait.fold (env h.wait.stream) (entering h (flow env p)) (past h.wait.stream) (few_of time (entering h (flow env p)) (entering_past p h))
       ∙ ap (λ ls. flat_map (taken h.wait.choose h.wait.fold (during time (env h.wait.stream))) (waiting_in h.wait.choose h.wait.fold (before time (env h.wait.stream)) ls)) (entering_before p h)
 
   -- what a line gives at a time is what leaves its last step then
-  pub rows_line : (l : Line) → during time (given env l) ≡ filter_map (pass l.last) (flow_rows (streams_during time env) (streams_before time env) (path l))
-  rows_line l = pass_cut (λ at. at == time) l.last (flow env (path l)) ∙ ap (filter_map (pass l.last)) (flow_gives (path l))
-
-  -- which is what it gives in the epoch
   pub line_gives : (l : Line) → during time (given env l) ≡ given_now (streams_during time env) (streams_before time env) l
-  line_gives l = rows_line l ∙ ap (filter_map (pass l.last)) (sym (flow_is (streams_during time env) (streams_before time env) (path l)))
+  line_gives l = pass_cut (λ at. at == time) l.last (flow env (path l)) ∙ ap (filter_map (pass l.last)) (flow_gives (path l))
 
   -- what waits after it
   pub rows_state : (p : Prefix) (h : Hop)
       → IsPermutation (waiting env p h)
-      (rows_stepped h.wait.choose h.wait.fold (during time (env h.wait.stream)) (entering h (flow_rows (streams_during time env) (streams_before time env) p)) (waiting (streams_before time env) p h))
+      (rows_stepped h.wait.choose h.wait.fold (during time (env h.wait.stream)) (entering h (flow_now (streams_during time env) (streams_before time env) p)) (waiting (streams_before time env) p h))
   rows_state p h =
       permuted_to
       (rows_keep time h.wait.choose h.wait.fold (env h.wait.stream) (entering h (flow env p)) (past h.wait.stream) (few_of time (entering h (flow env p)) (entering_past p h)))
       (λ i. rows_stepped h.wait.choose h.wait.fold (during time (env h.wait.stream)) (now i) (waiting_in h.wait.choose h.wait.fold (before time (env h.wait.stream)) (entering_before p h i)))
     where
-      now : during time (entering h (flow env p)) ≡ entering h (flow_rows (streams_during time env) (streams_before time env) p)
+      now : during time (entering h (flow env p)) ≡ entering h (flow_now (streams_during time env) (streams_before time env) p)
       now = pass_cut (λ at. at == time) h.step (flow env p) ∙ ap (entering h) (flow_gives p)
 
   -- a state keeps the bindings that wait on
-  pub state_keeps : (p : Prefix) (h : Hop)
-      → IsPermutation (map instance_of (waiting env p h))
-      (stepped h.wait.choose h.wait.fold (during time (env h.wait.stream)) (entering h (flow_now (streams_during time env) (streams_before time env) p)) (map instance_of (waiting (streams_before time env) p h)))
-  state_keeps p h =
-      permuted_to (IsPermutation-map instance_of _ _ (rows_state p h))
-      (sym (stepped_of h.wait.choose h.wait.fold (during time (env h.wait.stream)) (entering h (flow_rows (streams_during time env) (streams_before time env) p)) (waiting (streams_before time env) p h))
-      ∙ ap (λ ts. stepped h.wait.choose h.wait.fold (during time (env h.wait.stream)) (entering h ts) (map instance_of (waiting (streams_before time env) p h))) (sym (flow_is (streams_during time env) (streams_before time env) p)))
+  pub state_keeps : (p : Prefix) (h : Hop) (entered store : List Instance)
+      → bindings_of entered ≡ entering h (flow_now (streams_during time env) (streams_before time env) p) → bindings_of store ≡ waiting (streams_before time env) p h
+      → IsPermutation (waiting env p h) (bindings_of (stepped h.wait.choose h.wait.fold (during time (env h.wait.stream)) entered store))
+  state_keeps p h entered store enters is =
+      permuted_to (rows_state p h)
+      (sym (stepped_bindings h.wait.choose h.wait.fold (during time (env h.wait.stream)) entered store ∙ (λ i. rows_stepped h.wait.choose h.wait.fold (during time (env h.wait.stream)) (enters i) (is i))))

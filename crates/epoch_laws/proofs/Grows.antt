@@ -1,5 +1,5 @@
 -- The tuples of an epoch, made stream by stream in the order of work.
-use Rattle.std.proofs.Common.{◌≡◌, ◌∙◌, sym, ap, refl, ℕ, ◌==◌, Bool, true, false, ◌||◌, cond, List, [], ◌∷◌, ◌++◌}
+use Rattle.std.proofs.Common.{◌≡◌, ◌∙◌, sym, ap, refl, ℕ, ◌==◌, Bool, true, false, ◌||◌, cond, List, [], ◌∷◌, ◌++◌, map}
 use Rattle.std.specs.Prelude.{is_some}
 use Rattle.std.specs.List.{All, filter, filter_map, flat_map}
 use Rattle.std.specs.List.Sorted.{IsPermutation}
@@ -20,6 +20,7 @@ use Rattle.automaton.specs.declared.line.Line.{Line}
 use Rattle.automaton.specs.declared.network.End.{End}
 use Rattle.epoch_laws.specs.Closing.{IsEpoch, Stores, leaving_state, leaving_by, given_by_ends, given_by_ends_at}
 use Rattle.epoch_laws.specs.Epochs.{took}
+use Rattle.epoch_laws.specs.Instances.{begins, bindings_of}
 use Rattle.epoch_laws.specs.StoresStandFor.{Serves}
 use Rattle.epoch_laws.proofs.Lists.{All_last}
 use Rattle.epoch_laws.proofs.Networks.{each_end, ends_of, line_at, no_ends, numbers, places, root_leaves}
@@ -53,7 +54,7 @@ module _ (net : Net) (lines : List Line) (has : HasLines net lines) (stores : St
   -- what leaves a state doesn't depend on a stream that its prefix doesn't read
   leaves_other : (n : ℕ) (p : Prefix) (e : End) → IsAt net n p → Without s (line_at p e) → leaving_state net (with_stream news s rows) stores n ≡ leaving_state net news stores n
   leaves_other n (Root r) e at w =
-      root_leaves (entrance_at net n) r (with_stream news s rows) (stores n) at ∙ with_other news s rows r w.root ∙ sym (root_leaves (entrance_at net n) r news (stores n) at)
+      root_leaves (entrance_at net n) r (with_stream news s rows) (stores n) at ∙ ap (map begins) (with_other news s rows r w.root) ∙ sym (root_leaves (entrance_at net n) r news (stores n) at)
   leaves_other n (After p h) e at w =
       ap (λ o. leaving_by o (with_stream news s rows) (stores n)) at.1
       ∙ ap (λ ts. took h.wait.choose h.wait.fold ts (stores n)) (with_other news s rows h.wait.stream (All_last (λ h. (h.wait.stream == s) ≡ false) (hops_of p) h w.hops))
@@ -69,12 +70,12 @@ module _ (net : Net) (lines : List Line) (has : HasLines net lines) (stores : St
       at_state : (n : ℕ) → All (λ e. Without s (line_at (places net lines has n) e)) (ends_of net lines has t n) → (used : Bool) → is_some (state_at net n) ≡ used
           → given_by_ends_at net (with_stream news s rows) stores t n ≡ given_by_ends_at net news stores t n
       at_state n each true is =
-          flat_map_same (λ e. filter_map (pass e.step) (leaving_state net (with_stream news s rows) stores n)) (λ e. filter_map (pass e.step) (leaving_state net news stores n)) (ends_of net lines has t n)
-          (All-weaker (λ e. Without s (line_at (places net lines has n) e)) (λ e. filter_map (pass e.step) (leaving_state net (with_stream news s rows) stores n) ≡ filter_map (pass e.step) (leaving_state net news stores n))
-          (λ e w. ap (filter_map (pass e.step)) (leaves_other n (places net lines has n) e (has.1.are_places n is) w)) (ends_of net lines has t n) each)
+          flat_map_same (λ e. filter_map (pass e.step) (bindings_of (leaving_state net (with_stream news s rows) stores n))) (λ e. filter_map (pass e.step) (bindings_of (leaving_state net news stores n))) (ends_of net lines has t n)
+          (All-weaker (λ e. Without s (line_at (places net lines has n) e)) (λ e. filter_map (pass e.step) (bindings_of (leaving_state net (with_stream news s rows) stores n)) ≡ filter_map (pass e.step) (bindings_of (leaving_state net news stores n)))
+          (λ e w. ap (λ is. filter_map (pass e.step) (bindings_of is)) (leaves_other n (places net lines has n) e (has.1.are_places n is) w)) (ends_of net lines has t n) each)
       at_state n each false is =
-          ap (λ es. flat_map (λ e. filter_map (pass e.step) (leaving_state net (with_stream news s rows) stores n)) (filter (λ e. e.out == t) es)) (no_ends (state_at net n) is)
-          ∙ sym (ap (λ es. flat_map (λ e. filter_map (pass e.step) (leaving_state net news stores n)) (filter (λ e. e.out == t) es)) (no_ends (state_at net n) is))
+          ap (λ es. flat_map (λ e. filter_map (pass e.step) (bindings_of (leaving_state net (with_stream news s rows) stores n))) (filter (λ e. e.out == t) es)) (no_ends (state_at net n) is)
+          ∙ sym (ap (λ es. flat_map (λ e. filter_map (pass e.step) (bindings_of (leaving_state net news stores n))) (filter (λ e. e.out == t) es)) (no_ends (state_at net n) is))
 
 -- the streams before one in the order of work
 record Earlier (lines : List Line) (s t : ℕ) : Type 0 where

@@ -1,5 +1,6 @@
 pub mod Bags
 pub mod Batches
+pub mod Bindings
 pub mod Cuts
 pub mod Events
 pub mod Examples

@@ -8,7 +8,6 @@ use Rattle.std.proofs.lemmas.List.Elements.{All-nil, All-cons, All-head, All-tai
 use Rattle.std.proofs.lemmas.List.Folds.{flat_map-map}
 use Rattle.std.proofs.lemmas.List.Sorted.{All-permutation, IsPermutation-sym, IsPermutation-trans, IsPermutation-map}
 use Rattle.std.proofs.lemmas.Simd.{map-map}
-use Rattle.std.proofs.lemmas.List.{map-append}
 use Rattle.event_types.specs.Tuple.{TupleView}
 use Rattle.instances.specs.declared.instance.Instance.{Instance}
 use Rattle.semantics.specs.Denotation.{Streams}
@@ -29,33 +28,15 @@ use Rattle.automaton.specs.declared.network.End.{End}
 use Rattle.automaton.specs.declared.network.Entrance.{Entrance}
 use Rattle.automaton.specs.declared.network.Entrance.TheVariants as entrance
 use Rattle.automaton.specs.declared.network.State.{State}
-use Rattle.automaton.specs.declared.wait.Turn.{Turn}
 use Rattle.epoch_laws.specs.Closing.{Stores, leaving_state, leaving_by, given_by_ends, given_by_ends_at, stepped_by, stores_after}
-use Rattle.epoch_laws.specs.Epochs.{again, is_unmet, stepped, taken, took}
-use Rattle.epoch_laws.specs.Instances.{bindings_of, instance_of}
+use Rattle.epoch_laws.specs.Instances.{begins, bindings_of, instances_entering}
+use Rattle.epoch_laws.specs.Lines.{flow_now}
 use Rattle.epoch_laws.specs.Stores.{Holds}
 use Rattle.epoch_laws.proofs.Bags.{filter_map_permuted, flat_map_alike, permuted_is}
-use Rattle.epoch_laws.proofs.Flows.{flow_rows}
+use Rattle.epoch_laws.proofs.Bindings.{begins_bindings, entering_bindings, stepped_bindings, took_bindings}
 use Rattle.epoch_laws.proofs.Lists.{All_last, every, filter-flat_map, flat_map-flat_map, map-flat_map, map_all}
 use Rattle.epoch_laws.proofs.Purges.{IsStored, between_holds, rows_stepped, store_gives, store_keeps}
 use Rattle.semantics.proofs.ReportLemmas.{flat_map_same}
-
--- stores and the bindings that they hold
-took_bindings : (p : List Pr) (turn : Option Turn) (new : List TupleView) (store : List Instance) → took p turn new store ≡ flat_map (taken p turn new) (bindings_of store)
-took_bindings p turn new store = sym (flat_map-map (taken p turn new) (λ instance. instance.tuple) store)
-
-map_itself : (xs : List TupleView) → map (λ binding. binding) xs ≡ xs
-map_itself [] = refl
-map_itself (x ∷ xs) = ap (λ ys. x ∷ ys) (map_itself xs)
-
-bindings_back : (bs : List TupleView) → bindings_of (map instance_of bs) ≡ bs
-bindings_back bs = map-map (λ instance. instance.tuple) instance_of bs ∙ map_itself bs
-
--- the bindings of a store after an epoch are those after the step
-pub stepped_bindings : (p : List Pr) (turn : Option Turn) (new entered : List TupleView) (store : List Instance) → bindings_of (stepped p turn new entered store) ≡ rows_stepped p turn new entered (bindings_of store)
-stepped_bindings p turn new entered store =
-    map-append (λ instance. instance.tuple) (filter (λ instance. is_unmet p new instance.tuple) store) (map instance_of (entered ++ again turn (took p turn new store)))
-    ∙ (λ i. sym (filter-map (is_unmet p new) (λ (instance : Instance). instance.tuple) store) i ++ bindings_back (entered ++ again turn (took_bindings p turn new store i)) i)
 
 -- a store that holds bindings stores them
 pub is_stored : (now : ℕ) (p : List Pr) (store : List Instance) (bindings : List TupleView) → Holds now p store bindings → IsStored now p (bindings_of store) bindings
@@ -140,9 +121,9 @@ module _ (net : Net) (lines : List Line) (has : HasLines net lines) where
       (every (λ n. flat_map f (map (line_at (places n)) (ends_of s n)) ≡ flat_map (λ e. f (line_at (places n) e)) (ends_of s n)) (λ n. flat_map-map f (line_at (places n)) (ends_of s n)) numbers))
 
 -- what leaves one state
-pub root_leaves : (o : Option Entrance) (s : ℕ) (news : Streams) (store : List Instance) → option_and_then root_by o ≡ Some s → leaving_by o news store ≡ news s
+pub root_leaves : (o : Option Entrance) (s : ℕ) (news : Streams) (store : List Instance) → option_and_then root_by o ≡ Some s → leaving_by o news store ≡ map begins (news s)
 root_leaves None s news store e = absurd (cc)
-root_leaves (Some (entrance.Root t)) s news store e = let same : t ≡ s = cc in ap news same
+root_leaves (Some (entrance.Root t)) s news store e = let same : t ≡ s = cc in ap (λ r. map begins (news r)) same
 root_leaves (Some (entrance.Waiting before hop)) s news store e = absurd (cc)
 
 -- where there is no state, there are no ends
@@ -159,10 +140,10 @@ module _ (net : Net) (now : ℕ) (stores : Stores) (news exact earlier : Streams
   Knows (After p h) = IsPermutation (news h.wait.stream) (exact h.wait.stream)
 
   -- what leaves a state is what comes through its prefix
-  pub leaves_alike : (number : ℕ) (p : Prefix) → IsAt net number p → Knows p → IsPermutation (leaving_state net news stores number) (flow_rows exact earlier p)
-  leaves_alike number (Root s) at known = permuted_from (root_leaves (entrance_at net number) s news (stores number) at) known
+  pub leaves_alike : (number : ℕ) (p : Prefix) → IsAt net number p → Knows p → IsPermutation (bindings_of (leaving_state net news stores number)) (flow_now exact earlier p)
+  leaves_alike number (Root s) at known = permuted_from (ap bindings_of (root_leaves (entrance_at net number) s news (stores number) at) ∙ begins_bindings (news s)) known
   leaves_alike number (After p h) at known =
-      permuted_from (ap (λ o. leaving_by o news (stores number)) at.1 ∙ took_bindings h.wait.choose h.wait.fold (news h.wait.stream) (stores number))
+      permuted_from (ap (λ o. bindings_of (leaving_by o news (stores number))) at.1 ∙ took_bindings h.wait.choose h.wait.fold (news h.wait.stream) (stores number))
       (store_gives now h.wait.choose h.wait.fold (exact h.wait.stream) (news h.wait.stream) (bindings_of (stores number)) (waiting earlier p h) (late h.wait.stream) known
       (is_stored now h.wait.choose (stores number) (waiting earlier p h) (holds number p h at)))
 
@@ -174,7 +155,7 @@ module _ (net : Net) (now : ℕ) (stores : Stores) (news exact earlier : Streams
   -- what the ends of a stream give
   pub published_alike : (lines : List Line) (has : HasLines net lines) (s : ℕ) (order : List ℕ) → All (ReadsNone order) (filter (λ l. l.out == s) lines)
       → ((t : ℕ) → is_in order t ≡ false → IsPermutation (news t) (exact t))
-      → IsPermutation (given_by_ends net news stores s) (flat_map (λ l. filter_map (pass l.last) (flow_rows exact earlier (path l))) (filter (λ l. l.out == s) lines))
+      → IsPermutation (given_by_ends net news stores s) (flat_map (λ l. filter_map (pass l.last) (flow_now exact earlier (path l))) (filter (λ l. l.out == s) lines))
   published_alike lines has s order reads known =
       IsPermutation-trans _ _ _
       (flat_map_alike (given_by_ends_at net news stores s) (λ n. flat_map (λ e. f (line_at (places net lines has n) e)) (ends_of net lines has s n)) (numbers net lines has)
@@ -183,30 +164,30 @@ module _ (net : Net) (now : ℕ) (stores : Stores) (news exact earlier : Streams
       (IsPermutation-sym _ _ (flat_ends net lines has f s))
     where
       f : Line → List TupleView
-      f l = filter_map (pass l.last) (flow_rows exact earlier (path l))
+      f l = filter_map (pass l.last) (flow_now exact earlier (path l))
 
       at_state : (n : ℕ) → All (λ e. ReadsNone order (line_at (places net lines has n) e)) (ends_of net lines has s n) → (used : Bool) → is_some (state_at net n) ≡ used
           → IsPermutation (given_by_ends_at net news stores s n) (flat_map (λ e. f (line_at (places net lines has n) e)) (ends_of net lines has s n))
       at_state n all true is =
-          flat_map_alike (λ e. filter_map (pass e.step) (leaving_state net news stores n)) (λ e. f (line_at (places net lines has n) e)) (ends_of net lines has s n)
-          (All-weaker (λ e. ReadsNone order (line_at (places net lines has n) e)) (λ e. IsPermutation (filter_map (pass e.step) (leaving_state net news stores n)) (f (line_at (places net lines has n) e))) one (ends_of net lines has s n) all)
+          flat_map_alike (λ e. filter_map (pass e.step) (bindings_of (leaving_state net news stores n))) (λ e. f (line_at (places net lines has n) e)) (ends_of net lines has s n)
+          (All-weaker (λ e. ReadsNone order (line_at (places net lines has n) e)) (λ e. IsPermutation (filter_map (pass e.step) (bindings_of (leaving_state net news stores n))) (f (line_at (places net lines has n) e))) one (ends_of net lines has s n) all)
         where
-          one : (e : End) → ReadsNone order (line_at (places net lines has n) e) → IsPermutation (filter_map (pass e.step) (leaving_state net news stores n)) (f (line_at (places net lines has n) e))
+          one : (e : End) → ReadsNone order (line_at (places net lines has n) e) → IsPermutation (filter_map (pass e.step) (bindings_of (leaving_state net news stores n))) (f (line_at (places net lines has n) e))
           one e reads =
               filter_map_permuted (pass e.step) _ _
               (permuted_to (leaves_alike n (places net lines has n) (has.1.are_places n is) (knows_of order known (places net lines has n) e reads))
-              (ap (flow_rows exact earlier) (sym (path_back (places net lines has n)))))
+              (ap (flow_now exact earlier) (sym (path_back (places net lines has n)))))
       at_state n all false is =
-          permuted_is (ap (λ es. flat_map (λ e. filter_map (pass e.step) (leaving_state net news stores n)) (filter (λ e. e.out == s) es)) (no_ends (state_at net n) is)
+          permuted_is (ap (λ es. flat_map (λ e. filter_map (pass e.step) (bindings_of (leaving_state net news stores n))) (filter (λ e. e.out == s) es)) (no_ends (state_at net n) is)
           ∙ sym (ap (λ es. flat_map (λ e. f (line_at (places net lines has n) e)) (filter (λ e. e.out == s) es)) (no_ends (state_at net n) is)))
 
   -- the store of a waiting state after the epoch
   pub stores_keep : (later : ℕ) → now ≤ later → ((s : ℕ) → IsPermutation (news s) (exact s)) → (number : ℕ) (p : Prefix) (h : Hop) → IsAt net number (After p h)
-      → (after : List TupleView) → IsPermutation after (rows_stepped h.wait.choose h.wait.fold (exact h.wait.stream) (entering h (flow_rows exact earlier p)) (waiting earlier p h))
+      → (after : List TupleView) → IsPermutation after (rows_stepped h.wait.choose h.wait.fold (exact h.wait.stream) (entering h (flow_now exact earlier p)) (waiting earlier p h))
       → IsStored later h.wait.choose (bindings_of (stores_after net news stores number)) after
   stores_keep later le known number p h at after is =
       subst (λ bs. IsStored later h.wait.choose bs after) (sym stored)
-      (store_keeps now h.wait.choose h.wait.fold later (exact h.wait.stream) (news h.wait.stream) (entering h (flow_rows exact earlier p)) (entering h (leaving_state net news stores at.0)) (bindings_of (stores number)) (waiting earlier p h) after
+      (store_keeps now h.wait.choose h.wait.fold later (exact h.wait.stream) (news h.wait.stream) (entering h (flow_now exact earlier p)) (entering h (bindings_of (leaving_state net news stores at.0))) (bindings_of (stores number)) (waiting earlier p h) after
       le (late h.wait.stream) (known h.wait.stream)
       (filter_map_permuted (pass h.step) _ _ (leaves_alike at.0 p at.2 (all_known p)))
       (is_stored now h.wait.choose (stores number) (waiting earlier p h) (holds number p h at)) is)
@@ -215,7 +196,8 @@ module _ (net : Net) (now : ℕ) (stores : Stores) (news exact earlier : Streams
       all_known (Root s) = known s
       all_known (After q k) = known k.wait.stream
 
-      stored : bindings_of (stores_after net news stores number) ≡ rows_stepped h.wait.choose h.wait.fold (news h.wait.stream) (entering h (leaving_state net news stores at.0)) (bindings_of (stores number))
+      stored : bindings_of (stores_after net news stores number) ≡ rows_stepped h.wait.choose h.wait.fold (news h.wait.stream) (entering h (bindings_of (leaving_state net news stores at.0))) (bindings_of (stores number))
       stored =
           ap (λ o. bindings_of (stepped_by o news (leaving_state net news stores) (stores number))) at.1
-          ∙ stepped_bindings h.wait.choose h.wait.fold (news h.wait.stream) (entering h (leaving_state net news stores at.0)) (stores number)
+          ∙ stepped_bindings h.wait.choose h.wait.fold (news h.wait.stream) (instances_entering h (leaving_state net news stores at.0)) (stores number)
+          ∙ ap (λ ts. rows_stepped h.wait.choose h.wait.fold (news h.wait.stream) ts (bindings_of (stores number))) (entering_bindings h (leaving_state net news stores at.0))

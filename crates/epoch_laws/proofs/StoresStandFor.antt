@@ -30,11 +30,12 @@ use Rattle.automaton.proofs.WorkLemmas.{completed_other, streams_derived}
 use Rattle.epoch_laws.specs.Closing.{ArePurged, IsEpoch, Stores, given_by_ends, stores_after}
 use Rattle.epoch_laws.specs.Histories.{events_before, events_during, streams_over}
 use Rattle.epoch_laws.specs.Instances.{bindings_of}
+use Rattle.epoch_laws.specs.Lines.{flow_now}
 use Rattle.epoch_laws.specs.StoresStandFor.{Serves, StoresStandFor}
 use Rattle.epoch_laws.specs.Stores.{Holds, Purged}
 use Rattle.epoch_laws.specs.Times.{ArePast, during, IsPast, streams_before, streams_during}
 use Rattle.epoch_laws.proofs.Bags.{map_within, within_permuted, within_through}
-use Rattle.epoch_laws.proofs.Flows.{flow_rows, rows_line, rows_state}
+use Rattle.epoch_laws.proofs.Flows.{line_gives, rows_state}
 use Rattle.epoch_laws.proofs.Folds.{during_at}
 use Rattle.epoch_laws.proofs.Lists.{every, filter-flat_map, filter_false}
 use Rattle.epoch_laws.proofs.Networks.{published_alike, stores_keep}
@@ -92,7 +93,7 @@ module _ (net : Net) (lines : List Line) (order : List ℕ) (h : List Event) (ti
   holds_earlier = subst (λ (env : Streams). AllHold net now stores env) (sym (over_before time lines order h past)) holds
 
   f : Line → List TupleView
-  f l = filter_map (pass l.last) (flow_rows exact earlier (path l))
+  f l = filter_map (pass l.last) (flow_now exact earlier (path l))
 
   -- a derived stream has in the epoch what its lines give
   exact_is : (s : ℕ) → full s ≡ derived lines full s → exact s ≡ flat_map f (filter (λ l. l.out == s) lines)
@@ -100,7 +101,7 @@ module _ (net : Net) (lines : List Line) (order : List ℕ) (h : List Event) (ti
   exact_is s e =
       ap (during time) e
       ∙ filter-flat_map (λ r. r.at == time) (given full) (filter (λ l. l.out == s) lines)
-      ∙ flat_map_same (λ l. during time (given full l)) f (filter (λ l. l.out == s) lines) (every (λ l. during time (given full l) ≡ f l) (rows_line time full full_past) (filter (λ l. l.out == s) lines))
+      ∙ flat_map_same (λ l. during time (given full l)) f (filter (λ l. l.out == s) lines) (every (λ l. during time (given full l) ≡ f l) (line_gives time full full_past) (filter (λ l. l.out == s) lines))
 
   news_alike : (rest : List ℕ) → IsInOrder lines rest → All (λ s. IsPermutation (news s) (given_by_ends net news stores s)) rest → All (λ s. full s ≡ derived lines full s) rest
       → ((t : ℕ) → is_in rest t ≡ false → IsPermutation (news t) (exact t)) → (t : ℕ) → IsPermutation (news t) (exact t)

@@ -5,10 +5,9 @@ use Rattle.std.specs.List.{All, filter, flat_map}
 use Rattle.std.specs.List.Sorted.{IsPermutation}
 use Rattle.std.proofs.lemmas.Grind.{flat_map-append}
 use Rattle.std.proofs.lemmas.List.Elements.{filter_agree, All-filter, All-weaker, All-map}
-use Rattle.std.proofs.lemmas.List.Folds.{flat_map-map}
-use Rattle.std.proofs.lemmas.List.Sorted.{IsPermutation-trans, IsPermutation-append, IsPermutation-append_right, IsPermutation-append_comm, IsPermutation-map}
-use Rattle.std.proofs.lemmas.List.{map-append}
+use Rattle.std.proofs.lemmas.List.Sorted.{IsPermutation-trans, IsPermutation-append, IsPermutation-append_right, IsPermutation-append_comm}
 use Rattle.event_types.specs.Tuple.{TupleView, IsSound}
+use Rattle.instances.specs.declared.instance.Instance.{Instance}
 use Rattle.semantics.specs.Scalars.{Sc, Pr}
 use Rattle.semantics.specs.Nexts.{is_eligible, nexts, earliest}
 use Rattle.semantics.specs.Runs.{runs}
@@ -21,12 +20,14 @@ use Rattle.automaton.specs.Waiting.{is_empty, waits, waiting_in}
 use Rattle.automaton.specs.Waits.{chosen}
 use Rattle.automaton.specs.declared.wait.Turn.{Turn}
 use Rattle.epoch_laws.specs.Epochs.{again, is_unmet, stepped, taken, took}
-use Rattle.epoch_laws.specs.Instances.{instance_of}
+use Rattle.epoch_laws.specs.Instances.{bindings_of}
 use Rattle.epoch_laws.specs.Times.{before, during, IsPast}
 use Rattle.epoch_laws.proofs.Bags.{permuted_is, flat_map_parts, flat_map_alike}
+use Rattle.epoch_laws.proofs.Bindings.{stepped_bindings, took_bindings}
 use Rattle.epoch_laws.proofs.Cuts.{not_less, empty_is, before_nexts, none_early, during_nexts, waits_cut, waits_now}
 use Rattle.epoch_laws.proofs.Folds.{before_runs, cut_permuted, during_at, early_none, fold_gives, fold_keeps, late_runs, runs_past, stays, turned}
 use Rattle.epoch_laws.proofs.Lists.{All-flat_map, filter-filter, filter-flat_map, flat_map-filter, flat_map-flat_map, flat_map_each}
+use Rattle.epoch_laws.proofs.Purges.{rows_stepped}
 
 -- all bindings
 -- of those that entered, only those before the last time give what is detected at it
@@ -123,32 +124,23 @@ pub rows_keep : (time : ℕ) (p : List Pr) (turn : Option Turn) (rs ls : List Tu
 rows_keep time p None rs ls all few = next_keeps time p rs all ls few
 rows_keep time p (Some t) rs ls all few = turn_keeps time p rs all t.on t.set.parts ls few (waiting_in p (Some t) (before time rs) (before time ls)) refl
 
--- the instances of bindings give what the bindings give
-pub took_of : (p : List Pr) (turn : Option Turn) (new bs : List TupleView) → took p turn new (map instance_of bs) ≡ flat_map (taken p turn new) bs
-took_of p turn new bs = flat_map-map (λ instance. taken p turn new instance.tuple) instance_of bs
-
--- the bindings after a step are those that wait on and those that are new
-pub stepped_of : (p : List Pr) (turn : Option Turn) (new entered bs : List TupleView)
-    → stepped p turn new entered (map instance_of bs) ≡ map instance_of (filter (is_unmet p new) bs ++ (entered ++ again turn (flat_map (taken p turn new) bs)))
-stepped_of p turn new entered bs =
-    (λ i. filter-map (λ instance. is_unmet p new instance.tuple) instance_of bs i ++ map instance_of (entered ++ again turn (took_of p turn new bs i)))
-    ∙ sym (map-append instance_of (filter (is_unmet p new) bs) (entered ++ again turn (flat_map (taken p turn new) bs)))
-
 -- what is past is at most at the time
 pub few_of : (time : ℕ) (ls : List TupleView) → All (IsPast time) ls → All (λ l. l.at ≤ time) ls
 few_of time ls all = All-weaker (IsPast time) (λ l. l.at ≤ time) (λ l h. h.1) ls all
 
 -- a wait gives in an epoch what is chosen then
 pub wait_gives : (time : ℕ) (p : List Pr) (turn : Option Turn) (rs ls : List TupleView) → All (IsPast time) rs → All (IsPast time) ls
-    → during time (chosen p turn rs ls) ≡ took p turn (during time rs) (map instance_of (waiting_in p turn (before time rs) (before time ls)))
-wait_gives time p turn rs ls all past = rows_give time p turn rs ls all (few_of time ls past) ∙ sym (took_of p turn (during time rs) (waiting_in p turn (before time rs) (before time ls)))
+    → (store : List Instance) → bindings_of store ≡ waiting_in p turn (before time rs) (before time ls) → during time (chosen p turn rs ls) ≡ bindings_of (took p turn (during time rs) store)
+wait_gives time p turn rs ls all past store is =
+    rows_give time p turn rs ls all (few_of time ls past) ∙ ap (flat_map (taken p turn (during time rs))) (sym is) ∙ sym (took_bindings p turn (during time rs) store)
 
 -- and keeps the bindings for which nothing was eligible
 pub wait_keeps : (time : ℕ) (p : List Pr) (turn : Option Turn) (rs ls : List TupleView) → All (IsPast time) rs → All (IsPast time) ls
-    → IsPermutation (map instance_of (waiting_in p turn rs ls)) (stepped p turn (during time rs) (during time ls) (map instance_of (waiting_in p turn (before time rs) (before time ls))))
-wait_keeps time p turn rs ls all past =
-    permuted_to (IsPermutation-map instance_of _ _ (rows_keep time p turn rs ls all (few_of time ls past)))
-    (sym (stepped_of p turn (during time rs) (during time ls) (waiting_in p turn (before time rs) (before time ls))))
+    → (entered store : List Instance) → bindings_of entered ≡ during time ls → bindings_of store ≡ waiting_in p turn (before time rs) (before time ls)
+    → IsPermutation (waiting_in p turn rs ls) (bindings_of (stepped p turn (during time rs) entered store))
+wait_keeps time p turn rs ls all past entered store enters is =
+    permuted_to (rows_keep time p turn rs ls all (few_of time ls past))
+    (sym (stepped_bindings p turn (during time rs) entered store ∙ (λ i. rows_stepped p turn (during time rs) (enters i) (is i))))
 
 -- what leaves a wait before the last time
 module _ (time : ℕ) (p : List Pr) (rs : List TupleView) (sound : All IsSound rs) where

@@ -38,9 +38,9 @@ abbrev pub unmatched_after : List Pr → List TupleView → List Instance → Li
 unmatched_after choose tuples store = filter (λ instance. is_unmet choose tuples instance.tuple) store
 
 -- what goes back to the state by the rebind edge: in a FOLD the new bindings (EDBT 2006, automata)
-abbrev pub again : Option Turn → List Instance → List Instance
-again None instances = []
-again (Some turn) instances = instances
+abbrev pub again : {X : Type 0} → Option Turn → List X → List X
+again {X} None bindings = []
+again {X} (Some turn) bindings = bindings
 
 -- the store after the epoch: what is kept of it, then what entered and what goes back
 abbrev pub stepped : List Pr → Option Turn → List TupleView → List Instance → List Instance → List Instance
