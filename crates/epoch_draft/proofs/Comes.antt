@@ -1,11 +1,11 @@
 -- What one more tuple of an epoch brings.
-use Rattle.std.proofs.Common.{◌≡◌, ◌∙◌, sym, ap, refl, ℕ, ◌==◌, Bool, true, false, cond, List, [], ◌∷◌, ◌++◌, arith}
+use Rattle.std.proofs.Common.{◌≡◌, ◌∙◌, sym, ap, refl, ℕ, ◌==◌, Bool, true, false, cond, List, [], ◌∷◌, ◌++◌, map, arith}
 use Rattle.std.specs.Prelude.{Option, Some, None}
 use Rattle.std.specs.List.{flat_map}
 use Rattle.std.specs.List.Sorted.{IsPermutation}
 use Rattle.std.proofs.lemmas.Bool.Decides.{nat_tests}
 use Rattle.std.proofs.lemmas.Grind.{flat_map-append}
-use Rattle.std.proofs.lemmas.List.{append-nil}
+use Rattle.std.proofs.lemmas.List.{append-nil, map-append}
 use Rattle.std.proofs.lemmas.List.Sorted.{IsPermutation-refl, IsPermutation-sym, IsPermutation-trans, IsPermutation-append_left}
 use Rattle.event_types.specs.Tuple.{TupleView}
 use Rattle.instances.specs.declared.instance.Instance.{Instance}
@@ -18,9 +18,10 @@ use Rattle.automaton.specs.declared.wait.Wait.{Wait}
 use Rattle.epoch_laws.specs.Closing.{Stores, leaving_state, leaving_by}
 use Rattle.epoch_laws.specs.Epochs.{took}
 use Rattle.epoch_laws.proofs.Bags.{permuted_is}
-use Rattle.epoch_pass.specs.Pairs.{met}
-use Rattle.epoch_pass.proofs.Pairs.{met_took}
+use Rattle.epoch_laws.specs.Instances.{begins}
 use Rattle.epoch_draft.specs.Comes.{gets, gets_by, with_tuple}
+use Rattle.epoch_draft.specs.Pairs.{met}
+use Rattle.epoch_draft.proofs.Pairs.{met_took}
 
 equal_is : (m n : ℕ) → (m == n) ≡ true → m ≡ n
 equal_is m n e = grind (arith, nat_tests)
@@ -33,9 +34,9 @@ took_more w store tuples r =
     (IsPermutation-append_left (met w store r) (flat_map (met w store) tuples) (took w.choose w.fold tuples store) (met_took w store tuples)))
 
 -- at a root
-root_more : (tuples : List TupleView) (r : TupleView) (b : Bool) → cond b (tuples ++ r ∷ []) tuples ≡ tuples ++ cond b (r ∷ []) []
-root_more tuples r true = refl
-root_more tuples r false = sym (append-nil tuples)
+root_more : (tuples : List TupleView) (r : TupleView) (b : Bool) → map begins (cond b (tuples ++ r ∷ []) tuples) ≡ map begins tuples ++ cond b (begins r ∷ []) []
+root_more tuples r true = map-append begins tuples (r ∷ [])
+root_more tuples r false = sym (append-nil (map begins tuples))
 
 -- the same of a wait
 wait_more : (w : Wait) (store : List Instance) (tuples : List TupleView) (r : TupleView) (b : Bool)
@@ -57,7 +58,7 @@ tuple_comes net stores seen s r n = go (entrance_at net n)
   where
     go : (o : Option Entrance) → IsPermutation (leaving_by o (with_tuple seen s r) (stores n)) (leaving_by o seen (stores n) ++ gets_by o s r (stores n))
     go None = IsPermutation-refl []
-    go (Some (Root t)) = permuted_is (with_is seen s t r ∙ root_more (seen t) r (t == s))
+    go (Some (Root t)) = permuted_is (ap (map begins) (with_is seen s t r) ∙ root_more (seen t) r (t == s))
     go (Some (Waiting before hop)) =
         permuted_from (ap (λ rows. took hop.wait.choose hop.wait.fold rows (stores n)) (with_is seen s hop.wait.stream r))
         (wait_more hop.wait (stores n) (seen hop.wait.stream) r (hop.wait.stream == s))

@@ -1,6 +1,7 @@
 -- Drafts that have something more.
 use Rattle.std.proofs.Common.{◌≡◌, ◌∙◌, sym, ap, refl, subst, inl, inr, ℕ, zero, suc, ◌<◌, ◌⊎◌, ◌==◌, Bool, true, false, cond, length, get_or, set, List, [], ◌∷◌, ◌++◌, map, append_assoc, arith}
 use Rattle.std.specs.Prelude.{Contains, Some, None, option_to_list}
+use Rattle.std.specs.Option.{option_map}
 use Rattle.std.specs.List.Sorted.{IsPermutation}
 use Rattle.std.proofs.lemmas.Bool.Decides.{nat_tests}
 use Rattle.std.proofs.lemmas.Grind.{flat_map-append, get_or-set_at}
@@ -12,7 +13,7 @@ use Rattle.scalar_expr.proofs.Bags.{flat_map_permuted, permuted_from, permuted_t
 use Rattle.automaton.specs.States.{Net, step_at}
 use Rattle.automaton.specs.Steps.{pass}
 use Rattle.automaton.specs.declared.network.End.{End}
-use Rattle.epoch_laws.specs.Instances.{instance_of}
+use Rattle.epoch_laws.specs.Instances.{began, pass_instance}
 use Rattle.epoch_laws.proofs.Bags.{permuted_is}
 use Rattle.epoch_draft.specs.Drafts.{Adds, DraftFits, Grows}
 use Rattle.epoch_draft.specs.Marks.{MarksMore}
@@ -80,10 +81,10 @@ module _ {X : Type 0} where
   }
 
 made_append : (s : ℕ) (a b : List Move) → made_of s (a ++ b) ≡ made_of s a ++ made_of s b
-made_append s a b = flat_map-append (λ (m : Move). made_by s m.tuple m.way) a b
+made_append s a b = flat_map-append (λ (m : Move). made_by s m.instance m.way) a b
 
 bound_append : (net : Net) (w : ℕ) (a b : List Move) → bound_of net w (a ++ b) ≡ bound_of net w a ++ bound_of net w b
-bound_append net w a b = flat_map-append (λ (m : Move). bound_by net w m.tuple m.way) a b
+bound_append net w a b = flat_map-append (λ (m : Move). bound_by net w m.instance m.way) a b
 
 -- nothing moved
 pub grows_none : (net : Net) (old : Draft) → DraftFits (length old.made) (length net) old → Grows net [] old old
@@ -97,11 +98,10 @@ grows_none net old fits = record {
 pub grows_same : (net : Net) (a b : List Move) (old new : Draft) → IsPermutation a b → Grows net a old new → Grows net b old new
 grows_same net a b old new h grows = record {
   fits = grows.fits;
-  made = λ s. adds_same (made_of s a) (made_of s b) (get_or old.made s []) (get_or new.made s []) (flat_map_permuted (λ (m : Move). made_by s m.tuple m.way) a b h) (grows.made s);
+  made = λ s. adds_same (made_of s a) (made_of s b) (get_or old.made s []) (get_or new.made s []) (flat_map_permuted (λ (m : Move). made_by s m.instance m.way) a b h) (grows.made s);
   bound = λ w.
       IsPermutation-trans _ _ _ (grows.bound w)
-      (IsPermutation-append_right (get_or old.beads w []) (map instance_of (bound_of net w a)) (map instance_of (bound_of net w b))
-      (IsPermutation-map instance_of (bound_of net w a) (bound_of net w b) (flat_map_permuted (λ (m : Move). bound_by net w m.tuple m.way) a b h)));
+      (IsPermutation-append_right (get_or old.beads w []) (bound_of net w a) (bound_of net w b) (flat_map_permuted (λ (m : Move). bound_by net w m.instance m.way) a b h));
 }
 
 -- moves after moves
@@ -114,10 +114,8 @@ grows_trans net a b old mid new one two = record {
   bound = λ w.
       let f = bound_of net w in
       permuted_to
-      (IsPermutation-trans _ _ _ (two.bound w) (IsPermutation-append_left (map instance_of (f b)) (get_or mid.beads w []) (get_or old.beads w [] ++ map instance_of (f a)) (one.bound w)))
-      (append_assoc (get_or old.beads w []) (map instance_of (f a)) (map instance_of (f b))
-      ∙ ap (λ xs. get_or old.beads w [] ++ xs) (sym (map-append instance_of (f a) (f b)))
-      ∙ ap (λ rows. get_or old.beads w [] ++ map instance_of rows) (sym (bound_append net w a b)));
+      (IsPermutation-trans _ _ _ (two.bound w) (IsPermutation-append_left (f b) (get_or mid.beads w []) (get_or old.beads w [] ++ f a) (one.bound w)))
+      (append_assoc (get_or old.beads w []) (f a) (f b) ∙ ap (λ xs. get_or old.beads w [] ++ xs) (sym (bound_append net w a b)));
 }
 
 equal_number : (m n : ℕ) → (m == n) ≡ true → m ≡ n
@@ -143,24 +141,24 @@ made_adds s rows old t lt made e = go (same_or_other t s)
         subst (λ (xs : List TupleView). Adds xs (get_or old t []) (get_or (set old s (get_or old s [] ++ rows)) t [])) (sym (e ∙ ap (λ b. cond b rows []) (other_test s t (λ eq. other (sym eq)))))
         (adds_none (get_or old t []) (get_or (set old s (get_or old s [] ++ rows)) t []) (get_or-set_other old s t (get_or old s [] ++ rows) [] other))
 
--- a tuple that goes out
-pub out_grows : (net : Net) (old new : Draft) (e : End) (x y : TupleView) → e.out < length old.made → pass e.step x ≡ Some y → length old.beads ≡ length net
+-- an instance that goes out
+pub out_grows : (net : Net) (old new : Draft) (e : End) (x : Instance) (y : TupleView) → e.out < length old.made → pass e.step x.tuple ≡ Some y → length old.beads ≡ length net
     → new.made ≡ set old.made e.out (get_or old.made e.out [] ++ y ∷ []) → new.beads ≡ old.beads → DraftFits (length old.made) (length old.beads) new → Grows net (moves_on (Out e ∷ []) x) old new
 out_grows net old new e x y lt passes many made beads fits = record {
   fits = subst (λ (m : ℕ). DraftFits (length old.made) m new) many fits;
   made = λ t.
       subst (λ (lists : List (List TupleView)). Adds (made_of t (moves_on (Out e ∷ []) x)) (get_or old.made t []) (get_or lists t [])) (sym made)
-      (made_adds e.out (y ∷ []) old.made t lt (made_of t (moves_on (Out e ∷ []) x)) (append-nil (cond (e.out == t) (option_to_list (pass e.step x)) []) ∙ ap (λ o. cond (e.out == t) (option_to_list o) []) passes));
+      (made_adds e.out (y ∷ []) old.made t lt (made_of t (moves_on (Out e ∷ []) x)) (append-nil (cond (e.out == t) (option_to_list (pass e.step x.tuple)) []) ∙ ap (λ o. cond (e.out == t) (option_to_list o) []) passes));
   bound = λ w. permuted_is (ap (λ (lists : List (List Instance)). get_or lists w []) beads ∙ sym (append-nil (get_or old.beads w [])));
 }
 
 -- one that doesn't pass
-pub out_stays : (net : Net) (old : Draft) (e : End) (x : TupleView) → pass e.step x ≡ None → DraftFits (length old.made) (length net) old → Grows net (moves_on (Out e ∷ []) x) old old
+pub out_stays : (net : Net) (old : Draft) (e : End) (x : Instance) → pass e.step x.tuple ≡ None → DraftFits (length old.made) (length net) old → Grows net (moves_on (Out e ∷ []) x) old old
 out_stays net old e x passes fits = record {
   fits = fits;
   made = λ t.
       subst (λ (rows : List TupleView). Adds rows (get_or old.made t []) (get_or old.made t []))
-      (sym (append-nil (cond (e.out == t) (option_to_list (pass e.step x)) []) ∙ ap (λ o. cond (e.out == t) (option_to_list o) []) passes ∙ none (e.out == t))) (adds_none (get_or old.made t []) (get_or old.made t []) refl);
+      (sym (append-nil (cond (e.out == t) (option_to_list (pass e.step x.tuple)) []) ∙ ap (λ o. cond (e.out == t) (option_to_list o) []) passes ∙ none (e.out == t))) (adds_none (get_or old.made t []) (get_or old.made t []) refl);
   bound = λ w. permuted_is (sym (append-nil (get_or old.beads w [])));
 }
   where
@@ -169,22 +167,22 @@ out_stays net old e x passes fits = record {
     none false = refl
 
 -- one chain is longer by a bead
-bound_adds : (w : ℕ) (y : TupleView) (old : List (List Instance)) (v : ℕ) → w < length old → (bound : List TupleView) → bound ≡ cond (w == v) (y ∷ []) []
-    → IsPermutation (get_or (set old w (instance_of y ∷ get_or old w [])) v []) (get_or old v [] ++ map instance_of bound)
+bound_adds : (w : ℕ) (y : Instance) (old : List (List Instance)) (v : ℕ) → w < length old → (bound : List Instance) → bound ≡ cond (w == v) (y ∷ []) []
+    → IsPermutation (get_or (set old w (y ∷ get_or old w [])) v []) (get_or old v [] ++ bound)
 bound_adds w y old v lt bound e = go (same_or_other v w)
   where
-    go : (v ≡ w) ⊎ (v ≡ w → ⊥) → IsPermutation (get_or (set old w (instance_of y ∷ get_or old w [])) v []) (get_or old v [] ++ map instance_of bound)
+    go : (v ≡ w) ⊎ (v ≡ w → ⊥) → IsPermutation (get_or (set old w (y ∷ get_or old w [])) v []) (get_or old v [] ++ bound)
     go (inl same) =
-        permuted_from (get_or-set_at old w v (instance_of y ∷ get_or old w []) [] same lt ∙ ap (λ k. instance_of y ∷ get_or old k []) (sym same))
-        (permuted_to (IsPermutation-sym _ _ (IsPermutation-to_front (get_or old v []) (instance_of y)))
-        (ap (λ rows. get_or old v [] ++ map instance_of rows) (sym (e ∙ ap (λ b. cond b (y ∷ []) []) (same_test w v (sym same))))))
+        permuted_from (get_or-set_at old w v (y ∷ get_or old w []) [] same lt ∙ ap (λ k. y ∷ get_or old k []) (sym same))
+        (permuted_to (IsPermutation-sym _ _ (IsPermutation-to_front (get_or old v []) y))
+        (ap (λ rows. get_or old v [] ++ rows) (sym (e ∙ ap (λ b. cond b (y ∷ []) []) (same_test w v (sym same))))))
     go (inr other) =
-        permuted_is (get_or-set_other old w v (instance_of y ∷ get_or old w []) [] other ∙ sym (append-nil (get_or old v []))
-        ∙ ap (λ rows. get_or old v [] ++ map instance_of rows) (sym (e ∙ ap (λ b. cond b (y ∷ []) []) (other_test w v (λ eq. other (sym eq))))))
+        permuted_is (get_or-set_other old w v (y ∷ get_or old w []) [] other ∙ sym (append-nil (get_or old v []))
+        ∙ ap (λ rows. get_or old v [] ++ rows) (sym (e ∙ ap (λ b. cond b (y ∷ []) []) (other_test w v (λ eq. other (sym eq))))))
 
 -- a bead more on some way
-bead_grows : (net : Net) (old new : Draft) (way : Way) (w : ℕ) (x y : TupleView) → w < length old.beads → ((t : ℕ) → made_by t x way ≡ []) → ((v : ℕ) → bound_by net v x way ≡ cond (w == v) (y ∷ []) []) → length old.beads ≡ length net
-    → new.beads ≡ set old.beads w (instance_of y ∷ get_or old.beads w []) → new.made ≡ old.made → DraftFits (length old.made) (length old.beads) new → Grows net (moves_on (way ∷ []) x) old new
+bead_grows : (net : Net) (old new : Draft) (way : Way) (w : ℕ) (x y : Instance) → w < length old.beads → ((t : ℕ) → made_by t x way ≡ []) → ((v : ℕ) → bound_by net v x way ≡ cond (w == v) (y ∷ []) []) → length old.beads ≡ length net
+    → new.beads ≡ set old.beads w (y ∷ get_or old.beads w []) → new.made ≡ old.made → DraftFits (length old.made) (length old.beads) new → Grows net (moves_on (way ∷ []) x) old new
 bead_grows net old new way w x y lt none one many beads made fits = record {
   fits = subst (λ (m : ℕ). DraftFits (length old.made) m new) many fits;
   made = λ t.
@@ -195,28 +193,29 @@ bead_grows net old new way w x y lt none one many beads made fits = record {
       (bound_adds w y old.beads v lt (bound_of net v (moves_on (way ∷ []) x)) (append-nil (bound_by net v x way) ∙ one v));
 }
 
--- a tuple that goes into a state
-pub into_grows : (net : Net) (old new : Draft) (w : ℕ) (x y : TupleView) → w < length old.beads → pass (step_at net w) x ≡ Some y → length old.beads ≡ length net
-    → new.beads ≡ set old.beads w (instance_of y ∷ get_or old.beads w []) → new.made ≡ old.made → DraftFits (length old.made) (length old.beads) new → Grows net (moves_on (Into w ∷ []) x) old new
+-- an instance that goes into a state
+pub into_grows : (net : Net) (old new : Draft) (w : ℕ) (x : Instance) (y : TupleView) → w < length old.beads → pass (step_at net w) x.tuple ≡ Some y → length old.beads ≡ length net
+    → new.beads ≡ set old.beads w (began x.first y ∷ get_or old.beads w []) → new.made ≡ old.made → DraftFits (length old.made) (length old.beads) new → Grows net (moves_on (Into w ∷ []) x) old new
 into_grows net old new w x y lt passes many beads made fits =
-    bead_grows net old new (Into w) w x y lt (λ t. refl) (λ v. ap (λ o. cond (w == v) (option_to_list o) []) passes) many beads made fits
+    bead_grows net old new (Into w) w x (began x.first y) lt (λ t. refl) (λ v. ap (λ o. cond (w == v) (option_to_list (option_map (began x.first) o)) []) passes) many beads made fits
 
 -- and one that goes back
-pub back_grows : (net : Net) (old new : Draft) (w : ℕ) (x : TupleView) → w < length old.beads → length old.beads ≡ length net
-    → new.beads ≡ set old.beads w (instance_of x ∷ get_or old.beads w []) → new.made ≡ old.made → DraftFits (length old.made) (length old.beads) new → Grows net (moves_on (Back w ∷ []) x) old new
+pub back_grows : (net : Net) (old new : Draft) (w : ℕ) (x : Instance) → w < length old.beads → length old.beads ≡ length net
+    → new.beads ≡ set old.beads w (x ∷ get_or old.beads w []) → new.made ≡ old.made → DraftFits (length old.made) (length old.beads) new → Grows net (moves_on (Back w ∷ []) x) old new
 back_grows net old new w x lt many beads made fits = bead_grows net old new (Back w) w x x lt (λ t. refl) (λ v. refl) many beads made fits
 
 -- one that does not pass into a state
-pub into_stays : (net : Net) (old : Draft) (w : ℕ) (x : TupleView) → pass (step_at net w) x ≡ None → DraftFits (length old.made) (length net) old → Grows net (moves_on (Into w ∷ []) x) old old
+pub into_stays : (net : Net) (old : Draft) (w : ℕ) (x : Instance) → pass (step_at net w) x.tuple ≡ None → DraftFits (length old.made) (length net) old → Grows net (moves_on (Into w ∷ []) x) old old
 into_stays net old w x passes fits = record {
   fits = fits;
   made = λ t. adds_none (get_or old.made t []) (get_or old.made t []) refl;
   bound = λ v.
       permuted_is (sym (append-nil (get_or old.beads v []))
-      ∙ ap (λ rows. get_or old.beads v [] ++ map instance_of rows) (sym (append-nil (cond (w == v) (option_to_list (pass (step_at net w) x)) []) ∙ ap (λ o. cond (w == v) (option_to_list o) []) passes ∙ none (w == v))));
+      ∙ ap (λ rows. get_or old.beads v [] ++ rows)
+      (sym (append-nil (cond (w == v) (option_to_list (pass_instance (step_at net w) x)) []) ∙ ap (λ o. cond (w == v) (option_to_list (option_map (began x.first) o)) []) passes ∙ none (w == v))));
 }
   where
-    none : (b : Bool) → cond b (option_to_list {X = TupleView} None) [] ≡ []
+    none : (b : Bool) → cond b (option_to_list {X = Instance} None) [] ≡ []
     none true = refl
     none false = refl
 

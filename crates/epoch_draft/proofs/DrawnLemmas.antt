@@ -15,7 +15,6 @@ use Rattle.semantics.specs.Denotation.{Streams}
 use Rattle.semantics.specs.Programs.{with_stream}
 use Rattle.semantics.specs.Scalars.{Pr}
 use Rattle.scalar_expr.proofs.Bags.{flat_map_permuted, permuted_from, permuted_to}
-use Rattle.automaton.specs.Flow.{entering}
 use Rattle.automaton.specs.Networks.{IsNetwork}
 use Rattle.automaton.specs.States.{Net, before_at, before_by, edges_at, ends_at, entrance_at, state_at, wait_at}
 use Rattle.automaton.specs.Steps.{pass}
@@ -28,7 +27,7 @@ use Rattle.automaton.specs.declared.network.Entrance.TheVariants.{Root, Waiting}
 use Rattle.automaton.specs.declared.network.State.{State}
 use Rattle.epoch_laws.specs.Closing.{IsEpoch, Stores, leaving_state, leaving_by, given_by_ends, given_by_ends_at, stepped_by, stores_after}
 use Rattle.epoch_laws.specs.Epochs.{again, unmatched_after, took}
-use Rattle.epoch_laws.specs.Instances.{instance_of}
+use Rattle.epoch_laws.specs.Instances.{bindings_of, instances_entering}
 use Rattle.epoch_laws.proofs.Bags.{no_length, permuted_is}
 use Rattle.epoch_laws.proofs.Lists.{every}
 use Rattle.epoch_draft.specs.Comes.{gets, with_tuple}
@@ -40,9 +39,10 @@ use Rattle.epoch_draft.specs.Moves.{Move, bound_by, bound_of, made_by, made_of, 
 use Rattle.epoch_draft.specs.declared.draft.Draft.{Draft}
 use Rattle.epoch_draft.specs.declared.draft.Pair.{Pair}
 use Rattle.epoch_draft.proofs.Comes.{tuple_comes}
+use Rattle.epoch_draft.proofs.Concats.{nothing_of}
 use Rattle.epoch_draft.proofs.EdgeLemmas.{before_edge}
 use Rattle.epoch_draft.proofs.GoingLemmas.{state_below}
-use Rattle.epoch_draft.proofs.Moves.{bound_over, is_itself, equal_number, made_over, moves_parts, nothing_of, unbound_over}
+use Rattle.epoch_draft.proofs.Moves.{bound_over, is_itself, equal_number, made_over, moves_parts, unbound_over}
 use Rattle.semantics.proofs.ReportLemmas.{flat_map_same}
 
 -- all moves of the tuples that are met so far
@@ -113,15 +113,15 @@ entry_below net n entrance at = go (state_at net n) refl at
     go (Some state) e at = state_below net n state e
 
 -- what comes to a waiting state
-abbrev pub comes_to : Net → Stores → Streams → ℕ → ℕ → Hop → List TupleView
-comes_to net stores seen n before hop = entering hop (leaving_state net seen stores before) ++ again hop.wait.fold (took hop.wait.choose hop.wait.fold (seen hop.wait.stream) (stores n))
+abbrev pub comes_to : Net → Stores → Streams → ℕ → ℕ → Hop → List Instance
+comes_to net stores seen n before hop = instances_entering hop (leaving_state net seen stores before) ++ again hop.wait.fold (took hop.wait.choose hop.wait.fold (seen hop.wait.stream) (stores n))
 
 bound_seen : (net : Net) → IsNetwork net → (stores : Stores) (seen : Streams) (n before : ℕ) (hop : Hop) → entrance_at net n ≡ Some (Waiting before hop) → IsPermutation (bound_of net n (moves_seen net stores seen)) (comes_to net stores seen n before hop)
 bound_seen net network stores seen n before hop at =
     let found = before_state net network n before (ap (option_and_then before_by) at) in
     permuted_to
     (bound_over net network n (leaving_state net seen stores) before hop at (state_below net before found.0 found.1) (entry_below net n (Waiting before hop) at))
-    (ap (λ (o : Option Entrance). entering hop (leaving_state net seen stores before) ++ again hop.wait.fold (leaving_by o seen (stores n))) at)
+    (ap (λ (o : Option Entrance). instances_entering hop (leaving_state net seen stores before) ++ again hop.wait.fold (leaving_by o seen (stores n))) at)
 
 -- more is met, for one stream
 pub made_grows : (net : Net) (stores : Stores) (seen later : Streams) (moves : List Move) (s : ℕ) (old new : List TupleView) → IsPermutation (moves_seen net stores later) (moves_seen net stores seen ++ moves)
@@ -130,8 +130,8 @@ made_grows net stores seen later moves s old new comes was adds =
     permuted_from adds.is
     (IsPermutation-trans _ _ _
     (IsPermutation-append old (made_of s before) adds.added (made_of s moves) (IsPermutation-trans _ _ _ was (IsPermutation-sym _ _ (made_over net (leaving_state net seen stores) s))) adds.same)
-    (permuted_from (sym (flat_map-append (λ (m : Move). made_by s m.tuple m.way) before moves))
-    (IsPermutation-trans _ _ _ (IsPermutation-sym _ _ (flat_map_permuted (λ (m : Move). made_by s m.tuple m.way) after (before ++ moves) comes)) (made_over net (leaving_state net later stores) s))))
+    (permuted_from (sym (flat_map-append (λ (m : Move). made_by s m.instance m.way) before moves))
+    (IsPermutation-trans _ _ _ (IsPermutation-sym _ _ (flat_map_permuted (λ (m : Move). made_by s m.instance m.way) after (before ++ moves) comes)) (made_over net (leaving_state net later stores) s))))
   where
     before : List Move
     before = moves_seen net stores seen
@@ -141,15 +141,13 @@ made_grows net stores seen later moves s old new comes was adds =
 
 -- and for one waiting state
 pub bound_grows : (net : Net) → IsNetwork net → (stores : Stores) (seen later : Streams) (moves : List Move) (n b : ℕ) (hop : Hop) (at : entrance_at net n ≡ Some (Waiting b hop)) (old new : List Instance) → IsPermutation (moves_seen net stores later) (moves_seen net stores seen ++ moves)
-    → IsPermutation old (map instance_of (comes_to net stores seen n b hop)) → IsPermutation new (old ++ map instance_of (bound_of net n moves)) → IsPermutation new (map instance_of (comes_to net stores later n b hop))
+    → IsPermutation old (comes_to net stores seen n b hop) → IsPermutation new (old ++ bound_of net n moves) → IsPermutation new (comes_to net stores later n b hop)
 bound_grows net network stores seen later moves n b hop at old new comes was grows =
     IsPermutation-trans _ _ _ grows
     (IsPermutation-trans _ _ _
-    (IsPermutation-append_left (map instance_of (bound_of net n moves)) old (map instance_of (bound_of net n before))
-    (IsPermutation-trans _ _ _ was (IsPermutation-map instance_of _ _ (IsPermutation-sym _ _ (bound_seen net network stores seen n b hop at)))))
-    (permuted_from (sym (map-append instance_of (bound_of net n before) (bound_of net n moves)) ∙ ap (map instance_of) (sym (flat_map-append (λ (m : Move). bound_by net n m.tuple m.way) before moves)))
-    (IsPermutation-map instance_of _ _
-    (IsPermutation-trans _ _ _ (IsPermutation-sym _ _ (flat_map_permuted (λ (m : Move). bound_by net n m.tuple m.way) after (before ++ moves) comes)) (bound_seen net network stores later n b hop at)))))
+    (IsPermutation-append_left (bound_of net n moves) old (bound_of net n before) (IsPermutation-trans _ _ _ was (IsPermutation-sym _ _ (bound_seen net network stores seen n b hop at))))
+    (permuted_from (sym (flat_map-append (λ (m : Move). bound_by net n m.instance m.way) before moves))
+    (IsPermutation-trans _ _ _ (IsPermutation-sym _ _ (flat_map_permuted (λ (m : Move). bound_by net n m.instance m.way) after (before ++ moves) comes)) (bound_seen net network stores later n b hop at))))
   where
     before : List Move
     before = moves_seen net stores seen
@@ -161,17 +159,17 @@ bound_grows net network stores seen later moves n b hop at old new comes was gro
 unbound_all : (net : Net) → IsNetwork net → (stores : Stores) (s : ℕ) (n : ℕ) → wait_at net n ≡ None → (rows : List TupleView) → bound_of net n (moves_of_all net stores s rows) ≡ []
 unbound_all net network stores s n none [] = refl
 unbound_all net network stores s n none (r ∷ rows) =
-    flat_map-append (λ (m : Move). bound_by net n m.tuple m.way) (moves_of net stores s r) (moves_of_all net stores s rows)
+    flat_map-append (λ (m : Move). bound_by net n m.instance m.way) (moves_of net stores s r) (moves_of_all net stores s rows)
     ∙ ap (λ xs. xs ++ bound_of net n (moves_of_all net stores s rows)) (unbound_over net network n none (gets net stores s r)) ∙ unbound_all net network stores s n none rows
 
-unbound_stays : (old new : List Instance) (rows : List TupleView) → IsPermutation new (old ++ map instance_of rows) → old ≡ [] → rows ≡ [] → new ≡ []
-unbound_stays old new rows h o r =
-    let e = length_permutation new (old ++ map instance_of rows) h in
-    let z : length (old ++ map instance_of rows) ≡ 0 = ap (λ (xs : List Instance). length (xs ++ map instance_of rows)) o ∙ ap (λ (rs : List TupleView). length (map instance_of rs)) r in
+unbound_stays : (old new more : List Instance) → IsPermutation new (old ++ more) → old ≡ [] → more ≡ [] → new ≡ []
+unbound_stays old new more h o r =
+    let e = length_permutation new (old ++ more) h in
+    let z : length (old ++ more) ≡ 0 = ap (λ (xs : List Instance). length (xs ++ more)) o ∙ ap length r in
     no_length new (omega (arith, e, z))
 
 -- so it stays without beads when more is met
-pub unbound_grows : (net : Net) → IsNetwork net → (stores : Stores) (s : ℕ) (rows : List TupleView) (n : ℕ) (old new : List Instance) → wait_at net n ≡ None → IsPermutation new (old ++ map instance_of (bound_of net n (moves_of_all net stores s rows))) → old ≡ [] → new ≡ []
+pub unbound_grows : (net : Net) → IsNetwork net → (stores : Stores) (s : ℕ) (rows : List TupleView) (n : ℕ) (old new : List Instance) → wait_at net n ≡ None → IsPermutation new (old ++ bound_of net n (moves_of_all net stores s rows)) → old ≡ [] → new ≡ []
 unbound_grows net network stores s rows n old new none h o = unbound_stays old new (bound_of net n (moves_of_all net stores s rows)) h o (unbound_all net network stores s n none rows)
 
 -- a draft that grows by the moves of one more stream has all that comes of that stream too
@@ -218,9 +216,9 @@ published_none net stores s =
     each : (n : ℕ) → given_by_ends_at net no_streams stores s n ≡ []
     each n =
         let ends = filter (λ (e : End). e.out == s) (ends_at net n) in
-        ap (λ (rows : List TupleView). flat_map (λ (e : End). filter_map (pass e.step) rows) ends) (leaves_none net stores n) ∙ nothing_of ends
+        ap (λ (store : List Instance). flat_map (λ (e : End). filter_map (pass e.step) (bindings_of store)) ends) (leaves_none net stores n) ∙ nothing_of ends
 
-again_none : (fold : Option Turn) → again fold [] ≡ []
+again_none : (fold : Option Turn) → again {X = Instance} fold [] ≡ []
 again_none None = refl
 again_none (Some turn) = refl
 
@@ -230,9 +228,8 @@ drawn_starts net stores draft made beads = record {
   made = λ s. permuted_is (made s ∙ sym (published_none net stores s));
   bound = λ n before hop at.
       permuted_is (beads n
-      ∙ ap (map instance_of)
-      (sym (ap (λ (rows : List TupleView). entering hop rows ++ again hop.wait.fold (took hop.wait.choose hop.wait.fold [] (stores n))) (leaves_none net stores before)
-      ∙ ap (again hop.wait.fold) (took_none hop.wait.choose hop.wait.fold (stores n)) ∙ again_none hop.wait.fold)));
+      ∙ sym (ap (λ (store : List Instance). instances_entering hop store ++ again hop.wait.fold (took hop.wait.choose hop.wait.fold [] (stores n))) (leaves_none net stores before)
+      ∙ ap (again hop.wait.fold) (took_none hop.wait.choose hop.wait.fold (stores n)) ∙ again_none hop.wait.fold));
   unbound = λ n none. beads n;
 }
 

@@ -1,4 +1,4 @@
--- Tuples on their ways out of a state.
+-- Instances on their ways out of a state.
 use Rattle.std.proofs.Common.{◌≡◌, ◌∙◌, sym, ap, refl, subst, ℕ, zero, suc, ◌+◌, ◌<◌, IsTrue, length, get_or, take, List, [], ◌∷◌, ◌++◌, map, arith}
 use Rattle.std.specs.Prelude.{Contains, Option, Some, None, is_some}
 use Rattle.std.specs.Option.{option_and_then, option_map}
@@ -6,16 +6,16 @@ use Rattle.std.specs.List.{All}
 use Rattle.std.proofs.lemmas.List.{map-append, take_more}
 use Rattle.std.proofs.lemmas.List.Elements.{All-cons, All-contains_itself, All-head, All-nil, All-tail, All-weaker}
 use Rattle.event_types.specs.Tuple.{TupleView}
+use Rattle.instances.specs.declared.instance.Instance.{Instance}
 use Rattle.automaton.specs.Networks.{IsNetwork}
 use Rattle.automaton.specs.States.{Net, before_at, before_by, edges_at, ends_at, is_used, state_at, step_at, wait_at}
 use Rattle.automaton.specs.declared.network.End.{End}
 use Rattle.automaton.specs.declared.network.State.{State}
 use Rattle.automaton.specs.declared.wait.Wait.{Wait}
 use Rattle.epoch_laws.proofs.Lists.{map_all}
-use Rattle.epoch_pass.specs.Suits.{StepSuits}
 use Rattle.epoch_draft.specs.Drafts.{Grows}
 use Rattle.epoch_draft.specs.Moves.{Into, Out, Way, backs_by, backs_in, moves_on, ways_at}
-use Rattle.epoch_draft.specs.Suits.{LeavingSuits, WaySuits}
+use Rattle.epoch_draft.specs.Suits.{LeavingSuits, StepSuits, WaySuits}
 use Rattle.epoch_draft.specs.declared.draft.Draft.{Draft}
 use Rattle.epoch_draft.proofs.DraftLemmas.{grows_trans}
 use Rattle.epoch_draft.proofs.EdgeLemmas.{edge_before}
@@ -30,11 +30,11 @@ module _ {X : Type 0} (P : X → Type 0) where
   all_right (x ∷ xs) ys all = all_right xs ys (All-tail P x (xs ++ ys) all)
 
 -- ways one behind another
-pub moves_append : (a b : List Way) (x : TupleView) → moves_on (a ++ b) x ≡ moves_on a x ++ moves_on b x
-moves_append a b x = map-append (λ (way : Way). record { tuple = x; way = way }) a b
+pub moves_append : (a b : List Way) (x : Instance) → moves_on (a ++ b) x ≡ moves_on a x ++ moves_on b x
+moves_append a b x = map-append (λ (way : Way). record { instance = x; way = way }) a b
 
 -- one way more of a loop
-pub go_more : {X : Type 0} (f : X → Way) (net : Net) (xs : List X) (i : ℕ) (d : X) (x : TupleView) (old mid new : Draft) → i < length xs → Grows net (moves_on (map f (take i xs)) x) old mid → Grows net (moves_on (f (get_or xs i d) ∷ []) x) mid new
+pub go_more : {X : Type 0} (f : X → Way) (net : Net) (xs : List X) (i : ℕ) (d : X) (x : Instance) (old mid new : Draft) → i < length xs → Grows net (moves_on (map f (take i xs)) x) old mid → Grows net (moves_on (f (get_or xs i d) ∷ []) x) mid new
     → Grows net (moves_on (map f (take (i + 1) xs)) x) old new
 go_more f net xs i d x old mid new lt one two =
     subst (λ ms. Grows net ms old new)
@@ -62,8 +62,8 @@ edges_used net network n = All-weaker (Contains (edges_at net n)) (λ k. IsTrue 
         go None e = absurd (cc)
         go (Some state) e = refl
 
--- a tuple left on all ways
-pub left_all : (net : Net) (n : ℕ) (w : Wait) (x : TupleView) (old one two new : Draft) → wait_at net n ≡ Some w → Grows net (moves_on (map Into (edges_at net n)) x) old one → Grows net (moves_on (map Out (ends_at net n)) x) one two
+-- an instance left on all ways
+pub left_all : (net : Net) (n : ℕ) (w : Wait) (x : Instance) (old one two new : Draft) → wait_at net n ≡ Some w → Grows net (moves_on (map Into (edges_at net n)) x) old one → Grows net (moves_on (map Out (ends_at net n)) x) one two
     → Grows net (moves_on (backs_in n w.fold) x) two new → Grows net (moves_on (ways_at net n) x) old new
 left_all net n w x old one two new at into out back =
     let edges = map Into (edges_at net n) in

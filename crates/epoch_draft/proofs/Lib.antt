@@ -1,4 +1,5 @@
 pub mod Comes
+pub mod Concats
 pub mod DeriveLemmas
 pub mod DraftLemmas
 pub mod DrawnLemmas
@@ -10,8 +11,10 @@ pub mod MarkLemmas
 pub mod MeetLemmas
 pub mod Moves
 pub mod PairLemmas
+pub mod Pairs
 pub mod PurgeLemmas
 pub mod SettleLemmas
 pub mod StateLemmas
 pub mod SuitLemmas
+pub mod TypingLemmas
 pub mod WorkLemmas

@@ -19,20 +19,20 @@ use Rattle.automaton.specs.declared.network.Entrance.TheVariants.{Root, Waiting}
 use Rattle.automaton.specs.declared.network.State.{State}
 use Rattle.automaton.specs.declared.wait.Wait.{Wait}
 use Rattle.epoch_laws.specs.Closing.{Stores}
-use Rattle.epoch_laws.specs.Instances.{instance_of}
+use Rattle.epoch_laws.specs.Instances.{began, begins}
 use Rattle.epoch_laws.proofs.Bags.{flat_map_parts}
 use Rattle.epoch_laws.proofs.Lists.{every, map-flat_map}
-use Rattle.epoch_pass.specs.Pairs.{followed, met}
 use Rattle.epoch_draft.specs.Comes.{gets, gets_by}
 use Rattle.epoch_draft.specs.Drafts.{Adds, DraftFits, Grows}
 use Rattle.epoch_draft.specs.Finding.{FindsWaits, FindsWays, IsDeaf, IsSilent, is_root_on, is_wait_on, waits_on, way_of, ways_on}
 use Rattle.epoch_draft.specs.Meeting.{met_at, met_by, moves_met, moves_of}
 use Rattle.epoch_draft.specs.Moves.{Back, Into, Move, Out, Way, bound_by, bound_of, made_by, made_of, moves_from, moves_on, ways_at}
+use Rattle.epoch_draft.specs.Pairs.{followed, met}
 use Rattle.epoch_draft.specs.declared.draft.Draft.{Draft}
 use Rattle.epoch_draft.specs.declared.finding.Target.{Target}
+use Rattle.epoch_draft.proofs.Concats.{tested_of}
 use Rattle.epoch_draft.proofs.DraftLemmas.{grows_none, grows_same, grows_trans}
 use Rattle.epoch_draft.proofs.GoingLemmas.{all_left, all_right, moves_append}
-use Rattle.epoch_draft.proofs.Moves.{tested_of}
 use Rattle.semantics.proofs.ReportLemmas.{flat_map_same}
 
 -- moves that make nothing
@@ -41,38 +41,38 @@ grows_silent net a b old new none unbound grows = record {
   fits = grows.fits;
   made = λ t.
       subst (λ (rows : List TupleView). Adds rows (get_or old.made t []) (get_or new.made t []))
-      (sym (flat_map-append (λ (m : Move). made_by t m.tuple m.way) a b ∙ ap (λ rows. made_of t a ++ rows) (none t) ∙ append-nil (made_of t a))) (grows.made t);
+      (sym (flat_map-append (λ (m : Move). made_by t m.instance m.way) a b ∙ ap (λ rows. made_of t a ++ rows) (none t) ∙ append-nil (made_of t a))) (grows.made t);
   bound = λ w.
       permuted_to (grows.bound w)
-      (ap (λ rows. get_or old.beads w [] ++ map instance_of rows)
-      (sym (flat_map-append (λ (m : Move). bound_by net w m.tuple m.way) a b ∙ ap (λ rows. bound_of net w a ++ rows) (unbound w) ∙ append-nil (bound_of net w a))));
+      (ap (λ rows. get_or old.beads w [] ++ rows)
+      (sym (flat_map-append (λ (m : Move). bound_by net w m.instance m.way) a b ∙ ap (λ rows. bound_of net w a ++ rows) (unbound w) ∙ append-nil (bound_of net w a))));
 }
 
-nothing_passes : (b : Bool) → cond b (option_to_list {X = TupleView} None) [] ≡ []
+nothing_passes : {X : Type 0} (b : Bool) → cond b (option_to_list {X = X} None) [] ≡ []
 nothing_passes true = refl
 nothing_passes false = refl
 
 -- nothing comes of a tuple on silent ways
-silent_made : (net : Net) (t : ℕ) (r : TupleView) (way : Way) → IsSilent net r way → made_by t r way ≡ []
+silent_made : (net : Net) (t : ℕ) (r : TupleView) (way : Way) → IsSilent net r way → made_by t (begins r) way ≡ []
 silent_made net t r (Into k) silent = refl
 silent_made net t r (Out e) silent = ap (λ o. cond (e.out == t) (option_to_list o) []) silent ∙ nothing_passes (e.out == t)
 silent_made net t r (Back n) silent = absurd silent
 
-silent_bound : (net : Net) (w : ℕ) (r : TupleView) (way : Way) → IsSilent net r way → bound_by net w r way ≡ []
-silent_bound net w r (Into k) silent = ap (λ o. cond (k == w) (option_to_list o) []) silent ∙ nothing_passes (k == w)
+silent_bound : (net : Net) (w : ℕ) (r : TupleView) (way : Way) → IsSilent net r way → bound_by net w (begins r) way ≡ []
+silent_bound net w r (Into k) silent = ap (λ o. cond (k == w) (option_to_list (option_map (began r.at) o)) []) silent ∙ nothing_passes (k == w)
 silent_bound net w r (Out e) silent = refl
 silent_bound net w r (Back n) silent = absurd silent
 
-silent_all : {Z : Type 0} (f : TupleView → Way → List Z) (net : Net) (r : TupleView) → ((way : Way) → IsSilent net r way → f r way ≡ []) → (ways : List Way) → All (IsSilent net r) ways
-    → flat_map (λ (m : Move). f m.tuple m.way) (moves_on ways r) ≡ []
+silent_all : {Z : Type 0} (f : Instance → Way → List Z) (net : Net) (r : TupleView) → ((way : Way) → IsSilent net r way → f (begins r) way ≡ []) → (ways : List Way) → All (IsSilent net r) ways
+    → flat_map (λ (m : Move). f m.instance m.way) (moves_on ways (begins r)) ≡ []
 silent_all f net r one [] all = refl
 silent_all f net r one (way ∷ ways) all =
-    ap (λ rows. rows ++ flat_map (λ (m : Move). f m.tuple m.way) (moves_on ways r)) (one way (All-head (IsSilent net r) way ways all)) ∙ silent_all f net r one ways (All-tail (IsSilent net r) way ways all)
+    ap (λ rows. rows ++ flat_map (λ (m : Move). f m.instance m.way) (moves_on ways (begins r))) (one way (All-head (IsSilent net r) way ways all)) ∙ silent_all f net r one ways (All-tail (IsSilent net r) way ways all)
 
 -- nor of one that is eligible for no binding
 deaf_met : (w : Wait) (r : TupleView) → ((b : TupleView) → is_eligible w.choose b r ≡ false) → (store : List Instance) → met w store r ≡ []
 deaf_met w r deaf [] = refl
-deaf_met w r deaf (i ∷ store) = ap (λ t. cond t (followed w.fold i.tuple r) [] ++ met w store r) (deaf i.tuple) ∙ deaf_met w r deaf store
+deaf_met w r deaf (i ∷ store) = ap (λ t. map (began i.first) (cond t (followed w.fold i.tuple r) []) ++ met w store r) (deaf i.tuple) ∙ deaf_met w r deaf store
 
 deaf_state : (net : Net) (stores : Stores) (r : TupleView) (n : ℕ) → IsDeaf net r n → met_at net stores r n ≡ []
 deaf_state net stores r n deaf = go (wait_at net n) (λ w e. deaf w e)
@@ -87,20 +87,20 @@ deaf_moves net stores r (n ∷ ns) all =
     ap (λ rows. moves_from net n rows ++ moves_met net stores r ns) (deaf_state net stores r n (All-head (IsDeaf net r) n ns all)) ∙ deaf_moves net stores r ns (All-tail (IsDeaf net r) n ns all)
 
 -- a tuple moves on the ways out of its roots, and what it makes of instances moves out of their states
-pub moves_split : (net : Net) (stores : Stores) (s : ℕ) (r : TupleView) → IsPermutation (moves_of net stores s r) (moves_on (ways_on net s) r ++ moves_met net stores r (waits_on net s))
+pub moves_split : (net : Net) (stores : Stores) (s : ℕ) (r : TupleView) → IsPermutation (moves_of net stores s r) (moves_on (ways_on net s) (begins r) ++ moves_met net stores r (waits_on net s))
 moves_split net stores s r =
     permuted_from
     (flat_map_same (λ n. moves_from net n (gets net stores s r n)) (λ n. root n ++ wait n) range (every (λ n. moves_from net n (gets net stores s r n) ≡ root n ++ wait n) each range))
     (permuted_to (flat_map_parts root wait range)
     (ap (λ ms. ms ++ flat_map wait range)
-    (tested_of (is_root_on net s) (λ n. moves_on (ways_at net n) r) range ∙ sym (map-flat_map (λ (way : Way). record { tuple = r; way = way }) (ways_at net) (filter (is_root_on net s) range)))
-    ∙ ap (λ ms. moves_on (ways_on net s) r ++ ms) (tested_of (is_wait_on net s) (λ n. moves_from net n (met_at net stores r n)) range)))
+    (tested_of (is_root_on net s) (λ n. moves_on (ways_at net n) (begins r)) range ∙ sym (map-flat_map (λ (way : Way). record { instance = begins r; way = way }) (ways_at net) (filter (is_root_on net s) range)))
+    ∙ ap (λ ms. moves_on (ways_on net s) (begins r) ++ ms) (tested_of (is_wait_on net s) (λ n. moves_from net n (met_at net stores r n)) range)))
   where
     range : List ℕ
     range = range_with_len 0 (length net)
 
     root : ℕ → List Move
-    root n = cond (is_root_on net s n) (moves_on (ways_at net n) r) []
+    root n = cond (is_root_on net s n) (moves_on (ways_at net n) (begins r)) []
 
     wait : ℕ → List Move
     wait n = cond (is_wait_on net s n) (moves_from net n (met_at net stores r n)) []
@@ -108,36 +108,36 @@ moves_split net stores s r =
     each : (n : ℕ) → moves_from net n (gets net stores s r n) ≡ root n ++ wait n
     each n = go (entrance_at net n)
       where
-        at_root : (b : Bool) → moves_from net n (cond b (r ∷ []) []) ≡ cond b (moves_on (ways_at net n) r) [] ++ []
+        at_root : (b : Bool) → moves_from net n (cond b (begins r ∷ []) []) ≡ cond b (moves_on (ways_at net n) (begins r)) [] ++ []
         at_root true = refl
         at_root false = refl
 
-        at_wait : (rows : List TupleView) (b : Bool) → moves_from net n (cond b rows []) ≡ cond b (moves_from net n rows) []
+        at_wait : (rows : List Instance) (b : Bool) → moves_from net n (cond b rows []) ≡ cond b (moves_from net n rows) []
         at_wait rows true = refl
         at_wait rows false = refl
 
         go : (o : Option Entrance)
             → moves_from net n (gets_by o s r (stores n))
-            ≡ cond (tells s (option_and_then root_by o)) (moves_on (ways_at net n) r) [] ++ cond (tells s (option_map (λ (w : Wait). w.stream) (option_and_then wait_by o))) (moves_from net n (met_by (option_and_then wait_by o) (stores n) r)) []
+            ≡ cond (tells s (option_and_then root_by o)) (moves_on (ways_at net n) (begins r)) [] ++ cond (tells s (option_map (λ (w : Wait). w.stream) (option_and_then wait_by o))) (moves_from net n (met_by (option_and_then wait_by o) (stores n) r)) []
         go None = refl
         go (Some (Root t)) = at_root (t == s)
         go (Some (Waiting before hop)) = at_wait (met hop.wait (stores n) r) (hop.wait.stream == s)
 
 -- what look-ups found is enough
 pub found_grows : (net : Net) (stores : Stores) (s : ℕ) (r : TupleView) (targets : List Target) (states : List ℕ) (old mid new : Draft) → FindsWays net s r targets → FindsWaits net s r states
-    → Grows net (moves_on (flat_map (way_of net) targets) r) old mid → Grows net (moves_met net stores r states) mid new → Grows net (moves_of net stores s r) old new
+    → Grows net (moves_on (flat_map (way_of net) targets) (begins r)) old mid → Grows net (moves_met net stores r states) mid new → Grows net (moves_of net stores s r) old new
 found_grows net stores s r targets states old mid new ways waits one two =
-    grows_same net (moves_on (found ++ ways.others) r ++ moves_met net stores r states) (moves_of net stores s r) old new
+    grows_same net (moves_on (found ++ ways.others) (begins r) ++ moves_met net stores r states) (moves_of net stores s r) old new
     (IsPermutation-trans _ _ _
-    (IsPermutation-append (moves_on (found ++ ways.others) r) (moves_on (ways_on net s) r) (moves_met net stores r states) (moves_met net stores r (waits_on net s))
-    (IsPermutation-map (λ (way : Way). record { tuple = r; way = way }) (found ++ ways.others) (ways_on net s) ways.all)
+    (IsPermutation-append (moves_on (found ++ ways.others) (begins r)) (moves_on (ways_on net s) (begins r)) (moves_met net stores r states) (moves_met net stores r (waits_on net s))
+    (IsPermutation-map (λ (way : Way). record { instance = begins r; way = way }) (found ++ ways.others) (ways_on net s) ways.all)
     (permuted_from
     (sym (flat_map-append (λ n. moves_from net n (met_at net stores r n)) states waits.others ∙ ap (λ ms. moves_met net stores r states ++ ms) (deaf_moves net stores r waits.others waits.deaf) ∙ append-nil (moves_met net stores r states)))
     (flat_map_permuted (λ n. moves_from net n (met_at net stores r n)) (states ++ waits.others) (waits_on net s) waits.all)))
     (IsPermutation-sym _ _ (moves_split net stores s r)))
-    (grows_trans net (moves_on (found ++ ways.others) r) (moves_met net stores r states) old mid new
-    (subst (λ ms. Grows net ms old mid) (sym (moves_append found ways.others r))
-    (grows_silent net (moves_on found r) (moves_on ways.others r) old mid (λ t. silent_all (made_by t) net r (silent_made net t r) ways.others ways.silent) (λ w. silent_all (bound_by net w) net r (silent_bound net w r) ways.others ways.silent) one))
+    (grows_trans net (moves_on (found ++ ways.others) (begins r)) (moves_met net stores r states) old mid new
+    (subst (λ ms. Grows net ms old mid) (sym (moves_append found ways.others (begins r)))
+    (grows_silent net (moves_on found (begins r)) (moves_on ways.others (begins r)) old mid (λ t. silent_all (made_by t) net r (silent_made net t r) ways.others ways.silent) (λ w. silent_all (bound_by net w) net r (silent_bound net w r) ways.others ways.silent) one))
     two)
   where
     found : List Way
@@ -164,7 +164,7 @@ pub follows_all : (net : Net) (all : List Move) (start : Draft) → DraftFits (l
 follows_all net all start fits = record { fits = fits; whole = λ new h. h }
 
 -- one target more of a loop
-pub targets_more : {X : Type 0} (f : X → List Way) (net : Net) (xs : List X) (i : ℕ) (d : X) (r : TupleView) (old mid new : Draft) → i < length xs → Grows net (moves_on (flat_map f (take i xs)) r) old mid → Grows net (moves_on (f (get_or xs i d)) r) mid new
+pub targets_more : {X : Type 0} (f : X → List Way) (net : Net) (xs : List X) (i : ℕ) (d : X) (r : Instance) (old mid new : Draft) → i < length xs → Grows net (moves_on (flat_map f (take i xs)) r) old mid → Grows net (moves_on (f (get_or xs i d)) r) mid new
     → Grows net (moves_on (flat_map f (take (i + 1) xs)) r) old new
 targets_more f net xs i d r old mid new lt one two =
     subst (λ ms. Grows net ms old new)

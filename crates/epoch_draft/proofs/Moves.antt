@@ -1,16 +1,17 @@
--- What the moves of tuples make.
+-- What the moves of instances make.
 use Rattle.std.proofs.Common.{◌≡◌, ◌∙◌, sym, ap, refl, ℕ, zero, suc, ◌+◌, ◌<◌, ◌≤◌, ◌==◌, Bool, true, false, cond, length, List, [], ◌∷◌, ◌++◌, map, arith}
 use Rattle.std.specs.Prelude.{Option, Some, None, option_to_list, count_by}
 use Rattle.std.specs.Option.{option_and_then, option_map, unwrap_or}
-use Rattle.std.specs.List.{filter, filter_map, flat_map, range_with_len, cons_option}
+use Rattle.std.specs.List.{filter, filter_map, flat_map, range_with_len}
 use Rattle.std.specs.List.Sorted.{IsPermutation}
 use Rattle.std.proofs.lemmas.Bool.Decides.{nat_tests}
 use Rattle.std.proofs.lemmas.Grind.{flat_map-append}
 use Rattle.std.proofs.lemmas.List.{append-nil}
+use Rattle.std.proofs.lemmas.List.Folds.{flat_map-map}
 use Rattle.std.proofs.lemmas.List.Sorted.{IsPermutation-trans}
 use Rattle.event_types.specs.Tuple.{TupleView}
+use Rattle.instances.specs.declared.instance.Instance.{Instance}
 use Rattle.scalar_expr.proofs.Bags.{flat_map_permuted, permuted_from, permuted_to}
-use Rattle.automaton.specs.Flow.{entering}
 use Rattle.automaton.specs.Networks.{IsNetwork}
 use Rattle.automaton.specs.States.{Net, before_at, before_by, edges_at, ends_at, entrance_at, step_at, step_by, tells, wait_at, wait_by}
 use Rattle.automaton.specs.Steps.{pass}
@@ -22,10 +23,11 @@ use Rattle.automaton.specs.declared.wait.Turn.{Turn}
 use Rattle.automaton.specs.declared.wait.Wait.{Wait}
 use Rattle.automaton.proofs.CountLemmas.{count-cons}
 use Rattle.epoch_laws.specs.Epochs.{again}
+use Rattle.epoch_laws.specs.Instances.{bindings_of, instances_entering, pass_instance}
 use Rattle.epoch_laws.proofs.Bags.{flat_map_alike, flat_map_parts}
 use Rattle.epoch_laws.proofs.Lists.{every, flat_map-flat_map}
-use Rattle.epoch_pass.proofs.Pairs.{pairs_turned}
 use Rattle.epoch_draft.specs.Moves.{Into, Move, Out, Way, backs_by, backs_in, bound_by, bound_of, made_by, made_of, moves_from, moves_on, moves_over, ways_at}
+use Rattle.epoch_draft.proofs.Concats.{nothing_of, one_test, options_of, pairs_turned, tested_of}
 use Rattle.semantics.proofs.ReportLemmas.{flat_map_same}
 
 -- numbers that test as equal are
@@ -35,38 +37,6 @@ equal_number m n e = grind (arith, nat_tests)
 -- a number tests as equal to itself
 pub is_itself : (n : ℕ) → (n == n) ≡ true
 is_itself n = grind (arith, nat_tests)
-
--- a flat map over mapped items
-pub flat_map-map : {X Y Z : Type 0} (g : Y → List Z) (f : X → Y) (xs : List X) → flat_map g (map f xs) ≡ flat_map (λ x. g (f x)) xs
-flat_map-map g f [] = refl
-flat_map-map g f (x ∷ xs) = ap (λ ys. g (f x) ++ ys) (flat_map-map g f xs)
-
-module _ {X Z : Type 0} where
-  pub nothing_of : (xs : List X) → flat_map {X = X} {A = Z} (λ x. []) xs ≡ []
-  nothing_of [] = refl
-  nothing_of (x ∷ xs) = nothing_of xs
-
-  -- what only the items that pass a test give
-  pub tested_of : (p : X → Bool) (g : X → List Z) (xs : List X) → flat_map (λ x. cond (p x) (g x) []) xs ≡ flat_map g (filter p xs)
-  tested_of p g [] = refl
-  tested_of p g (x ∷ xs) = go (tested_of p g xs) (p x)
-    where
-      go : flat_map (λ x. cond (p x) (g x) []) xs ≡ flat_map g (filter p xs) → (b : Bool) → cond b (g x) [] ++ flat_map (λ x. cond (p x) (g x) []) xs ≡ flat_map g (cond b (x ∷ filter p xs) (filter p xs))
-      go rest true = ap (λ zs. g x ++ zs) rest
-      go rest false = rest
-
-  -- one test for all items
-  pub one_test : (b : Bool) (g : X → List Z) (xs : List X) → flat_map (λ x. cond b (g x) []) xs ≡ cond b (flat_map g xs) []
-  one_test true g xs = refl
-  one_test false g xs = nothing_of xs
-
-  pub options_of : (f : X → Option Z) (xs : List X) → flat_map (λ x. option_to_list (f x)) xs ≡ filter_map f xs
-  options_of f [] = refl
-  options_of f (x ∷ xs) = go (options_of f xs) (f x)
-    where
-      go : flat_map (λ x. option_to_list (f x)) xs ≡ filter_map f xs → (o : Option Z) → option_to_list o ++ flat_map (λ x. option_to_list (f x)) xs ≡ cons_option o (filter_map f xs)
-      go rest None = rest
-      go rest (Some z) = ap (λ zs. z ∷ zs) rest
 
 module _ {Z : Type 0} (p : ℕ → Bool) (k : ℕ) (only : (n : ℕ) → p n ≡ true → n ≡ k) (f : ℕ → List Z) where
   past_none : (a m : ℕ) → k < a → flat_map (λ n. cond (p n) (f n) []) (range_with_len a m) ≡ []
@@ -110,26 +80,26 @@ picked_told : {Z : Type 0} (k : ℕ) (f : ℕ → List Z) (xs : List ℕ) (b : B
 picked_told k f xs true h = picked_once k f xs h
 picked_told k f xs false h = picked_none k f xs h
 
--- what the moves of a tuple on ways give
-on_ways : {Z : Type 0} (f : TupleView → Way → List Z) (ways : List Way) (x : TupleView) → flat_map (λ (m : Move). f m.tuple m.way) (moves_on ways x) ≡ flat_map (f x) ways
-on_ways f ways x = flat_map-map (λ (m : Move). f m.tuple m.way) (λ (way : Way). record { tuple = x; way = way }) ways
+-- what the moves of an instance on ways give
+on_ways : {Z : Type 0} (f : Instance → Way → List Z) (ways : List Way) (x : Instance) → flat_map (λ (m : Move). f m.instance m.way) (moves_on ways x) ≡ flat_map (f x) ways
+on_ways f ways x = flat_map-map (λ (m : Move). f m.instance m.way) (λ (way : Way). record { instance = x; way = way }) ways
 
--- what the moves of all tuples that leave a state give
-from_state : {Z : Type 0} (f : TupleView → Way → List Z) (net : Net) (n : ℕ) (tuples : List TupleView) → flat_map (λ (m : Move). f m.tuple m.way) (moves_from net n tuples) ≡ flat_map (λ x. flat_map (f x) (ways_at net n)) tuples
-from_state f net n tuples =
-    flat_map-flat_map (λ (m : Move). f m.tuple m.way) (moves_on (ways_at net n)) tuples
-    ∙ flat_map_same (λ x. flat_map (λ (m : Move). f m.tuple m.way) (moves_on (ways_at net n) x)) (λ x. flat_map (f x) (ways_at net n)) tuples
-    (every (λ x. flat_map (λ (m : Move). f m.tuple m.way) (moves_on (ways_at net n) x) ≡ flat_map (f x) (ways_at net n)) (on_ways f (ways_at net n)) tuples)
+-- what the moves of all instances that leave a state give
+from_state : {Z : Type 0} (f : Instance → Way → List Z) (net : Net) (n : ℕ) (store : List Instance) → flat_map (λ (m : Move). f m.instance m.way) (moves_from net n store) ≡ flat_map (λ x. flat_map (f x) (ways_at net n)) store
+from_state f net n store =
+    flat_map-flat_map (λ (m : Move). f m.instance m.way) (moves_on (ways_at net n)) store
+    ∙ flat_map_same (λ x. flat_map (λ (m : Move). f m.instance m.way) (moves_on (ways_at net n) x)) (λ x. flat_map (f x) (ways_at net n)) store
+    (every (λ x. flat_map (λ (m : Move). f m.instance m.way) (moves_on (ways_at net n) x) ≡ flat_map (f x) (ways_at net n)) (on_ways f (ways_at net n)) store)
 
-over_states : {Z : Type 0} (f : TupleView → Way → List Z) (net : Net) (flow : ℕ → List TupleView)
-    → flat_map (λ (m : Move). f m.tuple m.way) (moves_over net flow) ≡ flat_map (λ n. flat_map (λ x. flat_map (f x) (ways_at net n)) (flow n)) (range_with_len 0 (length net))
+over_states : {Z : Type 0} (f : Instance → Way → List Z) (net : Net) (flow : ℕ → List Instance)
+    → flat_map (λ (m : Move). f m.instance m.way) (moves_over net flow) ≡ flat_map (λ n. flat_map (λ x. flat_map (f x) (ways_at net n)) (flow n)) (range_with_len 0 (length net))
 over_states f net flow =
-    flat_map-flat_map (λ (m : Move). f m.tuple m.way) (λ n. moves_from net n (flow n)) (range_with_len 0 (length net))
-    ∙ flat_map_same (λ n. flat_map (λ (m : Move). f m.tuple m.way) (moves_from net n (flow n))) (λ n. flat_map (λ x. flat_map (f x) (ways_at net n)) (flow n)) (range_with_len 0 (length net))
-    (every (λ n. flat_map (λ (m : Move). f m.tuple m.way) (moves_from net n (flow n)) ≡ flat_map (λ x. flat_map (f x) (ways_at net n)) (flow n)) (λ n. from_state f net n (flow n)) (range_with_len 0 (length net)))
+    flat_map-flat_map (λ (m : Move). f m.instance m.way) (λ n. moves_from net n (flow n)) (range_with_len 0 (length net))
+    ∙ flat_map_same (λ n. flat_map (λ (m : Move). f m.instance m.way) (moves_from net n (flow n))) (λ n. flat_map (λ x. flat_map (f x) (ways_at net n)) (flow n)) (range_with_len 0 (length net))
+    (every (λ n. flat_map (λ (m : Move). f m.instance m.way) (moves_from net n (flow n)) ≡ flat_map (λ x. flat_map (f x) (ways_at net n)) (flow n)) (λ n. from_state f net n (flow n)) (range_with_len 0 (length net)))
 
 -- for a stream the ways out alone count
-backs_made : (s : ℕ) (x : TupleView) (n : ℕ) (o : Option Wait) → flat_map (made_by s x) (backs_by n o) ≡ []
+backs_made : (s : ℕ) (x : Instance) (n : ℕ) (o : Option Wait) → flat_map (made_by s x) (backs_by n o) ≡ []
 backs_made s x n None = refl
 backs_made s x n (Some w) = go w.fold
   where
@@ -137,7 +107,7 @@ backs_made s x n (Some w) = go w.fold
     go None = refl
     go (Some turn) = refl
 
-made_ways : (net : Net) (s n : ℕ) (x : TupleView) → flat_map (made_by s x) (ways_at net n) ≡ flat_map (λ e. option_to_list (pass e.step x)) (filter (λ e. e.out == s) (ends_at net n))
+made_ways : (net : Net) (s n : ℕ) (x : Instance) → flat_map (made_by s x) (ways_at net n) ≡ flat_map (λ e. option_to_list (pass e.step x.tuple)) (filter (λ e. e.out == s) (ends_at net n))
 made_ways net s n x =
     flat_map-append (made_by s x) (map Into (edges_at net n)) (map Out (ends_at net n) ++ backs_by n (wait_at net n))
     ∙ ap (λ rows. rows ++ flat_map (made_by s x) (map Out (ends_at net n) ++ backs_by n (wait_at net n))) (flat_map-map (made_by s x) Into (edges_at net n) ∙ nothing_of (edges_at net n))
@@ -145,37 +115,41 @@ made_ways net s n x =
     ∙ ap (λ rows. flat_map (made_by s x) (map Out (ends_at net n)) ++ rows) (backs_made s x n (wait_at net n))
     ∙ append-nil (flat_map (made_by s x) (map Out (ends_at net n)))
     ∙ flat_map-map (made_by s x) Out (ends_at net n)
-    ∙ tested_of (λ (e : End). e.out == s) (λ e. option_to_list (pass e.step x)) (ends_at net n)
+    ∙ tested_of (λ (e : End). e.out == s) (λ e. option_to_list (pass e.step x.tuple)) (ends_at net n)
 
-made_state : (net : Net) (s n : ℕ) (tuples : List TupleView)
-    → IsPermutation (flat_map (λ x. flat_map (made_by s x) (ways_at net n)) tuples) (flat_map (λ e. filter_map (pass e.step) tuples) (filter (λ e. e.out == s) (ends_at net n)))
-made_state net s n tuples =
+-- what passes of the bindings of instances, one by one
+passing_of : (f : TupleView → Option TupleView) (store : List Instance) → flat_map (λ (x : Instance). option_to_list (f x.tuple)) store ≡ filter_map f (bindings_of store)
+passing_of f store = sym (flat_map-map (λ (t : TupleView). option_to_list (f t)) (λ (x : Instance). x.tuple) store) ∙ options_of f (bindings_of store)
+
+made_state : (net : Net) (s n : ℕ) (store : List Instance)
+    → IsPermutation (flat_map (λ x. flat_map (made_by s x) (ways_at net n)) store) (flat_map (λ e. filter_map (pass e.step) (bindings_of store)) (filter (λ e. e.out == s) (ends_at net n)))
+made_state net s n store =
     let ends = filter (λ (e : End). e.out == s) (ends_at net n) in
     permuted_from
-    (flat_map_same (λ x. flat_map (made_by s x) (ways_at net n)) (λ x. flat_map (λ (e : End). option_to_list (pass e.step x)) ends) tuples
-    (every (λ x. flat_map (made_by s x) (ways_at net n) ≡ flat_map (λ (e : End). option_to_list (pass e.step x)) ends) (made_ways net s n) tuples))
-    (permuted_to (pairs_turned (λ x (e : End). option_to_list (pass e.step x)) tuples ends)
-    (flat_map_same (λ (e : End). flat_map (λ x. option_to_list (pass e.step x)) tuples) (λ (e : End). filter_map (pass e.step) tuples) ends
-    (every (λ (e : End). flat_map (λ x. option_to_list (pass e.step x)) tuples ≡ filter_map (pass e.step) tuples) (λ e. options_of (pass e.step) tuples) ends)))
+    (flat_map_same (λ x. flat_map (made_by s x) (ways_at net n)) (λ x. flat_map (λ (e : End). option_to_list (pass e.step x.tuple)) ends) store
+    (every (λ x. flat_map (made_by s x) (ways_at net n) ≡ flat_map (λ (e : End). option_to_list (pass e.step x.tuple)) ends) (made_ways net s n) store))
+    (permuted_to (pairs_turned (λ x (e : End). option_to_list (pass e.step x.tuple)) store ends)
+    (flat_map_same (λ (e : End). flat_map (λ x. option_to_list (pass e.step x.tuple)) store) (λ (e : End). filter_map (pass e.step) (bindings_of store)) ends
+    (every (λ (e : End). flat_map (λ x. option_to_list (pass e.step x.tuple)) store ≡ filter_map (pass e.step) (bindings_of store)) (λ e. passing_of (pass e.step) store) ends)))
 
 -- what all moves make for a stream is what its ends give
-pub made_over : (net : Net) (flow : ℕ → List TupleView) (s : ℕ)
-    → IsPermutation (made_of s (moves_over net flow)) (flat_map (λ n. flat_map (λ e. filter_map (pass e.step) (flow n)) (filter (λ e. e.out == s) (ends_at net n))) (range_with_len 0 (length net)))
+pub made_over : (net : Net) (flow : ℕ → List Instance) (s : ℕ)
+    → IsPermutation (made_of s (moves_over net flow)) (flat_map (λ n. flat_map (λ e. filter_map (pass e.step) (bindings_of (flow n))) (filter (λ e. e.out == s) (ends_at net n))) (range_with_len 0 (length net)))
 made_over net flow s =
     permuted_from (over_states (made_by s) net flow)
-    (flat_map_alike (λ n. flat_map (λ x. flat_map (made_by s x) (ways_at net n)) (flow n)) (λ n. flat_map (λ e. filter_map (pass e.step) (flow n)) (filter (λ e. e.out == s) (ends_at net n))) (range_with_len 0 (length net))
-    (every (λ n. IsPermutation (flat_map (λ x. flat_map (made_by s x) (ways_at net n)) (flow n)) (flat_map (λ e. filter_map (pass e.step) (flow n)) (filter (λ e. e.out == s) (ends_at net n))))
+    (flat_map_alike (λ n. flat_map (λ x. flat_map (made_by s x) (ways_at net n)) (flow n)) (λ n. flat_map (λ e. filter_map (pass e.step) (bindings_of (flow n))) (filter (λ e. e.out == s) (ends_at net n))) (range_with_len 0 (length net))
+    (every (λ n. IsPermutation (flat_map (λ x. flat_map (made_by s x) (ways_at net n)) (flow n)) (flat_map (λ e. filter_map (pass e.step) (bindings_of (flow n))) (filter (λ e. e.out == s) (ends_at net n))))
     (λ n. made_state net s n (flow n)) (range_with_len 0 (length net))))
 
 -- what goes back to a state, if it waits so
-abbrev backed : Option Wait → List TupleView → List TupleView
-backed None tuples = []
-backed (Some w) tuples = again w.fold tuples
+abbrev backed : Option Wait → List Instance → List Instance
+backed None store = []
+backed (Some w) store = again w.fold store
 
-abbrev nothing : List TupleView
+abbrev nothing : List Instance
 nothing = []
 
-backs_bound : (net : Net) (w n : ℕ) (x : TupleView) (o : Option Wait) → flat_map (bound_by net w x) (backs_by n o) ≡ cond (n == w) (backed o (x ∷ [])) []
+backs_bound : (net : Net) (w n : ℕ) (x : Instance) (o : Option Wait) → flat_map (bound_by net w x) (backs_by n o) ≡ cond (n == w) (backed o (x ∷ [])) []
 backs_bound net w n x None = none (n == w)
   where
     none : (b : Bool) → nothing ≡ cond b nothing nothing
@@ -191,53 +165,53 @@ backs_bound net w n x (Some wait) = go wait.fold
     go None = none (n == w)
     go (Some turn) = append-nil (cond (n == w) (x ∷ []) [])
 
-backed_all : (o : Option Wait) (tuples : List TupleView) → flat_map (λ x. backed o (x ∷ [])) tuples ≡ backed o tuples
-backed_all None tuples = nothing_of tuples
-backed_all (Some w) tuples = go w.fold
+backed_all : (o : Option Wait) (store : List Instance) → flat_map (λ x. backed o (x ∷ [])) store ≡ backed o store
+backed_all None store = nothing_of store
+backed_all (Some w) store = go w.fold
   where
-    same : (tuples : List TupleView) → flat_map (λ x. x ∷ []) tuples ≡ tuples
+    same : (store : List Instance) → flat_map (λ x. x ∷ []) store ≡ store
     same [] = refl
-    same (x ∷ tuples) = ap (λ xs. x ∷ xs) (same tuples)
+    same (x ∷ store) = ap (λ xs. x ∷ xs) (same store)
 
-    go : (fold : Option Turn) → flat_map (λ x. again fold (x ∷ [])) tuples ≡ again fold tuples
-    go None = nothing_of tuples
-    go (Some turn) = same tuples
+    go : (fold : Option Turn) → flat_map (λ x. again fold (x ∷ [])) store ≡ again fold store
+    go None = nothing_of store
+    go (Some turn) = same store
 
 module _ (net : Net) (network : IsNetwork net) (w : ℕ) where
   -- for a waiting state the edge to it counts, and its own way back
-  bound_ways : (n : ℕ) (x : TupleView)
-      → flat_map (bound_by net w x) (ways_at net n) ≡ cond (tells n (before_at net w)) (option_to_list (pass (step_at net w) x)) [] ++ cond (n == w) (backed (wait_at net n) (x ∷ [])) []
+  bound_ways : (n : ℕ) (x : Instance)
+      → flat_map (bound_by net w x) (ways_at net n) ≡ cond (tells n (before_at net w)) (option_to_list (pass_instance (step_at net w) x)) [] ++ cond (n == w) (backed (wait_at net n) (x ∷ [])) []
   bound_ways n x =
       flat_map-append (bound_by net w x) (map Into (edges_at net n)) (map Out (ends_at net n) ++ backs_by n (wait_at net n))
       ∙ ap (λ rows. rows ++ flat_map (bound_by net w x) (map Out (ends_at net n) ++ backs_by n (wait_at net n)))
-      (flat_map-map (bound_by net w x) Into (edges_at net n) ∙ picked_told w (λ k. option_to_list (pass (step_at net k) x)) (edges_at net n) (tells n (before_at net w)) (network.edges n w))
-      ∙ ap (λ rows. cond (tells n (before_at net w)) (option_to_list (pass (step_at net w) x)) [] ++ rows)
+      (flat_map-map (bound_by net w x) Into (edges_at net n) ∙ picked_told w (λ k. option_to_list (pass_instance (step_at net k) x)) (edges_at net n) (tells n (before_at net w)) (network.edges n w))
+      ∙ ap (λ rows. cond (tells n (before_at net w)) (option_to_list (pass_instance (step_at net w) x)) [] ++ rows)
       (flat_map-append (bound_by net w x) (map Out (ends_at net n)) (backs_by n (wait_at net n))
       ∙ ap (λ rows. rows ++ flat_map (bound_by net w x) (backs_by n (wait_at net n))) (flat_map-map (bound_by net w x) Out (ends_at net n) ∙ nothing_of (ends_at net n))
       ∙ backs_bound net w n x (wait_at net n))
 
-  bound_state : (n : ℕ) (tuples : List TupleView)
-      → IsPermutation (flat_map (λ x. flat_map (bound_by net w x) (ways_at net n)) tuples) (cond (tells n (before_at net w)) (filter_map (pass (step_at net w)) tuples) [] ++ cond (n == w) (backed (wait_at net n) tuples) [])
-  bound_state n tuples =
-      let edge = λ (x : TupleView). cond (tells n (before_at net w)) (option_to_list (pass (step_at net w) x)) [] in
-      let back = λ (x : TupleView). cond (n == w) (backed (wait_at net n) (x ∷ [])) [] in
+  bound_state : (n : ℕ) (store : List Instance)
+      → IsPermutation (flat_map (λ x. flat_map (bound_by net w x) (ways_at net n)) store) (cond (tells n (before_at net w)) (filter_map (pass_instance (step_at net w)) store) [] ++ cond (n == w) (backed (wait_at net n) store) [])
+  bound_state n store =
+      let edge = λ (x : Instance). cond (tells n (before_at net w)) (option_to_list (pass_instance (step_at net w) x)) [] in
+      let back = λ (x : Instance). cond (n == w) (backed (wait_at net n) (x ∷ [])) [] in
       permuted_from
-      (flat_map_same (λ x. flat_map (bound_by net w x) (ways_at net n)) (λ x. edge x ++ back x) tuples (every (λ x. flat_map (bound_by net w x) (ways_at net n) ≡ edge x ++ back x) (bound_ways n) tuples))
-      (permuted_to (flat_map_parts edge back tuples)
-      (ap (λ rows. rows ++ flat_map back tuples)
-      (one_test (tells n (before_at net w)) (λ x. option_to_list (pass (step_at net w) x)) tuples ∙ ap (λ rows. cond (tells n (before_at net w)) rows []) (options_of (pass (step_at net w)) tuples))
-      ∙ ap (λ rows. cond (tells n (before_at net w)) (filter_map (pass (step_at net w)) tuples) [] ++ rows)
-      (one_test (n == w) (λ x. backed (wait_at net n) (x ∷ [])) tuples ∙ ap (λ rows. cond (n == w) rows []) (backed_all (wait_at net n) tuples))))
+      (flat_map_same (λ x. flat_map (bound_by net w x) (ways_at net n)) (λ x. edge x ++ back x) store (every (λ x. flat_map (bound_by net w x) (ways_at net n) ≡ edge x ++ back x) (bound_ways n) store))
+      (permuted_to (flat_map_parts edge back store)
+      (ap (λ rows. rows ++ flat_map back store)
+      (one_test (tells n (before_at net w)) (λ x. option_to_list (pass_instance (step_at net w) x)) store ∙ ap (λ rows. cond (tells n (before_at net w)) rows []) (options_of (pass_instance (step_at net w)) store))
+      ∙ ap (λ rows. cond (tells n (before_at net w)) (filter_map (pass_instance (step_at net w)) store) [] ++ rows)
+      (one_test (n == w) (λ x. backed (wait_at net n) (x ∷ [])) store ∙ ap (λ rows. cond (n == w) rows []) (backed_all (wait_at net n) store))))
 
-  abbrev came : (ℕ → List TupleView) → ℕ → List TupleView
-  came flow n = cond (tells n (before_at net w)) (filter_map (pass (step_at net w)) (flow n)) []
+  abbrev came : (ℕ → List Instance) → ℕ → List Instance
+  came flow n = cond (tells n (before_at net w)) (filter_map (pass_instance (step_at net w)) (flow n)) []
 
-  abbrev went : (ℕ → List TupleView) → ℕ → List TupleView
+  abbrev went : (ℕ → List Instance) → ℕ → List Instance
   went flow n = cond (n == w) (backed (wait_at net n) (flow n)) []
 
   -- what all moves make for a waiting state is what enters it, and what goes back to it
-  pub bound_over : (flow : ℕ → List TupleView) (before : ℕ) (hop : Hop) → entrance_at net w ≡ Some (Waiting before hop) → before < length net → w < length net
-      → IsPermutation (bound_of net w (moves_over net flow)) (entering hop (flow before) ++ again hop.wait.fold (flow w))
+  pub bound_over : (flow : ℕ → List Instance) (before : ℕ) (hop : Hop) → entrance_at net w ≡ Some (Waiting before hop) → before < length net → w < length net
+      → IsPermutation (bound_of net w (moves_over net flow)) (instances_entering hop (flow before) ++ again hop.wait.fold (flow w))
   bound_over flow before hop at lt_b lt_w =
       permuted_from (over_states (bound_by net w) net flow)
       (permuted_to
@@ -256,11 +230,11 @@ module _ (net : Net) (network : IsNetwork net) (w : ℕ) where
       wait_is : wait_at net w ≡ Some hop.wait
       wait_is = ap (option_and_then wait_by) at
 
-      came_is : flat_map (came flow) (range_with_len 0 (length net)) ≡ entering hop (flow before)
+      came_is : flat_map (came flow) (range_with_len 0 (length net)) ≡ instances_entering hop (flow before)
       came_is =
-          picked (λ n. tells n (before_at net w)) before (λ n e. sym (equal_number before n (sym (ap (tells n) told_by) ∙ e))) (λ n. filter_map (pass (step_at net w)) (flow n))
+          picked (λ n. tells n (before_at net w)) before (λ n e. sym (equal_number before n (sym (ap (tells n) told_by) ∙ e))) (λ n. filter_map (pass_instance (step_at net w)) (flow n))
           (ap (tells before) told_by ∙ is_itself before) 0 (length net) (omega arith) (omega arith)
-          ∙ ap (λ step. filter_map (pass step) (flow before)) step_is
+          ∙ ap (λ step. filter_map (pass_instance step) (flow before)) step_is
 
       went_is : flat_map (went flow) (range_with_len 0 (length net)) ≡ again hop.wait.fold (flow w)
       went_is =
@@ -276,21 +250,21 @@ module _ (net : Net) (network : IsNetwork net) (w : ℕ) where
       go (Some (Waiting before hop)) e = absurd (cc)
 
   -- nothing comes to a state where none waits
-  pub unbound_over : wait_at net w ≡ None → (flow : ℕ → List TupleView) → bound_of net w (moves_over net flow) ≡ []
+  pub unbound_over : wait_at net w ≡ None → (flow : ℕ → List Instance) → bound_of net w (moves_over net flow) ≡ []
   unbound_over none flow =
       over_states (bound_by net w) net flow
       ∙ flat_map_same (λ n. flat_map (λ x. flat_map (bound_by net w x) (ways_at net n)) (flow n)) (λ n. []) (range_with_len 0 (length net))
       (every (λ n. flat_map (λ x. flat_map (bound_by net w x) (ways_at net n)) (flow n) ≡ []) at_state (range_with_len 0 (length net)))
       ∙ nothing_of (range_with_len 0 (length net))
     where
-      back : (n : ℕ) (x : TupleView) (b : Bool) → (n == w) ≡ b → cond b (backed (wait_at net n) (x ∷ [])) [] ≡ []
+      back : (n : ℕ) (x : Instance) (b : Bool) → (n == w) ≡ b → cond b (backed (wait_at net n) (x ∷ [])) [] ≡ []
       back n x true e = ap (λ (o : Option Wait). backed o (x ∷ [])) (ap (wait_at net) (equal_number n w e) ∙ none)
       back n x false e = refl
 
-      one : (n : ℕ) (x : TupleView) → flat_map (bound_by net w x) (ways_at net n) ≡ []
+      one : (n : ℕ) (x : Instance) → flat_map (bound_by net w x) (ways_at net n) ≡ []
       one n x =
           bound_ways n x
-          ∙ ap (λ (o : Option ℕ). cond (tells n o) (option_to_list (pass (step_at net w) x)) [] ++ cond (n == w) (backed (wait_at net n) (x ∷ [])) []) (before_none none)
+          ∙ ap (λ (o : Option ℕ). cond (tells n o) (option_to_list (pass_instance (step_at net w) x)) [] ++ cond (n == w) (backed (wait_at net n) (x ∷ [])) []) (before_none none)
           ∙ back n x (n == w) refl
 
       at_state : (n : ℕ) → flat_map (λ x. flat_map (bound_by net w x) (ways_at net n)) (flow n) ≡ []
@@ -298,7 +272,7 @@ module _ (net : Net) (network : IsNetwork net) (w : ℕ) where
           flat_map_same (λ x. flat_map (bound_by net w x) (ways_at net n)) (λ x. []) (flow n) (every (λ x. flat_map (bound_by net w x) (ways_at net n) ≡ []) (one n) (flow n)) ∙ nothing_of (flow n)
 
 -- what leaves the states in two parts moves in two parts
-pub moves_parts : (net : Net) (both one two : ℕ → List TupleView) → ((n : ℕ) → IsPermutation (both n) (one n ++ two n)) → IsPermutation (moves_over net both) (moves_over net one ++ moves_over net two)
+pub moves_parts : (net : Net) (both one two : ℕ → List Instance) → ((n : ℕ) → IsPermutation (both n) (one n ++ two n)) → IsPermutation (moves_over net both) (moves_over net one ++ moves_over net two)
 moves_parts net both one two parts =
     IsPermutation-trans _ _ _
     (flat_map_alike (λ n. moves_from net n (both n)) (λ n. moves_from net n (one n) ++ moves_from net n (two n)) (range_with_len 0 (length net))

@@ -35,15 +35,13 @@ use Rattle.epoch_laws.specs.Epochs.{is_unmet, unmatched_after}
 use Rattle.epoch_laws.proofs.Bags.{permuted_is}
 use Rattle.epoch_laws.proofs.Lists.{every, filter-filter, filter_false}
 use Rattle.std.proofs.lemmas.List.Elements.{filter_agree}
-use Rattle.epoch_pass.proofs.StoreLemmas.{left_none}
-use Rattle.epoch_pass.specs.Suits.{WaitSuits}
 use Rattle.epoch_draft.specs.Deriving.{CanDraw, DrawnUpTo, news_of}
 use Rattle.epoch_draft.specs.Finding.{IsDeaf, is_wait_on, waits_on}
 use Rattle.epoch_draft.specs.Held.{held, instances_in}
 use Rattle.epoch_draft.specs.Meeting.{pair_of}
 use Rattle.epoch_draft.specs.Purging.{ArePurgedIn, IsUnbound, ListsBounded, purged_for}
 use Rattle.epoch_draft.specs.Settling.{AreClosed, AreLinked, AreSettled, AreTaken, IsTakenAt, PairSuits, SameShapes, first_of, listed_rows, row_at, shape_of, tuples_in}
-use Rattle.epoch_draft.specs.Suits.{MeetingSuits, TupleSuits}
+use Rattle.epoch_draft.specs.Suits.{MeetingSuits, TupleSuits, WaitSuits}
 use Rattle.epoch_draft.specs.Typed.{IsTyped}
 use Rattle.epoch_draft.specs.declared.draft.Draft.{Draft}
 use Rattle.epoch_draft.specs.declared.draft.Pair.{Pair}
@@ -71,7 +69,7 @@ shapes_trans old mid new one two = record { as_many = two.as_many ∙ one.as_man
 pub taken_none : (net : Net) (news : Streams) (stores : List (Option Plain)) → AreTaken net news [] stores stores
 taken_none net news stores = record {
   same = shapes_same stores;
-  taken = λ n w at. sym (left_none w.choose (held stores n));
+  taken = λ n w at. sym (filter_all (λ (i : Instance). is_unmet w.choose [] i.tuple) (held stores n) (λ _ _ _. refl));
   none = λ n at. refl;
 }
 

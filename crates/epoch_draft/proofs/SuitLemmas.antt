@@ -27,19 +27,19 @@ use Rattle.automaton.specs.declared.wait.Turn.{Turn}
 use Rattle.automaton.specs.declared.wait.Wait.{Wait}
 use Rattle.epoch_laws.specs.Closing.{leaving_state, leaving_by, given_by_ends, given_by_ends_at}
 use Rattle.epoch_laws.specs.Epochs.{took}
+use Rattle.epoch_laws.specs.Instances.{begins, bindings_of}
 use Rattle.epoch_laws.proofs.Lists.{All-flat_map, every}
-use Rattle.epoch_pass.specs.Pairs.{met}
-use Rattle.epoch_pass.specs.Suits.{StepSuits, WaitSuits}
-use Rattle.epoch_pass.proofs.Pairs.{met_took}
-use Rattle.epoch_pass.proofs.TypingLemmas.{passed_kinds, steps_suit, took_kinds, waits_suit}
 use Rattle.epoch_draft.specs.Finding.{is_root_on, is_wait_on, waits_on}
 use Rattle.epoch_draft.specs.Held.{held, instances_in}
 use Rattle.epoch_draft.specs.Kindings.{EndFits}
 use Rattle.epoch_draft.specs.Moves.{Back, Into, Out, backs_by, backs_in, ways_at}
-use Rattle.epoch_draft.specs.Suits.{LeavingSuits, MeetingSuits, TupleSuits, WaySuits}
+use Rattle.epoch_draft.specs.Pairs.{met}
+use Rattle.epoch_draft.specs.Suits.{LeavingSuits, MeetingSuits, StepSuits, TupleSuits, WaitSuits, WaySuits}
 use Rattle.epoch_draft.specs.Typed.{HaveKinds, IsTyped}
 use Rattle.epoch_draft.proofs.EdgeLemmas.{edge_before}
+use Rattle.epoch_draft.proofs.Pairs.{met_took}
 use Rattle.epoch_draft.proofs.StateLemmas.{at_wait, hop_typed, root_typed, some_is, wait_entry, wait_leaves, wait_typed}
+use Rattle.epoch_draft.proofs.TypingLemmas.{passed_kinds, step_passes, took_kinds, wait_suits}
 
 equal_number : (m n : ℕ) → (m == n) ≡ true → m ≡ n
 equal_number m n e = grind (arith, nat_tests)
@@ -49,7 +49,7 @@ told s None e = absurd (cc)
 told s (Some t) e = ap Some (equal_number t s e)
 
 step_suits : (step : List Stage) (ks out : List Kind) (x : TupleView) → StepGives step ks out → HasKinds ks x → StepSuits step x
-step_suits step ks out x gives h = All-head (StepSuits step) x [] (steps_suit step ks out (x ∷ []) gives (All-cons (HasKinds ks) x [] h (All-nil (HasKinds ks))))
+step_suits step ks out x gives h = (step_passes step ks out x gives h).suits
 
 -- a waiting state by the state before it
 by_before : (net : Net) (k n : ℕ) → before_at net k ≡ Some n → (hop : Hop) × (entrance_at net k ≡ Some (Waiting n hop))
@@ -113,8 +113,8 @@ module _ (net : Net) (network : IsNetwork net) (kinds : List (List Kind)) (store
         let at = told s (root_at net n) e in
         leaving_suits n r (subst (λ (ks : List Kind). HasKinds ks r) (some_is known (typed.kinding.leaving n) (sym is ∙ root_typed kinds net typed.kinding typed.states n s at)) h)
 
-    wait_suits : (n : ℕ) → is_wait_on net s n ≡ true → MeetingSuits net (held stores) r n
-    wait_suits n e w at =
+    meeting_suits : (n : ℕ) → is_wait_on net s n ≡ true → MeetingSuits net (held stores) r n
+    meeting_suits n e w at =
         let one = wait_typed kinds net typed.kinding typed.states n w at in
         let stream : w.stream ≡ s = some_is w.stream s (ap (option_map (λ (w : Wait). w.stream)) (sym at) ∙ told s (option_map (λ (w : Wait). w.stream) (wait_at net n)) e) in
         let event : HasKinds one.event r = subst (λ (ks : List Kind). HasKinds ks r) (some_is known one.event (sym is ∙ ap (slice_get kinds) (sym stream) ∙ one.known)) h in
@@ -122,10 +122,11 @@ module _ (net : Net) (network : IsNetwork net) (kinds : List (List Kind)) (store
         let bs = typed.kinding.waiting n in
         let out = typed.kinding.leaving n in
         let mine = instances_typed n w at in
-        let went : All (HasKinds out) (took w.choose w.fold (r ∷ []) (held stores n)) = took_kinds w bs one.event out (held stores n) (r ∷ []) one.gives rows mine in (
-          All-head (λ (t : TupleView). All (λ (i : Instance). WaitSuits w i.tuple t) (held stores n)) r [] (waits_suit w bs one.event out (held stores n) (r ∷ []) one.gives rows mine),
-          All-weaker (HasKinds out) (LeavingSuits net n) (leaving_suits n) (met w (held stores n) r)
-              (subst (All (HasKinds out)) (append-nil (met w (held stores n) r)) (All-permutation (HasKinds out) (took w.choose w.fold (r ∷ []) (held stores n)) (met w (held stores n) r ++ []) (IsPermutation-sym _ _ (met_took w (held stores n) (r ∷ []))) went)),
+        let good = λ (i : Instance). HasKinds out i.tuple in
+        let went : All good (took w.choose w.fold (r ∷ []) (held stores n)) = took_kinds w bs one.event out (held stores n) (r ∷ []) one.gives rows mine in (
+          All-weaker (λ (i : Instance). HasKinds bs i.tuple) (λ (i : Instance). WaitSuits w i.tuple r) (λ i h. wait_suits w bs one.event out i.tuple r one.gives event h) (held stores n) mine,
+          All-weaker good (λ (i : Instance). LeavingSuits net n i.tuple) (λ i h. leaving_suits n i.tuple h) (met w (held stores n) r)
+              (subst (All good) (append-nil (met w (held stores n) r)) (All-permutation good (took w.choose w.fold (r ∷ []) (held stores n)) (met w (held stores n) r ++ []) (IsPermutation-sym _ _ (met_took w (held stores n) (r ∷ []))) went)),
         )
 
     -- a tuple of the stream's kinds is suited
@@ -134,24 +135,27 @@ module _ (net : Net) (network : IsNetwork net) (kinds : List (List Kind)) (store
       roots =
           All-flat_map (WaySuits net r) (ways_at net) (filter (is_root_on net s) (range_with_len 0 (length net)))
           (All-weaker (λ n. is_root_on net s n ≡ true) (λ n. LeavingSuits net n r) root_suits (filter (is_root_on net s) (range_with_len 0 (length net))) (filter_passes (is_root_on net s) (range_with_len 0 (length net))));
-      waits = All-weaker (λ n. is_wait_on net s n ≡ true) (MeetingSuits net (held stores) r) wait_suits (waits_on net s) (filter_passes (is_wait_on net s) (range_with_len 0 (length net)));
+      waits = All-weaker (λ n. is_wait_on net s n ≡ true) (MeetingSuits net (held stores) r) meeting_suits (waits_on net s) (filter_passes (is_wait_on net s) (range_with_len 0 (length net)));
     }
 
   module _ (seen : Streams) (have : HaveKinds kinds seen) where
     -- what leaves a state has its kinds
-    leaves_kinds : (n : ℕ) → All (HasKinds (typed.kinding.leaving n)) (leaving_state net seen (held stores) n)
+    leaves_kinds : (n : ℕ) → All (λ (i : Instance). HasKinds (typed.kinding.leaving n) i.tuple) (leaving_state net seen (held stores) n)
     leaves_kinds n = go (entrance_at net n) refl
       where
-        go : (o : Option Entrance) → entrance_at net n ≡ o → All (HasKinds (typed.kinding.leaving n)) (leaving_state net seen (held stores) n)
-        go None e = subst (All (HasKinds (typed.kinding.leaving n))) (sym (ap (λ (o : Option Entrance). leaving_by o seen (held stores n)) e)) (All-nil (HasKinds (typed.kinding.leaving n)))
+        good : Instance → Type 0
+        good i = HasKinds (typed.kinding.leaving n) i.tuple
+
+        go : (o : Option Entrance) → entrance_at net n ≡ o → All good (leaving_state net seen (held stores) n)
+        go None e = subst (All good) (sym (ap (λ (o : Option Entrance). leaving_by o seen (held stores n)) e)) (All-nil good)
         go (Some (Root s)) e =
-            subst (All (HasKinds (typed.kinding.leaving n))) (sym (ap (λ (o : Option Entrance). leaving_by o seen (held stores n)) e))
-            (have s (typed.kinding.leaving n) (root_typed kinds net typed.kinding typed.states n s (ap (option_and_then root_by) e)))
+            subst (All good) (sym (ap (λ (o : Option Entrance). leaving_by o seen (held stores n)) e))
+            (All-map good begins (seen s) (have s (typed.kinding.leaving n) (root_typed kinds net typed.kinding typed.states n s (ap (option_and_then root_by) e))))
         go (Some (Waiting before hop)) e =
             let w = hop.wait in
             let at : wait_at net n ≡ Some w = ap (option_and_then wait_by) e in
             let one = wait_typed kinds net typed.kinding typed.states n w at in
-            subst (All (HasKinds (typed.kinding.leaving n))) (sym (wait_leaves net seen (held stores) n w at))
+            subst (All good) (sym (wait_leaves net seen (held stores) n w at))
             (took_kinds w (typed.kinding.waiting n) one.event (typed.kinding.leaving n) (held stores n) (seen w.stream) one.gives (have w.stream one.event one.known) (instances_typed n w at))
 
     -- and what the ends of a stream give has its kinds
@@ -159,12 +163,15 @@ module _ (net : Net) (network : IsNetwork net) (kinds : List (List Kind)) (store
     published_kinds s known is =
         All-flat_map (HasKinds known) (given_by_ends_at net seen (held stores) s) (range_with_len 0 (length net)) (every (λ n. All (HasKinds known) (given_by_ends_at net seen (held stores) s n)) each (range_with_len 0 (length net)))
       where
-        one : (n : ℕ) (e : End) → EndFits kinds (typed.kinding.leaving n) e → (e.out == s) ≡ true → All (HasKinds known) (filter_map (pass e.step) (leaving_state net seen (held stores) n))
+        bindings : ℕ → List TupleView
+        bindings n = bindings_of (leaving_state net seen (held stores) n)
+
+        one : (n : ℕ) (e : End) → EndFits kinds (typed.kinding.leaving n) e → (e.out == s) ≡ true → All (HasKinds known) (filter_map (pass e.step) (bindings n))
         one n e fit out =
-            subst (λ (ks : List Kind). All (HasKinds ks) (filter_map (pass e.step) (leaving_state net seen (held stores) n)))
-            (some_is fit.0 known (sym fit.2 ∙ ap (slice_get kinds) (equal_number e.out s out) ∙ is)) (passed_kinds e.step (typed.kinding.leaving n) fit.0 (leaving_state net seen (held stores) n) fit.1 (leaves_kinds n))
+            subst (λ (ks : List Kind). All (HasKinds ks) (filter_map (pass e.step) (bindings n)))
+            (some_is fit.0 known (sym fit.2 ∙ ap (slice_get kinds) (equal_number e.out s out) ∙ is)) (passed_kinds e.step (typed.kinding.leaving n) fit.0 (bindings n) fit.1 (All-map (HasKinds (typed.kinding.leaving n)) (λ (i : Instance). i.tuple) (leaving_state net seen (held stores) n) (leaves_kinds n)))
 
         each : (n : ℕ) → All (HasKinds known) (given_by_ends_at net seen (held stores) s n)
         each n =
-            All-flat_map (HasKinds known) (λ (e : End). filter_map (pass e.step) (leaving_state net seen (held stores) n)) (filter (λ e. e.out == s) (ends_at net n))
+            All-flat_map (HasKinds known) (λ (e : End). filter_map (pass e.step) (bindings n)) (filter (λ e. e.out == s) (ends_at net n))
             (λ k d lt. one n (get_or (filter (λ (e : End). e.out == s) (ends_at net n)) k d) (All-filter (λ (e : End). e.out == s) (EndFits kinds (typed.kinding.leaving n)) (ends_at net n) (ends_typed n) k d lt) (filter_passes (λ (e : End). e.out == s) (ends_at net n) k d lt))

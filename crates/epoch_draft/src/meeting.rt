@@ -107,11 +107,11 @@ fn meet_instance<L: Ledger>(
 {
     match pair_up(alloc, wait, &instance.tuple, tuple, steps)? {
         Some(made) => {
-            let made = Instance {
+            let left = Instance {
                 tuple: made,
                 first: instance.first,
             };
-            leave(alloc, network, draft, state, wait, made, steps)
+            leave(alloc, network, draft, state, wait, left, steps)
         }
         None => Ok(()),
     }

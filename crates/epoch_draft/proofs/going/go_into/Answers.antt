@@ -3,7 +3,7 @@ use Rattle.std.specs.Prelude.{Some}
 use Rattle.automaton.specs.Steps.{pass}
 use Rattle.automaton.specs.States.{step_at}
 use Rattle.automaton.specs.declared.step.Stage.{Stage}
-use Rattle.epoch_laws.specs.Instances.{instance_of}
+use Rattle.epoch_laws.specs.Instances.{began}
 use Rattle.epoch_draft.specs.Drafts.{DraftFits, Grows}
 use Rattle.epoch_draft.specs.Moves.{Into, moves_on}
 use Rattle.epoch_draft.proofs.DraftLemmas.{into_grows}
@@ -18,9 +18,10 @@ returns-in-Some-clause-grows g c =
     let new = c.add_bead.new.self in
     let w = c.args.state in
     let x = c.args.tuple.now in
+    let first = c.args.first in
     let y = c.in-Some.passed in
     let passes : pass (step_at net w) x ≡ Some y = ap (λ (step : List Stage). pass step x) (sym (c.as_slice.ensures ∙ c.step.ensures)) ∙ sym c.in_ok-passed.ensures.value ∙ c.in-Some.is in
-    on_ok_three c.add_bead.result (new.beads ≡ set old.beads w (instance_of y ∷ get_or old.beads w [])) (new.made ≡ old.made) (DraftFits (length old.made) (length old.beads) new)
-    (Grows net (moves_on (Into w ∷ []) x) old new)
-    (λ beads made fits. into_grows net old new w x y (subst (λ (m : ℕ). w < m) (sym c.requires.fits.beads) (used_below net w c.requires.used)) passes c.requires.fits.beads beads made fits)
+    on_ok_three c.add_bead.result (new.beads ≡ set old.beads w (began first y ∷ get_or old.beads w [])) (new.made ≡ old.made) (DraftFits (length old.made) (length old.beads) new)
+    (Grows net (moves_on (Into w ∷ []) (began first x)) old new)
+    (λ beads made fits. into_grows net old new w (began first x) y (subst (λ (m : ℕ). w < m) (sym c.requires.fits.beads) (used_below net w c.requires.used)) passes c.requires.fits.beads beads made fits)
     c.add_bead.ensures.beads c.add_bead.ensures.made c.add_bead.ensures.fits

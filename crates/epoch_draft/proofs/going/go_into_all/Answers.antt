@@ -15,6 +15,6 @@ loop-state-preserved g c =
     let was = c.loop-state.invariant.ticks in
     let one = c.in_ok-go_into.ensures.ticks in
     record {
-      grows = go_more Into net states i 0 c.args.tuple.now c.args.draft.now c.loop-state.draft c.go_into.new.draft lt c.loop-state.invariant.grows c.in_ok-go_into.ensures.grows;
+      grows = go_more Into net states i 0 c.args.instance.now c.args.draft.now c.loop-state.draft c.go_into.new.draft lt c.loop-state.invariant.grows c.in_ok-go_into.ensures.grows;
       ticks = omega (arith, more, was, one);
     }

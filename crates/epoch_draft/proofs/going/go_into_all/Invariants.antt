@@ -4,9 +4,9 @@ use Rattle.epoch_draft.specs.Moves.{Into, moves_on}
 use Rattle.epoch_draft.specs.Work.{ways_work}
 use Rattle.epoch_draft.proofs.going.go_into_all.Given as goal
 
--- the tuple went into the states so far
+-- the instance went into the states so far
 abbrev pub invariant-loop-state : goal.invariant-loop-state
 invariant-loop-state g l = record {
-  grows : Grows l.network (moves_on (map Into (take l.state-index l.states)) l.tuple) l.initial.draft l.draft;
+  grows : Grows l.network (moves_on (map Into (take l.state-index l.states)) l.instance) l.initial.draft l.draft;
   ticks : l.steps ≤ l.initial.steps + ways_work l.network (map Into (take l.state-index l.states));
 }

@@ -4,9 +4,9 @@ use Rattle.epoch_draft.specs.Moves.{Out, moves_on}
 use Rattle.epoch_draft.specs.Work.{ways_work}
 use Rattle.epoch_draft.proofs.going.go_out_all.Given as goal
 
--- the tuple went out by the ends so far
+-- the instance went out by the ends so far
 abbrev pub invariant-loop-end : goal.invariant-loop-end
 invariant-loop-end g l = record {
-  grows : Grows l.network (moves_on (map Out (take l.end-index l.ends)) l.tuple) l.initial.draft l.draft;
+  grows : Grows l.network (moves_on (map Out (take l.end-index l.ends)) l.instance) l.initial.draft l.draft;
   ticks : l.steps ≤ l.initial.steps + ways_work l.network (map Out (take l.end-index l.ends));
 }

@@ -4,10 +4,9 @@ use Rattle.std.specs.List.{All}
 use Rattle.automaton.specs.declared.network.End.{End}
 use Rattle.automaton.specs.declared.wait.Turn.{Turn}
 use Rattle.automaton.specs.States.{is_used, step_at}
-use Rattle.epoch_laws.specs.Instances.{instance_of}
-use Rattle.epoch_pass.specs.Suits.{StepSuits}
 use Rattle.epoch_draft.specs.Drafts.{DraftFits, Grows}
 use Rattle.epoch_draft.specs.Moves.{Into, Out, backs_in, moves_on, ways_at}
+use Rattle.epoch_draft.specs.Suits.{StepSuits}
 use Rattle.epoch_draft.proofs.DraftLemmas.{back_grows, grows_none}
 use Rattle.epoch_draft.proofs.Lists.{on_ok_three}
 use Rattle.epoch_draft.proofs.GoingLemmas.{edges_used, into_suits, left_all, out_suits, used_below}
@@ -19,17 +18,17 @@ go_into_all-requires-clause-used g c =
 
 pub go_into_all-requires-clause-suits : goal.go_into_all-requires-clause-suits
 go_into_all-requires-clause-suits g c =
-    subst (All (λ k. StepSuits (step_at c.args.network.now k) c.args.tuple)) (sym (c.as_slice.ensures ∙ c.edges.ensures)) (into_suits c.args.network.now c.args.state c.args.tuple c.requires.suits)
+    subst (All (λ k. StepSuits (step_at c.args.network.now k) c.args.instance.tuple)) (sym (c.as_slice.ensures ∙ c.edges.ensures)) (into_suits c.args.network.now c.args.state c.args.instance.tuple c.requires.suits)
 
 pub go_out_all-requires-clause-suits : goal.go_out_all-requires-clause-suits
 go_out_all-requires-clause-suits g c =
-    subst (All (λ (e : End). StepSuits e.step c.args.tuple)) (sym (c.as_slice-2.ensures ∙ c.ends.ensures)) (out_suits c.args.network.now c.args.state c.args.tuple c.requires.suits)
+    subst (All (λ (e : End). StepSuits e.step c.args.instance.tuple)) (sym (c.as_slice-2.ensures ∙ c.ends.ensures)) (out_suits c.args.network.now c.args.state c.args.instance.tuple c.requires.suits)
 
 pub returns-in-Some-clause-grows : goal.returns-in-Some-clause-grows
 returns-in-Some-clause-grows g c =
     let net = c.args.network.now in
     let n = c.args.state in
-    let x = c.args.tuple in
+    let x = c.args.instance in
     let wait = c.args.wait.now in
     let one = c.go_into_all.new.draft in
     let mid = c.go_out_all.new.draft in
@@ -37,7 +36,7 @@ returns-in-Some-clause-grows g c =
     let into = subst (λ (ks : List ℕ). Grows net (moves_on (map Into ks) x) c.args.draft.now one) (c.as_slice.ensures ∙ c.edges.ensures) c.in_ok-go_into_all.ensures.grows in
     let out = subst (λ (es : List End). Grows net (moves_on (map Out es) x) one mid) (c.as_slice-2.ensures ∙ c.ends.ensures) c.in_ok-go_out_all.ensures.grows in
     let many : length mid.beads ≡ length net = out.fits.beads in
-    on_ok_three c.add_bead.result (new.beads ≡ set mid.beads n (instance_of x ∷ get_or mid.beads n [])) (new.made ≡ mid.made) (DraftFits (length mid.made) (length mid.beads) new)
+    on_ok_three c.add_bead.result (new.beads ≡ set mid.beads n (x ∷ get_or mid.beads n [])) (new.made ≡ mid.made) (DraftFits (length mid.made) (length mid.beads) new)
     (Grows net (moves_on (ways_at net n) x) c.args.draft.now new)
     (λ beads made fits.
     left_all net n wait x c.args.draft.now one mid new c.requires.wait into out
@@ -49,7 +48,7 @@ pub returns-in-None-clause-grows : goal.returns-in-None-clause-grows
 returns-in-None-clause-grows g c =
     let net = c.args.network.now in
     let n = c.args.state in
-    let x = c.args.tuple in
+    let x = c.args.instance in
     let wait = c.args.wait.now in
     let one = c.go_into_all.new.draft in
     let mid = c.go_out_all.new.draft in

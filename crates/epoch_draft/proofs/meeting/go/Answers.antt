@@ -1,14 +1,17 @@
-use Rattle.std.proofs.Common.{◌≡◌, ◌∙◌, sym, ap, subst, ◌<◌, [], length}
+use Rattle.std.proofs.Common.{◌≡◌, ◌∙◌, sym, ap, subst, ℕ, ◌<◌, ◌∷◌, [], length, List}
 use Rattle.std.specs.Prelude.{Option, Some, slice_get}
 use Rattle.std.specs.List.{All}
 use Rattle.std.proofs.lemmas.List.Elements.{All-head}
-use Rattle.automaton.specs.States.{ends_at}
+use Rattle.automaton.specs.States.{Net, ends_at}
 use Rattle.automaton.specs.declared.network.End.{End}
+use Rattle.epoch_laws.specs.Instances.{began, begins}
+use Rattle.epoch_draft.specs.Drafts.{Grows}
 use Rattle.epoch_draft.specs.Finding.{out_by, way_of}
-use Rattle.epoch_draft.specs.Moves.{Into, Out}
+use Rattle.epoch_draft.specs.Moves.{Into, Out, Way, moves_on}
 use Rattle.epoch_draft.specs.Suits.{WaySuits}
 use Rattle.epoch_draft.specs.declared.finding.Target.{Target}
 use Rattle.epoch_draft.proofs.FindLemmas.{all_at}
+use Rattle.epoch_draft.proofs.Lists.{on_ok}
 use Rattle.epoch_draft.proofs.meeting.go.Goals as goal
 
 pub go_into-requires-clause-suits : goal.go_into-requires-clause-suits
@@ -34,3 +37,17 @@ go_out-requires-clause-suits g c =
     let got : slice_get (ends_at net place.state) place.place ≡ Some end = ap (λ es. slice_get es place.place) (sym c.ends.ensures) ∙ c.get-end.ensures in
     All-head (WaySuits net x) (Out end) []
     (subst (λ (o : Option End). All (WaySuits net x) (out_by o)) got (subst (λ (t : Target). All (WaySuits net x) (way_of net t)) c.in-Exit.is c.requires.suits))
+
+-- the tuple begins at its detection
+pub returns-in-Exit-clause-grows : goal.returns-in-Exit-clause-grows
+returns-in-Exit-clause-grows g c =
+    let net = c.args.network.now in
+    let x = c.args.tuple.now in
+    let old = c.args.draft.now in
+    let new = c.go_out.new.draft in
+    let place = c.in-Exit.place in
+    let end = c.get-end.result.now in
+    let got : slice_get (ends_at net place.state) place.place ≡ Some end = ap (λ es. slice_get es place.place) (sym c.ends.ensures) ∙ c.get-end.ensures in
+    let ways : way_of net c.args.target ≡ Out end ∷ [] = ap (way_of net) c.in-Exit.is ∙ ap out_by got in
+    on_ok c.go_out.result ((any : Net) (first : ℕ) → length old.beads ≡ length any → Grows any (moves_on (Out end ∷ []) (began first x)) old new) (Grows net (moves_on (way_of net c.args.target) (begins x)) old new)
+    (λ grows. subst (λ (ws : List Way). Grows net (moves_on ws (begins x)) old new) (sym ways) (grows net x.at c.requires.fits.beads)) c.go_out.ensures.grows

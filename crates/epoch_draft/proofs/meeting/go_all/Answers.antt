@@ -1,4 +1,5 @@
 use Rattle.std.proofs.Common.{arith}
+use Rattle.epoch_laws.specs.Instances.{begins}
 use Rattle.epoch_draft.specs.Finding.{way_of}
 use Rattle.epoch_draft.specs.declared.finding.Target.TheVariants.{Edge}
 use Rattle.epoch_draft.proofs.MeetLemmas.{targets_more}
@@ -16,6 +17,6 @@ loop-target-preserved g c =
     let was = c.loop-target.invariant.ticks in
     let one = c.in_ok-go.ensures.ticks in
     record {
-      grows = targets_more (way_of net) net targets i (Edge 0) c.args.tuple.now c.args.draft.now c.loop-target.draft c.go.new.draft lt c.loop-target.invariant.grows c.in_ok-go.ensures.grows;
+      grows = targets_more (way_of net) net targets i (Edge 0) (begins c.args.tuple.now) c.args.draft.now c.loop-target.draft c.go.new.draft lt c.loop-target.invariant.grows c.in_ok-go.ensures.grows;
       ticks = omega (arith, more, was, one);
     }

@@ -1,5 +1,6 @@
 use Rattle.std.proofs.Common.{◌+◌, ◌≤◌, take}
 use Rattle.std.specs.List.{flat_map}
+use Rattle.epoch_laws.specs.Instances.{begins}
 use Rattle.epoch_draft.specs.Drafts.{Grows}
 use Rattle.epoch_draft.specs.Finding.{way_of}
 use Rattle.epoch_draft.specs.Moves.{moves_on}
@@ -9,6 +10,6 @@ use Rattle.epoch_draft.proofs.meeting.go_all.Given as goal
 -- the tuple went to the targets so far
 abbrev pub invariant-loop-target : goal.invariant-loop-target
 invariant-loop-target g l = record {
-  grows : Grows l.network (moves_on (flat_map (way_of l.network) (take l.target-index l.targets)) l.tuple) l.initial.draft l.draft;
+  grows : Grows l.network (moves_on (flat_map (way_of l.network) (take l.target-index l.targets)) (begins l.tuple)) l.initial.draft l.draft;
   ticks : l.steps ≤ l.initial.steps + ways_work l.network (flat_map (way_of l.network) (take l.target-index l.targets));
 }

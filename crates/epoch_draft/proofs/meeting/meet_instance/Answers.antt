@@ -1,9 +1,11 @@
-use Rattle.std.proofs.Common.{◌≡◌, ◌∙◌, sym, ap, subst, ◌∷◌, []}
+use Rattle.std.proofs.Common.{◌≡◌, ◌∙◌, sym, ap, subst, ◌∷◌, [], map}
 use Rattle.std.specs.Prelude.{Option, option_to_list}
 use Rattle.std.specs.List.{All}
 use Rattle.std.proofs.lemmas.List.Elements.{All-head}
 use Rattle.event_types.specs.Tuple.{TupleView}
-use Rattle.epoch_pass.specs.Pairs.{paired}
+use Rattle.instances.specs.declared.instance.Instance.{Instance}
+use Rattle.epoch_laws.specs.Instances.{began}
+use Rattle.epoch_draft.specs.Pairs.{paired, paired_with}
 use Rattle.epoch_draft.specs.Suits.{LeavingSuits}
 use Rattle.epoch_draft.proofs.meeting.meet_instance.Goals as goal
 
@@ -11,5 +13,9 @@ pub leave-requires-clause-suits : goal.leave-requires-clause-suits
 leave-requires-clause-suits g c =
     let net = c.args.network.now in
     let n = c.args.state in
-    let is : paired c.args.wait.now c.args.binding.now c.args.tuple.now ≡ c.in-Some.made ∷ [] = sym c.in_ok-made.ensures.value ∙ ap (λ (o : Option TupleView). option_to_list o) c.in-Some.is in
-    All-head (LeavingSuits net n) c.in-Some.made [] (subst (All (LeavingSuits net n)) is c.requires.leaving)
+    let w = c.args.wait.now in
+    let i = c.args.instance.now in
+    let t = c.args.tuple.now in
+    let leaving = λ (made : Instance). LeavingSuits net n made.tuple in
+    let is : paired w i.tuple t ≡ c.in-Some.made ∷ [] = sym c.in_ok-made.ensures.value ∙ ap (λ (o : Option TupleView). option_to_list o) c.in-Some.is in
+    All-head leaving (began i.first c.in-Some.made) [] (subst (All leaving) (ap (map (began i.first)) is) c.requires.leaving)

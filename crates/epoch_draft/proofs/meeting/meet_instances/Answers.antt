@@ -6,10 +6,9 @@ use Rattle.std.specs.List.{All}
 use Rattle.std.proofs.lemmas.Grind.{flat_map-append}
 use Rattle.std.proofs.lemmas.List.Elements.{All-head, All-tail}
 use Rattle.instances.specs.declared.instance.Instance.{Instance}
-use Rattle.epoch_pass.specs.Pairs.{met, paired}
-use Rattle.epoch_pass.specs.Suits.{WaitSuits}
 use Rattle.epoch_draft.specs.Moves.{Move, moves_from, moves_on, ways_at}
-use Rattle.epoch_draft.specs.Suits.{LeavingSuits}
+use Rattle.epoch_draft.specs.Pairs.{met, paired_with}
+use Rattle.epoch_draft.specs.Suits.{LeavingSuits, WaitSuits}
 use Rattle.epoch_draft.proofs.GoingLemmas.{all_left, all_right}
 use Rattle.epoch_draft.proofs.MeetLemmas.{Follows, follows_more, follows_none, head_none}
 use Rattle.epoch_draft.proofs.meeting.meet_instances.Goals as goal
@@ -23,8 +22,8 @@ pub meet_instance-requires-clause-leaving : goal.meet_instance-requires-clause-l
 meet_instance-requires-clause-leaving g c =
     let w = c.args.wait.now in
     let t = c.args.tuple.now in
-    let leaving = LeavingSuits c.args.network.now c.args.state in
-    all_left leaving (paired w c.in-Some.instance.now.tuple t) (met w c.next.new.self t) (subst (λ (is : List Instance). All leaving (met w is t)) c.in-Some.ensures.rest c.loop-instance.invariant.leaving)
+    let leaving = λ (made : Instance). LeavingSuits c.args.network.now c.args.state made.tuple in
+    all_left leaving (paired_with w t c.in-Some.instance.now) (met w c.next.new.self t) (subst (λ (is : List Instance). All leaving (met w is t)) c.in-Some.ensures.rest c.loop-instance.invariant.leaving)
 
 pub loop-instance-preserved : goal.loop-instance-preserved
 loop-instance-preserved g c =
@@ -35,17 +34,17 @@ loop-instance-preserved g c =
     let i = c.in-Some.instance.now in
     let rest = c.next.new.self in
     let suits = λ (i : Instance). WaitSuits w i.tuple t in
-    let leaving = LeavingSuits net n in
+    let leaving = λ (made : Instance). LeavingSuits net n made.tuple in
     let all : List Move = moves_from net n (met w c.args.instances t) in
-    let a = moves_from net n (paired w i.tuple t) in
+    let a = moves_from net n (paired_with w t i) in
     let b = moves_from net n (met w rest t) in
     record {
       suits = All-tail suits i rest (subst (All suits) c.in-Some.ensures.rest c.loop-instance.invariant.suits);
-      leaving = all_right leaving (paired w i.tuple t) (met w rest t) (subst (λ (is : List Instance). All leaving (met w is t)) c.in-Some.ensures.rest c.loop-instance.invariant.leaving);
+      leaving = all_right leaving (paired_with w t i) (met w rest t) (subst (λ (is : List Instance). All leaving (met w is t)) c.in-Some.ensures.rest c.loop-instance.invariant.leaving);
       follows =
           follows_more net a b all c.args.draft.now c.loop-instance.draft c.meet_instance.new.draft
           (subst (λ (ms : List Move). Follows net ms all c.args.draft.now c.loop-instance.draft)
-          (ap (λ (is : List Instance). moves_from net n (met w is t)) c.in-Some.ensures.rest ∙ flat_map-append (moves_on (ways_at net n)) (paired w i.tuple t) (met w rest t)) c.loop-instance.invariant.follows)
+          (ap (λ (is : List Instance). moves_from net n (met w is t)) c.in-Some.ensures.rest ∙ flat_map-append (moves_on (ways_at net n)) (paired_with w t i) (met w rest t)) c.loop-instance.invariant.follows)
           c.in_ok-meet_instance.ensures.grows;
       ticks = let was = c.loop-instance.invariant.ticks in let one = c.in_ok-meet_instance.ensures.ticks in let work = binding_work net n w t in let all = ap (sum_by work) c.in-Some.ensures.rest ∙ sum_by-cons work i rest in omega (arith, was, one, all);
     }

@@ -3,10 +3,9 @@ use Rattle.std.specs.Prelude.{sum_by}
 use Rattle.epoch_draft.specs.Work.{binding_work}
 use Rattle.std.specs.List.{All}
 use Rattle.instances.specs.declared.instance.Instance.{Instance}
-use Rattle.epoch_pass.specs.Pairs.{met}
-use Rattle.epoch_pass.specs.Suits.{WaitSuits}
 use Rattle.epoch_draft.specs.Moves.{moves_from}
-use Rattle.epoch_draft.specs.Suits.{LeavingSuits}
+use Rattle.epoch_draft.specs.Pairs.{met}
+use Rattle.epoch_draft.specs.Suits.{LeavingSuits, WaitSuits}
 use Rattle.epoch_draft.proofs.MeetLemmas.{Follows}
 use Rattle.epoch_draft.proofs.meeting.meet_instances.Given as goal
 
@@ -14,7 +13,7 @@ use Rattle.epoch_draft.proofs.meeting.meet_instances.Given as goal
 abbrev pub invariant-loop-instance : goal.invariant-loop-instance
 invariant-loop-instance g l = record {
   suits : All (λ (i : Instance). WaitSuits l.wait i.tuple l.tuple) l.instances;
-  leaving : All (LeavingSuits l.network l.state) (met l.wait l.instances l.tuple);
+  leaving : All (λ (made : Instance). LeavingSuits l.network l.state made.tuple) (met l.wait l.instances l.tuple);
   follows : Follows l.network (moves_from l.network l.state (met l.wait l.instances l.tuple)) (moves_from l.network l.state (met l.wait l.initial.instances l.tuple)) l.initial.draft l.draft;
   ticks : l.steps + sum_by (binding_work l.network l.state l.wait l.tuple) l.instances ≤ l.initial.steps + sum_by (binding_work l.network l.state l.wait l.tuple) l.initial.instances;
 }

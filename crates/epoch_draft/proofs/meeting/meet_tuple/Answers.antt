@@ -2,6 +2,7 @@ use Rattle.std.proofs.Common.{sym, subst, ℕ, ◌+◌, ◌≤◌, IsTrue, List}
 use Rattle.std.specs.Prelude.{sum_by}
 use Rattle.std.specs.List.{All, filter, flat_map}
 use Rattle.automaton.specs.States.{is_used}
+use Rattle.epoch_laws.specs.Instances.{begins}
 use Rattle.epoch_draft.specs.Drafts.{Grows}
 use Rattle.epoch_draft.specs.Finding.{way_of, waits_on, ways_on}
 use Rattle.epoch_draft.specs.Held.{held}
@@ -48,7 +49,7 @@ returns-clause-grows g c =
     on_ok c.meet_waits.result (Grows net (moves_met net stores t c.as_slice-2.result.now) mid new) (Grows net (moves_of net stores s t) old new)
     (λ two.
     found_grows net stores s t targets states old mid new c.in_ok-targets.ensures.finds c.in_ok-states.ensures
-    (subst (λ (ts : List Target). Grows net (moves_on (flat_map (way_of net) ts) t) old mid) c.as_slice.ensures c.in_ok-go_all.ensures.grows)
+    (subst (λ (ts : List Target). Grows net (moves_on (flat_map (way_of net) ts) (begins t)) old mid) c.as_slice.ensures c.in_ok-go_all.ensures.grows)
     (subst (λ (ns : List ℕ). Grows net (moves_met net stores t ns) mid new) c.as_slice-2.ensures two)) c.meet_waits.ensures.grows
 
 -- no more is tested than what is looked up
