@@ -5,7 +5,7 @@ use Rattle.std.proofs.lemmas.List.Elements.{All-head}
 use Rattle.event_types.specs.Tuple.{TupleView}
 use Rattle.instances.specs.declared.instance.Instance.{Instance}
 use Rattle.epoch_laws.specs.Instances.{began}
-use Rattle.epoch_draft.specs.Pairs.{paired, paired_with}
+use Rattle.epoch_draft.specs.Pairs.{paired}
 use Rattle.epoch_draft.specs.Suits.{LeavingSuits}
 use Rattle.epoch_draft.proofs.meeting.meet_instance.Goals as goal
 
