@@ -23,6 +23,7 @@ pass_next test [] (suc i) v at = cc
 pass_next test (b ∷ bs) zero v at = let one : b.1 ≡ v = cc in ap (λ w. (b.0, filter test w) ∷ bs) (sym one)
 pass_next test (b ∷ bs) (suc i) v at = ap (λ cs. passing test b ∷ cs) (pass_next test bs i v at)
 
+-- where the buckets before a place have what passes a test, and the one there is given what passes of its own, those up to it have
 pub pass_more : (test : Instance → Bool) (bs cs : List Bucket) (i : ℕ) (v w : List Instance) → cs ≡ map (passing test) (take i bs) ++ drop i bs → slice_get (values_of cs) i ≡ Some v → w ≡ filter test v
     → set_value_at cs i w ≡ map (passing test) (take (i + 1) bs) ++ drop (i + 1) bs
 pass_more test bs cs i v w e at is =
@@ -32,7 +33,7 @@ pass_more test bs cs i v w e at is =
 least_le : (least oldest first from : ℕ) → least ≡ min oldest first → first ≤ from → least ≤ from
 least_le least oldest first from e le = omega arith
 
--- and none of it starts before the lesser of two times
+-- where one more bucket is written, none up to it starts before the lesser of two times
 start_next : (least oldest first : ℕ) (bs : List Bucket) (i : ℕ) (w : List Instance) → least ≡ min oldest first → All (λ (instance : Instance). first ≤ instance.tuple.from) w → StartFrom oldest (take i bs) → StartFrom least (take (suc i) (set_value_at bs i w))
 start_next least oldest first [] i w e here all = All-nil (StartsFrom least)
 start_next least oldest first (b ∷ bs) zero w e here all =
@@ -42,6 +43,7 @@ start_next least oldest first (b ∷ bs) (suc i) w e here all =
     (All-weaker (λ (n : Instance). oldest ≤ n.tuple.from) (λ (n : Instance). least ≤ n.tuple.from) (λ n le. least_of_left least oldest first n.tuple.from e le) b.1 (All-head (StartsFrom oldest) b (take i bs) all))
     (start_next least oldest first bs i w e here (All-tail (StartsFrom oldest) b (take i bs) all))
 
+-- where no instance before a place starts before a time, and none that is written there before another, none up to it starts before the lesser of both
 pub start_more : (least oldest first : ℕ) (bs : List Bucket) (i : ℕ) (w : List Instance) → least ≡ min oldest first → All (λ (instance : Instance). first ≤ instance.tuple.from) w → StartFrom oldest (take i bs) → StartFrom least (take (i + 1) (set_value_at bs i w))
 start_more least oldest first bs i w e here all = subst (λ n. StartFrom least (take n (set_value_at bs i w))) (next i) (start_next least oldest first bs i w e here all)
 

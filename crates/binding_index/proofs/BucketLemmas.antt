@@ -27,10 +27,11 @@ empty [] e = refl
 empty (x ∷ xs) e = cc
 
 module _ {Y : Type 0} where
-  -- a look-up past an entry, and at one
+  -- a key that the first entry has not is looked up behind it
   pub past : (b : Value × List Y) (bs : List (Value × List Y)) (key : Value) → is_key key b.0 ≡ false → items_at (b ∷ bs) key ≡ items_at bs key
   past b bs key e = ap (λ t. unwrap_or (cond t (Some b.1) (lookup (is_key key) bs)) []) e
 
+  -- a key that the first entry has is given its items
   pub here : (b : Value × List Y) (bs : List (Value × List Y)) (key : Value) → is_key key b.0 ≡ true → items_at (b ∷ bs) key ≡ b.1
   here b bs key e = ap (λ t. unwrap_or (cond t (Some b.1) (lookup (is_key key) bs)) []) e
 
@@ -84,13 +85,15 @@ in_order_permuted bs d =
 pub distinct_in_order : (bs : List Bucket) → IsDistinct is_key (keys_of bs) → IsDistinct is_key (keys_in_order bs)
 distinct_in_order bs d = IsDistinct-IsPermutation is_key key_flips (keys_of bs) (keys_in_order bs) (IsPermutation-sym _ _ (sort_permutes value_cmp value_total (keys_of bs))) d
 
--- the same buckets in another order
+-- the same buckets in another order have the same keys in their order
 pub same_keys : (old new : List Bucket) → AreSame old new → keys_in_order new ≡ keys_in_order old
 same_keys old new h = sym (sort_permuted value_cmp value_total value_exact (keys_of old) (keys_of new) (IsPermutation-map (λ b. b.0) old new h.permuted))
 
+-- the same buckets in another order have the same instances key by key
 pub same_in_order : (old new : List Bucket) → AreSame old new → in_order new ≡ in_order old
 same_in_order old new h = flat_map_each (instances_at new) (instances_at old) h.same (keys_in_order new) ∙ ap (flat_map (instances_at old)) (same_keys old new h)
 
+-- where no key comes twice, none does in another order of the same buckets
 pub same_distinct : (old new : List Bucket) → AreSame old new → IsDistinct is_key (keys_of old) → IsDistinct is_key (keys_of new)
 same_distinct old new h d = IsDistinct-IsPermutation is_key key_flips (keys_of old) (keys_of new) (IsPermutation-map (λ b. b.0) old new h.permuted) d
 

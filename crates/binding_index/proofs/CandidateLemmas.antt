@@ -153,5 +153,6 @@ module _ (key : Key) (event : TupleView) (bs : List Bucket) (keyed : AreKeyed ke
         same k true e = ap (filter unmet) none ∙ sym (ap (instances_at bs) (sym ((key_decides here k).0 e)) ∙ none)
         same k false e = refl
 
+    -- where the event's key is OVER, all stay
     pub over_stays : is_over here ≡ true → in_order bs ≡ unmatched (Some key) choose event (in_order bs)
     over_stays over = sym (stay_all (in_order bs) (λ j d lt. met_over here (value_at (get_or (in_order bs) j d).tuple key.binding) over))

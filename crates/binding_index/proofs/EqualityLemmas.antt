@@ -28,9 +28,10 @@ key_decides key value = ties_decide value_cmp value_total value_exact key value
 pub distinct_keys : (keys : List Value) → IsDistinct (derived.eq-value).it keys → IsDistinct is_key keys
 distinct_keys keys h = subst (λ (e : Value → Value → Bool). IsDistinct e keys) eq_same h
 
--- a key is itself, and a test of two values goes either way
+-- a key is itself
 pub key_itself : (key : Value) → is_key key key ≡ true
 key_itself key = (key_decides key key).1 refl
 
+-- whether two values are one is the same either way round
 pub key_flips : (x y : Value) → is_key x y ≡ is_key y x
 key_flips x y = agreed _ _ (key_decides x y) (λ e. sym ((key_decides y x).0 e), λ e. (key_decides y x).1 (sym e))

@@ -14,11 +14,12 @@ first_at [] place c is = cc
 first_at (p ∷ ps) zero c is = let same : class_of p ≡ c = cc in ap (λ d. option_or (key_in d) (first_key ps)) same
 first_at (p ∷ ps) (suc place) c is = first_at ps place c is
 
--- a key that was found there is the first, and else it is looked for behind
+-- a key that was found at a place is the first from there on
 pub is_first : (r : Option KeyPart) (k rest : Option Key) → is_some r ≡ true → option_map key_of_part r ≡ k → option_map key_of_part r ≡ option_or k rest
 is_first None k rest some e = cc
 is_first (Some part) k rest some e = ap (λ o. option_or o rest) e
 
+-- where the part there has no key, the first key is that of the parts behind it
 pub is_behind : (r : Option KeyPart) (k rest : Option Key) → is_some r ≡ false → option_map key_of_part r ≡ k → option_or k rest ≡ rest
 is_behind None k rest none e = sym (ap (λ o. option_or o rest) e)
 is_behind (Some part) k rest none e = cc

@@ -121,6 +121,7 @@ module _ (test : Value → ℕ → Bool) where
   keep_next (b ∷ bs) zero key v at = let one : b ≡ (key, v) = cc in ap (λ (c : Value × List ℕ). (b.0, filter (test c.0) c.1) ∷ bs) (sym one)
   keep_next (b ∷ bs) (suc i) key v at = ap (λ cs. keeping test b ∷ cs) (keep_next bs i key v at)
 
+  -- where the keys before a place keep the states that pass, and the one there is given those of its own that pass, the keys up to it keep them
   pub keep_more : (bs cs : Entries) (i : ℕ) (key : Value) (v w : List ℕ) → cs ≡ map (keeping test) (take i bs) ++ drop i bs → slice_get cs i ≡ Some (key, v) → w ≡ filter (test key) v
       → set_value_at cs i w ≡ map (keeping test) (take (i + 1) bs) ++ drop (i + 1) bs
   keep_more bs cs i key v w e at is =
@@ -147,11 +148,12 @@ items_there [] i key v w at there = cc
 items_there (b ∷ bs) zero key v w at there = let one : b ≡ (key, v) = cc in let two : b.1 ≡ w = cc in sym two ∙ ap (λ (c : Value × List ℕ). c.1) one
 items_there (b ∷ bs) (suc i) key v w at there = items_there bs i key v w at there
 
--- where a number was added to those of a key, the key leads to one more
+-- a key, at whose place its numbers are written anew
 module _ {X E : Type 0} (bs : Entries) (i : ℕ) (key : Value) (state : ℕ) (v w : List ℕ) (r : Result X E) (d : IsDistinct is_key (keys_of bs)) (at : slice_get bs i ≡ Some (key, items_at bs key)) (there : slice_get (values_of bs) i ≡ Some v) where
   is : v ≡ items_at bs key
   is = items_there bs i key (items_at bs key) v at there
 
+  -- where a number was added to those of a key, the key leads to one more state
   pub note_leads : OnOk r ((n : ℕ) → Contains w n ↔ (Contains v n ⊎ (state ≡ n))) → OnOk r ((other : Value) (number : ℕ) → Leads (set_value_at bs i w) other number ↔ (Leads bs other number ⊎ ((key ≡ other) × (state ≡ number))))
   note_leads ok =
       elim r as (λ (s : Result X E). OnOk s ((n : ℕ) → Contains w n ↔ (Contains v n ⊎ (state ≡ n))) → OnOk s ((other : Value) (number : ℕ) → Leads (set_value_at bs i w) other number ↔ (Leads bs other number ⊎ ((key ≡ other) × (state ≡ number))))) [
@@ -159,6 +161,7 @@ module _ {X E : Type 0} (bs : Entries) (i : ℕ) (key : Value) (state : ℕ) (v 
         | Err e ↦ λ o. o
       ] ok
 
+  -- where none was added, the entries stay as they were
   pub note_kept : OnErr r (w ≡ v) → OnErr r (set_value_at bs i w ≡ bs)
   note_kept kept =
       elim r as (λ (s : Result X E). OnErr s (w ≡ v) → OnErr s (set_value_at bs i w ≡ bs)) [ Ok x ↦ λ k. k | Err e ↦ λ k. ap (set_value_at bs i) (k ∙ is) ∙ unwritten bs i key (items_at bs key) at ] kept

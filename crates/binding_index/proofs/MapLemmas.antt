@@ -43,24 +43,25 @@ found_entry {V} bs i k key v at own value =
 pub items_stand : {Y : Type 0} (bs : List (Value × List Y)) (key : Value) (i : ℕ) → IsKeptAt bs key i → slice_get bs i ≡ Some (key, items_at bs key)
 items_stand {Y} bs key i (v, at, found) = at ∙ ap (λ (o : Option (List Y)). Some (key, unwrap_or o [])) (sym found)
 
+-- so it is at a place that was found for a key
 pub items_found : {Y : Type 0} (bs : List (Value × List Y)) (key : Value) (r : Option ℕ) → IfSome r (IsKeptAt bs key) → IfSome r (λ i. slice_get bs i ≡ Some (key, items_at bs key))
 items_found {Y} bs key None h = h
 items_found {Y} bs key (Some i) h = items_stand bs key i h
 
--- the items of one entry more
 module _ {Y : Type 0} where
   flat_next : (bs : List (Value × List Y)) (i : ℕ) (v : List Y) → slice_get (values_of bs) i ≡ Some v → flat_map (λ b. b.1) (take (suc i) bs) ≡ flat_map (λ b. b.1) (take i bs) ++ v
   flat_next [] i v at = cc
   flat_next (b ∷ bs) zero v at = let one : b.1 ≡ v = cc in append-nil b.1 ∙ one
   flat_next (b ∷ bs) (suc i) v at = ap (λ ys. b.1 ++ ys) (flat_next bs i v at) ∙ sym (append_assoc b.1 (flat_map (λ c. c.1) (take i bs)) v)
 
+  -- the items up to a place are those before it and those that stand there
   pub flat_more : (bs : List (Value × List Y)) (i : ℕ) (v : List Y) → slice_get (values_of bs) i ≡ Some v → flat_map (λ b. b.1) (take (i + 1) bs) ≡ flat_map (λ b. b.1) (take i bs) ++ v
   flat_more bs i v at = ap (λ n. flat_map (λ (b : Value × List Y). b.1) (take n bs)) (next i) ∙ flat_next bs i v at
     where
       next : (place : ℕ) → place + 1 ≡ suc place
       next place = omega arith
 
--- and their number
+-- the number of the instances up to a place is that of those before it and of those that stand there, as far as it is counted
 pub count_more : (bs : List Bucket) (i : ℕ) (v : List Instance) (most count here all : ℕ) → slice_get (values_of bs) i ≡ Some v → count ≡ min (length (flat_map (λ b. b.1) (take i bs))) most → here ≡ min (length v) most → all ≡ min (count + here) most
     → all ≡ min (length (flat_map (λ b. b.1) (take (i + 1) bs))) most
 count_more bs i v most count here all at e f g =
@@ -71,5 +72,6 @@ count_more bs i v most count here all at e f g =
 pub put_behind : {V S : Type 0} (map : IndexMap Value V S) (key : Value) (v : V) (new : List (Value × V)) → lookup (is_key key) map.entries ≡ None → new ≡ insert_entry (derived.eq-value).it map.entries key v → new ≡ map.entries ++ (key, v) ∷ []
 put_behind {V} map key v new absent put = put ∙ insert_entry-new (derived.eq-value).it map key v (subst (λ (e : Value → Value → Bool). lookup (e key) map.entries ≡ None) (sym eq_same) absent)
 
+-- an empty bucket of a new key goes behind all others
 pub put_last : {S : Type 0} (map : IndexMap Value (List Instance) S) (key : Value) (v : List Instance) (new : List Bucket) → lookup (is_key key) map.entries ≡ None → v ≡ [] → new ≡ insert_entry (derived.eq-value).it map.entries key v → new ≡ map.entries ++ (key, []) ∷ []
 put_last map key v new absent empty put = put_behind map key v new absent put ∙ ap (λ is. map.entries ++ (key, is) ∷ []) empty

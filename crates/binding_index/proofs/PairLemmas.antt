@@ -31,6 +31,7 @@ pairs_written (b ∷ bs) (suc i) v w more at long =
     let old = length-append b.1 (flat_map (λ (c : Value × List ℕ). c.1) bs) in
     omega (arith, rest, new, old)
 
+-- where there was memory for more states of a key, there are so many more pairs
 pub pairs_noted : {E : Type 0} (bs : Entries) (i : ℕ) (v w : List ℕ) (r : Result ℕ E) → slice_get (values_of bs) i ≡ Some v → IfOk r (λ more. length w ≡ length v + more) → IfOk r (λ more. pairs_of (set_value_at bs i w) ≡ pairs_of bs + more)
 pairs_noted bs i v w (Ok more) at long = pairs_written bs i v w more at long
 pairs_noted bs i v w (Err e) at long = long
@@ -44,6 +45,7 @@ pairs_behind (b ∷ bs) key w =
     let old = length-append b.1 (flat_map (λ (c : Value × List ℕ). c.1) bs) in
     omega (arith, rest, new, old)
 
+-- a new key adds as many pairs as it leads to states
 pub pairs_put : {S : Type 0} (map : IndexMap Value (List ℕ) S) (key given : Value) (none w : List ℕ) (new : Entries) (more : ℕ) → given ≡ key → lookup (is_key key) map.entries ≡ None → none ≡ [] → length w ≡ length none + more
     → new ≡ insert_entry (derived.eq-value).it map.entries given w → pairs_of new ≡ pairs_of map.entries + more
 pairs_put map key given none w new more same absent empty long put =

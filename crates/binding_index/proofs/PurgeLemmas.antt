@@ -54,9 +54,11 @@ module _ (place : ℕ) (bs : List Bucket) (keyed : AreKeyed place bs) (distinct 
   abbrev left : List Bucket
   left = filter is_live bs
 
+  -- no key comes twice among the buckets that have instances
   pub left_distinct : IsDistinct is_key (keys_of left)
   left_distinct = IsDistinct-keys_filter is_key is_live bs distinct
 
+  -- each of their instances stands under its key
   pub left_keyed : AreKeyed place left
   left_keyed = All-filter is_live (IsKeyed place) bs keyed
 
@@ -110,14 +112,17 @@ module _ (place live oldest : ℕ) (bs cs : List Bucket) (h : AreBuckets place l
   same : left place bs h.keyed h.distinct ≡ cs
   same = sym (cut ∙ first_live live bs h.split)
 
+  -- what is left are the buckets of a store
   pub cut_buckets : AreBuckets place live oldest cs
   cut_buckets =
       let long : length cs ≡ live = ap length cut ∙ length-take-le live bs h.within in
       subst (λ n. AreBuckets place n oldest cs) long (subst (λ (xs : List Bucket). AreBuckets place (length xs) oldest xs) same (left_buckets place bs h.keyed h.distinct oldest h.start))
 
+  -- no instance goes with those that are cut off
   pub cut_in_order : in_order cs ≡ in_order bs
   cut_in_order = ap in_order (sym same) ∙ kept_in_order bs h.distinct
 
+  -- the keys that stay are those that were ready and that an instance has
   pub cut_ready : (key : Value) → Contains (keys_in_order cs) key ↔ (Contains (keys_in_order bs) key × Any (λ instance. value_at instance.tuple place ≡ key) (in_order cs))
   cut_ready key =
       subst (λ (xs : List Bucket). Contains (keys_in_order xs) key ↔ (Contains (keys_in_order bs) key × Any (λ instance. value_at instance.tuple place ≡ key) (in_order xs))) same (left_ready place bs h.keyed h.distinct key)
@@ -137,14 +142,17 @@ module _ (place live before oldest : ℕ) (test : Instance → Bool) (bs ds cs :
   walked_keyed : AreKeyed place ds
   walked_keyed = subst (AreKeyed place) (sym walked) (keyed_passing test place bs h.keyed)
 
+  -- what is left are the buckets of a store
   pub walked_buckets : (n : ℕ) → n ≡ length cs → AreBuckets place n oldest cs
   walked_buckets n long =
       subst (λ m. AreBuckets place m oldest cs) (sym long) (subst (λ (xs : List Bucket). AreBuckets place (length xs) oldest xs) (sym forgotten) (left_buckets place ds walked_keyed walked_distinct oldest start))
 
+  -- of the instances those stay that pass the test
   pub walked_in_order : in_order cs ≡ filter test (in_order bs)
   walked_in_order =
       ap in_order forgotten ∙ kept_in_order ds walked_distinct ∙ filter_in_order test bs ds walked_keys (λ k. ap (λ (xs : List Bucket). instances_at xs k) walked ∙ passing_at test bs k)
 
+  -- the keys that stay are those that were ready and that an instance has which stays
   pub walked_ready : (key : Value) → Contains (keys_in_order cs) key ↔ (Contains (keys_in_order bs) key × Any (λ instance. value_at instance.tuple place ≡ key) (in_order cs))
   walked_ready key =
       subst (λ (ks : List Value). Contains (keys_in_order cs) key ↔ (Contains ks key × Any (λ instance. value_at instance.tuple place ≡ key) (in_order cs))) (ap (sort_by value_cmp) walked_keys)

@@ -54,13 +54,14 @@ stands live place bs split here n d lt = go (cases_eq n place)
 pub all_live : (bs : List Bucket) → IsSplit (length (filter is_live bs)) (filter is_live bs)
 all_live bs n d lt = filter_passes is_live bs n d lt ∙ sym (lt-ltb n (length (filter is_live bs)) lt)
 
--- where those with instances come first, they are the first so many
+-- where none comes before the first without instances, none has any
 none_live : (bs : List Bucket) → IsSplit 0 bs → filter is_live bs ≡ []
 none_live [] split = refl
 none_live (b ∷ bs) split =
     ap (λ t. cond t (b ∷ filter is_live bs) (filter is_live bs)) (split 0 b (omega arith) ∙ le-ltb 0 0 (omega arith))
     ∙ none_live bs (λ n d lt. split (suc n) d (omega arith) ∙ le-ltb (suc n) 0 (omega arith) ∙ sym (le-ltb n 0 (omega arith)))
 
+-- where those with instances come first, they are the first so many
 pub first_live : (live : ℕ) (bs : List Bucket) → IsSplit live bs → take live bs ≡ filter is_live bs
 first_live zero bs split = sym (none_live bs split)
 first_live (suc live) [] split = refl

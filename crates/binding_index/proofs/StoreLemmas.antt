@@ -41,6 +41,7 @@ none place oldest = record {
   split = λ k d lt. absurd (omega arith);
 }
 
+-- an empty list of buckets is that of a store
 pub no_buckets : (place oldest : ℕ) (bs : List Bucket) → bs ≡ [] → AreBuckets place 0 oldest bs
 no_buckets place oldest bs e = subst (AreBuckets place 0 oldest) (sym e) (none place oldest)
 
@@ -69,15 +70,17 @@ value_there (b ∷ bs) (suc i) key v w at there = value_there bs i key v w at th
 pub to_order : (bs : List Bucket) (key : Value) → Contains (keys_of bs) key → Contains (keys_in_order bs) key
 to_order bs key h = Contains-permutation (keys_of bs) (keys_in_order bs) key (IsPermutation-sym _ _ (sort_permutes value_cmp value_total (keys_of bs))) h
 
+-- a key that stands in their order is that of a bucket
 pub from_order : (bs : List Bucket) (key : Value) → Contains (keys_in_order bs) key → Contains (keys_of bs) key
 from_order bs key h = Contains-permutation (keys_in_order bs) (keys_of bs) key (sort_permutes value_cmp value_total (keys_of bs)) h
 
--- a key whose bucket stands at a place is ready
+-- the key of the bucket at a place is one of the keys
 key_there : (bs : List Bucket) (i : ℕ) (key : Value) (v : List Instance) → slice_get bs i ≡ Some (key, v) → Contains (keys_of bs) key
 key_there [] i key v at = cc
 key_there (b ∷ bs) zero key v at = let one : b ≡ (key, v) = cc in (0, omega arith, ap (λ (c : Bucket). c.0) one)
 key_there (b ∷ bs) (suc i) key v at = Contains-append_right (b.0 ∷ []) (keys_of bs) key (key_there bs i key v at)
 
+-- a key whose bucket stands at a place is ready
 pub ready_there : (bs : List Bucket) (i : ℕ) (key : Value) (v : List Instance) → slice_get bs i ≡ Some (key, v) → Contains (keys_in_order bs) key
 ready_there bs i key v at = to_order bs key (key_there bs i key v at)
 
@@ -97,6 +100,7 @@ module _ (place live oldest : ℕ) (bs : List Bucket) (key : Value) (h : AreBuck
   abbrev new : Bucket
   new = (key, [])
 
+  -- with it, the buckets are those of a store, where no key comes twice
   pub added : IsDistinct is_key (keys_of (bs ++ new ∷ [])) → AreBuckets place live oldest (bs ++ new ∷ [])
   added d = record {
     distinct = d;
@@ -119,12 +123,13 @@ module _ (place live oldest : ℕ) (bs : List Bucket) (key : Value) (h : AreBuck
       go n e (inl last) lt = ap (λ m. is_live (get_or (bs ++ new ∷ []) m e)) last ∙ ap is_live (back bs e) ∙ sym (le-ltb n live (let few = h.within in omega (arith, few, last)))
       go n e (inr other) lt = ap is_live (front bs n e (omega (arith, lt))) ∙ h.split n e (omega (arith, lt))
 
-  -- the keys that were ready are so still, and the new one is
+  -- the keys that were ready are so still
   pub more_keys : All (Contains (keys_in_order (bs ++ new ∷ []))) (keys_in_order bs)
   more_keys =
       All-weaker (Contains (keys_in_order bs)) (Contains (keys_in_order (bs ++ new ∷ [])))
       (λ k c. to_order (bs ++ new ∷ []) k (subst (λ (ks : List Value). Contains ks k) (sym (map-append _ bs (new ∷ []))) (Contains-append_left (keys_of bs) (key ∷ []) k (from_order bs k c)))) (keys_in_order bs) (All-contains_itself (keys_in_order bs))
 
+  -- no other key becomes ready
   pub no_other_key : (k : Value) → Contains (keys_in_order (bs ++ new ∷ [])) k → Contains (keys_in_order bs) k ⊎ (key ≡ k)
   no_other_key k c =
       go (Contains-append_cases (keys_of bs) (key ∷ []) k (subst (λ (ks : List Value). Contains ks k) (map-append _ bs (new ∷ [])) (from_order (bs ++ new ∷ []) k c)))
@@ -134,14 +139,16 @@ module _ (place live oldest : ℕ) (bs : List Bucket) (key : Value) (h : AreBuck
       go (inr (zero, lt, is)) = inr is
       go (inr (suc n, lt, is)) = absurd (omega arith)
 
+  -- the new key is ready
   pub new_key : Contains (keys_in_order (bs ++ new ∷ [])) key
   new_key = to_order (bs ++ new ∷ []) key (subst (λ (ks : List Value). Contains ks key) (sym (map-append _ bs (new ∷ []))) (Contains-push (keys_of bs) key))
 
--- what is known of a place that was found, and of one that wasn't
+-- where a place was found for a key, the key is ready
 pub found_if : (bs : List Bucket) (key : Value) (v : List Instance) (r : Option ℕ) → is_some r ≡ true → IfSome r (λ place. slice_get bs place ≡ Some (key, v)) → Contains (keys_in_order bs) key
 found_if bs key v None some h = cc
 found_if bs key v (Some place) some h = ready_there bs place key v h
 
+-- where no place was found, what is known of that case holds
 pub missing_if : {P : Type 0} (r : Option ℕ) → is_some r ≡ false → IfNone r P → P
 missing_if None none h = h
 missing_if (Some place) none h = cc
@@ -155,7 +162,7 @@ all_permuted bs (Err e) d h = h
 pub the_bead : (new link look : List Instance) (bead x : Instance) → new ≡ [] → link ≡ new ++ bead ∷ [] → look ≡ link → Some x ≡ head look → x ≡ bead
 the_bead new link look bead x empty linked seen first = let one : Some x ≡ Some bead = first ∙ ap head (seen ∙ linked ∙ ap (λ is. is ++ bead ∷ []) empty) in cc
 
--- an instance was put before those of its key
+-- where an instance was put before those of its key, the buckets are those of a store
 pub linked : (place oldest least from before live : ℕ) (bs : List Bucket) (i : ℕ) (key : Value) (had w : List Instance) (bead : Instance) (cs : List Bucket) → AreBuckets place before oldest bs → slice_get bs i ≡ Some (key, had) → w ≡ bead ∷ had
     → value_at bead.tuple place ≡ key → least ≡ min oldest from → from ≡ bead.tuple.from → AreSame (set_value_at bs i w) cs → live ≤ length cs → IsSplit live cs → AreBuckets place live least cs
 linked place oldest least from before live bs i key had w bead cs h at is of_key e f same within split =
@@ -165,6 +172,7 @@ linked place oldest least from before live bs i key had w bead cs h at is of_key
     (All-cons (λ (n : Instance). least ≤ n.tuple.from) bead had (omega arith) (All-weaker (λ (n : Instance). oldest ≤ n.tuple.from) (λ (n : Instance). least ≤ n.tuple.from) (λ n le. omega arith) had (all_at (StartsFrom oldest) bs i (key, had) at h.start)))) same within
     split
 
+-- the instances are then one more, key by key
 pub linked_in_order : (bs : List Bucket) (i : ℕ) (key : Value) (had w : List Instance) (bead : Instance) (cs : List Bucket) → IsDistinct is_key (keys_of bs) → slice_get bs i ≡ Some (key, had) → w ≡ bead ∷ had → AreSame (set_value_at bs i w) cs
     → IsPermutation (in_order cs) (bead ∷ in_order bs)
 linked_in_order bs i key had w bead cs d at is same =
@@ -175,6 +183,7 @@ module _ {X E : Type 0} (place live oldest : ℕ) (bs cs : List Bucket) (key : V
   grown : (cs ≡ bs ++ (key, []) ∷ []) ⊎ (cs ≡ bs)
   grown = elim r as (λ (s : Result X E). OnOk s (cs ≡ bs ++ (key, []) ∷ []) → OnErr s (cs ≡ bs) → (cs ≡ bs ++ (key, []) ∷ []) ⊎ (cs ≡ bs)) [ Ok x ↦ λ o k. inl o | Err e ↦ λ o k. inr k ] ok kept
 
+  -- the buckets are those of a store either way
   pub grown_buckets : AreBuckets place live oldest cs
   grown_buckets = go grown
     where
@@ -182,6 +191,7 @@ module _ {X E : Type 0} (place live oldest : ℕ) (bs cs : List Bucket) (key : V
       go (inl e) = subst (AreBuckets place live oldest) (sym e) (added place live oldest bs key h (subst (λ (xs : List Bucket). IsDistinct is_key (keys_of xs)) e d))
       go (inr e) = subst (AreBuckets place live oldest) (sym e) h
 
+  -- the keys that were ready are so still
   pub grown_keys : All (Contains (keys_in_order cs)) (keys_in_order bs)
   grown_keys = go grown
     where
@@ -197,6 +207,7 @@ module _ {X E : Type 0} (place live oldest : ℕ) (bs cs : List Bucket) (key : V
       go (inl e) = no_other_key place live oldest bs key h k (subst (λ (xs : List Bucket). Contains (keys_in_order xs) k) e became)
       go (inr e) = inl (subst (λ (xs : List Bucket). Contains (keys_in_order xs) k) e became)
 
+  -- the instances are the same
   pub grown_in_order : in_order cs ≡ in_order bs
   grown_in_order = go grown
     where
@@ -204,6 +215,7 @@ module _ {X E : Type 0} (place live oldest : ℕ) (bs cs : List Bucket) (key : V
       go (inl e) = ap in_order e ∙ none_more bs key h.distinct (subst (λ (xs : List Bucket). IsDistinct is_key (keys_of xs)) e d)
       go (inr e) = ap in_order e
 
+  -- where there was memory, the new key is ready
   pub grown_key : OnOk r (Contains (keys_in_order cs) key)
   grown_key =
       elim r as (λ (s : Result X E). OnOk s (cs ≡ bs ++ (key, []) ∷ []) → OnOk s (Contains (keys_in_order cs) key)) [

@@ -29,7 +29,7 @@ module _ (key : Key) (event : TupleView) (bs : List Bucket) (keyed : AreKeyed ke
     found_is : (place : ℕ) → Finds bs k place → Finds bs here place
     found_is place h = subst (λ (v : Value). Finds bs v place) (sym is) h
 
-    -- no candidate is found, and all stay
+    -- where the key of an event has no candidates, it finds none
     pub none_are : HasNone bs k → [] ≡ candidates_of (Some key) event (in_order bs)
     none_are h = go (none_is h)
       where
@@ -37,6 +37,7 @@ module _ (key : Key) (event : TupleView) (bs : List Bucket) (keyed : AreKeyed ke
         go (inl over) = no_candidates key event bs keyed distinct over
         go (inr (value, none)) = sym none ∙ candidates_are key event bs keyed distinct value
 
+    -- where the key of an event has none, it takes none out
     pub none_go : (choose : List Pr) → HasNone bs k → in_order bs ≡ unmatched (Some key) choose event (in_order bs)
     none_go choose h = go (none_is h)
       where

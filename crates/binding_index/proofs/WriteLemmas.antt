@@ -46,16 +46,19 @@ written_at {Y} (b ∷ bs) (suc i) key v w d at k = go (written_at bs i key v w (
         here b (set_value_at bs i w) k e ∙ sym (ap (λ t. cond t w (items_at (b ∷ bs) k)) other ∙ here b bs k e)
     go rest false e = past b (set_value_at bs i w) k e ∙ rest ∙ ap (λ is. cond (is_key key k) w is) (sym (past b bs k e))
 
+-- a bucket that is written keeps its key, and the others theirs
 pub keys_written : (bs : List Bucket) (i : ℕ) (w : List Instance) → keys_of (set_value_at bs i w) ≡ keys_of bs
 keys_written [] i w = refl
 keys_written (b ∷ bs) zero w = refl
 keys_written (b ∷ bs) (suc i) w = ap (λ ks. b.0 ∷ ks) (keys_written bs i w)
 
+-- the number of buckets stays
 pub length_written : (bs : List Bucket) (i : ℕ) (w : List Instance) → length (set_value_at bs i w) ≡ length bs
 length_written [] i w = refl
 length_written (b ∷ bs) zero w = refl
 length_written (b ∷ bs) (suc i) w = ap suc (length_written bs i w)
 
+-- the buckets at other places stay
 pub others_written : (bs : List Bucket) (i : ℕ) (w : List Instance) (n : ℕ) (d : Bucket) → n ≢ i → get_or (set_value_at bs i w) n d ≡ get_or bs n d
 others_written [] i w n d apart = refl
 others_written (b ∷ bs) zero w zero d apart = absurd (apart refl)
@@ -63,6 +66,7 @@ others_written (b ∷ bs) zero w (suc n) d apart = refl
 others_written (b ∷ bs) (suc i) w zero d apart = refl
 others_written (b ∷ bs) (suc i) w (suc n) d apart = others_written bs i w n d (λ e. apart (ap suc e))
 
+-- the bucket that is written has its key and what was written
 pub there_written : (bs : List Bucket) (i : ℕ) (key : Value) (v w : List Instance) → slice_get bs i ≡ Some (key, v) → slice_get (set_value_at bs i w) i ≡ Some (key, w)
 there_written [] i key v w at = cc
 there_written (b ∷ bs) zero key v w at = let one : b ≡ (key, v) = cc in ap (λ (c : Bucket). Some (c.0, w)) one
@@ -94,6 +98,7 @@ flat_more (b ∷ bs) (suc i) key x v at =
     IsPermutation-trans _ _ _ (IsPermutation-append_right b.1 (flat_map (λ b. b.1) (set_value_at bs i (x ∷ v))) (x ∷ flat_map (λ b. b.1) bs) (flat_more bs i key x v at))
     (IsPermutation-middle b.1 x (flat_map (λ b. b.1) bs))
 
+-- an instance that is put before those of its key is one more, key by key
 pub one_more : (bs : List Bucket) (i : ℕ) (key : Value) (x : Instance) (v : List Instance) → IsDistinct is_key (keys_of bs) → slice_get bs i ≡ Some (key, v) → IsPermutation (in_order (set_value_at bs i (x ∷ v))) (x ∷ in_order bs)
 one_more bs i key x v d at =
     let written = subst (λ (ks : List Value). IsDistinct is_key ks) (sym (keys_written bs i (x ∷ v))) d in
@@ -106,15 +111,17 @@ none_more bs key d more =
     let b : Bucket = (key, []) in
     sym (kept_in_order (bs ++ b ∷ []) more) ∙ ap in_order (filter-append is_live bs (b ∷ []) ∙ append-nil (filter is_live bs)) ∙ kept_in_order bs d
 
--- all entries, each with those items that pass a test of the key and the item
 module _ {Y : Type 0} (test : Value → Y → Bool) where
+  -- an entry with those of its items that pass a test of the key and the item
   abbrev pub keeping : Value × List Y → Value × List Y
   keeping b = (b.0, filter (test b.0) b.1)
 
+  -- the keys stay
   pub keys_keeping : (bs : List (Value × List Y)) → keys_of (map keeping bs) ≡ keys_of bs
   keys_keeping [] = refl
   keys_keeping (b ∷ bs) = ap (λ ks. b.0 ∷ ks) (keys_keeping bs)
 
+  -- under each key its items stand that pass
   pub keeping_at : (bs : List (Value × List Y)) (k : Value) → items_at (map keeping bs) k ≡ filter (test k) (items_at bs k)
   keeping_at [] k = refl
   keeping_at (b ∷ bs) k = go (keeping_at bs k) (is_key k b.0) refl
@@ -123,17 +130,20 @@ module _ {Y : Type 0} (test : Value → Y → Bool) where
       go rest true e = here (keeping b) (map keeping bs) k e ∙ (let same : b.0 ≡ k = sym ((key_decides k b.0).0 e) in let there = sym (here b bs k e) in λ i. filter (test (same i)) (there i))
       go rest false e = past (keeping b) (map keeping bs) k e ∙ rest ∙ ap (filter (test k)) (sym (past b bs k e))
 
--- all buckets, each with what passes a test
 module _ (test : Instance → Bool) where
+  -- a bucket with those of its instances that pass a test
   abbrev pub passing : Bucket → Bucket
   passing b = keeping (λ _ instance. test instance) b
 
+  -- the keys stay
   pub keys_passing : (bs : List Bucket) → keys_of (map passing bs) ≡ keys_of bs
   keys_passing bs = keys_keeping (λ _ instance. test instance) bs
 
+  -- under each key its instances stand that pass
   pub passing_at : (bs : List Bucket) (k : Value) → instances_at (map passing bs) k ≡ filter test (instances_at bs k)
   passing_at bs k = keeping_at (λ _ instance. test instance) bs k
 
+  -- each instance that passes stands under its key
   pub keyed_passing : (place : ℕ) (bs : List Bucket) → AreKeyed place bs → AreKeyed place (map passing bs)
   keyed_passing place [] all = All-nil (IsKeyed place)
   keyed_passing place (b ∷ bs) all =

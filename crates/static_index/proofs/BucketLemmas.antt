@@ -14,14 +14,17 @@ use Rattle.static_index.specs.Buckets.{equals, ordered}
 pub equals_exact : (x y : Value) → equals x y ≡ true → x ≡ y
 equals_exact x y e = tied_values x y e
 
+-- where two count as equal, their order is `Equal`
 pub tie : (o : Ordering) → is_eq o ≡ true → o ≡ Equal
 tie Less e = absurd (cc)
 tie Equal e = refl
 tie Greater e = absurd (cc)
 
+-- numbers that an ordered map counts as one key are one
 pub nat_exact : (x y : ℕ) → is_at (nat_cmp x) y ≡ true → x ≡ y
 nat_exact x y e = exact_unsigned x y (tie (nat_cmp x y) e)
 
+-- literals that an ordered map counts as one key are one
 pub ordered_exact : (x y : Value) → is_at (ordered x) y ≡ true → x ≡ y
 ordered_exact x y e = value_exact x y (tie (ordered x y) e)
 

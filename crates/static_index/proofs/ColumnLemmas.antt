@@ -74,6 +74,7 @@ module _ (column : Column) (value : Value) (n : ℕ) (none equal above below wit
   after : Contains below n → Contains all n
   after has = at_last (kept_within has)
 
+  -- an id that was there before the steps is there after them
   pub stays : Contains none n → Contains all n
   stays has = after (kept_on (kept (subst (λ (ids : List ℕ). Contains ids n) (sym first) (Contains-append_left none (hashed_ids column.equal value) n has))))
 
@@ -87,6 +88,7 @@ module _ (column : Column) (value : Value) (n : ℕ) (none equal above below wit
   compared cmp.Gt l met has = after (kept_on (second l (above_at (order_of value l) met) has))
   compared cmp.Ge l met has = after (kept_on (second l met has))
 
+  -- an id under a label that the value meets is there after them
   pub collected : (label : Label) → IsMetBy value label → Contains (ids_under column label) n → Contains all n
   collected (Part part) met has = compared part.cmp part.lit met has
   collected (Within span) met has = at_last (fourth span met has)

@@ -42,9 +42,11 @@ not_above : (x z : ℕ) → nat_cmp x z ≡ Less → is_at (nat_cmp z) x ≡ fal
 not_above x z less = grind (arith, nat_tests)
 
 module _ (asked : Asked) (event : TupleView) where
+  -- whether the parts of a condition that are asked hold for the event
   abbrev pub test : Condition → Bool
   test condition = holds_as asked event condition.parts
 
+  -- the ids of the conditions for which they hold
   abbrev pub listed : List (ℕ × Entry) → List ℕ
   listed es = ids_of (filter test (conditions_of es))
 
@@ -101,5 +103,6 @@ module _ (asked : Asked) (event : TupleView) where
       passing_is (meets entries asked event) xs (listed es) (rises (passing (meets entries asked event) xs) (IsStrictlySortedBy-filter nat_cmp (meets entries asked event) (dedup eqb xs) once)) (rises (listed es) ascends)
       (λ z there. (listed_met es up z there, listed_found xs es found z there)) (met_listed es)
 
+  -- these ids ascend, where the keys of the entries do
   pub found_ascends : (entries : BTreeMap ℕ Entry) → IsStrictlySortedBy nat_cmp (keys_of entries.entries) → Ascends (asked_ids asked event (conditions_of entries.entries))
   found_ascends entries up = let es = entries.entries in Ascends-filter test (conditions_of es) (subst Ascends (sym (keys_are_ids es)) up)

@@ -31,6 +31,7 @@ met_if_any : (event : TupleView) (part : Option FixedPart) → holds_if_any even
 met_if_any event None e = tt
 met_if_any event (Some part) e = e
 
+-- where all parts hold, an event meets the one at a place, if there is one
 pub all_given : (event : TupleView) (parts : List FixedPart) (place : ℕ) → all_hold event parts ≡ true → MeetsAny event (option_map Part (slice_get parts place))
 all_given event parts place e = met_if_any event (slice_get parts place) (part_given event parts place e)
 

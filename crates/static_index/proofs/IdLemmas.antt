@@ -22,5 +22,6 @@ others_stay {id} ids new is n apart has = subst (λ (xs : List ℕ). Contains xs
 pub none_in : (ids : List ℕ) (id : ℕ) → length ids ≡ 0 → Contains ids id → ⊥
 none_in ids id e (k, lt, is) = omega arith
 
+-- no id is in an empty list
 pub none_of_nil : (id : ℕ) → Contains [] id → ⊥
 none_of_nil id (k, lt, is) = omega arith

@@ -55,6 +55,7 @@ holding_is_matched (p ∷ ps) event binding e = go (truth p event binding) refl 
     go true is all rest = join (fixed_part_of (class_of p)) (part_given p event binding is) (rest all)
     go false is all rest = absurd (cc)
 
+-- where all parts hold, the first one does, if there is one
 pub matched_is_looked_up : (event : TupleView) (parts : List FixedPart) → all_hold event parts ≡ true → first_holds event parts ≡ true
 matched_is_looked_up event [] e = refl
 matched_is_looked_up event (p ∷ ps) e = go (part_holds event p) e

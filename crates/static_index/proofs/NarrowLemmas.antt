@@ -26,6 +26,7 @@ module _ (test : ℕ → Bool) where
   split last ids place id b at is =
       ap (passing_after test last) (here ids place id at) ∙ ap (λ (t : Bool). cond t (id ∷ passing_after test (Some id) (drop (place + 1) ids)) (passing_after test (Some id) (drop (place + 1) ids))) is
 
+  -- where the id at a place does not pass, what passes from there on is what passes behind it
   pub passed : (last : Option ℕ) (front ids : List ℕ) (place id : ℕ) → slice_get ids place ≡ Some id → (is_other last id && test id) ≡ false
       → front ++ passing_after test (Some id) (drop (place + 1) ids) ≡ front ++ passing_after test last (drop place ids)
   passed last front ids place id at is = ap (λ (rest : List ℕ). front ++ rest) (sym (split last ids place id false at is))
@@ -33,6 +34,7 @@ module _ (test : ℕ → Bool) where
   joined : (front : List ℕ) (id : ℕ) (rest : List ℕ) → (front ++ id ∷ []) ++ rest ≡ front ++ id ∷ rest
   joined front id rest = simp append_assoc
 
+  -- where it passes and is written behind those that were kept, what passes from there on is it and what passes behind it
   pub taken : (last : Option ℕ) (ids : List ℕ) (kept place id : ℕ) → slice_get ids place ≡ Some id → (is_other last id && test id) ≡ true → kept ≤ place
       → take (kept + 1) (set ids kept id) ++ passing_after test (Some id) (drop (place + 1) (set ids kept id)) ≡ take kept ids ++ passing_after test last (drop place ids)
   taken last ids kept place id at is le =
@@ -67,6 +69,7 @@ abbrev pub In : ℕ → List ℕ → Type 0
 In z [] = ⊥
 In z (x ∷ xs) = (x ≡ z) ⊎ In z xs
 
+-- an id that a list contains is among its ids
 pub In_from_Contains : (xs : List ℕ) (z : ℕ) → Contains xs z → In z xs
 In_from_Contains [] z (k, lt, is) = absurd (omega arith)
 In_from_Contains (x ∷ xs) z (zero, lt, is) = inl is
@@ -82,6 +85,7 @@ abbrev pub Rises : List ℕ → Type 0
 Rises [] = Unit {0}
 Rises (x ∷ xs) = AllByRecursion (λ y. x < y) xs × Rises xs
 
+-- what holds of each id of a list holds of one that is among them
 pub all_in : (P : ℕ → Type 0) (xs : List ℕ) → AllByRecursion P xs → (z : ℕ) → In z xs → P z
 all_in P [] all z there = absurd there
 all_in P (x ∷ xs) all z (inl same) = subst P same all.0

@@ -24,8 +24,8 @@ use Rattle.static_index.specs.Spans.{IsNear}
 use Rattle.static_index.proofs.BucketLemmas.{ordered_exact}
 use Rattle.static_index.proofs.IdLemmas.{none_of_nil}
 
--- an id in the bucket of a literal between the bounds is among theirs, where what is taken of a bucket of this literal has it: by induction on the buckets
 module _ (low high : Bound Value) (taken : Value × List ℕ → List ℕ) (lit : Value) (n : ℕ) (keeps : (ids : List ℕ) → Contains ids n → Contains (taken (lit, ids)) n) where
+  -- an id in the bucket of a literal between the bounds is among theirs, where what is taken of a bucket of this literal has it: by induction on the buckets
   pub taken_between : (es : List (Value × List ℕ)) → range_contains ordered low high lit ≡ true → Contains (ids_in (lookup (is_at (ordered lit)) es)) n → Contains (flat_map taken (entries_between ordered low high es)) n
   taken_between [] within has = absurd (none_of_nil n has)
   taken_between (e ∷ es) within has = go (is_at (ordered lit) e.0) refl has (taken_between es within)
@@ -138,5 +138,6 @@ near_number first low reach x is near =
     let over = near.1 in
     both (is_le (int_cmp first low)) (not (is_lt (int_cmp x low))) (le_tested first low (omega (arith, ints, is, over))) (not_lt_tested x low near.0)
 
+-- low ends that a number is near lie no higher than it
 pub up_to_near : (low : ℤ) (reach : ℕ) (x : ℤ) → IsNear low reach (value.Int x) → range_contains ordered Unbounded (Included (value.Int x)) (value.Int low) ≡ true
 up_to_near low reach x near = not_lt_tested x low near.0

@@ -18,10 +18,11 @@ pub keys_are_ids : (es : List (ℕ × Entry)) → ids_of (conditions_of es) ≡ 
 keys_are_ids [] = refl
 keys_are_ids (e ∷ es) = ap (λ (ids : List ℕ). e.0 ∷ ids) (keys_are_ids es)
 
--- an id that is first
+-- an id stands in the list whose first it is
 pub id_first : (id : ℕ) (ids : List ℕ) → Contains (id ∷ ids) id
 id_first id ids = (0, omega arith, refl)
 
+-- an id of a list stands in the list with one more in front
 pub id_later : (x id : ℕ) (ids : List ℕ) → Contains ids id → Contains (x ∷ ids) id
 id_later x id ids (k, lt, is) = (suc k, omega arith, is)
 
@@ -67,8 +68,8 @@ conditions_of-remove id (e ∷ es) up = go (is_eq (nat_cmp id e.0)) (eqb e.0 id)
     go false true is same rest = absurd (let e = eqb-true e.0 id same in grind (arith, nat_tests))
     go false false is same rest = ap (λ (cs : List Condition). condition_of e ∷ cs) rest
 
--- the ids ascend among those that a test keeps, by induction on the conditions
 module _ (test : Condition → Bool) where
+  -- where the ids are above a number, those of the conditions that a test keeps are, by induction on the conditions
   pub above_kept : (x : ℕ) (cs : List Condition) → AllByRecursion (λ y. nat_cmp x y ≡ Less) (ids_of cs) → AllByRecursion (λ y. nat_cmp x y ≡ Less) (ids_of (filter test cs))
   above_kept x [] all = tt
   above_kept x (c ∷ cs) all =
@@ -77,6 +78,7 @@ module _ (test : Condition → Bool) where
         | false ↦ above_kept x cs all.1
       ]
 
+  -- where the ids ascend, those of the conditions that a test keeps do, by induction on the conditions
   pub Ascends-filter : (cs : List Condition) → Ascends (ids_of cs) → Ascends (ids_of (filter test cs))
   unfolding IsStrictlySortedBy
   Ascends-filter [] up = tt
