@@ -15,9 +15,9 @@ use Rattle.event_types.proofs.SortLemmas.{sort_permuted, sort_permutes}
 use Rattle.semantics.specs.Values.{value_at}
 use Rattle.scalar_expr.proofs.Bags.{filter-flat_map, flat_map_each, flat_map_permuted, permuted_from}
 use Rattle.instances.specs.declared.instance.Instance.{Instance}
-use Rattle.binding_index.specs.Buckets.{AreKeyed, AreSame, Bucket, IsKeyed, in_order, instances_at, keys_in_order}
+use Rattle.binding_index.specs.Buckets.{AreKeyed, AreSame, Bucket, IsKeyed, instances_in_order, instances_at, keys_in_order}
 use Rattle.binding_index.specs.Among.{is_key}
-use Rattle.binding_index.specs.Entries.{has_any, is_live, items_at}
+use Rattle.binding_index.specs.Entries.{has_any, is_filled, items_at}
 use Rattle.binding_index.proofs.EqualityLemmas.{key_decides, key_flips, key_itself}
 use Rattle.binding_index.proofs.OrderLemmas.{flat_sort_filter}
 
@@ -45,16 +45,16 @@ module _ {Y : Type 0} where
   none_found key (b ∷ bs) h = past b bs key h.0 ∙ none_found key bs h.1
 
   -- without the entries that have no item, the same items stand under each key
-  pub kept : (bs : List (Value × List Y)) → IsDistinct is_key (keys_of bs) → (key : Value) → items_at (filter is_live bs) key ≡ items_at bs key
+  pub kept : (bs : List (Value × List Y)) → IsDistinct is_key (keys_of bs) → (key : Value) → items_at (filter is_filled bs) key ≡ items_at bs key
   kept [] d key = refl
-  kept (b ∷ bs) d key = go (kept bs (IsDistinct-tail is_key b.0 (keys_of bs) d) key) (is_live b) refl (is_key key b.0) refl
+  kept (b ∷ bs) d key = go (kept bs (IsDistinct-tail is_key b.0 (keys_of bs) d) key) (is_filled b) refl (is_key key b.0) refl
     where
       away : is_key key b.0 ≡ true → items_at bs key ≡ []
       away e = subst (λ (k : Value). items_at bs k ≡ []) (sym ((key_decides key b.0).0 e)) (none_found b.0 bs (IsDistinct-head is_key b.0 (keys_of bs) d))
 
-      go : items_at (filter is_live bs) key ≡ items_at bs key → (t : Bool) → is_live b ≡ t → (u : Bool) → is_key key b.0 ≡ u → items_at (cond t (b ∷ filter is_live bs) (filter is_live bs)) key ≡ items_at (b ∷ bs) key
-      go rest true e true f = here b (filter is_live bs) key f ∙ sym (here b bs key f)
-      go rest true e false f = past b (filter is_live bs) key f ∙ rest ∙ sym (past b bs key f)
+      go : items_at (filter is_filled bs) key ≡ items_at bs key → (t : Bool) → is_filled b ≡ t → (u : Bool) → is_key key b.0 ≡ u → items_at (cond t (b ∷ filter is_filled bs) (filter is_filled bs)) key ≡ items_at (b ∷ bs) key
+      go rest true e true f = here b (filter is_filled bs) key f ∙ sym (here b bs key f)
+      go rest true e false f = past b (filter is_filled bs) key f ∙ rest ∙ sym (past b bs key f)
       go rest false e true f = rest ∙ away f ∙ sym (here b bs key f ∙ empty b.1 e)
       go rest false e false f = rest ∙ sym (past b bs key f)
 
@@ -77,7 +77,7 @@ flat_is bs d = go bs (found_own bs d)
         λ i. one i ++ go cs (All-tail (λ (b : Bucket). instances_at bs b.0 ≡ b.1) c cs own) i
 
 -- they are those that stand key by key
-pub in_order_permuted : (bs : List Bucket) → IsDistinct is_key (keys_of bs) → IsPermutation (flat_map (λ b. b.1) bs) (in_order bs)
+pub in_order_permuted : (bs : List Bucket) → IsDistinct is_key (keys_of bs) → IsPermutation (flat_map (λ b. b.1) bs) (instances_in_order bs)
 in_order_permuted bs d =
     permuted_from (flat_is bs d) (flat_map_permuted (instances_at bs) (keys_of bs) (keys_in_order bs) (IsPermutation-sym _ _ (sort_permutes value_cmp value_total (keys_of bs))))
 
@@ -90,7 +90,7 @@ pub same_keys : (old new : List Bucket) → AreSame old new → keys_in_order ne
 same_keys old new h = sym (sort_permuted value_cmp value_total value_exact (keys_of old) (keys_of new) (IsPermutation-map (λ b. b.0) old new h.permuted))
 
 -- the same buckets in another order have the same instances key by key
-pub same_in_order : (old new : List Bucket) → AreSame old new → in_order new ≡ in_order old
+pub same_in_order : (old new : List Bucket) → AreSame old new → instances_in_order new ≡ instances_in_order old
 same_in_order old new h = flat_map_each (instances_at new) (instances_at old) h.same (keys_in_order new) ∙ ap (flat_map (instances_at old)) (same_keys old new h)
 
 -- where no key comes twice, none does in another order of the same buckets
@@ -98,7 +98,7 @@ pub same_distinct : (old new : List Bucket) → AreSame old new → IsDistinct i
 same_distinct old new h d = IsDistinct-IsPermutation is_key key_flips (keys_of old) (keys_of new) (IsPermutation-map (λ b. b.0) old new h.permuted) d
 
 -- buckets of the same keys, each with what passes a test
-pub filter_in_order : (test : Instance → Bool) (old new : List Bucket) → keys_of new ≡ keys_of old → ((key : Value) → instances_at new key ≡ filter test (instances_at old key)) → in_order new ≡ filter test (in_order old)
+pub filter_in_order : (test : Instance → Bool) (old new : List Bucket) → keys_of new ≡ keys_of old → ((key : Value) → instances_at new key ≡ filter test (instances_at old key)) → instances_in_order new ≡ filter test (instances_in_order old)
 filter_in_order test old new keys each =
     flat_map_each (instances_at new) (λ key. filter test (instances_at old key)) each (keys_in_order new)
     ∙ ap (λ ks. flat_map (λ key. filter test (instances_at old key)) (sort_by value_cmp ks)) keys ∙ sym (filter-flat_map test (instances_at old) (keys_in_order old))
@@ -106,22 +106,22 @@ filter_in_order test old new keys each =
 -- buckets without those that are empty
 module _ where
   -- their keys are those of instances
-  keys_filter : (test : Value → Bool) (bs : List Bucket) → All (λ b. test b.0 ≡ is_live b) bs → keys_of (filter is_live bs) ≡ filter test (keys_of bs)
+  keys_filter : (test : Value → Bool) (bs : List Bucket) → All (λ b. test b.0 ≡ is_filled b) bs → keys_of (filter is_filled bs) ≡ filter test (keys_of bs)
   keys_filter test [] all = refl
   keys_filter test (b ∷ bs) all =
-      go (keys_filter test bs (All-tail (λ (b : Bucket). test b.0 ≡ is_live b) b bs all)) (test b.0) (is_live b) (All-head (λ (b : Bucket). test b.0 ≡ is_live b) b bs all)
+      go (keys_filter test bs (All-tail (λ (b : Bucket). test b.0 ≡ is_filled b) b bs all)) (test b.0) (is_filled b) (All-head (λ (b : Bucket). test b.0 ≡ is_filled b) b bs all)
     where
-      go : keys_of (filter is_live bs) ≡ filter test (keys_of bs) → (t u : Bool) → t ≡ u → keys_of (cond u (b ∷ filter is_live bs) (filter is_live bs)) ≡ cond t (b.0 ∷ filter test (keys_of bs)) (filter test (keys_of bs))
+      go : keys_of (filter is_filled bs) ≡ filter test (keys_of bs) → (t u : Bool) → t ≡ u → keys_of (cond u (b ∷ filter is_filled bs) (filter is_filled bs)) ≡ cond t (b.0 ∷ filter test (keys_of bs)) (filter test (keys_of bs))
       go rest true true e = ap (λ ks. b.0 ∷ ks) rest
       go rest false false e = rest
       go rest true false e = cc
       go rest false true e = cc
 
   -- and key by key the same instances stand in them
-  pub kept_in_order : (bs : List Bucket) → IsDistinct is_key (keys_of bs) → in_order (filter is_live bs) ≡ in_order bs
+  pub kept_in_order : (bs : List Bucket) → IsDistinct is_key (keys_of bs) → instances_in_order (filter is_filled bs) ≡ instances_in_order bs
   kept_in_order bs d =
       let test : Value → Bool = λ key. has_any (instances_at bs key) in
-      flat_map_each (instances_at (filter is_live bs)) (instances_at bs) (kept bs d) (keys_in_order (filter is_live bs))
+      flat_map_each (instances_at (filter is_filled bs)) (instances_at bs) (kept bs d) (keys_in_order (filter is_filled bs))
       ∙ ap (λ ks. flat_map (instances_at bs) (sort_by value_cmp ks)) (keys_filter test bs (λ k x lt. ap has_any (found_own bs d k x lt)))
       ∙ flat_sort_filter value_cmp (instances_at bs) value_total value_exact test (λ key e. empty (instances_at bs key) e) (keys_of bs)
 

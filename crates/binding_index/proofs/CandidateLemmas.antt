@@ -31,7 +31,7 @@ use Rattle.semantics.proofs.ReportLemmas.{filter_all}
 use Rattle.instances.specs.declared.instance.Instance.{Instance}
 use Rattle.scalar_expr.proofs.Bags.{filter-flat_map}
 use Rattle.instances.specs.Keys.{Key, candidates_of, is_matched, key_matches, unmatched}
-use Rattle.binding_index.specs.Buckets.{AreKeyed, Bucket, in_order, instances_at, is_over, keys_in_order}
+use Rattle.binding_index.specs.Buckets.{AreKeyed, Bucket, instances_in_order, instances_at, is_over, keys_in_order}
 use Rattle.binding_index.specs.Among.{is_key}
 use Rattle.binding_index.proofs.BucketLemmas.{distinct_in_order, filter_in_order, keyed_at}
 use Rattle.binding_index.proofs.EqualityLemmas.{key_decides, key_itself}
@@ -54,7 +54,7 @@ module _ {Y : Type 0} (f : Value → List Y) (key : Value) (none : (k : Value) �
       go rest false e = ap (λ ys. ys ++ flat_map f ks) (none k e) ∙ rest
 
 -- a test that fails for the instances of all keys but one keeps of them what it keeps of that key
-pub filter_one : (test : Instance → Bool) (bs : List Bucket) (key : Value) → IsDistinct is_key (keys_of bs) → ((k : Value) → is_key key k ≡ false → filter test (instances_at bs k) ≡ []) → filter test (in_order bs) ≡ filter test (instances_at bs key)
+pub filter_one : (test : Instance → Bool) (bs : List Bucket) (key : Value) → IsDistinct is_key (keys_of bs) → ((k : Value) → is_key key k ≡ false → filter test (instances_at bs k) ≡ []) → filter test (instances_in_order bs) ≡ filter test (instances_at bs key)
 filter_one test bs key d none =
     filter-flat_map test (instances_at bs) (keys_in_order bs)
     ∙ flat_one (λ k. filter test (instances_at bs k)) key none (keys_in_order bs) (distinct_in_order bs d)
@@ -113,15 +113,15 @@ module _ (key : Key) (event : TupleView) (bs : List Bucket) (keyed : AreKeyed ke
 
   module _ (distinct : IsDistinct is_key (keys_of bs)) where
     -- the candidates of an event are the instances of its key
-    pub candidates_are : is_over here ≡ false → instances_at bs here ≡ candidates_of (Some key) event (in_order bs)
+    pub candidates_are : is_over here ≡ false → instances_at bs here ≡ candidates_of (Some key) event (instances_in_order bs)
     candidates_are over =
         let test : Instance → Bool = λ n. key_matches (Some key) event n.tuple in
         sym (filter_all test (instances_at bs here) (λ j d lt. met_at over here j d lt ∙ key_itself here))
         ∙ sym (filter_one test bs here distinct (λ k e. filter_none test (instances_at bs k) (λ j d lt. met_at over k j d lt ∙ e)))
 
     -- an event whose key is OVER has none
-    pub no_candidates : is_over here ≡ true → [] ≡ candidates_of (Some key) event (in_order bs)
-    no_candidates over = sym (filter_none (λ n. key_matches (Some key) event n.tuple) (in_order bs) (λ j d lt. met_over here _ over))
+    pub no_candidates : is_over here ≡ true → [] ≡ candidates_of (Some key) event (instances_in_order bs)
+    no_candidates over = sym (filter_none (λ n. key_matches (Some key) event n.tuple) (instances_in_order bs) (λ j d lt. met_over here _ over))
 
   module _ (choose : List Pr) where
     abbrev stays : Instance → Bool
@@ -146,7 +146,7 @@ module _ (key : Key) (event : TupleView) (bs : List Bucket) (keyed : AreKeyed ke
         go false e = stay_all (instances_at bs k) (λ j d lt. met_at over k j d lt ∙ e)
 
     -- where no instance has the event's key, all stay
-    pub all_stay : is_over here ≡ false → instances_at bs here ≡ [] → in_order bs ≡ unmatched (Some key) choose event (in_order bs)
+    pub all_stay : is_over here ≡ false → instances_at bs here ≡ [] → instances_in_order bs ≡ unmatched (Some key) choose event (instances_in_order bs)
     all_stay over none = filter_in_order stays bs bs refl (λ k. sym (stay_at over k ∙ same k (is_key here k) refl))
       where
         same : (k : Value) (t : Bool) → is_key here k ≡ t → cond t (filter unmet (instances_at bs here)) (instances_at bs k) ≡ instances_at bs k
@@ -154,5 +154,5 @@ module _ (key : Key) (event : TupleView) (bs : List Bucket) (keyed : AreKeyed ke
         same k false e = refl
 
     -- where the event's key is OVER, all stay
-    pub over_stays : is_over here ≡ true → in_order bs ≡ unmatched (Some key) choose event (in_order bs)
-    over_stays over = sym (stay_all (in_order bs) (λ j d lt. met_over here (value_at (get_or (in_order bs) j d).tuple key.binding) over))
+    pub over_stays : is_over here ≡ true → instances_in_order bs ≡ unmatched (Some key) choose event (instances_in_order bs)
+    over_stays over = sym (stay_all (instances_in_order bs) (λ j d lt. met_over here (value_at (get_or (instances_in_order bs) j d).tuple key.binding) over))

@@ -13,7 +13,7 @@ use Rattle.std.proofs.lemmas.List.Folds.{list_any-from_Any}
 use Rattle.event_types.specs.contracts.value.ValuePartialEq.TheImpl as derived
 use Rattle.indexmap.specs.IndexMap.{set_value_at}
 use Rattle.binding_index.specs.Among.{is_key}
-use Rattle.binding_index.specs.Entries.{is_live, items_at}
+use Rattle.binding_index.specs.Entries.{is_filled, items_at}
 use Rattle.binding_index.specs.Leads.{AreReady, Entries, IsLed, Leads, is_ready_at, ready_in}
 use Rattle.binding_index.specs.Among.{is_among}
 use Rattle.binding_index.specs.declared.store.Store.{Store}
@@ -135,7 +135,7 @@ module _ (test : Value → ℕ → Bool) where
   all_kept bs cs n e le = e ∙ (λ i. map (keeping test) (take_all n bs le i) ++ drop_of_length-le bs {i = n} le i) ∙ append-nil (map (keeping test) bs)
 
   -- once all were walked and those that lead nowhere are dropped, each key leads to the states that pass
-  pub kept_leads : (bs cs ds : Entries) (n : ℕ) → cs ≡ map (keeping test) (take n bs) ++ drop n bs → length bs ≤ n → ds ≡ filter is_live cs → IsDistinct is_key (keys_of bs) → (key : Value) (number : ℕ) → Leads ds key number ↔ (Leads bs key number × (test key number ≡ true))
+  pub kept_leads : (bs cs ds : Entries) (n : ℕ) → cs ≡ map (keeping test) (take n bs) ++ drop n bs → length bs ≤ n → ds ≡ filter is_filled cs → IsDistinct is_key (keys_of bs) → (key : Value) (number : ℕ) → Leads ds key number ↔ (Leads bs key number × (test key number ≡ true))
   kept_leads bs cs ds n e le gone d key number =
       let whole : cs ≡ map (keeping test) bs = all_kept bs cs n e le in
       let distinct : IsDistinct is_key (keys_of cs) = subst (λ (ks : List Value). IsDistinct is_key ks) (sym (ap keys_of whole ∙ keys_keeping test bs)) d in

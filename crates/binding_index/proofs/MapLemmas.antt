@@ -13,7 +13,7 @@ use Rattle.indexmap.proofs.CallerLemmas.{insert_entry-new}
 use Rattle.instances.specs.declared.instance.Instance.{Instance}
 use Rattle.binding_index.specs.Buckets.{AreSame, Bucket}
 use Rattle.binding_index.specs.Among.{is_key}
-use Rattle.binding_index.specs.Entries.{IsKeptAt, has_any, is_live, items_at}
+use Rattle.binding_index.specs.Entries.{IsKeptAt, has_any, is_filled, items_at}
 use Rattle.binding_index.proofs.EqualityLemmas.{eq_same, key_decides}
 
 -- a map in another order has the same buckets
@@ -24,10 +24,10 @@ reordered old new h = record {
 }
 
 -- whether the bucket at a place has instances
-pub live_there : (bs : List Bucket) (i : ℕ) (v : List Instance) → slice_get (values_of bs) i ≡ Some v → (d : Bucket) → is_live (get_or bs i d) ≡ has_any v
-live_there [] i v at d = cc
-live_there (b ∷ bs) zero v at d = let one : b.1 ≡ v = cc in ap has_any one
-live_there (b ∷ bs) (suc i) v at d = live_there bs i v at d
+pub filled_there : (bs : List Bucket) (i : ℕ) (v : List Instance) → slice_get (values_of bs) i ≡ Some v → (d : Bucket) → is_filled (get_or bs i d) ≡ has_any v
+filled_there [] i v at d = cc
+filled_there (b ∷ bs) zero v at d = let one : b.1 ≡ v = cc in ap has_any one
+filled_there (b ∷ bs) (suc i) v at d = filled_there bs i v at d
 
 -- a look-up by the derived equality
 pub by_order : {V : Type 0} (bs : List (Value × V)) (key : Value) (found : Option V) → lookup ((derived.eq-value).it key) bs ≡ found → lookup (is_key key) bs ≡ found

@@ -12,7 +12,7 @@ use Rattle.event_types.specs.declared.value.Value.{Value}
 use Rattle.event_types.specs.contracts.value.ValuePartialEq.TheImpl as derived
 use Rattle.indexmap.specs.IndexMap.{IndexMap, insert_entry, set_value_at}
 use Rattle.binding_index.specs.Among.{is_key}
-use Rattle.binding_index.specs.Entries.{is_live, items_at}
+use Rattle.binding_index.specs.Entries.{is_filled, items_at}
 use Rattle.binding_index.specs.Leads.{Entries, StandOnce}
 use Rattle.binding_index.proofs.BucketLemmas.{here, past}
 use Rattle.binding_index.proofs.LeadLemmas.{all_kept, items_there}
@@ -64,6 +64,6 @@ module _ (test : Value → ℕ → Bool) where
       (once_keeping bs (All-tail (λ entry. Apart entry.1) b bs once))
 
   -- once all were walked and those that lead nowhere are dropped
-  pub once_swept : (bs cs ds : Entries) (n : ℕ) → cs ≡ map (keeping test) (take n bs) ++ drop n bs → length bs ≤ n → ds ≡ filter is_live cs → StandOnce bs → StandOnce ds
+  pub once_swept : (bs cs ds : Entries) (n : ℕ) → cs ≡ map (keeping test) (take n bs) ++ drop n bs → length bs ≤ n → ds ≡ filter is_filled cs → StandOnce bs → StandOnce ds
   once_swept bs cs ds n e le gone once =
-      subst StandOnce (sym gone) (All-filter is_live (λ entry. Apart entry.1) cs (subst StandOnce (sym (all_kept test bs cs n e le)) (once_keeping bs once)))
+      subst StandOnce (sym gone) (All-filter is_filled (λ entry. Apart entry.1) cs (subst StandOnce (sym (all_kept test bs cs n e le)) (once_keeping bs once)))

@@ -14,11 +14,11 @@ use Rattle.instances.proofs.BoundLemmas.{all_alive}
 use Rattle.instances.specs.Alive.{is_alive}
 use Rattle.instances.specs.Bounds.{alive_instances, started}
 use Rattle.instances.specs.declared.instance.Instance.{Instance}
-use Rattle.binding_index.specs.Buckets.{AreBuckets, AreKeyed, Bucket, IsKeyed, StartFrom, StartsFrom, in_order, instances_at, keys_in_order}
+use Rattle.binding_index.specs.Buckets.{AreBuckets, AreKeyed, Bucket, IsKeyed, StartFrom, StartsFrom, instances_in_order, instances_at, keys_in_order}
 use Rattle.binding_index.specs.Among.{is_key}
-use Rattle.binding_index.specs.Entries.{has_any, is_live}
+use Rattle.binding_index.specs.Entries.{has_any, is_filled}
 use Rattle.binding_index.proofs.BucketLemmas.{filter_in_order, in_order_permuted, kept_in_order}
-use Rattle.binding_index.proofs.SplitLemmas.{all_live, first_live}
+use Rattle.binding_index.proofs.SplitLemmas.{all_filled, first_filled}
 use Rattle.binding_index.proofs.StoreLemmas.{from_order, to_order}
 use Rattle.binding_index.proofs.WriteLemmas.{keyed_passing, keys_passing, passing, passing_at}
 
@@ -34,7 +34,7 @@ in_flat (b ∷ bs) zero d x lt h = Contains-append_left b.1 (flat_map (λ c. c.1
 in_flat (b ∷ bs) (suc n) d x lt h = Contains-append_right b.1 (flat_map (λ c. c.1) bs) x (in_flat bs n d x (omega arith) h)
 
 -- no instance in order starts before the time before which none of a bucket starts
-pub start_in_order : (oldest : ℕ) (bs : List Bucket) → IsDistinct is_key (keys_of bs) → StartFrom oldest bs → All (λ instance. oldest ≤ instance.tuple.from) (in_order bs)
+pub start_in_order : (oldest : ℕ) (bs : List Bucket) → IsDistinct is_key (keys_of bs) → StartFrom oldest bs → All (λ instance. oldest ≤ instance.tuple.from) (instances_in_order bs)
 start_in_order oldest bs d all = All-permutation (λ instance. oldest ≤ instance.tuple.from) _ _ (in_order_permuted bs d) (all_flat (λ instance. oldest ≤ instance.tuple.from) bs all)
 
 -- each key of buckets
@@ -52,29 +52,29 @@ keys_among bs = go bs (All-contains_itself (keys_of bs))
 -- buckets without those that are empty
 module _ (place : ℕ) (bs : List Bucket) (keyed : AreKeyed place bs) (distinct : IsDistinct is_key (keys_of bs)) where
   abbrev left : List Bucket
-  left = filter is_live bs
+  left = filter is_filled bs
 
   -- no key comes twice among the buckets that have instances
   pub left_distinct : IsDistinct is_key (keys_of left)
-  left_distinct = IsDistinct-keys_filter is_key is_live bs distinct
+  left_distinct = IsDistinct-keys_filter is_key is_filled bs distinct
 
   -- each of their instances stands under its key
   pub left_keyed : AreKeyed place left
-  left_keyed = All-filter is_live (IsKeyed place) bs keyed
+  left_keyed = All-filter is_filled (IsKeyed place) bs keyed
 
   -- an instance that has the key
   abbrev Held : Value → Type 0
-  Held key = Any (λ instance. value_at instance.tuple place ≡ key) (in_order left)
+  Held key = Any (λ instance. value_at instance.tuple place ≡ key) (instances_in_order left)
 
-  first_of : (is : List Instance) (key : Value) → has_any is ≡ true → All (λ (instance : Instance). value_at instance.tuple place ≡ key) is → ((x : Instance) → Contains is x → Contains (in_order left) x) → Held key
+  first_of : (is : List Instance) (key : Value) → has_any is ≡ true → All (λ (instance : Instance). value_at instance.tuple place ≡ key) is → ((x : Instance) → Contains is x → Contains (instances_in_order left) x) → Held key
   first_of [] key some all into = cc
   first_of (x ∷ is) key some all into = let h = into x (0, omega arith, refl) in (h.0, x, h.1, h.2, all 0 x (omega arith))
 
   -- each of their keys was there, and an instance has it
   left_held : All (λ b. Contains (keys_of bs) b.0 × Held b.0) left
   left_held k d lt = (
-    All-filter is_live (λ b. Contains (keys_of bs) b.0) bs (keys_among bs) k d lt,
-    first_of (get_or left k d).1 (get_or left k d).0 (filter_passes is_live bs k d lt) (left_keyed k d lt)
+    All-filter is_filled (λ b. Contains (keys_of bs) b.0) bs (keys_among bs) k d lt,
+    first_of (get_or left k d).1 (get_or left k d).0 (filter_passes is_filled bs k d lt) (left_keyed k d lt)
         (λ x h. Contains-permutation _ _ x (in_order_permuted left left_distinct) (in_flat left k d x lt h)),
   )
 
@@ -82,7 +82,7 @@ module _ (place : ℕ) (bs : List Bucket) (keyed : AreKeyed place bs) (distinct 
   held_left : (key : Value) → Held key → Contains (keys_of left) key
   held_left key h =
       subst (Contains (keys_of left)) h.4
-      (All-contains (λ instance. Contains (keys_of left) (value_at instance.tuple place)) (in_order left) h.1
+      (All-contains (λ instance. Contains (keys_of left) (value_at instance.tuple place)) (instances_in_order left) h.1
       (All-permutation (λ instance. Contains (keys_of left) (value_at instance.tuple place)) _ _ (in_order_permuted left left_distinct)
       (all_flat (λ instance. Contains (keys_of left) (value_at instance.tuple place)) left (λ k d lt j e in'. subst (Contains (keys_of left)) (sym (left_keyed k d lt j e in')) (keys_among left k d lt))))
       (h.0, h.2, h.3))
@@ -102,37 +102,37 @@ module _ (place : ℕ) (bs : List Bucket) (keyed : AreKeyed place bs) (distinct 
   left_buckets oldest start = record {
     distinct = left_distinct;
     keyed = left_keyed;
-    start = All-filter is_live (StartsFrom oldest) bs start;
+    start = All-filter is_filled (StartsFrom oldest) bs start;
     within = omega arith;
-    split = all_live bs;
+    split = all_filled bs;
   }
 
 -- where nothing expired, the buckets without instances are cut off
-module _ (place live oldest : ℕ) (bs cs : List Bucket) (h : AreBuckets place live oldest bs) (cut : cs ≡ take live bs) where
+module _ (place filled oldest : ℕ) (bs cs : List Bucket) (h : AreBuckets place filled oldest bs) (cut : cs ≡ take filled bs) where
   same : left place bs h.keyed h.distinct ≡ cs
-  same = sym (cut ∙ first_live live bs h.split)
+  same = sym (cut ∙ first_filled filled bs h.split)
 
   -- what is left are the buckets of a store
-  pub cut_buckets : AreBuckets place live oldest cs
+  pub cut_buckets : AreBuckets place filled oldest cs
   cut_buckets =
-      let long : length cs ≡ live = ap length cut ∙ length-take-le live bs h.within in
+      let long : length cs ≡ filled = ap length cut ∙ length-take-le filled bs h.within in
       subst (λ n. AreBuckets place n oldest cs) long (subst (λ (xs : List Bucket). AreBuckets place (length xs) oldest xs) same (left_buckets place bs h.keyed h.distinct oldest h.start))
 
   -- no instance goes with those that are cut off
-  pub cut_in_order : in_order cs ≡ in_order bs
-  cut_in_order = ap in_order (sym same) ∙ kept_in_order bs h.distinct
+  pub cut_in_order : instances_in_order cs ≡ instances_in_order bs
+  cut_in_order = ap instances_in_order (sym same) ∙ kept_in_order bs h.distinct
 
   -- the keys that stay are those that were ready and that an instance has
-  pub cut_ready : (key : Value) → Contains (keys_in_order cs) key ↔ (Contains (keys_in_order bs) key × Any (λ instance. value_at instance.tuple place ≡ key) (in_order cs))
+  pub cut_ready : (key : Value) → Contains (keys_in_order cs) key ↔ (Contains (keys_in_order bs) key × Any (λ instance. value_at instance.tuple place ≡ key) (instances_in_order cs))
   cut_ready key =
-      subst (λ (xs : List Bucket). Contains (keys_in_order xs) key ↔ (Contains (keys_in_order bs) key × Any (λ instance. value_at instance.tuple place ≡ key) (in_order xs))) same (left_ready place bs h.keyed h.distinct key)
+      subst (λ (xs : List Bucket). Contains (keys_in_order xs) key ↔ (Contains (keys_in_order bs) key × Any (λ instance. value_at instance.tuple place ≡ key) (instances_in_order xs))) same (left_ready place bs h.keyed h.distinct key)
 
   -- and all instances are still alive
-  pub cut_alive : (time : ℕ) (choose : List Pr) → is_alive time choose (started oldest) ≡ true → in_order cs ≡ alive_instances time choose (in_order bs)
-  cut_alive time choose met = cut_in_order ∙ sym (all_alive time oldest choose (in_order bs) (start_in_order oldest bs h.distinct h.start) met)
+  pub cut_alive : (time : ℕ) (choose : List Pr) → is_alive time choose (started oldest) ≡ true → instances_in_order cs ≡ alive_instances time choose (instances_in_order bs)
+  cut_alive time choose met = cut_in_order ∙ sym (all_alive time oldest choose (instances_in_order bs) (start_in_order oldest bs h.distinct h.start) met)
 
 -- where instances may have expired, all buckets are walked
-module _ (place live before oldest : ℕ) (test : Instance → Bool) (bs ds cs : List Bucket) (h : AreBuckets place live before bs) (walked : ds ≡ map (passing test) bs) (start : StartFrom oldest ds) (forgotten : cs ≡ filter is_live ds) where
+module _ (place filled before oldest : ℕ) (test : Instance → Bool) (bs ds cs : List Bucket) (h : AreBuckets place filled before bs) (walked : ds ≡ map (passing test) bs) (start : StartFrom oldest ds) (forgotten : cs ≡ filter is_filled ds) where
   walked_keys : keys_of ds ≡ keys_of bs
   walked_keys = ap keys_of walked ∙ keys_passing test bs
 
@@ -148,18 +148,18 @@ module _ (place live before oldest : ℕ) (test : Instance → Bool) (bs ds cs :
       subst (λ m. AreBuckets place m oldest cs) (sym long) (subst (λ (xs : List Bucket). AreBuckets place (length xs) oldest xs) (sym forgotten) (left_buckets place ds walked_keyed walked_distinct oldest start))
 
   -- of the instances those stay that pass the test
-  pub walked_in_order : in_order cs ≡ filter test (in_order bs)
+  pub walked_in_order : instances_in_order cs ≡ filter test (instances_in_order bs)
   walked_in_order =
-      ap in_order forgotten ∙ kept_in_order ds walked_distinct ∙ filter_in_order test bs ds walked_keys (λ k. ap (λ (xs : List Bucket). instances_at xs k) walked ∙ passing_at test bs k)
+      ap instances_in_order forgotten ∙ kept_in_order ds walked_distinct ∙ filter_in_order test bs ds walked_keys (λ k. ap (λ (xs : List Bucket). instances_at xs k) walked ∙ passing_at test bs k)
 
   -- the keys that stay are those that were ready and that an instance has which stays
-  pub walked_ready : (key : Value) → Contains (keys_in_order cs) key ↔ (Contains (keys_in_order bs) key × Any (λ instance. value_at instance.tuple place ≡ key) (in_order cs))
+  pub walked_ready : (key : Value) → Contains (keys_in_order cs) key ↔ (Contains (keys_in_order bs) key × Any (λ instance. value_at instance.tuple place ≡ key) (instances_in_order cs))
   walked_ready key =
-      subst (λ (ks : List Value). Contains (keys_in_order cs) key ↔ (Contains ks key × Any (λ instance. value_at instance.tuple place ≡ key) (in_order cs))) (ap (sort_by value_cmp) walked_keys)
-      (subst (λ (xs : List Bucket). Contains (keys_in_order xs) key ↔ (Contains (keys_in_order ds) key × Any (λ instance. value_at instance.tuple place ≡ key) (in_order xs))) (sym forgotten) (left_ready place ds walked_keyed walked_distinct key))
+      subst (λ (ks : List Value). Contains (keys_in_order cs) key ↔ (Contains ks key × Any (λ instance. value_at instance.tuple place ≡ key) (instances_in_order cs))) (ap (sort_by value_cmp) walked_keys)
+      (subst (λ (xs : List Bucket). Contains (keys_in_order xs) key ↔ (Contains (keys_in_order ds) key × Any (λ instance. value_at instance.tuple place ≡ key) (instances_in_order xs))) (sym forgotten) (left_ready place ds walked_keyed walked_distinct key))
 
 -- the key of each instance is ready
-pub all_ready : (place : ℕ) (bs : List Bucket) → IsDistinct is_key (keys_of bs) → AreKeyed place bs → All (λ instance. Contains (keys_in_order bs) (value_at instance.tuple place)) (in_order bs)
+pub all_ready : (place : ℕ) (bs : List Bucket) → IsDistinct is_key (keys_of bs) → AreKeyed place bs → All (λ instance. Contains (keys_in_order bs) (value_at instance.tuple place)) (instances_in_order bs)
 all_ready place bs d keyed =
     All-permutation (λ instance. Contains (keys_in_order bs) (value_at instance.tuple place)) _ _ (in_order_permuted bs d)
     (all_flat (λ instance. Contains (keys_in_order bs) (value_at instance.tuple place)) bs

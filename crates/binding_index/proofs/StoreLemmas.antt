@@ -21,9 +21,9 @@ use Rattle.indexmap.specs.IndexMap.{set_value_at}
 use Rattle.semantics.specs.Values.{value_at}
 use Rattle.instances.specs.declared.instance.Instance.{Instance}
 use Rattle.binding_index.specs.Among.{is_among}
-use Rattle.binding_index.specs.Buckets.{AreBuckets, AreKeyed, AreSame, Bucket, IsKeyed, IsSplit, StartFrom, StartsFrom, in_order, keys_in_order}
+use Rattle.binding_index.specs.Buckets.{AreBuckets, AreKeyed, AreSame, Bucket, IsKeyed, IsSplit, StartFrom, StartsFrom, instances_in_order, keys_in_order}
 use Rattle.binding_index.specs.Among.{is_key}
-use Rattle.binding_index.specs.Entries.{is_live}
+use Rattle.binding_index.specs.Entries.{is_filled}
 use Rattle.inst_chain.specs.Heads.{head}
 use Rattle.scalar_expr.proofs.Bags.{permuted_from}
 use Rattle.binding_index.proofs.BucketLemmas.{in_order_permuted, same_distinct, same_in_order}
@@ -46,9 +46,9 @@ pub no_buckets : (place oldest : ℕ) (bs : List Bucket) → bs ≡ [] → AreBu
 no_buckets place oldest bs e = subst (AreBuckets place 0 oldest) (sym e) (none place oldest)
 
 -- one bucket was written, and then stands where it should
-pub arranged : (place oldest live : ℕ) (bs : List Bucket) (i : ℕ) (key : Value) (v w : List Instance) (cs : List Bucket) → IsDistinct is_key (keys_of bs) → AreKeyed place bs → StartFrom oldest bs → slice_get bs i ≡ Some (key, v)
-    → IsKeyed place (key, w) → StartsFrom oldest (key, w) → AreSame (set_value_at bs i w) cs → live ≤ length cs → IsSplit live cs → AreBuckets place live oldest cs
-arranged place oldest live bs i key v w cs d keyed start at of_key later same within split = record {
+pub arranged : (place oldest filled : ℕ) (bs : List Bucket) (i : ℕ) (key : Value) (v w : List Instance) (cs : List Bucket) → IsDistinct is_key (keys_of bs) → AreKeyed place bs → StartFrom oldest bs → slice_get bs i ≡ Some (key, v)
+    → IsKeyed place (key, w) → StartsFrom oldest (key, w) → AreSame (set_value_at bs i w) cs → filled ≤ length cs → IsSplit filled cs → AreBuckets place filled oldest cs
+arranged place oldest filled bs i key v w cs d keyed start at of_key later same within split = record {
   distinct = same_distinct (set_value_at bs i w) cs same (subst (λ (ks : List Value). IsDistinct is_key ks) (sym (keys_written bs i w)) d);
   keyed = All-permutation (IsKeyed place) (set_value_at bs i w) cs same.permuted (all_written (IsKeyed place) bs i key v w at of_key keyed);
   start = All-permutation (StartsFrom oldest) (set_value_at bs i w) cs same.permuted (all_written (StartsFrom oldest) bs i key v w at later start);
@@ -96,12 +96,12 @@ not_missing bs key ready missing =
     contradiction e = cc
 
 -- an empty bucket of a new key, behind all others
-module _ (place live oldest : ℕ) (bs : List Bucket) (key : Value) (h : AreBuckets place live oldest bs) where
+module _ (place filled oldest : ℕ) (bs : List Bucket) (key : Value) (h : AreBuckets place filled oldest bs) where
   abbrev new : Bucket
   new = (key, [])
 
   -- with it, the buckets are those of a store, where no key comes twice
-  pub added : IsDistinct is_key (keys_of (bs ++ new ∷ [])) → AreBuckets place live oldest (bs ++ new ∷ [])
+  pub added : IsDistinct is_key (keys_of (bs ++ new ∷ [])) → AreBuckets place filled oldest (bs ++ new ∷ [])
   added d = record {
     distinct = d;
     keyed = All-push (IsKeyed place) bs new h.keyed (All-nil _);
@@ -119,9 +119,9 @@ module _ (place live oldest : ℕ) (bs : List Bucket) (key : Value) (h : AreBuck
       back [] e = refl
       back (c ∷ cs) e = back cs e
 
-      go : (n : ℕ) (e : Bucket) → (n ≡ length bs) ⊎ (n ≡ length bs → ⊥) → n < length bs + 1 → is_live (get_or (bs ++ new ∷ []) n e) ≡ nat_lt n live
-      go n e (inl last) lt = ap (λ m. is_live (get_or (bs ++ new ∷ []) m e)) last ∙ ap is_live (back bs e) ∙ sym (le-ltb n live (let few = h.within in omega (arith, few, last)))
-      go n e (inr other) lt = ap is_live (front bs n e (omega (arith, lt))) ∙ h.split n e (omega (arith, lt))
+      go : (n : ℕ) (e : Bucket) → (n ≡ length bs) ⊎ (n ≡ length bs → ⊥) → n < length bs + 1 → is_filled (get_or (bs ++ new ∷ []) n e) ≡ nat_lt n filled
+      go n e (inl last) lt = ap (λ m. is_filled (get_or (bs ++ new ∷ []) m e)) last ∙ ap is_filled (back bs e) ∙ sym (le-ltb n filled (let few = h.within in omega (arith, few, last)))
+      go n e (inr other) lt = ap is_filled (front bs n e (omega (arith, lt))) ∙ h.split n e (omega (arith, lt))
 
   -- the keys that were ready are so still
   pub more_keys : All (Contains (keys_in_order (bs ++ new ∷ []))) (keys_in_order bs)
@@ -154,7 +154,7 @@ missing_if None none h = h
 missing_if (Some place) none h = cc
 
 -- copies of all instances are those that stand key by key, up to order
-pub all_permuted : {E : Type 0} (bs : List Bucket) (r : Result (List Instance) E) → IsDistinct is_key (keys_of bs) → IfOk r (λ copies. copies ≡ flat_map (λ b. b.1) bs) → IfOk r (λ copies. IsPermutation copies (in_order bs))
+pub all_permuted : {E : Type 0} (bs : List Bucket) (r : Result (List Instance) E) → IsDistinct is_key (keys_of bs) → IfOk r (λ copies. copies ≡ flat_map (λ b. b.1) bs) → IfOk r (λ copies. IsPermutation copies (instances_in_order bs))
 all_permuted bs (Ok copies) d h = permuted_from h (in_order_permuted bs d)
 all_permuted bs (Err e) d h = h
 
@@ -163,10 +163,10 @@ pub the_bead : (new link look : List Instance) (bead x : Instance) → new ≡ [
 the_bead new link look bead x empty linked seen first = let one : Some x ≡ Some bead = first ∙ ap head (seen ∙ linked ∙ ap (λ is. is ++ bead ∷ []) empty) in cc
 
 -- where an instance was put before those of its key, the buckets are those of a store
-pub linked : (place oldest least from before live : ℕ) (bs : List Bucket) (i : ℕ) (key : Value) (had w : List Instance) (bead : Instance) (cs : List Bucket) → AreBuckets place before oldest bs → slice_get bs i ≡ Some (key, had) → w ≡ bead ∷ had
-    → value_at bead.tuple place ≡ key → least ≡ min oldest from → from ≡ bead.tuple.from → AreSame (set_value_at bs i w) cs → live ≤ length cs → IsSplit live cs → AreBuckets place live least cs
-linked place oldest least from before live bs i key had w bead cs h at is of_key e f same within split =
-    arranged place least live bs i key had w cs h.distinct h.keyed (All-weaker (StartsFrom oldest) (StartsFrom least) (λ b all. All-weaker (λ (n : Instance). oldest ≤ n.tuple.from) (λ (n : Instance). least ≤ n.tuple.from) (λ n le. omega arith) b.1 all) bs h.start) at
+pub linked : (place oldest least from before filled : ℕ) (bs : List Bucket) (i : ℕ) (key : Value) (had w : List Instance) (bead : Instance) (cs : List Bucket) → AreBuckets place before oldest bs → slice_get bs i ≡ Some (key, had) → w ≡ bead ∷ had
+    → value_at bead.tuple place ≡ key → least ≡ min oldest from → from ≡ bead.tuple.from → AreSame (set_value_at bs i w) cs → filled ≤ length cs → IsSplit filled cs → AreBuckets place filled least cs
+linked place oldest least from before filled bs i key had w bead cs h at is of_key e f same within split =
+    arranged place least filled bs i key had w cs h.distinct h.keyed (All-weaker (StartsFrom oldest) (StartsFrom least) (λ b all. All-weaker (λ (n : Instance). oldest ≤ n.tuple.from) (λ (n : Instance). least ≤ n.tuple.from) (λ n le. omega arith) b.1 all) bs h.start) at
     (All-same (λ (n : Instance). value_at n.tuple place ≡ key) w (bead ∷ had) is (All-cons (λ (n : Instance). value_at n.tuple place ≡ key) bead had of_key (all_at (IsKeyed place) bs i (key, had) at h.keyed)))
     (All-same (λ (n : Instance). least ≤ n.tuple.from) w (bead ∷ had) is
     (All-cons (λ (n : Instance). least ≤ n.tuple.from) bead had (omega arith) (All-weaker (λ (n : Instance). oldest ≤ n.tuple.from) (λ (n : Instance). least ≤ n.tuple.from) (λ n le. omega arith) had (all_at (StartsFrom oldest) bs i (key, had) at h.start)))) same within
@@ -174,29 +174,29 @@ linked place oldest least from before live bs i key had w bead cs h at is of_key
 
 -- the instances are then one more, key by key
 pub linked_in_order : (bs : List Bucket) (i : ℕ) (key : Value) (had w : List Instance) (bead : Instance) (cs : List Bucket) → IsDistinct is_key (keys_of bs) → slice_get bs i ≡ Some (key, had) → w ≡ bead ∷ had → AreSame (set_value_at bs i w) cs
-    → IsPermutation (in_order cs) (bead ∷ in_order bs)
+    → IsPermutation (instances_in_order cs) (bead ∷ instances_in_order bs)
 linked_in_order bs i key had w bead cs d at is same =
-    permuted_from (same_in_order (set_value_at bs i w) cs same ∙ ap (λ x. in_order (set_value_at bs i x)) is) (one_more bs i key bead had d at)
+    permuted_from (same_in_order (set_value_at bs i w) cs same ∙ ap (λ x. instances_in_order (set_value_at bs i x)) is) (one_more bs i key bead had d at)
 
 -- where there was memory, an empty bucket of a new key was added, and else none
-module _ {X E : Type 0} (place live oldest : ℕ) (bs cs : List Bucket) (key : Value) (h : AreBuckets place live oldest bs) (r : Result X E) (ok : OnOk r (cs ≡ bs ++ (key, []) ∷ [])) (kept : OnErr r (cs ≡ bs)) (d : IsDistinct is_key (keys_of cs)) where
+module _ {X E : Type 0} (place filled oldest : ℕ) (bs cs : List Bucket) (key : Value) (h : AreBuckets place filled oldest bs) (r : Result X E) (ok : OnOk r (cs ≡ bs ++ (key, []) ∷ [])) (kept : OnErr r (cs ≡ bs)) (d : IsDistinct is_key (keys_of cs)) where
   grown : (cs ≡ bs ++ (key, []) ∷ []) ⊎ (cs ≡ bs)
   grown = elim r as (λ (s : Result X E). OnOk s (cs ≡ bs ++ (key, []) ∷ []) → OnErr s (cs ≡ bs) → (cs ≡ bs ++ (key, []) ∷ []) ⊎ (cs ≡ bs)) [ Ok x ↦ λ o k. inl o | Err e ↦ λ o k. inr k ] ok kept
 
   -- the buckets are those of a store either way
-  pub grown_buckets : AreBuckets place live oldest cs
+  pub grown_buckets : AreBuckets place filled oldest cs
   grown_buckets = go grown
     where
-      go : (cs ≡ bs ++ (key, []) ∷ []) ⊎ (cs ≡ bs) → AreBuckets place live oldest cs
-      go (inl e) = subst (AreBuckets place live oldest) (sym e) (added place live oldest bs key h (subst (λ (xs : List Bucket). IsDistinct is_key (keys_of xs)) e d))
-      go (inr e) = subst (AreBuckets place live oldest) (sym e) h
+      go : (cs ≡ bs ++ (key, []) ∷ []) ⊎ (cs ≡ bs) → AreBuckets place filled oldest cs
+      go (inl e) = subst (AreBuckets place filled oldest) (sym e) (added place filled oldest bs key h (subst (λ (xs : List Bucket). IsDistinct is_key (keys_of xs)) e d))
+      go (inr e) = subst (AreBuckets place filled oldest) (sym e) h
 
   -- the keys that were ready are so still
   pub grown_keys : All (Contains (keys_in_order cs)) (keys_in_order bs)
   grown_keys = go grown
     where
       go : (cs ≡ bs ++ (key, []) ∷ []) ⊎ (cs ≡ bs) → All (Contains (keys_in_order cs)) (keys_in_order bs)
-      go (inl e) = subst (λ (xs : List Bucket). All (Contains (keys_in_order xs)) (keys_in_order bs)) (sym e) (more_keys place live oldest bs key h)
+      go (inl e) = subst (λ (xs : List Bucket). All (Contains (keys_in_order xs)) (keys_in_order bs)) (sym e) (more_keys place filled oldest bs key h)
       go (inr e) = subst (λ (xs : List Bucket). All (Contains (keys_in_order xs)) (keys_in_order bs)) (sym e) (All-contains_itself (keys_in_order bs))
 
   -- no other key became ready
@@ -204,22 +204,22 @@ module _ {X E : Type 0} (place live oldest : ℕ) (bs cs : List Bucket) (key : V
   grown_only k became = go grown
     where
       go : (cs ≡ bs ++ (key, []) ∷ []) ⊎ (cs ≡ bs) → Contains (keys_in_order bs) k ⊎ (key ≡ k)
-      go (inl e) = no_other_key place live oldest bs key h k (subst (λ (xs : List Bucket). Contains (keys_in_order xs) k) e became)
+      go (inl e) = no_other_key place filled oldest bs key h k (subst (λ (xs : List Bucket). Contains (keys_in_order xs) k) e became)
       go (inr e) = inl (subst (λ (xs : List Bucket). Contains (keys_in_order xs) k) e became)
 
   -- the instances are the same
-  pub grown_in_order : in_order cs ≡ in_order bs
+  pub grown_in_order : instances_in_order cs ≡ instances_in_order bs
   grown_in_order = go grown
     where
-      go : (cs ≡ bs ++ (key, []) ∷ []) ⊎ (cs ≡ bs) → in_order cs ≡ in_order bs
-      go (inl e) = ap in_order e ∙ none_more bs key h.distinct (subst (λ (xs : List Bucket). IsDistinct is_key (keys_of xs)) e d)
-      go (inr e) = ap in_order e
+      go : (cs ≡ bs ++ (key, []) ∷ []) ⊎ (cs ≡ bs) → instances_in_order cs ≡ instances_in_order bs
+      go (inl e) = ap instances_in_order e ∙ none_more bs key h.distinct (subst (λ (xs : List Bucket). IsDistinct is_key (keys_of xs)) e d)
+      go (inr e) = ap instances_in_order e
 
   -- where there was memory, the new key is ready
   pub grown_key : OnOk r (Contains (keys_in_order cs) key)
   grown_key =
       elim r as (λ (s : Result X E). OnOk s (cs ≡ bs ++ (key, []) ∷ []) → OnOk s (Contains (keys_in_order cs) key)) [
-        | Ok x ↦ λ o. subst (λ (xs : List Bucket). Contains (keys_in_order xs) key) (sym o) (new_key place live oldest bs key h)
+        | Ok x ↦ λ o. subst (λ (xs : List Bucket). Contains (keys_in_order xs) key) (sym o) (new_key place filled oldest bs key h)
         | Err e ↦ λ o. o
       ] ok
 

@@ -14,9 +14,9 @@ use Rattle.indexmap.specs.IndexMap.{set_value_at}
 use Rattle.semantics.specs.Values.{value_at}
 use Rattle.scalar_expr.proofs.Bags.{permuted_to}
 use Rattle.instances.specs.declared.instance.Instance.{Instance}
-use Rattle.binding_index.specs.Buckets.{AreKeyed, Bucket, IsKeyed, IsSplit, IsSplitBut, in_order, instances_at}
+use Rattle.binding_index.specs.Buckets.{AreKeyed, Bucket, IsKeyed, IsSplit, IsSplitBut, instances_in_order, instances_at}
 use Rattle.binding_index.specs.Among.{is_key}
-use Rattle.binding_index.specs.Entries.{is_live, items_at}
+use Rattle.binding_index.specs.Entries.{is_filled, items_at}
 use Rattle.binding_index.proofs.BucketLemmas.{apart, here, in_order_permuted, kept_in_order, past}
 use Rattle.binding_index.proofs.EqualityLemmas.{key_decides, key_flips}
 
@@ -85,10 +85,10 @@ pub all_at : {Y : Type 0} (P : Value × List Y → Type 0) (bs : List (Value × 
 all_at P bs i b at all = subst P (get_or_from_slice_get bs i b b at) (All-get_or P bs i b (slice_get_within bs i b at) all)
 
 -- the others stand before and behind a place as they did
-pub split_written : (live : ℕ) (bs : List Bucket) (i : ℕ) (w : List Instance) → IsSplit live bs → IsSplitBut i live (set_value_at bs i w)
-split_written live bs i w split n d other lt =
+pub split_written : (filled : ℕ) (bs : List Bucket) (i : ℕ) (w : List Instance) → IsSplit filled bs → IsSplitBut i filled (set_value_at bs i w)
+split_written filled bs i w split n d other lt =
     let long = length_written bs i w in
-    ap is_live (others_written bs i w n d other) ∙ split n d (omega (arith, long))
+    ap is_filled (others_written bs i w n d other) ∙ split n d (omega (arith, long))
 
 -- one more instance of a key is one more instance
 flat_more : (bs : List Bucket) (i : ℕ) (key : Value) (x : Instance) (v : List Instance) → slice_get bs i ≡ Some (key, v) → IsPermutation (flat_map (λ b. b.1) (set_value_at bs i (x ∷ v))) (x ∷ flat_map (λ b. b.1) bs)
@@ -99,17 +99,17 @@ flat_more (b ∷ bs) (suc i) key x v at =
     (IsPermutation-middle b.1 x (flat_map (λ b. b.1) bs))
 
 -- an instance that is put before those of its key is one more, key by key
-pub one_more : (bs : List Bucket) (i : ℕ) (key : Value) (x : Instance) (v : List Instance) → IsDistinct is_key (keys_of bs) → slice_get bs i ≡ Some (key, v) → IsPermutation (in_order (set_value_at bs i (x ∷ v))) (x ∷ in_order bs)
+pub one_more : (bs : List Bucket) (i : ℕ) (key : Value) (x : Instance) (v : List Instance) → IsDistinct is_key (keys_of bs) → slice_get bs i ≡ Some (key, v) → IsPermutation (instances_in_order (set_value_at bs i (x ∷ v))) (x ∷ instances_in_order bs)
 one_more bs i key x v d at =
     let written = subst (λ (ks : List Value). IsDistinct is_key ks) (sym (keys_written bs i (x ∷ v))) d in
     IsPermutation-trans _ _ _ (IsPermutation-sym _ _ (in_order_permuted (set_value_at bs i (x ∷ v)) written))
     (IsPermutation-trans _ _ _ (flat_more bs i key x v at) (IsPermutation-cons x _ _ (in_order_permuted bs d)))
 
 -- an empty bucket adds no instance
-pub none_more : (bs : List Bucket) (key : Value) → IsDistinct is_key (keys_of bs) → IsDistinct is_key (keys_of (bs ++ (key, []) ∷ [])) → in_order (bs ++ (key, []) ∷ []) ≡ in_order bs
+pub none_more : (bs : List Bucket) (key : Value) → IsDistinct is_key (keys_of bs) → IsDistinct is_key (keys_of (bs ++ (key, []) ∷ [])) → instances_in_order (bs ++ (key, []) ∷ []) ≡ instances_in_order bs
 none_more bs key d more =
     let b : Bucket = (key, []) in
-    sym (kept_in_order (bs ++ b ∷ []) more) ∙ ap in_order (filter-append is_live bs (b ∷ []) ∙ append-nil (filter is_live bs)) ∙ kept_in_order bs d
+    sym (kept_in_order (bs ++ b ∷ []) more) ∙ ap instances_in_order (filter-append is_filled bs (b ∷ []) ∙ append-nil (filter is_filled bs)) ∙ kept_in_order bs d
 
 module _ {Y : Type 0} (test : Value → Y → Bool) where
   -- an entry with those of its items that pass a test of the key and the item

@@ -9,7 +9,7 @@ use Rattle.event_types.specs.declared.value.Value.TheVariants.{Over}
 use Rattle.semantics.specs.Values.{value_at}
 use Rattle.instances.specs.declared.instance.Instance.{Instance}
 use Rattle.binding_index.specs.Among.{is_key}
-use Rattle.binding_index.specs.Entries.{is_live, items_at}
+use Rattle.binding_index.specs.Entries.{is_filled, items_at}
 
 -- a key, and the instances that have it
 abbrev pub Bucket : Type 0
@@ -29,16 +29,16 @@ abbrev pub keys_in_order : List Bucket → List Value
 keys_in_order buckets = sort_by value_cmp (keys_of buckets)
 
 -- the instances key by key
-abbrev pub in_order : List Bucket → List Instance
-in_order buckets = flat_map (instances_at buckets) (keys_in_order buckets)
+abbrev pub instances_in_order : List Bucket → List Instance
+instances_in_order buckets = flat_map (instances_at buckets) (keys_in_order buckets)
 
 -- those before a place have instances, and the others none; the one at another place aside
 abbrev pub IsSplitBut : ℕ → ℕ → List Bucket → Type 0
-IsSplitBut place live buckets = (number : ℕ) (d : Bucket) → number ≢ place → number < length buckets → is_live (slice_index_or buckets number d) ≡ nat_lt number live
+IsSplitBut place filled buckets = (number : ℕ) (d : Bucket) → number ≢ place → number < length buckets → is_filled (slice_index_or buckets number d) ≡ nat_lt number filled
 
 -- those before a place have instances, and the others none
 abbrev pub IsSplit : ℕ → List Bucket → Type 0
-IsSplit live buckets = (number : ℕ) (d : Bucket) → number < length buckets → is_live (slice_index_or buckets number d) ≡ nat_lt number live
+IsSplit filled buckets = (number : ℕ) (d : Bucket) → number < length buckets → is_filled (slice_index_or buckets number d) ≡ nat_lt number filled
 
 -- each instance of the bucket has its key
 abbrev pub IsKeyed : ℕ → Bucket → Type 0
@@ -57,21 +57,21 @@ abbrev pub StartFrom : ℕ → List Bucket → Type 0
 StartFrom oldest buckets = All (StartsFrom oldest) buckets
 
 -- what holds of the buckets of a store: no key comes twice, each instance stands under its key and starts no earlier than a time, and the buckets with instances come first
-pub record AreBuckets (place live oldest : ℕ) (buckets : List Bucket) : Type 0 where
+pub record AreBuckets (place filled oldest : ℕ) (buckets : List Bucket) : Type 0 where
   pub distinct : IsDistinct is_key (keys_of buckets)
   pub keyed : AreKeyed place buckets
   pub start : StartFrom oldest buckets
-  pub within : live ≤ length buckets
-  pub split : IsSplit live buckets
+  pub within : filled ≤ length buckets
+  pub split : IsSplit filled buckets
 
--- the bucket of a key that may have candidates stands at a place
-pub record Finds (buckets : List Bucket) (key : Value) (place : ℕ) : Type 0 where
+-- the bucket of a key other than OVER stands at a place
+pub record HasBucketAt (buckets : List Bucket) (key : Value) (place : ℕ) : Type 0 where
   pub is_value : is_over key ≡ false
   pub at : slice_get buckets place ≡ Some (key, instances_at buckets key)
 
 -- a key has no candidates
-abbrev pub HasNone : List Bucket → Value → Type 0
-HasNone buckets key = (is_over key ≡ true) ⊎ ((is_over key ≡ false) × (instances_at buckets key ≡ []))
+abbrev pub HasNoCandidates : List Bucket → Value → Type 0
+HasNoCandidates buckets key = (is_over key ≡ true) ⊎ ((is_over key ≡ false) × (instances_at buckets key ≡ []))
 
 -- the same buckets, in some order
 pub record AreSame (old new : List Bucket) : Type 0 where

@@ -19,5 +19,5 @@ has_any [] = false
 has_any (x ∷ xs) = true
 
 -- whether there is an item under a key
-abbrev pub is_live : {Y : Type 0} → Value × List Y → Bool
-is_live entry = has_any entry.1
+abbrev pub is_filled : {Y : Type 0} → Value × List Y → Bool
+is_filled entry = has_any entry.1

@@ -3,9 +3,9 @@ ghost use Rattle.std.specs.Prelude.{◌≡◌, ◌<◌, ◌≤◌, ◌+◌, ◌-
 ghost use Rattle.std.specs.List.{IsDistinct};
 ghost use Rattle.std.specs.Map.{keys_of, lookup};
 ghost use Rattle.instances.specs.Bounds.{alive_instances};
-ghost use Rattle.binding_index.specs.Buckets.{AreSame, Finds, HasNone, IsSplit, IsSplitBut, StartFrom, instances_at};
+ghost use Rattle.binding_index.specs.Buckets.{AreSame, HasBucketAt, HasNoCandidates, IsSplit, IsSplitBut, StartFrom, instances_at};
 ghost use Rattle.binding_index.specs.Among.{is_key};
-ghost use Rattle.binding_index.specs.Entries.{has_any, is_live};
+ghost use Rattle.binding_index.specs.Entries.{has_any, is_filled};
 
 use crate::entries::place_of;
 use event_types::{List, Memory, Value, ValueRef};
@@ -21,8 +21,8 @@ pub(crate) type Buckets = IndexMap<Value, Chain<Instance>>;
 /// The place of the bucket where the candidates of an event with this key stand. OVER has none. Takes no
 /// memory.
 pub(crate) fn candidate_place(buckets: &Buckets, key: &Value) -> Option<usize>
-    ensures found { IfSome result (Finds buckets.now.entries key.now) }
-    ensures absent { IfNone result (HasNone buckets.now.entries key.now) }
+    ensures found { IfSome result (HasBucketAt buckets.now.entries key.now) }
+    ensures absent { IfNone result (HasNoCandidates buckets.now.entries key.now) }
 {
     match key.look() {
         ValueRef::Over => None,
@@ -66,11 +66,11 @@ pub(crate) fn count_all(buckets: &Buckets) -> u64
 }
 
 /// The place after the last bucket with instances, once the bucket at `place` stands among them or behind
-/// them, as it has some. The others did, where `live` was the place after the last of them.
-pub(crate) fn arrange(buckets: &mut Buckets, live: usize, place: usize) -> usize
-    requires within { live ≤ length buckets.old.entries }
+/// them, as it has some. The others did, where `filled` was the place after the last of them.
+pub(crate) fn arrange(buckets: &mut Buckets, filled: usize, place: usize) -> usize
+    requires within { filled ≤ length buckets.old.entries }
     requires there { place < length buckets.old.entries }
-    requires others { IsSplitBut place live buckets.old.entries }
+    requires others { IsSplitBut place filled buckets.old.entries }
     ensures same { AreSame buckets.old.entries buckets.new.entries }
     ensures within { result ≤ length buckets.new.entries }
     ensures split { IsSplit result buckets.new.entries }
@@ -78,15 +78,15 @@ pub(crate) fn arrange(buckets: &mut Buckets, live: usize, place: usize) -> usize
     // `len` is called for its clause that the number of buckets is below 2^63
     let _len = buckets.len();
     let has_some = has_instances(&buckets[place]);
-    if place < live && !has_some {
-        buckets.swap_indices(place, live - 1);
-        return live - 1;
+    if place < filled && !has_some {
+        buckets.swap_indices(place, filled - 1);
+        return filled - 1;
     }
-    if live <= place && has_some {
-        buckets.swap_indices(place, live);
-        return live + 1;
+    if filled <= place && has_some {
+        buckets.swap_indices(place, filled);
+        return filled + 1;
     }
-    live
+    filled
 }
 
 /// Takes out the instances that no event after `now` can match, as the bounds on DUR tell. It gives a
@@ -105,7 +105,7 @@ pub(crate) fn keep_all_alive(buckets: &mut Buckets, condition: &Conj, now: u64) 
 
 /// Forgets the keys that no instance has. Takes no memory.
 pub(crate) fn forget(buckets: &mut Buckets)
-    ensures { buckets.new.entries ≡ filter is_live buckets.old.entries }
+    ensures { buckets.new.entries ≡ filter is_filled buckets.old.entries }
 {
     buckets.retain(
         |_key: &Value, chain: &mut Chain<Instance>| -> bool

@@ -27,7 +27,7 @@ pub struct KeyedStore {
     // the instances of each key that is ready
     buckets: Buckets,
     // how many buckets have instances; they come first
-    live: usize,
+    filled: usize,
     // no instance starts before this time
     oldest: u64,
 }
@@ -40,12 +40,12 @@ impl Model for KeyedStore {
 
     ghost coded = { keyed_code };
 
-    ghost use Rattle.binding_index.specs.Buckets.{AreBuckets, in_order, keys_in_order};
+    ghost use Rattle.binding_index.specs.Buckets.{AreBuckets, instances_in_order, keys_in_order};
     ghost use Rattle.binding_index.specs.KeyParts.{key_of_part};
 
-    ghost view = { λ s. record { condition = s.condition; key = key_of_part s.key; ready = keys_in_order s.buckets.entries; instances = in_order s.buckets.entries } };
+    ghost view = { λ s. record { condition = s.condition; key = key_of_part s.key; ready = keys_in_order s.buckets.entries; instances = instances_in_order s.buckets.entries } };
 
-    ghost invariant = { λ s. AreBuckets s.key.binding s.live s.oldest s.buckets.entries };
+    ghost invariant = { λ s. AreBuckets s.key.binding s.filled s.oldest s.buckets.entries };
 }
 
 impl KeyedStore {
@@ -63,7 +63,7 @@ impl KeyedStore {
             condition,
             key,
             buckets: IndexMap::new(alloc),
-            live: 0,
+            filled: 0,
             oldest: u64::MAX,
         })
     }
@@ -97,7 +97,7 @@ impl Waiting for KeyedStore {
     fn take<L: Ledger>(&mut self, event: &Tuple, choose: &Conj, steps: &mut Steps<L>) {
         if let Some(place) = candidate_place(&self.buckets, event.vals().get(self.key.event)) {
             take_eligible(&mut self.buckets[place], event, choose, steps);
-            self.live = arrange(&mut self.buckets, self.live, place);
+            self.filled = arrange(&mut self.buckets, self.filled, place);
         }
     }
 
@@ -123,18 +123,18 @@ impl Waiting for KeyedStore {
             let key = instance.tuple.vals().get(self.key.binding);
             if let Some(place) = place_of(&self.buckets, key) {
                 put_before(&mut self.buckets[place], &mut chain);
-                self.live = arrange(&mut self.buckets, self.live, place);
+                self.filled = arrange(&mut self.buckets, self.filled, place);
             }
         }
     }
 
     fn purge(&mut self, now: u64) {
         if can_be_met(&self.condition, now, self.oldest) {
-            self.buckets.truncate(self.live);
+            self.buckets.truncate(self.filled);
         } else {
             self.oldest = keep_all_alive(&mut self.buckets, &self.condition, now);
             forget(&mut self.buckets);
-            self.live = self.buckets.len();
+            self.filled = self.buckets.len();
         }
     }
 

@@ -1,6 +1,5 @@
 //! What no clause says: that memory is had. Which bindings an event finds is told by hand.
 ghost use Rattle.std.specs.Prelude.{◌≡◌, length, IfOk, Some};
-ghost use Rattle.instances.specs.Keys.{EventFits};
 ghost use Rattle.binding_index.specs.Stores.{key_of};
 
 use crate::{Directory, Store};
@@ -41,41 +40,39 @@ fn with_binding(alloc: Global, price: Value) -> Result<Store, Memory>
     }
 }
 
-// Whether the store has a candidate of the event.
-fn has_candidate(store: &Store, event: &Tuple) -> bool
-    requires { EventFits (key_of store.now) event.now }
-{
-    store.candidates(event).next().is_some()
+// Whether a binding of this price is a candidate of an event of this price.
+fn is_candidate(alloc: Global, binding: Value, event: Value) -> Result<bool, Memory> {
+    let store = with_binding(alloc, binding)?;
+    let event = priced(alloc, event)?;
+    Ok(store.candidates(&event).next().is_some())
 }
 
 #[test]
-fn binding_whose_price_is_over_is_no_candidate_of_any_event(rt: HostRuntime) -> Result<(), Fail> {
+fn binding_is_a_candidate_of_its_price_and_never_of_over(rt: HostRuntime) -> Result<(), Fail> {
     let alloc = rt.alloc();
-    let store = with_binding(alloc, Value::Over)?;
-    let over = priced(alloc, Value::Over)?;
-    let seven = priced(alloc, Value::Int(7))?;
-    assert!(rt; !has_candidate(&store, &over));
-    assert!(rt; !has_candidate(&store, &seven));
-    assert_eq!(rt; store.count(), 1);
+    assert!(rt; is_candidate(alloc, Value::Int(7), Value::Int(7))?);
+    assert!(rt; !is_candidate(alloc, Value::Over, Value::Over)?);
     Ok(())
 }
 
-#[test]
-fn sweep_lets_a_price_lead_to_the_states_where_it_is_ready(rt: HostRuntime) -> Result<(), Fail> {
-    let alloc = rt.alloc();
+// A directory by which a key leads to the states 1 and 0.
+fn noted(alloc: Global, key: &Value) -> Result<Directory, Memory> {
     let mut directory = Directory::new(alloc);
+    directory.note(key, 1)?;
+    directory.note(key, 0)?;
+    directory.note(key, 1)?;
+    Ok(directory)
+}
+
+#[test]
+fn sweep_lets_a_price_lead_to_the_state_where_it_is_ready(rt: HostRuntime) -> Result<(), Fail> {
+    let alloc = rt.alloc();
     let seven = Value::Int(7);
-    let eight = Value::Int(8);
-    directory.note(&seven, 1)?;
-    directory.note(&seven, 0)?;
-    directory.note(&seven, 1)?;
-    directory.note(&eight, 1)?;
+    let mut directory = noted(alloc, &seven)?;
     assert_eq!(rt; directory.find(&seven), [1, 0].as_slice());
-    assert_eq!(rt; directory.pairs(), 3);
     let store = with_binding(alloc, Value::Int(7))?;
     directory.sweep(&[None, Some(store)]);
     assert_eq!(rt; directory.find(&seven), [1].as_slice());
-    assert_eq!(rt; directory.find(&eight), [].as_slice());
     assert_eq!(rt; directory.pairs(), 1);
     Ok(())
 }

@@ -3,7 +3,7 @@ use Rattle.std.specs.List.{All}
 use Rattle.std.proofs.lemmas.List.Elements.{filter_passes}
 use Rattle.event_types.specs.declared.value.Value.{Value}
 use Rattle.indexmap.proofs.CallerLemmas.{filter-RetainsPairs}
-use Rattle.binding_index.specs.Entries.{has_any, is_live}
+use Rattle.binding_index.specs.Entries.{has_any, is_filled}
 use Rattle.binding_index.specs.Leads.{is_ready_at}
 use Rattle.binding_index.proofs.EqualityLemmas.{distinct_keys}
 use Rattle.binding_index.proofs.LeadLemmas.{keep_more, kept_leads, led_swept}
@@ -18,24 +18,24 @@ loop-place-preserved c =
 pub returns-clause-leads : goal.returns-clause-leads
 returns-clause-leads c =
     rw (← c.self.view_is) (kept_leads (λ key number. is_ready_at c.args.stores.now number key) c.self.inside.states.entries c.loop-place.self-inside.states.entries c.retain.new.self.entries c.loop-place.place c.loop-place.invariant (omega arith)
-    (filter-RetainsPairs _ is_live _ (λ k v b w g call. search rules) _ _ c.retain.ensures.filtered) (distinct_keys _ c.len-place-end.ensures.unique))
+    (filter-RetainsPairs _ is_filled _ (λ k v b w g call. search rules) _ _ c.retain.ensures.filtered) (distinct_keys _ c.len-place-end.ensures.unique))
 
 pub returns-clause-led : goal.returns-clause-led
 returns-clause-led c =
     rw (← c.self.view_is) (led_swept c.self.inside.states.entries c.retain.new.self.entries c.args.stores.now
     (kept_leads (λ key number. is_ready_at c.args.stores.now number key) c.self.inside.states.entries c.loop-place.self-inside.states.entries c.retain.new.self.entries c.loop-place.place c.loop-place.invariant (omega arith)
-    (filter-RetainsPairs _ is_live _ (λ k v b w g call. search rules) _ _ c.retain.ensures.filtered) (distinct_keys _ c.len-place-end.ensures.unique)))
+    (filter-RetainsPairs _ is_filled _ (λ k v b w g call. search rules) _ _ c.retain.ensures.filtered) (distinct_keys _ c.len-place-end.ensures.unique)))
 
 -- the pairs were counted anew, and no key has more states
 pub invariant_of-self : goal.invariant_of-self
 invariant_of-self c = (
   c.count_pairs-self-inside.ensures,
   once_swept (λ key number. is_ready_at c.args.stores.now number key) c.self.inside.states.entries c.loop-place.self-inside.states.entries c.retain.new.self.entries c.loop-place.place c.loop-place.invariant (omega arith)
-      (filter-RetainsPairs _ is_live _ (λ k v b w g call. search rules) _ _ c.retain.ensures.filtered) c.self.invariant.1,
+      (filter-RetainsPairs _ is_filled _ (λ k v b w g call. search rules) _ _ c.retain.ensures.filtered) c.self.invariant.1,
 )
 
 -- each key that is left leads to a state
 pub returns-clause-all_lead : goal.returns-clause-all_lead
 returns-clause-all_lead c =
-    let kept = filter-RetainsPairs _ is_live _ (λ k v b w g call. search rules) _ _ c.retain.ensures.filtered in
-    subst (All (λ (entry : Value × List ℕ). has_any entry.1 ≡ true)) (sym kept) (filter_passes is_live c.loop-place.self-inside.states.entries)
+    let kept = filter-RetainsPairs _ is_filled _ (λ k v b w g call. search rules) _ _ c.retain.ensures.filtered in
+    subst (All (λ (entry : Value × List ℕ). has_any entry.1 ≡ true)) (sym kept) (filter_passes is_filled c.loop-place.self-inside.states.entries)

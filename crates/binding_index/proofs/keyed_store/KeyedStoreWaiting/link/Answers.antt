@@ -24,7 +24,7 @@ arrange-self-inside-requires-clause-there c =
     omega (arith, long, at)
 
 pub arrange-self-inside-requires-clause-others : goal.arrange-self-inside-requires-clause-others
-arrange-self-inside-requires-clause-others c = split_written c.self.inside.live c.self.inside.buckets.entries c.in-Some-place_of.place c.put_before.new.bucket c.self.invariant.split
+arrange-self-inside-requires-clause-others c = split_written c.self.inside.filled c.self.inside.buckets.entries c.in-Some-place_of.place c.put_before.new.bucket c.self.invariant.split
 
 pub invariant_of-self : goal.invariant_of-self
 invariant_of-self c =
@@ -35,7 +35,7 @@ invariant_of-self c =
     let is = value_there bs c.in-Some-place_of.place key had c.index_mut.result.now (items_stand c.self.inside.buckets.entries c.get-key.result.now c.in-Some-place_of.place c.in-Some-place_of.ensures.found) c.index_mut.ensures.value in
     let front : c.link.new.self ≡ c.args.bead ∷ [] = c.link.ensures ∙ ap (λ (xs : List Instance). xs ++ c.args.bead ∷ []) c.new-chain.ensures in
     let now : c.put_before.new.bucket ≡ c.args.bead ∷ had = c.put_before.ensures ∙ (λ i. front i ++ is i) in
-    linked c.self.inside.key.binding c.self.inside.oldest c.min-self-inside.result c.from.result c.self.inside.live c.arrange-self-inside.result bs c.in-Some-place_of.place key had c.put_before.new.bucket c.args.bead c.arrange-self-inside.new.buckets.entries c.self.invariant
+    linked c.self.inside.key.binding c.self.inside.oldest c.min-self-inside.result c.from.result c.self.inside.filled c.arrange-self-inside.result bs c.in-Some-place_of.place key had c.put_before.new.bucket c.args.bead c.arrange-self-inside.new.buckets.entries c.self.invariant
     (items_stand c.self.inside.buckets.entries c.get-key.result.now c.in-Some-place_of.place c.in-Some-place_of.ensures.found) now
     (ap (λ (n : Instance). value_at n.tuple c.self.inside.key.binding) (sym bead) ∙ value_is c.in-Some.instance.now.tuple c.vals.result.now c.self.inside.key.binding key c.vals.ensures c.get-key.ensures)
     c.min-self-inside.ensures (c.from.ensures.value ∙ ap (λ (n : Instance). n.tuple.from) bead) c.arrange-self-inside.ensures.same c.arrange-self-inside.ensures.within c.arrange-self-inside.ensures.split

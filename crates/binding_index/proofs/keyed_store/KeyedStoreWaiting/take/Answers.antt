@@ -9,7 +9,7 @@ use Rattle.instances.specs.declared.instance.Instance.{Instance}
 use Rattle.semantics.specs.Nexts.{is_eligible}
 use Rattle.semantics.specs.Values.{value_at}
 use Rattle.scalar_expr.specs.Fits.{AllFit}
-use Rattle.binding_index.specs.Buckets.{IsKeyed, StartsFrom, in_order, instances_at}
+use Rattle.binding_index.specs.Buckets.{IsKeyed, StartsFrom, instances_in_order, instances_at}
 use Rattle.binding_index.specs.Keyed.{Keyed}
 use Rattle.binding_index.specs.KeyParts.{key_of_part}
 use Rattle.binding_index.proofs.BucketLemmas.{same_keys}
@@ -25,10 +25,10 @@ pub take_eligible-requires : goal.take_eligible-requires
 take_eligible-requires g c =
     let key = key_of_part c.self.inside.key in
     let bs = c.self.inside.buckets.entries in
-    let are : c.index_mut.result.now ≡ candidates_of (Some key) c.args.event.now (in_order bs) =
+    let are : c.index_mut.result.now ≡ candidates_of (Some key) c.args.event.now (instances_in_order bs) =
     found_are key c.args.event.now bs c.self.invariant.keyed c.self.invariant.distinct c.get.result.now (value_is c.args.event.now c.vals.result.now c.self.inside.key.event c.get.result.now c.vals.ensures c.get.ensures) c.in-Some.place c.in-Some.ensures.found
     c.index_mut.result.now c.index_mut.ensures.value in
-    All-same (λ instance. AllFit c.args.choose.now c.args.event.now (Some instance.tuple)) c.index_mut.result.now (candidates_of (Some key) c.args.event.now (in_order bs)) are
+    All-same (λ instance. AllFit c.args.choose.now c.args.event.now (Some instance.tuple)) c.index_mut.result.now (candidates_of (Some key) c.args.event.now (instances_in_order bs)) are
     (subst (λ (s : Keyed). All (λ (instance : Instance). AllFit c.args.choose.now c.args.event.now (Some instance.tuple)) (candidates_of (Some s.key) c.args.event.now s.instances)) (sym c.self.view_is) c.requires.condition_fits)
 
 pub arrange-self-inside-requires-clause-within : goal.arrange-self-inside-requires-clause-within
@@ -41,7 +41,7 @@ arrange-self-inside-requires-clause-there g c =
     omega (arith, long, at)
 
 pub arrange-self-inside-requires-clause-others : goal.arrange-self-inside-requires-clause-others
-arrange-self-inside-requires-clause-others g c = split_written c.self.inside.live c.self.inside.buckets.entries c.in-Some.place c.take_eligible.new.chain c.self.invariant.split
+arrange-self-inside-requires-clause-others g c = split_written c.self.inside.filled c.self.inside.buckets.entries c.in-Some.place c.take_eligible.new.chain c.self.invariant.split
 
 pub invariant_of-self : goal.invariant_of-self
 invariant_of-self g c =
@@ -67,7 +67,7 @@ pub returns-in-Some-clause-ticks : goal.returns-in-Some-clause-ticks
 returns-in-Some-clause-ticks g c =
     let key = key_of_part c.self.inside.key in
     let bs = c.self.inside.buckets.entries in
-    let are : length c.index_mut.result.now ≡ length (candidates_of (Some key) c.args.event.now (in_order bs)) =
+    let are : length c.index_mut.result.now ≡ length (candidates_of (Some key) c.args.event.now (instances_in_order bs)) =
     ap length (found_are key c.args.event.now bs c.self.invariant.keyed c.self.invariant.distinct c.get.result.now (value_is c.args.event.now c.vals.result.now c.self.inside.key.event c.get.result.now c.vals.ensures c.get.ensures) c.in-Some.place c.in-Some.ensures.found
     c.index_mut.result.now c.index_mut.ensures.value) in
     rw (← c.self.view_is) (omega (arith, are, c.take_eligible.ensures.ticks))
