@@ -7,67 +7,12 @@ use std::cell::Cell;
 use std::process::Abort;
 use std::rc::Rc;
 
-// The chain of these values.
-fn chain_of(rt: &impl Abort, alloc: Global, values: &[u64]) -> Chain<u64> {
-    let mut chain = Chain::new();
-    for value in values {
-        match Bead::make(alloc, *value) {
-            Ok(bead) => chain.link(bead),
-            Err(_) => panic!(rt; "no memory for {value}"),
-        }
+// Puts a value at the back of a chain.
+fn put<T: Drop>(rt: &impl Abort, alloc: Global, chain: &mut Chain<T>, value: T) {
+    match Bead::make(alloc, value) {
+        Ok(bead) => chain.link(bead),
+        Err(_) => panic!(rt; "no memory for a bead"),
     }
-    chain
-}
-
-// Sees that the chain has these values and no others.
-fn assert_reads(rt: &impl Abort, chain: &Chain<u64>, want: &[u64]) {
-    let mut look = chain.look();
-    for value in want {
-        assert_eq!(rt; look.next().copied(), Some(*value));
-    }
-    assert!(rt; look.next().is_none(), "past {want:?}");
-}
-
-// A value that counts its drops.
-struct Counted {
-    drops: Rc<Cell<u64>>,
-}
-
-impl Drop for Counted {
-    fn drop(self) {
-        let Counted { drops } = self;
-        drops.set(drops.get().wrapping_add(1));
-    }
-}
-
-// So many counts.
-fn counts_of(rt: &impl Abort, alloc: Global, many: u64) -> Vec<Rc<Cell<u64>>> {
-    let mut counts = Vec::new(alloc);
-    for _ in 0..many {
-        let count = Rc::new(alloc, Cell::new(0)).expect(rt, "no memory for a count");
-        counts.push(count).expect(rt, "no memory for the counts");
-    }
-    counts
-}
-
-// Sees that these are the counts.
-fn assert_counts(rt: &impl Abort, counts: &[Rc<Cell<u64>>], want: &[u64]) {
-    for (count, want) in counts.iter().zip(want) {
-        assert_eq!(rt; count.get(), *want);
-    }
-}
-
-// A chain of one value for each of these counts.
-fn chain_that_counts(rt: &impl Abort, alloc: Global, counts: &[Rc<Cell<u64>>]) -> Chain<Counted> {
-    let mut chain = Chain::new();
-    for count in counts {
-        let drops = Rc::clone(count).expect(rt, "too many owners");
-        match Bead::make(alloc, Counted { drops }) {
-            Ok(bead) => chain.link(bead),
-            Err(_) => panic!(rt; "no memory for a value that counts"),
-        }
-    }
-    chain
 }
 
 // Takes out the numbers below a bound, as a caller proves it.
@@ -84,64 +29,70 @@ fn take_below(chain: &mut Chain<u64>, least: u64)
     }
 }
 
+// Sees that a chain has one value, and takes it out.
+fn assert_has(rt: &impl Abort, chain: &mut Chain<u64>, want: u64) {
+    assert_eq!(rt; chain.look().next().copied(), Some(want));
+    let mut walk = chain.walk();
+    match walk.unlink() {
+        Some(bead) => assert_eq!(rt; bead.into_value(), want),
+        None => panic!(rt; "no value"),
+    }
+    assert!(rt; walk.get().is_none());
+}
+
 #[test]
-fn beads_stand_in_the_order_in_which_they_were_linked(rt: HostRuntime) {
-    let chain = chain_of(&rt, rt.alloc(), &[3, 1, 2, 1]);
-    assert_reads(&rt, &chain, &[3, 1, 2, 1]);
+fn values_below_a_bound_are_taken_out_of_two_joined_chains(rt: HostRuntime) {
+    let alloc = rt.alloc();
+    let mut chain = Chain::new();
+    let mut other = Chain::new();
+    put(&rt, alloc, &mut chain, 2);
+    put(&rt, alloc, &mut chain, 7);
+    put(&rt, alloc, &mut other, 3);
+    chain.append(&mut other);
+    take_below(&mut chain, 7);
+    assert_has(&rt, &mut chain, 7);
     let mut none: Look<'_, u64> = Look::none();
     assert!(rt; none.next().is_none());
 }
 
-#[test]
-fn walk_takes_out_the_first_the_third_and_the_last_of_two_joined_chains(rt: HostRuntime) {
-    let alloc = rt.alloc();
-    let mut chain = chain_of(&rt, alloc, &[1, 2, 3]);
-    let mut other = chain_of(&rt, alloc, &[4, 5]);
-    chain.append(&mut other);
-    assert_reads(&rt, &chain, &[1, 2, 3, 4, 5]);
-    assert_reads(&rt, &other, &[]);
-    {
-        let mut walk = chain.walk();
-        for (place, keeps) in [false, true, false, true, false].iter().enumerate() {
-            assert!(rt; walk.get().is_some(), "{place}");
-            if *keeps {
-                walk.step();
-            } else if let Some(bead) = walk.unlink() {
-                assert_eq!(rt; bead.into_value(), place as u64 + 1);
-            }
-        }
-        assert!(rt; walk.unlink().is_none());
+// A value that adds to a sum when it is dropped.
+struct Counted {
+    sum: Rc<Cell<u64>>,
+    weight: u64,
+}
+
+impl Drop for Counted {
+    fn drop(self) {
+        let Counted { sum, weight } = self;
+        sum.set(sum.get().wrapping_add(weight));
     }
-    assert_reads(&rt, &chain, &[2, 4]);
+}
+
+// Puts a value that counts at the back of a chain.
+fn put_counted(
+    rt: &impl Abort,
+    alloc: Global,
+    chain: &mut Chain<Counted>,
+    sum: &Rc<Cell<u64>>,
+    weight: u64,
+) {
+    let sum = Rc::clone(sum).expect(rt, "too many owners");
+    put(rt, alloc, chain, Counted { sum, weight });
 }
 
 #[test]
-fn values_below_a_bound_are_taken_out(rt: HostRuntime) {
-    let mut chain = chain_of(&rt, rt.alloc(), &[7, 2, 9, 3, 7]);
-    take_below(&mut chain, 7);
-    assert_reads(&rt, &chain, &[7, 9, 7]);
-}
-
-#[test]
-fn each_of_five_values_is_dropped_once(rt: HostRuntime) {
+fn value_that_is_taken_out_and_those_that_stay_are_dropped_once(rt: HostRuntime) {
     let alloc = rt.alloc();
-    let first = counts_of(&rt, alloc, 3);
-    let second = counts_of(&rt, alloc, 2);
-    {
-        let mut chain = chain_that_counts(&rt, alloc, &first);
-        let mut other = chain_that_counts(&rt, alloc, &second);
-        chain.append(&mut other);
-        let mut walk = chain.walk();
-        for keeps in [false, true, false, true, false] {
-            if keeps {
-                walk.step();
-            } else {
-                let _ = walk.unlink();
-            }
-        }
-        assert_counts(&rt, &first, &[1, 0, 1]);
-        assert_counts(&rt, &second, &[0, 1]);
-    }
-    assert_counts(&rt, &first, &[1, 1, 1]);
-    assert_counts(&rt, &second, &[1, 1]);
+    let sum = Rc::new(alloc, Cell::new(0)).expect(&rt, "no memory for the sum");
+    let mut chain = Chain::new();
+    put_counted(&rt, alloc, &mut chain, &sum, 1);
+    put_counted(&rt, alloc, &mut chain, &sum, 10);
+    put_counted(&rt, alloc, &mut chain, &sum, 100);
+    let mut walk = chain.walk();
+    walk.step();
+    let _ = walk.unlink();
+    drop(walk);
+    assert_eq!(rt; sum.get(), 10);
+    drop(chain);
+    assert_eq!(rt; sum.get(), 111);
 }
