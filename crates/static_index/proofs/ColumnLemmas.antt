@@ -24,15 +24,15 @@ use Rattle.static_index.proofs.BucketLemmas.{tie}
 pub column_kept : (old new : Column) (n : ℕ) → ((l : Value) → Contains (hashed_ids old.equal l) n → Contains (hashed_ids new.equal l) n)
     → ((l : Value) → Contains (ordered_ids old.above l) n → Contains (ordered_ids new.above l) n)
     → ((l : Value) → Contains (ordered_ids old.below l) n → Contains (ordered_ids new.below l) n)
-    → (Contains old.others n → Contains new.others n)
+    → (Contains old.unequal n → Contains new.unequal n)
     → ((span : Span) → Contains (span_ids old.spans span) n → Contains (span_ids new.spans span) n)
     → (label : Label) → Contains (ids_under old label) n → Contains (ids_under new label) n
-column_kept old new n equal above below others spans (Within span) has = spans span has
-column_kept old new n equal above below others spans (Part part) has = go part.cmp has
+column_kept old new n equal above below unequal spans (Within span) has = spans span has
+column_kept old new n equal above below unequal spans (Part part) has = go part.cmp has
   where
     go : (c : Cmp) → Contains (ids_compared old c part.lit) n → Contains (ids_compared new c part.lit) n
     go cmp.Eq has = equal part.lit has
-    go cmp.Ne has = others has
+    go cmp.Ne has = unequal has
     go cmp.Lt has = below part.lit has
     go cmp.Le has = below part.lit has
     go cmp.Gt has = above part.lit has
@@ -67,9 +67,9 @@ module _ (column : Column) (value : Value) (n : ℕ) (none equal above below wit
     (kept : Contains equal n → Contains above n) (second : (l : Value) → is_met cmp.Ge (order_of value l) ≡ true → Contains (ordered_ids column.above l) n → Contains above n)
     (kept_on : Contains above n → Contains below n) (third : (l : Value) → is_met cmp.Le (order_of value l) ≡ true → Contains (ordered_ids column.below l) n → Contains below n)
     (kept_within : Contains below n → Contains within n) (fourth : (span : Span) → LiesIn span value → Contains (span_ids column.spans span) n → Contains within n)
-    (last : all ≡ within ++ column.others) where
+    (last : all ≡ within ++ column.unequal) where
   at_last : Contains within n → Contains all n
-  at_last has = subst (λ (ids : List ℕ). Contains ids n) (sym last) (Contains-append_left within column.others n has)
+  at_last has = subst (λ (ids : List ℕ). Contains ids n) (sym last) (Contains-append_left within column.unequal n has)
 
   after : Contains below n → Contains all n
   after has = at_last (kept_within has)
@@ -82,7 +82,7 @@ module _ (column : Column) (value : Value) (n : ℕ) (none equal above below wit
   compared cmp.Eq l met has =
       let here = subst (λ (v : Value). Contains (hashed_ids column.equal v) n) (sym (met_equal value l met)) has in
       after (kept_on (kept (subst (λ (ids : List ℕ). Contains ids n) (sym first) (Contains-append_right none (hashed_ids column.equal value) n here))))
-  compared cmp.Ne l met has = subst (λ (ids : List ℕ). Contains ids n) (sym last) (Contains-append_right within column.others n has)
+  compared cmp.Ne l met has = subst (λ (ids : List ℕ). Contains ids n) (sym last) (Contains-append_right within column.unequal n has)
   compared cmp.Lt l met has = after (third l (below_at (order_of value l) met) has)
   compared cmp.Le l met has = after (third l met has)
   compared cmp.Gt l met has = after (kept_on (second l (above_at (order_of value l) met) has))

@@ -11,7 +11,7 @@ use Rattle.static_index.specs.declared.column.Column.{Column}
 -- the ids under a comparison with a literal
 abbrev pub ids_compared : Column → Cmp → Value → List ℕ
 ids_compared column cmp.Eq lit = hashed_ids column.equal lit
-ids_compared column cmp.Ne lit = column.others
+ids_compared column cmp.Ne lit = column.unequal
 ids_compared column cmp.Lt lit = ordered_ids column.below lit
 ids_compared column cmp.Le lit = ordered_ids column.below lit
 ids_compared column cmp.Gt lit = ordered_ids column.above lit

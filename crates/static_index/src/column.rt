@@ -26,7 +26,7 @@ pub(crate) struct Column {
     // under `<` and `<=`
     below: Ordered,
     // under `<>`, whatever the literal
-    others: Numbers,
+    unequal: Numbers,
     // in ranges of numbers that are bounded on both sides
     spans: Spans,
 }
@@ -37,7 +37,7 @@ impl Column {
             equal: IndexMap::new(alloc),
             above: BTreeMap::new(alloc),
             below: BTreeMap::new(alloc),
-            others: List::new(alloc),
+            unequal: List::new(alloc),
             spans: BTreeMap::new(alloc),
         }
     }
@@ -73,7 +73,7 @@ impl Column {
             Cmp::Eq => put_hashed(alloc, &mut self.equal, lit, id),
             Cmp::Gt | Cmp::Ge => put_ordered(alloc, &mut self.above, lit, id),
             Cmp::Lt | Cmp::Le => put_ordered(alloc, &mut self.below, lit, id),
-            Cmp::Ne => put(&mut self.others, id),
+            Cmp::Ne => put(&mut self.unequal, id),
         }
     }
 
@@ -95,7 +95,7 @@ impl Column {
             Cmp::Eq => take_hashed(&mut self.equal, lit, id),
             Cmp::Gt | Cmp::Ge => take_ordered(&mut self.above, lit, id),
             Cmp::Lt | Cmp::Le => take_ordered(&mut self.below, lit, id),
-            Cmp::Ne => take_out(&mut self.others, id),
+            Cmp::Ne => take_out(&mut self.unequal, id),
         }
     }
 
@@ -135,6 +135,6 @@ impl Column {
         collect_up_to(&self.above, value, found)?;
         collect_from(&self.below, value, found)?;
         collect_spans(&self.spans, value, found)?;
-        append(found, &self.others)
+        append(found, &self.unequal)
     }
 }

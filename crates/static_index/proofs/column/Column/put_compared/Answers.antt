@@ -4,20 +4,20 @@ use Rattle.static_index.proofs.column.Column.put_compared.Goals as goal
 
 pub returns-in-Eq-clause-kept : goal.returns-in-Eq-clause-kept
 returns-in-Eq-clause-kept c = λ label n has.
-    let new : Column = record { equal = c.put_hashed.new.buckets; above = c.args.self.now.above; below = c.args.self.now.below; others = c.args.self.now.others; spans = c.args.self.now.spans } in
+    let new : Column = record { equal = c.put_hashed.new.buckets; above = c.args.self.now.above; below = c.args.self.now.below; unequal = c.args.self.now.unequal; spans = c.args.self.now.spans } in
     column_kept c.args.self.now new n (λ k h. c.put_hashed.ensures.kept k n h) (λ k h. h) (λ k h. h) (λ h. h) (λ span h. h) label has
 
 pub returns-in-Gt-clause-kept : goal.returns-in-Gt-clause-kept
 returns-in-Gt-clause-kept c = λ label n has.
-    let new : Column = record { equal = c.args.self.now.equal; above = c.put_ordered.new.buckets; below = c.args.self.now.below; others = c.args.self.now.others; spans = c.args.self.now.spans } in
+    let new : Column = record { equal = c.args.self.now.equal; above = c.put_ordered.new.buckets; below = c.args.self.now.below; unequal = c.args.self.now.unequal; spans = c.args.self.now.spans } in
     column_kept c.args.self.now new n (λ k h. h) (λ k h. c.put_ordered.ensures.kept k n h) (λ k h. h) (λ h. h) (λ span h. h) label has
 
 pub returns-in-Lt-clause-kept : goal.returns-in-Lt-clause-kept
 returns-in-Lt-clause-kept c = λ label n has.
-    let new : Column = record { equal = c.args.self.now.equal; above = c.args.self.now.above; below = c.put_ordered-in-Lt.new.buckets; others = c.args.self.now.others; spans = c.args.self.now.spans } in
+    let new : Column = record { equal = c.args.self.now.equal; above = c.args.self.now.above; below = c.put_ordered-in-Lt.new.buckets; unequal = c.args.self.now.unequal; spans = c.args.self.now.spans } in
     column_kept c.args.self.now new n (λ k h. h) (λ k h. h) (λ k h. c.put_ordered-in-Lt.ensures.kept k n h) (λ h. h) (λ span h. h) label has
 
 pub returns-in-Ne-clause-kept : goal.returns-in-Ne-clause-kept
 returns-in-Ne-clause-kept c = λ label n has.
-    let new : Column = record { equal = c.args.self.now.equal; above = c.args.self.now.above; below = c.args.self.now.below; others = c.put.new.ids; spans = c.args.self.now.spans } in
+    let new : Column = record { equal = c.args.self.now.equal; above = c.args.self.now.above; below = c.args.self.now.below; unequal = c.put.new.ids; spans = c.args.self.now.spans } in
     column_kept c.args.self.now new n (λ k h. h) (λ k h. h) (λ k h. h) (λ h. c.put.ensures.kept n h) (λ span h. h) label has
