@@ -10,7 +10,7 @@ use Rattle.std.proofs.lemmas.Map.Views.{Contains-from_lookup}
 use Rattle.event_types.specs.Tuple.{TupleView}
 use Rattle.event_types.specs.declared.value.Value.{Value}
 use Rattle.semantics.specs.Values.{value_at}
-use Rattle.event_types.specs.declared.value.Value.TheVariants.{Int, Over, Text}
+use Rattle.event_types.specs.declared.value.Value.TheVariants.{Int}
 use Rattle.static_index.specs.Buckets.{ids_in, ordered, ordered_ids}
 use Rattle.static_index.specs.Choosing.{LiesWithin}
 use Rattle.static_index.specs.FixedParts.{all_hold, holds_if_any, part_holds}
