@@ -251,6 +251,7 @@ module _ (net : Net) (layout : Layout) (stores : List (Option Plain)) (opened : 
   underived : get_or opened s [] ≡ []
   underived = All-get_or (λ t. get_or opened t [] ≡ []) order i 0 lt can.underived
 
+  -- the stream is one of the layout
   pub below : s < length layout.kinds
   below = All-get_or (λ t. t < length layout.kinds) order i 0 lt can.order
 
@@ -393,6 +394,7 @@ module _ (net : Net) (layout : Layout) (stores : List (Option Plain)) (opened : 
             let same = kept t (apart_from t f) f in
             ap sorted same ∙ All-contains (λ u. sorted (get_or old.made u []) ≡ get_or old.made u []) done t was.ordered c ∙ sym same
 
+    -- with this stream, one more is drawn
     pub derived_step : DrawnUpTo net layout stores opened (take (i + 1) order) new more
     derived_step =
         subst (λ (d : List ℕ). DrawnUpTo net layout stores opened d new more) (sym (take_more order i 0 lt)) (record {

@@ -67,12 +67,15 @@ beads_fit old w beads reached fits more marked = record {
     go v (inr other) = kept v other (fits.reached_all v)
 
 module _ {X : Type 0} where
+  -- a list that stays has nothing added
   pub adds_none : (old new : List X) → new ≡ old → Adds [] old new
   adds_none old new e = record { added = []; is = e ∙ sym (append-nil old); same = IsPermutation-refl [] }
 
+  -- the same items in another order are added as well
   pub adds_same : (a b old new : List X) → IsPermutation a b → Adds a old new → Adds b old new
   adds_same a b old new h adds = record { added = adds.added; is = adds.is; same = IsPermutation-trans _ _ _ adds.same h }
 
+  -- what is added one after the other is added
   pub adds_trans : (a b old mid new : List X) → Adds a old mid → Adds b mid new → Adds (a ++ b) old new
   adds_trans a b old mid new one two = record {
     added = one.added ++ two.added;

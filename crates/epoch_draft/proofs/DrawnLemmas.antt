@@ -50,6 +50,7 @@ abbrev pub moves_seen : Net → Stores → Streams → List Move
 moves_seen net stores seen = moves_over net (leaving_state net seen stores)
 
 module _ (net : Net) (stores : Stores) (s : ℕ) where
+  -- a stream to which no tuple is added leaves the streams as they are
   pub with_none : (seen : Streams) → with_stream seen s (seen s ++ []) ≡ seen
   with_none seen = λ i t. each t i
     where

@@ -21,10 +21,12 @@ use Rattle.epoch_draft.proofs.DraftLemmas.{grows_trans}
 use Rattle.epoch_draft.proofs.EdgeLemmas.{edge_before}
 
 module _ {X : Type 0} (P : X → Type 0) where
+  -- what holds of two lists holds of the left one
   pub all_left : (xs ys : List X) → All P (xs ++ ys) → All P xs
   all_left [] ys all = All-nil P
   all_left (x ∷ xs) ys all = All-cons P x xs (All-head P x (xs ++ ys) all) (all_left xs ys (All-tail P x (xs ++ ys) all))
 
+  -- and of the right one
   pub all_right : (xs ys : List X) → All P (xs ++ ys) → All P ys
   all_right [] ys all = all
   all_right (x ∷ xs) ys all = all_right xs ys (All-tail P x (xs ++ ys) all)
