@@ -9,4 +9,4 @@ abbrev pub value_of_ref : ValueRef → Value
 value_of_ref (look.Int number) = value.Int number
 value_of_ref look.Over = value.Over
 value_of_ref (look.Text text) = value.Text text.now
-value_of_ref (look.Dec decimal) = value.Dec decimal.scale decimal.units
+value_of_ref (look.Dec scale units) = value.Dec scale units

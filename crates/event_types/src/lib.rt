@@ -5,7 +5,6 @@
 #![tactic(auto)]
 
 mod comparison;
-mod decimal;
 mod kind;
 mod list;
 mod memory;
@@ -14,7 +13,6 @@ mod tuple;
 mod value;
 
 pub use comparison::Cmp;
-pub use decimal::Dec;
 pub use kind::{Kind, KindLists, Kinds};
 pub use list::{Copied, List, Numbers};
 pub use memory::Memory;

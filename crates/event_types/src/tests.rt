@@ -1,6 +1,6 @@
 //! What no clause says: that memory is had, and that the orders are the ones that are meant.
 use crate::{
-    BadSpan, Copied, Dec, Kind, List, Memory, Numbers, Text, Tuple, Tuples, Vals, Value, ValueRef,
+    BadSpan, Copied, Kind, List, Memory, Numbers, Text, Tuple, Tuples, Vals, Value, ValueRef,
     put_in_order,
 };
 use std::alloc::Global;
@@ -46,24 +46,24 @@ fn numbers_come_by_size_then_decimals_then_over_then_texts_by_bytes(
             ValueRef::Int(-1),
             ValueRef::Int(0),
             ValueRef::Int(170141183460469231731687303715884105727),
-            ValueRef::Dec(Dec { scale: 0, units: 7 }),
-            ValueRef::Dec(Dec {
+            ValueRef::Dec { scale: 0, units: 7 },
+            ValueRef::Dec {
                 scale: 1,
                 units: -170141183460469231731687303715884105728,
-            }),
-            ValueRef::Dec(Dec {
+            },
+            ValueRef::Dec {
                 scale: 1,
                 units: 170141183460469231731687303715884105727,
-            }),
-            ValueRef::Dec(Dec {
+            },
+            ValueRef::Dec {
                 scale: 2,
                 units: -1,
-            }),
-            ValueRef::Dec(Dec { scale: 2, units: 0 }),
-            ValueRef::Dec(Dec {
+            },
+            ValueRef::Dec { scale: 2, units: 0 },
+            ValueRef::Dec {
                 scale: 18,
                 units: -9,
-            }),
+            },
             ValueRef::Over,
             ValueRef::Text(""),
             ValueRef::Text("10"),
@@ -168,10 +168,10 @@ fn copies_are_equal(rt: HostRuntime) -> Result<(), Fail> {
     assert_eq!(rt; text.copied(alloc)?.as_str(), "café");
     let looks = [
         ValueRef::Int(-3),
-        ValueRef::Dec(Dec {
+        ValueRef::Dec {
             scale: 2,
             units: -5,
-        }),
+        },
         ValueRef::Over,
         ValueRef::Text("café"),
     ];

@@ -9,7 +9,6 @@ ghost use Rattle.event_types.specs.Order.{value_cmp, value_place};
 ghost use Rattle.event_types.specs.OrderLaws.{tied_values, value_total};
 ghost use Rattle.event_types.specs.ValueOfRef.{value_of_ref};
 
-use crate::decimal::Dec;
 use crate::list::{Copied, List};
 use crate::memory::Memory;
 use crate::text::Text;
@@ -17,15 +16,19 @@ use std::alloc::Global;
 use std::cmp::Ordering;
 use std::hash::Hash;
 
-/// A value: a number of 128 bits, OVER for a number outside them, a text, or a decimal.
+/// A value: a whole number of 128 bits, a text, a decimal with units of 128 bits, or OVER, the value of an
+/// operation that has no other.
 ///
-/// Whole numbers come first, by size, then decimals, by scale and units, then OVER, then texts, by bytes.
+/// In the order of values whole numbers come first, by size; then decimals, by scale and then by units; then OVER;
+/// then texts, by bytes.
 #[derive(Hash, Drop)]
 pub enum Value {
     Int(i128),
     Over,
     Text(Text),
-    /// A decimal, as in `Dec`, whose fields stand here so that a value takes 32 bytes.
+    /// The decimal `units / 10^scale`: 1050 units of scale 2 are 10.50.
+    ///
+    /// Schemas and literals have scales of at most 18. Decimals of two scales are never equal.
     Dec { scale: u8, units: i128 },
 }
 
@@ -37,8 +40,10 @@ pub enum ValueRef<'a> {
     Int(i128),
     Over,
     Text(&'a str),
-    Dec(Dec),
+    Dec { scale: u8, units: i128 },
 }
+
+const _: () = prove!(size_of::<ValueRef<'_>>() == 32);
 
 /// The values of a tuple, in the order of its schema.
 pub type Vals = List<Value>;
@@ -85,10 +90,10 @@ impl Value {
             Value::Int(number) => ValueRef::Int(*number),
             Value::Over => ValueRef::Over,
             Value::Text(text) => ValueRef::Text(text.as_str()),
-            Value::Dec { scale, units } => ValueRef::Dec(Dec {
+            Value::Dec { scale, units } => ValueRef::Dec {
                 scale: *scale,
                 units: *units,
-            }),
+            },
         }
     }
 }
@@ -105,7 +110,7 @@ impl<'a> ValueRef<'a> {
                 let text = Text::make(alloc, text)?;
                 Ok(Value::Text(text))
             }
-            ValueRef::Dec(Dec { scale, units }) => Ok(Value::Dec { scale, units }),
+            ValueRef::Dec { scale, units } => Ok(Value::Dec { scale, units }),
         }
     }
 }

@@ -5,7 +5,7 @@ ghost use Rattle.event_types.specs.declared.value.Value.TheVariants as value;
 ghost use Rattle.semantics.specs.Scalars.{Add, Sub, Mul, Min, Max};
 ghost use Rattle.semantics.specs.Values.{combined, scaled};
 
-use event_types::{Dec, ValueRef};
+use event_types::ValueRef;
 
 // The sum, or OVER.
 pub(crate) fn sum<'a>(x: ValueRef<'a>, y: ValueRef<'a>) -> ValueRef<'a>
@@ -16,7 +16,9 @@ pub(crate) fn sum<'a>(x: ValueRef<'a>, y: ValueRef<'a>) -> ValueRef<'a>
             Some(z) => ValueRef::Int(z),
             None => ValueRef::Over,
         },
-        (ValueRef::Dec(x), ValueRef::Dec(y)) => decimal_sum(x, y),
+        (ValueRef::Dec { scale: s, units: x }, ValueRef::Dec { scale: t, units: y }) => {
+            decimal_sum(s, x, t, y)
+        }
         _ => ValueRef::Over,
     }
 }
@@ -30,7 +32,9 @@ pub(crate) fn difference<'a>(x: ValueRef<'a>, y: ValueRef<'a>) -> ValueRef<'a>
             Some(z) => ValueRef::Int(z),
             None => ValueRef::Over,
         },
-        (ValueRef::Dec(x), ValueRef::Dec(y)) => decimal_difference(x, y),
+        (ValueRef::Dec { scale: s, units: x }, ValueRef::Dec { scale: t, units: y }) => {
+            decimal_difference(s, x, t, y)
+        }
         _ => ValueRef::Over,
     }
 }
@@ -44,12 +48,12 @@ pub(crate) fn product<'a>(x: ValueRef<'a>, y: ValueRef<'a>) -> ValueRef<'a>
             Some(z) => ValueRef::Int(z),
             None => ValueRef::Over,
         },
-        (ValueRef::Int(x), ValueRef::Dec(y)) => decimal_product(y.scale, x, y.units),
-        (ValueRef::Dec(x), ValueRef::Int(y)) => decimal_product(x.scale, x.units, y),
-        (ValueRef::Dec(x), ValueRef::Dec(y)) => {
-            let scale = x.scale as u32 + y.scale as u32;
+        (ValueRef::Int(x), ValueRef::Dec { scale, units: y }) => decimal_product(scale, x, y),
+        (ValueRef::Dec { scale, units: x }, ValueRef::Int(y)) => decimal_product(scale, x, y),
+        (ValueRef::Dec { scale: s, units: x }, ValueRef::Dec { scale: t, units: y }) => {
+            let scale = s as u32 + t as u32;
             if scale <= 18 {
-                decimal_product(scale as u8, x.units, y.units)
+                decimal_product(scale as u8, x, y)
             } else {
                 ValueRef::Over
             }
@@ -63,7 +67,7 @@ fn decimal_product<'a>(scale: u8, x: i128, y: i128) -> ValueRef<'a>
     ensures { value_of_ref result ≡ scaled scale (x *ℤ y) }
 {
     match x.checked_mul(y) {
-        Some(units) => ValueRef::Dec(Dec { scale, units }),
+        Some(units) => ValueRef::Dec { scale, units },
         None => ValueRef::Over,
     }
 }
@@ -74,7 +78,9 @@ pub(crate) fn smaller<'a>(x: ValueRef<'a>, y: ValueRef<'a>) -> ValueRef<'a>
 {
     match (x, y) {
         (ValueRef::Int(x), ValueRef::Int(y)) => ValueRef::Int(x.min(y)),
-        (ValueRef::Dec(x), ValueRef::Dec(y)) => smaller_decimal(x, y),
+        (ValueRef::Dec { scale: s, units: x }, ValueRef::Dec { scale: t, units: y }) => {
+            smaller_decimal(s, x, t, y)
+        }
         _ => ValueRef::Over,
     }
 }
@@ -85,65 +91,61 @@ pub(crate) fn larger<'a>(x: ValueRef<'a>, y: ValueRef<'a>) -> ValueRef<'a>
 {
     match (x, y) {
         (ValueRef::Int(x), ValueRef::Int(y)) => ValueRef::Int(x.max(y)),
-        (ValueRef::Dec(x), ValueRef::Dec(y)) => larger_decimal(x, y),
+        (ValueRef::Dec { scale: s, units: x }, ValueRef::Dec { scale: t, units: y }) => {
+            larger_decimal(s, x, t, y)
+        }
         _ => ValueRef::Over,
     }
 }
 
 // The sum of two decimals, or OVER.
-fn decimal_sum<'a>(x: Dec, y: Dec) -> ValueRef<'a>
-    ensures { value_of_ref result ≡ combined Add (value.Dec x.scale x.units) (value.Dec y.scale y.units) }
+fn decimal_sum<'a>(s: u8, x: i128, t: u8, y: i128) -> ValueRef<'a>
+    ensures { value_of_ref result ≡ combined Add (value.Dec s x) (value.Dec t y) }
 {
-    if x.scale != y.scale {
+    if s != t {
         return ValueRef::Over;
     }
-    match x.units.checked_add(y.units) {
-        Some(units) => ValueRef::Dec(Dec {
-            scale: x.scale,
-            units,
-        }),
+    match x.checked_add(y) {
+        Some(units) => ValueRef::Dec { scale: s, units },
         None => ValueRef::Over,
     }
 }
 
 // The difference of two decimals, or OVER.
-fn decimal_difference<'a>(x: Dec, y: Dec) -> ValueRef<'a>
-    ensures { value_of_ref result ≡ combined Sub (value.Dec x.scale x.units) (value.Dec y.scale y.units) }
+fn decimal_difference<'a>(s: u8, x: i128, t: u8, y: i128) -> ValueRef<'a>
+    ensures { value_of_ref result ≡ combined Sub (value.Dec s x) (value.Dec t y) }
 {
-    if x.scale != y.scale {
+    if s != t {
         return ValueRef::Over;
     }
-    match x.units.checked_sub(y.units) {
-        Some(units) => ValueRef::Dec(Dec {
-            scale: x.scale,
-            units,
-        }),
+    match x.checked_sub(y) {
+        Some(units) => ValueRef::Dec { scale: s, units },
         None => ValueRef::Over,
     }
 }
 
 // The smaller of two decimals, or OVER.
-fn smaller_decimal<'a>(x: Dec, y: Dec) -> ValueRef<'a>
-    ensures { value_of_ref result ≡ combined Min (value.Dec x.scale x.units) (value.Dec y.scale y.units) }
+fn smaller_decimal<'a>(s: u8, x: i128, t: u8, y: i128) -> ValueRef<'a>
+    ensures { value_of_ref result ≡ combined Min (value.Dec s x) (value.Dec t y) }
 {
-    if x.scale != y.scale {
+    if s != t {
         return ValueRef::Over;
     }
-    ValueRef::Dec(Dec {
-        scale: x.scale,
-        units: x.units.min(y.units),
-    })
+    ValueRef::Dec {
+        scale: s,
+        units: x.min(y),
+    }
 }
 
 // The larger of two decimals, or OVER.
-fn larger_decimal<'a>(x: Dec, y: Dec) -> ValueRef<'a>
-    ensures { value_of_ref result ≡ combined Max (value.Dec x.scale x.units) (value.Dec y.scale y.units) }
+fn larger_decimal<'a>(s: u8, x: i128, t: u8, y: i128) -> ValueRef<'a>
+    ensures { value_of_ref result ≡ combined Max (value.Dec s x) (value.Dec t y) }
 {
-    if x.scale != y.scale {
+    if s != t {
         return ValueRef::Over;
     }
-    ValueRef::Dec(Dec {
-        scale: x.scale,
-        units: x.units.max(y.units),
-    })
+    ValueRef::Dec {
+        scale: s,
+        units: x.max(y),
+    }
 }

@@ -11,7 +11,7 @@ ghost use Rattle.scalar_expr.specs.Views.{pr_of};
 use crate::conjunction::Conj;
 use crate::predicate::Pred;
 use crate::valuation::value_of;
-use event_types::{Cmp, Dec, Tuple, ValueRef};
+use event_types::{Cmp, Tuple, ValueRef};
 use std::cmp::Ordering;
 use steps::{Ledger, Steps};
 
@@ -77,20 +77,18 @@ fn order(x: ValueRef<'_>, y: ValueRef<'_>) -> Option<Ordering>
     match (x, y) {
         (ValueRef::Int(x), ValueRef::Int(y)) => Some(x.cmp(&y)),
         (ValueRef::Text(x), ValueRef::Text(y)) => Some(x.cmp(&y)),
-        (ValueRef::Dec(x), ValueRef::Dec(y)) => decimal_order(x, y),
+        (ValueRef::Dec { scale: s, units: x }, ValueRef::Dec { scale: t, units: y }) => {
+            decimal_order(s, x, t, y)
+        }
         _ => None,
     }
 }
 
 // The order of two decimals of one scale, by units.
-fn decimal_order(x: Dec, y: Dec) -> Option<Ordering>
-    ensures { result ≡ order_of (value.Dec x.scale x.units) (value.Dec y.scale y.units) }
+fn decimal_order(s: u8, x: i128, t: u8, y: i128) -> Option<Ordering>
+    ensures { result ≡ order_of (value.Dec s x) (value.Dec t y) }
 {
-    if x.scale == y.scale {
-        Some(x.units.cmp(&y.units))
-    } else {
-        None
-    }
+    if s == t { Some(x.cmp(&y)) } else { None }
 }
 
 // Whether a comparison accepts the order of its operands.
