@@ -1,7 +1,8 @@
 //! Why an event line isn't read.
 
-/// What is wrong with an event line: the first of these, in this order. Fields are counted from 1. The lines that
-/// show a fault are of the stream `Stock (Name TEXT, Price INT, Volume INT)`.
+/// What is wrong with an event line: the first of these, in this order. `BadInt` and `BadDec` are one place in it:
+/// the first value field that isn't of its kind. Fields are counted from 1. The lines that show a fault are of the
+/// stream `Stock (Name TEXT, Price INT, Volume INT)`.
 #[derive(Clone, Copy, PartialEq, Eq, Debug, Drop)]
 pub enum LineFault {
     /// The line has more than 65,536 bytes, a carriage return at its end counted: 65,537 times `x`.
@@ -17,10 +18,10 @@ pub enum LineFault {
     BadTime { field: usize },
     /// The start is greater than the detection: `Stock,8,7,IBM,1,2`.
     StartAfterDetection,
-    /// The first value of kind INT that writes none: field 6 in `Stock,7,8,IBM,1,two`.
+    /// The first value field that isn't of its kind, which is INT: field 6 in `Stock,7,8,IBM,1,two`.
     BadInt { field: usize },
-    /// The first value of a kind DEC that writes none of so many places: field 5 in `Trade,1,1,IBM,1.234`, where the
-    /// stream is `Trade (Name TEXT, Price DEC 2)`.
+    /// The first value field that isn't of its kind, which is a DEC of so many places: field 5 in
+    /// `Trade,1,1,IBM,1.234`, where the stream is `Trade (Name TEXT, Price DEC 2)`.
     BadDec { field: usize, places: u8 },
 }
 

@@ -5,8 +5,8 @@ ghost use Rattle.event_types.specs.KindWord.{kind_word};
 use crate::list::List;
 use std::fmt;
 
-/// INT is a whole number from -2^127 to 2^127-1, TEXT is UTF-8, and `DEC 2` is a decimal of 2 places, whose
-/// units are in the range of INT.
+/// What an attribute holds: INT a whole number from -2^127 to 2^127-1, TEXT a text in UTF-8, and `DEC 2` a decimal
+/// of 2 places, as 10.50, whose units, here 1050, are in the range of INT.
 #[derive(Clone, Copy, PartialEq, Eq, Debug, Drop)]
 pub enum Kind {
     Int,

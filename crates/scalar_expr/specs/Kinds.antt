@@ -14,7 +14,7 @@ abbrev pub bound_kind : Option (List Kind) → ℕ → Kind
 bound_kind None place = kind.Int
 bound_kind (Some kinds) place = kind_at kinds place
 
--- the kind of a scalar: that of its literal or its attribute, and else a whole number
+-- the kind of a scalar by the rules of typing: that of its literal or its attribute, and else a whole number
 abbrev pub sc_kind : Sc → List Kind → Option (List Kind) → Kind
 sc_kind (Lit v) event binding = value_kind v
 sc_kind (Event place) event binding = kind_at event place

@@ -10,7 +10,7 @@ use event_types::{Kind, Kinds, Value};
 
 /// The kind of a scalar over an event and a binding of these kinds.
 ///
-/// DUR and each operation are whole numbers, whatever their operands. Takes no memory.
+/// By the rules of typing DUR and each operation are whole numbers; their operands aren't asked. Takes no memory.
 pub fn kind_of(scalar: &Scalar, event: &Kinds, binding: Option<&Kinds>) -> Kind
     requires { HasPlace (sc_of scalar.now) event.now (option_copied binding) }
     ensures { result ≡ sc_kind (sc_of scalar.now) event.now (option_copied binding.entry) }

@@ -5,7 +5,7 @@ use Rattle.semantics.specs.Expressions.{Ex}
 use Rattle.semantics.specs.Denotation.{Streams, denote}
 use Rattle.semantics.specs.Histories.{Event, heard_on}
 
--- a query: its name, the number of the stream that it publishes, that of the first of its hidden streams, on which its lines keep what its results are made of, and its expression
+-- a query: its name, the number of the stream that it publishes, the number of the first of its hidden streams, which its own lines publish and none but them read, and its expression
 pub record Query : Type 0 where
   pub name : List ℕ
   pub stream : ℕ

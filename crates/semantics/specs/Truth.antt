@@ -12,7 +12,7 @@ use Rattle.event_types.specs.Tuple.{TupleView}
 use Rattle.semantics.specs.Scalars.{Pr, True, Test, And, Or, Not}
 use Rattle.semantics.specs.Values.{val}
 
--- the order of two numbers by size, of two decimals of one scale by units, or of two texts by bytes; OVER has none
+-- two whole numbers are ordered by size, two decimals of one scale by units, two texts by bytes; no other two values have an order, and OVER has none with any
 abbrev pub order_of : Value → Value → Option Ordering
 order_of (value.Int x) (value.Int y) = Some (int_cmp x y)
 order_of (value.Dec s x) (value.Dec t y) = if s == t then Some (int_cmp x y) else None

@@ -9,7 +9,7 @@ use Rattle.semantics.specs.Programs.{Program, Query}
 use Rattle.semantics.specs.Reading.{ReadsOnly}
 use Rattle.semantics.specs.Typing.{IsTypedOver}
 
--- where these streams are there, each query in turn publishes a stream with a greater number than all of them, reads some of them alone, and gives tuples of its kinds; then its stream is there too
+-- where these streams are there, each query in turn publishes a stream with a greater number than all of them, reads none but them, and gives tuples of its kinds; then its stream is there too
 abbrev pub PublishInTurn : (ℕ → List Kind) → List ℕ → List Query → Type 0
 PublishInTurn kinds there [] = ⊤
 PublishInTurn kinds there (query ∷ order) =

@@ -27,11 +27,11 @@ result_of Max x y = int_max x y
 abbrev pub scaled : ℕ → ℤ → Value
 scaled scale z = if is_in_range z then value.Dec scale z else value.Over
 
--- the product of two decimals: its scale is the sum of theirs, and there is none above 18 places, which is OVER
+-- the product of two decimals, which has as many places as both together; where these are more than 18, it is OVER
 abbrev pub product : ℕ → ℤ → ℕ → ℤ → Value
 product s x t y = if nat_le (s + t) 18 then scaled (s + t) (x *ℤ y) else value.Over
 
--- an operation on two whole numbers, or on the units of two decimals of one scale; a product also of two scales, a whole number counting 0; all else, as an operation with OVER, is OVER
+-- an operation is on two whole numbers, or on the units of two decimals of one scale; a product may be of two scales, where a whole number has scale 0; every other operation is OVER, each with OVER included
 abbrev pub combined : Op → Value → Value → Value
 combined op (value.Int x) (value.Int y) = clipped (result_of op x y)
 combined Mul (value.Int x) (value.Dec t y) = scaled t (x *ℤ y)

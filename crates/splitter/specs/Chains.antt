@@ -44,6 +44,6 @@ work_order program = chain_order program.order
 abbrev pub outs_of : Program → List ℕ
 outs_of program = map (λ query. query.stream) program.queries
 
--- the first number behind those of all streams of a program
+-- a number above those of all streams of a program
 abbrev pub end_of : Program → ℕ
 end_of program = chain_end program.order program.declared
