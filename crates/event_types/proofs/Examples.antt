@@ -1,10 +1,11 @@
--- Examples of the order of values, each worked out by hand. No contract cites them.
-use Rattle.std.proofs.Common.{◌≡◌, refl, ◌-◌, ◌^◌, pos, negsuc, [], ◌∷◌}
+-- Examples of the order of values and of tuples, each worked out by hand. No contract cites them.
+use Rattle.std.proofs.Common.{◌≡◌, refl, ℕ, ◌-◌, ◌^◌, pos, negsuc, List, [], ◌∷◌}
 use Rattle.std.specs.Prelude.{codes}
 use Rattle.std.specs.declared.cmp.Ordering.TheVariants.{Less, Equal, Greater}
 use Rattle.event_types.specs.declared.value.Value.{Value}
 use Rattle.event_types.specs.declared.value.Value.TheVariants.{Int, Over, Text, Dec}
-use Rattle.event_types.specs.Order.{value_cmp}
+use Rattle.event_types.specs.Order.{value_cmp, tuple_cmp, sorted}
+use Rattle.event_types.specs.Tuple.{TupleView}
 
 -- the ends of the whole numbers
 abbrev largest : Value
@@ -70,3 +71,58 @@ texts_come_by_bytes = refl
 
 prefix_comes_first : value_cmp (Text (codes "a")) (Text (codes "a0")) ≡ Less
 prefix_comes_first = refl
+
+-- each end of the whole numbers ties with itself
+largest_ties_with_itself : value_cmp largest largest ≡ Equal
+largest_ties_with_itself = refl
+
+least_ties_with_itself : value_cmp least least ≡ Equal
+least_ties_with_itself = refl
+
+-- the least whole number, too, stands before a decimal, OVER and a text
+least_comes_before_decimals : value_cmp least (Dec 18 (negsuc (2 ^ 127 - 1))) ≡ Less
+least_comes_before_decimals = refl
+
+least_comes_before_over : value_cmp Over least ≡ Greater
+least_comes_before_over = refl
+
+least_comes_before_texts : value_cmp least (Text []) ≡ Less
+least_comes_before_texts = refl
+
+-- the least units of a scale stand before its largest
+least_units_are_below_largest : value_cmp (Dec 18 (negsuc (2 ^ 127 - 1))) (Dec 18 (pos (2 ^ 127 - 1))) ≡ Less
+least_units_are_below_largest = refl
+
+-- the tuple of these values from a start to a detection
+abbrev tuple : ℕ → List Value → ℕ → TupleView
+tuple from vals at = record { vals = vals; from = from; at = at }
+
+-- the start comes first: greater values and a later detection don't matter
+start_comes_first : tuple_cmp (tuple 1 (Text (codes "z") ∷ []) 9) (tuple 2 (least ∷ []) 2) ≡ Less
+start_comes_first = refl
+
+-- of one start the values decide, from left to right, whatever the detection
+values_come_second : tuple_cmp (tuple 1 (Int (pos 1) ∷ largest ∷ []) 9) (tuple 1 (Int (pos 2) ∷ least ∷ []) 2) ≡ Less
+values_come_second = refl
+
+-- a list stands after each that it goes on from, and no values stand first
+shorter_list_comes_first : tuple_cmp (tuple 1 (Over ∷ []) 9) (tuple 1 (Over ∷ least ∷ []) 2) ≡ Less
+shorter_list_comes_first = refl
+
+no_values_come_first : tuple_cmp (tuple 1 (least ∷ []) 2) (tuple 1 [] 9) ≡ Greater
+no_values_come_first = refl
+
+-- a shorter list stands later where an item of it is greater
+greater_item_decides_before_the_length : tuple_cmp (tuple 1 (Over ∷ []) 2) (tuple 1 (largest ∷ largest ∷ []) 2) ≡ Greater
+greater_item_decides_before_the_length = refl
+
+-- the detection decides last
+detection_comes_last : tuple_cmp (tuple 1 (Over ∷ []) 2) (tuple 1 (Over ∷ []) 3) ≡ Less
+detection_comes_last = refl
+
+equal_tuples_tie : tuple_cmp (tuple 1 (Over ∷ []) 2) (tuple 1 (Over ∷ []) 2) ≡ Equal
+equal_tuples_tie = refl
+
+-- sorted tuples, of which equal ones stand as often as before
+all_sorts_in_order : sorted (tuple 1 (Text [] ∷ []) 2 ∷ tuple 1 (Over ∷ []) 2 ∷ tuple 1 (Dec 2 (pos 5) ∷ []) 2 ∷ tuple 0 (Over ∷ []) 5 ∷ tuple 1 (Int (pos 7) ∷ []) 2 ∷ tuple 1 (Over ∷ []) 2 ∷ []) ≡ tuple 0 (Over ∷ []) 5 ∷ tuple 1 (Int (pos 7) ∷ []) 2 ∷ tuple 1 (Dec 2 (pos 5) ∷ []) 2 ∷ tuple 1 (Over ∷ []) 2 ∷ tuple 1 (Over ∷ []) 2 ∷ tuple 1 (Text [] ∷ []) 2 ∷ []
+all_sorts_in_order = refl

@@ -15,7 +15,7 @@ use Rattle.semantics.specs.Runs.{runs}
 use Rattle.semantics.specs.Expressions.{Read, Filter, Select, Union, Next, Fold}
 use Rattle.semantics.specs.Denotation.{Streams, denote}
 use Rattle.semantics.specs.Histories.{Event as TheEvent, times}
-use Rattle.semantics.specs.Programs.{Program, Query}
+use Rattle.semantics.specs.Programs.{Program, Query, env}
 use Rattle.semantics.specs.Results.{results}
 use Rattle.semantics.specs.Report.{decimal_text, quoted, line, report}
 
@@ -91,6 +91,12 @@ larger_of_decimals = refl
 sum_of_two_scales_is_over : of_two Add (value.Dec 1 (pos 15)) (value.Dec 2 (pos 150)) ≡ value.Over
 sum_of_two_scales_is_over = refl
 
+difference_of_two_scales_is_over : of_two Sub (value.Dec 2 (pos 150)) (value.Dec 1 (pos 15)) ≡ value.Over
+difference_of_two_scales_is_over = refl
+
+largest_of_two_scales_is_over : of_two Max (value.Dec 1 (pos 15)) (value.Dec 2 (pos 150)) ≡ value.Over
+largest_of_two_scales_is_over = refl
+
 least_of_two_scales_is_over : of_two Min (value.Dec 1 (pos 15)) (value.Dec 2 (pos 150)) ≡ value.Over
 least_of_two_scales_is_over = refl
 
@@ -114,6 +120,10 @@ product_of_eighteen_places = refl
 product_of_nineteen_places_is_over : of_two Mul (value.Dec 10 (pos 2)) (value.Dec 9 (pos 3)) ≡ value.Over
 product_of_nineteen_places_is_over = refl
 
+-- a whole number has no places: by it a product of 18 places keeps them
+product_of_eighteen_places_by_a_whole_number : of_two Mul (value.Dec 18 (pos 2)) (value.Int (pos 3)) ≡ value.Dec 18 (pos 6)
+product_of_eighteen_places_by_a_whole_number = refl
+
 -- the ends of the range of the units, and one past them
 largest_units_are_there : of_two Add (value.Dec 2 (pos (2 ^ 127 - 2))) (value.Dec 2 (pos 1)) ≡ value.Dec 2 (pos (2 ^ 127 - 1))
 largest_units_are_there = refl
@@ -133,6 +143,39 @@ least_units_by_product = refl
 product_past_the_largest_units_is_over : of_two Mul (value.Dec 1 (pos (2 ^ 126))) (value.Dec 1 (pos 2)) ≡ value.Over
 product_past_the_largest_units_is_over = refl
 
+least_units_by_sum : of_two Add (value.Dec 2 (negsuc (2 ^ 127 - 2))) (value.Dec 2 (negsuc 0)) ≡ value.Dec 2 (negsuc (2 ^ 127 - 1))
+least_units_by_sum = refl
+
+sum_past_the_least_units_is_over : of_two Add (value.Dec 2 (negsuc (2 ^ 127 - 1))) (value.Dec 2 (negsuc 0)) ≡ value.Over
+sum_past_the_least_units_is_over = refl
+
+difference_past_the_largest_units_is_over : of_two Sub (value.Dec 2 (pos (2 ^ 127 - 1))) (value.Dec 2 (negsuc 0)) ≡ value.Over
+difference_past_the_largest_units_is_over = refl
+
+product_past_the_least_units_is_over : of_two Mul (value.Dec 1 (negsuc (2 ^ 126))) (value.Dec 1 (pos 2)) ≡ value.Over
+product_past_the_least_units_is_over = refl
+
+-- twice 2^126 units are 2^127, one too many; -2 times as many are the least; and twice one fewer are there
+twice_is_past_the_largest_units : of_two Mul (value.Int (pos 2)) (value.Dec 2 (pos (2 ^ 126))) ≡ value.Over
+twice_is_past_the_largest_units = refl
+
+minus_twice_is_the_least_units : of_two Mul (value.Dec 2 (pos (2 ^ 126))) (value.Int (negsuc 1)) ≡ value.Dec 2 (negsuc (2 ^ 127 - 1))
+minus_twice_is_the_least_units = refl
+
+twice_one_fewer_is_there : of_two Mul (value.Int (pos 2)) (value.Dec 2 (pos (2 ^ 126 - 1))) ≡ value.Dec 2 (pos (2 ^ 127 - 2))
+twice_one_fewer_is_there = refl
+
+-- the least whole number by -1, and the least of a decimal, are one past the largest
+least_by_minus_one_is_over : of_two Mul least (value.Int (negsuc 0)) ≡ value.Over
+least_by_minus_one_is_over = refl
+
+least_units_by_minus_one_are_over : of_two Mul (value.Int (negsuc 0)) (value.Dec 2 (negsuc (2 ^ 127 - 1))) ≡ value.Over
+least_units_by_minus_one_are_over = refl
+
+-- a text is no operand
+product_with_a_text_is_over : of_two Mul (value.Dec 2 (pos 5)) (value.Text (codes "5")) ≡ value.Over
+product_with_a_text_is_over = refl
+
 -- an operation with OVER is OVER
 decimal_with_over_is_over : of_two Mul (value.Dec 2 (pos 0)) value.Over ≡ value.Over
 decimal_with_over_is_over = refl
@@ -143,6 +186,17 @@ decimals_compare_by_units = refl
 
 scales_never_compare : truth (Test (cents 150) cmp.Ne (Lit (value.Dec 1 (pos 15)))) (tuple 0 1 1) None ≡ false
 scales_never_compare = refl
+
+-- nor does a decimal without places with a whole number, nor a decimal with OVER
+decimal_never_equals_a_whole_number : truth (Test (Lit (value.Dec 0 (pos 7))) cmp.Eq (number 7)) (tuple 0 1 1) None ≡ false
+decimal_never_equals_a_whole_number = refl
+
+over_is_not_below_a_decimal : truth (Test over cmp.Lt (cents 150)) (tuple 0 1 1) None ≡ false
+over_is_not_below_a_decimal = refl
+
+-- the ends of the units compare by size
+least_units_are_below_the_largest : truth (Test (Lit (value.Dec 2 (negsuc (2 ^ 127 - 1)))) cmp.Lt (Lit (value.Dec 2 (pos (2 ^ 127 - 1))))) (tuple 0 1 1) None ≡ true
+least_units_are_below_the_largest = refl
 
 -- each comparison with OVER is false
 over_is_not_other_than_one : truth (Test over cmp.Ne (number 1)) (tuple 0 1 1) None ≡ false
@@ -256,6 +310,20 @@ pairs_at_three = refl
 high_at_three : results program history 2 3 ≡ pair 7 9 2 3 ∷ []
 high_at_three = refl
 
+-- the same queries on streams whose numbers leave gaps: Up publishes 4 and hides from 6 on, High publishes 9
+abbrev with_gaps : Program
+with_gaps =
+    let up = record up { stream = 4; hidden = 6 } in
+    let high = record high { stream = 9; hidden = 12; expr = Filter (Test (Event 1) cmp.Gt (number 8) ∷ []) (Read 4) } in
+    record { declared = 1; queries = high ∷ up ∷ []; order = up ∷ high ∷ [] }
+
+-- they give the same, and nothing stands on the numbers between
+gaps_change_no_results : results with_gaps history 9 3 ≡ pair 7 9 2 3 ∷ []
+gaps_change_no_results = refl
+
+streams_in_gaps_are_empty : (env with_gaps history 1 ≡ []) × (env with_gaps history 6 ≡ [])
+streams_in_gaps_are_empty = (refl, refl)
+
 -- OVER is written by its name, a text with a comma stands in quotes, and a quote in it is doubled
 line_of_texts : line (codes "Q") (record { vals = value.Over ∷ value.Text (codes "a,b") ∷ value.Text (codes "say \"x\"") ∷ value.Text (codes "plain one") ∷ []; from = 2; at = 3 }) ≡ codes "Q,2,3,OVER,\"a,b\",\"say \"\"x\"\"\",plain one\n"
 line_of_texts =
@@ -273,6 +341,29 @@ sign_is_written_below_one = let none = decimal_digit 0 (lit< tt) in λ i. 45 ∷
 
 no_point_without_places : decimal_text 0 (negsuc 6) ≡ codes "-7"
 no_point_without_places = let seven = decimal_digit 7 (lit< tt) in λ i. 45 ∷ seven i
+
+-- a text and digits behind it, one by one
+abbrev digits_behind : List ℕ → List ℕ → List ℕ
+digits_behind text [] = text
+digits_behind text (digit ∷ more) = digits_behind (text ++ digit ∷ []) more
+
+minus_one_hundredth : decimal_text 2 (negsuc 0) ≡ codes "-0.01"
+minus_one_hundredth = let none = decimal_digit 0 (lit< tt) in λ i. 45 ∷ digits_behind (none i ++ 46 ∷ []) (codes "01")
+
+minus_ninety_nine_hundredths : decimal_text 2 (negsuc 98) ≡ codes "-0.99"
+minus_ninety_nine_hundredths = let none = decimal_digit 0 (lit< tt) in λ i. 45 ∷ digits_behind (none i ++ 46 ∷ []) (codes "99")
+
+none_of_two_places : decimal_text 2 (pos 0) ≡ codes "0.00"
+none_of_two_places = let none = decimal_digit 0 (lit< tt) in λ i. digits_behind (none i ++ 46 ∷ []) (codes "00")
+
+none_without_places : decimal_text 0 (pos 0) ≡ codes "0"
+none_without_places = decimal_digit 0 (lit< tt)
+
+least_of_eighteen_places : decimal_text 18 (pos 1) ≡ codes "0.000000000000000001"
+least_of_eighteen_places = let none = decimal_digit 0 (lit< tt) in λ i. digits_behind (none i ++ 46 ∷ []) (codes "000000000000000001")
+
+one_and_a_half_of_eighteen_places : decimal_text 18 (negsuc 1499999999999999999) ≡ codes "-1.500000000000000000"
+one_and_a_half_of_eighteen_places = let one = decimal_digit 1 (lit< tt) in λ i. 45 ∷ digits_behind (one i ++ 46 ∷ []) (codes "500000000000000000")
 
 line_of_pair : (name : List ℕ) → quoted name ≡ name → line name (pair 7 9 2 3) ≡ (name ++ codes ",2,3,7,9") ++ codes "\n"
 line_of_pair name plain =

@@ -1,5 +1,5 @@
 -- Values of given kinds, one by one.
-use Rattle.std.proofs.Common.{◌≡◌, ap, refl, subst, ℕ, zero, suc, ◌+◌, ◌<◌, length, List, [], ◌∷◌, ◌++◌, arith}
+use Rattle.std.proofs.Common.{◌≡◌, ap, refl, subst, ℕ, zero, suc, ◌<◌, length, List, [], ◌∷◌, ◌++◌, arith}
 use Rattle.std.specs.Prelude.{Some, slice_get, slice_index_or}
 use Rattle.event_types.specs.declared.kind.Kind.{Kind}
 use Rattle.event_types.specs.declared.value.Value.{Value}

@@ -1,8 +1,7 @@
 -- The streams of a program by its statements, and programs that share some.
-use Rattle.std.proofs.Common.{◌≡◌, ◌∙◌, sym, ap, refl, subst, ℕ, ◌+◌, ◌<◌, ◌==◌, nat_le, nat_lt, Bool, true, false, cond, List, [], ◌∷◌, ◌++◌, map, ◌⊎◌, inl, inr, arith}
+use Rattle.std.proofs.Common.{◌≡◌, ◌∙◌, sym, ap, refl, subst, ℕ, ◌+◌, ◌<◌, ◌==◌, nat_le, Bool, cond, List, [], ◌∷◌, ◌++◌, map, ◌⊎◌, inl, inr, arith}
 use Rattle.std.specs.Prelude.{Contains, IsTrue}
 use Rattle.std.specs.List.{All, filter, range_with_len}
-use Rattle.std.proofs.lemmas.Bool.Decides.{nat_tests}
 use Rattle.std.proofs.lemmas.List.Elements.{All-nil, All-cons, All-contains, All-head, All-tail, All-weaker, Contains-append_left, Contains-push, Contains-push_cases}
 use Rattle.std.proofs.lemmas.List.FromFn.{get_or-range_with_len, length-range_with_len}
 use Rattle.std.proofs.lemmas.List.Sorted.{All-permutation, IsPermutation-sym}
@@ -19,7 +18,7 @@ use Rattle.semantics.specs.Statements.{HaveSameStatements, HearTheSame, Publishe
 use Rattle.semantics.specs.TypedPrograms.{IsProgram, PublishInTurn}
 use Rattle.semantics.proofs.ListLemmas.{filter_swap, filter-map}
 use Rattle.semantics.proofs.ReadingLemmas.{denote_agrees, denote-renumbered, reads_both}
-use Rattle.event_types.proofs.NumberLemmas.{same_number, is_same, is_other, is_below}
+use Rattle.event_types.proofs.NumberLemmas.{is_same, is_other, is_below}
 
 -- the declared streams have the first numbers
 pub declared_there : (declared stream : ℕ) → stream < declared → Contains (range_with_len 0 declared) stream
