@@ -9,5 +9,6 @@ pub mod RunsLemmas
 pub mod SeenLemmas
 pub mod SortedLemmas
 pub mod TermOrderLemmas
+pub mod Examples
 pub mod FitLemmas
 pub mod ListLemmas
