@@ -77,7 +77,7 @@ fn streams_at(alloc: Global, declared: usize, places: &[usize]) -> Result<Number
 {
     let mut streams: Numbers = List::new(alloc);
     for place in places {
-        add_number(&mut streams, declared + *place)?;
+        streams.add(declared + *place)?;
     }
     Ok(streams)
 }
@@ -118,19 +118,9 @@ fn add_order(
     ensures { OnOk result (order.new ≡ order.old ++ (range_with_len first (next - first) ++ stream ∷ [])) }
 {
     for number in first..next {
-        add_number(order, number)?;
+        order.add(number)?;
     }
-    add_number(order, stream)
-}
-
-// Adds a number.
-fn add_number(numbers: &mut Numbers, number: usize) -> Result<(), Memory>
-    ensures { OnOk result (numbers.new ≡ numbers.old ++ number ∷ []) }
-{
-    if numbers.push(number).is_err() {
-        return Err(Memory);
-    }
-    Ok(())
+    order.add(stream)
 }
 
 // Adds equal lines.
@@ -138,9 +128,7 @@ fn add_lines(alloc: Global, lines: &mut Lines, more: &Lines) -> Result<(), Memor
     ensures { OnOk result (lines.new ≡ lines.old ++ more.now) }
 {
     for line in more.as_slice() {
-        if lines.push(line.copy(alloc)?).is_err() {
-            return Err(Memory);
-        }
+        lines.add(line.copy(alloc)?)?;
     }
     Ok(())
 }

@@ -26,9 +26,7 @@ fn add_kind(alloc: Global, line: &Line, kinds: &mut KindLists) -> Result<(), Mem
 {
     if line.out == kinds.len() {
         let out = line.gives(alloc, kinds)?;
-        if kinds.push(out).is_err() {
-            return Err(Memory);
-        }
+        kinds.add(out)?;
     }
     Ok(())
 }
