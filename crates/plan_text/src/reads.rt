@@ -36,10 +36,7 @@ fn add_statement(
         Statement::Stream { .. } => Ok(()),
         Statement::Query { source, .. } => {
             let names = reads_of(alloc, source)?;
-            match reads.push(names) {
-                Ok(()) => Ok(()),
-                Err(_) => Err(Memory),
-            }
+            reads.add(names)
         }
     }
 }
@@ -63,10 +60,7 @@ fn add_name(alloc: Global, name: &str, names: &mut Names) -> Result<(), Memory>
     if is_among(names.as_slice(), name) {
         return Ok(());
     }
-    match names.push(Text::make(alloc, name)?) {
-        Ok(()) => Ok(()),
-        Err(_) => Err(Memory),
-    }
+    names.add(Text::make(alloc, name)?)
 }
 
 // Whether the name is among those.
