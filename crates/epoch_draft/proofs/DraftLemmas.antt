@@ -16,11 +16,11 @@ use Rattle.automaton.specs.declared.network.End.{End}
 use Rattle.epoch_laws.specs.Instances.{began, pass_instance}
 use Rattle.epoch_laws.proofs.Bags.{permuted_is}
 use Rattle.epoch_draft.specs.Drafts.{Adds, DraftFits, Grows}
-use Rattle.epoch_draft.specs.Marks.{MarksMore}
+use Rattle.epoch_draft.specs.Marks.{AreMarks, MarksMore}
 use Rattle.epoch_draft.specs.Moves.{Back, Into, Move, Out, Way, bound_by, bound_of, made_by, made_of, moves_on}
 use Rattle.epoch_draft.specs.declared.draft.Draft.{Draft}
 use Rattle.epoch_draft.specs.declared.marks.Marks.{Marks}
-use Rattle.epoch_draft.proofs.Lists.{same_or_other}
+use Rattle.epoch_draft.proofs.Lists.{contains_or_not, same_or_other}
 
 -- tuples of one stream
 pub made_fits : (old : Draft) (s : ℕ) (rows : List TupleView) (due : Marks) → DraftFits (length old.made) (length old.beads) old → MarksMore old.due due → Contains due.numbers s
@@ -65,6 +65,39 @@ beads_fit old w beads reached fits more marked = record {
     go : (v : ℕ) → (v ≡ w) ⊎ (v ≡ w → ⊥) → (get_or (set old.beads w beads) v [] ≡ []) ⊎ Contains reached.numbers v
     go v (inl same) = inr (subst (Contains reached.numbers) (sym same) marked)
     go v (inr other) = kept v other (fits.reached_all v)
+
+-- the beads of states that are reached may be taken out
+pub linked_fits : (streams states : ℕ) (old : Draft) (beads : List (List Instance)) → DraftFits streams states old → length beads ≡ length old.beads → ((n : ℕ) → (Contains old.reached.numbers n → ⊥) → get_or beads n [] ≡ get_or old.beads n [])
+    → DraftFits streams states (record { made = old.made; beads = beads; due = old.due; reached = old.reached })
+linked_fits streams states old beads fits as_many others = record {
+  made = fits.made;
+  beads = as_many ∙ fits.beads;
+  due = fits.due;
+  due_below = fits.due_below;
+  reached = fits.reached;
+  reached_below = fits.reached_below;
+  due_all = fits.due_all;
+  reached_all = λ n. go n (contains_or_not old.reached.numbers n) (fits.reached_all n);
+}
+  where
+    go : (n : ℕ) → Contains old.reached.numbers n ⊎ (Contains old.reached.numbers n → ⊥) → (get_or old.beads n [] ≡ []) ⊎ Contains old.reached.numbers n → (get_or beads n [] ≡ []) ⊎ Contains old.reached.numbers n
+    go n (inl there) was = inr there
+    go n (inr absent) (inl none) = inl (others n absent ∙ none)
+    go n (inr absent) (inr there) = inr there
+
+-- a draft with nothing in it, none of whose streams is due and none of whose states is reached
+pub cleared_fits : (streams states : ℕ) (draft : Draft) → length draft.made ≡ streams → length draft.beads ≡ states → AreMarks draft.due → length draft.due.flags ≡ streams → AreMarks draft.reached → length draft.reached.flags ≡ states
+    → ((s : ℕ) → get_or draft.made s [] ≡ []) → ((n : ℕ) → get_or draft.beads n [] ≡ []) → DraftFits streams states draft
+cleared_fits streams states draft made beads due due_below reached reached_below none_made no_beads = record {
+  made = made;
+  beads = beads;
+  due = due;
+  due_below = due_below;
+  reached = reached;
+  reached_below = reached_below;
+  due_all = λ s. inl (none_made s);
+  reached_all = λ n. inl (no_beads n);
+}
 
 module _ {X : Type 0} where
   -- a list that stays has nothing added

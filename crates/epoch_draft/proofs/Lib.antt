@@ -1,3 +1,4 @@
+pub mod ClearLemmas
 pub mod Comes
 pub mod Concats
 pub mod DeriveLemmas

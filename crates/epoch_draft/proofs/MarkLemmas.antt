@@ -6,9 +6,9 @@ use Rattle.std.proofs.Math.Seq.{get_or-append_seam}
 use Rattle.std.proofs.lemmas.Grind.{get_or-set_at}
 use Rattle.std.proofs.lemmas.List.{get_or_append_left, get_or-set_other, length-append, length-set, take-append-le}
 use Rattle.std.proofs.lemmas.List.Elements.{All-contains_itself, All-weaker, Contains-append_left, Contains-push, Contains-push_cases}
-use Rattle.epoch_draft.specs.Marks.{AreMarks, MarksMore}
+use Rattle.epoch_draft.specs.Marks.{AreLowered, AreMarks, MarksMore}
 use Rattle.epoch_draft.specs.declared.marks.Marks.{Marks}
-use Rattle.epoch_draft.proofs.Lists.{below_or_last, same_or_other, taken_all}
+use Rattle.epoch_draft.proofs.Lists.{below_or_last, more_contains, same_or_other, taken_all}
 
 true_false : true ≡ false → ⊥
 true_false e = cc
@@ -79,6 +79,37 @@ mark_more marks n numbers are lt e put = record {
         fresh
         (subst (λ (ns : List ℕ). Contains ns n) (ap (λ (m : ℕ). take m (marks.numbers ++ n ∷ [])) last ∙ take-append-le (length marks.numbers) marks.numbers (n ∷ []) (omega arith) ∙ taken_all marks.numbers (length marks.numbers) (omega arith))
         (subst (Contains (take i (marks.numbers ++ n ∷ []))) (ap (λ (m : ℕ). get_or (marks.numbers ++ n ∷ []) m 0) last ∙ get_or-append_seam marks.numbers n [] 0) c))
+
+-- no flag was taken down yet
+pub lower_none : (flags : List Bool) → AreLowered [] flags flags
+lower_none flags = record { as_many = refl; raised = λ n h. (h, no_number n) }
+
+-- one flag more is down
+pub lower_more : (numbers : List ℕ) (i : ℕ) (first old : List Bool) → i < length numbers → get_or numbers i 0 < length first → AreLowered (take i numbers) first old → AreLowered (take (i + 1) numbers) first (set old (get_or numbers i 0) false)
+lower_more numbers i first old lt below h = record { as_many = length-set old m false ∙ h.as_many; raised = λ n up. go n (same_or_other n m) up }
+  where
+    m : ℕ
+    m = get_or numbers i 0
+
+    there : m < length old
+    there = omega (arith, h.as_many, below)
+
+    split : (n : ℕ) → (n ≡ m → ⊥) → (Contains (take i numbers) n → ⊥) → Contains (take i numbers) n ⊎ (m ≡ n) → ⊥
+    split n other none (inl c) = none c
+    split n other none (inr same) = other (sym same)
+
+    go : (n : ℕ) → (n ≡ m) ⊎ (n ≡ m → ⊥) → get_or (set old m false) n false ≡ true → (get_or first n false ≡ true) × (Contains (take (i + 1) numbers) n → ⊥)
+    go n (inl same) up = absurd (true_false (sym up ∙ get_or-set_at old m n false false same there))
+    go n (inr other) up =
+        let was = h.raised n (sym (get_or-set_other old m n false false other) ∙ up) in (was.0, λ c. split n other was.1 (more_contains numbers i 0 n lt c))
+
+-- once all are down no number is marked
+pub lowered_all : (marks : Marks) (flags : List Bool) → AreMarks marks → AreLowered marks.numbers marks.flags flags → (numbers : List ℕ) → numbers ≡ [] → AreMarks (record { flags = flags; numbers = numbers })
+lowered_all marks flags are h = marks_none flags (λ n. go n (get_or flags n false) refl)
+  where
+    go : (n : ℕ) (b : Bool) → get_or flags n false ≡ b → get_or flags n false ≡ false
+    go n false e = e
+    go n true e = let was = h.raised n e in absurd (was.1 (are.listed n was.0))
 
 -- all marked numbers are below the bound
 pub all_below : (marks : Marks) → AreMarks marks → (numbers : List ℕ) → numbers ≡ marks.numbers → All (λ n. n < length marks.flags) numbers

@@ -61,7 +61,8 @@ by_before net k n e = go (entrance_at net k) refl e
     go (Some (Waiting b hop)) at e = (hop, at ∙ ap (λ (m : ℕ). Some (Waiting m hop)) (some_is b n e))
 
 module _ (net : Net) (network : IsNetwork net) (kinds : List (List Kind)) (stores : List (Option Plain)) (typed : IsTyped net kinds stores) where
-  instances_typed : (n : ℕ) (w : Wait) → wait_at net n ≡ Some w → All (λ (i : Instance). HasKinds (typed.kinding.waiting n) i.tuple) (held stores n)
+  -- the instances of a waiting state have its kinds
+  pub instances_typed : (n : ℕ) (w : Wait) → wait_at net n ≡ Some w → All (λ (i : Instance). HasKinds (typed.kinding.waiting n) i.tuple) (held stores n)
   instances_typed n w at =
       let found = typed.has_stores n w at in
       subst (λ (o : Option Plain). All (λ (i : Instance). HasKinds (typed.kinding.waiting n) i.tuple) (instances_in o)) (sym found.1) found.2.instances
@@ -140,7 +141,7 @@ module _ (net : Net) (network : IsNetwork net) (kinds : List (List Kind)) (store
 
   module _ (seen : Streams) (have : HaveKinds kinds seen) where
     -- what leaves a state has its kinds
-    leaves_kinds : (n : ℕ) → All (λ (i : Instance). HasKinds (typed.kinding.leaving n) i.tuple) (leaving_state net seen (held stores) n)
+    pub leaves_kinds : (n : ℕ) → All (λ (i : Instance). HasKinds (typed.kinding.leaving n) i.tuple) (leaving_state net seen (held stores) n)
     leaves_kinds n = go (entrance_at net n) refl
       where
         good : Instance → Type 0

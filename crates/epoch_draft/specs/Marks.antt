@@ -1,5 +1,5 @@
 -- Numbers that are marked.
-use Rattle.std.specs.Prelude.{◌≡◌, ℕ, ◌<◌, false, true, Contains, length, slice_index_or, take}
+use Rattle.std.specs.Prelude.{◌≡◌, ℕ, Bool, ◌<◌, false, true, List, Contains, length, slice_index_or, take}
 use Rattle.epoch_draft.specs.declared.marks.Marks.{Marks}
 
 -- the marked numbers are exactly those that are listed, and each is listed once
@@ -13,3 +13,8 @@ pub record MarksMore (old new : Marks) : Type 0 where
   pub are : AreMarks new
   pub as_many : length new.flags ≡ length old.flags
   pub kept : (number : ℕ) → Contains old.numbers number → Contains new.numbers number
+
+-- the flags of these numbers are down, and no other was put up
+pub record AreLowered (numbers : List ℕ) (old new : List Bool) : Type 0 where
+  pub as_many : length new ≡ length old
+  pub raised : (number : ℕ) → slice_index_or new number false ≡ true → (slice_index_or old number false ≡ true) × (Contains numbers number → ⊥)

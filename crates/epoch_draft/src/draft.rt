@@ -1,8 +1,9 @@
 //! What an epoch brings, as far as it is made.
-ghost use Rattle.std.specs.Prelude.{◌≡◌, ◌<◌, ◌++◌, ◌∷◌, [], IfOk, OnOk, ℕ, length, slice_index_or, slice_set};
+ghost use Rattle.std.specs.Prelude.{◌≡◌, ◌<◌, ◌⊎◌, ◌++◌, ◌∷◌, [], Contains, IfOk, OnOk, ℕ, length, slice_index_or, slice_set};
+ghost use Rattle.std.specs.List.{All};
 ghost use Rattle.epoch_draft.specs.Drafts.{DraftFits, without};
 
-use crate::filling::{add, empty_lists};
+use crate::filling::{add, clear_lists, empty_lists};
 use crate::marks::Marks;
 use event_types::{List, Memory, StreamId, Tuple, Tuples};
 use inst_chain::{Bead, Chain};
@@ -39,7 +40,7 @@ pub type Pairs = List<Pair>;
 
 impl Draft {
     /// A draft for so many states and streams, in which nothing is made.
-    pub(crate) fn make(alloc: Global, states: usize, streams: usize) -> Result<Draft, Memory>
+    pub fn make(alloc: Global, states: usize, streams: usize) -> Result<Draft, Memory>
         ensures fits { IfOk result (λ draft. DraftFits streams states draft) }
         ensures none_made { IfOk result (λ draft. (stream : ℕ) → slice_index_or draft.made stream [] ≡ []) }
         ensures no_beads { IfOk result (λ draft. (state : ℕ) → slice_index_or draft.beads state [] ≡ []) }
@@ -54,6 +55,19 @@ impl Draft {
             due,
             reached,
         })
+    }
+
+    /// Takes all tuples and all beads out, and keeps the room. Takes no memory.
+    pub fn clear(&mut self)
+        requires { DraftFits (length self.old.made) (length self.old.beads) self.old }
+        ensures fits { DraftFits (length self.old.made) (length self.old.beads) self.new }
+        ensures none_made { (stream : ℕ) → slice_index_or self.new.made stream [] ≡ [] }
+        ensures no_beads { (state : ℕ) → slice_index_or self.new.beads state [] ≡ [] }
+    {
+        clear_lists(&mut self.made, self.due.numbers.as_slice());
+        clear_chains(&mut self.beads, self.reached.numbers.as_slice());
+        self.due.clear();
+        self.reached.clear();
     }
 
     /// Puts a tuple behind those of a stream. After want of memory the draft is of no more use.
@@ -138,4 +152,16 @@ fn empty_chains(alloc: Global, count: usize) -> Result<Beads, Memory>
         add(&mut chains, Chain::new())?;
     }
     Ok(chains)
+}
+
+// Drops the beads of the chains at these places.
+fn clear_chains(chains: &mut Beads, numbers: &[usize])
+    requires numbers { All (λ number. number < length chains.old) numbers.now }
+    requires others { (place : ℕ) → (slice_index_or chains.old place [] ≡ []) ⊎ Contains numbers.now place }
+    ensures as_many { length chains.new ≡ length chains.old }
+    ensures empty { (place : ℕ) → slice_index_or chains.new place [] ≡ [] }
+{
+    for number in numbers {
+        *chains.get_mut(*number) = Chain::new();
+    }
 }

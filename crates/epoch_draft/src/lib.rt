@@ -27,11 +27,13 @@ mod purging;
 mod settling;
 
 pub use closing::close;
-pub use draft::{Draft, Pair};
+pub use draft::{Draft, Lists, Pair, Pairs};
 pub use drawing::draw;
+pub use filling::{clear_lists, empty_lists, filled};
 pub use finding::{EndPlace, Target};
 pub use laws::{
     drawn_comes, drawn_is_after, drawn_is_epoch, drawn_starts, paired_comes, tuple_comes,
 };
 pub use marks::Marks;
+pub use meeting::Stores;
 pub use settling::settle;

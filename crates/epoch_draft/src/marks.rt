@@ -1,6 +1,7 @@
 //! Numbers that are marked.
-ghost use Rattle.std.specs.Prelude.{◌≡◌, ◌<◌, false, true, Contains, length, IfOk, OnOk};
-ghost use Rattle.epoch_draft.specs.Marks.{AreMarks, MarksMore};
+ghost use Rattle.std.specs.Prelude.{◌≡◌, ◌<◌, [], false, true, Contains, length, IfOk, OnOk};
+ghost use Rattle.std.specs.List.{All};
+ghost use Rattle.epoch_draft.specs.Marks.{AreLowered, AreMarks, MarksMore};
 
 use crate::filling::filled;
 use event_types::{List, Memory, Numbers};
@@ -15,8 +16,9 @@ pub struct Marks {
 
 impl Marks {
     /// None of the numbers below the bound is marked.
-    pub(crate) fn make(alloc: Global, bound: usize) -> Result<Marks, Memory>
+    pub fn make(alloc: Global, bound: usize) -> Result<Marks, Memory>
         ensures are { IfOk result (λ marks. AreMarks marks) }
+        ensures none { IfOk result (λ marks. marks.numbers ≡ []) }
         ensures as_many { IfOk result (λ marks. length marks.flags ≡ bound) }
     {
         let flags = filled(alloc, bound, false)?;
@@ -36,8 +38,8 @@ impl Marks {
         *self.flags.get(number)
     }
 
-    /// After want of memory all that were marked still are.
-    pub(crate) fn mark(&mut self, number: usize) -> Result<(), Memory>
+    /// Marks a number. After want of memory all that were marked still are.
+    pub fn mark(&mut self, number: usize) -> Result<(), Memory>
         requires marks { AreMarks self.old }
         requires number { number < length self.old.flags }
         ensures more { MarksMore self.old self.new }
@@ -53,5 +55,26 @@ impl Marks {
             }
             Err(_) => Err(Memory),
         }
+    }
+
+    /// Takes each mark away, and keeps the room. Takes no memory.
+    pub fn clear(&mut self)
+        requires { AreMarks self.old }
+        ensures are { AreMarks self.new }
+        ensures as_many { length self.new.flags ≡ length self.old.flags }
+        ensures none { self.new.numbers ≡ [] }
+    {
+        lower(&mut self.flags, self.numbers.as_slice());
+        self.numbers.clear();
+    }
+}
+
+// Takes down the flags of these numbers.
+fn lower(flags: &mut List<bool>, numbers: &[usize])
+    requires { All (λ number. number < length flags.old) numbers.now }
+    ensures { AreLowered numbers.now flags.old flags.new }
+{
+    for number in numbers {
+        *flags.get_mut(*number) = false;
     }
 }

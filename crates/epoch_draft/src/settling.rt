@@ -7,6 +7,7 @@ ghost use Rattle.scalar_expr.specs.Fits.{AllFit};
 ghost use Rattle.automaton.specs.States.{is_used, wait_at};
 ghost use Rattle.automaton.specs.declared.wait.Wait.{Wait};
 ghost use Rattle.epoch_draft.specs.Deriving.{CanDraw, DrawnUpTo, news_of};
+ghost use Rattle.epoch_draft.specs.Drafts.{DraftFits};
 ghost use Rattle.epoch_draft.specs.Held.{held, instances_in};
 ghost use Rattle.epoch_draft.specs.Purging.{ListsBounded};
 ghost use Rattle.epoch_draft.specs.Settling.{AreClosed, AreLinked, AreSettled, AreTaken, IsTakenAt, PairSuits, shape_of, takes_work, tuples_in};
@@ -39,6 +40,7 @@ pub fn settle<L: Ledger>(
     requires bounded { ListsBounded network.now (length network.now) bounded.now }
     ensures closed { AreClosed (time + 1) network.now (news_of opened.now draft.old.made layout.now.order) stores.old stores.new }
     ensures made { draft.new.made ≡ draft.old.made }
+    ensures fits { DraftFits (length layout.now.kinds) (length network.now) draft.new }
     ensures ticks { steps.new ≤ steps.old + takes_work (held stores.old) pairs.now }
 {
     step(network, layout, stores, opened, draft, pairs, steps);
@@ -59,6 +61,7 @@ fn step<L: Ledger>(
     requires drawn { DrawnUpTo network.now _layout.now stores.old opened.now _layout.now.order draft.old pairs.now }
     ensures settled { AreSettled network.now (news_of opened.now draft.old.made _layout.now.order) stores.old stores.new }
     ensures made { draft.new.made ≡ draft.old.made }
+    ensures fits { DraftFits (length _layout.now.kinds) (length network.now) draft.new }
     ensures ticks { steps.new ≤ steps.old + takes_work (held stores.old) pairs.now }
 {
     take_all(
@@ -148,7 +151,9 @@ fn link_all(stores: &mut Stores, beads: &mut Beads, numbers: &[usize])
     requires stores { All (λ number. number < length stores.old) numbers.now }
     requires beads { All (λ number. number < length beads.old) numbers.now }
     requires once { (place : ℕ) → place < length numbers.now → Contains (take place numbers.now) (slice_index_or numbers.now place 0) → ⊥ }
-    ensures { AreLinked numbers.now beads.old stores.old stores.new }
+    ensures linked { AreLinked numbers.now beads.old stores.old stores.new }
+    ensures as_many { length beads.new ≡ length beads.old }
+    ensures others { (number : ℕ) → (Contains numbers.now number → ⊥) → slice_index_or beads.new number [] ≡ slice_index_or beads.old number [] }
 {
     for number in numbers {
         link_in(stores.get_mut(*number), beads.get_mut(*number));

@@ -1,4 +1,4 @@
-use Rattle.std.proofs.Common.{◌∙◌, sym, subst, ℕ, ◌<◌, length, get_or, take, List}
+use Rattle.std.proofs.Common.{◌≡◌, ◌∙◌, sym, subst, ℕ, ◌<◌, length, get_or, take, List, []}
 use Rattle.std.specs.Prelude.{Contains}
 use Rattle.std.specs.List.{All}
 use Rattle.epoch_draft.specs.Held.{held}
@@ -6,6 +6,7 @@ use Rattle.epoch_draft.specs.Settling.{AreLinked, AreTaken, PairSuits, tuples_in
 use Rattle.epoch_draft.specs.declared.draft.Pair.{Pair}
 use Rattle.epoch_draft.proofs.MarkLemmas.{all_below}
 use Rattle.epoch_draft.proofs.SettleLemmas.{pairs_suit, settled}
+use Rattle.epoch_draft.proofs.DraftLemmas.{linked_fits}
 use Rattle.epoch_draft.proofs.settling.step.Goals as goal
 
 pub take_all-requires-clause-pairs : goal.take_all-requires-clause-pairs
@@ -38,4 +39,9 @@ returns-clause-settled g c =
     let draft = c.args.draft.now in
     settled net c.args._layout.now c.args.stores.now opened draft c.args.pairs.now c.requires.can_draw c.requires.drawn c.take_all.new.stores c.link_all.new.stores
     (subst (λ (ps : List Pair). AreTaken net (tuples_in opened draft.made) ps c.args.stores.now c.take_all.new.stores) c.as_slice.ensures c.take_all.ensures.taken)
-    (subst (λ (ns : List ℕ). AreLinked ns draft.beads c.take_all.new.stores c.link_all.new.stores) c.as_slice-2.ensures c.link_all.ensures)
+    (subst (λ (ns : List ℕ). AreLinked ns draft.beads c.take_all.new.stores c.link_all.new.stores) c.as_slice-2.ensures c.link_all.ensures.linked)
+
+pub returns-clause-fits : goal.returns-clause-fits
+returns-clause-fits g c =
+    linked_fits (length c.args._layout.now.kinds) (length c.args.network.now) c.args.draft.now c.link_all.new.beads c.requires.drawn.fits c.link_all.ensures.as_many
+    (subst (λ (ns : List ℕ). (n : ℕ) → (Contains ns n → ⊥) → get_or c.link_all.new.beads n [] ≡ get_or c.args.draft.now.beads n []) c.as_slice-2.ensures c.link_all.ensures.others)
