@@ -17,5 +17,6 @@ pub mod PurgeLemmas
 pub mod SettleLemmas
 pub mod StateLemmas
 pub mod SuitLemmas
+pub mod TypedLemmas
 pub mod TypingLemmas
 pub mod WorkLemmas

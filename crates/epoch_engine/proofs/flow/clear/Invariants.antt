@@ -1,7 +1,0 @@
-use Rattle.std.proofs.Common.{take}
-use Rattle.epoch_engine.proofs.ClearLemmas.{Cleared}
-use Rattle.epoch_engine.proofs.flow.clear.Given as goal
-
--- the lists so far are empty
-abbrev pub invariant-loop-number : goal.invariant-loop-number
-invariant-loop-number l = Cleared (take l.number-index l.numbers) l.initial.lists l.lists

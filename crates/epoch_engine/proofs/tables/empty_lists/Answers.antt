@@ -1,6 +1,0 @@
-use Rattle.std.proofs.Common.{◌∙◌, ap, ◌++◌, ◌∷◌, []}
-use Rattle.epoch_engine.proofs.Lists.{push_default}
-use Rattle.epoch_engine.proofs.tables.empty_lists.Goals as goal
-
-pub loop-preserved : goal.loop-preserved
-loop-preserved g c = push_default [] c.loop.counter c.loop.lists c.add.new.list c.loop.invariant (c.in_ok-add.ensures ∙ ap (λ x. c.loop.lists ++ x ∷ []) c.new.ensures)

@@ -1,5 +1,0 @@
-use Rattle.epoch_engine.proofs.Lists.{push_default}
-use Rattle.epoch_engine.proofs.tables.filled.Goals as goal
-
-pub loop-preserved : goal.loop-preserved
-loop-preserved g c = push_default c.args.item c.loop.counter c.loop.list c.add.new.list c.loop.invariant c.in_ok-add.ensures
