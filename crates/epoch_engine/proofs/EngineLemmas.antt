@@ -1,10 +1,12 @@
 -- Engines that are made, take a tuple and close an epoch.
-use Rattle.std.proofs.Common.{◌≡◌, ◌∙◌, sym, ap, refl, subst, ℕ, ◌==◌, ◌<◌, Bool, true, false, ◌||◌, length, get_or, set, List, [], ◌∷◌, ◌++◌, map, arith}
-use Rattle.std.specs.Prelude.{IsTrue, Option, Some, None, slice_get}
+use Rattle.std.proofs.Common.{◌≡◌, ◌∙◌, sym, ap, refl, subst, inl, inr, ℕ, zero, suc, ◌==◌, ◌<◌, ◌⊎◌, Bool, true, false, ◌||◌, length, get_or, set, List, [], ◌∷◌, ◌++◌, map, arith}
+use Rattle.std.specs.Prelude.{Contains, IfSome, IsSome, IsTrue, Option, Some, None, slice_get}
+use Rattle.std.specs.Option.{option_map, unwrap_or}
 use Rattle.std.specs.List.{All, list_any}
 use Rattle.std.proofs.lemmas.Bool.Decides.{nat_tests}
-use Rattle.std.proofs.lemmas.List.{set-get_or}
-use Rattle.std.proofs.lemmas.List.Elements.{All-head, All-nil, All-push, All-tail, All-weaker}
+use Rattle.std.proofs.lemmas.Grind.{get_or-set_at}
+use Rattle.std.proofs.lemmas.List.{get_or-set_other, length-set, set-get_or}
+use Rattle.std.proofs.lemmas.List.Elements.{All-cons, All-head, All-nil, All-push, All-tail, All-weaker}
 use Rattle.std.proofs.lemmas.Option.{get_or_from_slice_get, slice_get_within}
 use Rattle.event_types.specs.declared.kind.Kind.{Kind}
 use Rattle.event_types.specs.Tuple.{TupleView}
@@ -14,44 +16,52 @@ use Rattle.semantics.specs.Denotation.{streams_of}
 use Rattle.semantics.specs.Kinds.{HasKinds}
 use Rattle.automaton.specs.LineKinds.{LineFits}
 use Rattle.automaton.specs.NetworkLines.{NetworkFits}
-use Rattle.automaton.specs.States.{Net, wait_at}
+use Rattle.automaton.specs.Networks.{IsNetwork}
+use Rattle.automaton.specs.States.{Net, ends_at, state_at, wait_at}
 use Rattle.automaton.specs.Work.{is_in}
 use Rattle.automaton.specs.declared.layout.Layout.{Layout}
 use Rattle.automaton.specs.declared.line.Line.{Line}
+use Rattle.automaton.specs.declared.network.End.{End}
+use Rattle.automaton.specs.declared.network.State.{State}
 use Rattle.automaton.specs.declared.wait.Wait.{Wait}
 use Rattle.epoch_laws.specs.Closing.{Stores}
+use Rattle.epoch_laws.proofs.Lists.{every}
+use Rattle.epoch_draft.specs.Deriving.{AreOpened}
+use Rattle.epoch_draft.specs.Drafts.{EndsBelow}
+use Rattle.epoch_draft.specs.Held.{held, instances_in}
+use Rattle.epoch_draft.specs.Kindings.{EndFits}
+use Rattle.epoch_draft.specs.Marks.{MarksMore}
+use Rattle.epoch_draft.specs.Typed.{HaveKinds, IsTyped}
+use Rattle.epoch_draft.specs.declared.marks.Marks.{Marks}
+use Rattle.epoch_draft.proofs.Lists.{same_or_other}
+use Rattle.epoch_draft.proofs.MarkLemmas.{all_below}
+use Rattle.epoch_draft.proofs.StateLemmas.{some_is}
 use Rattle.epoch_engine.specs.Closes.{Closes, IsTaken}
-use Rattle.epoch_engine.specs.Kindings.{AreStatesTyped}
-use Rattle.epoch_engine.specs.Running.{IsRunning}
-use Rattle.epoch_engine.specs.Settling.{new_store}
-use Rattle.epoch_engine.specs.Tables.{AreTables}
-use Rattle.epoch_engine.specs.Typed.{held, instances_in}
 use Rattle.epoch_engine.specs.EngineView.{EngineView, stores_in}
-use Rattle.epoch_engine.specs.declared.tables.Tables.{Tables}
-use Rattle.epoch_engine.proofs.CloseLemmas.{held_in, put_typed}
-use Rattle.epoch_engine.proofs.StateLemmas.{some_is}
+use Rattle.epoch_engine.specs.Running.{AreTouched, IsPlan, IsRunning}
+use Rattle.epoch_engine.specs.Stores.{new_store}
+use Rattle.epoch_engine.specs.declared.epoch.Epoch.{Epoch}
+use Rattle.epoch_engine.specs.declared.plan.Plan.{Plan}
+use Rattle.epoch_engine.proofs.KindingLemmas.{AreStatesTyped, fitting_typed}
+
+-- what contracts see of these parts
+abbrev pub view_of : Plan → List (Option Plain) → Epoch → Option ℕ → EngineView
+view_of plan stores epoch closed_time =
+    record { network = plan.merged; layout = plan.layout; stores = map instances_in stores; opened = epoch.tuples; time = epoch.time; closed_time = closed_time }
+
+-- the instances of each state, as a view has them
+pub held_in : (stores : List (Option Plain)) → (λ n. get_or (map instances_in stores) n []) ≡ held stores
+held_in stores = λ i n. each stores n i
+  where
+    each : (stores : List (Option Plain)) (n : ℕ) → get_or (map instances_in stores) n [] ≡ instances_in (get_or stores n None)
+    each [] zero = refl
+    each [] (suc n) = refl
+    each (o ∷ stores) zero = refl
+    each (o ∷ stores) (suc n) = each stores n
 
 -- a list that was lent and came back as it was
 pub lent_back : {X : Type 0} (lists : List (List X)) (s : ℕ) (old new : List X) → slice_get lists s ≡ Some old → new ≡ old → set lists s new ≡ lists
 lent_back lists s old new got same = ap (set lists s) (same ∙ sym (get_or_from_slice_get lists s old [] got)) ∙ set-get_or lists s []
-
--- one open tuple more
-pub offered_running : (net : Net) (layout : Layout) (tables : Tables) (stores : List (Option Plain)) (opened : List (List TupleView)) → IsRunning net layout tables stores opened → (s : ℕ) (known : List Kind) (t : TupleView) → slice_get layout.kinds s ≡ Some known → HasKinds known t
-    → (old new : List TupleView) → slice_get opened s ≡ Some old → new ≡ old ++ t ∷ [] → IsRunning net layout tables stores (set opened s new)
-offered_running net layout tables stores opened running s known t is of_kinds old new got put = record {
-  lines = running.lines;
-  serves = running.serves;
-  typed = put_typed net layout.kinds stores opened running.typed s new (slice_get_within layout.kinds s known is) each;
-  tables_are = running.tables_are;
-  order = running.order;
-  outs = running.outs;
-}
-  where
-    each : (k : List Kind) → slice_get layout.kinds s ≡ Some k → All (HasKinds k) new
-    each k e =
-        let same = some_is known k (sym is ∙ e) in
-        let before = subst (All (HasKinds k)) (get_or_from_slice_get opened s old [] got) (running.typed.of_kinds s k e) in
-        subst (All (HasKinds k)) (sym put) (All-push (HasKinds k) old t before (subst (λ (ks : List Kind). HasKinds ks t) same of_kinds))
 
 same_number : (m n : ℕ) → (m == n) ≡ true → m ≡ n
 same_number m n e = grind (arith, nat_tests)
@@ -76,55 +86,196 @@ member_below m (n ∷ order) all s h = go (s == n) refl h (member_below m order 
     go true e h rest = subst (λ (k : ℕ). k < m) (sym (same_number s n e)) (All-head (λ k. k < m) n order all)
     go false e h rest = rest h
 
+-- derived streams have kinds
+order_below : (net : Net) (layout : Layout) → NetworkFits net layout → All (λ s. s < length layout.kinds) layout.order
+order_below net layout fits = All-weaker (λ s. IsTrue (list_any (λ (l : Line). l.out == s) fits.0)) (λ s. s < length layout.kinds) (λ s h. out_below layout.kinds fits.0 fits.2.typed s h) layout.order fits.2.only_outs
+
+-- streams that are printed are among the derived ones, which have kinds
+pub printed_below : (bound : ℕ) (order outs : List ℕ) → All (λ s. s < bound) order → All (λ s. IsTrue (is_in order s)) outs → All (λ s. s < bound) outs
+printed_below bound order outs below printed = All-weaker (λ s. IsTrue (is_in order s)) (λ s. s < bound) (λ s h. member_below bound order below s h) outs printed
+
+-- so they have where a network and a layout fit
+pub outs_below : (net : Net) (layout : Layout) → NetworkFits net layout → All (λ s. s < length layout.kinds) layout.outs
+outs_below net layout fits = printed_below (length layout.kinds) layout.order layout.outs (order_below net layout fits) fits.2.printed
+
+-- so have those of a plan
+pub outs_inside : (plan : Plan) → IsPlan plan → All (λ s. s < length plan.layout.kinds) plan.layout.order → (bound : ℕ) → bound ≡ length plan.layout.kinds → (outs : List ℕ) → outs ≡ plan.layout.outs → All (λ s. s < bound) outs
+outs_inside plan is below bound same outs e =
+    subst (λ (m : ℕ). All (λ s. s < m) outs) (sym same) (subst (All (λ s. s < length plan.layout.kinds)) (sym e) (printed_below (length plan.layout.kinds) plan.layout.order plan.layout.outs below is.printed))
+
+-- the streams of the ends of a typed network have kinds
+ends_below : (kinds : List (List Kind)) (net : Net) → AreStatesTyped kinds net → EndsBelow net (length kinds)
+ends_below kinds net typed n = go (state_at net n) refl
+  where
+    go : (o : Option State) → state_at net n ≡ o → All (λ (e : End). e.out < length kinds) (ends_at net n)
+    go None found = subst (All (λ (e : End). e.out < length kinds)) (sym (ap (λ (o : Option State). unwrap_or (option_map (λ (s : State). s.ends) o) []) found)) (All-nil (λ (e : End). e.out < length kinds))
+    go (Some state) found =
+        subst (All (λ (e : End). e.out < length kinds)) (sym (ap (λ (o : Option State). unwrap_or (option_map (λ (s : State). s.ends) o) []) found))
+        (All-weaker (EndFits kinds (typed.0.leaving n)) (λ (e : End). e.out < length kinds) (λ e fit. slice_get_within kinds e.out fit.0 fit.2) state.ends (typed.1 n state found).1)
+
+-- where no stream has tuples, they have whatever kinds
+none_have : (kinds : List (List Kind)) (tuples : List (List TupleView)) → ((s : ℕ) → get_or tuples s [] ≡ []) → HaveKinds kinds (streams_of tuples)
+none_have kinds tuples none s known is = subst (All (HasKinds known)) (sym (none s)) (All-nil (HasKinds known))
+
+-- the parts of a new engine
+pub made_running : (plan : Plan) (stores : List (Option Plain)) (epoch : Epoch) → NetworkFits plan.merged plan.layout → IsNetwork plan.merged → IsPlan plan
+    → (length stores ≡ length plan.merged) × ((n : ℕ) → get_or stores n None ≡ new_store (wait_at plan.merged n)) → length epoch.tuples ≡ length plan.layout.kinds → ((s : ℕ) → get_or epoch.tuples s [] ≡ []) → AreTouched epoch.tuples epoch.touched
+    → IsRunning plan stores epoch
+made_running plan stores epoch fits network is has as_many none touched =
+    let typed = fitting_typed plan.merged plan.layout fits in record {
+      plan_is = is;
+      can_draw = record {
+        network = network;
+        lines = fits.0;
+        serves = record { has_lines = fits.1; in_order = fits.2.in_order };
+        typed = record {
+          kinding = typed.0;
+          states = typed.1;
+          as_many = has.0;
+          has_stores = λ n w at. (record { condition = w.choose; instances = [] }, has.1 n ∙ ap new_store at, record { condition = refl; instances = All-nil (λ (i : Instance). HasKinds (typed.0.waiting n) i.tuple) });
+        };
+        kinds = none_have plan.layout.kinds epoch.tuples none;
+        as_many = as_many;
+        below = ends_below plan.layout.kinds plan.merged typed;
+        order = order_below plan.merged plan.layout fits;
+        underived = every (λ s. get_or epoch.tuples s [] ≡ []) none plan.layout.order;
+      };
+      touched = touched;
+    }
+
+-- other stores that are typed
+pub with_typed : (plan : Plan) (stores after : List (Option Plain)) (epoch : Epoch) → IsRunning plan stores epoch → IsTyped plan.merged plan.layout.kinds after → IsRunning plan after epoch
+with_typed plan stores after epoch running typed = record {
+  plan_is = running.plan_is;
+  can_draw = record {
+    network = running.can_draw.network;
+    lines = running.can_draw.lines;
+    serves = running.can_draw.serves;
+    typed = typed;
+    kinds = running.can_draw.kinds;
+    as_many = running.can_draw.as_many;
+    below = running.can_draw.below;
+    order = running.can_draw.order;
+    underived = running.can_draw.underived;
+  };
+  touched = running.touched;
+}
+
+-- other open tuples of their kinds, none of them on a derived stream
+with_tuples : (plan : Plan) (stores : List (Option Plain)) (old new : Epoch) → IsRunning plan stores old → HaveKinds plan.layout.kinds (streams_of new.tuples) → length new.tuples ≡ length old.tuples
+    → All (λ s. get_or new.tuples s [] ≡ []) plan.layout.order → AreTouched new.tuples new.touched → IsRunning plan stores new
+with_tuples plan stores old new running kinds as_many underived touched = record {
+  plan_is = running.plan_is;
+  can_draw = record {
+    network = running.can_draw.network;
+    lines = running.can_draw.lines;
+    serves = running.can_draw.serves;
+    typed = running.can_draw.typed;
+    kinds = kinds;
+    as_many = as_many ∙ running.can_draw.as_many;
+    below = running.can_draw.below;
+    order = running.can_draw.order;
+    underived = underived;
+  };
+  touched = touched;
+}
+
+-- an epoch that was closed
+pub closed_running : (plan : Plan) (stores : List (Option Plain)) (old new : Epoch) → IsRunning plan stores old → length new.tuples ≡ length old.tuples → ((s : ℕ) → get_or new.tuples s [] ≡ []) → AreTouched new.tuples new.touched → IsRunning plan stores new
+closed_running plan stores old new running as_many none touched =
+    with_tuples plan stores old new running (none_have plan.layout.kinds new.tuples none) as_many (every (λ s. get_or new.tuples s [] ≡ []) none plan.layout.order) touched
+
+-- an epoch that is as it was, but for what is marked
+pub kept_running : (plan : Plan) (stores : List (Option Plain)) (old new : Epoch) → IsRunning plan stores old → new.tuples ≡ old.tuples → AreTouched new.tuples new.touched → IsRunning plan stores new
+kept_running plan stores old new running same touched =
+    with_tuples plan stores old new running (subst (λ (ts : List (List TupleView)). HaveKinds plan.layout.kinds (streams_of ts)) (sym same) running.can_draw.kinds) (ap length same)
+    (subst (λ (ts : List (List TupleView)). All (λ s. get_or ts s [] ≡ []) plan.layout.order) (sym same) running.can_draw.underived) touched
+
+-- a stream that isn't derived is none of the derived ones
+others_in : (s : ℕ) (order : List ℕ) → is_in order s ≡ false → All (λ t. t ≡ s → ⊥) order
+others_in s [] h = All-nil (λ t. t ≡ s → ⊥)
+others_in s (n ∷ order) h = go (s == n) refl h (others_in s order)
+  where
+    other : (s == n) ≡ false → n ≡ s → ⊥
+    other e same = grind (arith, nat_tests)
+
+    go : (b : Bool) → (s == n) ≡ b → (b || list_any (λ k. s == k) order) ≡ false → (list_any (λ k. s == k) order ≡ false → All (λ t. t ≡ s → ⊥) order) → All (λ t. t ≡ s → ⊥) (n ∷ order)
+    go true e h rest = absurd (cc)
+    go false e h rest = All-cons (λ t. t ≡ s → ⊥) n order (other e) (rest h)
+
+-- one open tuple more
+pub offered_running : (plan : Plan) (stores : List (Option Plain)) (old new : Epoch) (s : ℕ) (known : List Kind) (tuple : TupleView) → IsRunning plan stores old → slice_get plan.layout.kinds s ≡ Some known → is_in plan.layout.order s ≡ false → HasKinds known tuple
+    → new.tuples ≡ set old.tuples s (get_or old.tuples s [] ++ tuple ∷ []) → AreTouched new.tuples new.touched → IsRunning plan stores new
+offered_running plan stores old new s known tuple running is declared of_kinds put touched =
+    with_tuples plan stores old new running (subst (λ (ts : List (List TupleView)). HaveKinds plan.layout.kinds (streams_of ts)) (sym put) kinds) (ap length put ∙ length-set old.tuples s more)
+    (subst (λ (ts : List (List TupleView)). All (λ t. get_or ts t [] ≡ []) plan.layout.order) (sym put) underived) touched
+  where
+    more : List TupleView
+    more = get_or old.tuples s [] ++ tuple ∷ []
+
+    there : s < length old.tuples
+    there = let lt = slice_get_within plan.layout.kinds s known is in omega (arith, lt, running.can_draw.as_many)
+
+    kinds : HaveKinds plan.layout.kinds (streams_of (set old.tuples s more))
+    kinds t ks known_t = go (same_or_other t s)
+      where
+        go : (t ≡ s) ⊎ (t ≡ s → ⊥) → All (HasKinds ks) (get_or (set old.tuples s more) t [])
+        go (inl same) =
+            let here = ap (slice_get plan.layout.kinds) (sym same) ∙ known_t in
+            let own = some_is known ks (sym is ∙ here) in
+            subst (All (HasKinds ks)) (sym (get_or-set_at old.tuples s t more [] same there)) (All-push (HasKinds ks) (get_or old.tuples s []) tuple (running.can_draw.kinds s ks here) (subst (λ (js : List Kind). HasKinds js tuple) own of_kinds))
+        go (inr other) = subst (All (HasKinds ks)) (sym (get_or-set_other old.tuples s t more [] other)) (running.can_draw.kinds t ks known_t)
+
+    underived : All (λ t. get_or (set old.tuples s more) t [] ≡ []) plan.layout.order
+    underived k d lt = get_or-set_other old.tuples s (get_or plan.layout.order k d) more [] (others_in s plan.layout.order declared k d lt) ∙ running.can_draw.underived k d lt
+
+-- a stream that is marked may get tuples
+pub touched_more : (tuples : List (List TupleView)) (touched more : Marks) (s : ℕ) (rows : List TupleView) → AreTouched tuples touched → MarksMore touched more → Contains more.numbers s → AreTouched (set tuples s rows) more
+touched_more tuples touched more s rows h grown this = record { are = grown.are; below = grown.as_many ∙ h.below ∙ sym (length-set tuples s rows); all = λ t. go t (same_or_other t s) (h.all t) }
+  where
+    go : (t : ℕ) → (t ≡ s) ⊎ (t ≡ s → ⊥) → (get_or tuples t [] ≡ []) ⊎ Contains touched.numbers t → (get_or (set tuples s rows) t [] ≡ []) ⊎ Contains more.numbers t
+    go t (inl same) was = inr (subst (Contains more.numbers) (sym same) this)
+    go t (inr other) (inl none) = inl (get_or-set_other tuples s t rows [] other ∙ none)
+    go t (inr other) (inr there) = inr (grown.kept t there)
+
+-- or not
+pub touched_same : (tuples : List (List TupleView)) (touched more : Marks) → AreTouched tuples touched → MarksMore touched more → AreTouched tuples more
+touched_same tuples touched more h grown = record { are = grown.are; below = grown.as_many ∙ h.below; all = λ t. go t (h.all t) }
+  where
+    go : (t : ℕ) → (get_or tuples t [] ≡ []) ⊎ Contains touched.numbers t → (get_or tuples t [] ≡ []) ⊎ Contains more.numbers t
+    go t (inl none) = inl none
+    go t (inr there) = inr (grown.kept t there)
+
+-- each stream that has tuples is listed once
+pub opened_streams : (tuples : List (List TupleView)) (touched : Marks) (numbers : List ℕ) → AreTouched tuples touched → numbers ≡ touched.numbers → AreOpened tuples numbers
+opened_streams tuples touched numbers h e =
+    subst (AreOpened tuples) (sym e) (record {
+      below = subst (λ (m : ℕ). All (λ s. s < m) touched.numbers) h.below (all_below touched h.are touched.numbers refl);
+      once = h.are.once;
+      all = h.all;
+    })
+
 no_instances : (o : Option Wait) → instances_in (new_store o) ≡ []
 no_instances None = refl
 no_instances (Some w) = refl
 
--- the derived streams and those that are printed have kinds
-pub order_below : (net : Net) (layout : Layout) → NetworkFits net layout → All (λ s. s < length layout.kinds) layout.order
-order_below net layout fits = All-weaker (λ s. IsTrue (list_any (λ (l : Line). l.out == s) fits.0)) (λ s. s < length layout.kinds) (λ s h. out_below layout.kinds fits.0 fits.2.typed s h) layout.order fits.2.only_outs
-
-pub outs_below : (net : Net) (layout : Layout) → NetworkFits net layout → All (λ s. s < length layout.kinds) layout.outs
-outs_below net layout fits =
-    All-weaker (λ s. IsTrue (is_in layout.order s)) (λ s. s < length layout.kinds) (λ s h. member_below (length layout.kinds) layout.order (order_below net layout fits) s h) layout.outs fits.2.printed
-
--- the parts of a new engine
-pub made_running : (net : Net) (layout : Layout) (tables : Tables) (stores : List (Option Plain)) (opened : List (List TupleView)) → NetworkFits net layout → AreStatesTyped layout.kinds net → AreTables net layout tables
-    → (length stores ≡ length net) × ((n : ℕ) → get_or stores n None ≡ new_store (wait_at net n)) → (length opened ≡ length layout.kinds) × ((s : ℕ) → get_or opened s [] ≡ []) → IsRunning net layout tables stores opened
-made_running net layout tables stores opened fits typed tables_are has empty = record {
-  lines = fits.0;
-  serves = record { has_lines = fits.1; in_order = fits.2.in_order };
-  typed = record {
-    kinding = typed.0;
-    states = typed.1;
-    as_many_stores = has.0;
-    has_stores = λ n w at. (record { condition = w.choose; instances = [] }, has.1 n ∙ ap new_store at, record { condition = refl; instances = All-nil (λ (i : Instance). HasKinds (typed.0.waiting n) i.tuple) });
-    as_many_streams = empty.0;
-    of_kinds = λ s known is. subst (All (HasKinds known)) (sym (empty.1 s)) (All-nil (HasKinds known));
-  };
-  tables_are = tables_are;
-  order = order_below net layout fits;
-  outs = outs_below net layout fits;
-}
-
--- its stores are empty
+-- new stores are empty
 pub made_empty : (net : Net) (stores : List (Option Plain)) → ((n : ℕ) → get_or stores n None ≡ new_store (wait_at net n)) → (n : ℕ) → get_or (map instances_in stores) n [] ≡ []
 made_empty net stores has n = (λ i. held_in stores i n) ∙ ap instances_in (has n) ∙ no_instances (wait_at net n)
 
 -- what the closing of an epoch makes of a view
-pub closes_view : (old new : EngineView) (stores after : List (Option Plain)) (time : ℕ) (batch : List (List TupleView)) → old.time ≡ Some time → old.stores ≡ map instances_in stores → new.stores ≡ map instances_in after
-    → IsTaken old.network old.layout time (held stores) (streams_of old.opened) (held after) batch → ((s : ℕ) → get_or new.opened s [] ≡ []) → length new.opened ≡ length old.opened → new.closed_time ≡ Some time → new.time ≡ None → Closes old new batch
-closes_view old new stores after time batch was e f taken empty as_many closed_time none = record {
+pub closes_view : (plan : Plan) (stores after : List (Option Plain)) (old new : Epoch) (closed_time : Option ℕ) (batch : List (List TupleView)) → ((s : ℕ) → get_or new.tuples s [] ≡ []) → length new.tuples ≡ length old.tuples → new.time ≡ None
+    → (was : Option ℕ) → old.time ≡ was → IsSome was → IfSome was (λ time. IsTaken plan.merged plan.layout time (held stores) (streams_of old.tuples) (held after) batch)
+    → Closes (view_of plan stores old closed_time) (view_of plan after new old.time) batch
+closes_view plan stores after old new closed_time batch empty as_many none None is opened taken = absurd (cc)
+closes_view plan stores after old new closed_time batch empty as_many none (Some time) is opened taken = record {
   time = time;
-  was_open = was;
+  was_open = is;
   taken =
-      subst (λ (st : Stores). IsTaken old.network old.layout time st (streams_of old.opened) (stores_in new) batch) (sym (same old stores e))
-      (subst (λ (st : Stores). IsTaken old.network old.layout time (held stores) (streams_of old.opened) st batch) (sym (same new after f)) taken);
+      subst (λ (st : Stores). IsTaken plan.merged plan.layout time st (streams_of old.tuples) (stores_in (view_of plan after new old.time)) batch) (sym (held_in stores))
+      (subst (λ (st : Stores). IsTaken plan.merged plan.layout time (held stores) (streams_of old.tuples) st batch) (sym (held_in after)) taken);
   emptied = empty;
   as_many = as_many;
-  now_closed = closed_time;
+  now_closed = is;
   none_open = none;
 }
-  where
-    same : (view : EngineView) (st : List (Option Plain)) → view.stores ≡ map instances_in st → stores_in view ≡ held st
-    same view st e = (λ i n. get_or (e i) n []) ∙ held_in st

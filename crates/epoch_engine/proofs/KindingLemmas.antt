@@ -28,8 +28,12 @@ use Rattle.automaton.proofs.SlotLemmas.{at_one, at_used, root_entry, used_below}
 use Rattle.automaton.proofs.TypingLemmas.{kinds_are}
 use Rattle.epoch_laws.proofs.Lists.{All-flat_map, map_all}
 use Rattle.epoch_laws.proofs.Networks.{flat_all, line_at, path_back}
-use Rattle.epoch_engine.specs.Kindings.{AreStatesTyped, EndFits, EntranceFits, Kinding}
-use Rattle.epoch_engine.proofs.StateLemmas.{some_is}
+use Rattle.epoch_draft.specs.Kindings.{EndFits, EntranceFits, Kinding, StatesFit}
+use Rattle.epoch_draft.proofs.StateLemmas.{some_is}
+
+-- there are kinds for which all states and ends of a network are typed
+abbrev pub AreStatesTyped : List (List Kind) → Net → Type 0
+AreStatesTyped kinds net = (kinding : Kinding) × StatesFit kinds net kinding
 
 -- what passes a stage, a step and a wait has these kinds
 stage_kinds : Stage → List Kind → List Kind

@@ -3,7 +3,6 @@ use Rattle.std.proofs.Common.{◌≡◌, ◌∙◌, sym, ap, refl, subst, ℕ, �
 use Rattle.std.specs.Prelude.{IfSome, Option, Some, None, is_some}
 use Rattle.std.proofs.lemmas.List.Elements.{All-filter}
 use Rattle.event_types.specs.declared.kind.Kind.{Kind}
-use Rattle.event_types.specs.Tuple.{TupleView}
 use Rattle.instances.specs.Alive.{is_alive}
 use Rattle.instances.specs.Bounds.{alive_instances}
 use Rattle.instances.specs.Plain.{Plain}
@@ -11,18 +10,20 @@ use Rattle.instances.specs.declared.instance.Instance.{Instance}
 use Rattle.semantics.specs.Kinds.{HasKinds}
 use Rattle.semantics.specs.Scalars.{Pr}
 use Rattle.automaton.specs.States.{Net, wait_at}
-use Rattle.automaton.specs.declared.layout.Layout.{Layout}
 use Rattle.automaton.specs.declared.wait.Wait.{Wait}
 use Rattle.epoch_laws.proofs.Bags.{permuted_is}
 use Rattle.epoch_laws.specs.Closing.{Stores}
 use Rattle.epoch_engine.specs.Closes.{ArePurgedWhole}
-use Rattle.epoch_engine.specs.Purging.{purged_for, purged_slot}
+use Rattle.epoch_draft.specs.Held.{held, instances_in}
+use Rattle.epoch_draft.specs.Purging.{purged_for}
+use Rattle.epoch_draft.specs.Typed.{IsStoreOf, IsTyped}
 use Rattle.epoch_engine.specs.Running.{IsRunning}
 use Rattle.epoch_engine.specs.Trims.{Trims}
-use Rattle.epoch_engine.specs.Typed.{AreTyped, IsStoreOf, held, instances_in}
+use Rattle.epoch_engine.specs.Stores.{purged_slot}
 use Rattle.epoch_engine.specs.EngineView.{EngineView, stores_in}
-use Rattle.epoch_engine.specs.declared.tables.Tables.{Tables}
-use Rattle.epoch_engine.proofs.CloseLemmas.{held_in}
+use Rattle.epoch_engine.specs.declared.epoch.Epoch.{Epoch}
+use Rattle.epoch_engine.specs.declared.plan.Plan.{Plan}
+use Rattle.epoch_engine.proofs.EngineLemmas.{held_in, with_typed}
 
 module _ (time : ℕ) (net : Net) (stores purged : List (Option Plain)) (each : (n : ℕ) → get_or purged n None ≡ purged_slot time (is_some (wait_at net n)) (get_or stores n None)) where
   -- where no state waits
@@ -33,7 +34,7 @@ module _ (time : ℕ) (net : Net) (stores purged : List (Option Plain)) (each : 
   purged_store : (n : ℕ) (w : Wait) (store : Plain) → wait_at net n ≡ Some w → get_or stores n None ≡ Some store → get_or purged n None ≡ Some (purged_for time store)
   purged_store n w store at is = each n ∙ (λ i. purged_slot time (is_some (at i)) (is i))
 
-  module _ (kinds : List (List Kind)) (opened : List (List TupleView)) (typed : AreTyped net kinds stores opened) where
+  module _ (kinds : List (List Kind)) (typed : IsTyped net kinds stores) where
     store_of : (n : ℕ) (w : Wait) → wait_at net n ≡ Some w → (store : Plain) × (get_or purged n None ≡ Some store) × IsStoreOf w (typed.kinding.waiting n) store
     store_of n w at =
         let found = typed.has_stores n w at in
@@ -47,15 +48,8 @@ module _ (time : ℕ) (net : Net) (stores purged : List (Option Plain)) (each : 
         )
 
     -- the stores are typed as before
-    purged_typed : length purged ≡ length stores → AreTyped net kinds purged opened
-    purged_typed as_many = record {
-      kinding = typed.kinding;
-      states = typed.states;
-      as_many_stores = as_many ∙ typed.as_many_stores;
-      has_stores = store_of;
-      as_many_streams = typed.as_many_streams;
-      of_kinds = typed.of_kinds;
-    }
+    purged_typed : length purged ≡ length stores → IsTyped net kinds purged
+    purged_typed as_many = record { kinding = typed.kinding; states = typed.states; as_many = as_many ∙ typed.as_many; has_stores = store_of }
 
     -- each has what is alive
     purged_alive : ArePurgedWhole time net (held stores) (held purged)
@@ -67,33 +61,26 @@ module _ (time : ℕ) (net : Net) (stores purged : List (Option Plain)) (each : 
         ∙ ap (λ (o : Option Plain). alive_instances time w.choose (instances_in o)) (sym found.1))
 
 -- a running engine goes on running
-pub purged_running : (time : ℕ) (net : Net) (layout : Layout) (tables : Tables) (stores purged : List (Option Plain)) (opened : List (List TupleView)) → IsRunning net layout tables stores opened → length purged ≡ length stores
-    → ((n : ℕ) → get_or purged n None ≡ purged_slot time (is_some (wait_at net n)) (get_or stores n None)) → IsRunning net layout tables purged opened
-purged_running time net layout tables stores purged opened running as_many each = record {
-  lines = running.lines;
-  serves = running.serves;
-  typed = purged_typed time net stores purged each layout.kinds opened running.typed as_many;
-  tables_are = running.tables_are;
-  order = running.order;
-  outs = running.outs;
-}
+pub purged_running : (time : ℕ) (plan : Plan) (stores purged : List (Option Plain)) (epoch : Epoch) → IsRunning plan stores epoch → length purged ≡ length stores
+    → ((n : ℕ) → get_or purged n None ≡ purged_slot time (is_some (wait_at plan.merged n)) (get_or stores n None)) → IsRunning plan purged epoch
+purged_running time plan stores purged epoch running as_many each =
+    with_typed plan stores purged epoch running (purged_typed time plan.merged stores purged each plan.layout.kinds running.can_draw.typed as_many)
 
 -- as a view has the stores
 abbrev pub with_stores : EngineView → List (Option Plain) → EngineView
 with_stores engine stores = record engine { stores = map instances_in stores }
 
 -- what the purge makes of a view
-pub trims_view : (engine : EngineView) (time : ℕ) (stores purged : List (Option Plain)) → engine.closed_time ≡ Some time → AreTyped engine.network engine.layout.kinds stores engine.opened
+pub trims_view : (engine : EngineView) (time : ℕ) (stores purged : List (Option Plain)) → engine.closed_time ≡ Some time → IsTyped engine.network engine.layout.kinds stores
     → ((n : ℕ) → get_or purged n None ≡ purged_slot (time + 1) (is_some (wait_at engine.network n)) (get_or stores n None)) → Trims (with_stores engine stores) (with_stores engine purged)
 trims_view engine time stores purged closed_time typed each = record {
   plan = record { network = refl; layout = refl };
   times = record { time = refl; closed_time = refl };
   opened = refl;
-  intact = refl;
   purged =
       subst (λ (o : Option ℕ). IfSome o (λ t. ArePurgedWhole (t + 1) engine.network (stores_in (with_stores engine stores)) (stores_in (with_stores engine purged)))) (sym closed_time)
       (subst (λ (st : Stores). ArePurgedWhole (time + 1) engine.network st (stores_in (with_stores engine purged))) (sym (held_in stores))
-      (subst (λ (st : Stores). ArePurgedWhole (time + 1) engine.network (held stores) st) (sym (held_in purged)) (purged_alive (time + 1) engine.network stores purged each engine.layout.kinds engine.opened typed)));
+      (subst (λ (st : Stores). ArePurgedWhole (time + 1) engine.network (held stores) st) (sym (held_in purged)) (purged_alive (time + 1) engine.network stores purged each engine.layout.kinds typed)));
   none_closed = λ none. absurd (none_some (sym none ∙ closed_time));
   others = λ n none. (λ i. held_in purged i n) ∙ purged_others (time + 1) engine.network stores purged each n none ∙ (λ i. sym (held_in stores) i n);
 }

@@ -1,21 +1,43 @@
--- What holds of the parts of an engine that is intact. No public clause names this.
-use Rattle.std.specs.Prelude.{◌<◌, List, length, Option}
+-- What holds of the parts of an engine. No public clause names this.
+use Rattle.std.specs.Prelude.{◌≡◌, ℕ, ◌⊎◌, IfSome, IsTrue, List, [], Contains, length, Option, slice_index_or}
 use Rattle.std.specs.List.{All}
 use Rattle.event_types.specs.Tuple.{TupleView}
 use Rattle.instances.specs.Plain.{Plain}
-use Rattle.automaton.specs.States.{Net}
-use Rattle.automaton.specs.declared.layout.Layout.{Layout}
-use Rattle.automaton.specs.declared.line.Line.{Line}
-use Rattle.epoch_laws.specs.StoresStandFor.{Serves}
-use Rattle.epoch_engine.specs.Tables.{AreTables}
-use Rattle.epoch_engine.specs.Typed.{AreTyped}
-use Rattle.epoch_engine.specs.declared.tables.Tables.{Tables}
+use Rattle.automaton.specs.Work.{is_in}
+use Rattle.epoch_draft.specs.Deriving.{CanDraw}
+use Rattle.epoch_draft.specs.Drafts.{DraftFits}
+use Rattle.epoch_draft.specs.Marks.{AreMarks}
+use Rattle.epoch_draft.specs.Purging.{ListsBounded}
+use Rattle.epoch_draft.specs.declared.marks.Marks.{Marks}
+use Rattle.epoch_engine.specs.declared.drawing.Drawing.{Drawing}
+use Rattle.epoch_engine.specs.declared.epoch.Epoch.{Epoch}
+use Rattle.epoch_engine.specs.declared.plan.Plan.{Plan}
 
--- the order of work is one for the network's lines, the stores and the open tuples are typed, the tables are the network's, and all streams of the layout have kinds
-pub record IsRunning (net : Net) (layout : Layout) (tables : Tables) (stores : List (Option Plain)) (opened : List (List TupleView)) : Type 0 where
-  pub lines : List Line
-  pub serves : Serves net lines layout.order
-  pub typed : AreTyped net layout.kinds stores opened
-  pub tables_are : AreTables net layout tables
-  pub order : All (λ stream. stream < length layout.kinds) layout.order
-  pub outs : All (λ stream. stream < length layout.kinds) layout.outs
+-- the waiting states whose conditions have bounds are listed, all printed streams are derived, and each stream with kinds has a last place
+pub record IsPlan (plan : Plan) : Type 0 where
+  pub bounded : ListsBounded plan.merged (length plan.merged) plan.bounded
+  pub printed : All (λ stream. IsTrue (is_in plan.layout.order stream)) plan.layout.outs
+  pub last : length plan.last ≡ length plan.layout.kinds
+
+-- the marked streams are all that have tuples
+pub record AreTouched (tuples : List (List TupleView)) (touched : Marks) : Type 0 where
+  pub are : AreMarks touched
+  pub below : length touched.flags ≡ length tuples
+  pub all : (stream : ℕ) → (slice_index_or tuples stream [] ≡ []) ⊎ Contains touched.numbers stream
+
+-- the plan, the stores and the open epoch of an engine fit one another, so that the epoch may be drawn
+pub record IsRunning (plan : Plan) (stores : List (Option Plain)) (epoch : Epoch) : Type 0 where
+  pub plan_is : IsPlan plan
+  pub can_draw : CanDraw plan.merged plan.layout stores epoch.tuples
+  pub touched : AreTouched epoch.tuples epoch.touched
+
+-- between two closings a drawing has room for all streams and states, and nothing in it
+pub record IsStill (streams states : ℕ) (drawing : Drawing) : Type 0 where
+  pub fits : DraftFits streams states drawing.draft
+  pub none_made : (stream : ℕ) → slice_index_or drawing.draft.made stream [] ≡ []
+  pub no_beads : (state : ℕ) → slice_index_or drawing.draft.beads state [] ≡ []
+  pub no_pairs : drawing.pairs ≡ []
+
+-- a drawing that is kept is still
+abbrev pub KeepsStill : Plan → Option Drawing → Type 0
+KeepsStill plan kept = IfSome kept (IsStill (length plan.layout.kinds) (length plan.merged))

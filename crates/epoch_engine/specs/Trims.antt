@@ -9,7 +9,6 @@ pub record Trims (old new : EngineView) : Type 0 where
   pub plan : KeepsPlan old new
   pub times : KeepsTimes old new
   pub opened : new.opened ≡ old.opened
-  pub intact : new.intact ≡ old.intact
   pub purged : IfSome old.closed_time (λ time. ArePurgedWhole (time + 1) old.network (stores_in old) (stores_in new))
   pub none_closed : old.closed_time ≡ None → new.stores ≡ old.stores
   pub others : (number : ℕ) → wait_at old.network number ≡ None → stores_in new number ≡ stores_in old number

@@ -1,6 +1,6 @@
 -- The code by which the logic stores what contracts see of an engine. No public clause names this.
-use Rattle.std.specs.Prelude.{ℕ, Bool, List, Option, refl}
-use Rattle.std.specs.Coded.{Coded, code_by, coded×, coded_bool, coded_list, coded_option, coded_ℕ}
+use Rattle.std.specs.Prelude.{ℕ, List, Option, refl}
+use Rattle.std.specs.Coded.{Coded, code_by, coded×, coded_list, coded_option, coded_ℕ}
 use Rattle.event_types.specs.Tuple.{TupleView}
 use Rattle.event_types.specs.contracts.tuple.Tuple as tuple
 use Rattle.instances.specs.contracts.instance.Instance as instance
@@ -32,6 +32,6 @@ times_code = coded× (coded_option coded_ℕ) (coded_option coded_ℕ)
 -- a view is stored as pairs of its parts
 abbrev pub view_code : Coded EngineView
 view_code =
-    code_by ((Plan × Held) × (Times × Bool)) (coded× (coded× plan_code held_code) (coded× times_code coded_bool))
-    (λ v. (((v.network, v.layout), (v.stores, v.opened)), ((v.time, v.closed_time), v.intact)))
-    (λ p. record { network = p.0.0.0; layout = p.0.0.1; stores = p.0.1.0; opened = p.0.1.1; time = p.1.0.0; closed_time = p.1.0.1; intact = p.1.1 }) (λ _. refl)
+    code_by ((Plan × Held) × Times) (coded× (coded× plan_code held_code) times_code)
+    (λ v. (((v.network, v.layout), (v.stores, v.opened)), (v.time, v.closed_time)))
+    (λ p. record { network = p.0.0.0; layout = p.0.0.1; stores = p.0.1.0; opened = p.0.1.1; time = p.1.0; closed_time = p.1.1 }) (λ _. refl)

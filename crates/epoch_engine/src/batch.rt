@@ -1,55 +1,61 @@
 //! The results of an epoch.
-ghost use Rattle.std.specs.Prelude.{◌≡◌, ℕ, ◌<◌, ◌⊎◌, [], false, length, map, slice_index_or, IfOk, OnOk};
+ghost use Rattle.std.specs.Prelude.{◌≡◌, ℕ, ◌<◌, ◌⊎◌, [], false, true, length, slice_index_or, IfOk};
 ghost use Rattle.std.specs.List.{All};
-ghost use Rattle.event_types.specs.Order.{sorted};
-ghost use Rattle.semantics.specs.Denotation.{streams_of};
-ghost use Rattle.epoch_engine.specs.Tables.{AreLast};
+ghost use Rattle.epoch_engine.specs.Batches.{AreReady, IsOfMade};
 
-use crate::flow::Lists;
-use crate::tables::add;
-use event_types::{Copied, List, Memory, Numbers, Tuples, put_in_order};
+use epoch_draft::Lists;
+use event_types::{Copied, List, Memory, Numbers, Tuples};
 use std::alloc::Global;
 
 /// The results of an epoch: for each stream that is printed its tuples in their order.
 pub type Batch = List<Tuples>;
 
-/// The tuples of these streams, each stream's in their order. They are moved out where the stream stands in
-/// no later place.
-pub(crate) fn batch_of(
+/// A batch with room for these streams, and with copies of the tuples of each stream that is printed once
+/// more at a later place. What it takes in at the last places is moved in by `fill`.
+pub(crate) fn prepare(
     alloc: Global,
-    outs: &Numbers,
+    outs: &[usize],
     last: &Numbers,
-    opened: &mut Lists,
+    made: &Lists,
 ) -> Result<Batch, Memory>
-    requires outs { All (λ stream. stream < length opened.old) outs.now }
-    requires last { AreLast outs.now last.now (length opened.old) }
-    ensures as_many { length opened.new ≡ length opened.old }
-    ensures batch { IfOk result (λ batch. batch ≡ map (λ stream. sorted (streams_of opened.old stream)) outs.now) }
-    ensures others { (stream : ℕ) → (slice_index_or opened.new stream [] ≡ slice_index_or opened.old stream []) ⊎ (slice_index_or opened.new stream [] ≡ []) }
+    requires outs { All (λ stream. stream < length made.now) outs.now }
+    requires last { length last.now ≡ length made.now }
+    ensures { IfOk result (AreReady outs.now last.now made.now) }
 {
     let mut batch = List::new(alloc);
-    for (place, stream) in outs.as_slice().iter().enumerate() {
-        let is_last = *last.get(*stream) == place;
-        let tuples = in_order(alloc, opened.get_mut(*stream), is_last)?;
-        add(&mut batch, tuples)?;
+    for (place, stream) in outs.iter().enumerate() {
+        let moves = *last.get(*stream) == place;
+        let tuples = prepared(alloc, made.get(*stream), moves)?;
+        batch.add(tuples)?;
     }
     Ok(batch)
 }
 
-// The tuples in their order. They are copied where they are still wanted.
-fn in_order(alloc: Global, tuples: &mut Tuples, is_last: bool) -> Result<Tuples, Memory>
-    ensures sorted { IfOk result (λ ordered. ordered ≡ sorted tuples.old) }
-    ensures wanted { is_last ≡ false → tuples.new ≡ tuples.old }
-    ensures moved { (tuples.new ≡ tuples.old) ⊎ (tuples.new ≡ []) }
+// The tuples as they are prepared: none where they will be moved, and else a copy.
+fn prepared(alloc: Global, tuples: &Tuples, moves: bool) -> Result<Tuples, Memory>
+    ensures moved { moves ≡ true → IfOk result (λ list. list ≡ []) }
+    ensures copied { moves ≡ false → IfOk result (λ list. list ≡ tuples.now) }
 {
-    if tuples.len() == 0 {
+    if moves {
         return Ok(List::new(alloc));
     }
-    let mut ordered = if is_last {
-        std::mem::replace(tuples, List::new(alloc))
-    } else {
-        tuples.copied(alloc)?
-    };
-    put_in_order(&mut ordered);
-    Ok(ordered)
+    tuples.copied(alloc)
+}
+
+/// Moves the tuples of each of these streams to its last place in a batch that is prepared for them. Takes
+/// no memory.
+pub(crate) fn fill(batch: &mut Batch, outs: &[usize], last: &Numbers, made: &mut Lists)
+    requires outs { All (λ stream. stream < length made.old) outs.now }
+    requires last { length last.now ≡ length made.old }
+    requires ready { AreReady outs.now last.now made.old batch.old }
+    ensures batch { IsOfMade outs.now made.old batch.new }
+    ensures as_many { length made.new ≡ length made.old }
+    ensures others { (stream : ℕ) → (slice_index_or made.new stream [] ≡ slice_index_or made.old stream []) ⊎ (slice_index_or made.new stream [] ≡ []) }
+{
+    for (place, stream) in outs.iter().enumerate() {
+        if *last.get(*stream) != place {
+            continue;
+        }
+        std::mem::swap(batch.get_mut(place), made.get_mut(*stream));
+    }
 }

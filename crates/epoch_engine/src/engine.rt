@@ -1,24 +1,25 @@
 //! The engine.
-ghost use Rattle.std.specs.Prelude.{◌≡◌, ◌<◌, ◌-◌, ◌^◌, ℕ, [], ◌∷◌, ◌++◌, false, length, min, slice_index_or, slice_set, true, IfErr, IfNone, IfOk, IfSome, IsSome, IsTrue, OnErr, OnOk};
+ghost use Rattle.std.specs.Prelude.{◌≡◌, ◌-◌, ◌^◌, ℕ, length, min, IfNone, IfOk, IfSome, IsSome, OnErr, OnOk};
 ghost use Rattle.automaton.specs.NetworkLines.{NetworkFits};
+ghost use Rattle.automaton.specs.Networks.{IsNetwork};
 ghost use Rattle.prefix_merge.specs.Merging.{IsMerged};
-ghost use Rattle.epoch_engine.specs.Closes.{Closes, KeepsPlan, KeepsTimes};
+ghost use Rattle.epoch_engine.specs.Closes.{Closes, KeepsPlan};
 ghost use Rattle.epoch_engine.specs.Counts.{stored_in};
 ghost use Rattle.epoch_engine.specs.Offers.{IsAnswer, IsHeard, IsLate, IsNotAhead, with_tuple};
-ghost use Rattle.epoch_engine.specs.Reach.{AreTouched};
+ghost use Rattle.epoch_engine.specs.Running.{IsStill};
 ghost use Rattle.epoch_engine.specs.Starts.{IsNew};
 ghost use Rattle.epoch_engine.specs.Trims.{Trims};
 
 use crate::batch::Batch;
 use crate::closing::take_epoch;
+use crate::drawing::Drawing;
+use crate::epoch::Epoch;
 use crate::fault::OfferFault;
-use crate::flow::{Lists, Stores};
-use crate::marks::Marks;
-use crate::reach::Reach;
-use crate::settling::empty_stores;
-use crate::tables::{Tables, empty_lists};
+use crate::plan::Plan;
+use crate::stores::empty_stores;
 use crate::trimming::{purge_all, stored};
 use automaton::{Layout, Network};
+use epoch_draft::Stores;
 use event_types::{Memory, StreamId, Tuple};
 use prefix_merge::Merged;
 use std::alloc::Global;
@@ -28,16 +29,12 @@ use steps::{Ledger, Steps};
 /// The bindings that wait at the states of a network, and the tuples of the open epoch.
 #[derive(Drop)]
 pub struct Engine {
-    merged: Merged,
-    layout: Layout,
-    tables: Tables,
+    plan: Plan,
     stores: Stores,
-    opened: Lists,
-    touched: Marks,
-    reach: Reach,
-    time: Option<u64>,
+    epoch: Epoch,
+    // None after a closing was refused.
+    drawing: Option<Drawing>,
     closed_time: Option<u64>,
-    intact: bool,
 }
 
 impl Model for Engine {
@@ -49,14 +46,13 @@ impl Model for Engine {
 
     ghost coded = { view_code };
 
-    ghost use Rattle.std.specs.Prelude.{IsTrue, map};
-    ghost use Rattle.epoch_engine.specs.Reach.{IsEngineReady};
-    ghost use Rattle.epoch_engine.specs.Running.{IsRunning};
-    ghost use Rattle.epoch_engine.specs.Typed.{instances_in};
+    ghost use Rattle.std.specs.Prelude.{map};
+    ghost use Rattle.epoch_draft.specs.Held.{instances_in};
+    ghost use Rattle.epoch_engine.specs.Running.{IsRunning, KeepsStill};
 
-    ghost view = { λ e. record { network = e.merged; layout = e.layout; stores = map instances_in e.stores; opened = e.opened; time = e.time; closed_time = e.closed_time; intact = e.intact } };
+    ghost view = { λ e. record { network = e.plan.merged; layout = e.plan.layout; stores = map instances_in e.stores; opened = e.epoch.tuples; time = e.epoch.time; closed_time = e.closed_time } };
 
-    ghost invariant = { λ e. IsTrue e.intact → IsRunning e.merged e.layout e.tables e.stores e.opened × IsEngineReady e.merged e.layout e.opened e.touched e.reach };
+    ghost invariant = { λ e. IsRunning e.plan e.stores e.epoch × KeepsStill e.plan e.drawing };
 }
 
 impl Engine {
@@ -66,24 +62,16 @@ impl Engine {
         requires { NetworkFits merged layout }
         ensures { IfOk result (λ engine. IsNew merged layout engine) }
     {
-        let network = merged.network();
-        let tables = Tables::make(alloc, network, &layout)?;
-        let stores = empty_stores(alloc, network)?;
-        let streams = layout.kinds.len();
-        let opened = empty_lists(alloc, streams)?;
-        let touched = Marks::make(alloc, streams)?;
-        let reach = Reach::make(alloc, network.places(), streams)?;
+        let plan = Plan::make(alloc, merged, layout)?;
+        let stores = empty_stores(alloc, plan.merged.network())?;
+        let epoch = Epoch::make(alloc, plan.layout.kinds.len())?;
+        let drawing = drawing_for(alloc, &plan)?;
         Ok(Engine {
-            merged,
-            layout,
-            tables,
+            plan,
             stores,
-            opened,
-            touched,
-            reach,
-            time: None,
+            epoch,
+            drawing: Some(drawing),
             closed_time: None,
-            intact: true,
         })
     }
 
@@ -91,14 +79,7 @@ impl Engine {
     pub fn open_time(&self) -> Option<u64>
         ensures { result ≡ self.now.time }
     {
-        self.time
-    }
-
-    /// False once a closing was refused for want of memory.
-    pub fn intact(&self) -> bool
-        ensures { result ≡ self.now.intact }
-    {
-        self.intact
+        self.epoch.time
     }
 
     /// The merged network. Takes no memory.
@@ -106,14 +87,14 @@ impl Engine {
         ensures value { result.now ≡ self.now.network }
         ensures merged { IsMerged self.now.network }
     {
-        self.merged.network()
+        self.plan.merged.network()
     }
 
     /// The layout. Takes no memory.
     pub fn layout(&self) -> &Layout
         ensures { result.now ≡ self.now.layout }
     {
-        &self.layout
+        &self.plan.layout
     }
 
     /// The number of the instances that are stored, or 2^64-1 where there are more. Takes no memory.
@@ -126,17 +107,15 @@ impl Engine {
     /// Takes out each instance that no event after the last closed epoch can match, as far as the bounds on
     /// DUR tell. Takes no memory.
     pub fn trim(&mut self)
-        requires { IsTrue self.old.intact }
         ensures { Trims self.old self.new }
     {
         if let Some(time) = self.closed_time {
-            purge_all(self.merged.network(), &mut self.stores, time);
+            purge_all(self.plan.merged.network(), &mut self.stores, time);
         }
     }
 
     /// Takes a tuple of a declared stream. Its detection time opens an epoch where none is open.
     pub fn offer(&mut self, stream: StreamId, tuple: Tuple) -> Result<(), OfferFault>
-        requires intact { IsTrue self.old.intact }
         requires heard { IsHeard self.old.layout stream tuple }
         requires in_time { IsNotAhead self.old.time tuple.at }
         ensures answer { IsAnswer self.old tuple result }
@@ -144,11 +123,11 @@ impl Engine {
         ensures kept { OnErr result (self.new ≡ self.old) }
     {
         let at = tuple.at();
-        match late(self.time, self.closed_time, at) {
+        match late(self.epoch.time, self.closed_time, at) {
             Some(seen) => Err(OfferFault::OutOfOrder { at, seen, tuple }),
-            None => match note_tuple(&mut self.opened, &mut self.touched, stream, tuple) {
+            None => match self.epoch.add(stream, tuple) {
                 Ok(()) => {
-                    self.time = Some(at);
+                    self.epoch.time = Some(at);
                     Ok(())
                 }
                 Err(tuple) => Err(OfferFault::Memory { tuple }),
@@ -156,58 +135,40 @@ impl Engine {
         }
     }
 
-    /// Closes the open epoch, and gives its results. After want of memory the engine isn't intact.
+    /// Closes the open epoch, and gives its results. Want of memory leaves the engine as it was: the epoch is
+    /// open still, and may be closed again.
     pub fn close<L: Ledger>(&mut self, alloc: Global, steps: &mut Steps<L>) -> Result<Batch, Memory>
-        requires intact { IsTrue self.old.intact }
         requires opened { IsSome self.old.time }
         ensures closed { IfOk result (λ batch. Closes self.old self.new batch) }
         ensures plan { KeepsPlan self.old self.new }
-        ensures intact { OnOk result (self.new.intact ≡ true) }
-        ensures lost { OnErr result (self.new.intact ≡ false) }
-        ensures kept { OnErr result (KeepsTimes self.old self.new) }
+        ensures kept { OnErr result (self.new ≡ self.old) }
     {
-        let time = match self.time {
-            Some(time) => time,
-            None => unreachable!(),
+        let mut drawing = match self.drawing.take() {
+            Some(drawing) => drawing,
+            None => drawing_for(alloc, &self.plan)?,
         };
-        self.intact = false;
         let batch = take_epoch(
             alloc,
-            self.merged.network(),
-            &self.layout,
-            &self.tables,
+            &self.plan,
             &mut self.stores,
-            &mut self.opened,
-            &mut self.touched,
-            &mut self.reach,
-            time,
+            &self.epoch,
+            &mut drawing,
             steps,
         )?;
-        self.time = None;
-        self.closed_time = Some(time);
-        self.intact = true;
+        self.drawing = Some(drawing);
+        self.closed_time = self.epoch.time;
+        self.epoch.close();
         Ok(batch)
     }
 }
 
-// Puts a tuple behind those of its stream, which is marked. Want of memory hands it back.
-fn note_tuple(
-    opened: &mut Lists,
-    touched: &mut Marks,
-    stream: StreamId,
-    tuple: Tuple,
-) -> Result<(), Tuple>
-    requires stream { stream < length opened.old }
-    requires touched { AreTouched (length opened.old) opened.old touched.old }
-    ensures ok { OnOk result (opened.new ≡ slice_set opened.old stream (slice_index_or opened.old stream [] ++ tuple ∷ [])) }
-    ensures handed_back { IfErr result (λ back. back ≡ tuple) }
-    ensures kept { OnErr result (opened.new ≡ opened.old) }
-    ensures touched { AreTouched (length opened.old) opened.new touched.new }
+// A drawing of a plan's network, in which nothing is drawn.
+fn drawing_for(alloc: Global, plan: &Plan) -> Result<Drawing, Memory>
+    ensures still { IfOk result (IsStill (length plan.now.layout.kinds) (length plan.now.merged)) }
+    ensures network { IsNetwork plan.now.merged }
 {
-    match touched.mark(stream) {
-        Ok(()) => opened.get_mut(stream).push(tuple),
-        Err(_) => Err(tuple),
-    }
+    let states = plan.merged.network().places();
+    Drawing::make(alloc, states, plan.layout.kinds.len())
 }
 
 // The open epoch or the last closed time, where a detection time is late for it.

@@ -1,20 +1,19 @@
 //! The engine, which keeps the bindings that wait and closes one epoch after another.
 //!
 //! Contracts see an `Engine` as its network and layout, the instances of each state, the open tuples of
-//! each stream, the open epoch, the last closed time and whether it is intact (`EngineView`).
+//! each stream, the open epoch and the last closed time (`EngineView`).
 #![tactic(auto)]
 
 mod batch;
 mod bounds;
 mod closing;
+mod drawing;
 mod engine;
+mod epoch;
 mod fault;
-mod flow;
 mod laws;
-mod marks;
-mod reach;
-mod settling;
-mod tables;
+mod plan;
+mod stores;
 mod trimming;
 
 pub use batch::Batch;

@@ -1,13 +1,13 @@
 //! What is stored at all states, and the purge of their stores.
 ghost use Rattle.std.specs.Prelude.{◌≡◌, ℕ, ◌+◌, ◌-◌, ◌^◌, ◌<◌, None, is_some, length, min, slice_index_or, slice_set, sum_by};
-ghost use Rattle.std.specs.List.{All};
 ghost use Rattle.std.specs.Option.{option_map};
 ghost use Rattle.automaton.specs.States.{wait_at};
-ghost use Rattle.epoch_engine.specs.Purging.{ArePurgedIn, purged_for, purged_slot};
-ghost use Rattle.epoch_engine.specs.Typed.{instances_in};
+ghost use Rattle.epoch_draft.specs.Held.{instances_in};
+ghost use Rattle.epoch_draft.specs.Purging.{purged_for};
+ghost use Rattle.epoch_engine.specs.Stores.{purged_slot};
 
-use crate::flow::Stores;
 use automaton::Network;
+use epoch_draft::Stores;
 use instances::{PlainStore, Waiting};
 
 /// The number of the instances that are stored, or 2^64-1 where there are more. Takes no memory.
@@ -40,16 +40,6 @@ pub(crate) fn purge_all(network: &Network, stores: &mut Stores, time: u64)
 {
     for number in 0..network.places() {
         purge_at(network, number, stores, time);
-    }
-}
-
-/// The same of the stores with these numbers alone. Takes no memory.
-pub(crate) fn purge_listed(stores: &mut Stores, numbers: &[usize], time: u64)
-    requires { All (λ number. number < length stores.old) numbers.now }
-    ensures { ArePurgedIn numbers.now (time + 1) stores.old stores.new }
-{
-    for number in numbers {
-        purge(stores.get_mut(*number), time);
     }
 }
 

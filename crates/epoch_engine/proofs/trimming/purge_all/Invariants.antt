@@ -1,7 +1,7 @@
 use Rattle.std.proofs.Common.{◌≡◌, ℕ, ◌+◌, ◌<◌, ◌≤◌, length, get_or}
 use Rattle.std.specs.Prelude.{None, is_some}
 use Rattle.automaton.specs.States.{wait_at}
-use Rattle.epoch_engine.specs.Purging.{purged_slot}
+use Rattle.epoch_engine.specs.Stores.{purged_slot}
 use Rattle.epoch_engine.proofs.trimming.purge_all.Given as goal
 
 -- the stores of the states so far are purged, and the others are as they were

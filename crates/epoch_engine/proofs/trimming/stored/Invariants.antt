@@ -1,5 +1,5 @@
 use Rattle.std.proofs.Common.{◌≡◌, ◌-◌, ◌^◌, length, min, sum_by, take}
-use Rattle.epoch_engine.specs.Typed.{instances_in}
+use Rattle.epoch_draft.specs.Held.{instances_in}
 use Rattle.epoch_engine.proofs.trimming.stored.Given as goal
 
 -- the instances of the states so far are counted

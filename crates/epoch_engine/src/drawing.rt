@@ -1,0 +1,38 @@
+//! What the closing of an epoch draws before it changes any store.
+ghost use Rattle.std.specs.Prelude.{◌≡◌, ℕ, IfOk, length};
+ghost use Rattle.epoch_draft.specs.Drafts.{DraftFits};
+ghost use Rattle.epoch_engine.specs.Running.{IsStill};
+
+use epoch_draft::{Draft, Pairs};
+use event_types::{List, Memory};
+use std::alloc::Global;
+
+/// The draft of an epoch, and the pairs of waiting states and tuples that meet there. Between two closings
+/// there is nothing in it, and it keeps its room.
+#[derive(Drop)]
+pub struct Drawing {
+    pub draft: Draft,
+    pub pairs: Pairs,
+}
+
+impl Drawing {
+    /// Nothing is drawn for so many states and streams.
+    pub(crate) fn make(alloc: Global, states: usize, streams: usize) -> Result<Drawing, Memory>
+        ensures { IfOk result (IsStill streams states) }
+    {
+        let draft = Draft::make(alloc, states, streams)?;
+        Ok(Drawing {
+            draft,
+            pairs: List::new(alloc),
+        })
+    }
+
+    /// Forgets all that was drawn, and keeps the room. Takes no memory.
+    pub(crate) fn clear(&mut self)
+        requires { DraftFits (length self.old.draft.made) (length self.old.draft.beads) self.old.draft }
+        ensures { IsStill (length self.old.draft.made) (length self.old.draft.beads) self.new }
+    {
+        self.draft.clear();
+        self.pairs.clear();
+    }
+}

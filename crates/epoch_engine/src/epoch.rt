@@ -1,0 +1,62 @@
+//! The epoch that is open.
+ghost use Rattle.std.specs.Prelude.{◌≡◌, ℕ, ◌<◌, ◌∷◌, ◌++◌, [], None, length, slice_index_or, slice_set, IfErr, IfOk, OnErr, OnOk};
+ghost use Rattle.epoch_engine.specs.Running.{AreTouched};
+
+use epoch_draft::{Lists, Marks, clear_lists, empty_lists};
+use event_types::{Memory, StreamId, Tuple};
+use std::alloc::Global;
+
+/// The tuples of each stream, the streams that have some, and the time, where an epoch is open.
+#[derive(Drop)]
+pub struct Epoch {
+    pub tuples: Lists,
+    pub touched: Marks,
+    pub time: Option<u64>,
+}
+
+impl Epoch {
+    /// No epoch is open, and none of so many streams has tuples.
+    pub(crate) fn make(alloc: Global, streams: usize) -> Result<Epoch, Memory>
+        ensures as_many { IfOk result (λ epoch. length epoch.tuples ≡ streams) }
+        ensures empty { IfOk result (λ epoch. (stream : ℕ) → slice_index_or epoch.tuples stream [] ≡ []) }
+        ensures touched { IfOk result (λ epoch. AreTouched epoch.tuples epoch.touched) }
+        ensures time { IfOk result (λ epoch. epoch.time ≡ None) }
+    {
+        let tuples = empty_lists(alloc, streams)?;
+        let touched = Marks::make(alloc, streams)?;
+        Ok(Epoch {
+            tuples,
+            touched,
+            time: None,
+        })
+    }
+
+    /// Puts a tuple behind those of its stream. Want of memory hands it back.
+    pub(crate) fn add(&mut self, stream: StreamId, tuple: Tuple) -> Result<(), Tuple>
+        requires stream { stream < length self.old.tuples }
+        requires touched { AreTouched self.old.tuples self.old.touched }
+        ensures ok { OnOk result (self.new.tuples ≡ slice_set self.old.tuples stream (slice_index_or self.old.tuples stream [] ++ tuple ∷ [])) }
+        ensures handed_back { IfErr result (λ back. back ≡ tuple) }
+        ensures kept { OnErr result (self.new.tuples ≡ self.old.tuples) }
+        ensures time { self.new.time ≡ self.old.time }
+        ensures touched { AreTouched self.new.tuples self.new.touched }
+    {
+        if self.touched.mark(stream).is_err() {
+            return Err(tuple);
+        }
+        self.tuples.get_mut(stream).push(tuple)
+    }
+
+    /// Drops all tuples, and closes the epoch. Takes no memory.
+    pub(crate) fn close(&mut self)
+        requires { AreTouched self.old.tuples self.old.touched }
+        ensures as_many { length self.new.tuples ≡ length self.old.tuples }
+        ensures empty { (stream : ℕ) → slice_index_or self.new.tuples stream [] ≡ [] }
+        ensures touched { AreTouched self.new.tuples self.new.touched }
+        ensures time { self.new.time ≡ None }
+    {
+        clear_lists(&mut self.tuples, self.touched.numbers.as_slice());
+        self.touched.clear();
+        self.time = None;
+    }
+}

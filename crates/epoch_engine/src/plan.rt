@@ -1,0 +1,53 @@
+//! What an engine closes its epochs by.
+ghost use Rattle.std.specs.Prelude.{◌≡◌, ◌<◌, IfOk, length};
+ghost use Rattle.std.specs.List.{All};
+ghost use Rattle.automaton.specs.NetworkLines.{NetworkFits};
+ghost use Rattle.epoch_engine.specs.Running.{IsPlan};
+
+use crate::bounds::bounded_states;
+use automaton::Layout;
+use epoch_draft::filled;
+use event_types::{Memory, Numbers};
+use prefix_merge::Merged;
+use std::alloc::Global;
+
+/// A merged network and its layout, the numbers of the waiting states whose conditions have bounds on DUR,
+/// and for each stream the last place at which it is printed, counted from 0. No closing changes it.
+#[derive(Drop)]
+pub struct Plan {
+    pub merged: Merged,
+    pub layout: Layout,
+    pub bounded: Numbers,
+    pub last: Numbers,
+}
+
+impl Plan {
+    /// The plan of a network and a layout that fit. Want of memory drops both.
+    pub(crate) fn make(alloc: Global, merged: Merged, layout: Layout) -> Result<Plan, Memory>
+        requires { NetworkFits merged layout }
+        ensures merged { IfOk result (λ plan. plan.merged ≡ merged) }
+        ensures layout { IfOk result (λ plan. plan.layout ≡ layout) }
+        ensures is { IfOk result IsPlan }
+    {
+        let bounded = bounded_states(alloc, merged.network())?;
+        let last = last_places(alloc, &layout.outs, layout.kinds.len())?;
+        Ok(Plan {
+            merged,
+            layout,
+            bounded,
+            last,
+        })
+    }
+}
+
+// For each of so many streams the last place at which it stands, or 0.
+fn last_places(alloc: Global, outs: &Numbers, streams: usize) -> Result<Numbers, Memory>
+    requires { All (λ stream. stream < streams) outs.now }
+    ensures { IfOk result (λ last. length last ≡ streams) }
+{
+    let mut last = filled(alloc, streams, 0)?;
+    for (place, stream) in outs.as_slice().iter().enumerate() {
+        *last.get_mut(*stream) = place;
+    }
+    Ok(last)
+}
