@@ -7,7 +7,6 @@ ghost use Rattle.semantics.specs.Scalars.{Binding, Dur, Event, Lit, Test};
 ghost use Rattle.automaton.specs.Layouts.{LayoutFits};
 
 use crate::Engine;
-use crate::tables::add;
 use automaton::{Hop, Layout, Line, Lines, Turn, Wait};
 use event_types::{Kind, KindLists, Kinds, List, Memory, Numbers, StreamId, Value};
 use prefix_merge::Merged;
@@ -55,7 +54,7 @@ fn event_again(alloc: Global) -> Result<Turn, Memory>
     ensures { IfOk result (λ turn. turn ≡ record { on = []; set = record { width = 1; parts = Event 0 ∷ [] } }) }
 {
     let mut parts = List::new(alloc);
-    add(&mut parts, Scalar::Event(0))?;
+    parts.add(Scalar::Event(0))?;
     Ok(Turn {
         on: normal(alloc, Pred::True)?,
         set: Map { width: 1, parts },
@@ -82,7 +81,7 @@ fn line(
         step: List::new(alloc),
         wait,
     };
-    add(&mut hops, hop)?;
+    hops.add(hop)?;
     Ok(Line {
         root: STOCK,
         hops,
@@ -97,18 +96,12 @@ fn lines(alloc: Global) -> Result<Lines, Memory>
     ensures { IfOk result (λ lines. LayoutFits lines (record { order = 2 ∷ 3 ∷ 4 ∷ 5 ∷ []; outs = 2 ∷ 3 ∷ 4 ∷ 5 ∷ []; kinds = replicate 1 kind.Int ∷ replicate 1 kind.Int ∷ replicate 2 kind.Int ∷ replicate 1 kind.Int ∷ replicate 2 kind.Int ∷ replicate 3 kind.Int ∷ [] })) }
 {
     let mut lines = List::new(alloc);
-    add(&mut lines, line(alloc, equal(alloc)?, None, STOCK, 2)?)?;
+    lines.add(line(alloc, equal(alloc)?, None, STOCK, 2)?)?;
     let turn = event_again(alloc)?;
-    add(
-        &mut lines,
-        line(alloc, lower(alloc)?, Some(turn), STOCK, 3)?,
-    )?;
-    add(
-        &mut lines,
-        line(alloc, within_five(alloc)?, None, STOCK, 4)?,
-    )?;
+    lines.add(line(alloc, lower(alloc)?, Some(turn), STOCK, 3)?)?;
+    lines.add(line(alloc, within_five(alloc)?, None, STOCK, 4)?)?;
     let any = normal(alloc, Pred::True)?;
-    add(&mut lines, line(alloc, any, None, 2, 5)?)?;
+    lines.add(line(alloc, any, None, 2, 5)?)?;
     Ok(lines)
 }
 
@@ -117,10 +110,10 @@ fn derived(alloc: Global) -> Result<Numbers, Memory>
     ensures { IfOk result (λ numbers. numbers ≡ 2 ∷ 3 ∷ 4 ∷ 5 ∷ []) }
 {
     let mut numbers = List::new(alloc);
-    add(&mut numbers, 2)?;
-    add(&mut numbers, 3)?;
-    add(&mut numbers, 4)?;
-    add(&mut numbers, 5)?;
+    numbers.add(2)?;
+    numbers.add(3)?;
+    numbers.add(4)?;
+    numbers.add(5)?;
     Ok(numbers)
 }
 
@@ -130,7 +123,7 @@ fn ints(alloc: Global, count: usize) -> Result<Kinds, Memory>
 {
     let mut kinds = List::new(alloc);
     for _ in 0..count {
-        add(&mut kinds, Kind::Int)?;
+        kinds.add(Kind::Int)?;
     }
     Ok(kinds)
 }
@@ -140,12 +133,12 @@ fn kinds(alloc: Global) -> Result<KindLists, Memory>
     ensures { IfOk result (λ kinds. kinds ≡ replicate 1 kind.Int ∷ replicate 1 kind.Int ∷ replicate 2 kind.Int ∷ replicate 1 kind.Int ∷ replicate 2 kind.Int ∷ replicate 3 kind.Int ∷ []) }
 {
     let mut kinds = List::new(alloc);
-    add(&mut kinds, ints(alloc, 1)?)?;
-    add(&mut kinds, ints(alloc, 1)?)?;
-    add(&mut kinds, ints(alloc, 2)?)?;
-    add(&mut kinds, ints(alloc, 1)?)?;
-    add(&mut kinds, ints(alloc, 2)?)?;
-    add(&mut kinds, ints(alloc, 3)?)?;
+    kinds.add(ints(alloc, 1)?)?;
+    kinds.add(ints(alloc, 1)?)?;
+    kinds.add(ints(alloc, 2)?)?;
+    kinds.add(ints(alloc, 1)?)?;
+    kinds.add(ints(alloc, 2)?)?;
+    kinds.add(ints(alloc, 3)?)?;
     Ok(kinds)
 }
 

@@ -102,8 +102,8 @@ pub returns : goal.returns
 returns c =
     subst (λ ls. LayoutFits ls (record { order = order; outs = order; kinds = kinds }))
     (sym
-    (four_added c.new-lines.result c.add.new.list c.add-2.new.list c.add-3.new.list c.add-4.new.list c.in_ok-line.field-0 c.in_ok-line-2.field-0 c.in_ok-line-3.field-0 c.in_ok-line-4.field-0 c.new-lines.ensures
-    c.in_ok-add.ensures c.in_ok-add-2.ensures c.in_ok-add-3.ensures c.in_ok-add-4.ensures
+    (four_added c.new-lines.result c.add.new.self c.add-2.new.self c.add-3.new.self c.add-4.new.self c.in_ok-line.field-0 c.in_ok-line-2.field-0 c.in_ok-line-3.field-0 c.in_ok-line-4.field-0 c.new-lines.ensures
+    c.in_ok-add.ensures.ok c.in_ok-add-2.ensures.ok c.in_ok-add-3.ensures.ok c.in_ok-add-4.ensures.ok
     (c.in_ok-line.ensures ∙ ap (λ (choose : List Pr). one_wait (record { stream = 0; choose = choose; fold = None }) 2) c.in_ok-equal.ensures)
     (c.in_ok-line-2.ensures ∙ (λ i. one_wait (record { stream = 0; choose = c.in_ok-lower.ensures i; fold = Some (c.in_ok-turn.ensures i) }) 3))
     (c.in_ok-line-3.ensures ∙ ap (λ (choose : List Pr). one_wait (record { stream = 0; choose = choose; fold = None }) 4) c.in_ok-within_five.ensures)
