@@ -1,5 +1,5 @@
 -- The counts of a session.
-use Rattle.std.proofs.Common.{◌≡◌, ◌∙◌, sym, subst, ℕ, ◌+◌, ◌-◌, ◌<◌, ◌^◌, IsTrue, List, length, min, arith}
+use Rattle.std.proofs.Common.{◌≡◌, ◌∙◌, sym, subst, ℕ, ◌+◌, ◌-◌, ◌<◌, ◌^◌, List, length, min, arith}
 use Rattle.std.specs.Prelude.{count_by, is_some, sum_by}
 use Rattle.semantics.specs.Histories.{Event}
 use Rattle.automaton.specs.States.{root_in}
@@ -63,7 +63,6 @@ module _ (old new : SessionView) (trims : TrimsEngine old new) where
 
     mid_works : WorksFor mid history
     mid_works = record {
-      intact = subst IsTrue (sym trims.engine.intact) works.intact;
       layout = subst (IsLayoutOf (program_in old) (kinds_of_each (judged_of old.catalogue).streams)) (sym trims.engine.plan.layout) works.layout;
       engine = trimmed_stands.stands old.engine new.engine (lines_of (program_in old)) history works.engine trims.engine;
     }
@@ -90,7 +89,6 @@ module _ (old new : SessionView) (trims : TrimsEngine old new) where
 pub going_still : (c : Catalogued) (limit : ℕ) (feed : Fed) (fed : ℕ) (work : Work) (now : engine.EngineView) → Trims work.engine now → IsGoing c limit feed fed work → IsGoing c limit feed fed (record work { engine = now })
 going_still c limit feed fed work now trims going = record {
   at_work = record {
-    intact = subst IsTrue (sym trims.intact) going.at_work.intact;
     planned = planned_still c work.engine now trims.plan going.at_work.planned;
     opened = λ none. trims.times.closed_time ∙ going.at_work.opened (sym trims.times.time ∙ none);
   };

@@ -93,7 +93,7 @@ module _ (session : SessionView) (past : List Event) (text : List ℕ) (stands :
             within = rw (length-append text piece) within;
             none_refused = done.0;
             declared = stands.declared;
-            works = record { intact = at_work.intact; layout = at_work.planned.layout; engine = standing.engine };
+            works = record { layout = at_work.planned.layout; engine = standing.engine };
             last_is_open = standing.last_is_open;
             counted = ap (λ n. n + length piece) stands.counted ∙ sym (length-append text piece);
             feed = given_more text piece session.feed feed stands.feed gone part;
@@ -117,7 +117,7 @@ module _ (session : SessionView) (past : List Event) (text : List ℕ) (stands :
         ∙ sym (heard_on session past text stands [] true)
         ∙ ap (λ t. heard_after past (readings_in session t true)) (append-nil text) in
         record {
-          works = record { intact = through.intact; layout = through.planned.layout; engine = subst (engines.EngineStandsFor worked.engine (lines_over session.catalogue)) all now };
+          works = record { layout = through.planned.layout; engine = subst (engines.EngineStandsFor worked.engine (lines_over session.catalogue)) all now };
           none_open = through.none_open;
         }
 

@@ -13,7 +13,7 @@ use Rattle.session.proofs.PlanLemmas.{planned_still}
 
 -- no epoch is open once the last one was closed
 pub through_closed : (c : Catalogued) (old new : engine.EngineView) → IsPlanned c old → HasClosed c old new → IsThrough c new
-through_closed c old new planned closed = record { intact = closed.intact; planned = planned_still c old new closed.plan planned; none_open = closed.none_open }
+through_closed c old new planned closed = record { planned = planned_still c old new closed.plan planned; none_open = closed.none_open }
 
 module _ (c : Catalogued) (history : List Event) (lines : List Reading) (old : Work) (now : engine.EngineView) where
   -- no line was left

@@ -1,6 +1,6 @@
 -- What a session stands for, once more bytes have come.
 use Rattle.std.specs.Option.{IfSome}
-use Rattle.std.proofs.Common.{◌≡◌, ◌∙◌, sym, ap, refl, subst, ℕ, ◌+◌, ◌-◌, ◌<◌, ◌≤◌, Bool, false, IsTrue, cond, is_some, List, [], ◌∷◌, ◌++◌, map, length, take, Option, Some, None, Result, Ok, Err, append_assoc, append-nil, arith}
+use Rattle.std.proofs.Common.{◌≡◌, ◌∙◌, sym, ap, refl, subst, ℕ, ◌+◌, ◌-◌, ◌<◌, ◌≤◌, Bool, false, cond, is_some, List, [], ◌∷◌, ◌++◌, map, length, take, Option, Some, None, Result, Ok, Err, append_assoc, append-nil, arith}
 use Rattle.std.specs.List.{All}
 use Rattle.std.proofs.lemmas.List.Elements.{All-nil, All-cons, All-append, All-weaker}
 use Rattle.std.proofs.Math.Seq.{take-append-add}
@@ -206,9 +206,9 @@ last_open now ls past stands opened = by_time now.time refl
 
 -- a session that was fed nothing stands for what its engine stands for
 pub begins : (session : SessionView) (past : List Event) → session.ended ≡ false → session.fed ≡ 0 → session.feed ≡ unfed → AreDeclared (judged_of session.catalogue) past
-    → IsTrue session.engine.intact → IsLayoutOf (program_in session) (kinds_of_each (judged_of session.catalogue).streams) session.engine.layout
+    → IsLayoutOf (program_in session) (kinds_of_each (judged_of session.catalogue).streams) session.engine.layout
     → (session.engine.time ≡ None → session.engine.closed_time ≡ None) → engines.EngineStandsFor session.engine (lines_of (program_in session)) past → SessionStandsFor session past []
-begins session past going fed feed declared intact layout opened stands =
+begins session past going fed feed declared layout opened stands =
     let read = reading_of (judged_of session.catalogue).streams in
     let same = sym (append-nil past) ∙ ap (λ ls. heard_after past (map read ls)) (sym (no_lines false)) in
     record {
@@ -216,7 +216,7 @@ begins session past going fed feed declared intact layout opened stands =
       within = omega arith;
       none_refused = ap (λ ls. refused_after past (map read ls)) (no_lines false);
       declared = declared;
-      works = record { intact = intact; layout = layout; engine = subst (engines.EngineStandsFor session.engine (lines_of (program_in session))) same stands };
+      works = record { layout = layout; engine = subst (engines.EngineStandsFor session.engine (lines_of (program_in session))) same stands };
       last_is_open = last_open session.engine (lines_of (program_in session)) past stands opened ∙ ap last_time same;
       counted = fed;
       feed = subst (HasGiven []) (sym feed) (record { gives = λ more ended. ap (λ ls. ls ++ unread_lines (fed_more unfed more) ended) (sym (no_lines false)); line_feeds = refl; none_held = refl });

@@ -1,5 +1,5 @@
 -- The events that the work stands for, before and after one more.
-use Rattle.std.proofs.Common.{◌≡◌, ◌∙◌, sym, refl, ap, subst, ℕ, ◌<◌, ◌≤◌, Bool, true, false, cond, nat_lt, IsTrue, length, List, [], ◌∷◌, ◌++◌, Option, Some, None, arith}
+use Rattle.std.proofs.Common.{◌≡◌, ◌∙◌, sym, refl, ap, subst, ℕ, ◌<◌, ◌≤◌, Bool, true, false, cond, nat_lt, length, List, [], ◌∷◌, ◌++◌, Option, Some, None, arith}
 use Rattle.std.proofs.lemmas.Bool.{le-ltb, ltb-false}
 use Rattle.std.proofs.lemmas.List.Elements.{All-nil, All-cons, All-append}
 use Rattle.event_types.specs.Tuple.{IsSound}
@@ -43,7 +43,6 @@ in_order number seen at h = ap (λ b. cond b (Some (IsOutOfOrder number at seen)
 pub ready_now : (c : Catalogued) (at : ℕ) (work : Work) → IsAtWork c work → ((number : ℕ) → disorder number work.engine.time at ≡ None) → IsNotAhead work.engine.time at → IsReadyForEvent c at work.engine work.engine
 ready_now c at work at_work timely ahead = record {
   plan = record { network = refl; layout = refl };
-  intact = at_work.intact;
   not_ahead = ahead;
   in_time = by_time work.engine.time refl;
   stands = λ history stands. stands.engine;
@@ -64,7 +63,6 @@ ready_now c at work at_work timely ahead = record {
 pub ready_later : (c : Catalogued) (seen at : ℕ) (old new : engine.EngineView) → HasClosed c old new → old.time ≡ Some seen → seen < at → IsReadyForEvent c at old new
 ready_later c seen at old new closed was_open less = record {
   plan = closed.plan;
-  intact = closed.intact;
   not_ahead = subst (λ t. IsNotAhead t at) (sym closed.none_open) tt;
   in_time = λ other late. not_late other
       (subst (λ t. IsLate None t at other) (closed.now_closed ∙ was_open) (subst (λ t. IsLate t new.closed_time at other) closed.none_open late));
@@ -85,7 +83,6 @@ module _ (c : Catalogued) (accepted : IsAccepted c) (event : Seen) (fits : Fits 
     at_work_more =
         let still = planned_still c old mid ready.plan planned in
         record {
-          intact = subst (λ (now : engine.EngineView). IsTrue now.intact) (sym took) ready.intact;
           planned = subst (IsPlanned c) (sym took) (record { lines = still.lines; layout = still.layout });
           opened = λ none. let some : new.engine.time ≡ Some event.tuple.at = ap (λ (now : engine.EngineView). now.time) took in absurd (cc);
         }

@@ -1,5 +1,5 @@
 -- The events that the work stands for, and what holds of the work whatever was heard. No public clause cites this module.
-use Rattle.std.specs.Prelude.{◌≡◌, ◌≤◌, ℕ, IsTrue, List, [], None}
+use Rattle.std.specs.Prelude.{◌≡◌, ◌≤◌, ℕ, List, [], None}
 use Rattle.semantics.specs.Histories.{Event}
 use Rattle.semantics.specs.Programs.{Program}
 use Rattle.automaton.specs.declared.line.Line.{Line}
@@ -37,30 +37,26 @@ pub record IsPlanned (c : Catalogued) (now : engine.EngineView) : Type 0 where
   pub lines : HasLines now.network (lines_over c)
   pub layout : IsLayoutOf (program_over c) (kinds_of_each (judged_of c).streams) now.layout
 
--- the engine is intact and planned, and where no epoch is open, none was closed
+-- the engine is planned, and where no epoch is open, none was closed
 pub record IsAtWork (c : Catalogued) (work : Work) : Type 0 where
-  pub intact : IsTrue work.engine.intact
   pub planned : IsPlanned c work.engine
   pub opened : work.engine.time ≡ None → work.engine.closed_time ≡ None
 
 -- the open epoch was closed, and the engine stands for the same events
 pub record HasClosed (c : Catalogued) (old new : engine.EngineView) : Type 0 where
   pub plan : KeepsPlan old new
-  pub intact : IsTrue new.intact
   pub none_open : new.time ≡ None
   pub now_closed : new.closed_time ≡ old.time
   pub stands : (history : List Event) → EngineStandsWithLastOpen c history old → engines.EngineStandsFor new (lines_over c) history
 
--- no epoch is open, and the engine is intact and planned
+-- no epoch is open, and the engine is planned
 pub record IsThrough (c : Catalogued) (now : engine.EngineView) : Type 0 where
-  pub intact : IsTrue now.intact
   pub planned : IsPlanned c now
   pub none_open : now.time ≡ None
 
 -- an event of this time may be offered, and the engine stands for the same events
 pub record IsReadyForEvent (c : Catalogued) (at : ℕ) (old new : engine.EngineView) : Type 0 where
   pub plan : KeepsPlan old new
-  pub intact : IsTrue new.intact
   pub not_ahead : IsNotAhead new.time at
   pub in_time : (seen : ℕ) → IsLate new.time new.closed_time at seen → ⊥
   pub stands : (history : List Event) → EngineStandsWithLastOpen c history old → engines.EngineStandsFor new (lines_over c) history

@@ -1,5 +1,5 @@
 -- What contracts see of a session, and what it stands for.
-use Rattle.std.specs.Prelude.{◌≡◌, ◌<◌, ◌≤◌, ℕ, Bool, true, false, IsTrue, List, [], length, None}
+use Rattle.std.specs.Prelude.{◌≡◌, ◌<◌, ◌≤◌, ℕ, Bool, true, false, List, [], length, None}
 use Rattle.std.specs.List.{All}
 use Rattle.semantics.specs.Histories.{Event}
 use Rattle.semantics.specs.Programs.{Program}
@@ -52,9 +52,8 @@ pub record HasGiven (text : List ℕ) (feed : Fed) : Type 0 where
   pub line_feeds : line_feeds_so_far feed ≡ line_feeds_in text
   pub none_held : line_feeds_in feed.rest ≡ 0
 
--- the engine of a session is intact, has a layout of its queries, and stands for a history over the merged network of their lines
+-- the engine of a session has a layout of its queries, and stands for a history over the merged network of their lines
 pub record WorksFor (session : SessionView) (history : List Event) : Type 0 where
-  pub intact : IsTrue session.engine.intact
   pub layout : IsLayoutOf (program_in session) (kinds_of_each (judged_of session.catalogue).streams) session.engine.layout
   pub engine : engines.EngineStandsFor session.engine (lines_of (program_in session)) history
 

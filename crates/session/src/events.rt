@@ -1,5 +1,5 @@
 //! The work on one event, or on a line that is refused.
-ghost use Rattle.std.specs.Prelude.{◌≡◌, ℕ, IsTrue, None, IfErr, OnOk};
+ghost use Rattle.std.specs.Prelude.{◌≡◌, ℕ, None, IfErr, OnOk};
 ghost use Rattle.cay_host.specs.Output.{SameButOutput};
 ghost use Rattle.catalogue.specs.Catalogued.{IsAccepted, judged_of};
 ghost use Rattle.epoch_engine.specs.Offers.{IsHeard, IsLate, IsNotAhead, with_tuple};
@@ -36,7 +36,6 @@ pub fn refuse<H: Host>(host: &mut H, work: &mut Work, refusal: Refusal) -> Sessi
 
 // Offers an event to the engine, and keeps its stream.
 fn offer_event(work: &mut Work, event: Seen) -> Result<(), Memory>
-    requires intact { IsTrue work.old.engine.intact }
     requires heard { IsHeard work.old.engine.layout event.stream event.tuple }
     requires not_ahead { IsNotAhead work.old.engine.time event.tuple.at }
     requires in_time { (seen : ℕ) → IsLate work.old.engine.time work.old.engine.closed_time event.tuple.at seen → ⊥ }

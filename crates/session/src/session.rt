@@ -1,12 +1,11 @@
 //! Sessions.
-ghost use Rattle.std.specs.Prelude.{◌≡◌, ℕ, ◌-◌, ◌^◌, [], List, None, false, min, true, IsTrue, IfErr, IfOk, OnErr, OnOk, take};
+ghost use Rattle.std.specs.Prelude.{◌≡◌, ℕ, [], List, None, false, true, IfErr, IfOk, OnErr, OnOk, take};
 ghost use Rattle.semantics.specs.Histories.{Event};
 ghost use Rattle.automaton.specs.NetworkLines.{HasLines};
 ghost use Rattle.splitter.specs.Chains.{lines_of};
 ghost use Rattle.splitter.specs.Layouts.{IsLayoutOf};
 ghost use Rattle.cay_host.specs.Output.{SameButOutput};
 ghost use Rattle.prefix_merge.specs.Counts.{CountsPlain, CountsStates};
-ghost use Rattle.epoch_engine.specs.Counts.{stored_in};
 ghost use Rattle.epoch_engine.specs.EngineStandsFor as engines;
 ghost use Rattle.catalogue.specs.Catalogued.{judged_of};
 ghost use Rattle.catalogue.specs.Chained.{kinds_of_each};
@@ -74,7 +73,6 @@ impl Session {
     pub fn over(alloc: Global, catalogue: Catalogue, engine: Engine, limit: u64) -> Session
         requires lines { HasLines engine.network (lines_of (program_of (judged_of catalogue))) }
         requires layout { IsLayoutOf (program_of (judged_of catalogue)) (kinds_of_each (judged_of catalogue).streams) engine.layout }
-        requires intact { IsTrue engine.intact }
         requires opened { engine.time ≡ None → engine.closed_time ≡ None }
         ensures queries { result.catalogue ≡ catalogue }
         ensures limit { result.limit ≡ limit }
@@ -120,20 +118,13 @@ impl Session {
 
     /// The number of bindings that wait after the closed epochs and that a later event can still match, as far
     /// as the bounds on DUR tell, or 2^64-1 where there are more. Takes the other bindings out of the stores,
-    /// and no memory. Where a closing wanted memory, so that the engine isn't intact, it takes out none and
-    /// counts all that are stored.
+    /// and no memory.
     pub fn live(&mut self) -> u64
         ensures counted { CountsWaiting self.old result }
-        ensures trimmed { IsTrue self.old.engine.intact → TrimsEngine self.old self.new }
-        ensures same { self.old.engine.intact ≡ false → self.new ≡ self.old }
-        ensures stored { self.old.engine.intact ≡ false → result ≡ min (stored_in self.old.engine) (2 ^ 64 - 1) }
-        ensures ended { self.new.ended ≡ self.old.ended }
+        ensures trimmed { TrimsEngine self.old self.new }
         ensures works { (history : List Event) → WorksFor self.old history → WorksFor self.new history }
         ensures stands { (past : List Event) (text : List ℕ) → SessionStandsFor self.old past text → SessionStandsFor self.new past text }
     {
-        if !self.work.engine.intact() {
-            return self.work.engine.live();
-        }
         self.work.engine.trim();
         self.work.engine.live()
     }
@@ -207,7 +198,6 @@ impl Session {
 /// An engine over the merged network of the queries, which has heard nothing.
 pub(crate) fn engine_of(alloc: Global, catalogue: &Catalogue) -> Result<Engine, Memory>
     ensures planned { IfOk result (IsPlanned catalogue.now) }
-    ensures intact { IfOk result (λ engine. IsTrue engine.intact) }
     ensures none_closed { IfOk result (λ engine. engine.closed_time ≡ None) }
     ensures stands { IfOk result (λ engine. engines.EngineStandsFor engine (lines_over catalogue.now) []) }
 {

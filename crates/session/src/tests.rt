@@ -1,5 +1,5 @@
 //! What no clause says: that memory is had, and what is written.
-ghost use Rattle.std.specs.Prelude.{◌≡◌, ◌<◌, false, None, IfOk, IsTrue, OnOk};
+ghost use Rattle.std.specs.Prelude.{◌≡◌, ◌<◌, false, None, IfOk, OnOk};
 ghost use Rattle.catalogue.specs.Catalogued.{IsAccepted, judged_of};
 ghost use Rattle.session.specs.Fits.{Fits};
 ghost use Rattle.session.specs.EngineStandsWithLastOpen.{IsAtWork, IsPlanned};
@@ -72,7 +72,6 @@ fn engine_that_heard<L: Ledger>(
     steps: &mut Steps<L>,
 ) -> Result<Engine, Memory>
     ensures planned { IfOk result (IsPlanned catalogue.now) }
-    ensures intact { IfOk result (λ engine. IsTrue engine.intact) }
     ensures opened { IfOk result (λ engine. engine.time ≡ None → engine.closed_time ≡ None) }
 {
     let mut work = Work {

@@ -22,7 +22,6 @@ returns-clause-closed g c =
     on_ok_weaker c.put_batch.result
     (λ put. record {
       plan = c.in_ok-batch.ensures.plan;
-      intact = c.in_ok-batch.ensures.intact;
       none_open = closes.none_open;
       now_closed = closes.now_closed ∙ sym closes.was_open;
       stands = λ history stands. still_stands c.args.catalogue.now c.put_batch.ensures.accepted c.args.work.now.engine c.close.new.self c.in_ok-batch.batch c.requires.at_work.planned closes history stands c.in_ok-batch.ensures.plan;

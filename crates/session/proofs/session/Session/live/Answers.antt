@@ -22,8 +22,8 @@ returns-clause-counted c =
     let e = c.self.inside in
     let old : SessionView = record { catalogue = e.catalogue; engine = e.work.engine; limit = e.limit; feed = e.feed; fed = e.fed; ended = e.ended } in
     let now = c.trim.new.self in
-    subst (λ (s : SessionView). (history : List Event) → WorksFor s history → CountsAlive (lines_of (program_in s)) (work_order (program_in s)) (closed_part s.engine.time history) c.live-2.result) c.self.view_is
-    (λ history works. alive_counted old (with_engine old now) (trims_engine old now c.trim.ensures) history works c.live-2.result c.live-2.ensures)
+    subst (λ (s : SessionView). (history : List Event) → WorksFor s history → CountsAlive (lines_of (program_in s)) (work_order (program_in s)) (closed_part s.engine.time history) c.live.result) c.self.view_is
+    (λ history works. alive_counted old (with_engine old now) (trims_engine old now c.trim.ensures) history works c.live.result c.live.ensures)
 
 -- the engine works for the same events
 pub returns-clause-works : goal.returns-clause-works

@@ -6,7 +6,7 @@ use Rattle.session.proofs.session.Session.over.Goals as goal
 -- the session may go on
 pub invariant_of-result : goal.invariant_of-result
 invariant_of-result c = λ going. record {
-  at_work = record { intact = c.requires.intact; planned = record { lines = c.requires.lines; layout = c.requires.layout }; opened = c.requires.opened };
+  at_work = record { planned = record { lines = c.requires.lines; layout = c.requires.layout }; opened = c.requires.opened };
   none_owed = c.new.ensures;
   within = omega arith;
   counted = subst (λ (feed : Fed). line_feeds_so_far feed ≤ 0) (sym c.new-2.ensures) (omega arith);
@@ -15,4 +15,4 @@ invariant_of-result c = λ going. record {
 
 -- it stands for what its engine stands for
 pub returns-clause-stands : goal.returns-clause-stands
-returns-clause-stands c = λ past declared stands. begins _ past refl refl c.new-2.ensures declared c.requires.intact c.requires.layout c.requires.opened stands
+returns-clause-stands c = λ past declared stands. begins _ past refl refl c.new-2.ensures declared c.requires.layout c.requires.opened stands
