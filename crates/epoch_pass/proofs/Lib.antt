@@ -1,4 +1,0 @@
-pub mod Lists
-pub mod Pairs
-pub mod StoreLemmas
-pub mod TypingLemmas
