@@ -38,6 +38,11 @@ pub record IsStill (streams states : ℕ) (drawing : Drawing) : Type 0 where
   pub no_beads : (state : ℕ) → slice_index_or drawing.draft.beads state [] ≡ []
   pub no_pairs : drawing.pairs ≡ []
 
--- a drawing that is kept is still
-abbrev pub KeepsStill : Plan → Option Drawing → Type 0
-KeepsStill plan kept = IfSome kept (IsStill (length plan.layout.kinds) (length plan.merged))
+-- it has them for those of a plan
+abbrev pub IsStillFor : Plan → Drawing → Type 0
+IsStillFor plan drawing = IsStill (length plan.layout.kinds) (length plan.merged) drawing
+
+-- the parts of an engine: they fit one another, and a drawing that is kept is still
+pub record IsEngine (plan : Plan) (stores : List (Option Plain)) (epoch : Epoch) (kept : Option Drawing) : Type 0 where
+  pub running : IsRunning plan stores epoch
+  pub still : IfSome kept (IsStillFor plan)

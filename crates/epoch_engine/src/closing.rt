@@ -1,13 +1,9 @@
 //! The closing of an epoch.
-ghost use Rattle.std.specs.Prelude.{◌≡◌, ◌+◌, IfOk, IfSome, IsSome, OnErr, OnOk, length, map, slice_index_or};
-ghost use Rattle.semantics.specs.Denotation.{streams_of};
-ghost use Rattle.epoch_draft.specs.Deriving.{DrawnUpTo, news_of};
-ghost use Rattle.epoch_draft.specs.Held.{held};
-ghost use Rattle.epoch_draft.specs.Settling.{AreClosed};
+ghost use Rattle.std.specs.Prelude.{◌≡◌, IfOk, IsSome, OnErr, OnOk};
 ghost use Rattle.epoch_draft.specs.Typed.{IsTyped};
 ghost use Rattle.epoch_engine.specs.Batches.{AreReady, IsOfMade};
-ghost use Rattle.epoch_engine.specs.Closes.{IsTaken};
-ghost use Rattle.epoch_engine.specs.Running.{IsRunning, IsStill};
+ghost use Rattle.epoch_engine.specs.Running.{IsRunning, IsStillFor};
+ghost use Rattle.epoch_engine.specs.Taking.{IsDrawn, IsSettled, TakesEpoch};
 
 use crate::batch::{Batch, fill, prepare};
 use crate::drawing::Drawing;
@@ -30,10 +26,10 @@ pub(crate) fn take_epoch<L: Ledger>(
 ) -> Result<Batch, Memory>
     requires running { IsRunning plan.now stores.old epoch.now }
     requires opened { IsSome epoch.now.time }
-    requires still { IsStill (length plan.now.layout.kinds) (length plan.now.merged) drawing.old }
-    ensures taken { IfSome epoch.now.time (λ time. IfOk result (λ batch. IsTaken plan.now.merged plan.now.layout time (held stores.old) (streams_of epoch.now.tuples) (held stores.new) batch)) }
+    requires still { IsStillFor plan.now drawing.old }
+    ensures taken { IfOk result (TakesEpoch plan.now epoch.now stores.old stores.new) }
     ensures typed { OnOk result (IsTyped plan.now.merged plan.now.layout.kinds stores.new) }
-    ensures still { OnOk result (IsStill (length plan.now.layout.kinds) (length plan.now.merged) drawing.new) }
+    ensures still { OnOk result (IsStillFor plan.now drawing.new) }
     ensures kept { OnErr result (stores.new ≡ stores.old) }
 {
     let batch = draw_epoch(alloc, plan, stores, epoch, drawing, steps)?;
@@ -50,8 +46,8 @@ fn draw_epoch<L: Ledger>(
     steps: &mut Steps<L>,
 ) -> Result<Batch, Memory>
     requires running { IsRunning plan.now stores.now epoch.now }
-    requires still { IsStill (length plan.now.layout.kinds) (length plan.now.merged) drawing.old }
-    ensures drawn { OnOk result (DrawnUpTo plan.now.merged plan.now.layout stores.now epoch.now.tuples plan.now.layout.order drawing.new.draft drawing.new.pairs) }
+    requires still { IsStillFor plan.now drawing.old }
+    ensures drawn { OnOk result (IsDrawn plan.now stores.now epoch.now drawing.new) }
     ensures ready { IfOk result (AreReady plan.now.layout.outs plan.now.last drawing.new.draft.made) }
 {
     draw(
@@ -84,11 +80,11 @@ fn settle_epoch<L: Ledger>(
 ) -> Batch
     requires running { IsRunning plan.now stores.old epoch.now }
     requires opened { IsSome epoch.now.time }
-    requires drawn { DrawnUpTo plan.now.merged plan.now.layout stores.old epoch.now.tuples plan.now.layout.order drawing.old.draft drawing.old.pairs }
+    requires drawn { IsDrawn plan.now stores.old epoch.now drawing.old }
     requires ready { AreReady plan.now.layout.outs plan.now.last drawing.old.draft.made batch }
-    ensures closed { IfSome epoch.now.time (λ time. AreClosed (time + 1) plan.now.merged (news_of epoch.now.tuples drawing.old.draft.made plan.now.layout.order) stores.old stores.new) }
+    ensures settled { IsSettled plan.now epoch.now drawing.old stores.old stores.new }
     ensures batch { IsOfMade plan.now.layout.outs drawing.old.draft.made result }
-    ensures still { IsStill (length plan.now.layout.kinds) (length plan.now.merged) drawing.new }
+    ensures still { IsStillFor plan.now drawing.new }
 {
     let time = match epoch.time {
         Some(time) => time,

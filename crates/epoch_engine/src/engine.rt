@@ -1,12 +1,12 @@
 //! The engine.
-ghost use Rattle.std.specs.Prelude.{◌≡◌, ◌-◌, ◌^◌, ℕ, length, min, IfNone, IfOk, IfSome, IsSome, OnErr, OnOk};
+ghost use Rattle.std.specs.Prelude.{◌≡◌, ◌-◌, ◌^◌, ℕ, min, IfNone, IfOk, IfSome, IsSome, OnErr, OnOk};
 ghost use Rattle.automaton.specs.NetworkLines.{NetworkFits};
 ghost use Rattle.automaton.specs.Networks.{IsNetwork};
 ghost use Rattle.prefix_merge.specs.Merging.{IsMerged};
 ghost use Rattle.epoch_engine.specs.Closes.{Closes, KeepsPlan};
 ghost use Rattle.epoch_engine.specs.Counts.{stored_in};
 ghost use Rattle.epoch_engine.specs.Offers.{IsAnswer, IsHeard, IsLate, IsNotAhead, with_tuple};
-ghost use Rattle.epoch_engine.specs.Running.{IsStill};
+ghost use Rattle.epoch_engine.specs.Running.{IsStillFor};
 ghost use Rattle.epoch_engine.specs.Starts.{IsNew};
 ghost use Rattle.epoch_engine.specs.Trims.{Trims};
 
@@ -48,11 +48,11 @@ impl Model for Engine {
 
     ghost use Rattle.std.specs.Prelude.{map};
     ghost use Rattle.epoch_draft.specs.Held.{instances_in};
-    ghost use Rattle.epoch_engine.specs.Running.{IsRunning, KeepsStill};
+    ghost use Rattle.epoch_engine.specs.Running.{IsEngine};
 
     ghost view = { λ e. record { network = e.plan.merged; layout = e.plan.layout; stores = map instances_in e.stores; opened = e.epoch.tuples; time = e.epoch.time; closed_time = e.closed_time } };
 
-    ghost invariant = { λ e. IsRunning e.plan e.stores e.epoch × KeepsStill e.plan e.drawing };
+    ghost invariant = { λ e. IsEngine e.plan e.stores e.epoch e.drawing };
 }
 
 impl Engine {
@@ -164,7 +164,7 @@ impl Engine {
 
 // A drawing of a plan's network, in which nothing is drawn.
 fn drawing_for(alloc: Global, plan: &Plan) -> Result<Drawing, Memory>
-    ensures still { IfOk result (IsStill (length plan.now.layout.kinds) (length plan.now.merged)) }
+    ensures still { IfOk result (IsStillFor plan.now) }
     ensures network { IsNetwork plan.now.merged }
 {
     let states = plan.merged.network().places();

@@ -8,7 +8,7 @@ returns-clause-taken g c =
     let plan = c.args.plan.now in
     let epoch = c.args.epoch.now in
     let drawing = c.draw_epoch.new.drawing in
-    IfSome_then epoch.time c.settle_epoch.ensures.closed
+    IfSome_then epoch.time c.settle_epoch.ensures.settled
     (λ time closed. taken plan.merged plan.layout time c.args.stores.now c.settle_epoch.new.stores epoch.tuples c.settle_epoch.result drawing.draft drawing.pairs c.requires.running.plan_is.printed c.in_ok-batch.ensures.drawn closed c.settle_epoch.ensures.batch)
 
 -- and the stores are typed
@@ -17,4 +17,4 @@ returns-clause-typed g c =
     let plan = c.args.plan.now in
     let epoch = c.args.epoch.now in
     let drawing = c.draw_epoch.new.drawing in
-    typed_after plan.merged plan.layout c.args.stores.now c.settle_epoch.new.stores epoch.tuples drawing.draft drawing.pairs c.requires.running.can_draw c.in_ok-batch.ensures.drawn epoch.time c.requires.opened c.settle_epoch.ensures.closed
+    typed_after plan.merged plan.layout c.args.stores.now c.settle_epoch.new.stores epoch.tuples drawing.draft drawing.pairs c.requires.running.can_draw c.in_ok-batch.ensures.drawn epoch.time c.requires.opened c.settle_epoch.ensures.settled

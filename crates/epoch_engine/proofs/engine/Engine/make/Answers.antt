@@ -14,12 +14,13 @@ invariant_of-result c =
     let plan = c.in_ok-plan.plan in
     let stores = c.in_ok-stores.stores in
     let epoch = c.in_ok-epoch.epoch in
-    let fits : NetworkFits plan.merged plan.layout = subst (λ (l : Layout). NetworkFits plan.merged l) (sym c.in_ok-plan.ensures.layout) (subst (λ (net : Net). NetworkFits net c.args.layout) (sym c.in_ok-plan.ensures.merged) c.requires) in (
-      made_running plan stores epoch fits c.drawing_for.ensures.network c.in_ok-plan.ensures.is
+    let fits : NetworkFits plan.merged plan.layout = subst (λ (l : Layout). NetworkFits plan.merged l) (sym c.in_ok-plan.ensures.layout) (subst (λ (net : Net). NetworkFits net c.args.layout) (sym c.in_ok-plan.ensures.merged) c.requires) in record {
+      running =
+          made_running plan stores epoch fits c.drawing_for.ensures.network c.in_ok-plan.ensures.is
           (subst (λ (net : Net). (length stores ≡ length net) × ((n : ℕ) → get_or stores n None ≡ new_store (wait_at net n))) c.network.ensures.value c.in_ok-stores.ensures) (c.in_ok-epoch.ensures.as_many ∙ c.len.ensures)
-          c.in_ok-epoch.ensures.empty c.in_ok-epoch.ensures.touched,
-      c.in_ok-drawing.ensures.still,
-    )
+          c.in_ok-epoch.ensures.empty c.in_ok-epoch.ensures.touched;
+      still = c.in_ok-drawing.ensures.still;
+    }
 
 -- nothing was heard
 pub returns : goal.returns

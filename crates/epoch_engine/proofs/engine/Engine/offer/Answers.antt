@@ -13,8 +13,8 @@ pub add-requires : goal.add-requires
 add-requires c =
     let e = c.self.inside in
     let known = ap (λ (v : EngineView). slice_get v.layout.kinds c.args.stream) c.self.view_is ∙ c.requires.heard.known in record {
-      stream = subst (λ (n : ℕ). c.args.stream < n) (sym c.self.invariant.0.can_draw.as_many) (slice_get_within e.plan.layout.kinds c.args.stream c.requires.heard.kinds known);
-      touched = c.self.invariant.0.touched;
+      stream = subst (λ (n : ℕ). c.args.stream < n) (sym c.self.invariant.running.can_draw.as_many) (slice_get_within e.plan.layout.kinds c.args.stream c.requires.heard.kinds known);
+      touched = c.self.invariant.running.touched;
     }
 
 -- the tuple has the kinds of its stream, which isn't derived
@@ -22,15 +22,15 @@ pub invariant_of-self : goal.invariant_of-self
 invariant_of-self c =
     let e = c.self.inside in
     let known = ap (λ (v : EngineView). slice_get v.layout.kinds c.args.stream) c.self.view_is ∙ c.requires.heard.known in
-    let declared = ap (λ (v : EngineView). is_in v.layout.order c.args.stream) c.self.view_is ∙ c.requires.heard.declared in (
-      offered_running e.plan e.stores e.epoch (record c.add.new.self { time = Some c.at-at.result }) c.args.stream c.requires.heard.kinds c.args.tuple c.self.invariant.0 known declared c.requires.heard.of_kinds c.in-Ok.ensures.ok c.add.ensures.touched,
-      c.self.invariant.1,
-    )
+    let declared = ap (λ (v : EngineView). is_in v.layout.order c.args.stream) c.self.view_is ∙ c.requires.heard.declared in record {
+      running = offered_running e.plan e.stores e.epoch (record c.add.new.self { time = Some c.at-at.result }) c.args.stream c.requires.heard.kinds c.args.tuple c.self.invariant.running known declared c.requires.heard.of_kinds c.in-Ok.ensures.ok c.add.ensures.touched;
+      still = c.self.invariant.still;
+    }
 
 -- nothing was changed
 pub invariant_of-self-in-Err : goal.invariant_of-self-in-Err
 invariant_of-self-in-Err c =
-    let e = c.self.inside in (kept_running e.plan e.stores e.epoch c.add.new.self c.self.invariant.0 c.in-Err.ensures.kept c.add.ensures.touched, c.self.invariant.1)
+    let e = c.self.inside in record { running = kept_running e.plan e.stores e.epoch c.add.new.self c.self.invariant.running c.in-Err.ensures.kept c.add.ensures.touched; still = c.self.invariant.still }
 
 -- the tuple is late
 pub returns-in-Some-clause-answer : goal.returns-in-Some-clause-answer

@@ -12,11 +12,12 @@ use Rattle.epoch_engine.proofs.engine.Engine.trim.Goals as goal
 pub invariant_of-self : goal.invariant_of-self
 invariant_of-self c =
     let e = c.self.inside in
-    let purged = c.purge_all.new.stores in (
-      purged_running (c.in-Some.time + 1) e.plan e.stores purged e.epoch c.self.invariant.0 c.purge_all.ensures.as_many
-          (subst (λ (net : Net). (n : ℕ) → get_or purged n None ≡ purged_slot (c.in-Some.time + 1) (is_some (wait_at net n)) (get_or e.stores n None)) c.network.ensures.value c.purge_all.ensures.purged),
-      c.self.invariant.1,
-    )
+    let purged = c.purge_all.new.stores in record {
+      running =
+          purged_running (c.in-Some.time + 1) e.plan e.stores purged e.epoch c.self.invariant.running c.purge_all.ensures.as_many
+          (subst (λ (net : Net). (n : ℕ) → get_or purged n None ≡ purged_slot (c.in-Some.time + 1) (is_some (wait_at net n)) (get_or e.stores n None)) c.network.ensures.value c.purge_all.ensures.purged);
+      still = c.self.invariant.still;
+    }
 
 -- each was purged at the last closed time
 pub returns-in-Some : goal.returns-in-Some
@@ -26,5 +27,5 @@ returns-in-Some c =
     let time = c.in-Some.time in
     let old : EngineView = view_of e.plan e.stores e.epoch e.closed_time in
     subst (λ (v : EngineView). Trims v (with_stores old purged)) c.self.view_is
-    (trims_view old time e.stores purged c.in-Some.is c.self.invariant.0.can_draw.typed
+    (trims_view old time e.stores purged c.in-Some.is c.self.invariant.running.can_draw.typed
     (subst (λ (net : Net). (n : ℕ) → get_or purged n None ≡ purged_slot (time + 1) (is_some (wait_at net n)) (get_or e.stores n None)) c.network.ensures.value c.purge_all.ensures.purged))
