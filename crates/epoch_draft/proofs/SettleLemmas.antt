@@ -37,10 +37,10 @@ use Rattle.epoch_laws.proofs.Lists.{every, filter-filter, filter_false}
 use Rattle.std.proofs.lemmas.List.Elements.{filter_agree}
 use Rattle.epoch_draft.specs.Deriving.{CanDraw, DrawnUpTo, news_of}
 use Rattle.epoch_draft.specs.Finding.{IsDeaf, is_wait_on, waits_on}
-use Rattle.epoch_draft.specs.Held.{held, instances_in}
+use Rattle.epoch_draft.specs.Held.{held, instances_in, shape_of}
 use Rattle.epoch_draft.specs.Meeting.{pair_of}
-use Rattle.epoch_draft.specs.Purging.{ArePurgedIn, IsUnbound, ListsBounded, purged_for}
-use Rattle.epoch_draft.specs.Settling.{AreClosed, AreLinked, AreSettled, AreTaken, IsTakenAt, PairSuits, SameShapes, first_of, listed_rows, row_at, shape_of, tuples_in}
+use Rattle.epoch_draft.specs.Purging.{ArePurgedIn, IsUnbound, ListsBounded, alive_in}
+use Rattle.epoch_draft.specs.Settling.{AreClosed, AreLinked, AreSettled, AreTaken, IsTakenAt, PairSuits, first_of, listed_rows, row_at, tuples_in}
 use Rattle.epoch_draft.specs.Suits.{MeetingSuits, TupleSuits, WaitSuits}
 use Rattle.epoch_draft.specs.Typed.{IsTyped}
 use Rattle.epoch_draft.specs.declared.draft.Draft.{Draft}
@@ -50,6 +50,7 @@ use Rattle.epoch_draft.proofs.DrawnLemmas.{drawn_is_after, entry_below}
 use Rattle.epoch_draft.proofs.Lists.{contains_more, contains_or_not, contains_this, more_contains, same_or_other}
 use Rattle.epoch_draft.proofs.MeetLemmas.{waits_used}
 use Rattle.epoch_draft.proofs.Moves.{equal_number, is_itself}
+use Rattle.epoch_draft.proofs.PurgeLemmas.{shapes_same, shapes_trans}
 use Rattle.epoch_draft.proofs.StateLemmas.{AtWait, at_wait, some_is, wait_entry, wait_typed}
 
 none_in : {X : Type 0} (x : X) → Contains [] x → ⊥
@@ -57,13 +58,6 @@ none_in x c = absurd (omega arith)
 
 other_test : (m n : ℕ) → (m ≡ n → ⊥) → (m == n) ≡ false
 other_test m n ne = grind (arith, nat_tests)
-
--- stores have their own shapes
-pub shapes_same : (stores : List (Option Plain)) → SameShapes stores stores
-shapes_same stores = record { as_many = refl; shapes = λ n. refl }
-
-shapes_trans : (old mid new : List (Option Plain)) → SameShapes old mid → SameShapes mid new → SameShapes old new
-shapes_trans old mid new one two = record { as_many = two.as_many ∙ one.as_many; shapes = λ n. two.shapes n ∙ one.shapes n }
 
 -- no pair takes anything out
 pub taken_none : (net : Net) (news : Streams) (stores : List (Option Plain)) → AreTaken net news [] stores stores
@@ -455,19 +449,11 @@ bounded_below net bound list lists = All-weaker (λ n. IsTrue (is_some (wait_at 
 pub closed : (time : ℕ) (net : Net) (kinds : List (List Kind)) (old mid new : List (Option Plain)) (news : Streams) (bounded : List ℕ) → IsTyped net kinds old → ListsBounded net (length net) bounded → AreSettled net news old mid → ArePurgedIn bounded time mid new
     → AreClosed time net news old new
 closed time net kinds old mid new news bounded typed lists settled purged = record {
-  same = record { as_many = purged.as_many ∙ settled.same.as_many; shapes = λ n. shapes n (contains_or_not bounded n) ∙ settled.same.shapes n };
+  same = shapes_trans old mid new settled.same purged.same;
   purged = λ n w at. waits n w at (contains_or_not bounded n) (get_or mid n None) refl;
   others = λ n at. ap instances_in (purged.others n (absent n at)) ∙ settled.others n at;
 }
   where
-    shape_kept : (o : Option Plain) → shape_of (option_map (purged_for time) o) ≡ shape_of o
-    shape_kept None = refl
-    shape_kept (Some store) = refl
-
-    shapes : (n : ℕ) → Contains bounded n ⊎ (Contains bounded n → ⊥) → shape_of (get_or new n None) ≡ shape_of (get_or mid n None)
-    shapes n (inl c) = ap shape_of (purged.purged n c) ∙ shape_kept (get_or mid n None)
-    shapes n (inr absent) = ap shape_of (purged.others n absent)
-
     absent : (n : ℕ) → wait_at net n ≡ None → Contains bounded n → ⊥
     absent n at c = absurd (let waits = All-contains (λ n. IsTrue (is_some (wait_at net n))) bounded n lists.waits c in let no : IsTrue (is_some {T = Wait} None) = subst (λ (o : Option Wait). IsTrue (is_some o)) at waits in cc)
 
@@ -482,7 +468,7 @@ closed time net kinds old mid new news bounded typed lists settled purged = reco
     waits : (n : ℕ) (w : Wait) → wait_at net n ≡ Some w → Contains bounded n ⊎ (Contains bounded n → ⊥) → (o : Option Plain) → get_or mid n None ≡ o → IsPermutation (held new n) (alive_instances time w.choose (stores_after net news (held old) n))
     waits n w at (inl c) None e = absurd (slot n w at e)
     waits n w at (inl c) (Some store) e =
-        permuted_from (ap instances_in (purged.purged n c ∙ ap (option_map (purged_for time)) e) ∙ ap (λ choose. alive_instances time choose store.instances) (condition n w at store e))
+        permuted_from (purged.purged n c ∙ ap (alive_in time) e ∙ ap (λ choose. alive_instances time choose store.instances) (condition n w at store e))
         (filter_permuted (λ (i : Instance). is_alive time w.choose i.tuple) store.instances (stores_after net news (held old) n) (permuted_from (ap instances_in (sym e)) (settled.settled n w at)))
     waits n w at (inr absent) o e = unbound (lists.has n w (let found = at_wait net n w at in entry_below net n (Waiting found.before found.hop) (wait_entry net n w found)) at)
       where

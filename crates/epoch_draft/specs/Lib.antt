@@ -12,6 +12,7 @@ pub mod Moves
 pub mod Pairs
 pub mod Purging
 pub mod Settling
+pub mod Stores
 pub mod Suits
 pub mod Tests
 pub mod Typed

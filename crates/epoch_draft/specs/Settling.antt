@@ -1,6 +1,5 @@
 -- What the second half of a closing does to the stores.
 use Rattle.std.specs.Prelude.{◌≡◌, ℕ, ◌<◌, ◌==◌, not, if◌then◌else◌, IsTrue, List, [], ◌∷◌, ◌++◌, Contains, length, Option, Some, None, option_to_list, slice_get, slice_index_or, sum_by}
-use Rattle.std.specs.Option.{option_map}
 use Rattle.std.specs.List.{All, filter, flat_map}
 use Rattle.std.specs.List.Sorted.{IsPermutation}
 use Rattle.event_types.specs.Tuple.{TupleView}
@@ -9,23 +8,13 @@ use Rattle.instances.specs.Plain.{Plain}
 use Rattle.instances.specs.declared.instance.Instance.{Instance}
 use Rattle.semantics.specs.Denotation.{Streams}
 use Rattle.semantics.specs.Nexts.{is_eligible}
-use Rattle.semantics.specs.Scalars.{Pr}
 use Rattle.scalar_expr.specs.Fits.{AllFit}
 use Rattle.automaton.specs.States.{Net, is_used, wait_at}
 use Rattle.automaton.specs.declared.wait.Wait.{Wait}
 use Rattle.epoch_laws.specs.Closing.{Stores, stores_after}
 use Rattle.epoch_laws.specs.Epochs.{unmatched_after}
-use Rattle.epoch_draft.specs.Held.{held}
+use Rattle.epoch_draft.specs.Held.{SameShapes, held}
 use Rattle.epoch_draft.specs.declared.draft.Pair.{Pair}
-
--- whether there is a store, and the condition for which it is made
-abbrev pub shape_of : Option Plain → Option (List Pr)
-shape_of slot = option_map (λ store. store.condition) slot
-
--- the stores are as many, and made for the same conditions
-pub record SameShapes (old new : List (Option Plain)) : Type 0 where
-  pub as_many : length new ≡ length old
-  pub shapes : (number : ℕ) → shape_of (slice_index_or new number None) ≡ shape_of (slice_index_or old number None)
 
 -- the first list, or the second where the first has no items
 abbrev pub first_of : List TupleView → List TupleView → List TupleView

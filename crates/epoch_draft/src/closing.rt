@@ -6,8 +6,8 @@ ghost use Rattle.epoch_draft.specs.Purging.{ListsBounded};
 
 use crate::draft::{Draft, Lists};
 use crate::drawing::draw;
-use crate::meeting::Stores;
 use crate::settling::settle;
+use crate::stores::Stores;
 use automaton::{Layout, Network};
 use event_types::{List, Memory};
 use std::alloc::Global;

@@ -11,7 +11,8 @@ ghost use Rattle.epoch_draft.specs.Suits.{TupleSuits};
 ghost use Rattle.epoch_draft.specs.Tests.{stream_work, streams_work};
 
 use crate::draft::{Draft, Lists, Pairs};
-use crate::meeting::{Stores, meet_stream};
+use crate::meeting::meet_stream;
+use crate::stores::Stores;
 use automaton::{Layout, Network};
 use event_types::{Memory, StreamId, put_in_order};
 use std::alloc::Global;

@@ -1,6 +1,7 @@
-//! The closing of an epoch in two halves, of which the engine will be made. The first half draws: it makes
+//! The closing of an epoch in two halves, of which the engine is made. The first half draws: it makes
 //! all tuples, beads and pairs of the epoch, and changes no store. The second half settles: it takes what
-//! was matched out of the stores, puts the beads in and purges, and takes no memory.
+//! was matched out of the stores, puts the beads in and purges, and takes no memory. Here too are the stores of
+//! a network: they are made, counted and purged whole.
 //!
 //! Contracts see each public type as its fields. A `Draft` is the tuples made for each derived stream, the
 //! beads made for each state as a list of instances, and the `Marks` of the streams and the states that have
@@ -8,11 +9,12 @@
 //! a waiting state and a tuple by its stream and its place there. A `Target` is an edge by the number of the
 //! state it leads to, or an end by its `EndPlace`.
 //!
-//! Nothing runs on this crate yet. Its contracts still lack a bound on the steps of `close`, of which `draw`
+//! The contracts still lack a bound on the steps of `close`, of which `draw`
 //! and `settle` say parts, and on those of `draw` at want of memory. Look-ups scan all states: an index finds
 //! fewer under the same clauses.
 #![tactic(auto)]
 
+mod bounds;
 mod closing;
 mod draft;
 mod drawing;
@@ -25,7 +27,9 @@ mod meeting;
 mod passing;
 mod purging;
 mod settling;
+mod stores;
 
+pub use bounds::bounded_states;
 pub use closing::close;
 pub use draft::{Draft, Lists, Pair, Pairs};
 pub use drawing::draw;
@@ -35,5 +39,6 @@ pub use laws::{
     drawn_comes, drawn_is_after, drawn_is_epoch, drawn_starts, paired_comes, tuple_comes,
 };
 pub use marks::Marks;
-pub use meeting::Stores;
+pub use purging::purge_all;
 pub use settling::settle;
+pub use stores::{Stores, empty_stores, stored};

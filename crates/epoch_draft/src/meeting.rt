@@ -20,16 +20,14 @@ use crate::draft::{Draft, Pair, Pairs};
 use crate::filling::add;
 use crate::finding::{Target, targets_for, waits_for};
 use crate::going::{go_into, go_out, leave};
+use crate::stores::Stores;
 use automaton::{Network, Turn, Wait};
-use event_types::{List, Memory, StreamId, Tuple};
+use event_types::{Memory, StreamId, Tuple};
 use inst_chain::Look;
-use instances::{Instance, PlainStore, Waiting};
+use instances::{Instance, Waiting};
 use scalar_expr::{Conj, holds, join, rebind};
 use std::alloc::Global;
 use steps::{Ledger, Steps};
-
-/// A store for each waiting state, by its number.
-pub type Stores = List<Option<PlainStore>>;
 
 // What the tuple makes of the binding, if it is eligible.
 fn pair_up<L: Ledger>(

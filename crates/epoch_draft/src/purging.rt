@@ -1,14 +1,37 @@
 //! The purge of stores.
-ghost use Rattle.std.specs.Prelude.{◌≡◌, ◌+◌, ◌<◌, length};
+ghost use Rattle.std.specs.Prelude.{◌≡◌, ◌+◌, ◌<◌, is_some, length};
 ghost use Rattle.std.specs.List.{All};
-ghost use Rattle.std.specs.Option.{option_map};
-ghost use Rattle.epoch_draft.specs.Purging.{ArePurgedIn, purged_for};
+ghost use Rattle.automaton.specs.States.{wait_at};
+ghost use Rattle.epoch_draft.specs.Held.{instances_in, shape_of};
+ghost use Rattle.epoch_draft.specs.Purging.{AreAllPurged, ArePurgedIn, IsPurgedAt, alive_in};
 
-use crate::meeting::Stores;
+use crate::stores::Stores;
+use automaton::Network;
 use instances::{PlainStore, Waiting};
 
-/// Takes out of the stores with these numbers the instances that no event after this time can match, as the
-/// bounds on DUR tell. Takes no memory.
+/// Takes out of the store of each waiting state the instances that no event after this time can match, as
+/// the bounds on DUR tell. Takes no memory.
+pub fn purge_all(network: &Network, stores: &mut Stores, time: u64)
+    requires { length stores.old ≡ length network.now }
+    ensures { AreAllPurged network.now (time + 1) stores.old stores.new }
+{
+    for number in 0..network.places() {
+        purge_at(network, number, stores, time);
+    }
+}
+
+// Purges the store of the state with a number, if it is a waiting state.
+fn purge_at(network: &Network, number: usize, stores: &mut Stores, time: u64)
+    requires number { number < length network.now }
+    requires stores { length stores.old ≡ length network.now }
+    ensures { IsPurgedAt network.now (time + 1) number stores.old stores.new }
+{
+    if is_waiting(network, number) {
+        purge(stores.get_mut(number), time);
+    }
+}
+
+/// The same of the stores with these numbers alone. Takes no memory.
 pub(crate) fn purge_listed(stores: &mut Stores, numbers: &[usize], time: u64)
     requires { All (λ number. number < length stores.old) numbers.now }
     ensures { ArePurgedIn numbers.now (time + 1) stores.old stores.new }
@@ -18,9 +41,18 @@ pub(crate) fn purge_listed(stores: &mut Stores, numbers: &[usize], time: u64)
     }
 }
 
+// Whether the state with a number is a waiting state.
+fn is_waiting(network: &Network, number: usize) -> bool
+    requires { number < length network.now }
+    ensures { result ≡ is_some (wait_at network.now number) }
+{
+    network.used(number) && network.wait(number).is_some()
+}
+
 // Purges the store of a state, if it has one.
 fn purge(slot: &mut Option<PlainStore>, time: u64)
-    ensures { slot.new ≡ option_map (purged_for (time + 1)) slot.old }
+    ensures purged { instances_in slot.new ≡ alive_in (time + 1) slot.old }
+    ensures shape { shape_of slot.new ≡ shape_of slot.old }
 {
     if let Some(store) = slot {
         store.purge(time);

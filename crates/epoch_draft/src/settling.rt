@@ -8,13 +8,13 @@ ghost use Rattle.automaton.specs.States.{is_used, wait_at};
 ghost use Rattle.automaton.specs.declared.wait.Wait.{Wait};
 ghost use Rattle.epoch_draft.specs.Deriving.{CanDraw, DrawnUpTo, news_of};
 ghost use Rattle.epoch_draft.specs.Drafts.{DraftFits};
-ghost use Rattle.epoch_draft.specs.Held.{held, instances_in};
+ghost use Rattle.epoch_draft.specs.Held.{held, instances_in, shape_of};
 ghost use Rattle.epoch_draft.specs.Purging.{ListsBounded};
-ghost use Rattle.epoch_draft.specs.Settling.{AreClosed, AreLinked, AreSettled, AreTaken, IsTakenAt, PairSuits, shape_of, takes_work, tuples_in};
+ghost use Rattle.epoch_draft.specs.Settling.{AreClosed, AreLinked, AreSettled, AreTaken, IsTakenAt, PairSuits, takes_work, tuples_in};
 
 use crate::draft::{Beads, Draft, Lists, Pair, Pairs};
-use crate::meeting::Stores;
 use crate::purging::purge_listed;
+use crate::stores::Stores;
 use automaton::{Layout, Network};
 use event_types::{StreamId, Tuple, Tuples};
 use inst_chain::Chain;

@@ -1,0 +1,64 @@
+//! The stores of a network's waiting states.
+ghost use Rattle.std.specs.Prelude.{◌≡◌, ◌-◌, ◌^◌, ◌<◌, IfOk, length, min, sum_by};
+ghost use Rattle.automaton.specs.States.{wait_at};
+ghost use Rattle.epoch_draft.specs.Held.{instances_in};
+ghost use Rattle.epoch_draft.specs.Stores.{AreNewStores, IsNewIn};
+
+use crate::filling::add;
+use automaton::Network;
+use event_types::{List, Memory};
+use instances::{PlainStore, Waiting};
+use std::alloc::Global;
+
+/// A store for each waiting state, by its number.
+pub type Stores = List<Option<PlainStore>>;
+
+/// An empty store for each waiting state.
+pub fn empty_stores(alloc: Global, network: &Network) -> Result<Stores, Memory>
+    ensures { IfOk result (λ stores. AreNewStores network.now stores) }
+{
+    let mut stores = List::new(alloc);
+    for number in 0..network.places() {
+        add(&mut stores, empty_store(alloc, network, number)?)?;
+    }
+    Ok(stores)
+}
+
+// An empty store for the state with a number, if it is a waiting state.
+fn empty_store(
+    alloc: Global,
+    network: &Network,
+    number: usize,
+) -> Result<Option<PlainStore>, Memory>
+    requires { number < length network.now }
+    ensures { IfOk result (λ slot. IsNewIn (wait_at network.now number) slot) }
+{
+    if !network.used(number) {
+        return Ok(None);
+    }
+    match network.wait(number) {
+        Some(wait) => Ok(Some(PlainStore::make(alloc, &wait.choose)?)),
+        None => Ok(None),
+    }
+}
+
+/// The number of the instances that are stored, or 2^64-1 where there are more. Takes no memory.
+pub fn stored(stores: &Stores) -> u64
+    ensures { result ≡ min (sum_by (λ slot. length (instances_in slot)) stores.now) (2 ^ 64 - 1) }
+{
+    let mut count: u64 = 0;
+    for slot in stores.as_slice() {
+        count = count.saturating_add(stored_in(slot));
+    }
+    count
+}
+
+// The number of the instances at a state, or 2^64-1 where there are more.
+fn stored_in(slot: &Option<PlainStore>) -> u64
+    ensures { result ≡ min (length (instances_in slot.now)) (2 ^ 64 - 1) }
+{
+    match slot {
+        Some(store) => store.count(),
+        None => 0,
+    }
+}
