@@ -31,7 +31,8 @@ use Rattle.epoch_draft.specs.Drafts.{EndsBelow}
 use Rattle.epoch_draft.specs.Held.{held, instances_in}
 use Rattle.epoch_draft.specs.Kindings.{EndFits}
 use Rattle.epoch_draft.specs.Marks.{MarksMore}
-use Rattle.epoch_draft.specs.Typed.{HaveKinds, IsTyped}
+use Rattle.epoch_draft.specs.Stores.{AreNewStores, IsNewIn}
+use Rattle.epoch_draft.specs.Typed.{HaveKinds, IsStoreOf, IsTyped}
 use Rattle.epoch_draft.specs.declared.marks.Marks.{Marks}
 use Rattle.epoch_draft.proofs.Lists.{same_or_other}
 use Rattle.epoch_draft.proofs.MarkLemmas.{all_below}
@@ -39,7 +40,6 @@ use Rattle.epoch_draft.proofs.StateLemmas.{some_is}
 use Rattle.epoch_engine.specs.Closes.{Closes, IsTaken}
 use Rattle.epoch_engine.specs.EngineView.{EngineView, stores_in}
 use Rattle.epoch_engine.specs.Running.{AreTouched, IsPlan, IsRunning}
-use Rattle.epoch_engine.specs.Stores.{new_store}
 use Rattle.epoch_engine.specs.declared.epoch.Epoch.{Epoch}
 use Rattle.epoch_engine.specs.declared.plan.Plan.{Plan}
 use Rattle.epoch_engine.proofs.KindingLemmas.{AreStatesTyped, fitting_typed}
@@ -117,9 +117,17 @@ ends_below kinds net typed n = go (state_at net n) refl
 none_have : (kinds : List (List Kind)) (tuples : List (List TupleView)) → ((s : ℕ) → get_or tuples s [] ≡ []) → HaveKinds kinds (streams_of tuples)
 none_have kinds tuples none s known is = subst (All (HasKinds known)) (sym (none s)) (All-nil (HasKinds known))
 
+-- a new store is that of its wait
+new_typed : (w : Wait) (kinds : List Kind) (slot : Option Plain) → IsNewIn (Some w) slot → (store : Plain) × (slot ≡ Some store) × IsStoreOf w kinds store
+new_typed w kinds slot new = (
+  new.0,
+  new.1,
+  record { condition = new.2.condition; instances = subst (All (λ (i : Instance). HasKinds kinds i.tuple)) (sym new.2.instances) (All-nil (λ (i : Instance). HasKinds kinds i.tuple)) },
+)
+
 -- the parts of a new engine
 pub made_running : (plan : Plan) (stores : List (Option Plain)) (epoch : Epoch) → NetworkFits plan.merged plan.layout → IsNetwork plan.merged → IsPlan plan
-    → (length stores ≡ length plan.merged) × ((n : ℕ) → get_or stores n None ≡ new_store (wait_at plan.merged n)) → length epoch.tuples ≡ length plan.layout.kinds → ((s : ℕ) → get_or epoch.tuples s [] ≡ []) → AreTouched epoch.tuples epoch.touched
+    → AreNewStores plan.merged stores → length epoch.tuples ≡ length plan.layout.kinds → ((s : ℕ) → get_or epoch.tuples s [] ≡ []) → AreTouched epoch.tuples epoch.touched
     → IsRunning plan stores epoch
 made_running plan stores epoch fits network is has as_many none touched =
     let typed = fitting_typed plan.merged plan.layout fits in record {
@@ -131,8 +139,8 @@ made_running plan stores epoch fits network is has as_many none touched =
         typed = record {
           kinding = typed.0;
           states = typed.1;
-          as_many = has.0;
-          has_stores = λ n w at. (record { condition = w.choose; instances = [] }, has.1 n ∙ ap new_store at, record { condition = refl; instances = All-nil (λ (i : Instance). HasKinds (typed.0.waiting n) i.tuple) });
+          as_many = has.as_many;
+          has_stores = λ n w at. new_typed w (typed.0.waiting n) (get_or stores n None) (subst (λ (o : Option Wait). IsNewIn o (get_or stores n None)) at (has.each n));
         };
         kinds = none_have plan.layout.kinds epoch.tuples none;
         as_many = as_many;
@@ -255,13 +263,13 @@ opened_streams tuples touched numbers h e =
       all = h.all;
     })
 
-no_instances : (o : Option Wait) → instances_in (new_store o) ≡ []
-no_instances None = refl
-no_instances (Some w) = refl
+no_instances : (o : Option Wait) (slot : Option Plain) → IsNewIn o slot → instances_in slot ≡ []
+no_instances None slot new = ap instances_in new
+no_instances (Some w) slot new = ap instances_in new.1 ∙ new.2.instances
 
 -- new stores are empty
-pub made_empty : (net : Net) (stores : List (Option Plain)) → ((n : ℕ) → get_or stores n None ≡ new_store (wait_at net n)) → (n : ℕ) → get_or (map instances_in stores) n [] ≡ []
-made_empty net stores has n = (λ i. held_in stores i n) ∙ ap instances_in (has n) ∙ no_instances (wait_at net n)
+pub made_empty : (net : Net) (stores : List (Option Plain)) → AreNewStores net stores → (n : ℕ) → get_or (map instances_in stores) n [] ≡ []
+made_empty net stores has n = (λ i. held_in stores i n) ∙ no_instances (wait_at net n) (get_or stores n None) (has.each n)
 
 -- what the closing of an epoch makes of a view
 pub closes_view : (plan : Plan) (stores after : List (Option Plain)) (old new : Epoch) (closed_time : Option ℕ) (batch : List (List TupleView)) → ((s : ℕ) → get_or new.tuples s [] ≡ []) → length new.tuples ≡ length old.tuples → new.time ≡ None

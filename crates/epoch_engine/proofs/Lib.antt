@@ -1,5 +1,4 @@
 pub mod BatchLemmas
-pub mod BoundLemmas
 pub mod ClosedLemmas
 pub mod EngineLemmas
 pub mod KindingLemmas

@@ -7,7 +7,6 @@ pub mod Laws
 pub mod Offers
 pub mod Running
 pub mod Starts
-pub mod Stores
 pub mod Taking
 pub mod Trims
 pub mod ViewCode

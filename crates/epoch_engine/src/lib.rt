@@ -5,7 +5,6 @@
 #![tactic(auto)]
 
 mod batch;
-mod bounds;
 mod closing;
 mod drawing;
 mod engine;
@@ -13,8 +12,6 @@ mod epoch;
 mod fault;
 mod laws;
 mod plan;
-mod stores;
-mod trimming;
 
 pub use batch::Batch;
 pub use engine::Engine;

@@ -4,9 +4,8 @@ ghost use Rattle.std.specs.List.{All};
 ghost use Rattle.automaton.specs.NetworkLines.{NetworkFits};
 ghost use Rattle.epoch_engine.specs.Running.{IsPlan};
 
-use crate::bounds::bounded_states;
 use automaton::Layout;
-use epoch_draft::filled;
+use epoch_draft::{bounded_states, filled};
 use event_types::{Memory, Numbers};
 use prefix_merge::Merged;
 use std::alloc::Global;

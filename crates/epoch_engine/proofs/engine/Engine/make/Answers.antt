@@ -1,10 +1,9 @@
 use Rattle.std.proofs.Common.{◌≡◌, ◌∙◌, sym, ap, refl, subst, ℕ, length, get_or}
-use Rattle.std.specs.Prelude.{None}
 use Rattle.automaton.specs.NetworkLines.{NetworkFits}
-use Rattle.automaton.specs.States.{Net, wait_at}
+use Rattle.automaton.specs.States.{Net}
 use Rattle.automaton.specs.declared.layout.Layout.{Layout}
 use Rattle.prefix_merge.specs.Merging.{IsMerged}
-use Rattle.epoch_engine.specs.Stores.{new_store}
+use Rattle.epoch_draft.specs.Stores.{AreNewStores}
 use Rattle.epoch_engine.proofs.EngineLemmas.{made_empty, made_running}
 use Rattle.epoch_engine.proofs.engine.Engine.make.Goals as goal
 
@@ -17,7 +16,7 @@ invariant_of-result c =
     let fits : NetworkFits plan.merged plan.layout = subst (λ (l : Layout). NetworkFits plan.merged l) (sym c.in_ok-plan.ensures.layout) (subst (λ (net : Net). NetworkFits net c.args.layout) (sym c.in_ok-plan.ensures.merged) c.requires) in record {
       running =
           made_running plan stores epoch fits c.drawing_for.ensures.network c.in_ok-plan.ensures.is
-          (subst (λ (net : Net). (length stores ≡ length net) × ((n : ℕ) → get_or stores n None ≡ new_store (wait_at net n))) c.network.ensures.value c.in_ok-stores.ensures) (c.in_ok-epoch.ensures.as_many ∙ c.len.ensures)
+          (subst (λ (net : Net). AreNewStores net stores) c.network.ensures.value c.in_ok-stores.ensures) (c.in_ok-epoch.ensures.as_many ∙ c.len.ensures)
           c.in_ok-epoch.ensures.empty c.in_ok-epoch.ensures.touched;
       still = c.in_ok-drawing.ensures.still;
     }
@@ -28,7 +27,7 @@ returns c = record {
   network = c.in_ok-plan.ensures.merged;
   merged = subst IsMerged c.in_ok-plan.ensures.merged c.network.ensures.merged;
   same_layout = c.in_ok-plan.ensures.layout;
-  stores = made_empty c.network.result.now c.in_ok-stores.stores c.in_ok-stores.ensures.1;
+  stores = made_empty c.network.result.now c.in_ok-stores.stores c.in_ok-stores.ensures;
   opened = c.in_ok-epoch.ensures.empty;
   as_many = c.in_ok-epoch.ensures.as_many ∙ c.len.ensures ∙ ap (λ (l : Layout). length l.kinds) c.in_ok-plan.ensures.layout;
   none_open = c.in_ok-epoch.ensures.time;

@@ -1,8 +1,7 @@
-use Rattle.std.proofs.Common.{◌≡◌, subst, ℕ, ◌+◌, get_or}
-use Rattle.std.specs.Prelude.{None, is_some}
-use Rattle.automaton.specs.States.{Net, wait_at}
+use Rattle.std.proofs.Common.{◌+◌, subst}
+use Rattle.automaton.specs.States.{Net}
+use Rattle.epoch_draft.specs.Purging.{AreAllPurged}
 use Rattle.epoch_engine.specs.EngineView.{EngineView}
-use Rattle.epoch_engine.specs.Stores.{purged_slot}
 use Rattle.epoch_engine.specs.Trims.{Trims}
 use Rattle.epoch_engine.proofs.EngineLemmas.{view_of}
 use Rattle.epoch_engine.proofs.PurgedLemmas.{purged_running, trims_view, with_stores}
@@ -14,8 +13,8 @@ invariant_of-self c =
     let e = c.self.inside in
     let purged = c.purge_all.new.stores in record {
       running =
-          purged_running (c.in-Some.time + 1) e.plan e.stores purged e.epoch c.self.invariant.running c.purge_all.ensures.as_many
-          (subst (λ (net : Net). (n : ℕ) → get_or purged n None ≡ purged_slot (c.in-Some.time + 1) (is_some (wait_at net n)) (get_or e.stores n None)) c.network.ensures.value c.purge_all.ensures.purged);
+          purged_running (c.in-Some.time + 1) e.plan e.stores purged e.epoch c.self.invariant.running
+          (subst (λ (net : Net). AreAllPurged net (c.in-Some.time + 1) e.stores purged) c.network.ensures.value c.purge_all.ensures);
       still = c.self.invariant.still;
     }
 
@@ -27,5 +26,4 @@ returns-in-Some c =
     let time = c.in-Some.time in
     let old : EngineView = view_of e.plan e.stores e.epoch e.closed_time in
     subst (λ (v : EngineView). Trims v (with_stores old purged)) c.self.view_is
-    (trims_view old time e.stores purged c.in-Some.is c.self.invariant.running.can_draw.typed
-    (subst (λ (net : Net). (n : ℕ) → get_or purged n None ≡ purged_slot (time + 1) (is_some (wait_at net n)) (get_or e.stores n None)) c.network.ensures.value c.purge_all.ensures.purged))
+    (trims_view old time e.stores purged c.in-Some.is c.self.invariant.running.can_draw.typed (subst (λ (net : Net). AreAllPurged net (time + 1) e.stores purged) c.network.ensures.value c.purge_all.ensures))
