@@ -1,0 +1,4 @@
+pub mod FilingLemmas
+pub mod FindLemmas
+pub mod MakeLemmas
+pub mod TargetLemmas
