@@ -30,6 +30,7 @@ use Rattle.automaton.specs.States.{Net}
 use Rattle.automaton.specs.Work.{IsInOrder, is_in}
 use Rattle.automaton.specs.declared.layout.Layout.{Layout}
 use Rattle.automaton.specs.declared.line.Line.{Line}
+use Rattle.stream_readers.specs.Finding.{waits_on}
 use Rattle.epoch_laws.specs.Closing.{IsEpoch, Stores, given_by_ends}
 use Rattle.epoch_laws.specs.StoresStandFor.{Serves}
 use Rattle.epoch_laws.proofs.Bags.{no_length}
@@ -38,7 +39,6 @@ use Rattle.epoch_laws.proofs.Lists.{All_last}
 use Rattle.epoch_draft.specs.Deriving.{AreOpened, AreOrdered, CanDraw, Derives, DrawnUpTo, news_of, opened_of}
 use Rattle.epoch_draft.specs.Drafts.{Adds, DraftFits, Grows}
 use Rattle.epoch_draft.specs.Drawn.{Drawn, Paired}
-use Rattle.epoch_draft.specs.Finding.{waits_on}
 use Rattle.epoch_draft.specs.Held.{held}
 use Rattle.epoch_draft.specs.Meeting.{ListsAll, moves_of_all}
 use Rattle.epoch_draft.specs.Moves.{Move, made_of}

@@ -13,11 +13,12 @@ use Rattle.scalar_expr.proofs.Bags.{flat_map_permuted, permuted_from, permuted_t
 use Rattle.automaton.specs.States.{Net, step_at}
 use Rattle.automaton.specs.Steps.{pass}
 use Rattle.automaton.specs.declared.network.End.{End}
+use Rattle.stream_readers.specs.Ways.{Back, Into, Out, Way}
 use Rattle.epoch_laws.specs.Instances.{began, pass_instance}
 use Rattle.epoch_laws.proofs.Bags.{permuted_is}
 use Rattle.epoch_draft.specs.Drafts.{Adds, DraftFits, Grows}
 use Rattle.epoch_draft.specs.Marks.{AreMarks, MarksMore}
-use Rattle.epoch_draft.specs.Moves.{Back, Into, Move, Out, Way, bound_by, bound_of, made_by, made_of, moves_on}
+use Rattle.epoch_draft.specs.Moves.{Move, bound_by, bound_of, made_by, made_of, moves_on}
 use Rattle.epoch_draft.specs.declared.draft.Draft.{Draft}
 use Rattle.epoch_draft.specs.declared.marks.Marks.{Marks}
 use Rattle.epoch_draft.proofs.Lists.{contains_or_not, same_or_other}

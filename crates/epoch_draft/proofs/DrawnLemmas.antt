@@ -25,6 +25,7 @@ use Rattle.automaton.specs.declared.line.Hop.{Hop}
 use Rattle.automaton.specs.declared.network.Entrance.{Entrance}
 use Rattle.automaton.specs.declared.network.Entrance.TheVariants.{Root, Waiting}
 use Rattle.automaton.specs.declared.network.State.{State}
+use Rattle.stream_readers.specs.Finding.{IsDeaf, waits_on}
 use Rattle.epoch_laws.specs.Closing.{IsEpoch, Stores, leaving_state, leaving_by, given_by_ends, given_by_ends_at, stepped_by, stores_after}
 use Rattle.epoch_laws.specs.Epochs.{again, unmatched_after, took}
 use Rattle.epoch_laws.specs.Instances.{bindings_of, instances_entering}
@@ -33,7 +34,6 @@ use Rattle.epoch_laws.proofs.Lists.{every}
 use Rattle.epoch_draft.specs.Comes.{gets, with_tuple}
 use Rattle.epoch_draft.specs.Drafts.{Adds, Grows}
 use Rattle.epoch_draft.specs.Drawn.{Drawn, Paired}
-use Rattle.epoch_draft.specs.Finding.{IsDeaf, waits_on}
 use Rattle.epoch_draft.specs.Meeting.{IsPairOf, ListsAll, moves_of, moves_of_all, pair_of}
 use Rattle.epoch_draft.specs.Moves.{Move, bound_by, bound_of, made_by, made_of, moves_over}
 use Rattle.epoch_draft.specs.declared.draft.Draft.{Draft}

@@ -1,24 +1,22 @@
 -- Instances on their ways out of a state.
 use Rattle.std.proofs.Common.{◌≡◌, ◌∙◌, sym, ap, refl, subst, ℕ, zero, suc, ◌+◌, ◌<◌, IsTrue, length, get_or, take, List, [], ◌∷◌, ◌++◌, map, arith}
-use Rattle.std.specs.Prelude.{Contains, Option, Some, None, is_some}
-use Rattle.std.specs.Option.{option_and_then, option_map}
+use Rattle.std.specs.Prelude.{Option, Some, None, is_some}
 use Rattle.std.specs.List.{All}
 use Rattle.std.proofs.lemmas.List.{map-append, take_more}
-use Rattle.std.proofs.lemmas.List.Elements.{All-cons, All-contains_itself, All-head, All-nil, All-tail, All-weaker}
+use Rattle.std.proofs.lemmas.List.Elements.{All-cons, All-head, All-nil, All-tail}
 use Rattle.event_types.specs.Tuple.{TupleView}
 use Rattle.instances.specs.declared.instance.Instance.{Instance}
-use Rattle.automaton.specs.Networks.{IsNetwork}
-use Rattle.automaton.specs.States.{Net, before_at, before_by, edges_at, ends_at, is_used, state_at, step_at, wait_at}
+use Rattle.automaton.specs.States.{Net, edges_at, ends_at, is_used, state_at, step_at, wait_at}
 use Rattle.automaton.specs.declared.network.End.{End}
 use Rattle.automaton.specs.declared.network.State.{State}
 use Rattle.automaton.specs.declared.wait.Wait.{Wait}
+use Rattle.stream_readers.specs.Ways.{Into, Out, Way, backs_by, backs_in, ways_at}
 use Rattle.epoch_laws.proofs.Lists.{map_all}
 use Rattle.epoch_draft.specs.Drafts.{Grows}
-use Rattle.epoch_draft.specs.Moves.{Into, Out, Way, backs_by, backs_in, moves_on, ways_at}
+use Rattle.epoch_draft.specs.Moves.{moves_on}
 use Rattle.epoch_draft.specs.Suits.{LeavingSuits, StepSuits, WaySuits}
 use Rattle.epoch_draft.specs.declared.draft.Draft.{Draft}
 use Rattle.epoch_draft.proofs.DraftLemmas.{grows_trans}
-use Rattle.epoch_draft.proofs.EdgeLemmas.{edge_before}
 
 module _ {X : Type 0} (P : X → Type 0) where
   -- what holds of two lists holds of the left one
@@ -52,17 +50,6 @@ pub out_suits : (net : Net) (n : ℕ) (x : TupleView) → LeavingSuits net n x �
 out_suits net n x suits =
     map_all (WaySuits net x) Out (ends_at net n)
     (all_left (WaySuits net x) (map Out (ends_at net n)) (backs_by n (wait_at net n)) (all_right (WaySuits net x) (map Into (edges_at net n)) (map Out (ends_at net n) ++ backs_by n (wait_at net n)) suits))
-
--- edges lead to states
-pub edges_used : (net : Net) → IsNetwork net → (n : ℕ) → All (λ k. IsTrue (is_used net k)) (edges_at net n)
-edges_used net network n = All-weaker (Contains (edges_at net n)) (λ k. IsTrue (is_used net k)) (λ k there. used k (edge_before net network n k there)) (edges_at net n) (All-contains_itself (edges_at net n))
-  where
-    used : (k : ℕ) → before_at net k ≡ Some n → IsTrue (is_used net k)
-    used k at = go (state_at net k) at
-      where
-        go : (o : Option State) → option_and_then before_by (option_map (λ (s : State). s.entrance) o) ≡ Some n → IsTrue (is_some o)
-        go None e = absurd (cc)
-        go (Some state) e = refl
 
 -- an instance left on all ways
 pub left_all : (net : Net) (n : ℕ) (w : Wait) (x : Instance) (old one two new : Draft) → wait_at net n ≡ Some w → Grows net (moves_on (map Into (edges_at net n)) x) old one → Grows net (moves_on (map Out (ends_at net n)) x) one two

@@ -6,7 +6,6 @@ pub mod DeriveLemmas
 pub mod DraftLemmas
 pub mod DrawnLemmas
 pub mod EdgeLemmas
-pub mod FindLemmas
 pub mod GoingLemmas
 pub mod Lists
 pub mod MarkLemmas

@@ -18,18 +18,20 @@ use Rattle.automaton.specs.declared.network.Entrance.{Entrance}
 use Rattle.automaton.specs.declared.network.Entrance.TheVariants.{Root, Waiting}
 use Rattle.automaton.specs.declared.network.State.{State}
 use Rattle.automaton.specs.declared.wait.Wait.{Wait}
+use Rattle.stream_readers.specs.Finding.{FindsWaits, FindsWays, IsDeaf, IsSilent, is_root_on, is_wait_on, waits_on, ways_on}
+use Rattle.stream_readers.specs.Targets.{way_of}
+use Rattle.stream_readers.specs.Ways.{Back, Into, Out, Way, ways_at}
+use Rattle.stream_readers.specs.declared.target.Target.{Target}
 use Rattle.epoch_laws.specs.Closing.{Stores}
 use Rattle.epoch_laws.specs.Instances.{began, begins}
 use Rattle.epoch_laws.proofs.Bags.{flat_map_parts}
 use Rattle.epoch_laws.proofs.Lists.{every, map-flat_map}
 use Rattle.epoch_draft.specs.Comes.{gets, gets_by}
 use Rattle.epoch_draft.specs.Drafts.{Adds, DraftFits, Grows}
-use Rattle.epoch_draft.specs.Finding.{FindsWaits, FindsWays, IsDeaf, IsSilent, is_root_on, is_wait_on, waits_on, way_of, ways_on}
 use Rattle.epoch_draft.specs.Meeting.{met_at, met_by, moves_met, moves_of}
-use Rattle.epoch_draft.specs.Moves.{Back, Into, Move, Out, Way, bound_by, bound_of, made_by, made_of, moves_from, moves_on, ways_at}
+use Rattle.epoch_draft.specs.Moves.{Move, bound_by, bound_of, made_by, made_of, moves_from, moves_on}
 use Rattle.epoch_draft.specs.Pairs.{followed, met}
 use Rattle.epoch_draft.specs.declared.draft.Draft.{Draft}
-use Rattle.epoch_draft.specs.declared.finding.Target.{Target}
 use Rattle.epoch_draft.proofs.Concats.{tested_of}
 use Rattle.epoch_draft.proofs.DraftLemmas.{grows_none, grows_same, grows_trans}
 use Rattle.epoch_draft.proofs.GoingLemmas.{all_left, all_right, moves_append}

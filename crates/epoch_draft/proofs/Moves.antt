@@ -22,11 +22,12 @@ use Rattle.automaton.specs.declared.network.Entrance.TheVariants.{Root, Waiting}
 use Rattle.automaton.specs.declared.wait.Turn.{Turn}
 use Rattle.automaton.specs.declared.wait.Wait.{Wait}
 use Rattle.automaton.proofs.CountLemmas.{count-cons}
+use Rattle.stream_readers.specs.Ways.{Into, Out, Way, backs_by, backs_in, ways_at}
 use Rattle.epoch_laws.specs.Epochs.{again}
 use Rattle.epoch_laws.specs.Instances.{bindings_of, instances_entering, pass_instance}
 use Rattle.epoch_laws.proofs.Bags.{flat_map_alike, flat_map_parts}
 use Rattle.epoch_laws.proofs.Lists.{every, flat_map-flat_map}
-use Rattle.epoch_draft.specs.Moves.{Into, Move, Out, Way, backs_by, backs_in, bound_by, bound_of, made_by, made_of, moves_from, moves_on, moves_over, ways_at}
+use Rattle.epoch_draft.specs.Moves.{Move, bound_by, bound_of, made_by, made_of, moves_from, moves_on, moves_over}
 use Rattle.epoch_draft.proofs.Concats.{nothing_of, one_test, options_of, pairs_turned, tested_of}
 use Rattle.semantics.proofs.ReportLemmas.{flat_map_same}
 

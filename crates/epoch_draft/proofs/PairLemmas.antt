@@ -6,7 +6,7 @@ use Rattle.std.proofs.lemmas.List.Elements.{All-append, All-contains, All-contai
 use Rattle.std.proofs.lemmas.List.Sorted.{Contains-permutation, IsPermutation-sym}
 use Rattle.event_types.specs.Tuple.{TupleView}
 use Rattle.automaton.specs.States.{Net}
-use Rattle.epoch_draft.specs.Finding.{IsDeaf, waits_on}
+use Rattle.stream_readers.specs.Finding.{IsDeaf, waits_on}
 use Rattle.epoch_draft.specs.Meeting.{IsPairOf, Lists, ListsAll, pair_of}
 use Rattle.epoch_draft.specs.declared.draft.Pair.{Pair}
 use Rattle.epoch_draft.proofs.MeetLemmas.{found_all}

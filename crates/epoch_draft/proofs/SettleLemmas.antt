@@ -30,13 +30,13 @@ use Rattle.automaton.specs.Work.{is_in}
 use Rattle.automaton.specs.declared.layout.Layout.{Layout}
 use Rattle.automaton.specs.declared.network.Entrance.TheVariants.{Waiting}
 use Rattle.automaton.specs.declared.wait.Wait.{Wait}
+use Rattle.stream_readers.specs.Finding.{IsDeaf, is_wait_on, waits_on}
 use Rattle.epoch_laws.specs.Closing.{stores_after}
 use Rattle.epoch_laws.specs.Epochs.{is_unmet, unmatched_after}
 use Rattle.epoch_laws.proofs.Bags.{permuted_is}
 use Rattle.epoch_laws.proofs.Lists.{every, filter-filter, filter_false}
 use Rattle.std.proofs.lemmas.List.Elements.{filter_agree}
 use Rattle.epoch_draft.specs.Deriving.{CanDraw, DrawnUpTo, news_of}
-use Rattle.epoch_draft.specs.Finding.{IsDeaf, is_wait_on, waits_on}
 use Rattle.epoch_draft.specs.Held.{held, instances_in, shape_of}
 use Rattle.epoch_draft.specs.Meeting.{pair_of}
 use Rattle.epoch_draft.specs.Purging.{ArePurgedIn, IsUnbound, ListsBounded, alive_in}

@@ -25,14 +25,14 @@ use Rattle.automaton.specs.declared.network.State.{State}
 use Rattle.automaton.specs.declared.step.Stage.{Stage}
 use Rattle.automaton.specs.declared.wait.Turn.{Turn}
 use Rattle.automaton.specs.declared.wait.Wait.{Wait}
+use Rattle.stream_readers.specs.Finding.{is_root_on, is_wait_on, waits_on}
+use Rattle.stream_readers.specs.Ways.{Back, Into, Out, backs_by, backs_in, ways_at}
 use Rattle.epoch_laws.specs.Closing.{leaving_state, leaving_by, given_by_ends, given_by_ends_at}
 use Rattle.epoch_laws.specs.Epochs.{took}
 use Rattle.epoch_laws.specs.Instances.{begins, bindings_of}
 use Rattle.epoch_laws.proofs.Lists.{All-flat_map, every}
-use Rattle.epoch_draft.specs.Finding.{is_root_on, is_wait_on, waits_on}
 use Rattle.epoch_draft.specs.Held.{held, instances_in}
 use Rattle.epoch_draft.specs.Kindings.{EndFits}
-use Rattle.epoch_draft.specs.Moves.{Back, Into, Out, backs_by, backs_in, ways_at}
 use Rattle.epoch_draft.specs.Pairs.{met}
 use Rattle.epoch_draft.specs.Suits.{LeavingSuits, MeetingSuits, StepSuits, TupleSuits, WaitSuits, WaySuits}
 use Rattle.epoch_draft.specs.Typed.{HaveKinds, IsTyped}

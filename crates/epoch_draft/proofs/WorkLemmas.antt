@@ -13,7 +13,7 @@ use Rattle.std.proofs.lemmas.List.Sums.{sum_by-append, sum_by_push}
 use Rattle.automaton.specs.States.{Net, edges_at, ends_at, wait_at}
 use Rattle.automaton.specs.declared.wait.Turn.{Turn}
 use Rattle.automaton.specs.declared.wait.Wait.{Wait}
-use Rattle.epoch_draft.specs.Moves.{Into, Out, Way, backs_by, backs_in, ways_at}
+use Rattle.stream_readers.specs.Ways.{Into, Out, Way, backs_by, backs_in, ways_at}
 use Rattle.epoch_draft.specs.Work.{way_work, ways_work}
 
 -- one way more

@@ -11,6 +11,8 @@ use Rattle.automaton.specs.States.{Net}
 use Rattle.automaton.specs.Work.{is_in}
 use Rattle.automaton.specs.declared.layout.Layout.{Layout}
 use Rattle.automaton.specs.declared.line.Line.{Line}
+use Rattle.stream_readers.specs.Readers.{AreReadersOf}
+use Rattle.stream_readers.specs.declared.reader.Reader.{Reader}
 use Rattle.epoch_laws.specs.Closing.{IsEpoch, Stores}
 use Rattle.epoch_laws.specs.StoresStandFor.{Serves}
 use Rattle.epoch_draft.specs.Drafts.{DraftFits, EndsBelow, Grows, without}
@@ -58,6 +60,11 @@ pub record CanDraw (net : Net) (layout : Layout) (stores : List (Option Plain)) 
   pub below : EndsBelow net (length layout.kinds)
   pub order : All (λ stream. stream < length layout.kinds) layout.order
   pub underived : All (λ stream. slice_index_or opened stream [] ≡ []) layout.order
+
+-- the readers are those of a network's streams, and each stream of a layout has one
+pub record AreReadersOfAll (net : Net) (layout : Layout) (readers : List Reader) : Type 0 where
+  pub are : AreReadersOf net readers
+  pub streams : length readers ≡ length layout.kinds
 
 -- each of these streams has its tuples in order
 abbrev pub AreOrdered : List (List TupleView) → List ℕ → Type 0

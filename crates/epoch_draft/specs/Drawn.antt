@@ -10,11 +10,11 @@ use Rattle.automaton.specs.States.{Net, entrance_at, wait_at}
 use Rattle.automaton.specs.Work.{is_in}
 use Rattle.automaton.specs.declared.line.Hop.{Hop}
 use Rattle.automaton.specs.declared.network.Entrance.TheVariants.{Waiting}
+use Rattle.stream_readers.specs.Finding.{IsDeaf, waits_on}
 use Rattle.epoch_laws.specs.Closing.{IsEpoch, Stores, leaving_state, given_by_ends, stores_after}
 use Rattle.epoch_laws.specs.Epochs.{again, unmatched_after, took}
 use Rattle.epoch_laws.specs.Instances.{instances_entering}
 use Rattle.epoch_draft.specs.Drafts.{Grows}
-use Rattle.epoch_draft.specs.Finding.{IsDeaf, waits_on}
 use Rattle.epoch_draft.specs.Meeting.{ListsAll, moves_of_all, pair_of}
 use Rattle.epoch_draft.specs.declared.draft.Draft.{Draft}
 use Rattle.epoch_draft.specs.declared.draft.Pair.{Pair}

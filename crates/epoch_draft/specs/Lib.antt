@@ -3,7 +3,6 @@ pub mod Comes
 pub mod Deriving
 pub mod Drafts
 pub mod Drawn
-pub mod Finding
 pub mod Held
 pub mod Kindings
 pub mod Marks

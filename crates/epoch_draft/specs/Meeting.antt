@@ -5,9 +5,9 @@ use Rattle.event_types.specs.Tuple.{TupleView}
 use Rattle.instances.specs.declared.instance.Instance.{Instance}
 use Rattle.automaton.specs.States.{Net, wait_at}
 use Rattle.automaton.specs.declared.wait.Wait.{Wait}
+use Rattle.stream_readers.specs.Finding.{FindsWaits, IsDeaf, waits_on}
 use Rattle.epoch_laws.specs.Closing.{Stores}
 use Rattle.epoch_draft.specs.Comes.{gets}
-use Rattle.epoch_draft.specs.Finding.{FindsWaits, IsDeaf, waits_on}
 use Rattle.epoch_draft.specs.Moves.{Move, moves_from, moves_over}
 use Rattle.epoch_draft.specs.Pairs.{met}
 use Rattle.epoch_draft.specs.declared.draft.Pair.{Pair}

@@ -1,39 +1,17 @@
 -- The ways on which an instance leaves a state, and what it comes to on each.
-use Rattle.std.specs.Prelude.{ℕ, ◌==◌, if◌then◌else◌, List, [], ◌∷◌, ◌++◌, length, map, Option, Some, None, option_to_list}
+use Rattle.std.specs.Prelude.{ℕ, ◌==◌, if◌then◌else◌, List, [], ◌∷◌, length, map, option_to_list}
 use Rattle.std.specs.List.{flat_map, range_with_len}
 use Rattle.event_types.specs.Tuple.{TupleView}
 use Rattle.instances.specs.declared.instance.Instance.{Instance}
-use Rattle.automaton.specs.States.{Net, edges_at, ends_at, step_at, wait_at}
+use Rattle.automaton.specs.States.{Net, step_at}
 use Rattle.automaton.specs.Steps.{pass}
-use Rattle.automaton.specs.declared.network.End.{End}
-use Rattle.automaton.specs.declared.wait.Turn.{Turn}
-use Rattle.automaton.specs.declared.wait.Wait.{Wait}
+use Rattle.stream_readers.specs.Ways.{Back, Into, Out, Way, ways_at}
 use Rattle.epoch_laws.specs.Instances.{pass_instance}
-
--- a way out of a state: by a forward edge into a waiting state, by an end out to a stream, or in a FOLD back to the state as a new binding
-pub data Way : Type 0 where
-  Into : ℕ → Way
-  Out : End → Way
-  Back : ℕ → Way
 
 -- an instance that goes a way
 pub record Move : Type 0 where
   pub instance : Instance
   pub way : Way
-
--- in a FOLD what leaves a state goes back to it as well
-abbrev pub backs_in : ℕ → Option Turn → List Way
-backs_in number None = []
-backs_in number (Some turn) = Back number ∷ []
-
--- the way back to the state with a number, if it waits so
-abbrev pub backs_by : ℕ → Option Wait → List Way
-backs_by number None = []
-backs_by number (Some wait) = backs_in number wait.fold
-
--- all ways out of the state with a number
-abbrev pub ways_at : Net → ℕ → List Way
-ways_at net number = map Into (edges_at net number) ++ (map Out (ends_at net number) ++ backs_by number (wait_at net number))
 
 -- what an instance makes of a way for a stream: a tuple, of which it no longer matters when it began
 abbrev pub made_by : ℕ → Instance → Way → List TupleView

@@ -9,9 +9,9 @@ use Rattle.automaton.specs.declared.step.Stage.{Stage}
 use Rattle.automaton.specs.declared.step.Stage.TheVariants.{Keep, Make}
 use Rattle.automaton.specs.declared.wait.Turn.{Turn}
 use Rattle.automaton.specs.declared.wait.Wait.{Wait}
+use Rattle.stream_readers.specs.Finding.{waits_on, ways_on}
+use Rattle.stream_readers.specs.Ways.{Back, Into, Out, Way, ways_at}
 use Rattle.epoch_laws.specs.Closing.{Stores}
-use Rattle.epoch_draft.specs.Finding.{waits_on, ways_on}
-use Rattle.epoch_draft.specs.Moves.{Back, Into, Out, Way, ways_at}
 use Rattle.epoch_draft.specs.Pairs.{met}
 
 -- the conditions and the scalars of a step fit the tuple as it comes to them

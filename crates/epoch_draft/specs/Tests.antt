@@ -3,9 +3,10 @@ use Rattle.std.specs.Prelude.{ℕ, ◌+◌, List, [], slice_index_or, sum_by}
 use Rattle.std.specs.List.{filter}
 use Rattle.event_types.specs.Tuple.{TupleView}
 use Rattle.automaton.specs.States.{Net}
+use Rattle.stream_readers.specs.Finding.{waits_on, ways_on}
+use Rattle.stream_readers.specs.Ways.{hears, looks}
 use Rattle.epoch_laws.specs.Closing.{Stores}
-use Rattle.epoch_draft.specs.Finding.{waits_on, ways_on}
-use Rattle.epoch_draft.specs.Work.{hears, looks, state_work, ways_work}
+use Rattle.epoch_draft.specs.Work.{state_work, ways_work}
 
 -- the steps of a tuple of a stream: on the ways out of the roots, and at the states that wait on it
 abbrev pub tuple_work : Net → Stores → ℕ → TupleView → ℕ

@@ -1,5 +1,5 @@
 -- The steps that an epoch may take: the tests of conditions.
-use Rattle.std.specs.Prelude.{ℕ, ◌+◌, Bool, true, List, [], ◌∷◌, Option, Some, None, sum_by}
+use Rattle.std.specs.Prelude.{ℕ, ◌+◌, List, [], ◌∷◌, Option, Some, None, sum_by}
 use Rattle.event_types.specs.Tuple.{TupleView}
 use Rattle.instances.specs.declared.instance.Instance.{Instance}
 use Rattle.automaton.specs.States.{Net, step_at, wait_at}
@@ -7,8 +7,8 @@ use Rattle.automaton.specs.declared.step.Stage.{Stage}
 use Rattle.automaton.specs.declared.step.Stage.TheVariants.{Keep, Make}
 use Rattle.automaton.specs.declared.wait.Turn.{Turn}
 use Rattle.automaton.specs.declared.wait.Wait.{Wait}
+use Rattle.stream_readers.specs.Ways.{Back, Into, Out, Way, ways_at}
 use Rattle.epoch_laws.specs.Closing.{Stores}
-use Rattle.epoch_draft.specs.Moves.{Back, Into, Out, Way, ways_at}
 use Rattle.epoch_draft.specs.Pairs.{paired}
 
 -- the tests of a tuple in a step: one for each condition
@@ -48,11 +48,3 @@ met_work net number (Some wait) store tuple = sum_by (binding_work net number wa
 -- the tests of a tuple at the state with a number
 abbrev pub state_work : Net → Stores → TupleView → ℕ → ℕ
 state_work net stores tuple number = met_work net number (wait_at net number) (stores number) tuple
-
--- whether a way out of a root is looked up by a tuple: each is, since look-ups scan
-abbrev pub looks : Net → TupleView → Way → Bool
-looks net tuple way = true
-
--- whether a waiting state is looked up by a tuple: each is, since look-ups scan
-abbrev pub hears : Net → TupleView → ℕ → Bool
-hears net tuple number = true

@@ -1,7 +1,7 @@
 //! The closing of an epoch in two halves.
 ghost use Rattle.std.specs.Prelude.{◌≡◌, ◌+◌, IfOk, OnErr, length};
 ghost use Rattle.epoch_draft.specs.Closing.{IsClosed};
-ghost use Rattle.epoch_draft.specs.Deriving.{AreOpened, CanDraw};
+ghost use Rattle.epoch_draft.specs.Deriving.{AreOpened, AreReadersOfAll, CanDraw};
 ghost use Rattle.epoch_draft.specs.Purging.{ListsBounded};
 
 use crate::draft::{Draft, Lists};
@@ -12,6 +12,7 @@ use automaton::{Layout, Network};
 use event_types::{List, Memory};
 use std::alloc::Global;
 use steps::{Ledger, Steps};
+use stream_readers::{Found, Readers};
 
 /// Closes the epoch of this time: makes all that comes of its open tuples, and then takes the stores over
 /// it. It gives the tuples of the derived streams. `touched` are the streams that have open tuples, and
@@ -21,6 +22,7 @@ pub fn close<L: Ledger>(
     alloc: Global,
     network: &Network,
     layout: &Layout,
+    readers: &Readers,
     bounded: &[usize],
     stores: &mut Stores,
     opened: &Lists,
@@ -29,6 +31,7 @@ pub fn close<L: Ledger>(
     steps: &mut Steps<L>,
 ) -> Result<Lists, Memory>
     requires can_draw { CanDraw network.now layout.now stores.old opened.now }
+    requires readers { AreReadersOfAll network.now layout.now readers.now }
     requires touched { AreOpened opened.now touched.now }
     requires bounded { ListsBounded network.now (length network.now) bounded.now }
     ensures closed { IfOk result (λ made. IsClosed (time + 1) network.now layout.now opened.now made stores.old stores.new) }
@@ -36,8 +39,10 @@ pub fn close<L: Ledger>(
 {
     let mut draft = Draft::make(alloc, network.places(), layout.kinds.len())?;
     let mut pairs = List::new(alloc);
+    let mut found = Found::new(alloc);
     draw(
-        alloc, network, layout, stores, opened, touched, &mut draft, &mut pairs, steps,
+        alloc, network, layout, readers, stores, opened, touched, &mut found, &mut draft,
+        &mut pairs, steps,
     )?;
     settle(
         network, layout, bounded, stores, opened, &mut draft, &pairs, time, steps,

@@ -1,11 +1,10 @@
 //! The tuples of an epoch, stream by stream.
 ghost use Rattle.std.specs.Prelude.{◌≡◌, ◌+◌, ◌<◌, ◌≤◌, ℕ, [], OnOk, length, slice_index_or};
 ghost use Rattle.std.specs.List.{All};
-ghost use Rattle.semantics.specs.Denotation.{streams_of};
 ghost use Rattle.automaton.specs.Networks.{IsNetwork};
-ghost use Rattle.epoch_draft.specs.Deriving.{AreOpened, CanDraw, Derives, DrawnUpTo};
+ghost use Rattle.stream_readers.specs.Readers.{AreReadersOf};
+ghost use Rattle.epoch_draft.specs.Deriving.{AreOpened, AreReadersOfAll, CanDraw, Derives, DrawnUpTo};
 ghost use Rattle.epoch_draft.specs.Drafts.{DraftFits, EndsBelow};
-ghost use Rattle.epoch_draft.specs.Drawn.{Drawn, Paired};
 ghost use Rattle.epoch_draft.specs.Held.{held};
 ghost use Rattle.epoch_draft.specs.Suits.{TupleSuits};
 ghost use Rattle.epoch_draft.specs.Tests.{stream_work, streams_work};
@@ -17,6 +16,7 @@ use automaton::{Layout, Network};
 use event_types::{Memory, StreamId, put_in_order};
 use std::alloc::Global;
 use steps::{Ledger, Steps};
+use stream_readers::{Found, Readers};
 
 /// Makes all that comes of the open tuples of an epoch. Nothing but the draft and the pairs is changed,
 /// and after want of memory these are of no more use.
@@ -24,14 +24,17 @@ pub fn draw<L: Ledger>(
     alloc: Global,
     network: &Network,
     layout: &Layout,
+    readers: &Readers,
     stores: &Stores,
     opened: &Lists,
     touched: &[usize],
+    found: &mut Found,
     draft: &mut Draft,
     pairs: &mut Pairs,
     steps: &mut Steps<L>,
 ) -> Result<(), Memory>
     requires can_draw { CanDraw network.now layout.now stores.now opened.now }
+    requires readers { AreReadersOfAll network.now layout.now readers.now }
     requires touched { AreOpened opened.now touched.now }
     requires fits { DraftFits (length layout.now.kinds) (length network.now) draft.old }
     requires none_made { (stream : ℕ) → slice_index_or draft.old.made stream [] ≡ [] }
@@ -41,9 +44,11 @@ pub fn draw<L: Ledger>(
     ensures ticks { OnOk result (steps.new ≤ steps.old + (streams_work network.now (held stores.now) opened.now touched.now + streams_work network.now (held stores.now) draft.new.made layout.now.order)) }
 {
     meet_opened(
-        alloc, network, layout, stores, opened, touched, draft, pairs, steps,
+        alloc, network, layout, readers, stores, opened, touched, found, draft, pairs, steps,
     )?;
-    derive(alloc, network, layout, stores, opened, draft, pairs, steps)
+    derive(
+        alloc, network, layout, readers, stores, opened, found, draft, pairs, steps,
+    )
 }
 
 // Makes what comes of the open tuples themselves.
@@ -51,14 +56,17 @@ fn meet_opened<L: Ledger>(
     alloc: Global,
     network: &Network,
     layout: &Layout,
+    readers: &Readers,
     stores: &Stores,
     opened: &Lists,
     touched: &[usize],
+    found: &mut Found,
     draft: &mut Draft,
     pairs: &mut Pairs,
     steps: &mut Steps<L>,
 ) -> Result<(), Memory>
     requires can_draw { CanDraw network.now layout.now stores.now opened.now }
+    requires readers { AreReadersOfAll network.now layout.now readers.now }
     requires touched { AreOpened opened.now touched.now }
     requires fits { DraftFits (length layout.now.kinds) (length network.now) draft.old }
     requires none_made { (stream : ℕ) → slice_index_or draft.old.made stream [] ≡ [] }
@@ -71,7 +79,9 @@ fn meet_opened<L: Ledger>(
         meet_stream(
             alloc,
             network,
+            readers,
             stores,
+            found,
             draft,
             pairs,
             *stream,
@@ -87,13 +97,16 @@ fn derive<L: Ledger>(
     alloc: Global,
     network: &Network,
     layout: &Layout,
+    readers: &Readers,
     stores: &Stores,
     opened: &Lists,
+    found: &mut Found,
     draft: &mut Draft,
     pairs: &mut Pairs,
     steps: &mut Steps<L>,
 ) -> Result<(), Memory>
     requires can_draw { CanDraw network.now layout.now stores.now opened.now }
+    requires readers { AreReadersOfAll network.now layout.now readers.now }
     requires drawn { DrawnUpTo network.now layout.now stores.now opened.now [] draft.old pairs.old }
     ensures drawn { OnOk result (DrawnUpTo network.now layout.now stores.now opened.now layout.now.order draft.new pairs.new) }
     ensures ticks { OnOk result (steps.new ≤ steps.old + streams_work network.now (held stores.now) draft.new.made layout.now.order) }
@@ -102,7 +115,9 @@ fn derive<L: Ledger>(
         if !draft.due.is_marked(*stream) {
             continue;
         }
-        derive_stream(alloc, network, stores, *stream, draft, pairs, steps)?;
+        derive_stream(
+            alloc, network, readers, stores, *stream, found, draft, pairs, steps,
+        )?;
     }
     Ok(())
 }
@@ -111,13 +126,17 @@ fn derive<L: Ledger>(
 fn derive_stream<L: Ledger>(
     alloc: Global,
     network: &Network,
+    readers: &Readers,
     stores: &Stores,
     stream: StreamId,
+    found: &mut Found,
     draft: &mut Draft,
     pairs: &mut Pairs,
     steps: &mut Steps<L>,
 ) -> Result<(), Memory>
     requires network { IsNetwork network.now }
+    requires readers { AreReadersOf network.now readers.now }
+    requires read { stream < length readers.now }
     requires stores { length stores.now ≡ length network.now }
     requires stream { stream < length draft.old.made }
     requires below { EndsBelow network.now (length draft.old.made) }
@@ -131,7 +150,9 @@ fn derive_stream<L: Ledger>(
     meet_stream(
         alloc,
         network,
+        readers,
         stores,
+        found,
         draft,
         pairs,
         stream,

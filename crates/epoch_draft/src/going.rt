@@ -3,9 +3,10 @@ ghost use Rattle.std.specs.Prelude.{◌≡◌, ◌+◌, ◌<◌, ◌≤◌, ◌�
 ghost use Rattle.std.specs.List.{All};
 ghost use Rattle.automaton.specs.Networks.{IsNetwork};
 ghost use Rattle.automaton.specs.States.{Net, is_used, step_at, wait_at};
+ghost use Rattle.stream_readers.specs.Ways.{Into, Out, ways_at};
 ghost use Rattle.epoch_laws.specs.Instances.{began};
 ghost use Rattle.epoch_draft.specs.Drafts.{DraftFits, EndsBelow, Grows};
-ghost use Rattle.epoch_draft.specs.Moves.{Into, Out, moves_on, ways_at};
+ghost use Rattle.epoch_draft.specs.Moves.{moves_on};
 ghost use Rattle.epoch_draft.specs.Suits.{LeavingSuits, StepSuits};
 ghost use Rattle.epoch_draft.specs.Work.{keeps, ways_work};
 

@@ -6,12 +6,10 @@
 //! Contracts see each public type as its fields. A `Draft` is the tuples made for each derived stream, the
 //! beads made for each state as a list of instances, and the `Marks` of the streams and the states that have
 //! some. `Marks` are flags by number and the numbers whose flags are up, each once. A `Pair` is the number of
-//! a waiting state and a tuple by its stream and its place there. A `Target` is an edge by the number of the
-//! state it leads to, or an end by its `EndPlace`.
+//! a waiting state and a tuple by its stream and its place there.
 //!
 //! The contracts still lack a bound on the steps of `close`, of which `draw`
-//! and `settle` say parts, and on those of `draw` at want of memory. Look-ups scan all states: an index finds
-//! fewer under the same clauses.
+//! and `settle` say parts, and on those of `draw` at want of memory.
 #![tactic(auto)]
 
 mod bounds;
@@ -19,7 +17,6 @@ mod closing;
 mod draft;
 mod drawing;
 mod filling;
-mod finding;
 mod going;
 mod laws;
 mod marks;
@@ -34,7 +31,6 @@ pub use closing::close;
 pub use draft::{Draft, Lists, Pair, Pairs};
 pub use drawing::draw;
 pub use filling::{clear_lists, empty_lists, filled};
-pub use finding::{EndPlace, Target};
 pub use laws::{
     drawn_comes, drawn_is_after, drawn_is_epoch, drawn_starts, paired_comes, tuple_comes,
 };

@@ -5,12 +5,13 @@ ghost use Rattle.semantics.specs.Nexts.{is_eligible};
 ghost use Rattle.scalar_expr.specs.Fits.{AllFit};
 ghost use Rattle.automaton.specs.Networks.{IsNetwork};
 ghost use Rattle.automaton.specs.States.{is_used, wait_at};
+ghost use Rattle.stream_readers.specs.Readers.{AreReadersOf};
+ghost use Rattle.stream_readers.specs.Targets.{IsTarget, way_of};
 ghost use Rattle.epoch_laws.specs.Instances.{begins};
 ghost use Rattle.epoch_draft.specs.Drafts.{DraftFits, EndsBelow, Grows};
-ghost use Rattle.epoch_draft.specs.Finding.{IsTarget, way_of};
 ghost use Rattle.epoch_draft.specs.Held.{held};
 ghost use Rattle.epoch_draft.specs.Meeting.{Lists, ListsAll, met_at, moves_met, moves_of, moves_of_all, pair_of};
-ghost use Rattle.epoch_draft.specs.Moves.{moves_from, moves_on, ways_at};
+ghost use Rattle.epoch_draft.specs.Moves.{moves_from, moves_on};
 ghost use Rattle.epoch_draft.specs.Pairs.{followed, met, paired, paired_with};
 ghost use Rattle.epoch_draft.specs.Suits.{LeavingSuits, MeetingSuits, TupleSuits, TurnSuits, WaitSuits, WaySuits};
 ghost use Rattle.epoch_draft.specs.Tests.{stream_work, tuple_work};
@@ -18,7 +19,6 @@ ghost use Rattle.epoch_draft.specs.Work.{binding_work, pair_work, state_work, tu
 
 use crate::draft::{Draft, Pair, Pairs};
 use crate::filling::add;
-use crate::finding::{Target, targets_for, waits_for};
 use crate::going::{go_into, go_out, leave};
 use crate::stores::Stores;
 use automaton::{Network, Turn, Wait};
@@ -28,6 +28,7 @@ use instances::{Instance, Waiting};
 use scalar_expr::{Conj, holds, join, rebind};
 use std::alloc::Global;
 use steps::{Ledger, Steps};
+use stream_readers::{Found, Readers, Target};
 
 // What the tuple makes of the binding, if it is eligible.
 fn pair_up<L: Ledger>(
@@ -267,7 +268,9 @@ fn go<L: Ledger>(
 fn meet_tuple<L: Ledger>(
     alloc: Global,
     network: &Network,
+    readers: &Readers,
     stores: &Stores,
+    found: &mut Found,
     draft: &mut Draft,
     pairs: &mut Pairs,
     stream: StreamId,
@@ -276,6 +279,8 @@ fn meet_tuple<L: Ledger>(
     steps: &mut Steps<L>,
 ) -> Result<(), Memory>
     requires network { IsNetwork network.now }
+    requires readers { AreReadersOf network.now readers.now }
+    requires stream { stream < length readers.now }
     requires stores { length stores.now ≡ length network.now }
     requires below { EndsBelow network.now (length draft.old.made) }
     requires fits { DraftFits (length draft.old.made) (length network.now) draft.old }
@@ -284,16 +289,23 @@ fn meet_tuple<L: Ledger>(
     ensures lists { OnOk result (Lists network.now stream place tuple.now pairs.old pairs.new) }
     ensures ticks { OnOk result (steps.new ≤ steps.old + tuple_work network.now (held stores.now) stream tuple.now) }
 {
-    let targets = targets_for(alloc, network, stream, tuple)?;
-    go_all(alloc, network, draft, targets.as_slice(), tuple, steps)?;
-    let states = waits_for(alloc, network, stream, tuple)?;
+    readers.find_targets(stream, tuple, found)?;
+    go_all(
+        alloc,
+        network,
+        draft,
+        found.targets.as_slice(),
+        tuple,
+        steps,
+    )?;
+    readers.find_waits(stream, tuple, found)?;
     meet_waits(
         alloc,
         network,
         stores,
         draft,
         pairs,
-        states.as_slice(),
+        found.waits.as_slice(),
         stream,
         place,
         tuple,
@@ -306,7 +318,9 @@ fn meet_tuple<L: Ledger>(
 pub(crate) fn meet_stream<L: Ledger>(
     alloc: Global,
     network: &Network,
+    readers: &Readers,
     stores: &Stores,
+    found: &mut Found,
     draft: &mut Draft,
     pairs: &mut Pairs,
     stream: StreamId,
@@ -314,6 +328,8 @@ pub(crate) fn meet_stream<L: Ledger>(
     steps: &mut Steps<L>,
 ) -> Result<(), Memory>
     requires network { IsNetwork network.now }
+    requires readers { AreReadersOf network.now readers.now }
+    requires stream { stream < length readers.now }
     requires stores { length stores.now ≡ length network.now }
     requires below { EndsBelow network.now (length draft.old.made) }
     requires fits { DraftFits (length draft.old.made) (length network.now) draft.old }
@@ -324,7 +340,7 @@ pub(crate) fn meet_stream<L: Ledger>(
 {
     for (place, tuple) in tuples.iter().enumerate() {
         meet_tuple(
-            alloc, network, stores, draft, pairs, stream, place, tuple, steps,
+            alloc, network, readers, stores, found, draft, pairs, stream, place, tuple, steps,
         )?;
     }
     Ok(())

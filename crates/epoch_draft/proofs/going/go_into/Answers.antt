@@ -3,9 +3,10 @@ use Rattle.std.specs.Prelude.{Some}
 use Rattle.automaton.specs.Steps.{pass}
 use Rattle.automaton.specs.States.{step_at}
 use Rattle.automaton.specs.declared.step.Stage.{Stage}
+use Rattle.stream_readers.specs.Ways.{Into}
 use Rattle.epoch_laws.specs.Instances.{began}
 use Rattle.epoch_draft.specs.Drafts.{DraftFits, Grows}
-use Rattle.epoch_draft.specs.Moves.{Into, moves_on}
+use Rattle.epoch_draft.specs.Moves.{moves_on}
 use Rattle.epoch_draft.proofs.DraftLemmas.{into_grows}
 use Rattle.epoch_draft.proofs.Lists.{on_ok_three}
 use Rattle.epoch_draft.proofs.GoingLemmas.{used_below}

@@ -1,5 +1,5 @@
 use Rattle.std.proofs.Common.{arith}
-use Rattle.epoch_draft.specs.Moves.{Into}
+use Rattle.stream_readers.specs.Ways.{Into}
 use Rattle.epoch_draft.proofs.GoingLemmas.{go_more}
 use Rattle.epoch_draft.proofs.WorkLemmas.{ways_more}
 use Rattle.epoch_draft.proofs.going.go_into_all.Goals as goal

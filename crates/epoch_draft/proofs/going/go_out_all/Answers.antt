@@ -1,7 +1,8 @@
 use Rattle.std.proofs.Common.{◌+◌, ◌≤◌, ◌∷◌, [], subst, arith}
 use Rattle.automaton.specs.declared.network.End.{End}
+use Rattle.stream_readers.specs.Ways.{Out}
 use Rattle.epoch_draft.specs.Drafts.{Grows}
-use Rattle.epoch_draft.specs.Moves.{Out, moves_on}
+use Rattle.epoch_draft.specs.Moves.{moves_on}
 use Rattle.epoch_draft.specs.Work.{keeps}
 use Rattle.epoch_draft.proofs.GoingLemmas.{go_more}
 use Rattle.epoch_draft.proofs.WorkLemmas.{ways_more}

@@ -1,6 +1,7 @@
 use Rattle.std.proofs.Common.{◌+◌, ◌≤◌, map, take}
+use Rattle.stream_readers.specs.Ways.{Out}
 use Rattle.epoch_draft.specs.Drafts.{Grows}
-use Rattle.epoch_draft.specs.Moves.{Out, moves_on}
+use Rattle.epoch_draft.specs.Moves.{moves_on}
 use Rattle.epoch_draft.specs.Work.{ways_work}
 use Rattle.epoch_draft.proofs.going.go_out_all.Given as goal
 

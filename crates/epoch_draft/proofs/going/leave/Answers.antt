@@ -4,12 +4,14 @@ use Rattle.std.specs.List.{All}
 use Rattle.automaton.specs.declared.network.End.{End}
 use Rattle.automaton.specs.declared.wait.Turn.{Turn}
 use Rattle.automaton.specs.States.{is_used, step_at}
+use Rattle.stream_readers.specs.Ways.{Into, Out, backs_in, ways_at}
 use Rattle.epoch_draft.specs.Drafts.{DraftFits, Grows}
-use Rattle.epoch_draft.specs.Moves.{Into, Out, backs_in, moves_on, ways_at}
+use Rattle.epoch_draft.specs.Moves.{moves_on}
 use Rattle.epoch_draft.specs.Suits.{StepSuits}
 use Rattle.epoch_draft.proofs.DraftLemmas.{back_grows, grows_none}
 use Rattle.epoch_draft.proofs.Lists.{on_ok_three}
-use Rattle.epoch_draft.proofs.GoingLemmas.{edges_used, into_suits, left_all, out_suits, used_below}
+use Rattle.stream_readers.proofs.TargetLemmas.{edges_used}
+use Rattle.epoch_draft.proofs.GoingLemmas.{into_suits, left_all, out_suits, used_below}
 use Rattle.epoch_draft.proofs.going.leave.Goals as goal
 
 pub go_into_all-requires-clause-used : goal.go_into_all-requires-clause-used

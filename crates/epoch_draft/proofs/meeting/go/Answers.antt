@@ -4,13 +4,14 @@ use Rattle.std.specs.List.{All}
 use Rattle.std.proofs.lemmas.List.Elements.{All-head}
 use Rattle.automaton.specs.States.{Net, ends_at}
 use Rattle.automaton.specs.declared.network.End.{End}
+use Rattle.stream_readers.specs.Targets.{out_by, way_of}
+use Rattle.stream_readers.specs.Ways.{Into, Out, Way}
+use Rattle.stream_readers.specs.declared.target.Target.{Target}
 use Rattle.epoch_laws.specs.Instances.{began, begins}
 use Rattle.epoch_draft.specs.Drafts.{Grows}
-use Rattle.epoch_draft.specs.Finding.{out_by, way_of}
-use Rattle.epoch_draft.specs.Moves.{Into, Out, Way, moves_on}
+use Rattle.epoch_draft.specs.Moves.{moves_on}
 use Rattle.epoch_draft.specs.Suits.{WaySuits}
-use Rattle.epoch_draft.specs.declared.finding.Target.{Target}
-use Rattle.epoch_draft.proofs.FindLemmas.{all_at}
+use Rattle.epoch_draft.proofs.Lists.{all_at}
 use Rattle.epoch_draft.proofs.Lists.{on_ok}
 use Rattle.epoch_draft.proofs.meeting.go.Goals as goal
 

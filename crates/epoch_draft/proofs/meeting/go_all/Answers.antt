@@ -1,7 +1,7 @@
 use Rattle.std.proofs.Common.{arith}
+use Rattle.stream_readers.specs.Targets.{way_of}
+use Rattle.stream_readers.specs.declared.target.Target.TheVariants.{Edge}
 use Rattle.epoch_laws.specs.Instances.{begins}
-use Rattle.epoch_draft.specs.Finding.{way_of}
-use Rattle.epoch_draft.specs.declared.finding.Target.TheVariants.{Edge}
 use Rattle.epoch_draft.proofs.MeetLemmas.{targets_more}
 use Rattle.epoch_draft.proofs.WorkLemmas.{flat_more}
 use Rattle.epoch_draft.proofs.meeting.go_all.Goals as goal

@@ -1,8 +1,8 @@
 use Rattle.std.proofs.Common.{◌+◌, ◌≤◌, take}
 use Rattle.std.specs.List.{flat_map}
+use Rattle.stream_readers.specs.Targets.{way_of}
 use Rattle.epoch_laws.specs.Instances.{begins}
 use Rattle.epoch_draft.specs.Drafts.{Grows}
-use Rattle.epoch_draft.specs.Finding.{way_of}
 use Rattle.epoch_draft.specs.Moves.{moves_on}
 use Rattle.epoch_draft.specs.Work.{ways_work}
 use Rattle.epoch_draft.proofs.meeting.go_all.Given as goal

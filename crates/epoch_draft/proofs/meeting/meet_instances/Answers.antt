@@ -1,12 +1,13 @@
 use Rattle.std.proofs.Common.{◌≡◌, ◌∙◌, ap, subst, [], List, arith}
 use Rattle.std.specs.Prelude.{sum_by}
 use Rattle.std.proofs.lemmas.List.Sums.{sum_by-cons}
+use Rattle.stream_readers.specs.Ways.{ways_at}
 use Rattle.epoch_draft.specs.Work.{binding_work}
 use Rattle.std.specs.List.{All}
 use Rattle.std.proofs.lemmas.Grind.{flat_map-append}
 use Rattle.std.proofs.lemmas.List.Elements.{All-head, All-tail}
 use Rattle.instances.specs.declared.instance.Instance.{Instance}
-use Rattle.epoch_draft.specs.Moves.{Move, moves_from, moves_on, ways_at}
+use Rattle.epoch_draft.specs.Moves.{Move, moves_from, moves_on}
 use Rattle.epoch_draft.specs.Pairs.{met, paired_with}
 use Rattle.epoch_draft.specs.Suits.{LeavingSuits, WaitSuits}
 use Rattle.epoch_draft.proofs.GoingLemmas.{all_left, all_right}

@@ -2,16 +2,18 @@ use Rattle.std.proofs.Common.{sym, subst, ℕ, ◌+◌, ◌≤◌, IsTrue, List}
 use Rattle.std.specs.Prelude.{sum_by}
 use Rattle.std.specs.List.{All, filter, flat_map}
 use Rattle.automaton.specs.States.{is_used}
+use Rattle.stream_readers.specs.Finding.{waits_on, ways_on}
+use Rattle.stream_readers.specs.Targets.{way_of}
+use Rattle.stream_readers.specs.Ways.{hears, looks}
+use Rattle.stream_readers.specs.declared.target.Target.{Target}
 use Rattle.epoch_laws.specs.Instances.{begins}
 use Rattle.epoch_draft.specs.Drafts.{Grows}
-use Rattle.epoch_draft.specs.Finding.{way_of, waits_on, ways_on}
 use Rattle.epoch_draft.specs.Held.{held}
 use Rattle.epoch_draft.specs.Meeting.{moves_met, moves_of}
 use Rattle.epoch_draft.specs.Moves.{moves_on}
 use Rattle.epoch_draft.specs.Suits.{MeetingSuits, WaySuits}
-use Rattle.epoch_draft.specs.declared.finding.Target.{Target}
 use Rattle.epoch_draft.specs.Tests.{tuple_work}
-use Rattle.epoch_draft.specs.Work.{hears, looks, state_work, way_work, ways_work}
+use Rattle.epoch_draft.specs.Work.{state_work, way_work, ways_work}
 use Rattle.epoch_draft.proofs.Lists.{on_ok}
 use Rattle.epoch_draft.proofs.WorkLemmas.{both_within, found_less}
 use Rattle.epoch_draft.proofs.MeetLemmas.{found_all, found_grows, found_ways, waits_used}
@@ -21,19 +23,19 @@ pub go_all-requires-clause-suits : goal.go_all-requires-clause-suits
 go_all-requires-clause-suits g c =
     let net = c.args.network.now in
     let t = c.args.tuple.now in
-    subst (All (λ (target : Target). All (WaySuits net t) (way_of net target))) (sym c.as_slice.ensures) (found_ways (WaySuits net t) net c.args.stream t c.in_ok-targets.targets c.in_ok-targets.ensures.finds c.requires.suits.roots)
+    subst (All (λ (target : Target). All (WaySuits net t) (way_of net target))) (sym c.as_slice.ensures) (found_ways (WaySuits net t) net c.args.stream t c.find_targets.new.found.targets (c.in_ok-find_targets.ensures net c.requires.network c.requires.readers) c.requires.suits.roots)
 
 pub meet_waits-requires-clause-used : goal.meet_waits-requires-clause-used
 meet_waits-requires-clause-used g c =
     let net = c.args.network.now in
     let used = λ (n : ℕ). IsTrue (is_used net n) in
-    subst (All used) (sym c.as_slice-2.ensures) (found_all used net c.args.stream c.args.tuple.now c.in_ok-states.states c.in_ok-states.ensures (waits_used net c.args.stream))
+    subst (All used) (sym c.as_slice-2.ensures) (found_all used net c.args.stream c.args.tuple.now c.find_waits.new.found.waits (c.in_ok-find_waits.ensures.waits c.args.network.now c.requires.readers) (waits_used net c.args.stream))
 
 pub meet_waits-requires-clause-suits : goal.meet_waits-requires-clause-suits
 meet_waits-requires-clause-suits g c =
     let net = c.args.network.now in
     let suits = MeetingSuits net (held c.args.stores.now) c.args.tuple.now in
-    subst (All suits) (sym c.as_slice-2.ensures) (found_all suits net c.args.stream c.args.tuple.now c.in_ok-states.states c.in_ok-states.ensures c.requires.suits.waits)
+    subst (All suits) (sym c.as_slice-2.ensures) (found_all suits net c.args.stream c.args.tuple.now c.find_waits.new.found.waits (c.in_ok-find_waits.ensures.waits c.args.network.now c.requires.readers) c.requires.suits.waits)
 
 pub returns-clause-grows : goal.returns-clause-grows
 returns-clause-grows g c =
@@ -44,11 +46,11 @@ returns-clause-grows g c =
     let old = c.args.draft.now in
     let mid = c.go_all.new.draft in
     let new = c.meet_waits.new.draft in
-    let targets = c.in_ok-targets.targets in
-    let states = c.in_ok-states.states in
+    let targets = c.find_targets.new.found.targets in
+    let states = c.find_waits.new.found.waits in
     on_ok c.meet_waits.result (Grows net (moves_met net stores t c.as_slice-2.result.now) mid new) (Grows net (moves_of net stores s t) old new)
     (λ two.
-    found_grows net stores s t targets states old mid new c.in_ok-targets.ensures.finds c.in_ok-states.ensures
+    found_grows net stores s t targets states old mid new (c.in_ok-find_targets.ensures net c.requires.network c.requires.readers) (c.in_ok-find_waits.ensures.waits net c.requires.readers)
     (subst (λ (ts : List Target). Grows net (moves_on (flat_map (way_of net) ts) (begins t)) old mid) c.as_slice.ensures c.in_ok-go_all.ensures.grows)
     (subst (λ (ns : List ℕ). Grows net (moves_met net stores t ns) mid new) c.as_slice-2.ensures two)) c.meet_waits.ensures.grows
 
@@ -59,10 +61,10 @@ returns-clause-ticks g c =
     let stores = held c.args.stores.now in
     let s = c.args.stream in
     let t = c.args.tuple.now in
-    let targets = c.in_ok-targets.targets in
-    let states = c.in_ok-states.states in
-    let ways = c.in_ok-targets.ensures.finds in
-    let waits = c.in_ok-states.ensures in
+    let targets = c.find_targets.new.found.targets in
+    let states = c.find_waits.new.found.waits in
+    let ways = c.in_ok-find_targets.ensures net c.requires.network c.requires.readers in
+    let waits = c.in_ok-find_waits.ensures.waits net c.requires.readers in
     let start : ℕ = c.args.steps.now in
     let mid : ℕ = c.go_all.new.steps in
     let end : ℕ = c.meet_waits.new.steps in
