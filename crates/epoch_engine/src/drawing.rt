@@ -6,13 +6,15 @@ ghost use Rattle.epoch_engine.specs.Running.{IsStill};
 use epoch_draft::{Draft, Pairs};
 use event_types::{List, Memory};
 use std::alloc::Global;
+use stream_readers::Found;
 
-/// The draft of an epoch, and the pairs of waiting states and tuples that meet there. Between two closings
-/// there is nothing in it, and it keeps its room.
+/// The draft of an epoch, the pairs of waiting states and tuples that meet there, and what a tuple finds.
+/// Between two closings there is nothing in the draft and the pairs. All keep their room.
 #[derive(Drop)]
 pub struct Drawing {
     pub draft: Draft,
     pub pairs: Pairs,
+    pub found: Found,
 }
 
 impl Drawing {
@@ -24,6 +26,7 @@ impl Drawing {
         Ok(Drawing {
             draft,
             pairs: List::new(alloc),
+            found: Found::new(alloc),
         })
     }
 

@@ -9,13 +9,15 @@ use epoch_draft::{bounded_states, filled};
 use event_types::{Memory, Numbers};
 use prefix_merge::Merged;
 use std::alloc::Global;
+use stream_readers::Readers;
 
-/// A merged network and its layout, the numbers of the waiting states whose conditions have bounds on DUR,
+/// A merged network and its layout, what reads each stream, the numbers of the waiting states whose conditions have bounds on DUR,
 /// and for each stream the last place at which it is printed, counted from 0. No closing changes it.
 #[derive(Drop)]
 pub struct Plan {
     pub merged: Merged,
     pub layout: Layout,
+    pub readers: Readers,
     pub bounded: Numbers,
     pub last: Numbers,
 }
@@ -28,11 +30,13 @@ impl Plan {
         ensures layout { IfOk result (λ plan. plan.layout ≡ layout) }
         ensures is { IfOk result IsPlan }
     {
+        let readers = Readers::make(alloc, merged.network(), layout.kinds.len())?;
         let bounded = bounded_states(alloc, merged.network())?;
         let last = last_places(alloc, &layout.outs, layout.kinds.len())?;
         Ok(Plan {
             merged,
             layout,
+            readers,
             bounded,
             last,
         })
