@@ -22,7 +22,7 @@ pub(crate) fn prepare(
     requires last { length last.now ≡ length made.now }
     ensures { IfOk result (AreReady outs.now last.now made.now) }
 {
-    let mut batch = List::new(alloc);
+    let mut batch = List::with_room(alloc, outs.len())?;
     for (place, stream) in outs.iter().enumerate() {
         let moves = *last.get(*stream) == place;
         let tuples = prepared(alloc, made.get(*stream), moves)?;

@@ -6,7 +6,7 @@ use Rattle.epoch_engine.proofs.BatchLemmas.{ready_more, ready_none}
 use Rattle.epoch_engine.proofs.batch.prepare.Goals as goal
 
 pub loop-place-init : goal.loop-place-init
-loop-place-init c = subst (AreReady [] c.args.last.now c.args.made.now) (sym c.new-batch.ensures) (ready_none c.args.last.now c.args.made.now)
+loop-place-init c = subst (AreReady [] c.args.last.now c.args.made.now) (sym c.in_ok-batch.ensures) (ready_none c.args.last.now c.args.made.now)
 
 -- one place more
 pub loop-place-preserved : goal.loop-place-preserved

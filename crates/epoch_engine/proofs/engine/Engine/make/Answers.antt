@@ -1,4 +1,4 @@
-use Rattle.std.proofs.Common.{◌≡◌, ◌∙◌, sym, ap, refl, subst, ℕ, length, get_or}
+use Rattle.std.proofs.Common.{◌∙◌, sym, ap, refl, subst, length}
 use Rattle.automaton.specs.NetworkLines.{NetworkFits}
 use Rattle.automaton.specs.States.{Net}
 use Rattle.automaton.specs.declared.layout.Layout.{Layout}
