@@ -22,6 +22,7 @@ use Rattle.epoch_draft.specs.Moves.{Move, bound_by, bound_of, made_by, made_of, 
 use Rattle.epoch_draft.specs.declared.draft.Draft.{Draft}
 use Rattle.epoch_draft.specs.declared.marks.Marks.{Marks}
 use Rattle.epoch_draft.proofs.Lists.{contains_or_not, same_or_other}
+use Rattle.epoch_draft.proofs.MarkLemmas.{marks_kept, marks_same, marks_trans}
 
 -- tuples of one stream
 pub made_fits : (old : Draft) (s : ℕ) (rows : List TupleView) (due : Marks) → DraftFits (length old.made) (length old.beads) old → MarksMore old.due due → Contains due.numbers s
@@ -39,7 +40,7 @@ made_fits old s rows due fits more marked = record {
   where
     kept : (t : ℕ) → (t ≡ s → ⊥) → (get_or old.made t [] ≡ []) ⊎ Contains old.due.numbers t → (get_or (set old.made s rows) t [] ≡ []) ⊎ Contains due.numbers t
     kept t other (inl none) = inl (get_or-set_other old.made s t rows [] other ∙ none)
-    kept t other (inr there) = inr (more.kept t there)
+    kept t other (inr there) = inr (marks_kept old.due due more t there)
 
     go : (t : ℕ) → (t ≡ s) ⊎ (t ≡ s → ⊥) → (get_or (set old.made s rows) t [] ≡ []) ⊎ Contains due.numbers t
     go t (inl same) = inr (subst (Contains due.numbers) (sym same) marked)
@@ -61,7 +62,7 @@ beads_fit old w beads reached fits more marked = record {
   where
     kept : (v : ℕ) → (v ≡ w → ⊥) → (get_or old.beads v [] ≡ []) ⊎ Contains old.reached.numbers v → (get_or (set old.beads w beads) v [] ≡ []) ⊎ Contains reached.numbers v
     kept v other (inl none) = inl (get_or-set_other old.beads w v beads [] other ∙ none)
-    kept v other (inr there) = inr (more.kept v there)
+    kept v other (inr there) = inr (marks_kept old.reached reached more v there)
 
     go : (v : ℕ) → (v ≡ w) ⊎ (v ≡ w → ⊥) → (get_or (set old.beads w beads) v [] ≡ []) ⊎ Contains reached.numbers v
     go v (inl same) = inr (subst (Contains reached.numbers) (sym same) marked)
@@ -127,6 +128,7 @@ bound_append net w a b = flat_map-append (λ (m : Move). bound_by net w m.instan
 pub grows_none : (net : Net) (old : Draft) → DraftFits (length old.made) (length net) old → Grows net [] old old
 grows_none net old fits = record {
   fits = fits;
+  due = marks_same old.due fits.due;
   made = λ s. adds_none (get_or old.made s []) (get_or old.made s []) refl;
   bound = λ w. permuted_is (sym (append-nil (get_or old.beads w [])));
 }
@@ -135,6 +137,7 @@ grows_none net old fits = record {
 pub grows_same : (net : Net) (a b : List Move) (old new : Draft) → IsPermutation a b → Grows net a old new → Grows net b old new
 grows_same net a b old new h grows = record {
   fits = grows.fits;
+  due = grows.due;
   made = λ s. adds_same (made_of s a) (made_of s b) (get_or old.made s []) (get_or new.made s []) (flat_map_permuted (λ (m : Move). made_by s m.instance m.way) a b h) (grows.made s);
   bound = λ w.
       IsPermutation-trans _ _ _ (grows.bound w)
@@ -145,6 +148,7 @@ grows_same net a b old new h grows = record {
 pub grows_trans : (net : Net) (a b : List Move) (old mid new : Draft) → Grows net a old mid → Grows net b mid new → Grows net (a ++ b) old new
 grows_trans net a b old mid new one two = record {
   fits = subst (λ (m : ℕ). DraftFits m (length net) new) one.fits.made two.fits;
+  due = marks_trans old.due mid.due new.due one.due two.due;
   made = λ s.
       subst (λ (rows : List TupleView). Adds rows (get_or old.made s []) (get_or new.made s [])) (sym (made_append s a b))
       (adds_trans (made_of s a) (made_of s b) (get_or old.made s []) (get_or mid.made s []) (get_or new.made s []) (one.made s) (two.made s));
@@ -180,9 +184,10 @@ made_adds s rows old t lt made e = go (same_or_other t s)
 
 -- an instance that goes out
 pub out_grows : (net : Net) (old new : Draft) (e : End) (x : Instance) (y : TupleView) → e.out < length old.made → pass e.step x.tuple ≡ Some y → length old.beads ≡ length net
-    → new.made ≡ set old.made e.out (get_or old.made e.out [] ++ y ∷ []) → new.beads ≡ old.beads → DraftFits (length old.made) (length old.beads) new → Grows net (moves_on (Out e ∷ []) x) old new
-out_grows net old new e x y lt passes many made beads fits = record {
+    → new.made ≡ set old.made e.out (get_or old.made e.out [] ++ y ∷ []) → new.beads ≡ old.beads → MarksMore old.due new.due → DraftFits (length old.made) (length old.beads) new → Grows net (moves_on (Out e ∷ []) x) old new
+out_grows net old new e x y lt passes many made beads due fits = record {
   fits = subst (λ (m : ℕ). DraftFits (length old.made) m new) many fits;
+  due = due;
   made = λ t.
       subst (λ (lists : List (List TupleView)). Adds (made_of t (moves_on (Out e ∷ []) x)) (get_or old.made t []) (get_or lists t [])) (sym made)
       (made_adds e.out (y ∷ []) old.made t lt (made_of t (moves_on (Out e ∷ []) x)) (append-nil (cond (e.out == t) (option_to_list (pass e.step x.tuple)) []) ∙ ap (λ o. cond (e.out == t) (option_to_list o) []) passes));
@@ -193,6 +198,7 @@ out_grows net old new e x y lt passes many made beads fits = record {
 pub out_stays : (net : Net) (old : Draft) (e : End) (x : Instance) → pass e.step x.tuple ≡ None → DraftFits (length old.made) (length net) old → Grows net (moves_on (Out e ∷ []) x) old old
 out_stays net old e x passes fits = record {
   fits = fits;
+  due = marks_same old.due fits.due;
   made = λ t.
       subst (λ (rows : List TupleView). Adds rows (get_or old.made t []) (get_or old.made t []))
       (sym (append-nil (cond (e.out == t) (option_to_list (pass e.step x.tuple)) []) ∙ ap (λ o. cond (e.out == t) (option_to_list o) []) passes ∙ none (e.out == t))) (adds_none (get_or old.made t []) (get_or old.made t []) refl);
@@ -219,9 +225,10 @@ bound_adds w y old v lt bound e = go (same_or_other v w)
 
 -- a bead more on some way
 bead_grows : (net : Net) (old new : Draft) (way : Way) (w : ℕ) (x y : Instance) → w < length old.beads → ((t : ℕ) → made_by t x way ≡ []) → ((v : ℕ) → bound_by net v x way ≡ cond (w == v) (y ∷ []) []) → length old.beads ≡ length net
-    → new.beads ≡ set old.beads w (y ∷ get_or old.beads w []) → new.made ≡ old.made → DraftFits (length old.made) (length old.beads) new → Grows net (moves_on (way ∷ []) x) old new
-bead_grows net old new way w x y lt none one many beads made fits = record {
+    → new.beads ≡ set old.beads w (y ∷ get_or old.beads w []) → new.made ≡ old.made → new.due ≡ old.due → DraftFits (length old.made) (length old.beads) new → Grows net (moves_on (way ∷ []) x) old new
+bead_grows net old new way w x y lt none one many beads made due fits = record {
   fits = subst (λ (m : ℕ). DraftFits (length old.made) m new) many fits;
+  due = subst (λ (m : Marks). MarksMore m new.due) due (marks_same new.due fits.due);
   made = λ t.
       subst (λ (rows : List TupleView). Adds rows (get_or old.made t []) (get_or new.made t [])) (sym (append-nil (made_by t x way) ∙ none t))
       (adds_none (get_or old.made t []) (get_or new.made t []) (ap (λ (lists : List (List TupleView)). get_or lists t []) made));
@@ -232,19 +239,20 @@ bead_grows net old new way w x y lt none one many beads made fits = record {
 
 -- an instance that goes into a state
 pub into_grows : (net : Net) (old new : Draft) (w : ℕ) (x : Instance) (y : TupleView) → w < length old.beads → pass (step_at net w) x.tuple ≡ Some y → length old.beads ≡ length net
-    → new.beads ≡ set old.beads w (began x.first y ∷ get_or old.beads w []) → new.made ≡ old.made → DraftFits (length old.made) (length old.beads) new → Grows net (moves_on (Into w ∷ []) x) old new
-into_grows net old new w x y lt passes many beads made fits =
-    bead_grows net old new (Into w) w x (began x.first y) lt (λ t. refl) (λ v. ap (λ o. cond (w == v) (option_to_list (option_map (began x.first) o)) []) passes) many beads made fits
+    → new.beads ≡ set old.beads w (began x.first y ∷ get_or old.beads w []) → new.made ≡ old.made → new.due ≡ old.due → DraftFits (length old.made) (length old.beads) new → Grows net (moves_on (Into w ∷ []) x) old new
+into_grows net old new w x y lt passes many beads made due fits =
+    bead_grows net old new (Into w) w x (began x.first y) lt (λ t. refl) (λ v. ap (λ o. cond (w == v) (option_to_list (option_map (began x.first) o)) []) passes) many beads made due fits
 
 -- and one that goes back
 pub back_grows : (net : Net) (old new : Draft) (w : ℕ) (x : Instance) → w < length old.beads → length old.beads ≡ length net
-    → new.beads ≡ set old.beads w (x ∷ get_or old.beads w []) → new.made ≡ old.made → DraftFits (length old.made) (length old.beads) new → Grows net (moves_on (Back w ∷ []) x) old new
-back_grows net old new w x lt many beads made fits = bead_grows net old new (Back w) w x x lt (λ t. refl) (λ v. refl) many beads made fits
+    → new.beads ≡ set old.beads w (x ∷ get_or old.beads w []) → new.made ≡ old.made → new.due ≡ old.due → DraftFits (length old.made) (length old.beads) new → Grows net (moves_on (Back w ∷ []) x) old new
+back_grows net old new w x lt many beads made due fits = bead_grows net old new (Back w) w x x lt (λ t. refl) (λ v. refl) many beads made due fits
 
 -- one that does not pass into a state
 pub into_stays : (net : Net) (old : Draft) (w : ℕ) (x : Instance) → pass (step_at net w) x.tuple ≡ None → DraftFits (length old.made) (length net) old → Grows net (moves_on (Into w ∷ []) x) old old
 into_stays net old w x passes fits = record {
   fits = fits;
+  due = marks_same old.due fits.due;
   made = λ t. adds_none (get_or old.made t []) (get_or old.made t []) refl;
   bound = λ v.
       permuted_is (sym (append-nil (get_or old.beads v []))

@@ -113,6 +113,11 @@ pub on_err : {T E : Type 0} (r : Result T E) (P : Type 0) → P → OnErr r P
 on_err (Ok x) P holds = tt
 on_err (Err e) P holds = holds
 
+-- what is promised of an Ok by four clauses
+pub on_ok_four : {T E : Type 0} (r : Result T E) (P Q R S U : Type 0) → (P → Q → R → S → U) → OnOk r P → OnOk r Q → OnOk r R → OnOk r S → OnOk r U
+on_ok_four (Ok x) P Q R S U f p q s u = f p q s u
+on_ok_four (Err e) P Q R S U f p q s u = p
+
 -- what is promised of an Ok by three clauses
 pub on_ok_three : {T E : Type 0} (r : Result T E) (P Q R S : Type 0) → (P → Q → R → S) → OnOk r P → OnOk r Q → OnOk r R → OnOk r S
 on_ok_three (Ok x) P Q R S f p q s = f p q s

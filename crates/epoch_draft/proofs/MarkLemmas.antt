@@ -1,10 +1,10 @@
 -- Numbers are marked one by one.
-use Rattle.std.proofs.Common.{◌≡◌, ◌∙◌, sym, ap, refl, subst, inl, inr, ℕ, zero, suc, ◌+◌, ◌<◌, ◌⊎◌, Bool, true, false, length, get_or, set, take, List, [], ◌∷◌, ◌++◌, arith}
+use Rattle.std.proofs.Common.{◌≡◌, ◌∙◌, sym, ap, refl, subst, inl, inr, ℕ, zero, suc, ◌+◌, ◌<◌, ◌⊎◌, Bool, true, false, length, get_or, set, take, List, [], ◌∷◌, ◌++◌, append_assoc, arith}
 use Rattle.std.specs.Prelude.{Contains}
 use Rattle.std.specs.List.{All}
 use Rattle.std.proofs.Math.Seq.{get_or-append_seam}
 use Rattle.std.proofs.lemmas.Grind.{get_or-set_at}
-use Rattle.std.proofs.lemmas.List.{get_or_append_left, get_or-set_other, length-append, length-set, take-append-le}
+use Rattle.std.proofs.lemmas.List.{append-nil, get_or_append_left, get_or-set_other, length-append, length-set, take-append-le}
 use Rattle.std.proofs.lemmas.List.Elements.{All-contains_itself, All-weaker, Contains-append_left, Contains-push, Contains-push_cases}
 use Rattle.epoch_draft.specs.Marks.{AreLowered, AreMarks, MarksMore}
 use Rattle.epoch_draft.specs.declared.marks.Marks.{Marks}
@@ -27,11 +27,20 @@ marked_below marks are n c = flag_below marks.flags n (are.flagged n c)
 
 -- the marks themselves
 pub marks_same : (marks : Marks) → AreMarks marks → MarksMore marks marks
-marks_same marks are = record { are = are; as_many = refl; kept = λ n c. c }
+marks_same marks are = record { are = are; as_many = refl; added = []; is = sym (append-nil marks.numbers) }
 
 -- marks after marks
 pub marks_trans : (a b c : Marks) → MarksMore a b → MarksMore b c → MarksMore a c
-marks_trans a b c ab bc = record { are = bc.are; as_many = bc.as_many ∙ ab.as_many; kept = λ n h. bc.kept n (ab.kept n h) }
+marks_trans a b c ab bc = record {
+  are = bc.are;
+  as_many = bc.as_many ∙ ab.as_many;
+  added = ab.added ++ bc.added;
+  is = bc.is ∙ ap (λ ns. ns ++ bc.added) ab.is ∙ append_assoc a.numbers ab.added bc.added;
+}
+
+-- a marked number stays marked
+pub marks_kept : (old new : Marks) → MarksMore old new → (n : ℕ) → Contains old.numbers n → Contains new.numbers n
+marks_kept old new more n c = subst (λ (ns : List ℕ). Contains ns n) (sym more.is) (Contains-append_left old.numbers more.added n c)
 
 -- no number is marked
 pub marks_none : (flags : List Bool) → ((n : ℕ) → get_or flags n false ≡ false) → (numbers : List ℕ) → numbers ≡ [] → AreMarks (record { flags = flags; numbers = numbers })
@@ -54,7 +63,8 @@ mark_more marks n numbers are lt e put = record {
         once i (below_or_last i (length marks.numbers) (omega (arith, ap length put, length-append marks.numbers (n ∷ [])))) (subst (λ (ns : List ℕ). Contains (take i ns) (get_or ns i 0)) put c);
   };
   as_many = length-set marks.flags n true;
-  kept = λ k c. subst (λ (ns : List ℕ). Contains ns k) (sym put) (Contains-append_left marks.numbers (n ∷ []) k c);
+  added = n ∷ [];
+  is = put;
 }
   where
     fresh : Contains marks.numbers n → ⊥

@@ -18,12 +18,13 @@ use Rattle.epoch_laws.specs.StoresStandFor.{Serves}
 use Rattle.epoch_draft.specs.Drafts.{DraftFits, EndsBelow, Grows, without}
 use Rattle.epoch_draft.specs.Drawn.{Drawn, Paired}
 use Rattle.epoch_draft.specs.Held.{held}
+use Rattle.epoch_draft.specs.Marks.{MarksMore}
 use Rattle.epoch_draft.specs.Meeting.{ListsAll, moves_of_all}
 use Rattle.epoch_draft.specs.Typed.{HaveKinds, IsTyped}
 use Rattle.epoch_draft.specs.declared.draft.Draft.{Draft}
 use Rattle.epoch_draft.specs.declared.draft.Pair.{Pair}
 
--- the tuples of a derived stream were put in order and met, and are its tuples
+-- the tuples of a derived stream were put in order and met, and are its tuples; the streams that were due still are, in front of those that now are
 pub record Derives (net : Net) (stores : Stores) (stream : ℕ) (old new : Draft) (pairs more : List Pair) : Type 0 where
   pub tuples : List TupleView
   pub same : IsPermutation tuples (slice_index_or old.made stream [])
@@ -33,6 +34,7 @@ pub record Derives (net : Net) (stores : Stores) (stream : ℕ) (old new : Draft
   pub made : new.made ≡ slice_set met.made stream tuples
   pub beads : new.beads ≡ met.beads
   pub fits : DraftFits (length old.made) (length net) new
+  pub due : MarksMore old.due new.due
   pub lists : ListsAll net stream tuples pairs more
 
 -- the tuples of an epoch as far as they are made: those of the streams that are done, and the open ones of the others

@@ -3,7 +3,7 @@ use Rattle.std.specs.Prelude.{◌≡◌, ℕ, ◌<◌, ◌⊎◌, List, [], ◌+
 use Rattle.std.specs.List.{All}
 use Rattle.std.specs.List.Sorted.{IsPermutation}
 use Rattle.automaton.specs.States.{Net, ends_at}
-use Rattle.epoch_draft.specs.Marks.{AreMarks}
+use Rattle.epoch_draft.specs.Marks.{AreMarks, MarksMore}
 use Rattle.epoch_draft.specs.Moves.{Move, bound_of, made_of}
 use Rattle.epoch_draft.specs.declared.draft.Draft.{Draft}
 
@@ -32,8 +32,9 @@ pub record Adds {X : Type 0} (more old new : List X) : Type 0 where
   pub is : new ≡ old ++ added
   pub same : IsPermutation added more
 
--- the draft has besides what these moves make: tuples behind those of the streams, and beads
+-- the draft has besides what these moves make: tuples behind those of the streams, and beads; the streams that were due still are, in front of those that now are
 pub record Grows (net : Net) (moves : List Move) (old new : Draft) : Type 0 where
   pub fits : DraftFits (length old.made) (length net) new
+  pub due : MarksMore old.due new.due
   pub made : (stream : ℕ) → Adds (made_of stream moves) (slice_index_or old.made stream []) (slice_index_or new.made stream [])
   pub bound : (state : ℕ) → IsPermutation (slice_index_or new.beads state []) (slice_index_or old.beads state [] ++ bound_of net state moves)

@@ -1,3 +1,4 @@
+pub mod Agenda
 pub mod Closing
 pub mod Comes
 pub mod Deriving

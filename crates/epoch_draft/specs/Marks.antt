@@ -1,5 +1,5 @@
 -- Numbers that are marked.
-use Rattle.std.specs.Prelude.{◌≡◌, ℕ, Bool, ◌<◌, false, true, List, Contains, length, slice_index_or, take}
+use Rattle.std.specs.Prelude.{◌≡◌, ℕ, Bool, ◌<◌, ◌++◌, false, true, List, Contains, length, slice_index_or, take}
 use Rattle.epoch_draft.specs.declared.marks.Marks.{Marks}
 
 -- the marked numbers are exactly those that are listed, and each is listed once
@@ -8,11 +8,12 @@ pub record AreMarks (marks : Marks) : Type 0 where
   pub flagged : (number : ℕ) → Contains marks.numbers number → slice_index_or marks.flags number false ≡ true
   pub once : (place : ℕ) → place < length marks.numbers → Contains (take place marks.numbers) (slice_index_or marks.numbers place 0) → ⊥
 
--- the same numbers are marked, and maybe more below the same bound
+-- the same numbers are marked, and maybe more below the same bound, which are listed behind them
 pub record MarksMore (old new : Marks) : Type 0 where
   pub are : AreMarks new
   pub as_many : length new.flags ≡ length old.flags
-  pub kept : (number : ℕ) → Contains old.numbers number → Contains new.numbers number
+  pub added : List ℕ
+  pub is : new.numbers ≡ old.numbers ++ added
 
 -- the flags of these numbers are down, and no other was put up
 pub record AreLowered (numbers : List ℕ) (old new : List Bool) : Type 0 where

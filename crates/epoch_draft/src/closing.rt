@@ -1,5 +1,6 @@
 //! The closing of an epoch in two halves.
 ghost use Rattle.std.specs.Prelude.{◌≡◌, ◌+◌, IfOk, OnErr, length};
+ghost use Rattle.epoch_draft.specs.Agenda.{ArePlaces};
 ghost use Rattle.epoch_draft.specs.Closing.{IsClosed};
 ghost use Rattle.epoch_draft.specs.Deriving.{AreOpened, AreReadersOfAll, CanDraw};
 ghost use Rattle.epoch_draft.specs.Purging.{ListsBounded};
@@ -15,13 +16,14 @@ use steps::{Ledger, Steps};
 use stream_readers::{Found, Readers};
 
 /// Closes the epoch of this time: makes all that comes of its open tuples, and then takes the stores over
-/// it. It gives the tuples of the derived streams. `touched` are the streams that have open tuples, and
-/// `bounded` the waiting states whose conditions have a bound on DUR. Want of memory leaves the stores as
-/// they were.
+/// it. It gives the tuples of the derived streams. `places` are the places of the streams in the order of
+/// work, as `places_of` makes them, `touched` the streams that have open tuples, and `bounded` the waiting
+/// states whose conditions have a bound on DUR. Want of memory leaves the stores as they were.
 pub fn close<L: Ledger>(
     alloc: Global,
     network: &Network,
     layout: &Layout,
+    places: &[usize],
     readers: &Readers,
     bounded: &[usize],
     stores: &mut Stores,
@@ -32,6 +34,7 @@ pub fn close<L: Ledger>(
 ) -> Result<Lists, Memory>
     requires can_draw { CanDraw network.now layout.now stores.old opened.now }
     requires readers { AreReadersOfAll network.now layout.now readers.now }
+    requires places { ArePlaces layout.now.order (length layout.now.kinds) places.now }
     requires touched { AreOpened opened.now touched.now }
     requires bounded { ListsBounded network.now (length network.now) bounded.now }
     ensures closed { IfOk result (λ made. IsClosed (time + 1) network.now layout.now opened.now made stores.old stores.new) }
@@ -41,7 +44,7 @@ pub fn close<L: Ledger>(
     let mut pairs = List::new(alloc);
     let mut found = Found::new(alloc);
     draw(
-        alloc, network, layout, readers, stores, opened, touched, &mut found, &mut draft,
+        alloc, network, layout, places, readers, stores, opened, touched, &mut found, &mut draft,
         &mut pairs, steps,
     )?;
     settle(

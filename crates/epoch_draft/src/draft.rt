@@ -2,6 +2,7 @@
 ghost use Rattle.std.specs.Prelude.{◌≡◌, ◌<◌, ◌⊎◌, ◌++◌, ◌∷◌, [], Contains, IfOk, OnOk, ℕ, length, slice_index_or, slice_set};
 ghost use Rattle.std.specs.List.{All};
 ghost use Rattle.epoch_draft.specs.Drafts.{DraftFits, without};
+ghost use Rattle.epoch_draft.specs.Marks.{MarksMore};
 
 use crate::filling::{add, clear_lists, empty_lists};
 use crate::marks::Marks;
@@ -76,6 +77,7 @@ impl Draft {
         requires stream { stream < length self.old.made }
         ensures made { OnOk result (self.new.made ≡ slice_set self.old.made stream (slice_index_or self.old.made stream [] ++ tuple ∷ [])) }
         ensures beads { OnOk result (self.new.beads ≡ self.old.beads) }
+        ensures due { OnOk result (MarksMore self.old.due self.new.due) }
         ensures fits { OnOk result (DraftFits (length self.old.made) (length self.old.beads) self.new) }
     {
         self.due.mark(stream)?;
@@ -102,6 +104,7 @@ impl Draft {
         requires stream { stream < length self.old.made }
         ensures made { OnOk result (self.new.made ≡ slice_set self.old.made stream tuples) }
         ensures beads { OnOk result (self.new.beads ≡ self.old.beads) }
+        ensures due { OnOk result (MarksMore self.old.due self.new.due) }
         ensures fits { OnOk result (DraftFits (length self.old.made) (length self.old.beads) self.new) }
     {
         self.due.mark(stream)?;
@@ -120,6 +123,7 @@ impl Draft {
         requires state { state < length self.old.beads }
         ensures beads { OnOk result (self.new.beads ≡ slice_set self.old.beads state (instance ∷ slice_index_or self.old.beads state [])) }
         ensures made { OnOk result (self.new.made ≡ self.old.made) }
+        ensures due { OnOk result (self.new.due ≡ self.old.due) }
         ensures fits { OnOk result (DraftFits (length self.old.made) (length self.old.beads) self.new) }
     {
         self.reached.mark(state)?;

@@ -4,11 +4,13 @@ ghost use Rattle.std.specs.List.{All};
 ghost use Rattle.automaton.specs.Networks.{IsNetwork};
 ghost use Rattle.stream_readers.specs.Readers.{AreReadersOf};
 ghost use Rattle.epoch_draft.specs.Deriving.{AreOpened, AreReadersOfAll, CanDraw, Derives, DrawnUpTo};
+ghost use Rattle.epoch_draft.specs.Agenda.{ArePlaces};
 ghost use Rattle.epoch_draft.specs.Drafts.{DraftFits, EndsBelow};
 ghost use Rattle.epoch_draft.specs.Held.{held};
 ghost use Rattle.epoch_draft.specs.Suits.{TupleSuits};
 ghost use Rattle.epoch_draft.specs.Tests.{stream_work, streams_work};
 
+use crate::agenda::{Agenda, plan};
 use crate::draft::{Draft, Lists, Pairs};
 use crate::meeting::meet_stream;
 use crate::stores::Stores;
@@ -24,6 +26,7 @@ pub fn draw<L: Ledger>(
     alloc: Global,
     network: &Network,
     layout: &Layout,
+    places: &[usize],
     readers: &Readers,
     stores: &Stores,
     opened: &Lists,
@@ -35,6 +38,7 @@ pub fn draw<L: Ledger>(
 ) -> Result<(), Memory>
     requires can_draw { CanDraw network.now layout.now stores.now opened.now }
     requires readers { AreReadersOfAll network.now layout.now readers.now }
+    requires places { ArePlaces layout.now.order (length layout.now.kinds) places.now }
     requires touched { AreOpened opened.now touched.now }
     requires fits { DraftFits (length layout.now.kinds) (length network.now) draft.old }
     requires none_made { (stream : ℕ) → slice_index_or draft.old.made stream [] ≡ [] }
@@ -47,7 +51,7 @@ pub fn draw<L: Ledger>(
         alloc, network, layout, readers, stores, opened, touched, found, draft, pairs, steps,
     )?;
     derive(
-        alloc, network, layout, readers, stores, opened, found, draft, pairs, steps,
+        alloc, network, layout, places, readers, stores, opened, found, draft, pairs, steps,
     )
 }
 
@@ -97,6 +101,7 @@ fn derive<L: Ledger>(
     alloc: Global,
     network: &Network,
     layout: &Layout,
+    places: &[usize],
     readers: &Readers,
     stores: &Stores,
     opened: &Lists,
@@ -107,17 +112,24 @@ fn derive<L: Ledger>(
 ) -> Result<(), Memory>
     requires can_draw { CanDraw network.now layout.now stores.now opened.now }
     requires readers { AreReadersOfAll network.now layout.now readers.now }
+    requires places { ArePlaces layout.now.order (length layout.now.kinds) places.now }
     requires drawn { DrawnUpTo network.now layout.now stores.now opened.now [] draft.old pairs.old }
     ensures drawn { OnOk result (DrawnUpTo network.now layout.now stores.now opened.now layout.now.order draft.new pairs.new) }
     ensures ticks { OnOk result (steps.new ≤ steps.old + streams_work network.now (held stores.now) draft.new.made layout.now.order) }
 {
-    for stream in layout.order.as_slice() {
-        if !draft.due.is_marked(*stream) {
-            continue;
-        }
+    let end = layout.order.len();
+    let mut agenda = Agenda::new(alloc);
+    let mut next = 0;
+    plan(&mut agenda, places, draft.due.numbers.as_slice(), next, end)?;
+    while let Some(place) = agenda.pop_first() {
+        let stream = *layout.order.get(place);
+        let known = draft.due.numbers.len();
         derive_stream(
-            alloc, network, readers, stores, *stream, found, draft, pairs, steps,
+            alloc, network, readers, stores, stream, found, draft, pairs, steps,
         )?;
+        next = place + 1;
+        let fresh = &draft.due.numbers.as_slice()[known..];
+        plan(&mut agenda, places, fresh, next, end)?;
     }
     Ok(())
 }

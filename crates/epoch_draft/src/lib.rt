@@ -12,6 +12,7 @@
 //! and `settle` say parts, and on those of `draw` at want of memory.
 #![tactic(auto)]
 
+mod agenda;
 mod bounds;
 mod closing;
 mod draft;
@@ -26,6 +27,7 @@ mod purging;
 mod settling;
 mod stores;
 
+pub use agenda::places_of;
 pub use bounds::bounded_states;
 pub use closing::close;
 pub use draft::{Draft, Lists, Pair, Pairs};

@@ -28,16 +28,6 @@ impl Marks {
         })
     }
 
-    /// Takes no memory.
-    pub(crate) fn is_marked(&self, number: usize) -> bool
-        requires marks { AreMarks self.now }
-        requires number { number < length self.now.flags }
-        ensures marked { result ≡ true → Contains self.now.numbers number }
-        ensures unmarked { result ≡ false → Contains self.now.numbers number → ⊥ }
-    {
-        *self.flags.get(number)
-    }
-
     /// Marks a number. After want of memory all that were marked still are.
     pub fn mark(&mut self, number: usize) -> Result<(), Memory>
         requires marks { AreMarks self.old }

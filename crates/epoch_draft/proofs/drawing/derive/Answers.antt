@@ -1,62 +1,109 @@
-use Rattle.std.proofs.Common.{◌≡◌, sym, ap, subst, ℕ, ◌+◌, ◌<◌, ◌≤◌, [], List, length, get_or, arith}
+use Rattle.std.proofs.Common.{◌≡◌, ◌∙◌, sym, ap, refl, subst, ℕ, ◌+◌, ◌-◌, ◌<◌, ◌≤◌, [], List, length, get_or, take, drop, arith}
+use Rattle.std.specs.Prelude.{Contains}
 use Rattle.std.specs.List.{All}
-use Rattle.epoch_draft.specs.Deriving.{Derives}
+use Rattle.std.proofs.lemmas.Option.{get_or_from_slice_get}
+use Rattle.epoch_draft.specs.Agenda.{AreFrom, IsPlanned}
+use Rattle.epoch_draft.specs.Deriving.{Derives, DrawnUpTo}
 use Rattle.epoch_draft.specs.Held.{held}
-use Rattle.std.proofs.lemmas.List.Sums.{sum_by_more}
 use Rattle.epoch_draft.specs.Suits.{TupleSuits}
-use Rattle.epoch_draft.specs.Tests.{stream_work}
-use Rattle.epoch_draft.proofs.DeriveLemmas.{derived_step, derived_work, idle_step, made_suits, unmarked_none}
+use Rattle.epoch_draft.specs.Tests.{stream_work, streams_work}
+use Rattle.epoch_draft.proofs.AgendaLemmas.{ended_until, first_within, fresh_below, fresh_part, planned_next, popped_until, rest_within, work_to}
+use Rattle.epoch_draft.proofs.DeriveLemmas.{below, derived_step, derived_work, made_suits}
+use Rattle.epoch_draft.proofs.MarkLemmas.{all_below}
 use Rattle.epoch_draft.proofs.drawing.derive.Goals as goal
 
--- a stream that isn't due has nothing
-pub loop-stream-preserved-then-not-is_marked : goal.loop-stream-preserved-then-not-is_marked
-loop-stream-preserved-then-not-is_marked g c =
-    let items = c.as_slice-stream-items.result.now in
-    let i = c.loop-stream.stream-index in
-    let same = c.as_slice-stream-items.ensures in
-    let lt : i < length c.args.layout.now.order = subst (λ (xs : List ℕ). i < length xs) same c.loop-stream-test.true in
-    let s_is : get_or items i 0 ≡ get_or c.args.layout.now.order i 0 = ap (λ (xs : List ℕ). get_or xs i 0) same in
-    let draft = c.loop-stream.draft in
-    let was = c.loop-stream.invariant.ticks in
-    let more = sum_by_more (λ s. stream_work c.args.network.now (held c.args.stores.now) s (get_or draft.made s [])) c.args.layout.now.order i 0 lt in
-    record {
-      until =
-          idle_step c.args.network.now c.args.layout.now c.args.stores.now c.args.opened.now c.requires.can_draw i lt draft c.loop-stream.pairs
-          (subst (λ (s : ℕ). get_or draft.made s [] ≡ []) s_is (unmarked_none (get_or draft.made (get_or items i 0) []) draft.due.numbers (get_or items i 0) (c.loop-stream.invariant.until.fits.due_all (get_or items i 0)) (c.is_marked.ensures.unmarked c.if-not-is_marked.true)))
-          c.loop-stream.invariant.until;
-      ticks = omega (arith, was, more);
-    }
+pub plan-requires-clause-below : goal.plan-requires-clause-below
+plan-requires-clause-below g c =
+    let fits = c.requires.drawn.fits in
+    subst (λ (m : ℕ). All (λ n. n < m) c.as_slice.result.now) (fits.due_below ∙ sym c.requires.places.as_many) (all_below c.args.draft.now.due fits.due c.as_slice.result.now c.as_slice.ensures)
+
+pub get-stream-requires : goal.get-stream-requires
+get-stream-requires g c = (first_within c.loop-place.next (length c.args.layout.now.order) c.in-Some.place c.loop-place.agenda.keys c.pop_first.new.self.keys c.in-Some.ensures.removal c.loop-place.invariant.within).1
+
+pub derive_stream-requires-clause-stream : goal.derive_stream-requires-clause-stream
+derive_stream-requires-clause-stream g c =
+    let lt = (first_within c.loop-place.next (length c.args.layout.now.order) c.in-Some.place c.loop-place.agenda.keys c.pop_first.new.self.keys c.in-Some.ensures.removal c.loop-place.invariant.within).1 in
+    let is = get_or_from_slice_get c.args.layout.now.order c.in-Some.place c.get-stream.result.now 0 c.get-stream.ensures in
+    let there = below c.args.network.now c.args.layout.now c.args.stores.now c.args.opened.now c.requires.can_draw c.in-Some.place lt in
+    let room = c.loop-place.invariant.until.fits.made in omega (arith, is, there, room)
 
 pub derive_stream-requires-clause-suits : goal.derive_stream-requires-clause-suits
 derive_stream-requires-clause-suits g c =
-    let items = c.as_slice-stream-items.result.now in
-    let i = c.loop-stream.stream-index in
-    let same = c.as_slice-stream-items.ensures in
-    let lt : i < length c.args.layout.now.order = subst (λ (xs : List ℕ). i < length xs) same c.loop-stream-test.true in
-    let s_is : get_or items i 0 ≡ get_or c.args.layout.now.order i 0 = ap (λ (xs : List ℕ). get_or xs i 0) same in
-    subst (λ (s : ℕ). All (TupleSuits c.args.network.now (held c.args.stores.now) s) (get_or c.loop-stream.draft.made s [])) (sym s_is)
-    (made_suits c.args.network.now c.args.layout.now c.args.stores.now c.args.opened.now c.requires.can_draw i lt c.loop-stream.draft c.loop-stream.pairs c.loop-stream.invariant.until)
-
--- one that is due is met
-pub loop-stream-preserved : goal.loop-stream-preserved
-loop-stream-preserved g c =
-    let items = c.as_slice-stream-items.result.now in
-    let i = c.loop-stream.stream-index in
-    let same = c.as_slice-stream-items.ensures in
-    let lt : i < length c.args.layout.now.order = subst (λ (xs : List ℕ). i < length xs) same c.loop-stream-test.true in
-    let s_is : get_or items i 0 ≡ get_or c.args.layout.now.order i 0 = ap (λ (xs : List ℕ). get_or xs i 0) same in
     let net = c.args.network.now in
-    let stores = held c.args.stores.now in
-    let old = c.loop-stream.draft in
+    let stores = c.args.stores.now in
+    let p = c.in-Some.place in
+    let within = first_within c.loop-place.next (length c.args.layout.now.order) p c.loop-place.agenda.keys c.pop_first.new.self.keys c.in-Some.ensures.removal c.loop-place.invariant.within in
+    let is = get_or_from_slice_get c.args.layout.now.order p c.get-stream.result.now 0 c.get-stream.ensures in
+    subst (λ (s : ℕ). All (TupleSuits net (held stores) s) (get_or c.loop-place.draft.made s [])) is
+    (made_suits net c.args.layout.now stores c.args.opened.now c.requires.can_draw p within.1 c.loop-place.draft c.loop-place.pairs
+    (popped_until net c.args.layout.now stores c.args.opened.now c.requires.can_draw c.loop-place.draft c.loop-place.pairs c.loop-place.next p c.loop-place.agenda.keys c.pop_first.new.self.keys c.loop-place.invariant.planned c.in-Some.ensures.removal
+    c.in-Some.ensures.all_above within.0 within.1 c.loop-place.invariant.until))
+
+pub overflow_add-next : goal.overflow_add-next
+overflow_add-next g c =
+    let lt = (first_within c.loop-place.next (length c.args.layout.now.order) c.in-Some.place c.loop-place.agenda.keys c.pop_first.new.self.keys c.in-Some.ensures.removal c.loop-place.invariant.within).1 in
+    let end = c.len-end.ensures in omega (arith, lt, end)
+
+-- the streams that are newly due are of the layout
+pub plan-requires-in-Some-clause-below : goal.plan-requires-in-Some-clause-below
+plan-requires-in-Some-clause-below g c =
+    let old = c.loop-place.draft.due in
+    let new = c.derive_stream.new.draft.due in
+    let derives = c.in_ok-derive_stream.ensures.derives in
+    let room = derives.fits.due_below ∙ c.loop-place.invariant.until.fits.made ∙ sym c.requires.places.as_many in
+    subst (All (λ n. n < length c.args.places.now)) (sym (fresh_part old new derives.due c.as_slice-in-Some.result.now c.len-known.result c.as_slice-in-Some.ensures c.len-known.ensures)) (fresh_below old new derives.due (length c.args.places.now) room)
+
+pub plan-requires-in-Some-clause-within : goal.plan-requires-in-Some-clause-within
+plan-requires-in-Some-clause-within g c =
+    subst (λ (end : ℕ). AreFrom (c.in-Some.place + 1) end c.pop_first.new.self.keys) (sym c.len-end.ensures)
+    (rest_within c.loop-place.next (length c.args.layout.now.order) c.in-Some.place c.loop-place.agenda.keys c.pop_first.new.self.keys c.in-Some.ensures.removal c.in-Some.ensures.all_above c.loop-place.invariant.within)
+
+pub loop-place-smaller : goal.loop-place-smaller
+loop-place-smaller g c =
+    let within = first_within c.loop-place.next (length c.args.layout.now.order) c.in-Some.place c.loop-place.agenda.keys c.pop_first.new.self.keys c.in-Some.ensures.removal c.loop-place.invariant.within in
+    let from = within.0 in let lt = within.1 in omega (arith, from, lt)
+
+-- one stream more is derived
+pub loop-place-preserved : goal.loop-place-preserved
+loop-place-preserved g c =
+    let net = c.args.network.now in
+    let layout = c.args.layout.now in
+    let stores = c.args.stores.now in
+    let opened = c.args.opened.now in
+    let can = c.requires.can_draw in
+    let p = c.in-Some.place in
+    let keys = c.loop-place.agenda.keys in
+    let rest = c.pop_first.new.self.keys in
+    let old = c.loop-place.draft in
     let new = c.derive_stream.new.draft in
-    let derives = subst (λ (s : ℕ). Derives net stores s old new c.loop-stream.pairs c.derive_stream.new.pairs) s_is c.in_ok-derive_stream.ensures.derives in
-    let was = c.loop-stream.invariant.ticks in
-    let one = subst (λ (s : ℕ). c.derive_stream.new.steps ≤ c.loop-stream.steps + stream_work net stores s (get_or old.made s [])) s_is c.in_ok-derive_stream.ensures.ticks in
-    let more = derived_work net c.args.layout.now c.args.stores.now c.args.opened.now c.requires.can_draw i lt old new c.loop-stream.pairs c.derive_stream.new.pairs c.loop-stream.invariant.until derives in
+    let pairs = c.loop-place.pairs in
+    let more = c.derive_stream.new.pairs in
+    let now = c.plan-in-Some.new.agenda.keys in
+    let removal = c.in-Some.ensures.removal in
+    let within = first_within c.loop-place.next (length layout.order) p keys rest removal c.loop-place.invariant.within in
+    let from = within.0 in
+    let lt = within.1 in
+    let is = get_or_from_slice_get layout.order p c.get-stream.result.now 0 c.get-stream.ensures in
+    let derives = subst (λ (s : ℕ). Derives net (held stores) s old new pairs more) (sym is) c.in_ok-derive_stream.ensures.derives in
+    let until = popped_until net layout stores opened can old pairs c.loop-place.next p keys rest c.loop-place.invariant.planned removal c.in-Some.ensures.all_above from lt c.loop-place.invariant.until in
     record {
-      until =
-          derived_step c.args.network.now c.args.layout.now c.args.stores.now c.args.opened.now c.requires.can_draw i lt c.loop-stream.draft c.derive_stream.new.draft c.loop-stream.pairs c.derive_stream.new.pairs
-          c.loop-stream.invariant.until
-          (subst (λ (s : ℕ). Derives c.args.network.now (held c.args.stores.now) s c.loop-stream.draft c.derive_stream.new.draft c.loop-stream.pairs c.derive_stream.new.pairs) s_is c.in_ok-derive_stream.ensures.derives);
-      ticks = omega (arith, was, one, more);
+      below = omega (arith, lt);
+      until = derived_step net layout stores opened can p lt old new pairs more until derives;
+      ticks =
+          let was = c.loop-place.invariant.ticks in
+          let idle = work_to net stores old.made layout.order c.loop-place.next p from (omega (arith, lt)) in
+          let one = subst (λ (s : ℕ). c.derive_stream.new.steps ≤ c.loop-place.steps + stream_work net (held stores) s (get_or old.made s [])) (sym is) c.in_ok-derive_stream.ensures.ticks in
+          let all = derived_work net layout stores opened can p lt old new pairs more until derives in omega (arith, was, idle, one, all);
+      within = subst (λ (end : ℕ). AreFrom (p + 1) end now) c.len-end.ensures c.in_ok-plan-2.ensures.within;
+      planned =
+          planned_next layout.order (length layout.kinds) c.args.places.now keys rest now old.due.numbers derives.due.added new.due.numbers c.loop-place.next p c.requires.places c.loop-place.invariant.planned from removal c.in_ok-plan-2.ensures.kept
+          derives.due.is
+          (subst (λ (end : ℕ). All (λ s. IsPlanned (p + 1) end now (get_or c.args.places.now s 0)) derives.due.added) c.len-end.ensures
+          (subst (All (λ s. IsPlanned (p + 1) c.len-end.result now (get_or c.args.places.now s 0))) (fresh_part old.due new.due derives.due c.as_slice-in-Some.result.now c.len-known.result c.as_slice-in-Some.ensures c.len-known.ensures)
+          c.in_ok-plan-2.ensures.planned));
     }
+
+pub returns-clause-drawn : goal.returns-clause-drawn
+returns-clause-drawn g c =
+    ended_until c.args.network.now c.args.layout.now c.args.stores.now c.args.opened.now c.requires.can_draw c.loop-place.draft c.loop-place.pairs c.loop-place.next c.loop-place.agenda.keys c.loop-place.invariant.planned
+    (λ some. absurd (let no = c.in_default.ensures.variant.1 some in cc)) c.loop-place.invariant.below c.loop-place.invariant.until

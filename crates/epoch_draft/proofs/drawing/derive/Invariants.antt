@@ -1,12 +1,21 @@
-use Rattle.std.proofs.Common.{◌+◌, ◌≤◌, take}
+use Rattle.std.proofs.Common.{◌+◌, ◌-◌, ◌≤◌, length, take}
+use Rattle.epoch_draft.specs.Agenda.{AreFrom}
 use Rattle.epoch_draft.specs.Deriving.{DrawnUpTo}
 use Rattle.epoch_draft.specs.Held.{held}
 use Rattle.epoch_draft.specs.Tests.{streams_work}
+use Rattle.epoch_draft.proofs.AgendaLemmas.{AllPlanned}
 use Rattle.epoch_draft.proofs.drawing.derive.Given as goal
 
--- the streams so far are derived
-abbrev pub invariant-loop-stream : goal.invariant-loop-stream
-invariant-loop-stream g l = record {
-  until : DrawnUpTo l.network l.layout l.stores l.opened (take l.stream-index l.layout.order) l.draft l.pairs;
-  ticks : l.steps ≤ l.initial.steps + streams_work l.network (held l.stores) l.draft.made (take l.stream-index l.layout.order);
+-- the streams so far are derived, and each later one that is due is planned
+abbrev pub invariant-loop-place : goal.invariant-loop-place
+invariant-loop-place g l = record {
+  below : l.next ≤ length l.layout.order;
+  until : DrawnUpTo l.network l.layout l.stores l.opened (take l.next l.layout.order) l.draft l.pairs;
+  ticks : l.steps ≤ l.initial.steps + streams_work l.network (held l.stores) l.draft.made (take l.next l.layout.order);
+  within : AreFrom l.next (length l.layout.order) l.agenda.keys;
+  planned : AllPlanned l.layout.order l.draft.due.numbers l.next l.agenda.keys;
 }
+
+-- the streams that are left
+abbrev pub decreases-loop-place : goal.decreases-loop-place
+decreases-loop-place g l = length l.layout.order - l.next

@@ -8,12 +8,14 @@ use Rattle.scalar_expr.proofs.Bags.{permuted_from}
 use Rattle.epoch_draft.specs.Deriving.{Derives}
 use Rattle.epoch_draft.specs.Drafts.{DraftFits, Grows, without}
 use Rattle.epoch_draft.specs.Held.{held}
+use Rattle.epoch_draft.specs.Marks.{MarksMore}
 use Rattle.epoch_draft.specs.Meeting.{ListsAll, moves_of_all}
 use Rattle.epoch_draft.specs.Suits.{TupleSuits}
 use Rattle.epoch_draft.specs.Tests.{stream_work, tuple_work}
 use Rattle.epoch_draft.specs.declared.draft.Draft.{Draft}
 use Rattle.epoch_draft.proofs.DeriveLemmas.{sort_permutes, sort_twice}
-use Rattle.epoch_draft.proofs.Lists.{ok_holds, on_ok_three}
+use Rattle.epoch_draft.proofs.Lists.{ok_holds, on_ok_four}
+use Rattle.epoch_draft.proofs.MarkLemmas.{marks_trans}
 use Rattle.epoch_draft.proofs.drawing.derive_stream.Goals as goal
 
 pub meet_stream-requires-clause-suits : goal.meet_stream-requires-clause-suits
@@ -37,9 +39,9 @@ returns-clause-derives g c =
     let grows : Grows net (moves_of_all net stores s tuples) (without old s) met =
     subst (λ (d : Draft). Grows net (moves_of_all net stores s tuples) d met) c.take_made-tuples.ensures.taken
     (subst (λ (ts : List TupleView). Grows net (moves_of_all net stores s ts) c.take_made-tuples.new.self met) c.as_slice.ensures c.in_ok-meet_stream.ensures.grows) in
-    on_ok_three c.put_made.result (new.made ≡ set met.made s tuples) (new.beads ≡ met.beads) (DraftFits (length met.made) (length met.beads) new)
+    on_ok_four c.put_made.result (new.made ≡ set met.made s tuples) (new.beads ≡ met.beads) (MarksMore met.due new.due) (DraftFits (length met.made) (length met.beads) new)
     (Derives net stores s old new c.args.pairs.now c.meet_stream.new.pairs)
-    (λ made beads fits. record {
+    (λ made beads due fits. record {
       tuples = tuples;
       same = permuted_from is (sort_permutes rows);
       ordered = ap sorted is ∙ sort_twice rows ∙ sym is;
@@ -48,8 +50,9 @@ returns-clause-derives g c =
       made = made;
       beads = beads;
       fits = subst (λ (m : ℕ). DraftFits m (length net) new) (grows.fits.made ∙ length-set old.made s []) (subst (λ (m : ℕ). DraftFits (length met.made) m new) grows.fits.beads fits);
+      due = marks_trans old.due met.due new.due grows.due due;
       lists = subst (λ (ts : List TupleView). ListsAll net s ts c.args.pairs.now c.meet_stream.new.pairs) c.as_slice.ensures c.in_ok-meet_stream.ensures.lists;
-    }) c.put_made.ensures.made c.put_made.ensures.beads c.put_made.ensures.fits
+    }) c.put_made.ensures.made c.put_made.ensures.beads c.put_made.ensures.due c.put_made.ensures.fits
 
 pub returns-clause-ticks : goal.returns-clause-ticks
 returns-clause-ticks g c =

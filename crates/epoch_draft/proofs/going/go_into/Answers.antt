@@ -8,7 +8,7 @@ use Rattle.epoch_laws.specs.Instances.{began}
 use Rattle.epoch_draft.specs.Drafts.{DraftFits, Grows}
 use Rattle.epoch_draft.specs.Moves.{moves_on}
 use Rattle.epoch_draft.proofs.DraftLemmas.{into_grows}
-use Rattle.epoch_draft.proofs.Lists.{on_ok_three}
+use Rattle.epoch_draft.proofs.Lists.{on_ok_four}
 use Rattle.epoch_draft.proofs.GoingLemmas.{used_below}
 use Rattle.epoch_draft.proofs.going.go_into.Goals as goal
 
@@ -22,7 +22,7 @@ returns-in-Some-clause-grows g c =
     let first = c.args.first in
     let y = c.in-Some.passed in
     let passes : pass (step_at net w) x ≡ Some y = ap (λ (step : List Stage). pass step x) (sym (c.as_slice.ensures ∙ c.step.ensures)) ∙ sym c.in_ok-passed.ensures.value ∙ c.in-Some.is in
-    on_ok_three c.add_bead.result (new.beads ≡ set old.beads w (began first y ∷ get_or old.beads w [])) (new.made ≡ old.made) (DraftFits (length old.made) (length old.beads) new)
+    on_ok_four c.add_bead.result (new.beads ≡ set old.beads w (began first y ∷ get_or old.beads w [])) (new.made ≡ old.made) (new.due ≡ old.due) (DraftFits (length old.made) (length old.beads) new)
     (Grows net (moves_on (Into w ∷ []) (began first x)) old new)
-    (λ beads made fits. into_grows net old new w (began first x) y (subst (λ (m : ℕ). w < m) (sym c.requires.fits.beads) (used_below net w c.requires.used)) passes c.requires.fits.beads beads made fits)
-    c.add_bead.ensures.beads c.add_bead.ensures.made c.add_bead.ensures.fits
+    (λ beads made due fits. into_grows net old new w (began first x) y (subst (λ (m : ℕ). w < m) (sym c.requires.fits.beads) (used_below net w c.requires.used)) passes c.requires.fits.beads beads made due fits)
+    c.add_bead.ensures.beads c.add_bead.ensures.made c.add_bead.ensures.due c.add_bead.ensures.fits

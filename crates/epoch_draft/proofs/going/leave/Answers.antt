@@ -9,7 +9,7 @@ use Rattle.epoch_draft.specs.Drafts.{DraftFits, Grows}
 use Rattle.epoch_draft.specs.Moves.{moves_on}
 use Rattle.epoch_draft.specs.Suits.{StepSuits}
 use Rattle.epoch_draft.proofs.DraftLemmas.{back_grows, grows_none}
-use Rattle.epoch_draft.proofs.Lists.{on_ok_three}
+use Rattle.epoch_draft.proofs.Lists.{on_ok_four}
 use Rattle.stream_readers.proofs.TargetLemmas.{edges_used}
 use Rattle.epoch_draft.proofs.GoingLemmas.{into_suits, left_all, out_suits, used_below}
 use Rattle.epoch_draft.proofs.going.leave.Goals as goal
@@ -38,13 +38,13 @@ returns-in-Some-clause-grows g c =
     let into = subst (λ (ks : List ℕ). Grows net (moves_on (map Into ks) x) c.args.draft.now one) (c.as_slice.ensures ∙ c.edges.ensures) c.in_ok-go_into_all.ensures.grows in
     let out = subst (λ (es : List End). Grows net (moves_on (map Out es) x) one mid) (c.as_slice-2.ensures ∙ c.ends.ensures) c.in_ok-go_out_all.ensures.grows in
     let many : length mid.beads ≡ length net = out.fits.beads in
-    on_ok_three c.add_bead.result (new.beads ≡ set mid.beads n (x ∷ get_or mid.beads n [])) (new.made ≡ mid.made) (DraftFits (length mid.made) (length mid.beads) new)
+    on_ok_four c.add_bead.result (new.beads ≡ set mid.beads n (x ∷ get_or mid.beads n [])) (new.made ≡ mid.made) (new.due ≡ mid.due) (DraftFits (length mid.made) (length mid.beads) new)
     (Grows net (moves_on (ways_at net n) x) c.args.draft.now new)
-    (λ beads made fits.
+    (λ beads made due fits.
     left_all net n wait x c.args.draft.now one mid new c.requires.wait into out
     (subst (λ (o : Option Turn). Grows net (moves_on (backs_in n o) x) mid new) (sym c.in-Some.is)
-    (back_grows net mid new n x (subst (λ (m : ℕ). n < m) (sym many) (used_below net n c.requires.used)) many beads made fits)))
-    c.add_bead.ensures.beads c.add_bead.ensures.made c.add_bead.ensures.fits
+    (back_grows net mid new n x (subst (λ (m : ℕ). n < m) (sym many) (used_below net n c.requires.used)) many beads made due fits)))
+    c.add_bead.ensures.beads c.add_bead.ensures.made c.add_bead.ensures.due c.add_bead.ensures.fits
 
 pub returns-in-None-clause-grows : goal.returns-in-None-clause-grows
 returns-in-None-clause-grows g c =

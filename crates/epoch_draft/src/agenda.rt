@@ -1,0 +1,63 @@
+//! The places of streams in the order of work, and those that are to come.
+ghost use Rattle.std.specs.Prelude.{◌≡◌, ◌<◌, ℕ, Contains, IfOk, OnOk, length, slice_index_or, take};
+ghost use Rattle.std.specs.List.{All};
+ghost use Rattle.std.specs.Ordering.{nat_cmp};
+ghost use Rattle.std.specs.BTreeSet.{insert_key};
+ghost use Rattle.epoch_draft.specs.Agenda.{AreFrom, ArePlaces, IsPlanned};
+
+use crate::filling::filled;
+use event_types::{Memory, Numbers, StreamId};
+use std::alloc::Global;
+use std::collections::BTreeSet;
+
+/// Places in the order of work, each once.
+pub(crate) type Agenda = BTreeSet<usize>;
+
+/// The place of each of so many streams in an order of work, by the stream's number, counted from 0. A
+/// stream that isn't of the order has the order's length.
+pub fn places_of(alloc: Global, order: &[StreamId], streams: usize) -> Result<Numbers, Memory>
+    requires below { All (λ stream. stream < streams) order.now }
+    requires once { (place : ℕ) → place < length order.now → Contains (take place order.now) (slice_index_or order.now place 0) → ⊥ }
+    ensures { IfOk result (ArePlaces order.now streams) }
+{
+    let mut places = filled(alloc, streams, order.len())?;
+    for (place, stream) in order.iter().enumerate() {
+        *places.get_mut(*stream) = place;
+    }
+    Ok(places)
+}
+
+/// Puts the places of these streams on the agenda, as far as they are from `start` on and below `end`.
+/// After want of memory the agenda is of no more use.
+pub(crate) fn plan(
+    agenda: &mut Agenda,
+    places: &[usize],
+    due: &[StreamId],
+    start: usize,
+    end: usize,
+) -> Result<(), Memory>
+    requires below { All (λ stream. stream < length places.now) due.now }
+    requires within { AreFrom start end agenda.old.keys }
+    ensures within { OnOk result (AreFrom start end agenda.new.keys) }
+    ensures kept { OnOk result (All (Contains agenda.new.keys) agenda.old.keys) }
+    ensures planned { OnOk result (All (λ stream. IsPlanned start end agenda.new.keys (slice_index_or places.now stream 0)) due.now) }
+{
+    for stream in due {
+        let place = places[*stream];
+        if place < start || place >= end {
+            continue;
+        }
+        note(agenda, place)?;
+    }
+    Ok(())
+}
+
+// Puts a place on the agenda.
+fn note(agenda: &mut Agenda, place: usize) -> Result<(), Memory>
+    ensures { OnOk result (agenda.new.keys ≡ insert_key nat_cmp agenda.old.keys place) }
+{
+    match agenda.insert(place) {
+        Ok(_added) => Ok(()),
+        Err(_) => Err(Memory),
+    }
+}
