@@ -1,11 +1,10 @@
-use Rattle.std.proofs.Common.{◌<◌, ◌≤◌, sym, subst, ℕ, List, get_or, take, inl, inr, arith}
+use Rattle.std.proofs.Common.{◌<◌, ◌≤◌, sym, subst, ℕ, List, get_or, take, arith}
 use Rattle.std.specs.Prelude.{Contains}
 use Rattle.std.specs.Ordering.{nat_cmp}
-use Rattle.std.specs.BTreeSet.{insert_key}
 use Rattle.std.specs.List.{All}
 use Rattle.std.proofs.lemmas.List.Elements.{All-contains_itself, All-nil, All-weaker}
 use Rattle.std.proofs.lemmas.Map.Views.{All-insert_key}
-use Rattle.epoch_draft.specs.Agenda.{AreFrom, IsPlanned}
+use Rattle.epoch_draft.specs.Agenda.{IsPlanned}
 use Rattle.epoch_draft.proofs.AgendaLemmas.{contains_inserted, inserted_keeps, planned_kept, planned_more}
 use Rattle.epoch_draft.proofs.Lists.{taken_all}
 use Rattle.epoch_draft.proofs.agenda.plan.Goals.{then-place-start-via-then-place-start, then-place-start-via-else-place-start+then-place-end}

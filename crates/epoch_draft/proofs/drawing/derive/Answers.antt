@@ -1,12 +1,11 @@
-use Rattle.std.proofs.Common.{◌≡◌, ◌∙◌, sym, ap, refl, subst, ℕ, ◌+◌, ◌-◌, ◌<◌, ◌≤◌, [], List, length, get_or, take, drop, arith}
-use Rattle.std.specs.Prelude.{Contains}
+use Rattle.std.proofs.Common.{◌∙◌, sym, subst, ℕ, ◌+◌, ◌<◌, ◌≤◌, [], length, get_or, arith}
 use Rattle.std.specs.List.{All}
 use Rattle.std.proofs.lemmas.Option.{get_or_from_slice_get}
 use Rattle.epoch_draft.specs.Agenda.{AreFrom, IsPlanned}
-use Rattle.epoch_draft.specs.Deriving.{Derives, DrawnUpTo}
+use Rattle.epoch_draft.specs.Deriving.{Derives}
 use Rattle.epoch_draft.specs.Held.{held}
 use Rattle.epoch_draft.specs.Suits.{TupleSuits}
-use Rattle.epoch_draft.specs.Tests.{stream_work, streams_work}
+use Rattle.epoch_draft.specs.Tests.{stream_work}
 use Rattle.epoch_draft.proofs.AgendaLemmas.{ended_until, first_within, fresh_below, fresh_part, planned_next, popped_until, rest_within, work_to}
 use Rattle.epoch_draft.proofs.DeriveLemmas.{below, derived_step, derived_work, made_suits}
 use Rattle.epoch_draft.proofs.MarkLemmas.{all_below}
