@@ -1,11 +1,11 @@
 -- Engines that are made, take a tuple and close an epoch.
-use Rattle.std.proofs.Common.{◌≡◌, ◌∙◌, sym, ap, refl, subst, inl, inr, ℕ, zero, suc, ◌==◌, ◌<◌, ◌⊎◌, Bool, true, false, ◌||◌, length, get_or, set, List, [], ◌∷◌, ◌++◌, map, arith}
+use Rattle.std.proofs.Common.{◌≡◌, ◌∙◌, sym, ap, refl, subst, inl, inr, ℕ, zero, suc, ◌==◌, ◌<◌, ◌⊎◌, Bool, true, false, ◌||◌, length, get_or, set, take, drop, drop-cons, List, [], ◌∷◌, ◌++◌, map, arith}
 use Rattle.std.specs.Prelude.{Contains, IfSome, IsSome, IsTrue, Option, Some, None, slice_get}
 use Rattle.std.specs.Option.{option_map, unwrap_or}
 use Rattle.std.specs.List.{All, list_any}
 use Rattle.std.proofs.lemmas.Bool.Decides.{nat_tests}
 use Rattle.std.proofs.lemmas.Grind.{get_or-set_at}
-use Rattle.std.proofs.lemmas.List.{get_or-set_other, length-set, set-get_or}
+use Rattle.std.proofs.lemmas.List.{get_or-set_other, length-set, set-get_or, take-append-drop}
 use Rattle.std.proofs.lemmas.List.Elements.{All-cons, All-head, All-nil, All-push, All-tail, All-weaker}
 use Rattle.std.proofs.lemmas.Option.{get_or_from_slice_get, slice_get_within}
 use Rattle.event_types.specs.declared.kind.Kind.{Kind}
@@ -18,7 +18,7 @@ use Rattle.automaton.specs.LineKinds.{LineFits}
 use Rattle.automaton.specs.NetworkLines.{NetworkFits}
 use Rattle.automaton.specs.Networks.{IsNetwork}
 use Rattle.automaton.specs.States.{Net, ends_at, state_at, wait_at}
-use Rattle.automaton.specs.Work.{is_in}
+use Rattle.automaton.specs.Work.{IsInOrder, is_in}
 use Rattle.automaton.specs.declared.layout.Layout.{Layout}
 use Rattle.automaton.specs.declared.line.Line.{Line}
 use Rattle.automaton.specs.declared.network.End.{End}
@@ -34,6 +34,7 @@ use Rattle.epoch_draft.specs.Marks.{MarksMore}
 use Rattle.epoch_draft.specs.Stores.{AreNewStores, IsNewIn}
 use Rattle.epoch_draft.specs.Typed.{HaveKinds, IsStoreOf, IsTyped}
 use Rattle.epoch_draft.specs.declared.marks.Marks.{Marks}
+use Rattle.epoch_draft.proofs.DeriveLemmas.{in_contains, not_done}
 use Rattle.epoch_draft.proofs.Lists.{same_or_other}
 use Rattle.epoch_draft.proofs.MarkLemmas.{all_below}
 use Rattle.epoch_draft.proofs.StateLemmas.{some_is}
@@ -87,8 +88,24 @@ member_below m (n ∷ order) all s h = go (s == n) refl h (member_below m order 
     go false e h rest = rest h
 
 -- derived streams have kinds
-order_below : (net : Net) (layout : Layout) → NetworkFits net layout → All (λ s. s < length layout.kinds) layout.order
+pub order_below : (net : Net) (layout : Layout) → NetworkFits net layout → All (λ s. s < length layout.kinds) layout.order
 order_below net layout fits = All-weaker (λ s. IsTrue (list_any (λ (l : Line). l.out == s) fits.0)) (λ s. s < length layout.kinds) (λ s h. out_below layout.kinds fits.0 fits.2.typed s h) layout.order fits.2.only_outs
+
+-- no stream stands twice in the order of work
+pub order_once : (net : Net) (layout : Layout) → NetworkFits net layout → (place : ℕ) → place < length layout.order → Contains (take place layout.order) (get_or layout.order place 0) → ⊥
+order_once net layout fits place less has = true_false (sym (in_contains done stream has) ∙ not_done fits.0 done stream (drop (suc place) layout.order) (subst (IsInOrder fits.0) split fits.2.in_order))
+  where
+    done : List ℕ
+    done = take place layout.order
+
+    stream : ℕ
+    stream = get_or layout.order place 0
+
+    split : layout.order ≡ done ++ (stream ∷ drop (suc place) layout.order)
+    split = sym (take-append-drop place layout.order) ∙ ap (λ xs. take place layout.order ++ xs) (drop-cons layout.order place 0 less)
+
+    true_false : true ≡ false → ⊥
+    true_false e = cc
 
 -- streams that are printed are among the derived ones, which have kinds
 pub printed_below : (bound : ℕ) (order outs : List ℕ) → All (λ s. s < bound) order → All (λ s. IsTrue (is_in order s)) outs → All (λ s. s < bound) outs

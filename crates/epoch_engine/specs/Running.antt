@@ -4,6 +4,7 @@ use Rattle.std.specs.List.{All}
 use Rattle.event_types.specs.Tuple.{TupleView}
 use Rattle.instances.specs.Plain.{Plain}
 use Rattle.automaton.specs.Work.{is_in}
+use Rattle.epoch_draft.specs.Agenda.{ArePlaces}
 use Rattle.epoch_draft.specs.Deriving.{AreReadersOfAll, CanDraw}
 use Rattle.epoch_draft.specs.Drafts.{DraftFits}
 use Rattle.epoch_draft.specs.Marks.{AreMarks}
@@ -13,9 +14,10 @@ use Rattle.epoch_engine.specs.declared.drawing.Drawing.{Drawing}
 use Rattle.epoch_engine.specs.declared.epoch.Epoch.{Epoch}
 use Rattle.epoch_engine.specs.declared.plan.Plan.{Plan}
 
--- the readers are the network's, the waiting states whose conditions have bounds are listed, all printed streams are derived, and each stream with kinds has a last place
+-- the readers are the network's, each stream has its place in the order of work, the waiting states whose conditions have bounds are listed, all printed streams are derived, and each stream with kinds has a last place
 pub record IsPlan (plan : Plan) : Type 0 where
   pub readers : AreReadersOfAll plan.merged plan.layout plan.readers
+  pub places : ArePlaces plan.layout.order (length plan.layout.kinds) plan.places
   pub bounded : ListsBounded plan.merged (length plan.merged) plan.bounded
   pub printed : All (λ stream. IsTrue (is_in plan.layout.order stream)) plan.layout.outs
   pub last : length plan.last ≡ length plan.layout.kinds

@@ -54,6 +54,7 @@ fn draw_epoch<L: Ledger>(
         alloc,
         plan.merged.network(),
         &plan.layout,
+        plan.places.as_slice(),
         &plan.readers,
         stores,
         &epoch.tuples,

@@ -5,19 +5,21 @@ ghost use Rattle.automaton.specs.NetworkLines.{NetworkFits};
 ghost use Rattle.epoch_engine.specs.Running.{IsPlan};
 
 use automaton::Layout;
-use epoch_draft::{bounded_states, filled};
+use epoch_draft::{bounded_states, filled, places_of};
 use event_types::{Memory, Numbers};
 use prefix_merge::Merged;
 use std::alloc::Global;
 use stream_readers::Readers;
 
-/// A merged network and its layout, what reads each stream, the numbers of the waiting states whose conditions have bounds on DUR,
-/// and for each stream the last place at which it is printed, counted from 0. No closing changes it.
+/// A merged network and its layout, what reads each stream and its place in the order of work, the numbers of the
+/// waiting states whose conditions have bounds on DUR, and for each stream the last place at which it is printed;
+/// places are counted from 0. No closing changes it.
 #[derive(Drop)]
 pub struct Plan {
     pub merged: Merged,
     pub layout: Layout,
     pub readers: Readers,
+    pub places: Numbers,
     pub bounded: Numbers,
     pub last: Numbers,
 }
@@ -31,12 +33,14 @@ impl Plan {
         ensures is { IfOk result IsPlan }
     {
         let readers = Readers::make(alloc, merged.network(), layout.kinds.len())?;
+        let places = places_of(alloc, layout.order.as_slice(), layout.kinds.len())?;
         let bounded = bounded_states(alloc, merged.network())?;
         let last = last_places(alloc, &layout.outs, layout.kinds.len())?;
         Ok(Plan {
             merged,
             layout,
             readers,
+            places,
             bounded,
             last,
         })
