@@ -126,6 +126,24 @@ module _ (key : Option Key) (choose : List Pr) (of : IsKeyOf key choose) where
       go true e = ap (λ m. m && true) (eligible_matches key choose r i.tuple of e)
       go false e = and-false (key_matches key r i.tuple)
 
+  -- what a tuple leaves is what it isn't eligible for, whatever the key
+  pub unmatched_is : (r : TupleView) (store : List Instance) → unmatched key choose r store ≡ filter (λ i. not (is_eligible choose i.tuple r)) store
+  unmatched_is r store = filter_agree (λ i. not (is_matched key choose r i)) (λ i. not (is_eligible choose i.tuple r)) (λ i. ap not (matched_is r i)) store
+
+  -- where nothing comes of an instance for which a tuple isn't eligible, the candidates give what the whole store does
+  pub candidates_give : {Y : Type 0} (give : Instance → List Y) (r : TupleView) → ((i : Instance) → is_eligible choose i.tuple r ≡ false → give i ≡ []) → (store : List Instance) → flat_map give (candidates_of key r store) ≡ flat_map give store
+  candidates_give {Y} give r none store = sym (looked key refl)
+    where
+      looked : (k : Option Key) → key ≡ k → flat_map give store ≡ flat_map give (candidates_of k r store)
+      looked None is = refl
+      looked (Some k) is =
+          flat_map-filter (λ i. key_matches (Some k) r i.tuple) (λ _. Unit {0}) give give (λ i _ _. refl)
+          (λ i _ e. unmet i (ap (λ k. key_matches k r i.tuple) is ∙ e) (is_eligible choose i.tuple r) refl) store (λ _ _ _. tt)
+        where
+          unmet : (i : Instance) → key_matches key r i.tuple ≡ false → (t : Bool) → is_eligible choose i.tuple r ≡ t → give i ≡ []
+          unmet i e true f = let no : true ≡ false = sym (eligible_matches key choose r i.tuple of f) ∙ e in absurd (cc)
+          unmet i e false f = none i f
+
   one_unmet : (r : TupleView) (rs : List TupleView) (i : Instance) → (not (is_matched key choose r i) && is_unmet choose rs i.tuple) ≡ is_unmet choose (r ∷ rs) i.tuple
   one_unmet r rs i = ap (λ m. not m && is_unmet choose rs i.tuple) (matched_is r i) ∙ go (is_eligible choose i.tuple r)
     where
@@ -159,20 +177,6 @@ module _ (key : Option Key) (choose : List Pr) (of : IsKeyOf key choose) where
         go : (turn : Option Turn) → taken choose turn (r ∷ []) b ≡ []
         go None = ap (map (joined b)) none
         go (Some t) = ap (λ rs. map (rebound t.set.parts b) (filter (λ r. all_true t.on r (Some b)) rs)) none
-
-    -- so the candidates give what the whole store does
-    candidates_give : (r : TupleView) (store : List Instance) → flat_map (one r) (candidates_of key r store) ≡ flat_map (one r) store
-    candidates_give r store = sym (looked key refl)
-      where
-        looked : (k : Option Key) → key ≡ k → flat_map (one r) store ≡ flat_map (one r) (candidates_of k r store)
-        looked None is = refl
-        looked (Some k) is =
-            flat_map-filter (λ i. key_matches (Some k) r i.tuple) (λ _. Unit {0}) (one r) (one r) (λ i _ _. refl)
-            (λ i _ e. unmet i (ap (λ k. key_matches k r i.tuple) is ∙ e) (is_eligible choose i.tuple r) refl) store (λ _ _ _. tt)
-          where
-            unmet : (i : Instance) → key_matches key r i.tuple ≡ false → (t : Bool) → is_eligible choose i.tuple r ≡ t → one r i ≡ []
-            unmet i e true f = let no : true ≡ false = sym (eligible_matches key choose r i.tuple of f) ∙ e in absurd (cc)
-            unmet i e false f = ap (map (began i.first)) (none_taken r i.tuple f)
 
     -- tuple by tuple, for one binding
     taken_each : (rs : List TupleView) (b : TupleView) → flat_map (λ r. taken choose turn (r ∷ []) b) rs ≡ taken choose turn rs b
@@ -212,6 +216,6 @@ module _ (key : Option Key) (choose : List Pr) (of : IsKeyOf key choose) where
     -- what each tuple finds among its candidates
     pub found_is_took : (rs : List TupleView) (store : List Instance) → IsPermutation (found key choose turn rs store) (took choose turn rs store)
     found_is_took rs store =
-        permuted_from (flat_map_same (λ r. flat_map (one r) (candidates_of key r store)) (λ r. flat_map (one r) store) rs (every (λ r. flat_map (one r) (candidates_of key r store) ≡ flat_map (one r) store) (λ r. candidates_give r store) rs))
+        permuted_from (flat_map_same (λ r. flat_map (one r) (candidates_of key r store)) (λ r. flat_map (one r) store) rs (every (λ r. flat_map (one r) (candidates_of key r store) ≡ flat_map (one r) store) (λ r. candidates_give (one r) r (λ i e. ap (map (began i.first)) (none_taken r i.tuple e)) store) rs))
         (permuted_to (exchange rs store)
         (flat_map_same (λ i. flat_map (λ r. one r i) rs) (taken_from choose turn rs) store (every (λ (i : Instance). flat_map (λ r. one r i) rs ≡ taken_from choose turn rs i) (one_each rs) store)))
