@@ -19,7 +19,7 @@ use Rattle.event_types.specs.Order.{put, sorted, tuple_cmp}
 use Rattle.event_types.specs.OrderLaws.{tuple_exact, tuple_total}
 use Rattle.event_types.specs.Tuple.{TupleView}
 use Rattle.event_types.proofs.SortLemmas.{sort_permuted}
-use Rattle.instances.specs.Plain.{Plain}
+use Rattle.binding_index.specs.declared.store.Store.{Store}
 use Rattle.instances.specs.declared.instance.Instance.{Instance}
 use Rattle.semantics.specs.Denotation.{Streams, streams_of}
 use Rattle.semantics.specs.Kinds.{HasKinds}
@@ -130,7 +130,7 @@ pub sort_twice : (xs : List TupleView) → sorted (sorted xs) ≡ sorted xs
 sort_twice xs = sort_permuted tuple_cmp tuple_total tuple_exact (sorted xs) xs (sort_permutes xs)
 
 -- tuples of a stream's kinds are suited
-pub rows_suit : (net : Net) → IsNetwork net → (kinds : List (List Kind)) (stores : List (Option Plain)) → IsTyped net kinds stores → (s : ℕ) → s < length kinds → (rows : List TupleView) → ((known : List Kind) → slice_get kinds s ≡ Some known → All (HasKinds known) rows)
+pub rows_suit : (net : Net) → IsNetwork net → (kinds : List (List Kind)) (stores : List (Option Store)) → IsTyped net kinds stores → (s : ℕ) → s < length kinds → (rows : List TupleView) → ((known : List Kind) → slice_get kinds s ≡ Some known → All (HasKinds known) rows)
     → All (TupleSuits net (held stores) s) rows
 rows_suit net network kinds stores typed s lt rows have =
     let known = get_or kinds s [] in
@@ -200,7 +200,7 @@ opened_more net stores opened touched i old new pairs more network lt once drawn
     later = opened_step opened (take i touched) s ∙ ap (opened_of opened) (sym (take_more touched i 0 lt))
 
 -- once all are
-pub opened_drawn : (net : Net) (layout : Layout) (stores : List (Option Plain)) (opened : List (List TupleView)) (touched : List ℕ) (draft : Draft) (pairs : List Pair) → CanDraw net layout stores opened → AreOpened opened touched
+pub opened_drawn : (net : Net) (layout : Layout) (stores : List (Option Store)) (opened : List (List TupleView)) (touched : List ℕ) (draft : Draft) (pairs : List Pair) → CanDraw net layout stores opened → AreOpened opened touched
     → DraftFits (length layout.kinds) (length net) draft → Drawn net (held stores) (opened_of opened touched) draft → Paired net (opened_of opened touched) pairs → DrawnUpTo net layout stores opened [] draft pairs
 opened_drawn net layout stores opened touched draft pairs can are fits drawn paired = record {
   fits = fits;
@@ -231,7 +231,7 @@ same_sums f g (x ∷ xs) all =
     let more = same_sums f g xs (All-tail (λ x. f x ≡ g x) x xs all) in
     sum_by-cons f x xs ∙ (λ k. one k + more k) ∙ sym (sum_by-cons g x xs)
 
-module _ (net : Net) (layout : Layout) (stores : List (Option Plain)) (opened : List (List TupleView)) (can : CanDraw net layout stores opened) (i : ℕ) (lt : i < length layout.order) where
+module _ (net : Net) (layout : Layout) (stores : List (Option Store)) (opened : List (List TupleView)) (can : CanDraw net layout stores opened) (i : ℕ) (lt : i < length layout.order) where
   abbrev order : List ℕ
   order = layout.order
 

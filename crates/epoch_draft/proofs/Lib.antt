@@ -8,6 +8,7 @@ pub mod DraftLemmas
 pub mod DrawnLemmas
 pub mod EdgeLemmas
 pub mod GoingLemmas
+pub mod KeyLemmas
 pub mod Lists
 pub mod MarkLemmas
 pub mod MeetLemmas
@@ -15,8 +16,10 @@ pub mod Moves
 pub mod PairLemmas
 pub mod Pairs
 pub mod PurgeLemmas
+pub mod ReadyLemmas
 pub mod SettleLemmas
 pub mod StateLemmas
+pub mod StoreLemmas
 pub mod SuitLemmas
 pub mod TypedLemmas
 pub mod TypingLemmas

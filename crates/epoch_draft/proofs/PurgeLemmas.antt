@@ -8,27 +8,28 @@ use Rattle.semantics.proofs.ReportLemmas.{filter_all}
 use Rattle.semantics.specs.Scalars.{Pr}
 use Rattle.instances.specs.Alive.{is_alive}
 use Rattle.instances.specs.Bounds.{alive_instances}
-use Rattle.instances.specs.Plain.{Plain}
+use Rattle.binding_index.specs.Stores.{condition_of, instances_of, key_of}
+use Rattle.binding_index.specs.declared.store.Store.{Store}
 use Rattle.instances.specs.declared.instance.Instance.{Instance}
 use Rattle.automaton.specs.States.{Net, wait_at}
 use Rattle.automaton.specs.declared.network.Entrance.TheVariants.{Waiting}
 use Rattle.automaton.specs.declared.wait.Wait.{Wait}
-use Rattle.epoch_draft.specs.Held.{SameShapes, held, instances_in, shape_of}
+use Rattle.epoch_draft.specs.Held.{SameShapes, Shape, held, instances_in, shape_of}
 use Rattle.epoch_draft.specs.Purging.{AreAllPurged, ArePurgedIn, IsPurgedAt, alive_in}
 use Rattle.epoch_draft.proofs.DrawnLemmas.{entry_below}
 use Rattle.epoch_draft.proofs.Lists.{below_or_last, contains_more, contains_or_not, contains_this, more_contains, same_or_other}
 use Rattle.epoch_draft.proofs.StateLemmas.{at_wait, wait_entry}
 
 -- stores have their own shapes
-pub shapes_same : (stores : List (Option Plain)) → SameShapes stores stores
+pub shapes_same : (stores : List (Option Store)) → SameShapes stores stores
 shapes_same stores = record { as_many = refl; shapes = λ n. refl }
 
 -- the shapes of a third are those of the first
-pub shapes_trans : (old mid new : List (Option Plain)) → SameShapes old mid → SameShapes mid new → SameShapes old new
+pub shapes_trans : (old mid new : List (Option Store)) → SameShapes old mid → SameShapes mid new → SameShapes old new
 shapes_trans old mid new one two = record { as_many = two.as_many ∙ one.as_many; shapes = λ n. two.shapes n ∙ one.shapes n }
 
 -- one store was written over by one of its shape
-pub shapes_set : (stores : List (Option Plain)) (n : ℕ) (slot : Option Plain) → n < length stores → shape_of slot ≡ shape_of (get_or stores n None) → SameShapes stores (set stores n slot)
+pub shapes_set : (stores : List (Option Store)) (n : ℕ) (slot : Option Store) → n < length stores → shape_of slot ≡ shape_of (get_or stores n None) → SameShapes stores (set stores n slot)
 shapes_set stores n slot below shape = record { as_many = length-set stores n slot; shapes = λ m. go m (same_or_other m n) }
   where
     go : (m : ℕ) → (m ≡ n) ⊎ (m ≡ n → ⊥) → shape_of (get_or (set stores n slot) m None) ≡ shape_of (get_or stores m None)
@@ -40,19 +41,22 @@ pub alive_twice : (time : ℕ) (choose : List Pr) (store : List Instance) → al
 alive_twice time choose store =
     filter_all (λ (i : Instance). is_alive time choose i.tuple) (alive_instances time choose store) (filter_passes (λ (i : Instance). is_alive time choose i.tuple) store)
 
-some_is : (x y : List Pr) → Some x ≡ Some y → x ≡ y
+some_is : (x y : Shape) → Some x ≡ Some y → x ≡ y
 some_is x y e = cc
 
 -- a store that was purged is the same once purged again
-pub purged_twice : (time : ℕ) (old new : Option Plain) → shape_of new ≡ shape_of old → instances_in new ≡ alive_in time old → alive_in time new ≡ alive_in time old
+pub purged_twice : (time : ℕ) (old new : Option Store) → shape_of new ≡ shape_of old → instances_in new ≡ alive_in time old → alive_in time new ≡ alive_in time old
 purged_twice time None None shape is = refl
 purged_twice time None (Some store) shape is = absurd (cc)
 purged_twice time (Some store) None shape is = absurd (cc)
-purged_twice time (Some old) (Some new) shape is =
-    ap (λ choose. alive_instances time choose new.instances) (some_is new.condition old.condition shape) ∙ ap (alive_instances time old.condition) is ∙ alive_twice time old.condition old.instances
+purged_twice time (Some old) (Some new) same is =
+    ap (λ (s : Shape). alive_instances time s.condition (instances_of new)) (some_is (shape new) (shape old) same) ∙ ap (alive_instances time (condition_of old)) is ∙ alive_twice time (condition_of old) (instances_of old)
+  where
+    shape : Store → Shape
+    shape store = record { condition = condition_of store; key = key_of store }
 
 -- one store more is purged
-pub purge_more : (time : ℕ) (numbers : List ℕ) (i : ℕ) (first old : List (Option Plain)) (slot : Option Plain) → i < length numbers → get_or numbers i 0 < length first
+pub purge_more : (time : ℕ) (numbers : List ℕ) (i : ℕ) (first old : List (Option Store)) (slot : Option Store) → i < length numbers → get_or numbers i 0 < length first
     → instances_in slot ≡ alive_in time (get_or old (get_or numbers i 0) None) → shape_of slot ≡ shape_of (get_or old (get_or numbers i 0) None)
     → ArePurgedIn (take i numbers) time first old → ArePurgedIn (take (i + 1) numbers) time first (set old (get_or numbers i 0) slot)
 purge_more time numbers i first old slot lt below is shape h = record {
@@ -82,17 +86,17 @@ purge_more time numbers i first old slot lt below is shape h = record {
     others k absent (inr other) = get_or-set_other old n k slot None other ∙ h.others k (λ c. absent (contains_more numbers i 0 k lt c))
 
 -- the stores of the waiting states below a number were purged
-pub record ArePurgedBelow (net : Net) (bound time : ℕ) (old new : List (Option Plain)) : Type 0 where
+pub record ArePurgedBelow (net : Net) (bound time : ℕ) (old new : List (Option Store)) : Type 0 where
   pub same : SameShapes old new
   pub purged : (n : ℕ) (w : Wait) → n < bound → wait_at net n ≡ Some w → held new n ≡ alive_in time (get_or old n None)
   pub others : (n : ℕ) → (n < bound → wait_at net n ≡ None) → get_or new n None ≡ get_or old n None
 
 -- none is yet
-pub purged_none : (net : Net) (time : ℕ) (stores : List (Option Plain)) → ArePurgedBelow net 0 time stores stores
+pub purged_none : (net : Net) (time : ℕ) (stores : List (Option Store)) → ArePurgedBelow net 0 time stores stores
 purged_none net time stores = record { same = shapes_same stores; purged = λ n w lt at. absurd (omega (arith, lt)); others = λ n absent. refl }
 
 -- one more state's
-pub purged_next : (net : Net) (n time : ℕ) (old mid new : List (Option Plain)) → ArePurgedBelow net n time old mid → IsPurgedAt net time n mid new → ArePurgedBelow net (n + 1) time old new
+pub purged_next : (net : Net) (n time : ℕ) (old mid new : List (Option Store)) → ArePurgedBelow net n time old mid → IsPurgedAt net time n mid new → ArePurgedBelow net (n + 1) time old new
 purged_next net n time old mid new was one = record {
   same = shapes_trans old mid new was.same one.same;
   purged = λ k w lt at. purged k w at (below_or_last k n lt);
@@ -122,7 +126,7 @@ purged_next net n time old mid new was one = record {
     others k absent (inr other) = one.others k other ∙ was.others k (λ lt. absent (more k lt))
 
 -- all are
-pub all_purged : (net : Net) (time : ℕ) (old new : List (Option Plain)) → ArePurgedBelow net (length net) time old new → AreAllPurged net time old new
+pub all_purged : (net : Net) (time : ℕ) (old new : List (Option Store)) → ArePurgedBelow net (length net) time old new → AreAllPurged net time old new
 all_purged net time old new was = record {
   same = was.same;
   purged = λ n w at. was.purged n w (let found = at_wait net n w at in entry_below net n (Waiting found.before found.hop) (wait_entry net n w found)) at;

@@ -1,6 +1,6 @@
 -- What the second half of a closing does to the stores.
 use Rattle.std.proofs.Common.{◌≡◌, ◌∙◌, sym, ap, refl, subst, inl, inr, ℕ, zero, suc, ◌+◌, ◌<◌, ◌≤◌, ◌==◌, ◌⊎◌, not, ◌&&◌, Bool, true, false, cond, IsTrue, length, get_or, set, take, List, [], ◌∷◌, ◌++◌, arith}
-use Rattle.std.specs.Prelude.{Contains, Option, Some, None, is_some, option_to_list, slice_get}
+use Rattle.std.specs.Prelude.{Contains, Option, Some, None, is_some, option_to_list, slice_get, sum_by}
 use Rattle.std.specs.Option.{option_map}
 use Rattle.std.specs.List.{All, filter, flat_map, range_with_len}
 use Rattle.std.specs.List.Sorted.{IsPermutation}
@@ -8,7 +8,7 @@ use Rattle.std.proofs.lemmas.Bool.Decides.{nat_tests}
 use Rattle.std.proofs.lemmas.Grind.{flat_map-append, get_or-set_at}
 use Rattle.std.proofs.lemmas.List.{append-nil, get_or-set_other, length-set, take_more}
 use Rattle.std.proofs.lemmas.List.Elements.{All-contains, All-cons, All-filter, All-get_or, All-head, All-nil, All-tail, All-weaker, Contains-append_cases, Contains-append_left, Contains-append_right, Contains-push, Contains-push_cases, filter-append}
-use Rattle.std.proofs.lemmas.List.Sums.{count_by-le-length, length-filter}
+use Rattle.std.proofs.lemmas.List.Sums.{sum_by-cons, sum_by_more}
 use Rattle.std.proofs.lemmas.List.FromFn.{get_or-range_with_len, length-range_with_len}
 use Rattle.std.proofs.lemmas.List.Sorted.{IsPermutation-append_left, IsPermutation-middle, IsPermutation-sym, IsPermutation-trans}
 use Rattle.std.proofs.lemmas.Option.{get_or_from_slice_get, slice_get-get_or, slice_get_within}
@@ -16,7 +16,11 @@ use Rattle.event_types.specs.declared.kind.Kind.{Kind}
 use Rattle.event_types.specs.Tuple.{TupleView}
 use Rattle.instances.specs.Alive.{is_alive}
 use Rattle.instances.specs.Bounds.{alive_instances}
-use Rattle.instances.specs.Plain.{Plain}
+use Rattle.instances.specs.Keys.{candidates_of}
+use Rattle.binding_index.specs.KeyParts.{first_key}
+use Rattle.binding_index.specs.Leads.{ready_in}
+use Rattle.binding_index.specs.Stores.{condition_of, instances_of}
+use Rattle.binding_index.specs.declared.store.Store.{Store}
 use Rattle.instances.specs.declared.instance.Instance.{Instance}
 use Rattle.semantics.specs.Denotation.{Streams}
 use Rattle.semantics.specs.Nexts.{is_eligible}
@@ -31,27 +35,31 @@ use Rattle.automaton.specs.declared.layout.Layout.{Layout}
 use Rattle.automaton.specs.declared.network.Entrance.TheVariants.{Waiting}
 use Rattle.automaton.specs.declared.wait.Wait.{Wait}
 use Rattle.stream_readers.specs.Finding.{IsDeaf, is_wait_on, waits_on}
-use Rattle.epoch_laws.specs.Closing.{stores_after}
+use Rattle.epoch_laws.specs.Closing.{Stores, stores_after}
 use Rattle.epoch_laws.specs.Epochs.{is_unmet, unmatched_after}
 use Rattle.epoch_laws.proofs.Bags.{permuted_is}
 use Rattle.epoch_laws.proofs.Lists.{every, filter-filter, filter_false}
 use Rattle.std.proofs.lemmas.List.Elements.{filter_agree}
 use Rattle.epoch_draft.specs.Deriving.{CanDraw, DrawnUpTo, news_of}
-use Rattle.epoch_draft.specs.Held.{held, instances_in, shape_of}
+use Rattle.epoch_draft.specs.Candidates.{candidates_at, candidates_by}
+use Rattle.epoch_draft.specs.Held.{held, instances_in, shape_for, shape_of}
 use Rattle.epoch_draft.specs.Meeting.{pair_of}
 use Rattle.epoch_draft.specs.Purging.{ArePurgedIn, IsUnbound, ListsBounded, alive_in}
-use Rattle.epoch_draft.specs.Settling.{AreClosed, AreLinked, AreSettled, AreTaken, IsTakenAt, PairSuits, first_of, listed_rows, row_at, tuples_in}
+use Rattle.epoch_draft.specs.Readying.{HaveRoom, HaveRoomIn}
+use Rattle.epoch_draft.specs.Settling.{AreClosed, AreLinked, AreSettled, AreTaken, IsTakenAt, PairSuits, first_of, listed_rows, row_at, takes_work, tuples_in}
 use Rattle.epoch_draft.specs.Suits.{MeetingSuits, TupleSuits, WaitSuits}
 use Rattle.epoch_draft.specs.Typed.{IsTyped}
 use Rattle.epoch_draft.specs.declared.draft.Draft.{Draft}
 use Rattle.epoch_draft.specs.declared.draft.Pair.{Pair}
 use Rattle.epoch_draft.proofs.DeriveLemmas.{contains_in, rows_suit}
 use Rattle.epoch_draft.proofs.DrawnLemmas.{drawn_is_after, entry_below}
+use Rattle.epoch_draft.proofs.KeyLemmas.{candidates_fewer}
 use Rattle.epoch_draft.proofs.Lists.{contains_more, contains_or_not, contains_this, more_contains, same_or_other}
 use Rattle.epoch_draft.proofs.MeetLemmas.{waits_used}
 use Rattle.epoch_draft.proofs.Moves.{equal_number, is_itself}
-use Rattle.epoch_draft.proofs.PurgeLemmas.{shapes_same, shapes_trans}
+use Rattle.epoch_draft.proofs.PurgeLemmas.{shapes_same, shapes_set, shapes_trans}
 use Rattle.epoch_draft.proofs.StateLemmas.{AtWait, at_wait, some_is, wait_entry, wait_typed}
+use Rattle.epoch_draft.proofs.StoreLemmas.{condition_is, typed_has}
 
 none_in : {X : Type 0} (x : X) → Contains [] x → ⊥
 none_in x c = absurd (omega arith)
@@ -60,11 +68,12 @@ other_test : (m n : ℕ) → (m ≡ n → ⊥) → (m == n) ≡ false
 other_test m n ne = grind (arith, nat_tests)
 
 -- no pair takes anything out
-pub taken_none : (net : Net) (news : Streams) (stores : List (Option Plain)) → AreTaken net news [] stores stores
+pub taken_none : (net : Net) (news : Streams) (stores : List (Option Store)) → AreTaken net news [] stores stores
 taken_none net news stores = record {
   same = shapes_same stores;
   taken = λ n w at. sym (filter_all (λ (i : Instance). is_unmet w.choose [] i.tuple) (held stores n) (λ _ _ _. refl));
   none = λ n at. refl;
+  ready = λ n. refl;
 }
 
 empty-append : (xs : List TupleView) (b : Bool) (x : TupleView) → is_empty (xs ++ cond b (x ∷ []) []) ≡ (is_empty xs && not b)
@@ -82,12 +91,13 @@ left_push choose rows t store =
     each n = let p = is_eligible choose n.tuple in sym (ap is_empty (filter-append p rows (t ∷ [])) ∙ empty-append (filter p rows) (p t) t)
 
 -- one more pair
-pub taken_more : (net : Net) (news : Streams) (pairs : List Pair) (i : ℕ) (d : Pair) (t : TupleView) (old mid new : List (Option Plain)) → i < length pairs → slice_get (news (get_or pairs i d).stream) (get_or pairs i d).place ≡ Some t
+pub taken_more : (net : Net) (news : Streams) (pairs : List Pair) (i : ℕ) (d : Pair) (t : TupleView) (old mid new : List (Option Store)) → i < length pairs → slice_get (news (get_or pairs i d).stream) (get_or pairs i d).place ≡ Some t
     → AreTaken net news (take i pairs) old mid → IsTakenAt net t (get_or pairs i d).state mid new → AreTaken net news (take (i + 1) pairs) old new
 taken_more net news pairs i d t old mid new lt got was one = record {
   same = shapes_trans old mid new was.same one.same;
   taken = λ n w at. waits n w at (same_or_other n p.state);
   none = λ n at. others n at (same_or_other n p.state);
+  ready = λ n. one.ready n ∙ was.ready n;
 }
   where
     p : Pair
@@ -115,15 +125,33 @@ taken_more net news pairs i d t old mid new lt got was one = record {
     others n at (inl same) = ap (held new) same ∙ one.none (ap (wait_at net) (sym same) ∙ at) ∙ ap (held mid) (sym same) ∙ was.none n at
     others n at (inr other) = one.others n other ∙ was.none n at
 
+-- one store was written over by what is left of it
+pub taken_there : (net : Net) (t : TupleView) (n : ℕ) (w : Wait) (stores : List (Option Store)) (slot : Option Store) → n < length stores → wait_at net n ≡ Some w → instances_in slot ≡ filter (λ (k : Instance). not (is_eligible w.choose k.tuple t)) (held stores n)
+    → shape_of slot ≡ shape_of (get_or stores n None) → ready_in slot ≡ ready_in (get_or stores n None) → IsTakenAt net t n stores (set stores n slot)
+taken_there net t n w stores slot below at is shape ready = record {
+  same = shapes_set stores n slot below shape;
+  taken = λ x e. ap instances_in here ∙ is ∙ ap (λ choose. filter (λ (k : Instance). not (is_eligible choose k.tuple t)) (held stores n)) (ap (λ (x : Wait). x.choose) (some_is w x (sym at ∙ e)));
+  none = λ e. absurd (let no : Some w ≡ None = sym at ∙ e in cc);
+  others = λ m other. ap instances_in (get_or-set_other stores n m slot None other);
+  ready = λ m. all m (same_or_other m n);
+}
+  where
+    here : get_or (set stores n slot) n None ≡ slot
+    here = get_or-set_at stores n n slot None refl below
+
+    all : (m : ℕ) → (m ≡ n) ⊎ (m ≡ n → ⊥) → ready_in (get_or (set stores n slot) m None) ≡ ready_in (get_or stores m None)
+    all m (inl same) = ap ready_in (get_or-set_at stores n m slot None same below) ∙ ready ∙ ap (λ k. ready_in (get_or stores k None)) (sym same)
+    all m (inr other) = ap ready_in (get_or-set_other stores n m slot None other)
+
 -- what is left still fits
-pub taken_fits : (net : Net) (news : Streams) (streams : ℕ) (pairs done : List Pair) (p : Pair) (old mid : List (Option Plain)) → AreTaken net news done old mid → PairSuits net news streams (held old) p → (t : TupleView) → slice_get (news p.stream) p.place ≡ Some t
+pub taken_fits : (net : Net) (news : Streams) (streams : ℕ) (pairs done : List Pair) (p : Pair) (old mid : List (Option Store)) → AreTaken net news done old mid → PairSuits net news streams (held old) p → (t : TupleView) → slice_get (news p.stream) p.place ≡ Some t
     → (w : Wait) → wait_at net p.state ≡ Some w → All (λ (k : Instance). AllFit w.choose t (Some k.tuple)) (held mid p.state)
 taken_fits net news streams pairs done p old mid was suits t got w at =
     subst (All (λ (k : Instance). AllFit w.choose t (Some k.tuple))) (sym (was.taken p.state w at))
     (All-filter (λ (k : Instance). is_unmet w.choose (listed_rows news done p.state) k.tuple) (λ (k : Instance). AllFit w.choose t (Some k.tuple)) (held old p.state) (suits.fits w t at got))
 
 -- the tuples of a stream that has some
-pub in_is_news : (net : Net) (layout : Layout) (stores : List (Option Plain)) (opened made : List (List TupleView)) → CanDraw net layout stores opened → (s k : ℕ) → k < length (news_of opened made layout.order s) → tuples_in opened made s ≡ news_of opened made layout.order s
+pub in_is_news : (net : Net) (layout : Layout) (stores : List (Option Store)) (opened made : List (List TupleView)) → CanDraw net layout stores opened → (s k : ℕ) → k < length (news_of opened made layout.order s) → tuples_in opened made s ≡ news_of opened made layout.order s
 in_is_news net layout stores opened made can s k lt = go (is_in layout.order s) refl lt
   where
     some : (ts rest : List TupleView) → k < length ts → first_of ts rest ≡ ts
@@ -234,7 +262,7 @@ left_same : (choose : List Pr) (xs ys : List TupleView) (store : List Instance) 
 left_same choose xs ys store there back =
     filter_agree (λ (n : Instance). is_unmet choose xs n.tuple) (λ (n : Instance). is_unmet choose ys n.tuple) (λ n. same_empty (is_eligible choose n.tuple) xs ys there (back n.tuple)) store
 
-module _ (net : Net) (layout : Layout) (stores : List (Option Plain)) (opened : List (List TupleView)) (draft : Draft) (pairs : List Pair) (can : CanDraw net layout stores opened) (drawn : DrawnUpTo net layout stores opened layout.order draft pairs) where
+module _ (net : Net) (layout : Layout) (stores : List (Option Store)) (opened : List (List TupleView)) (draft : Draft) (pairs : List Pair) (can : CanDraw net layout stores opened) (drawn : DrawnUpTo net layout stores opened layout.order draft pairs) where
   abbrev news : Streams
   news = news_of opened draft.made layout.order
 
@@ -259,16 +287,16 @@ module _ (net : Net) (layout : Layout) (stores : List (Option Plain)) (opened : 
       one p h =
           let is = in_is_news net layout stores opened draft.made can p.stream p.place h.1 in
           let used : IsTrue (is_used net p.state) = All-contains (λ n. IsTrue (is_used net n)) (waits_on net p.stream) p.state (waits_used net p.stream) h.0 in
-          let below : p.stream < length layout.kinds = below_kinds p h.0 (wait_at net p.state) refl in
+          let below = below_kinds p h.0 (wait_at net p.state) refl in
           record {
             used = used;
             stream = omega (arith, below, can.as_many);
             place = subst (λ (ts : List TupleView). p.place < length ts) (sym is) h.1;
             fits = λ w t at got.
-                let suits = All-get_or (TupleSuits net (held stores) p.stream) (news p.stream) p.place t h.1 (rows_suit net can.network layout.kinds stores can.typed p.stream below (news p.stream) (drawn.kinds p.stream)) in
-                let mine = subst (TupleSuits net (held stores) p.stream) (get_or_from_slice_get (news p.stream) p.place t t (ap (λ (ts : List TupleView). slice_get ts p.place) (sym is) ∙ got)) suits in
+                let mine = suited p h t (ap (λ (ts : List TupleView). slice_get ts p.place) (sym is) ∙ got) in
                 All-weaker (λ (k : Instance). WaitSuits w k.tuple t) (λ (k : Instance). AllFit w.choose t (Some k.tuple)) (λ k h. h.0) (held stores p.state)
-                (All-contains (MeetingSuits net (held stores) t) (waits_on net p.stream) p.state mine.waits h.0 w at).0;
+                (All-contains (MeetingSuits net (held stores) t) (waits_on net p.stream) p.state mine.waits h.0 w at).instances;
+            key = λ w t at got. (All-contains (MeetingSuits net (held stores) t) (waits_on net p.stream) p.state (suited p h t (ap (λ (ts : List TupleView). slice_get ts p.place) (sym is) ∙ got)).waits h.0 w at).key;
           }
         where
           below_kinds : (p : Pair) → Contains (waits_on net p.stream) p.state → (o : Option Wait) → wait_at net p.state ≡ o → p.stream < length layout.kinds
@@ -278,6 +306,33 @@ module _ (net : Net) (layout : Layout) (stores : List (Option Plain)) (opened : 
           below_kinds p c (Some w) at =
               let typed = wait_typed layout.kinds net can.typed.kinding can.typed.states p.state w at in
               subst (λ (s : ℕ). s < length layout.kinds) (wait_of p.stream p.state c w at) (slice_get_within layout.kinds w.stream typed.event typed.known)
+
+          suited : (p : Pair) → Contains (waits_on net p.stream) p.state × (p.place < length (news p.stream)) → (t : TupleView) → slice_get (news p.stream) p.place ≡ Some t → TupleSuits net (held stores) p.stream t
+          suited p h t got =
+              subst (TupleSuits net (held stores) p.stream) (get_or_from_slice_get (news p.stream) p.place t t got)
+              (All-get_or (TupleSuits net (held stores) p.stream) (news p.stream) p.place t h.1
+              (rows_suit net can.network layout.kinds stores can.typed p.stream (below_kinds p h.0 (wait_at net p.state) refl) (news p.stream) (drawn.kinds p.stream)))
+
+  -- the pairs' tuples are the epoch's, so the tests are as many
+  pub takes_same : takes_work net listed (held stores) pairs ≡ takes_work net news (held stores) pairs
+  takes_same = go pairs drawn.paired.sound
+    where
+      Sound : Pair → Type 0
+      Sound p = Contains (waits_on net p.stream) p.state × (p.place < length (news p.stream))
+
+      work : Streams → Pair → ℕ
+      work seen p = sum_by (λ (t : TupleView). length (candidates_at net (held stores) t p.state)) (row_at seen p)
+
+      one : (p : Pair) → Sound p → work listed p ≡ work news p
+      one p h =
+          ap (λ (ts : List TupleView). sum_by (λ (t : TupleView). length (candidates_at net (held stores) t p.state)) (option_to_list (slice_get ts p.place))) (in_is_news net layout stores opened draft.made can p.stream p.place h.1)
+
+      go : (ps : List Pair) → All Sound ps → sum_by (work listed) ps ≡ sum_by (work news) ps
+      go [] all = refl
+      go (p ∷ ps) all =
+          let here = one p (All-head Sound p ps all) in
+          let rest = go ps (All-tail Sound p ps all) in
+          sum_by-cons (work listed) p ps ∙ (λ k. here k + rest k) ∙ sym (sum_by-cons (work news) p ps)
 
   -- what the listed tuples leave is what all leave
   pub left_all_same : (n : ℕ) (w : Wait) → wait_at net n ≡ Some w → unmatched_after w.choose (listed_rows listed pairs n) (held stores n) ≡ unmatched_after w.choose (news w.stream) (held stores n)
@@ -315,17 +370,15 @@ module _ (net : Net) (layout : Layout) (stores : List (Option Plain)) (opened : 
           go t got (inr deaf) = inr (deaf w at b)
 
   -- what is taken out and linked settles
-  pub settled : (mid new : List (Option Plain)) → AreTaken net listed pairs stores mid → AreLinked draft.reached.numbers draft.beads mid new → AreSettled net news stores new
+  pub settled : (mid new : List (Option Store)) → AreTaken net listed pairs stores mid → AreLinked draft.reached.numbers draft.beads mid new → AreSettled net news stores new
   settled mid new taken linked = record {
     same = shapes_trans stores mid new taken.same linked.same;
     settled = λ n w at. waits n w at (contains_or_not draft.reached.numbers n) (drawn.fits.reached_all n);
     others = λ n at. ap instances_in (linked.idle n (drawn.drawn.unbound n at)) ∙ taken.none n at;
   }
     where
-      slot : (n : ℕ) (w : Wait) → wait_at net n ≡ Some w → (o : Option Plain) → get_or mid n None ≡ o → (store : Plain) × (get_or mid n None ≡ Some store)
-      slot n w at None e =
-          let has = can.typed.has_stores n w at in
-          let no : None ≡ Some has.0.condition = sym (ap shape_of e) ∙ taken.same.shapes n ∙ ap shape_of has.1 in absurd (cc)
+      slot : (n : ℕ) (w : Wait) → wait_at net n ≡ Some w → (o : Option Store) → get_or mid n None ≡ o → (store : Store) × (get_or mid n None ≡ Some store)
+      slot n w at None e = let no : None ≡ Some (shape_for w.choose) = sym (ap shape_of e) ∙ taken.same.shapes n ∙ (typed_has net layout.kinds stores can.typed).shapes n w at in absurd (cc)
       slot n w at (Some store) e = (store, e)
 
       waits : (n : ℕ) (w : Wait) → wait_at net n ≡ Some w → Contains draft.reached.numbers n ⊎ (Contains draft.reached.numbers n → ⊥) → (get_or draft.beads n [] ≡ []) ⊎ Contains draft.reached.numbers n → IsPermutation (held new n) (stores_after net news (held stores) n)
@@ -357,23 +410,31 @@ link_more store rest all new chain bead linked here was =
     (IsPermutation-trans _ _ _ (IsPermutation-sym _ _ (IsPermutation-middle store bead rest)) (permuted_from (ap (λ (xs : List Instance). store ++ xs) (sym here)) was))
 
 -- the beads of one state more are linked
-pub record LinkedSoFar (numbers : List ℕ) (start beads : List (List Instance)) (old new : List (Option Plain)) : Type 0 where
+pub record LinkedSoFar (numbers : List ℕ) (start beads : List (List Instance)) (old new : List (Option Store)) : Type 0 where
   pub linked : AreLinked numbers start old new
   pub as_many : length beads ≡ length start
   pub kept : (n : ℕ) → (Contains numbers n → ⊥) → get_or beads n [] ≡ get_or start n []
 
 -- no state's beads are linked yet
-pub linked_none : (beads : List (List Instance)) (stores : List (Option Plain)) → LinkedSoFar [] beads beads stores stores
+pub linked_none : (beads : List (List Instance)) (stores : List (Option Store)) → LinkedSoFar [] beads beads stores stores
 linked_none beads stores = record {
   linked = record { same = shapes_same stores; linked = λ n c. absurd (none_in n c); idle = λ n e. refl; others = λ n absent. refl };
   as_many = refl;
   kept = λ n absent. refl;
 }
 
+-- a state whose beads aren't linked yet still has room for them
+pub linked_room : (numbers : List ℕ) (n : ℕ) (start beads : List (List Instance)) (old mid : List (Option Store)) (slot : Option Store) (chain : List Instance) → (Contains numbers n → ⊥) → slice_get mid n ≡ Some slot → slice_get beads n ≡ Some chain
+    → LinkedSoFar numbers start beads old mid → HaveRoom old start → HaveRoomIn slot chain
+linked_room numbers n start beads old mid slot chain once read got was room =
+    let slot_is : get_or old n None ≡ slot = sym (was.linked.others n once) ∙ get_or_from_slice_get mid n slot None read in
+    let chain_is : get_or start n [] ≡ chain = sym (was.kept n once) ∙ get_or_from_slice_get beads n chain [] got in
+    subst (λ (o : Option Store). HaveRoomIn o chain) slot_is (subst (HaveRoomIn (get_or old n None)) chain_is (room n))
+
 -- one state's more
-pub linked_more : (numbers : List ℕ) (i : ℕ) (start beads : List (List Instance)) (old mid : List (Option Plain)) (slot new : Option Plain) (chain rest : List Instance) → i < length numbers → get_or numbers i 0 < length old → get_or numbers i 0 < length start
+pub linked_more : (numbers : List ℕ) (i : ℕ) (start beads : List (List Instance)) (old mid : List (Option Store)) (slot new : Option Store) (chain rest : List Instance) → i < length numbers → get_or numbers i 0 < length old → get_or numbers i 0 < length start
     → (Contains (take i numbers) (get_or numbers i 0) → ⊥) → slice_get mid (get_or numbers i 0) ≡ Some slot → slice_get beads (get_or numbers i 0) ≡ Some chain
-    → ((store : Plain) → slot ≡ Some store → IsPermutation (instances_in new) (store.instances ++ chain)) → (chain ≡ [] → new ≡ slot) → shape_of new ≡ shape_of slot
+    → ((store : Store) → slot ≡ Some store → IsPermutation (instances_in new) (instances_of store ++ chain)) → (chain ≡ [] → new ≡ slot) → shape_of new ≡ shape_of slot
     → LinkedSoFar (take i numbers) start beads old mid → LinkedSoFar (take (i + 1) numbers) start (set beads (get_or numbers i 0) rest) old (set mid (get_or numbers i 0) new)
 linked_more numbers i start beads old mid slot new chain rest lt below below_beads once read got puts idle shape was = record {
   linked = record {
@@ -408,12 +469,12 @@ linked_more numbers i start beads old mid slot new chain rest lt below below_bea
     shapes m (inl same) = ap shape_of (set_is m same) ∙ shape ∙ ap shape_of (sym old_is) ∙ ap (λ k. shape_of (get_or old k None)) (sym same)
     shapes m (inr other) = ap shape_of (get_or-set_other mid n m new None other) ∙ was.linked.same.shapes m
 
-    links : (m : ℕ) (store : Plain) → get_or old m None ≡ Some store → Contains (take i numbers) m ⊎ (n ≡ m) → IsPermutation (held (set mid n new) m) (store.instances ++ get_or start m [])
+    links : (m : ℕ) (store : Store) → get_or old m None ≡ Some store → Contains (take i numbers) m ⊎ (n ≡ m) → IsPermutation (held (set mid n new) m) (instances_of store ++ get_or start m [])
     links m store e (inl c) =
         permuted_from (ap instances_in (get_or-set_other mid n m new None (λ same. once (subst (Contains (take i numbers)) same c)))) (was.linked.linked m c store e)
     links m store e (inr same) =
         permuted_from (ap instances_in (set_is m (sym same)))
-        (permuted_to (puts store (sym old_is ∙ ap (λ k. get_or old k None) same ∙ e)) (ap (λ (xs : List Instance). store.instances ++ xs) (chain_is ∙ ap (λ k. get_or start k []) same)))
+        (permuted_to (puts store (sym old_is ∙ ap (λ k. get_or old k None) same ∙ e)) (ap (λ (xs : List Instance). instances_of store ++ xs) (chain_is ∙ ap (λ k. get_or start k []) same)))
 
     idles : (m : ℕ) → get_or start m [] ≡ [] → (m ≡ n) ⊎ (m ≡ n → ⊥) → get_or (set mid n new) m None ≡ get_or old m None
     idles m e (inl same) = set_is m same ∙ idle (chain_is ∙ ap (λ k. get_or start k []) (sym same) ∙ e) ∙ sym old_is ∙ ap (λ k. get_or old k None) (sym same)
@@ -446,7 +507,7 @@ bounded_below net bound list lists = All-weaker (λ n. IsTrue (is_some (wait_at 
         go (Some w) at waits = let found = at_wait net n w at in entry_below net n (Waiting found.before found.hop) (wait_entry net n w found)
 
 -- what settled and was purged is closed
-pub closed : (time : ℕ) (net : Net) (kinds : List (List Kind)) (old mid new : List (Option Plain)) (news : Streams) (bounded : List ℕ) → IsTyped net kinds old → ListsBounded net (length net) bounded → AreSettled net news old mid → ArePurgedIn bounded time mid new
+pub closed : (time : ℕ) (net : Net) (kinds : List (List Kind)) (old mid new : List (Option Store)) (news : Streams) (bounded : List ℕ) → IsTyped net kinds old → ListsBounded net (length net) bounded → AreSettled net news old mid → ArePurgedIn bounded time mid new
     → AreClosed time net news old new
 closed time net kinds old mid new news bounded typed lists settled purged = record {
   same = shapes_trans old mid new settled.same purged.same;
@@ -457,19 +518,20 @@ closed time net kinds old mid new news bounded typed lists settled purged = reco
     absent : (n : ℕ) → wait_at net n ≡ None → Contains bounded n → ⊥
     absent n at c = absurd (let waits = All-contains (λ n. IsTrue (is_some (wait_at net n))) bounded n lists.waits c in let no : IsTrue (is_some {T = Wait} None) = subst (λ (o : Option Wait). IsTrue (is_some o)) at waits in cc)
 
-    condition : (n : ℕ) (w : Wait) → wait_at net n ≡ Some w → (store : Plain) → get_or mid n None ≡ Some store → store.condition ≡ w.choose
-    condition n w at store e =
-        let has = typed.has_stores n w at in
-        some_is store.condition w.choose (ap shape_of (sym e) ∙ settled.same.shapes n ∙ ap shape_of has.1 ∙ ap Some has.2.condition)
+    shape : (n : ℕ) (w : Wait) → wait_at net n ≡ Some w → shape_of (get_or mid n None) ≡ Some (shape_for w.choose)
+    shape n w at = settled.same.shapes n ∙ (typed_has net kinds old typed).shapes n w at
+
+    condition : (n : ℕ) (w : Wait) → wait_at net n ≡ Some w → (store : Store) → get_or mid n None ≡ Some store → condition_of store ≡ w.choose
+    condition n w at store e = condition_is store w.choose (ap shape_of (sym e) ∙ shape n w at)
 
     slot : (n : ℕ) (w : Wait) → wait_at net n ≡ Some w → get_or mid n None ≡ None → ⊥
-    slot n w at e = let has = typed.has_stores n w at in let no : None ≡ Some has.0.condition = sym (ap shape_of e) ∙ settled.same.shapes n ∙ ap shape_of has.1 in cc
+    slot n w at e = let no : None ≡ Some (shape_for w.choose) = ap shape_of (sym e) ∙ shape n w at in cc
 
-    waits : (n : ℕ) (w : Wait) → wait_at net n ≡ Some w → Contains bounded n ⊎ (Contains bounded n → ⊥) → (o : Option Plain) → get_or mid n None ≡ o → IsPermutation (held new n) (alive_instances time w.choose (stores_after net news (held old) n))
+    waits : (n : ℕ) (w : Wait) → wait_at net n ≡ Some w → Contains bounded n ⊎ (Contains bounded n → ⊥) → (o : Option Store) → get_or mid n None ≡ o → IsPermutation (held new n) (alive_instances time w.choose (stores_after net news (held old) n))
     waits n w at (inl c) None e = absurd (slot n w at e)
     waits n w at (inl c) (Some store) e =
-        permuted_from (purged.purged n c ∙ ap (alive_in time) e ∙ ap (λ choose. alive_instances time choose store.instances) (condition n w at store e))
-        (filter_permuted (λ (i : Instance). is_alive time w.choose i.tuple) store.instances (stores_after net news (held old) n) (permuted_from (ap instances_in (sym e)) (settled.settled n w at)))
+        permuted_from (purged.purged n c ∙ ap (alive_in time) e ∙ ap (λ choose. alive_instances time choose (instances_of store)) (condition n w at store e))
+        (filter_permuted (λ (i : Instance). is_alive time w.choose i.tuple) (instances_of store) (stores_after net news (held old) n) (permuted_from (ap instances_in (sym e)) (settled.settled n w at)))
     waits n w at (inr absent) o e = unbound (lists.has n w (let found = at_wait net n w at in entry_below net n (Waiting found.before found.hop) (wait_entry net n w found)) at)
       where
         unbound : Contains bounded n ⊎ IsUnbound w.choose → IsPermutation (held new n) (alive_instances time w.choose (stores_after net news (held old) n))
@@ -479,13 +541,27 @@ closed time net kinds old mid new news bounded typed lists settled purged = reco
             (permuted_to (settled.settled n w at)
             (sym (filter_all (λ (i : Instance). is_alive time w.choose i.tuple) (stores_after net news (held old) n) (every (λ (i : Instance). is_alive time w.choose i.tuple ≡ true) (λ i. none time i.tuple) (stores_after net news (held old) n)))))
 
--- no more are there than before
-pub taken_fewer : (net : Net) (news : Streams) (pairs : List Pair) (old mid : List (Option Plain)) → AreTaken net news pairs old mid → (n : ℕ) → length (held mid n) ≤ length (held old n)
-taken_fewer net news pairs old mid was n = go (wait_at net n) refl
+-- no more candidates are there than before
+pub taken_fewer : (net : Net) (news : Streams) (pairs : List Pair) (old mid : List (Option Store)) → AreTaken net news pairs old mid → (n : ℕ) (t : TupleView) → length (candidates_at net (held mid) t n) ≤ length (candidates_at net (held old) t n)
+taken_fewer net news pairs old mid was n t = go (wait_at net n) refl
   where
-    go : (o : Option Wait) → wait_at net n ≡ o → length (held mid n) ≤ length (held old n)
-    go None at = let e = ap length (was.none n at) in omega (arith, e)
+    go : (o : Option Wait) → wait_at net n ≡ o → length (candidates_by o (held mid n) t) ≤ length (candidates_by o (held old n) t)
+    go None at = omega arith
     go (Some w) at =
-        let p = λ (k : Instance). is_unmet w.choose (listed_rows news pairs n) k.tuple in
-        let e = ap length (was.taken n w at) ∙ length-filter p (held old n) in
-        let le = count_by-le-length p (held old n) in omega (arith, e, le)
+        let left = λ (k : Instance). is_unmet w.choose (listed_rows news pairs n) k.tuple in
+        let e = ap (λ (is : List Instance). length (candidates_of (first_key w.choose) t is)) (was.taken n w at) in
+        let le = candidates_fewer (first_key w.choose) t left (held old n) in omega (arith, e, le)
+
+-- the tests of one pair more are those of its tuple
+pub takes_more : (net : Net) (news : Streams) (stores : Stores) (pairs : List Pair) (i : ℕ) (d : Pair) (t : TupleView) → i < length pairs → slice_get (news (get_or pairs i d).stream) (get_or pairs i d).place ≡ Some t
+    → takes_work net news stores (take (i + 1) pairs) ≡ takes_work net news stores (take i pairs) + length (candidates_at net stores t (get_or pairs i d).state)
+takes_more net news stores pairs i d t lt got = sum_by_more work pairs i d lt ∙ ap (λ (n : ℕ). takes_work net news stores (take i pairs) + n) one
+  where
+    work : Pair → ℕ
+    work p = sum_by (λ (t : TupleView). length (candidates_at net stores t p.state)) (row_at news p)
+
+    count : TupleView → ℕ
+    count t = length (candidates_at net stores t (get_or pairs i d).state)
+
+    one : work (get_or pairs i d) ≡ count t
+    one = ap (λ (o : Option TupleView). sum_by count (option_to_list o)) got ∙ sum_by-cons count t [] ∙ (let e : count t + 0 ≡ count t = omega arith in e)

@@ -9,7 +9,7 @@ use Rattle.std.proofs.lemmas.List.Elements.{All-append, All-cons, All-contains_i
 use Rattle.std.proofs.lemmas.List.Sorted.{All-permutation, IsPermutation-sym}
 use Rattle.event_types.specs.declared.kind.Kind.{Kind}
 use Rattle.event_types.specs.Tuple.{TupleView}
-use Rattle.instances.specs.Plain.{Plain}
+use Rattle.binding_index.specs.declared.store.Store.{Store}
 use Rattle.instances.specs.declared.instance.Instance.{Instance}
 use Rattle.semantics.specs.Denotation.{Streams}
 use Rattle.semantics.specs.Kinds.{HasKinds}
@@ -37,6 +37,7 @@ use Rattle.epoch_draft.specs.Pairs.{met}
 use Rattle.epoch_draft.specs.Suits.{LeavingSuits, MeetingSuits, StepSuits, TupleSuits, WaitSuits, WaySuits}
 use Rattle.epoch_draft.specs.Typed.{HaveKinds, IsTyped}
 use Rattle.epoch_draft.proofs.EdgeLemmas.{edge_before}
+use Rattle.epoch_draft.proofs.KeyLemmas.{event_fits}
 use Rattle.epoch_draft.proofs.Pairs.{met_took}
 use Rattle.epoch_draft.proofs.StateLemmas.{at_wait, hop_typed, root_typed, some_is, wait_entry, wait_leaves, wait_typed}
 use Rattle.epoch_draft.proofs.TypingLemmas.{passed_kinds, step_passes, took_kinds, wait_suits}
@@ -60,12 +61,12 @@ by_before net k n e = go (entrance_at net k) refl e
     go (Some (Root s)) at e = absurd (cc)
     go (Some (Waiting b hop)) at e = (hop, at ∙ ap (λ (m : ℕ). Some (Waiting m hop)) (some_is b n e))
 
-module _ (net : Net) (network : IsNetwork net) (kinds : List (List Kind)) (stores : List (Option Plain)) (typed : IsTyped net kinds stores) where
-  -- the instances of a waiting state have its kinds
+module _ (net : Net) (network : IsNetwork net) (kinds : List (List Kind)) (stores : List (Option Store)) (typed : IsTyped net kinds stores) where
+  -- the instances at a state have its kinds
   pub instances_typed : (n : ℕ) (w : Wait) → wait_at net n ≡ Some w → All (λ (i : Instance). HasKinds (typed.kinding.waiting n) i.tuple) (held stores n)
   instances_typed n w at =
       let found = typed.has_stores n w at in
-      subst (λ (o : Option Plain). All (λ (i : Instance). HasKinds (typed.kinding.waiting n) i.tuple) (instances_in o)) (sym found.1) found.2.instances
+      subst (λ (o : Option Store). All (λ (i : Instance). HasKinds (typed.kinding.waiting n) i.tuple) (instances_in o)) (sym found.1) found.2.instances
 
   ends_typed : (n : ℕ) → All (EndFits kinds (typed.kinding.leaving n)) (ends_at net n)
   ends_typed n = go (state_at net n) refl
@@ -124,11 +125,14 @@ module _ (net : Net) (network : IsNetwork net) (kinds : List (List Kind)) (store
         let out = typed.kinding.leaving n in
         let mine = instances_typed n w at in
         let good = λ (i : Instance). HasKinds out i.tuple in
-        let went : All good (took w.choose w.fold (r ∷ []) (held stores n)) = took_kinds w bs one.event out (held stores n) (r ∷ []) one.gives rows mine in (
-          All-weaker (λ (i : Instance). HasKinds bs i.tuple) (λ (i : Instance). WaitSuits w i.tuple r) (λ i h. wait_suits w bs one.event out i.tuple r one.gives event h) (held stores n) mine,
-          All-weaker good (λ (i : Instance). LeavingSuits net n i.tuple) (λ i h. leaving_suits n i.tuple h) (met w (held stores n) r)
-              (subst (All good) (append-nil (met w (held stores n) r)) (All-permutation good (took w.choose w.fold (r ∷ []) (held stores n)) (met w (held stores n) r ++ []) (IsPermutation-sym _ _ (met_took w (held stores n) (r ∷ []))) went)),
-        )
+        let went : All good (took w.choose w.fold (r ∷ []) (held stores n)) = took_kinds w bs one.event out (held stores n) (r ∷ []) one.gives rows mine in
+        record {
+          instances = All-weaker (λ (i : Instance). HasKinds bs i.tuple) (λ (i : Instance). WaitSuits w i.tuple r) (λ i h. wait_suits w bs one.event out i.tuple r one.gives event h) (held stores n) mine;
+          leaving =
+              All-weaker good (λ (i : Instance). LeavingSuits net n i.tuple) (λ i h. leaving_suits n i.tuple h) (met w (held stores n) r)
+              (subst (All good) (append-nil (met w (held stores n) r)) (All-permutation good (took w.choose w.fold (r ∷ []) (held stores n)) (met w (held stores n) r ++ []) (IsPermutation-sym _ _ (met_took w (held stores n) (r ∷ []))) went));
+          key = event_fits one.event bs w.choose r one.gives.0 event;
+        }
 
     -- a tuple of the stream's kinds is suited
     pub tuple_suits : TupleSuits net (held stores) s r

@@ -1,7 +1,7 @@
 -- What comes to a state has the kinds for which its conditions and scalars are typed.
 use Rattle.std.proofs.Common.{◌≡◌, refl, subst, Bool, true, false, cond, List, [], ◌∷◌}
 use Rattle.std.specs.Prelude.{Option, Some, None}
-use Rattle.std.specs.Option.{option_and_then}
+use Rattle.std.specs.Option.{option_and_then, option_map}
 use Rattle.std.specs.List.{All, cons_option, filter, filter_map}
 use Rattle.std.proofs.lemmas.List.Elements.{All-nil, All-cons, All-head, All-tail, All-filter, All-map, All-weaker}
 use Rattle.event_types.specs.declared.kind.Kind.{Kind}
@@ -23,7 +23,7 @@ use Rattle.automaton.specs.declared.step.Stage.TheVariants.{Keep, Make}
 use Rattle.automaton.specs.declared.wait.Turn.{Turn}
 use Rattle.automaton.specs.declared.wait.Wait.{Wait}
 use Rattle.epoch_laws.specs.Epochs.{taken, taken_from, took}
-use Rattle.epoch_laws.specs.Instances.{began}
+use Rattle.epoch_laws.specs.Instances.{began, pass_instance}
 use Rattle.epoch_draft.specs.Suits.{StepSuits, TurnSuits, WaitSuits}
 use Rattle.epoch_draft.proofs.StateLemmas.{some_is}
 
@@ -63,6 +63,17 @@ passed_kinds step ks out (t ∷ ts) h all =
     go : (o : Option TupleView) → ((p : TupleView) → o ≡ Some p → HasKinds out p) → All (HasKinds out) (filter_map (pass step) ts) → All (HasKinds out) (cons_option o (filter_map (pass step) ts))
     go None gives rest = rest
     go (Some p) gives rest = All-cons (HasKinds out) p (filter_map (pass step) ts) (gives p refl) rest
+
+-- and so have the instances that enter a wait by it
+pub entered_kinds : (step : List Stage) (ks out : List Kind) (instances : List Instance) → StepGives step ks out → All (λ (n : Instance). HasKinds ks n.tuple) instances → All (λ (n : Instance). HasKinds out n.tuple) (filter_map (pass_instance step) instances)
+entered_kinds step ks out [] h all = All-nil (λ (n : Instance). HasKinds out n.tuple)
+entered_kinds step ks out (i ∷ is) h all =
+    go (pass step i.tuple) (step_passes step ks out i.tuple h (All-head (λ (n : Instance). HasKinds ks n.tuple) i is all)).gives (entered_kinds step ks out is h (All-tail (λ (n : Instance). HasKinds ks n.tuple) i is all))
+  where
+    go : (o : Option TupleView) → ((p : TupleView) → o ≡ Some p → HasKinds out p) → All (λ (n : Instance). HasKinds out n.tuple) (filter_map (pass_instance step) is)
+        → All (λ (n : Instance). HasKinds out n.tuple) (cons_option (option_map (began i.first) o) (filter_map (pass_instance step) is))
+    go None gives rest = rest
+    go (Some p) gives rest = All-cons (λ (n : Instance). HasKinds out n.tuple) (began i.first p) (filter_map (pass_instance step) is) (gives p refl) rest
 
 taken_kinds : (choose : List Pr) (fold : Option Turn) (bs es out : List Kind) (ts : List TupleView) (b : TupleView) → TurnGives fold bs es out → All (HasKinds es) ts → HasKinds bs b → All (HasKinds out) (taken choose fold ts b)
 taken_kinds choose None bs es out ts b h all hb =

@@ -4,7 +4,7 @@ use Rattle.std.specs.List.{All}
 use Rattle.std.specs.List.Sorted.{IsPermutation}
 use Rattle.event_types.specs.Order.{sorted}
 use Rattle.event_types.specs.Tuple.{TupleView}
-use Rattle.instances.specs.Plain.{Plain}
+use Rattle.binding_index.specs.declared.store.Store.{Store}
 use Rattle.semantics.specs.Denotation.{Streams, streams_of}
 use Rattle.automaton.specs.Networks.{IsNetwork}
 use Rattle.automaton.specs.States.{Net}
@@ -52,7 +52,7 @@ pub record AreOpened (opened : List (List TupleView)) (touched : List ℕ) : Typ
   pub all : (stream : ℕ) → (slice_index_or opened stream [] ≡ []) ⊎ Contains touched stream
 
 -- the network and the layout are of some lines, all is typed, and no derived stream has open tuples
-pub record CanDraw (net : Net) (layout : Layout) (stores : List (Option Plain)) (opened : List (List TupleView)) : Type 0 where
+pub record CanDraw (net : Net) (layout : Layout) (stores : List (Option Store)) (opened : List (List TupleView)) : Type 0 where
   pub network : IsNetwork net
   pub lines : List Line
   pub serves : Serves net lines layout.order
@@ -73,7 +73,7 @@ abbrev pub AreOrdered : List (List TupleView) → List ℕ → Type 0
 AreOrdered made streams = All (λ stream. sorted (slice_index_or made stream []) ≡ slice_index_or made stream []) streams
 
 -- the open tuples are met, and the derived streams that are done: over these tuples all is made, they are an epoch of the streams that are done, and these have theirs in order
-pub record DrawnUpTo (net : Net) (layout : Layout) (stores : List (Option Plain)) (opened : List (List TupleView)) (done : List ℕ) (draft : Draft) (pairs : List Pair) : Type 0 where
+pub record DrawnUpTo (net : Net) (layout : Layout) (stores : List (Option Store)) (opened : List (List TupleView)) (done : List ℕ) (draft : Draft) (pairs : List Pair) : Type 0 where
   pub fits : DraftFits (length layout.kinds) (length net) draft
   pub drawn : Drawn net (held stores) (news_of opened draft.made done) draft
   pub paired : Paired net (news_of opened draft.made done) pairs

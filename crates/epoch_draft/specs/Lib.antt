@@ -1,4 +1,5 @@
 pub mod Agenda
+pub mod Candidates
 pub mod Closing
 pub mod Comes
 pub mod Deriving
@@ -11,6 +12,7 @@ pub mod Meeting
 pub mod Moves
 pub mod Pairs
 pub mod Purging
+pub mod Readying
 pub mod Settling
 pub mod Stores
 pub mod Suits

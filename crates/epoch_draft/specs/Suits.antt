@@ -2,8 +2,11 @@
 use Rattle.std.specs.Prelude.{◌≡◌, ⊤, ℕ, List, [], ◌∷◌, Option, Some, None}
 use Rattle.std.specs.List.{All}
 use Rattle.event_types.specs.Tuple.{TupleView}
+use Rattle.instances.specs.Keys.{EventFits}
+use Rattle.instances.specs.declared.instance.Instance.{Instance}
 use Rattle.semantics.specs.Denotation.{selected}
 use Rattle.scalar_expr.specs.Fits.{AllFit, Fits}
+use Rattle.binding_index.specs.KeyParts.{first_key}
 use Rattle.automaton.specs.States.{Net, step_at, wait_at}
 use Rattle.automaton.specs.declared.step.Stage.{Stage}
 use Rattle.automaton.specs.declared.step.Stage.TheVariants.{Keep, Make}
@@ -39,10 +42,15 @@ WaySuits net tuple (Back number) = ⊤
 abbrev pub LeavingSuits : Net → ℕ → TupleView → Type 0
 LeavingSuits net number tuple = All (WaySuits net tuple) (ways_at net number)
 
--- the wait of a state, if it has one, suits the tuple with each instance there, and the ways out of the state suit what leaves it then
+-- a wait suits a tuple with each of these instances, the ways out of its state suit what leaves it then, and the tuple has the attribute that the key of its condition names
+pub record MeetsAt (net : Net) (number : ℕ) (wait : Wait) (store : List Instance) (tuple : TupleView) : Type 0 where
+  pub instances : All (λ instance. WaitSuits wait instance.tuple tuple) store
+  pub leaving : All (λ made. LeavingSuits net number made.tuple) (met wait store tuple)
+  pub key : EventFits (first_key wait.choose) tuple
+
+-- the same of the wait of a state with the instances there, if it has one
 abbrev pub MeetingSuits : Net → Stores → TupleView → ℕ → Type 0
-MeetingSuits net stores tuple number =
-    (wait : Wait) → wait_at net number ≡ Some wait → All (λ instance. WaitSuits wait instance.tuple tuple) (stores number) × All (λ made. LeavingSuits net number made.tuple) (met wait (stores number) tuple)
+MeetingSuits net stores tuple number = (wait : Wait) → wait_at net number ≡ Some wait → MeetsAt net number wait (stores number) tuple
 
 -- all that reads the stream suits the tuple
 pub record TupleSuits (net : Net) (stores : Stores) (stream : ℕ) (tuple : TupleView) : Type 0 where

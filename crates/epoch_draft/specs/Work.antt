@@ -1,7 +1,9 @@
 -- The steps that an epoch may take: the tests of conditions.
 use Rattle.std.specs.Prelude.{ℕ, ◌+◌, List, [], ◌∷◌, Option, Some, None, sum_by}
 use Rattle.event_types.specs.Tuple.{TupleView}
+use Rattle.instances.specs.Keys.{candidates_of}
 use Rattle.instances.specs.declared.instance.Instance.{Instance}
+use Rattle.binding_index.specs.KeyParts.{first_key}
 use Rattle.automaton.specs.States.{Net, step_at, wait_at}
 use Rattle.automaton.specs.declared.step.Stage.{Stage}
 use Rattle.automaton.specs.declared.step.Stage.TheVariants.{Keep, Make}
@@ -40,10 +42,10 @@ pair_work wait = 1 + turn_work wait.fold
 abbrev pub binding_work : Net → ℕ → Wait → TupleView → Instance → ℕ
 binding_work net number wait tuple instance = pair_work wait + sum_by (λ made. ways_work net (ways_at net number)) (paired wait instance.tuple tuple)
 
--- the tests of a tuple with all of these instances at a state, if it waits so
+-- the tests of a tuple with those of these instances at a state that it may match as far as the key tells, if it waits so
 abbrev pub met_work : Net → ℕ → Option Wait → List Instance → TupleView → ℕ
 met_work net number None store tuple = 0
-met_work net number (Some wait) store tuple = sum_by (binding_work net number wait tuple) store
+met_work net number (Some wait) store tuple = sum_by (binding_work net number wait tuple) (candidates_of (first_key wait.choose) tuple store)
 
 -- the tests of a tuple at the state with a number
 abbrev pub state_work : Net → Stores → TupleView → ℕ → ℕ

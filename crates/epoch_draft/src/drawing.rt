@@ -7,6 +7,8 @@ ghost use Rattle.epoch_draft.specs.Deriving.{AreOpened, AreReadersOfAll, CanDraw
 ghost use Rattle.epoch_draft.specs.Agenda.{ArePlaces};
 ghost use Rattle.epoch_draft.specs.Drafts.{DraftFits, EndsBelow};
 ghost use Rattle.epoch_draft.specs.Held.{held};
+ghost use Rattle.epoch_draft.specs.Readying.{HaveKeys};
+ghost use Rattle.epoch_draft.specs.Stores.{HasStores};
 ghost use Rattle.epoch_draft.specs.Suits.{TupleSuits};
 ghost use Rattle.epoch_draft.specs.Tests.{stream_work, streams_work};
 
@@ -45,6 +47,7 @@ pub fn draw<L: Ledger>(
     requires no_beads { (state : ℕ) → slice_index_or draft.old.beads state [] ≡ [] }
     requires no_pairs { pairs.old ≡ [] }
     ensures drawn { OnOk result (DrawnUpTo network.now layout.now stores.now opened.now layout.now.order draft.new pairs.new) }
+    ensures keys { OnOk result (HaveKeys stores.now draft.new.beads) }
     ensures ticks { OnOk result (steps.new ≤ steps.old + (streams_work network.now (held stores.now) opened.now touched.now + streams_work network.now (held stores.now) draft.new.made layout.now.order)) }
 {
     meet_opened(
@@ -149,7 +152,7 @@ fn derive_stream<L: Ledger>(
     requires network { IsNetwork network.now }
     requires readers { AreReadersOf network.now readers.now }
     requires read { stream < length readers.now }
-    requires stores { length stores.now ≡ length network.now }
+    requires stores { HasStores network.now stores.now }
     requires stream { stream < length draft.old.made }
     requires below { EndsBelow network.now (length draft.old.made) }
     requires fits { DraftFits (length draft.old.made) (length network.now) draft.old }

@@ -24,6 +24,7 @@ mod marks;
 mod meeting;
 mod passing;
 mod purging;
+mod readying;
 mod settling;
 mod stores;
 
@@ -38,5 +39,6 @@ pub use laws::{
 };
 pub use marks::Marks;
 pub use purging::purge_all;
+pub use readying::make_room;
 pub use settling::settle;
 pub use stores::{Stores, empty_stores, stored};

@@ -13,6 +13,7 @@ ghost use Rattle.epoch_draft.specs.Held.{held};
 ghost use Rattle.epoch_draft.specs.Meeting.{Lists, ListsAll, met_at, moves_met, moves_of, moves_of_all, pair_of};
 ghost use Rattle.epoch_draft.specs.Moves.{moves_from, moves_on};
 ghost use Rattle.epoch_draft.specs.Pairs.{followed, met, paired, paired_with};
+ghost use Rattle.epoch_draft.specs.Stores.{HasStores};
 ghost use Rattle.epoch_draft.specs.Suits.{LeavingSuits, MeetingSuits, TupleSuits, TurnSuits, WaitSuits, WaySuits};
 ghost use Rattle.epoch_draft.specs.Tests.{stream_work, tuple_work};
 ghost use Rattle.epoch_draft.specs.Work.{binding_work, pair_work, state_work, turn_work, ways_work};
@@ -143,7 +144,7 @@ fn meet_instances<L: Ledger>(
     Ok(())
 }
 
-// What the tuple makes of the instances at a state leaves it.
+// What the tuple makes of the instances at a state leaves it. Those of its key alone are looked at.
 fn meet_wait<L: Ledger>(
     alloc: Global,
     network: &Network,
@@ -155,7 +156,7 @@ fn meet_wait<L: Ledger>(
 ) -> Result<(), Memory>
     requires network { IsNetwork network.now }
     requires used { IsTrue (is_used network.now state) }
-    requires stores { length stores.now ≡ length network.now }
+    requires stores { HasStores network.now stores.now }
     requires below { EndsBelow network.now (length draft.old.made) }
     requires fits { DraftFits (length draft.old.made) (length network.now) draft.old }
     requires suits { MeetingSuits network.now (held stores.now) tuple.now state }
@@ -195,7 +196,7 @@ fn meet_waits<L: Ledger>(
 ) -> Result<(), Memory>
     requires network { IsNetwork network.now }
     requires used { All (λ state. IsTrue (is_used network.now state)) states.now }
-    requires stores { length stores.now ≡ length network.now }
+    requires stores { HasStores network.now stores.now }
     requires below { EndsBelow network.now (length draft.old.made) }
     requires fits { DraftFits (length draft.old.made) (length network.now) draft.old }
     requires suits { All (MeetingSuits network.now (held stores.now) tuple.now) states.now }
@@ -281,7 +282,7 @@ fn meet_tuple<L: Ledger>(
     requires network { IsNetwork network.now }
     requires readers { AreReadersOf network.now readers.now }
     requires stream { stream < length readers.now }
-    requires stores { length stores.now ≡ length network.now }
+    requires stores { HasStores network.now stores.now }
     requires below { EndsBelow network.now (length draft.old.made) }
     requires fits { DraftFits (length draft.old.made) (length network.now) draft.old }
     requires suits { TupleSuits network.now (held stores.now) stream tuple.now }
@@ -330,7 +331,7 @@ pub(crate) fn meet_stream<L: Ledger>(
     requires network { IsNetwork network.now }
     requires readers { AreReadersOf network.now readers.now }
     requires stream { stream < length readers.now }
-    requires stores { length stores.now ≡ length network.now }
+    requires stores { HasStores network.now stores.now }
     requires below { EndsBelow network.now (length draft.old.made) }
     requires fits { DraftFits (length draft.old.made) (length network.now) draft.old }
     requires suits { All (TupleSuits network.now (held stores.now) stream) tuples.now }

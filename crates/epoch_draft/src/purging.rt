@@ -7,7 +7,8 @@ ghost use Rattle.epoch_draft.specs.Purging.{AreAllPurged, ArePurgedIn, IsPurgedA
 
 use crate::stores::Stores;
 use automaton::Network;
-use instances::{PlainStore, Waiting};
+use binding_index::Store;
+use instances::Waiting;
 
 /// Takes out of the store of each waiting state the instances that no event after this time can match, as
 /// the bounds on DUR tell. Takes no memory.
@@ -50,7 +51,7 @@ fn is_waiting(network: &Network, number: usize) -> bool
 }
 
 // Purges the store of a state, if it has one.
-fn purge(slot: &mut Option<PlainStore>, time: u64)
+fn purge(slot: &mut Option<Store>, time: u64)
     ensures purged { instances_in slot.new ≡ alive_in (time + 1) slot.old }
     ensures shape { shape_of slot.new ≡ shape_of slot.old }
 {

@@ -1,24 +1,33 @@
 //! The second half of the closing: what was made of an epoch is put in place. Nothing here takes memory.
 ghost use Rattle.std.specs.Prelude.{◌≡◌, ◌+◌, ◌<◌, ◌≤◌, ◌++◌, [], ℕ, None, Some, Contains, IsPermutation, IsTrue, filter, length, not, slice_index_or, take};
 ghost use Rattle.std.specs.List.{All};
-ghost use Rattle.instances.specs.Plain.{Plain};
+ghost use Rattle.instances.specs.Keys.{EventFits, candidates_of};
 ghost use Rattle.semantics.specs.Nexts.{is_eligible};
 ghost use Rattle.scalar_expr.specs.Fits.{AllFit};
 ghost use Rattle.automaton.specs.States.{is_used, wait_at};
 ghost use Rattle.automaton.specs.declared.wait.Wait.{Wait};
+ghost use Rattle.binding_index.specs.KeyParts.{first_key};
+ghost use Rattle.binding_index.specs.Leads.{ready_in};
+ghost use Rattle.binding_index.specs.Stores.{condition_of, instances_of, key_of, ready_of};
+ghost use Rattle.binding_index.specs.declared.store.Store.{Store as Stored};
+ghost use Rattle.epoch_laws.specs.Events.{IsKeyOf};
 ghost use Rattle.epoch_draft.specs.Deriving.{CanDraw, DrawnUpTo, news_of};
+ghost use Rattle.epoch_draft.specs.Candidates.{candidates_at};
 ghost use Rattle.epoch_draft.specs.Drafts.{DraftFits};
-ghost use Rattle.epoch_draft.specs.Held.{held, instances_in, shape_of};
+ghost use Rattle.epoch_draft.specs.Held.{held, instances_in, key_in, shape_of};
 ghost use Rattle.epoch_draft.specs.Purging.{ListsBounded};
+ghost use Rattle.epoch_draft.specs.Readying.{HasRoom, HaveRoom, HaveRoomIn};
+ghost use Rattle.epoch_draft.specs.Stores.{HasStores};
 ghost use Rattle.epoch_draft.specs.Settling.{AreClosed, AreLinked, AreSettled, AreTaken, IsTakenAt, PairSuits, takes_work, tuples_in};
 
 use crate::draft::{Beads, Draft, Lists, Pair, Pairs};
 use crate::purging::purge_listed;
 use crate::stores::Stores;
 use automaton::{Layout, Network};
+use binding_index::Store;
 use event_types::{StreamId, Tuple, Tuples};
 use inst_chain::Chain;
-use instances::{Instance, PlainStore, Waiting};
+use instances::{Instance, Waiting};
 use scalar_expr::Conj;
 use steps::{Ledger, Steps};
 
@@ -37,11 +46,12 @@ pub fn settle<L: Ledger>(
 )
     requires can_draw { CanDraw network.now layout.now stores.old opened.now }
     requires drawn { DrawnUpTo network.now layout.now stores.old opened.now layout.now.order draft.old pairs.now }
+    requires room { HaveRoom stores.old draft.old.beads }
     requires bounded { ListsBounded network.now (length network.now) bounded.now }
     ensures closed { AreClosed (time + 1) network.now (news_of opened.now draft.old.made layout.now.order) stores.old stores.new }
     ensures made { draft.new.made ≡ draft.old.made }
     ensures fits { DraftFits (length layout.now.kinds) (length network.now) draft.new }
-    ensures ticks { steps.new ≤ steps.old + takes_work (held stores.old) pairs.now }
+    ensures ticks { steps.new ≤ steps.old + takes_work network.now (news_of opened.now draft.old.made layout.now.order) (held stores.old) pairs.now }
 {
     step(network, layout, stores, opened, draft, pairs, steps);
     purge_listed(stores, bounded, time);
@@ -59,10 +69,11 @@ fn step<L: Ledger>(
 )
     requires can_draw { CanDraw network.now _layout.now stores.old opened.now }
     requires drawn { DrawnUpTo network.now _layout.now stores.old opened.now _layout.now.order draft.old pairs.now }
+    requires room { HaveRoom stores.old draft.old.beads }
     ensures settled { AreSettled network.now (news_of opened.now draft.old.made _layout.now.order) stores.old stores.new }
     ensures made { draft.new.made ≡ draft.old.made }
     ensures fits { DraftFits (length _layout.now.kinds) (length network.now) draft.new }
-    ensures ticks { steps.new ≤ steps.old + takes_work (held stores.old) pairs.now }
+    ensures ticks { steps.new ≤ steps.old + takes_work network.now (news_of opened.now draft.old.made _layout.now.order) (held stores.old) pairs.now }
 {
     take_all(
         network,
@@ -84,11 +95,11 @@ fn take_all<L: Ledger>(
     pairs: &[Pair],
     steps: &mut Steps<L>,
 )
-    requires stores { length stores.old ≡ length network.now }
+    requires stores { HasStores network.now stores.old }
     requires as_many { length made.now ≡ length opened.now }
     requires pairs { All (PairSuits network.now (tuples_in opened.now made.now) (length opened.now) (held stores.old)) pairs.now }
     ensures taken { AreTaken network.now (tuples_in opened.now made.now) pairs.now stores.old stores.new }
-    ensures ticks { steps.new ≤ steps.old + takes_work (held stores.old) pairs.now }
+    ensures ticks { steps.new ≤ steps.old + takes_work network.now (tuples_in opened.now made.now) (held stores.old) pairs.now }
 {
     for pair in pairs {
         let tuples = tuples_on(opened, made, pair.stream);
@@ -119,10 +130,11 @@ fn take_at<L: Ledger>(
     steps: &mut Steps<L>,
 )
     requires used { IsTrue (is_used network.now state) }
-    requires stores { state < length stores.old }
+    requires stores { HasStores network.now stores.old }
+    requires key { (wait : Wait) → wait_at network.now state ≡ Some wait → EventFits (first_key wait.choose) tuple.now }
     requires fits { (wait : Wait) → wait_at network.now state ≡ Some wait → All (λ instance. AllFit wait.choose tuple.now (Some instance.tuple)) (held stores.old state) }
     ensures taken { IsTakenAt network.now tuple.now state stores.old stores.new }
-    ensures ticks { steps.new ≤ steps.old + length (held stores.old state) }
+    ensures ticks { steps.new ≤ steps.old + length (candidates_at network.now (held stores.old) tuple.now state) }
 {
     if let Some(wait) = network.wait(state) {
         take_in(stores.get_mut(state), &wait.choose, tuple, steps);
@@ -130,16 +142,14 @@ fn take_at<L: Ledger>(
 }
 
 // Takes the instances out of a store that the tuple matches.
-fn take_in<L: Ledger>(
-    slot: &mut Option<PlainStore>,
-    choose: &Conj,
-    tuple: &Tuple,
-    steps: &mut Steps<L>,
-)
-    requires { All (λ instance. AllFit choose.now tuple.now (Some instance.tuple)) (instances_in slot.old) }
+fn take_in<L: Ledger>(slot: &mut Option<Store>, choose: &Conj, tuple: &Tuple, steps: &mut Steps<L>)
+    requires is_key { IsKeyOf (key_in slot.old) choose.now }
+    requires key { EventFits (key_in slot.old) tuple.now }
+    requires fits { All (λ instance. AllFit choose.now tuple.now (Some instance.tuple)) (instances_in slot.old) }
     ensures instances { instances_in slot.new ≡ filter (λ instance. not (is_eligible choose.now instance.tuple tuple.now)) (instances_in slot.old) }
     ensures shape { shape_of slot.new ≡ shape_of slot.old }
-    ensures ticks { steps.new ≤ steps.old + length (instances_in slot.old) }
+    ensures ready { ready_in slot.new ≡ ready_in slot.old }
+    ensures ticks { steps.new ≤ steps.old + length (candidates_of (key_in slot.old) tuple.now (instances_in slot.old)) }
 {
     if let Some(store) = slot {
         store.take(tuple, choose, steps);
@@ -150,6 +160,7 @@ fn take_in<L: Ledger>(
 fn link_all(stores: &mut Stores, beads: &mut Beads, numbers: &[usize])
     requires stores { All (λ number. number < length stores.old) numbers.now }
     requires beads { All (λ number. number < length beads.old) numbers.now }
+    requires room { HaveRoom stores.old beads.old }
     requires once { (place : ℕ) → place < length numbers.now → Contains (take place numbers.now) (slice_index_or numbers.now place 0) → ⊥ }
     ensures linked { AreLinked numbers.now beads.old stores.old stores.new }
     ensures as_many { length beads.new ≡ length beads.old }
@@ -161,8 +172,9 @@ fn link_all(stores: &mut Stores, beads: &mut Beads, numbers: &[usize])
 }
 
 // Puts beads into a store.
-fn link_in(slot: &mut Option<PlainStore>, beads: &mut Chain<Instance>)
-    ensures instances { (store : Plain) → slot.old ≡ Some store → IsPermutation (instances_in slot.new) (store.instances ++ beads.old) }
+fn link_in(slot: &mut Option<Store>, beads: &mut Chain<Instance>)
+    requires { HaveRoomIn slot.old beads.old }
+    ensures instances { (store : Stored) → slot.old ≡ Some store → IsPermutation (instances_in slot.new) (instances_of store ++ beads.old) }
     ensures idle { beads.old ≡ [] → slot.new ≡ slot.old }
     ensures shape { shape_of slot.new ≡ shape_of slot.old }
 {
@@ -172,10 +184,12 @@ fn link_in(slot: &mut Option<PlainStore>, beads: &mut Chain<Instance>)
 }
 
 // Puts beads into the store.
-fn link(store: &mut PlainStore, beads: &mut Chain<Instance>)
-    ensures instances { IsPermutation store.new.instances (store.old.instances ++ beads.old) }
+fn link(store: &mut Store, beads: &mut Chain<Instance>)
+    requires { All (HasRoom (key_of store.old) (ready_of store.old)) beads.old }
+    ensures instances { IsPermutation (instances_of store.new) (instances_of store.old ++ beads.old) }
     ensures idle { beads.old ≡ [] → store.new ≡ store.old }
-    ensures condition { store.new.condition ≡ store.old.condition }
+    ensures condition { condition_of store.new ≡ condition_of store.old }
+    ensures key { key_of store.new ≡ key_of store.old }
 {
     let mut walk = beads.walk();
     while let Some(bead) = walk.unlink() {

@@ -1,17 +1,20 @@
 //! The stores of a network's waiting states.
-ghost use Rattle.std.specs.Prelude.{◌≡◌, ◌-◌, ◌^◌, ◌<◌, IfOk, length, min, sum_by};
+ghost use Rattle.std.specs.Prelude.{◌≡◌, ◌-◌, ◌^◌, ◌<◌, [], IfOk, length, min, sum_by};
+ghost use Rattle.std.specs.Option.{option_map};
 ghost use Rattle.automaton.specs.States.{wait_at};
-ghost use Rattle.epoch_draft.specs.Held.{instances_in};
-ghost use Rattle.epoch_draft.specs.Stores.{AreNewStores, IsNewIn};
+ghost use Rattle.epoch_draft.specs.Held.{instances_in, shape_for, shape_of};
+ghost use Rattle.epoch_draft.specs.Stores.{AreNewStores};
 
 use crate::filling::add;
 use automaton::Network;
+use binding_index::Store;
 use event_types::{List, Memory};
-use instances::{PlainStore, Waiting};
+use instances::Waiting;
 use std::alloc::Global;
 
-/// A store for each waiting state, by its number.
-pub type Stores = List<Option<PlainStore>>;
+/// A store for each waiting state, by its number, which finds instances by the key of the state's condition,
+/// where that has one.
+pub type Stores = List<Option<Store>>;
 
 /// An empty store for each waiting state.
 pub fn empty_stores(alloc: Global, network: &Network) -> Result<Stores, Memory>
@@ -25,19 +28,16 @@ pub fn empty_stores(alloc: Global, network: &Network) -> Result<Stores, Memory>
 }
 
 // An empty store for the state with a number, if it is a waiting state.
-fn empty_store(
-    alloc: Global,
-    network: &Network,
-    number: usize,
-) -> Result<Option<PlainStore>, Memory>
+fn empty_store(alloc: Global, network: &Network, number: usize) -> Result<Option<Store>, Memory>
     requires { number < length network.now }
-    ensures { IfOk result (λ slot. IsNewIn (wait_at network.now number) slot) }
+    ensures shape { IfOk result (λ slot. shape_of slot ≡ option_map (λ wait. shape_for wait.choose) (wait_at network.now number)) }
+    ensures empty { IfOk result (λ slot. instances_in slot ≡ []) }
 {
     if !network.used(number) {
         return Ok(None);
     }
     match network.wait(number) {
-        Some(wait) => Ok(Some(PlainStore::make(alloc, &wait.choose)?)),
+        Some(wait) => Ok(Some(Store::make(alloc, &wait.choose)?)),
         None => Ok(None),
     }
 }
@@ -54,7 +54,7 @@ pub fn stored(stores: &Stores) -> u64
 }
 
 // The number of the instances at a state, or 2^64-1 where there are more.
-fn stored_in(slot: &Option<PlainStore>) -> u64
+fn stored_in(slot: &Option<Store>) -> u64
     ensures { result ≡ min (length (instances_in slot.now)) (2 ^ 64 - 1) }
 {
     match slot {

@@ -9,6 +9,7 @@ use Rattle.epoch_draft.specs.Tests.{stream_work}
 use Rattle.epoch_draft.proofs.AgendaLemmas.{ended_until, first_within, fresh_below, fresh_part, planned_next, popped_until, rest_within, work_to}
 use Rattle.epoch_draft.proofs.DeriveLemmas.{below, derived_step, derived_work, made_suits}
 use Rattle.epoch_draft.proofs.MarkLemmas.{all_below}
+use Rattle.epoch_draft.proofs.StoreLemmas.{typed_has}
 use Rattle.epoch_draft.proofs.drawing.derive.Goals as goal
 
 pub plan-requires-clause-below : goal.plan-requires-clause-below
@@ -25,6 +26,9 @@ derive_stream-requires-clause-stream g c =
     let is = get_or_from_slice_get c.args.layout.now.order c.in-Some.place c.get-stream.result.now 0 c.get-stream.ensures in
     let there = below c.args.network.now c.args.layout.now c.args.stores.now c.args.opened.now c.requires.can_draw c.in-Some.place lt in
     let room = c.loop-place.invariant.until.fits.made in omega (arith, is, there, room)
+
+pub derive_stream-requires-clause-stores : goal.derive_stream-requires-clause-stores
+derive_stream-requires-clause-stores g c = typed_has c.args.network.now c.args.layout.now.kinds c.args.stores.now c.requires.can_draw.typed
 
 pub derive_stream-requires-clause-suits : goal.derive_stream-requires-clause-suits
 derive_stream-requires-clause-suits g c =

@@ -14,6 +14,7 @@ use Rattle.epoch_draft.specs.Tests.{stream_work}
 use Rattle.epoch_draft.proofs.DeriveLemmas.{opened_drawn, opened_more, paired_none, rows_suit}
 use Rattle.epoch_draft.proofs.DrawnLemmas.{drawn_starts}
 use Rattle.epoch_draft.proofs.Lists.{taken_all}
+use Rattle.epoch_draft.proofs.StoreLemmas.{typed_has}
 use Rattle.epoch_draft.proofs.drawing.meet_opened.Goals as goal
 
 pub loop-stream-init : goal.loop-stream-init
@@ -23,6 +24,9 @@ loop-stream-init g c = record {
   paired = paired_none c.args.network.now c.args.pairs.now c.requires.no_pairs;
   ticks = omega arith;
 }
+
+pub meet_stream-requires-clause-stores : goal.meet_stream-requires-clause-stores
+meet_stream-requires-clause-stores g c = typed_has c.args.network.now c.args.layout.now.kinds c.args.stores.now c.requires.can_draw.typed
 
 pub meet_stream-requires-clause-suits : goal.meet_stream-requires-clause-suits
 meet_stream-requires-clause-suits g c =

@@ -1,13 +1,18 @@
-use Rattle.std.proofs.Common.{◌≡◌, ◌∙◌, sym, subst, ℕ, ◌<◌, length, get_or, take, List, []}
+use Rattle.std.proofs.Common.{◌≡◌, ◌∙◌, ap, sym, subst, ℕ, ◌+◌, ◌<◌, ◌≤◌, length, get_or, take, List, []}
 use Rattle.std.specs.Prelude.{Contains}
 use Rattle.std.specs.List.{All}
 use Rattle.epoch_draft.specs.Held.{held}
-use Rattle.epoch_draft.specs.Settling.{AreLinked, AreTaken, PairSuits, tuples_in}
+use Rattle.epoch_draft.specs.Settling.{AreLinked, AreTaken, PairSuits, takes_work, tuples_in}
 use Rattle.epoch_draft.specs.declared.draft.Pair.{Pair}
 use Rattle.epoch_draft.proofs.MarkLemmas.{all_below}
-use Rattle.epoch_draft.proofs.SettleLemmas.{pairs_suit, settled}
+use Rattle.epoch_draft.proofs.ReadyLemmas.{room_same}
+use Rattle.epoch_draft.proofs.SettleLemmas.{pairs_suit, settled, takes_same}
+use Rattle.epoch_draft.proofs.StoreLemmas.{typed_has}
 use Rattle.epoch_draft.proofs.DraftLemmas.{linked_fits}
 use Rattle.epoch_draft.proofs.settling.step.Goals as goal
+
+pub take_all-requires-clause-stores : goal.take_all-requires-clause-stores
+take_all-requires-clause-stores g c = typed_has c.args.network.now c.args._layout.now.kinds c.args.stores.now c.requires.can_draw.typed
 
 pub take_all-requires-clause-pairs : goal.take_all-requires-clause-pairs
 take_all-requires-clause-pairs g c =
@@ -31,6 +36,19 @@ pub link_all-requires-clause-once : goal.link_all-requires-clause-once
 link_all-requires-clause-once g c =
     let fits = c.requires.drawn.fits in
     subst (λ (ns : List ℕ). (place : ℕ) → place < length ns → Contains (take place ns) (get_or ns place 0) → ⊥) (sym c.as_slice-2.ensures) fits.reached.once
+
+pub link_all-requires-clause-room : goal.link_all-requires-clause-room
+link_all-requires-clause-room g c = room_same c.args.stores.now c.take_all.new.stores c.args.draft.now.beads c.take_all.ensures.taken.same c.take_all.ensures.taken.ready c.requires.room
+
+pub returns-clause-ticks : goal.returns-clause-ticks
+returns-clause-ticks g c =
+    let net = c.args.network.now in
+    let opened = c.args.opened.now in
+    let draft = c.args.draft.now in
+    let stores = c.args.stores.now in
+    let pairs = c.args.pairs.now in
+    let work = ap (takes_work net (tuples_in opened draft.made) (held stores)) c.as_slice.ensures ∙ takes_same net c.args._layout.now stores opened draft pairs c.requires.can_draw c.requires.drawn in
+    subst (λ (n : ℕ). c.take_all.new.steps ≤ c.args.steps.now + n) work c.take_all.ensures.ticks
 
 pub returns-clause-settled : goal.returns-clause-settled
 returns-clause-settled g c =

@@ -1,12 +1,12 @@
 use Rattle.std.proofs.Common.{◌≡◌, ◌∙◌, sym, ap, length, get_or, take, List, arith}
-use Rattle.std.proofs.lemmas.List.Sums.{sum_by_more}
 use Rattle.std.specs.Prelude.{Some, slice_get}
 use Rattle.std.proofs.lemmas.List.Elements.{All-get_or}
 use Rattle.event_types.specs.Tuple.{TupleView}
 use Rattle.epoch_draft.specs.Held.{held}
 use Rattle.epoch_draft.specs.Settling.{PairSuits, tuples_in}
 use Rattle.epoch_draft.specs.declared.draft.Pair.{Pair}
-use Rattle.epoch_draft.proofs.SettleLemmas.{taken_fewer, taken_fits, taken_more, taken_none}
+use Rattle.epoch_draft.proofs.SettleLemmas.{taken_fewer, taken_fits, taken_more, taken_none, takes_more}
+use Rattle.epoch_draft.proofs.StoreLemmas.{same_has}
 use Rattle.epoch_draft.proofs.settling.take_all.Goals as goal
 
 abbrev nowhere : Pair
@@ -26,6 +26,18 @@ take_at-requires-clause-fits g c =
     let got : slice_get (news p.stream) p.place ≡ Some c.get.result.now = ap (λ (ts : List TupleView). slice_get ts p.place) (sym c.tuples_on-tuples.ensures) ∙ c.get.ensures in
     taken_fits net news (length c.args.opened.now) pairs (take i pairs) p c.args.stores.now c.loop-pair.stores c.loop-pair.invariant.taken suits c.get.result.now got
 
+pub take_at-requires-clause-stores : goal.take_at-requires-clause-stores
+take_at-requires-clause-stores g c = same_has c.args.network.now c.args.stores.now c.loop-pair.stores c.loop-pair.invariant.taken.same c.requires.stores
+
+pub take_at-requires-clause-key : goal.take_at-requires-clause-key
+take_at-requires-clause-key g c = λ w at.
+    let news = tuples_in c.args.opened.now c.args.made.now in
+    let pairs = c.args.pairs.now in
+    let i = c.loop-pair.pair-index in
+    let p = get_or pairs i nowhere in
+    let suits = All-get_or (PairSuits c.args.network.now news (length c.args.opened.now) (held c.args.stores.now)) pairs i nowhere c.loop-pair-test.true c.requires.pairs in
+    suits.key w c.get.result.now at (ap (λ (ts : List TupleView). slice_get ts p.place) (sym c.tuples_on-tuples.ensures) ∙ c.get.ensures)
+
 -- one pair more
 pub loop-pair-preserved : goal.loop-pair-preserved
 loop-pair-preserved g c =
@@ -35,8 +47,8 @@ loop-pair-preserved g c =
     let i = c.loop-pair.pair-index in
     let p = get_or pairs i nowhere in
     let got : slice_get (news p.stream) p.place ≡ Some c.get.result.now = ap (λ (ts : List TupleView). slice_get ts p.place) (sym c.tuples_on-tuples.ensures) ∙ c.get.ensures in
-    let more = sum_by_more (λ (q : Pair). length (held c.args.stores.now q.state)) pairs i nowhere c.loop-pair-test.true in
-    let fewer = taken_fewer net news (take i pairs) c.args.stores.now c.loop-pair.stores c.loop-pair.invariant.taken p.state in
+    let more = takes_more net news (held c.args.stores.now) pairs i nowhere c.get.result.now c.loop-pair-test.true got in
+    let fewer = taken_fewer net news (take i pairs) c.args.stores.now c.loop-pair.stores c.loop-pair.invariant.taken p.state c.get.result.now in
     let was = c.loop-pair.invariant.ticks in
     let one = c.take_at.ensures.ticks in
     record {

@@ -7,5 +7,5 @@ use Rattle.epoch_draft.proofs.settling.take_all.Given as goal
 abbrev pub invariant-loop-pair : goal.invariant-loop-pair
 invariant-loop-pair g l = record {
   taken : AreTaken l.network (tuples_in l.opened l.made) (take l.pair-index l.pairs) l.initial.stores l.stores;
-  ticks : l.steps ≤ l.initial.steps + takes_work (held l.initial.stores) (take l.pair-index l.pairs);
+  ticks : l.steps ≤ l.initial.steps + takes_work l.network (tuples_in l.opened l.made) (held l.initial.stores) (take l.pair-index l.pairs);
 }

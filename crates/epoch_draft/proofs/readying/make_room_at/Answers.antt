@@ -1,0 +1,59 @@
+use Rattle.std.proofs.Common.{◌∙◌, sym, ap, subst, ℕ, ◌<◌, [], List, length, get_or, arith}
+use Rattle.std.specs.Prelude.{Contains, None}
+use Rattle.std.specs.List.{All}
+use Rattle.std.proofs.lemmas.List.Elements.{All-get_or}
+use Rattle.std.proofs.lemmas.Option.{get_or_from_slice_get}
+use Rattle.instances.specs.Keys.{BindingFits}
+use Rattle.instances.specs.declared.instance.Instance.{Instance}
+use Rattle.epoch_draft.specs.Held.{instances_in, key_in, shape_of}
+use Rattle.epoch_draft.specs.Readying.{HaveRoomIn}
+use Rattle.epoch_draft.proofs.Lists.{taken_all}
+use Rattle.epoch_draft.proofs.ReadyLemmas.{readied_more, readied_none, stored_set}
+use Rattle.epoch_draft.proofs.StoreLemmas.{same_key}
+use Rattle.epoch_draft.proofs.readying.make_room_at.Goals as goal
+
+pub loop-number-init : goal.loop-number-init
+loop-number-init c = readied_none c.args.beads.now c.args.stores.now
+
+pub make_room_in-requires : goal.make_room_in-requires
+make_room_in-requires c =
+    let n = get_or c.args.numbers.now c.loop-number.number-index 0 in
+    let old = c.args.stores.now in
+    let now = c.loop-number.stores in
+    let beads = get_or_from_slice_get c.args.beads.now n c.get.result.now [] c.get.ensures in
+    let slot = get_or_from_slice_get now n c.get_mut.result.now None c.get_mut.ensures.value in
+    record {
+      keys =
+          subst (All (λ (i : Instance). BindingFits (key_in c.get_mut.result.now) i.tuple)) beads
+          (subst (λ k. All (λ (i : Instance). BindingFits k i.tuple) (get_or c.args.beads.now n [])) (sym (same_key old now c.loop-number.invariant.same.same n) ∙ ap key_in slot) (c.requires.keys n));
+    }
+
+-- want of memory leaves all instances
+pub returns-in_err-make_room_in-clause-same : goal.returns-in_err-make_room_in-clause-same
+returns-in_err-make_room_in-clause-same c =
+    let n = get_or c.args.numbers.now c.loop-number.number-index 0 in
+    let now = c.loop-number.stores in
+    let slot = sym (get_or_from_slice_get now n c.get_mut.result.now None c.get_mut.ensures.value) in
+    let below = All-get_or (λ n. n < length c.args.stores.now) c.args.numbers.now c.loop-number.number-index 0 c.loop-number-test.true c.requires.stores in
+    let same = c.loop-number.invariant.same.same.as_many in
+    stored_set c.args.stores.now now n c.make_room_in.new.slot (omega (arith, below, same)) c.loop-number.invariant.same (c.make_room_in.ensures.shape ∙ ap shape_of slot) (c.make_room_in.ensures.instances ∙ ap instances_in slot)
+
+-- one state more
+pub loop-number-preserved : goal.loop-number-preserved
+loop-number-preserved c =
+    let ns = c.args.numbers.now in
+    let i = c.loop-number.number-index in
+    let n = get_or ns i 0 in
+    let now = c.loop-number.stores in
+    let slot = sym (get_or_from_slice_get now n c.get_mut.result.now None c.get_mut.ensures.value) in
+    let beads = sym (get_or_from_slice_get c.args.beads.now n c.get.result.now [] c.get.ensures) in
+    let below = All-get_or (λ n. n < length c.args.stores.now) ns i 0 c.loop-number-test.true c.requires.stores in
+    let same = c.loop-number.invariant.same.same.as_many in
+    readied_more ns i c.args.beads.now c.args.stores.now now c.make_room_in.new.slot c.loop-number-test.true (omega (arith, below, same)) (c.make_room_in.ensures.shape ∙ ap shape_of slot)
+    (c.make_room_in.ensures.instances ∙ ap instances_in slot) (subst (HaveRoomIn c.make_room_in.new.slot) beads c.in_ok-make_room_in.ensures.room) c.loop-number.invariant
+
+pub returns-clause-room : goal.returns-clause-room
+returns-clause-room c =
+    let stores = c.loop-number.stores in
+    let beads = c.args.beads.now in
+    subst (λ (ns : List ℕ). (n : ℕ) → Contains ns n → HaveRoomIn (get_or stores n None) (get_or beads n [])) (taken_all c.args.numbers.now c.loop-number.number-index c.loop-number-test.false) c.loop-number.invariant.room

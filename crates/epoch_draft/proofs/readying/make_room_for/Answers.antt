@@ -1,0 +1,54 @@
+use Rattle.std.proofs.Common.{◌≡◌, ◌∙◌, sym, refl, subst, []}
+use Rattle.std.specs.Prelude.{Option}
+use Rattle.std.specs.List.{All}
+use Rattle.std.proofs.lemmas.List.Elements.{All-contains_itself, All-head, All-nil, All-tail}
+use Rattle.instances.specs.Keys.{BindingFits, Key}
+use Rattle.instances.specs.declared.instance.Instance.{Instance}
+use Rattle.binding_index.specs.Stores.{key_of, ready_of}
+use Rattle.epoch_draft.specs.Readying.{HasRoom}
+use Rattle.epoch_draft.proofs.MeetLemmas.{head_none}
+use Rattle.epoch_draft.proofs.ReadyLemmas.{more_trans, room_more}
+use Rattle.epoch_draft.proofs.readying.make_room_for.Goals as goal
+
+pub loop-instance-init : goal.loop-instance-init
+loop-instance-init c = record {
+  keys = c.requires.keys;
+  room = λ ready more room. room;
+  more = All-contains_itself (ready_of c.args.store.now);
+  condition = refl;
+  key = refl;
+  same = refl;
+}
+
+-- room for one more
+pub loop-instance-preserved : goal.loop-instance-preserved
+loop-instance-preserved c =
+    let was = c.loop-instance.invariant in
+    let i = c.in-Some.instance.now in
+    let rest = c.next.new.self in
+    let old = c.loop-instance.store in
+    let new = c.ready.new.self in
+    let fits = λ (k : Option Key) (i : Instance). BindingFits k i.tuple in
+    let keys = subst (All (fits (key_of old))) c.in-Some.ensures.rest was.keys in
+    let same = c.ready.ensures.same_key in
+    record {
+      keys = subst (λ (k : Option Key). All (fits k) rest) (sym same) (All-tail (fits (key_of old)) i rest keys);
+      room = λ ready more room.
+          let before = more_trans (ready_of old) (ready_of new) ready c.ready.ensures.more_ready more in
+          let one : HasRoom (key_of old) (ready_of new) i = record { fits = All-head (fits (key_of old)) i rest keys; is_ready = c.in_ok-ready.ensures.ok } in
+          let all = room_more (key_of old) (ready_of new) ready i rest more one (subst (λ (k : Option Key). All (HasRoom k ready) rest) same room) in
+          subst (λ (k : Option Key). All (HasRoom k ready) c.args.instances) (sym same) (was.room ready before (subst (All (HasRoom (key_of old) ready)) (sym c.in-Some.ensures.rest) all));
+      more = more_trans (ready_of c.args.store.now) (ready_of old) (ready_of new) was.more c.ready.ensures.more_ready;
+      condition = c.ready.ensures.same_condition ∙ was.condition;
+      key = same ∙ was.key;
+      same = c.ready.ensures.same_instances ∙ was.same;
+    }
+
+pub returns-in_err-ready-clause-more : goal.returns-in_err-ready-clause-more
+returns-in_err-ready-clause-more c = more_trans (ready_of c.args.store.now) (ready_of c.loop-instance.store) (ready_of c.ready.new.self) c.loop-instance.invariant.more c.ready.ensures.more_ready
+
+pub returns-clause-room : goal.returns-clause-room
+returns-clause-room c =
+    let store = c.loop-instance.store in
+    let none : c.loop-instance.instances ≡ [] = head_none c.loop-instance.instances c.in_default.ensures.first in
+    c.loop-instance.invariant.room (ready_of store) (All-contains_itself (ready_of store)) (subst (All (HasRoom (key_of store) (ready_of store))) (sym none) (All-nil (HasRoom (key_of store) (ready_of store))))

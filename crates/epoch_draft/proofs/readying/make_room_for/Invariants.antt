@@ -1,0 +1,23 @@
+use Rattle.std.proofs.Common.{◌≡◌, length, List}
+use Rattle.std.specs.Prelude.{Contains}
+use Rattle.std.specs.List.{All}
+use Rattle.event_types.specs.declared.value.Value.{Value}
+use Rattle.instances.specs.Keys.{BindingFits}
+use Rattle.instances.specs.declared.instance.Instance.{Instance}
+use Rattle.binding_index.specs.Stores.{condition_of, instances_of, key_of, ready_of}
+use Rattle.epoch_draft.specs.Readying.{HasRoom}
+use Rattle.epoch_draft.proofs.readying.make_room_for.Given as goal
+
+-- once there is room for those that are left, there is room for all
+abbrev pub invariant-loop-instance : goal.invariant-loop-instance
+invariant-loop-instance l = record {
+  keys : All (λ (i : Instance). BindingFits (key_of l.store) i.tuple) l.instances;
+  room : (ready : List Value) → All (Contains ready) (ready_of l.store) → All (HasRoom (key_of l.store) ready) l.instances → All (HasRoom (key_of l.store) ready) l.initial.instances;
+  more : All (Contains (ready_of l.store)) (ready_of l.initial.store);
+  condition : condition_of l.store ≡ condition_of l.initial.store;
+  key : key_of l.store ≡ key_of l.initial.store;
+  same : instances_of l.store ≡ instances_of l.initial.store;
+}
+
+abbrev pub decreases-loop-instance : goal.decreases-loop-instance
+decreases-loop-instance l = length l.instances
