@@ -14,7 +14,7 @@ use Rattle.std.proofs.lemmas.List.{get_or-set_other, length-drop, length-set, ta
 use Rattle.std.proofs.lemmas.List.Elements.{All-contains, All-contains_itself, All-head, All-push, All-tail, All-weaker, Contains-append_cases, Contains-append_left, Contains-append_right, Contains-push, Contains-push_cases}
 use Rattle.std.proofs.lemmas.List.Sums.{sum_by_more}
 use Rattle.event_types.specs.Tuple.{TupleView}
-use Rattle.instances.specs.Plain.{Plain}
+use Rattle.binding_index.specs.declared.store.Store.{Store}
 use Rattle.automaton.specs.States.{Net}
 use Rattle.automaton.specs.declared.layout.Layout.{Layout}
 use Rattle.epoch_draft.specs.Agenda.{AreFrom, ArePlaces, IsPlanned}
@@ -125,7 +125,7 @@ fresh_is old new more = ap (drop (length old.numbers)) more.is ∙ drop-append_s
 pub undue_none : (order : List ℕ) (draft : Draft) (k : ℕ) → ((s : ℕ) → (get_or draft.made s [] ≡ []) ⊎ Contains draft.due.numbers s) → (Contains draft.due.numbers (get_or order k 0) → ⊥) → get_or draft.made (get_or order k 0) [] ≡ []
 undue_none order draft k due absent = unmarked_none (get_or draft.made (get_or order k 0) []) draft.due.numbers (get_or order k 0) (due (get_or order k 0)) absent
 
-module _ (net : Net) (layout : Layout) (stores : List (Option Plain)) (opened : List (List TupleView)) (can : CanDraw net layout stores opened) (draft : Draft) (pairs : List Pair) where
+module _ (net : Net) (layout : Layout) (stores : List (Option Store)) (opened : List (List TupleView)) (can : CanDraw net layout stores opened) (draft : Draft) (pairs : List Pair) where
   -- the streams from one place to another have no tuples
   abbrev pub AreIdle : ℕ → ℕ → Type 0
   AreIdle i p = (k : ℕ) → i ≤ k → k < p → get_or draft.made (get_or layout.order k 0) [] ≡ []
@@ -162,14 +162,14 @@ module _ (net : Net) (layout : Layout) (stores : List (Option Plain)) (opened : 
       (λ k after lt. undue_none layout.order draft k was.fits.due_all (λ c. none (filled_list keys k (planned k after lt c)))) was)
 
 -- the tests of more streams are no fewer, by induction on how many more they are
-work_many : (net : Net) (stores : List (Option Plain)) (made : List (List TupleView)) (order : List ℕ) (n i p : ℕ) → i + n ≡ p → p ≤ length order → streams_work net (held stores) made (take i order) ≤ streams_work net (held stores) made (take p order)
+work_many : (net : Net) (stores : List (Option Store)) (made : List (List TupleView)) (order : List ℕ) (n i p : ℕ) → i + n ≡ p → p ≤ length order → streams_work net (held stores) made (take i order) ≤ streams_work net (held stores) made (take p order)
 work_many net stores made order zero i p is below = subst (λ (m : ℕ). streams_work net (held stores) made (take i order) ≤ streams_work net (held stores) made (take m order)) (let same : i ≡ p = omega (arith, is) in same) (omega arith)
 work_many net stores made order (suc n) i p is below =
     let one = sum_by_more (λ s. stream_work net (held stores) s (get_or made s [])) order i 0 (omega (arith, is, below)) in
     let rest = work_many net stores made order n (i + 1) p (omega (arith, is)) below in omega (arith, one, rest)
 
 -- the tests of more streams are no fewer
-pub work_to : (net : Net) (stores : List (Option Plain)) (made : List (List TupleView)) (order : List ℕ) (i p : ℕ) → i ≤ p → p ≤ length order → streams_work net (held stores) made (take i order) ≤ streams_work net (held stores) made (take p order)
+pub work_to : (net : Net) (stores : List (Option Store)) (made : List (List TupleView)) (order : List ℕ) (i p : ℕ) → i ≤ p → p ≤ length order → streams_work net (held stores) made (take i order) ≤ streams_work net (held stores) made (take p order)
 work_to net stores made order i p from below = work_many net stores made order (p - i) i p (omega (arith, from)) below
 
 -- the streams so far have their places, and the others the order's length

@@ -102,7 +102,7 @@ room_same old new beads same ready room n =
     (subst (λ (vs : List Value). All (HasRoom (key_in (get_or old n None)) vs) (get_or beads n [])) (sym (ready n)) (room n))
 
 -- the instances that go back have the kinds of those that wait
-again_kinds : (fold : Option Turn) (bs es out : List Kind) (rows : List Instance) → TurnGives fold bs es out → All (λ (i : Instance). HasKinds out i.tuple) rows → All (λ (i : Instance). HasKinds bs i.tuple) (again fold rows)
+pub again_kinds : (fold : Option Turn) (bs es out : List Kind) (rows : List Instance) → TurnGives fold bs es out → All (λ (i : Instance). HasKinds out i.tuple) rows → All (λ (i : Instance). HasKinds bs i.tuple) (again fold rows)
 again_kinds None bs es out rows gives all = All-nil (λ (i : Instance). HasKinds bs i.tuple)
 again_kinds (Some turn) bs es out rows gives all = subst (λ ks. All (λ (i : Instance). HasKinds ks i.tuple) rows) (sym gives.2) all
 

@@ -15,8 +15,9 @@ use Rattle.semantics.specs.Scalars.{Pr}
 use Rattle.binding_index.specs.KeyParts.{first_key}
 use Rattle.binding_index.specs.Stores.{condition_of, instances_of, key_of}
 use Rattle.binding_index.specs.declared.store.Store.{Store}
-use Rattle.automaton.specs.States.{Net}
+use Rattle.automaton.specs.States.{Net, wait_at}
 use Rattle.automaton.specs.declared.layout.Layout.{Layout}
+use Rattle.automaton.specs.declared.wait.Wait.{Wait}
 use Rattle.epoch_laws.specs.Closing.{IsEpoch, Stores, stores_after}
 use Rattle.epoch_draft.specs.Deriving.{CanDraw, DrawnUpTo, news_of}
 use Rattle.epoch_draft.specs.Drawn.{Drawn}
@@ -65,20 +66,27 @@ same_has net old new same has = record { as_many = same.as_many ∙ has.as_many;
 pub held_same : (old new : List (Option Store)) → SameStored old new → held old ≡ held new
 held_same old new same = λ i n. sym (same.held n) i
 
-typed_same : (net : Net) (kinds : List (List Kind)) (old new : List (Option Store)) → SameStored old new → IsTyped net kinds old → IsTyped net kinds new
-typed_same net kinds old new same typed = record {
+-- stores of the same shapes are typed where their instances have the kinds of their states
+pub shaped_typed : (net : Net) (kinds : List (List Kind)) (old new : List (Option Store)) → (typed : IsTyped net kinds old) → SameShapes old new
+    → ((n : ℕ) (w : Wait) → wait_at net n ≡ Some w → All (λ (i : Instance). HasKinds (typed.kinding.waiting n) i.tuple) (held new n)) → IsTyped net kinds new
+shaped_typed net kinds old new typed same have = record {
   kinding = typed.kinding;
   states = typed.states;
-  as_many = same.same.as_many ∙ typed.as_many;
+  as_many = same.as_many ∙ typed.as_many;
   has_stores = λ n w at.
-      let was = typed.has_stores n w at in
-      let now = has_store (get_or new n None) (shape_for w.choose) (same.same.shapes n ∙ (typed_has net kinds old typed).shapes n w at) in
-      let here : instances_of was.0 ≡ instances_of now.0 = sym (ap instances_in was.1) ∙ sym (same.held n) ∙ ap instances_in now.1 in (
+      let now = has_store (get_or new n None) (shape_for w.choose) (same.shapes n ∙ (typed_has net kinds old typed).shapes n w at) in (
         now.0,
         now.1,
-        record { condition = now.2; key = now.3; instances = subst (All (λ (i : Instance). HasKinds (typed.kinding.waiting n) i.tuple)) here was.2.instances },
+        record { condition = now.2; key = now.3; instances = subst (λ (o : Option Store). All (λ (i : Instance). HasKinds (typed.kinding.waiting n) i.tuple) (instances_in o)) now.1 (have n w at) },
       );
 }
+
+-- so are stores with the same instances
+pub typed_same : (net : Net) (kinds : List (List Kind)) (old new : List (Option Store)) → SameStored old new → IsTyped net kinds old → IsTyped net kinds new
+typed_same net kinds old new same typed =
+    shaped_typed net kinds old new typed same.same
+    (λ n w at.
+    let was = typed.has_stores n w at in subst (All (λ (i : Instance). HasKinds (typed.kinding.waiting n) i.tuple)) (sym (ap instances_in was.1) ∙ sym (same.held n)) was.2.instances)
 
 -- what may be drawn over stores may be drawn over those with the same instances
 pub can_draw_same : (net : Net) (layout : Layout) (old new : List (Option Store)) (opened : List (List TupleView)) → SameStored old new → CanDraw net layout old opened → CanDraw net layout new opened

@@ -6,7 +6,7 @@ use Rattle.std.proofs.lemmas.List.Elements.{All-append, All-filter, All-map, All
 use Rattle.std.proofs.lemmas.List.Sorted.{All-permutation, IsPermutation-sym}
 use Rattle.event_types.specs.declared.kind.Kind.{Kind}
 use Rattle.instances.specs.Alive.{is_alive}
-use Rattle.instances.specs.Plain.{Plain}
+use Rattle.binding_index.specs.declared.store.Store.{Store}
 use Rattle.instances.specs.declared.instance.Instance.{Instance}
 use Rattle.semantics.specs.Denotation.{Streams}
 use Rattle.semantics.specs.Kinds.{HasKinds}
@@ -27,47 +27,12 @@ use Rattle.epoch_draft.specs.Held.{SameShapes, held, instances_in, shape_of}
 use Rattle.epoch_draft.specs.Settling.{AreClosed}
 use Rattle.epoch_draft.specs.Typed.{HaveKinds, IsStoreOf, IsTyped}
 use Rattle.epoch_draft.proofs.StateLemmas.{at_wait, hop_typed, some_is, wait_entry, wait_typed}
+use Rattle.epoch_draft.proofs.StoreLemmas.{shaped_typed}
 use Rattle.epoch_draft.proofs.SuitLemmas.{instances_typed, leaves_kinds}
-use Rattle.epoch_draft.proofs.TypingLemmas.{passed_kinds, took_kinds}
+use Rattle.epoch_draft.proofs.TypingLemmas.{entered_kinds, took_kinds}
+use Rattle.epoch_draft.proofs.ReadyLemmas.{again_kinds}
 
--- what goes back to a wait has the kinds of its bindings
-again_kinds : (w : Wait) (bs es out : List Kind) (fold : Option Turn) → w.fold ≡ fold → WaitGives w bs es out → (store : List Instance) → All (λ (i : Instance). HasKinds out i.tuple) store → All (λ (i : Instance). HasKinds bs i.tuple) (again fold store)
-again_kinds w bs es out None is h store all = All-nil (λ (i : Instance). HasKinds bs i.tuple)
-again_kinds w bs es out (Some turn) is h store all =
-    let gives = subst (λ (f : Option Turn). TurnGives f bs es out) is h.1 in subst (λ (ks : List Kind). All (λ (i : Instance). HasKinds ks i.tuple) store) (sym gives.2) all
-
--- what enters a hop has the kinds that its step gives
-entered_kinds : (hop : Hop) (ks out : List Kind) (store : List Instance) → StepGives hop.step ks out → All (λ (i : Instance). HasKinds ks i.tuple) store → All (λ (i : Instance). HasKinds out i.tuple) (instances_entering hop store)
-entered_kinds hop ks out store gives all =
-    map_all (HasKinds out) (λ (i : Instance). i.tuple) (instances_entering hop store)
-    (subst (All (HasKinds out)) (sym (passing_bindings hop.step store)) (passed_kinds hop.step ks out (bindings_of store) gives (All-map (HasKinds ks) (λ (i : Instance). i.tuple) store all)))
-
--- stores that are made for the same conditions are typed where their instances have the kinds of their states
-pub shaped_typed : (net : Net) (kinds : List (List Kind)) (old new : List (Option Plain)) → (typed : IsTyped net kinds old) → SameShapes old new
-    → ((n : ℕ) (w : Wait) → wait_at net n ≡ Some w → All (λ (i : Instance). HasKinds (typed.kinding.waiting n) i.tuple) (held new n)) → IsTyped net kinds new
-shaped_typed net kinds old new typed same have = record { kinding = typed.kinding; states = typed.states; as_many = same.as_many ∙ typed.as_many; has_stores = store_of }
-  where
-    store_of : (n : ℕ) (w : Wait) → wait_at net n ≡ Some w → (store : Plain) × (get_or new n None ≡ Some store) × IsStoreOf w (typed.kinding.waiting n) store
-    store_of n w at = go (get_or new n None) refl
-      where
-        shape : shape_of (get_or new n None) ≡ Some w.choose
-        shape = let was = typed.has_stores n w at in same.shapes n ∙ ap shape_of was.1 ∙ ap Some was.2.condition
-
-        go : (o : Option Plain) → get_or new n None ≡ o → (store : Plain) × (get_or new n None ≡ Some store) × IsStoreOf w (typed.kinding.waiting n) store
-        go None e = absurd (none_some (sym (ap shape_of e) ∙ shape))
-          where
-            none_some : None ≡ Some w.choose → ⊥
-            none_some e = cc
-        go (Some store) e = (
-          store,
-          e,
-          record {
-            condition = some_is store.condition w.choose (sym (ap shape_of e) ∙ shape);
-            instances = subst (λ (o : Option Plain). All (λ (i : Instance). HasKinds (typed.kinding.waiting n) i.tuple) (instances_in o)) e (have n w at);
-          },
-        )
-
-module _ (net : Net) (network : IsNetwork net) (kinds : List (List Kind)) (stores : List (Option Plain)) (typed : IsTyped net kinds stores) (news : Streams) (have : HaveKinds kinds news) where
+module _ (net : Net) (network : IsNetwork net) (kinds : List (List Kind)) (stores : List (Option Store)) (typed : IsTyped net kinds stores) (news : Streams) (have : HaveKinds kinds news) where
   -- the instances of a waiting state after the epoch have its kinds
   after_kinds : (n : ℕ) (w : Wait) → wait_at net n ≡ Some w → All (λ (i : Instance). HasKinds (typed.kinding.waiting n) i.tuple) (stores_after net news (held stores) n)
   after_kinds n w at_w =
@@ -78,9 +43,9 @@ module _ (net : Net) (network : IsNetwork net) (kinds : List (List Kind)) (store
       let one = wait_typed kinds net typed.kinding typed.states n w at_w in
       let hop = hop_typed kinds net typed.kinding typed.states n w at in
       let came = leaves_kinds net network kinds stores typed news have at.before in
-      let entered = entered_kinds at.hop (typed.kinding.leaving at.before) bs (leaving_state net news (held stores) at.before) hop.step came in
+      let entered = entered_kinds at.hop.step (typed.kinding.leaving at.before) bs (leaving_state net news (held stores) at.before) hop.step came in
       let went = took_kinds w bs one.event (typed.kinding.leaving n) (held stores n) (news w.stream) one.gives (have w.stream one.event one.known) mine in
-      let back = again_kinds w bs one.event (typed.kinding.leaving n) w.fold refl one.gives (took w.choose w.fold (news w.stream) (held stores n)) went in
+      let back = again_kinds w.fold bs one.event (typed.kinding.leaving n) (took w.choose w.fold (news w.stream) (held stores n)) one.gives.1 went in
       let comes = instances_entering at.hop (leaving_state net news (held stores) at.before) in
       let returns = again w.fold (took w.choose w.fold (news w.stream) (held stores n)) in
       subst (All P)
@@ -92,7 +57,7 @@ module _ (net : Net) (network : IsNetwork net) (kinds : List (List Kind)) (store
       (All-append P comes returns entered back))
 
   -- the stores after a closing are typed
-  pub closed_typed : (time : ℕ) (new : List (Option Plain)) → AreClosed time net news stores new → IsTyped net kinds new
+  pub closed_typed : (time : ℕ) (new : List (Option Store)) → AreClosed time net news stores new → IsTyped net kinds new
   closed_typed time new closed =
       shaped_typed net kinds stores new typed closed.same
       (λ n w at.

@@ -5,7 +5,7 @@ use Rattle.std.specs.List.{All}
 use Rattle.std.proofs.lemmas.List.Elements.{All-contains, All-head, All-tail, All-weaker}
 use Rattle.event_types.specs.Order.{sorted}
 use Rattle.event_types.specs.Tuple.{TupleView}
-use Rattle.instances.specs.Plain.{Plain}
+use Rattle.binding_index.specs.declared.store.Store.{Store}
 use Rattle.semantics.specs.Denotation.{streams_of}
 use Rattle.automaton.specs.States.{Net}
 use Rattle.automaton.specs.Work.{is_in}
@@ -36,7 +36,7 @@ results opened made batch order outs printed ordered is =
         sym (All-contains (λ t. sorted (get_or made t []) ≡ get_or made t []) order s ordered (contains_in order s e)) ∙ ap (λ b. sorted (cond b (get_or made s []) (get_or opened s []))) (sym e)
 
 -- an epoch that was drawn and settled is taken
-pub taken : (net : Net) (layout : Layout) (time : ℕ) (old new : List (Option Plain)) (opened batch : List (List TupleView)) (draft : Draft) (pairs : List Pair) → All (λ s. IsTrue (is_in layout.order s)) layout.outs
+pub taken : (net : Net) (layout : Layout) (time : ℕ) (old new : List (Option Store)) (opened batch : List (List TupleView)) (draft : Draft) (pairs : List Pair) → All (λ s. IsTrue (is_in layout.order s)) layout.outs
     → DrawnUpTo net layout old opened layout.order draft pairs → AreClosed (time + 1) net (news_of opened draft.made layout.order) old new → IsOfMade layout.outs draft.made batch
     → IsTaken net layout time (held old) (streams_of opened) (held new) batch
 taken net layout time old new opened batch draft pairs printed drawn closed is = record {
@@ -48,7 +48,7 @@ taken net layout time old new opened batch draft pairs printed drawn closed is =
 }
 
 -- its stores are typed
-pub typed_after : (net : Net) (layout : Layout) (old new : List (Option Plain)) (opened : List (List TupleView)) (draft : Draft) (pairs : List Pair) → CanDraw net layout old opened → DrawnUpTo net layout old opened layout.order draft pairs
+pub typed_after : (net : Net) (layout : Layout) (old new : List (Option Store)) (opened : List (List TupleView)) (draft : Draft) (pairs : List Pair) → CanDraw net layout old opened → DrawnUpTo net layout old opened layout.order draft pairs
     → (time : Option ℕ) → IsSome time → IfSome time (λ t. AreClosed (t + 1) net (news_of opened draft.made layout.order) old new) → IsTyped net layout.kinds new
 typed_after net layout old new opened draft pairs can drawn None opens closed = absurd (cc)
 typed_after net layout old new opened draft pairs can drawn (Some t) opens closed = closed_typed net can.network layout.kinds old can.typed (news_of opened draft.made layout.order) drawn.kinds (t + 1) new closed

@@ -10,14 +10,14 @@ use Rattle.std.proofs.lemmas.List.Elements.{All-cons, All-head, All-nil, All-pus
 use Rattle.std.proofs.lemmas.Option.{get_or_from_slice_get, slice_get_within}
 use Rattle.event_types.specs.declared.kind.Kind.{Kind}
 use Rattle.event_types.specs.Tuple.{TupleView}
-use Rattle.instances.specs.Plain.{Plain}
+use Rattle.binding_index.specs.declared.store.Store.{Store}
 use Rattle.instances.specs.declared.instance.Instance.{Instance}
 use Rattle.semantics.specs.Denotation.{streams_of}
 use Rattle.semantics.specs.Kinds.{HasKinds}
 use Rattle.automaton.specs.LineKinds.{LineFits}
 use Rattle.automaton.specs.NetworkLines.{NetworkFits}
 use Rattle.automaton.specs.Networks.{IsNetwork}
-use Rattle.automaton.specs.States.{Net, ends_at, state_at, wait_at}
+use Rattle.automaton.specs.States.{Net, ends_at, state_at}
 use Rattle.automaton.specs.Work.{IsInOrder, is_in}
 use Rattle.automaton.specs.declared.layout.Layout.{Layout}
 use Rattle.automaton.specs.declared.line.Line.{Line}
@@ -28,16 +28,17 @@ use Rattle.epoch_laws.specs.Closing.{Stores}
 use Rattle.epoch_laws.proofs.Lists.{every}
 use Rattle.epoch_draft.specs.Deriving.{AreOpened}
 use Rattle.epoch_draft.specs.Drafts.{EndsBelow}
-use Rattle.epoch_draft.specs.Held.{held, instances_in}
+use Rattle.epoch_draft.specs.Held.{SameStored, held, instances_in, shape_for, shape_of}
 use Rattle.epoch_draft.specs.Kindings.{EndFits}
 use Rattle.epoch_draft.specs.Marks.{MarksMore}
-use Rattle.epoch_draft.specs.Stores.{AreNewStores, IsNewIn}
+use Rattle.epoch_draft.specs.Stores.{AreNewStores}
 use Rattle.epoch_draft.specs.Typed.{HaveKinds, IsStoreOf, IsTyped}
 use Rattle.epoch_draft.specs.declared.marks.Marks.{Marks}
 use Rattle.epoch_draft.proofs.DeriveLemmas.{in_contains, not_done}
 use Rattle.epoch_draft.proofs.Lists.{same_or_other}
-use Rattle.epoch_draft.proofs.MarkLemmas.{all_below}
+use Rattle.epoch_draft.proofs.MarkLemmas.{all_below, marks_kept}
 use Rattle.epoch_draft.proofs.StateLemmas.{some_is}
+use Rattle.epoch_draft.proofs.StoreLemmas.{has_store, typed_same}
 use Rattle.epoch_engine.specs.Closes.{Closes, IsTaken}
 use Rattle.epoch_engine.specs.EngineView.{EngineView, stores_in}
 use Rattle.epoch_engine.specs.Running.{AreTouched, IsPlan, IsRunning}
@@ -46,15 +47,15 @@ use Rattle.epoch_engine.specs.declared.plan.Plan.{Plan}
 use Rattle.epoch_engine.proofs.KindingLemmas.{AreStatesTyped, fitting_typed}
 
 -- what contracts see of these parts
-abbrev pub view_of : Plan → List (Option Plain) → Epoch → Option ℕ → EngineView
+abbrev pub view_of : Plan → List (Option Store) → Epoch → Option ℕ → EngineView
 view_of plan stores epoch closed_time =
     record { network = plan.merged; layout = plan.layout; stores = map instances_in stores; opened = epoch.tuples; time = epoch.time; closed_time = closed_time }
 
 -- the instances of each state, as a view has them
-pub held_in : (stores : List (Option Plain)) → (λ n. get_or (map instances_in stores) n []) ≡ held stores
+pub held_in : (stores : List (Option Store)) → (λ n. get_or (map instances_in stores) n []) ≡ held stores
 held_in stores = λ i n. each stores n i
   where
-    each : (stores : List (Option Plain)) (n : ℕ) → get_or (map instances_in stores) n [] ≡ instances_in (get_or stores n None)
+    each : (stores : List (Option Store)) (n : ℕ) → get_or (map instances_in stores) n [] ≡ instances_in (get_or stores n None)
     each [] zero = refl
     each [] (suc n) = refl
     each (o ∷ stores) zero = refl
@@ -135,15 +136,16 @@ none_have : (kinds : List (List Kind)) (tuples : List (List TupleView)) → ((s 
 none_have kinds tuples none s known is = subst (All (HasKinds known)) (sym (none s)) (All-nil (HasKinds known))
 
 -- a new store is that of its wait
-new_typed : (w : Wait) (kinds : List Kind) (slot : Option Plain) → IsNewIn (Some w) slot → (store : Plain) × (slot ≡ Some store) × IsStoreOf w kinds store
-new_typed w kinds slot new = (
-  new.0,
-  new.1,
-  record { condition = new.2.condition; instances = subst (All (λ (i : Instance). HasKinds kinds i.tuple)) (sym new.2.instances) (All-nil (λ (i : Instance). HasKinds kinds i.tuple)) },
-)
+new_typed : (w : Wait) (kinds : List Kind) (slot : Option Store) → shape_of slot ≡ Some (shape_for w.choose) → instances_in slot ≡ [] → (store : Store) × (slot ≡ Some store) × IsStoreOf w kinds store
+new_typed w kinds slot shape none =
+    let new = has_store slot (shape_for w.choose) shape in (
+      new.0,
+      new.1,
+      record { condition = new.2; key = new.3; instances = subst (All (λ (i : Instance). HasKinds kinds i.tuple)) (sym none ∙ ap instances_in new.1) (All-nil (λ (i : Instance). HasKinds kinds i.tuple)) },
+    )
 
 -- the parts of a new engine
-pub made_running : (plan : Plan) (stores : List (Option Plain)) (epoch : Epoch) → NetworkFits plan.merged plan.layout → IsNetwork plan.merged → IsPlan plan
+pub made_running : (plan : Plan) (stores : List (Option Store)) (epoch : Epoch) → NetworkFits plan.merged plan.layout → IsNetwork plan.merged → IsPlan plan
     → AreNewStores plan.merged stores → length epoch.tuples ≡ length plan.layout.kinds → ((s : ℕ) → get_or epoch.tuples s [] ≡ []) → AreTouched epoch.tuples epoch.touched
     → IsRunning plan stores epoch
 made_running plan stores epoch fits network is has as_many none touched =
@@ -156,8 +158,8 @@ made_running plan stores epoch fits network is has as_many none touched =
         typed = record {
           kinding = typed.0;
           states = typed.1;
-          as_many = has.as_many;
-          has_stores = λ n w at. new_typed w (typed.0.waiting n) (get_or stores n None) (subst (λ (o : Option Wait). IsNewIn o (get_or stores n None)) at (has.each n));
+          as_many = has.has.as_many;
+          has_stores = λ n w at. new_typed w (typed.0.waiting n) (get_or stores n None) (has.has.shapes n w at) (has.empty n);
         };
         kinds = none_have plan.layout.kinds epoch.tuples none;
         as_many = as_many;
@@ -169,7 +171,7 @@ made_running plan stores epoch fits network is has as_many none touched =
     }
 
 -- other stores that are typed
-pub with_typed : (plan : Plan) (stores after : List (Option Plain)) (epoch : Epoch) → IsRunning plan stores epoch → IsTyped plan.merged plan.layout.kinds after → IsRunning plan after epoch
+pub with_typed : (plan : Plan) (stores after : List (Option Store)) (epoch : Epoch) → IsRunning plan stores epoch → IsTyped plan.merged plan.layout.kinds after → IsRunning plan after epoch
 with_typed plan stores after epoch running typed = record {
   plan_is = running.plan_is;
   can_draw = record {
@@ -186,8 +188,23 @@ with_typed plan stores after epoch running typed = record {
   touched = running.touched;
 }
 
+-- stores with the same instances
+pub with_same : (plan : Plan) (stores after : List (Option Store)) (epoch : Epoch) → SameStored stores after → IsRunning plan stores epoch → IsRunning plan after epoch
+with_same plan stores after epoch same running = with_typed plan stores after epoch running (typed_same plan.merged plan.layout.kinds stores after same running.can_draw.typed)
+
+-- lists as long as each other with the same lists of instances
+same_lists : (old new : List (Option Store)) → length new ≡ length old → ((n : ℕ) → instances_in (get_or new n None) ≡ instances_in (get_or old n None)) → map instances_in new ≡ map instances_in old
+same_lists [] [] long same = refl
+same_lists [] (slot ∷ new) long same = absurd (omega (arith, long))
+same_lists (slot ∷ old) [] long same = absurd (omega (arith, long))
+same_lists (slot ∷ old) (other ∷ new) long same = λ i. same 0 i ∷ same_lists old new (omega (arith, long)) (λ n. same (suc n)) i
+
+-- a view has the same of such stores
+pub view_same : (plan : Plan) (stores after : List (Option Store)) (epoch : Epoch) (closed_time : Option ℕ) → SameStored stores after → view_of plan after epoch closed_time ≡ view_of plan stores epoch closed_time
+view_same plan stores after epoch closed_time same = λ i. record (view_of plan stores epoch closed_time) { stores = same_lists stores after same.same.as_many same.held i }
+
 -- other open tuples of their kinds, none of them on a derived stream
-with_tuples : (plan : Plan) (stores : List (Option Plain)) (old new : Epoch) → IsRunning plan stores old → HaveKinds plan.layout.kinds (streams_of new.tuples) → length new.tuples ≡ length old.tuples
+with_tuples : (plan : Plan) (stores : List (Option Store)) (old new : Epoch) → IsRunning plan stores old → HaveKinds plan.layout.kinds (streams_of new.tuples) → length new.tuples ≡ length old.tuples
     → All (λ s. get_or new.tuples s [] ≡ []) plan.layout.order → AreTouched new.tuples new.touched → IsRunning plan stores new
 with_tuples plan stores old new running kinds as_many underived touched = record {
   plan_is = running.plan_is;
@@ -206,12 +223,12 @@ with_tuples plan stores old new running kinds as_many underived touched = record
 }
 
 -- an epoch that was closed
-pub closed_running : (plan : Plan) (stores : List (Option Plain)) (old new : Epoch) → IsRunning plan stores old → length new.tuples ≡ length old.tuples → ((s : ℕ) → get_or new.tuples s [] ≡ []) → AreTouched new.tuples new.touched → IsRunning plan stores new
+pub closed_running : (plan : Plan) (stores : List (Option Store)) (old new : Epoch) → IsRunning plan stores old → length new.tuples ≡ length old.tuples → ((s : ℕ) → get_or new.tuples s [] ≡ []) → AreTouched new.tuples new.touched → IsRunning plan stores new
 closed_running plan stores old new running as_many none touched =
     with_tuples plan stores old new running (none_have plan.layout.kinds new.tuples none) as_many (every (λ s. get_or new.tuples s [] ≡ []) none plan.layout.order) touched
 
 -- an epoch that is as it was, but for what is marked
-pub kept_running : (plan : Plan) (stores : List (Option Plain)) (old new : Epoch) → IsRunning plan stores old → new.tuples ≡ old.tuples → AreTouched new.tuples new.touched → IsRunning plan stores new
+pub kept_running : (plan : Plan) (stores : List (Option Store)) (old new : Epoch) → IsRunning plan stores old → new.tuples ≡ old.tuples → AreTouched new.tuples new.touched → IsRunning plan stores new
 kept_running plan stores old new running same touched =
     with_tuples plan stores old new running (subst (λ (ts : List (List TupleView)). HaveKinds plan.layout.kinds (streams_of ts)) (sym same) running.can_draw.kinds) (ap length same)
     (subst (λ (ts : List (List TupleView)). All (λ s. get_or ts s [] ≡ []) plan.layout.order) (sym same) running.can_draw.underived) touched
@@ -229,7 +246,7 @@ others_in s (n ∷ order) h = go (s == n) refl h (others_in s order)
     go false e h rest = All-cons (λ t. t ≡ s → ⊥) n order (other e) (rest h)
 
 -- one open tuple more
-pub offered_running : (plan : Plan) (stores : List (Option Plain)) (old new : Epoch) (s : ℕ) (known : List Kind) (tuple : TupleView) → IsRunning plan stores old → slice_get plan.layout.kinds s ≡ Some known → is_in plan.layout.order s ≡ false → HasKinds known tuple
+pub offered_running : (plan : Plan) (stores : List (Option Store)) (old new : Epoch) (s : ℕ) (known : List Kind) (tuple : TupleView) → IsRunning plan stores old → slice_get plan.layout.kinds s ≡ Some known → is_in plan.layout.order s ≡ false → HasKinds known tuple
     → new.tuples ≡ set old.tuples s (get_or old.tuples s [] ++ tuple ∷ []) → AreTouched new.tuples new.touched → IsRunning plan stores new
 offered_running plan stores old new s known tuple running is declared of_kinds put touched =
     with_tuples plan stores old new running (subst (λ (ts : List (List TupleView)). HaveKinds plan.layout.kinds (streams_of ts)) (sym put) kinds) (ap length put ∙ length-set old.tuples s more)
@@ -261,7 +278,7 @@ touched_more tuples touched more s rows h grown this = record { are = grown.are;
     go : (t : ℕ) → (t ≡ s) ⊎ (t ≡ s → ⊥) → (get_or tuples t [] ≡ []) ⊎ Contains touched.numbers t → (get_or (set tuples s rows) t [] ≡ []) ⊎ Contains more.numbers t
     go t (inl same) was = inr (subst (Contains more.numbers) (sym same) this)
     go t (inr other) (inl none) = inl (get_or-set_other tuples s t rows [] other ∙ none)
-    go t (inr other) (inr there) = inr (grown.kept t there)
+    go t (inr other) (inr there) = inr (marks_kept touched more grown t there)
 
 -- or not
 pub touched_same : (tuples : List (List TupleView)) (touched more : Marks) → AreTouched tuples touched → MarksMore touched more → AreTouched tuples more
@@ -269,7 +286,7 @@ touched_same tuples touched more h grown = record { are = grown.are; below = gro
   where
     go : (t : ℕ) → (get_or tuples t [] ≡ []) ⊎ Contains touched.numbers t → (get_or tuples t [] ≡ []) ⊎ Contains more.numbers t
     go t (inl none) = inl none
-    go t (inr there) = inr (grown.kept t there)
+    go t (inr there) = inr (marks_kept touched more grown t there)
 
 -- each stream that has tuples is listed once
 pub opened_streams : (tuples : List (List TupleView)) (touched : Marks) (numbers : List ℕ) → AreTouched tuples touched → numbers ≡ touched.numbers → AreOpened tuples numbers
@@ -280,16 +297,12 @@ opened_streams tuples touched numbers h e =
       all = h.all;
     })
 
-no_instances : (o : Option Wait) (slot : Option Plain) → IsNewIn o slot → instances_in slot ≡ []
-no_instances None slot new = ap instances_in new
-no_instances (Some w) slot new = ap instances_in new.1 ∙ new.2.instances
-
 -- new stores are empty
-pub made_empty : (net : Net) (stores : List (Option Plain)) → AreNewStores net stores → (n : ℕ) → get_or (map instances_in stores) n [] ≡ []
-made_empty net stores has n = (λ i. held_in stores i n) ∙ no_instances (wait_at net n) (get_or stores n None) (has.each n)
+pub made_empty : (net : Net) (stores : List (Option Store)) → AreNewStores net stores → (n : ℕ) → get_or (map instances_in stores) n [] ≡ []
+made_empty net stores has n = (λ i. held_in stores i n) ∙ has.empty n
 
 -- what the closing of an epoch makes of a view
-pub closes_view : (plan : Plan) (stores after : List (Option Plain)) (old new : Epoch) (closed_time : Option ℕ) (batch : List (List TupleView)) → ((s : ℕ) → get_or new.tuples s [] ≡ []) → length new.tuples ≡ length old.tuples → new.time ≡ None
+pub closes_view : (plan : Plan) (stores after : List (Option Store)) (old new : Epoch) (closed_time : Option ℕ) (batch : List (List TupleView)) → ((s : ℕ) → get_or new.tuples s [] ≡ []) → length new.tuples ≡ length old.tuples → new.time ≡ None
     → (was : Option ℕ) → old.time ≡ was → IsSome was → IfSome was (λ time. IsTaken plan.merged plan.layout time (held stores) (streams_of old.tuples) (held after) batch)
     → Closes (view_of plan stores old closed_time) (view_of plan after new old.time) batch
 closes_view plan stores after old new closed_time batch empty as_many none None is opened taken = absurd (cc)

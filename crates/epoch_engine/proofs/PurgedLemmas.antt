@@ -6,7 +6,8 @@ use Rattle.std.proofs.lemmas.List.Elements.{All-filter}
 use Rattle.event_types.specs.declared.kind.Kind.{Kind}
 use Rattle.instances.specs.Alive.{is_alive}
 use Rattle.instances.specs.Bounds.{alive_instances}
-use Rattle.instances.specs.Plain.{Plain}
+use Rattle.binding_index.specs.Stores.{instances_of}
+use Rattle.binding_index.specs.declared.store.Store.{Store}
 use Rattle.instances.specs.declared.instance.Instance.{Instance}
 use Rattle.semantics.specs.Kinds.{HasKinds}
 use Rattle.semantics.specs.Scalars.{Pr}
@@ -17,7 +18,7 @@ use Rattle.epoch_laws.specs.Closing.{Stores}
 use Rattle.epoch_draft.specs.Held.{held, instances_in}
 use Rattle.epoch_draft.specs.Purging.{AreAllPurged, alive_in}
 use Rattle.epoch_draft.specs.Typed.{IsTyped}
-use Rattle.epoch_draft.proofs.TypedLemmas.{shaped_typed}
+use Rattle.epoch_draft.proofs.StoreLemmas.{shaped_typed}
 use Rattle.epoch_engine.specs.Closes.{ArePurgedWhole}
 use Rattle.epoch_engine.specs.EngineView.{EngineView, stores_in}
 use Rattle.epoch_engine.specs.Running.{IsRunning}
@@ -26,13 +27,13 @@ use Rattle.epoch_engine.specs.declared.epoch.Epoch.{Epoch}
 use Rattle.epoch_engine.specs.declared.plan.Plan.{Plan}
 use Rattle.epoch_engine.proofs.EngineLemmas.{held_in, with_typed}
 
-module _ (time : ℕ) (net : Net) (kinds : List (List Kind)) (stores purged : List (Option Plain)) (typed : IsTyped net kinds stores) (all : AreAllPurged net time stores purged) where
+module _ (time : ℕ) (net : Net) (kinds : List (List Kind)) (stores purged : List (Option Store)) (typed : IsTyped net kinds stores) (all : AreAllPurged net time stores purged) where
   -- what each store has then
   left_is : (n : ℕ) (w : Wait) → wait_at net n ≡ Some w → held purged n ≡ alive_instances time w.choose (held stores n)
   left_is n w at =
       let was = typed.has_stores n w at in
       let store = was.0 in
-      all.purged n w at ∙ ap (alive_in time) was.1 ∙ ap (λ (choose : List Pr). alive_instances time choose store.instances) was.2.condition ∙ ap (λ (o : Option Plain). alive_instances time w.choose (instances_in o)) (sym was.1)
+      all.purged n w at ∙ ap (alive_in time) was.1 ∙ ap (λ (choose : List Pr). alive_instances time choose (instances_of store)) was.2.condition ∙ ap (λ (o : Option Store). alive_instances time w.choose (instances_in o)) (sym was.1)
 
   -- each has what is alive
   purged_alive : ArePurgedWhole time net (held stores) (held purged)
@@ -47,19 +48,19 @@ module _ (time : ℕ) (net : Net) (kinds : List (List Kind)) (stores purged : Li
       (All-filter (λ (i : Instance). is_alive time w.choose i.tuple) (λ (i : Instance). HasKinds (typed.kinding.waiting n) i.tuple) (held stores n) (have n w at)))
     where
       have : (n : ℕ) (w : Wait) → wait_at net n ≡ Some w → All (λ (i : Instance). HasKinds (typed.kinding.waiting n) i.tuple) (held stores n)
-      have n w at = let was = typed.has_stores n w at in subst (λ (o : Option Plain). All (λ (i : Instance). HasKinds (typed.kinding.waiting n) i.tuple) (instances_in o)) (sym was.1) was.2.instances
+      have n w at = let was = typed.has_stores n w at in subst (λ (o : Option Store). All (λ (i : Instance). HasKinds (typed.kinding.waiting n) i.tuple) (instances_in o)) (sym was.1) was.2.instances
 
 -- a running engine goes on running
-pub purged_running : (time : ℕ) (plan : Plan) (stores purged : List (Option Plain)) (epoch : Epoch) → IsRunning plan stores epoch → AreAllPurged plan.merged time stores purged → IsRunning plan purged epoch
+pub purged_running : (time : ℕ) (plan : Plan) (stores purged : List (Option Store)) (epoch : Epoch) → IsRunning plan stores epoch → AreAllPurged plan.merged time stores purged → IsRunning plan purged epoch
 purged_running time plan stores purged epoch running all =
     with_typed plan stores purged epoch running (purged_typed time plan.merged plan.layout.kinds stores purged running.can_draw.typed all)
 
 -- as a view has the stores
-abbrev pub with_stores : EngineView → List (Option Plain) → EngineView
+abbrev pub with_stores : EngineView → List (Option Store) → EngineView
 with_stores engine stores = record engine { stores = map instances_in stores }
 
 -- what the purge makes of a view
-pub trims_view : (engine : EngineView) (time : ℕ) (stores purged : List (Option Plain)) → engine.closed_time ≡ Some time → IsTyped engine.network engine.layout.kinds stores → AreAllPurged engine.network (time + 1) stores purged
+pub trims_view : (engine : EngineView) (time : ℕ) (stores purged : List (Option Store)) → engine.closed_time ≡ Some time → IsTyped engine.network engine.layout.kinds stores → AreAllPurged engine.network (time + 1) stores purged
     → Trims (with_stores engine stores) (with_stores engine purged)
 trims_view engine time stores purged closed_time typed all = record {
   plan = record { network = refl; layout = refl };

@@ -2,7 +2,7 @@
 use Rattle.std.specs.Prelude.{◌≡◌, ℕ, ◌⊎◌, IfSome, IsTrue, List, [], Contains, length, Option, slice_index_or}
 use Rattle.std.specs.List.{All}
 use Rattle.event_types.specs.Tuple.{TupleView}
-use Rattle.instances.specs.Plain.{Plain}
+use Rattle.binding_index.specs.declared.store.Store.{Store}
 use Rattle.automaton.specs.Work.{is_in}
 use Rattle.epoch_draft.specs.Agenda.{ArePlaces}
 use Rattle.epoch_draft.specs.Deriving.{AreReadersOfAll, CanDraw}
@@ -29,7 +29,7 @@ pub record AreTouched (tuples : List (List TupleView)) (touched : Marks) : Type 
   pub all : (stream : ℕ) → (slice_index_or tuples stream [] ≡ []) ⊎ Contains touched.numbers stream
 
 -- the plan, the stores and the open epoch of an engine fit one another, so that the epoch may be drawn
-pub record IsRunning (plan : Plan) (stores : List (Option Plain)) (epoch : Epoch) : Type 0 where
+pub record IsRunning (plan : Plan) (stores : List (Option Store)) (epoch : Epoch) : Type 0 where
   pub plan_is : IsPlan plan
   pub can_draw : CanDraw plan.merged plan.layout stores epoch.tuples
   pub touched : AreTouched epoch.tuples epoch.touched
@@ -46,6 +46,6 @@ abbrev pub IsStillFor : Plan → Drawing → Type 0
 IsStillFor plan drawing = IsStill (length plan.layout.kinds) (length plan.merged) drawing
 
 -- the parts of an engine: they fit one another, and a drawing that is kept is still
-pub record IsEngine (plan : Plan) (stores : List (Option Plain)) (epoch : Epoch) (kept : Option Drawing) : Type 0 where
+pub record IsEngine (plan : Plan) (stores : List (Option Store)) (epoch : Epoch) (kept : Option Drawing) : Type 0 where
   pub running : IsRunning plan stores epoch
   pub still : IfSome kept (IsStillFor plan)

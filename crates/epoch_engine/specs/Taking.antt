@@ -1,7 +1,7 @@
 -- What the two halves of a closing do with the parts of an engine. No public clause names this.
 use Rattle.std.specs.Prelude.{◌+◌, List, IfSome, Option}
 use Rattle.event_types.specs.Tuple.{TupleView}
-use Rattle.instances.specs.Plain.{Plain}
+use Rattle.binding_index.specs.declared.store.Store.{Store}
 use Rattle.semantics.specs.Denotation.{streams_of}
 use Rattle.epoch_draft.specs.Deriving.{DrawnUpTo, news_of}
 use Rattle.epoch_draft.specs.Held.{held}
@@ -12,13 +12,13 @@ use Rattle.epoch_engine.specs.declared.epoch.Epoch.{Epoch}
 use Rattle.epoch_engine.specs.declared.plan.Plan.{Plan}
 
 -- all that comes of the open tuples over these stores is drawn
-abbrev pub IsDrawn : Plan → List (Option Plain) → Epoch → Drawing → Type 0
+abbrev pub IsDrawn : Plan → List (Option Store) → Epoch → Drawing → Type 0
 IsDrawn plan stores epoch drawing = DrawnUpTo plan.merged plan.layout stores epoch.tuples plan.layout.order drawing.draft drawing.pairs
 
 -- the stores are taken over an epoch that was drawn, and purged for the time after it
-abbrev pub IsSettled : Plan → Epoch → Drawing → List (Option Plain) → List (Option Plain) → Type 0
+abbrev pub IsSettled : Plan → Epoch → Drawing → List (Option Store) → List (Option Store) → Type 0
 IsSettled plan epoch drawing old new = IfSome epoch.time (λ time. AreClosed (time + 1) plan.merged (news_of epoch.tuples drawing.draft.made plan.layout.order) old new)
 
 -- so that the epoch is taken, with this batch
-abbrev pub TakesEpoch : Plan → Epoch → List (Option Plain) → List (Option Plain) → List (List TupleView) → Type 0
+abbrev pub TakesEpoch : Plan → Epoch → List (Option Store) → List (Option Store) → List (List TupleView) → Type 0
 TakesEpoch plan epoch old new batch = IfSome epoch.time (λ time. IsTaken plan.merged plan.layout time (held old) (streams_of epoch.tuples) (held new) batch)

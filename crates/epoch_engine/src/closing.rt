@@ -1,5 +1,7 @@
 //! The closing of an epoch.
 ghost use Rattle.std.specs.Prelude.{◌≡◌, IfOk, IsSome, OnErr, OnOk};
+ghost use Rattle.epoch_draft.specs.Held.{SameStored};
+ghost use Rattle.epoch_draft.specs.Readying.{HaveRoom};
 ghost use Rattle.epoch_draft.specs.Typed.{IsTyped};
 ghost use Rattle.epoch_engine.specs.Batches.{AreReady, IsOfMade};
 ghost use Rattle.epoch_engine.specs.Running.{IsRunning, IsStillFor};
@@ -9,12 +11,12 @@ use crate::batch::{Batch, fill, prepare};
 use crate::drawing::Drawing;
 use crate::epoch::Epoch;
 use crate::plan::Plan;
-use epoch_draft::{Stores, draw, settle};
+use epoch_draft::{Stores, draw, make_room, settle};
 use event_types::Memory;
 use std::alloc::Global;
 use steps::{Ledger, Steps};
 
-/// Takes the stores over the open epoch, and gives its results. Want of memory leaves the stores as they
+/// Takes the stores over the open epoch, and gives its results. Want of memory leaves all instances as they
 /// were, and the drawing is then of no more use.
 pub(crate) fn take_epoch<L: Ledger>(
     alloc: Global,
@@ -30,24 +32,27 @@ pub(crate) fn take_epoch<L: Ledger>(
     ensures taken { IfOk result (TakesEpoch plan.now epoch.now stores.old stores.new) }
     ensures typed { OnOk result (IsTyped plan.now.merged plan.now.layout.kinds stores.new) }
     ensures still { OnOk result (IsStillFor plan.now drawing.new) }
-    ensures kept { OnErr result (stores.new ≡ stores.old) }
+    ensures kept { OnErr result (SameStored stores.old stores.new) }
 {
     let batch = draw_epoch(alloc, plan, stores, epoch, drawing, steps)?;
     Ok(settle_epoch(plan, stores, epoch, drawing, batch, steps))
 }
 
-// Makes all that comes of the open tuples, and a batch that is prepared for it.
+// Makes all that comes of the open tuples, a batch that is prepared for it, and room in the stores, of which no
+// instance changes.
 fn draw_epoch<L: Ledger>(
     alloc: Global,
     plan: &Plan,
-    stores: &Stores,
+    stores: &mut Stores,
     epoch: &Epoch,
     drawing: &mut Drawing,
     steps: &mut Steps<L>,
 ) -> Result<Batch, Memory>
-    requires running { IsRunning plan.now stores.now epoch.now }
+    requires running { IsRunning plan.now stores.old epoch.now }
     requires still { IsStillFor plan.now drawing.old }
-    ensures drawn { OnOk result (IsDrawn plan.now stores.now epoch.now drawing.new) }
+    ensures drawn { OnOk result (IsDrawn plan.now stores.new epoch.now drawing.new) }
+    ensures room { OnOk result (HaveRoom stores.new drawing.new.draft.beads) }
+    ensures same { SameStored stores.old stores.new }
     ensures ready { IfOk result (AreReady plan.now.layout.outs plan.now.last drawing.new.draft.made) }
 {
     draw(
@@ -64,12 +69,14 @@ fn draw_epoch<L: Ledger>(
         &mut drawing.pairs,
         steps,
     )?;
-    prepare(
+    let batch = prepare(
         alloc,
         plan.layout.outs.as_slice(),
         &plan.last,
         &drawing.draft.made,
-    )
+    )?;
+    make_room(stores, &drawing.draft)?;
+    Ok(batch)
 }
 
 // Puts what was drawn in place, and moves the made tuples into the batch. Takes no memory.
@@ -84,6 +91,7 @@ fn settle_epoch<L: Ledger>(
     requires running { IsRunning plan.now stores.old epoch.now }
     requires opened { IsSome epoch.now.time }
     requires drawn { IsDrawn plan.now stores.old epoch.now drawing.old }
+    requires room { HaveRoom stores.old drawing.old.draft.beads }
     requires ready { AreReady plan.now.layout.outs plan.now.last drawing.old.draft.made batch }
     ensures settled { IsSettled plan.now epoch.now drawing.old stores.old stores.new }
     ensures batch { IsOfMade plan.now.layout.outs drawing.old.draft.made result }

@@ -1,4 +1,4 @@
-use Rattle.std.proofs.Common.{sym, subst, ℕ, ◌+◌, ◌≤◌, IsTrue, List}
+use Rattle.std.proofs.Common.{◌≡◌, sym, subst, ℕ, ◌+◌, ◌≤◌, ◌++◌, IsTrue, List, map}
 use Rattle.std.specs.Prelude.{sum_by}
 use Rattle.std.specs.List.{All, filter, flat_map}
 use Rattle.automaton.specs.States.{is_used}
@@ -9,7 +9,7 @@ use Rattle.stream_readers.specs.declared.target.Target.{Target}
 use Rattle.epoch_laws.specs.Instances.{begins}
 use Rattle.epoch_draft.specs.Drafts.{Grows}
 use Rattle.epoch_draft.specs.Held.{held}
-use Rattle.epoch_draft.specs.Meeting.{moves_met, moves_of}
+use Rattle.epoch_draft.specs.Meeting.{Lists, moves_met, moves_of, pair_of}
 use Rattle.epoch_draft.specs.Moves.{moves_on}
 use Rattle.epoch_draft.specs.Suits.{MeetingSuits, WaySuits}
 use Rattle.epoch_draft.specs.Tests.{tuple_work}
@@ -78,3 +78,16 @@ returns-clause-ticks g c =
     (λ two.
     both_within start mid end (ways_work net (flat_map (way_of net) targets)) (sum_by (state_work net stores t) states) (ways_work net (filter (looks net t) (ways_on net s))) (sum_by (state_work net stores t) (filter (hears net t) (waits_on net s))) one
     (subst (λ (ns : List ℕ). end ≤ mid + sum_by (state_work net stores t) ns) c.as_slice-2.ensures two) looked heard) c.meet_waits.ensures.ticks
+
+-- the states that are found are listed
+pub returns-clause-lists : goal.returns-clause-lists
+returns-clause-lists g c =
+    let net = c.args.network.now in
+    let s = c.args.stream in
+    let place = c.args.place in
+    let old = c.args.pairs.now in
+    let new = c.meet_waits.new.pairs in
+    let states = c.find_waits.new.found.waits in
+    on_ok c.meet_waits.result (new ≡ old ++ map (pair_of s place) c.as_slice-2.result.now) (Lists net s place c.args.tuple.now old new)
+    (λ are. record { found = states; finds = c.in_ok-find_waits.ensures.waits net c.requires.readers; are = subst (λ (ns : List ℕ). new ≡ old ++ map (pair_of s place) ns) c.as_slice-2.ensures are })
+    c.meet_waits.ensures.pairs

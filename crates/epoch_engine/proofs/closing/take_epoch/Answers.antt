@@ -1,6 +1,18 @@
+use Rattle.std.proofs.Common.{sym, subst}
 use Rattle.std.proofs.lemmas.Option.{IfSome_then}
+use Rattle.semantics.specs.Denotation.{streams_of}
+use Rattle.epoch_laws.specs.Closing.{Stores}
+use Rattle.epoch_draft.specs.Held.{held}
+use Rattle.epoch_draft.proofs.StoreLemmas.{can_draw_same, held_same}
+use Rattle.epoch_engine.specs.Closes.{IsTaken}
 use Rattle.epoch_engine.proofs.ClosedLemmas.{taken, typed_after}
+use Rattle.epoch_engine.proofs.EngineLemmas.{with_same}
 use Rattle.epoch_engine.proofs.closing.take_epoch.Goals as goal
+
+-- with room for what comes the engine runs as before
+pub settle_epoch-requires-clause-running : goal.settle_epoch-requires-clause-running
+settle_epoch-requires-clause-running g c =
+    with_same c.args.plan.now c.args.stores.now c.draw_epoch.new.stores c.args.epoch.now c.draw_epoch.ensures.same c.requires.running
 
 -- what was drawn and settled is taken
 pub returns-clause-taken : goal.returns-clause-taken
@@ -8,8 +20,13 @@ returns-clause-taken g c =
     let plan = c.args.plan.now in
     let epoch = c.args.epoch.now in
     let drawing = c.draw_epoch.new.drawing in
+    let mid = c.draw_epoch.new.stores in
+    let after = c.settle_epoch.new.stores in
+    let batch = c.settle_epoch.result in
     IfSome_then epoch.time c.settle_epoch.ensures.settled
-    (λ time closed. taken plan.merged plan.layout time c.args.stores.now c.settle_epoch.new.stores epoch.tuples c.settle_epoch.result drawing.draft drawing.pairs c.requires.running.plan_is.printed c.in_ok-batch.ensures.drawn closed c.settle_epoch.ensures.batch)
+    (λ time closed.
+    subst (λ (stores : Stores). IsTaken plan.merged plan.layout time stores (streams_of epoch.tuples) (held after) batch) (sym (held_same c.args.stores.now mid c.draw_epoch.ensures.same))
+    (taken plan.merged plan.layout time mid after epoch.tuples batch drawing.draft drawing.pairs c.requires.running.plan_is.printed c.in_ok-batch.ensures.drawn closed c.settle_epoch.ensures.batch))
 
 -- and the stores are typed
 pub returns-clause-typed : goal.returns-clause-typed
@@ -17,4 +34,6 @@ returns-clause-typed g c =
     let plan = c.args.plan.now in
     let epoch = c.args.epoch.now in
     let drawing = c.draw_epoch.new.drawing in
-    typed_after plan.merged plan.layout c.args.stores.now c.settle_epoch.new.stores epoch.tuples drawing.draft drawing.pairs c.requires.running.can_draw c.in_ok-batch.ensures.drawn epoch.time c.requires.opened c.settle_epoch.ensures.settled
+    let mid = c.draw_epoch.new.stores in
+    typed_after plan.merged plan.layout mid c.settle_epoch.new.stores epoch.tuples drawing.draft drawing.pairs
+    (can_draw_same plan.merged plan.layout c.args.stores.now mid epoch.tuples c.draw_epoch.ensures.same c.requires.running.can_draw) c.in_ok-batch.ensures.drawn epoch.time c.requires.opened c.settle_epoch.ensures.settled

@@ -1,8 +1,11 @@
-use Rattle.std.proofs.Common.{sym, refl, subst}
-use Rattle.std.specs.Prelude.{IsSome}
+use Rattle.std.proofs.Common.{◌≡◌, ◌∙◌, sym, refl, subst}
+use Rattle.std.specs.Prelude.{IfSome, IsSome, Option}
 use Rattle.epoch_engine.specs.Closes.{Closes}
 use Rattle.epoch_engine.specs.EngineView.{EngineView}
-use Rattle.epoch_engine.proofs.EngineLemmas.{closes_view, view_of}
+use Rattle.epoch_draft.proofs.Lists.{on_err}
+use Rattle.epoch_engine.specs.Running.{IsStillFor}
+use Rattle.epoch_engine.specs.declared.drawing.Drawing.{Drawing}
+use Rattle.epoch_engine.proofs.EngineLemmas.{closes_view, view_of, view_same, with_same}
 use Rattle.epoch_engine.proofs.engine.Engine.close.Goals as goal
 
 -- the open epoch was taken
@@ -14,3 +17,18 @@ returns-clause-closed g c =
     subst (λ (v : EngineView). Closes v (view_of e.plan after epoch e.epoch.time) c.in_ok-batch.batch) c.self.view_is
     (closes_view e.plan e.stores after e.epoch epoch e.closed_time c.in_ok-batch.batch c.close.ensures.empty c.close.ensures.as_many c.close.ensures.time e.epoch.time refl
     (subst (λ (v : EngineView). IsSome v.time) (sym c.self.view_is) c.requires.opened) c.in_ok-batch.ensures.taken)
+
+-- after want of memory the engine runs on, without a drawing
+pub invariant_of-self-in_err-batch : goal.invariant_of-self-in_err-batch
+invariant_of-self-in_err-batch g c =
+    let e = c.self.inside in record {
+      running = with_same e.plan e.stores c.take_epoch.new.stores e.epoch c.in_err-batch.ensures.kept c.self.invariant.running;
+      still = subst (λ (kept : Option Drawing). IfSome kept (IsStillFor e.plan)) (sym c.take.ensures.after) tt;
+    }
+
+-- and contracts see what they saw
+pub returns-in_err-batch-clause-kept : goal.returns-in_err-batch-clause-kept
+returns-in_err-batch-clause-kept g c =
+    let e = c.self.inside in
+    let after = c.take_epoch.new.stores in
+    on_err c.from_residual-in_err-batch.result (view_of e.plan after e.epoch e.closed_time ≡ c.args.self.now) (view_same e.plan e.stores after e.epoch e.closed_time c.in_err-batch.ensures.kept ∙ c.self.view_is)
