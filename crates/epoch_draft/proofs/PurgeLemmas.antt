@@ -1,13 +1,16 @@
 -- Stores that were purged in whole.
-use Rattle.std.proofs.Common.{◌≡◌, ◌∙◌, sym, ap, refl, subst, inl, inr, ℕ, ◌+◌, ◌<◌, ◌⊎◌, length, get_or, set, take, List, arith}
-use Rattle.std.specs.Prelude.{Contains, Option, Some, None}
+use Rattle.std.proofs.Common.{◌≡◌, ◌∙◌, sym, ap, refl, subst, inl, inr, ℕ, ◌+◌, ◌<◌, ◌⊎◌, true, false, length, get_or, set, take, List, [], ◌∷◌, ◌++◌, map, arith}
+use Rattle.std.specs.List.{All}
+use Rattle.std.specs.Prelude.{Any, Contains, Option, Some, None, is_some}
 use Rattle.std.proofs.lemmas.Grind.{get_or-set_at}
-use Rattle.std.proofs.lemmas.List.{get_or-set_other, length-set}
-use Rattle.std.proofs.lemmas.List.Elements.{filter_passes}
+use Rattle.std.proofs.lemmas.List.{get_or-set_other, length-set, take_more}
+use Rattle.std.proofs.lemmas.List.Elements.{All-contains_itself, All-weaker, Contains-append_cases, Contains-append_left, Contains-append_right, Contains-push, Contains-push_cases, filter_passes}
 use Rattle.semantics.proofs.ReportLemmas.{filter_all}
 use Rattle.semantics.specs.Scalars.{Pr}
+use Rattle.event_types.specs.declared.value.Value.{Value}
 use Rattle.instances.specs.Alive.{is_alive}
 use Rattle.instances.specs.Bounds.{alive_instances}
+use Rattle.instances.specs.Keys.{HasKey, KeepsUsedKeys, Key}
 use Rattle.binding_index.specs.Stores.{condition_of, instances_of, key_of}
 use Rattle.binding_index.specs.declared.store.Store.{Store}
 use Rattle.instances.specs.declared.instance.Instance.{Instance}
@@ -15,9 +18,10 @@ use Rattle.automaton.specs.States.{Net, wait_at}
 use Rattle.automaton.specs.declared.network.Entrance.TheVariants.{Waiting}
 use Rattle.automaton.specs.declared.wait.Wait.{Wait}
 use Rattle.epoch_draft.specs.Held.{SameShapes, Shape, held, instances_in, shape_of}
-use Rattle.epoch_draft.specs.Purging.{AreAllPurged, ArePurgedIn, IsPurgedAt, alive_in}
+use Rattle.epoch_draft.specs.Purging.{AreAllPurged, ArePurgedIn, AreUsedIn, IsPurgedAt, alive_in}
+use Rattle.epoch_draft.specs.declared.draft.Pair.{Pair}
 use Rattle.epoch_draft.proofs.DrawnLemmas.{entry_below}
-use Rattle.epoch_draft.proofs.Lists.{below_or_last, contains_more, contains_or_not, contains_this, more_contains, same_or_other}
+use Rattle.epoch_draft.proofs.Lists.{below_or_last, contains_or_not, map_more, same_or_other}
 use Rattle.epoch_draft.proofs.StateLemmas.{at_wait, wait_entry}
 
 -- stores have their own shapes
@@ -55,51 +59,116 @@ purged_twice time (Some old) (Some new) same is =
     shape : Store → Shape
     shape store = record { condition = condition_of store; key = key_of store }
 
+-- what is kept of the keys that are ready are the keys of instances
+pub kept_used : (old new : Option Key) (instances : List Instance) (before after : List Value) → new ≡ old → KeepsUsedKeys old instances before after → All (λ v. Any (λ (i : Instance). HasKey new i.tuple v) instances) after
+kept_used old new instances before after same keeps =
+    subst (λ (k : Option Key). All (λ v. Any (λ (i : Instance). HasKey k i.tuple v) instances) after) (sym same)
+    (All-weaker (Contains after) (λ v. Any (λ (i : Instance). HasKey old i.tuple v) instances) (λ v c. ((keeps v).0 c).1) after (All-contains_itself after))
+
 -- one store more is purged
-pub purge_more : (time : ℕ) (numbers : List ℕ) (i : ℕ) (first old : List (Option Store)) (slot : Option Store) → i < length numbers → get_or numbers i 0 < length first
-    → instances_in slot ≡ alive_in time (get_or old (get_or numbers i 0) None) → shape_of slot ≡ shape_of (get_or old (get_or numbers i 0) None)
-    → ArePurgedIn (take i numbers) time first old → ArePurgedIn (take (i + 1) numbers) time first (set old (get_or numbers i 0) slot)
-purge_more time numbers i first old slot lt below is shape h = record {
+purge_push : (time : ℕ) (numbers : List ℕ) (n : ℕ) (first old : List (Option Store)) (slot : Option Store) → n < length first → instances_in slot ≡ alive_in time (get_or old n None) → shape_of slot ≡ shape_of (get_or old n None) → AreUsedIn slot
+    → ArePurgedIn numbers time first old → ArePurgedIn (numbers ++ n ∷ []) time first (set old n slot)
+purge_push time numbers n first old slot below is shape used h = record {
   same = shapes_trans first old (set old n slot) h.same (shapes_set old n slot there shape);
-  purged = λ k c. purged k (same_or_other k n) (more_contains numbers i 0 k lt c);
+  purged = λ k c. purged k (same_or_other k n) (Contains-push_cases numbers n k c);
+  used = λ k c. keys k (same_or_other k n) (Contains-push_cases numbers n k c);
   others = λ k absent. others k absent (same_or_other k n);
 }
   where
-    n : ℕ
-    n = get_or numbers i 0
-
     there : n < length old
     there = let e = h.same.as_many in omega (arith, below, e)
 
-    once : Contains (take i numbers) n ⊎ (Contains (take i numbers) n → ⊥) → instances_in slot ≡ alive_in time (get_or first n None)
+    here : (k : ℕ) → k ≡ n → get_or (set old n slot) k None ≡ slot
+    here k same = get_or-set_at old n k slot None same there
+
+    once : Contains numbers n ⊎ (Contains numbers n → ⊥) → instances_in slot ≡ alive_in time (get_or first n None)
     once (inl c) = is ∙ purged_twice time (get_or first n None) (get_or old n None) (h.same.shapes n) (h.purged n c)
     once (inr absent) = is ∙ ap (alive_in time) (h.others n absent)
 
-    purged : (k : ℕ) → (k ≡ n) ⊎ (k ≡ n → ⊥) → Contains (take i numbers) k ⊎ (n ≡ k) → held (set old n slot) k ≡ alive_in time (get_or first k None)
-    purged k (inl same) c =
-        ap instances_in (get_or-set_at old n k slot None same there) ∙ once (contains_or_not (take i numbers) n) ∙ ap (λ (m : ℕ). alive_in time (get_or first m None)) (sym same)
+    purged : (k : ℕ) → (k ≡ n) ⊎ (k ≡ n → ⊥) → Contains numbers k ⊎ (n ≡ k) → held (set old n slot) k ≡ alive_in time (get_or first k None)
+    purged k (inl same) c = ap instances_in (here k same) ∙ once (contains_or_not numbers n) ∙ ap (λ (m : ℕ). alive_in time (get_or first m None)) (sym same)
     purged k (inr other) (inl c) = ap instances_in (get_or-set_other old n k slot None other) ∙ h.purged k c
     purged k (inr other) (inr same) = absurd (other (sym same))
 
-    others : (k : ℕ) → (Contains (take (i + 1) numbers) k → ⊥) → (k ≡ n) ⊎ (k ≡ n → ⊥) → get_or (set old n slot) k None ≡ get_or first k None
-    others k absent (inl same) = absurd (absent (subst (Contains (take (i + 1) numbers)) (sym same) (contains_this numbers i 0 lt)))
-    others k absent (inr other) = get_or-set_other old n k slot None other ∙ h.others k (λ c. absent (contains_more numbers i 0 k lt c))
+    keys : (k : ℕ) → (k ≡ n) ⊎ (k ≡ n → ⊥) → Contains numbers k ⊎ (n ≡ k) → AreUsedIn (get_or (set old n slot) k None)
+    keys k (inl same) c = subst AreUsedIn (sym (here k same)) used
+    keys k (inr other) (inl c) = subst AreUsedIn (sym (get_or-set_other old n k slot None other)) (h.used k c)
+    keys k (inr other) (inr same) = absurd (other (sym same))
+
+    others : (k : ℕ) → (Contains (numbers ++ n ∷ []) k → ⊥) → (k ≡ n) ⊎ (k ≡ n → ⊥) → get_or (set old n slot) k None ≡ get_or first k None
+    others k absent (inl same) = absurd (absent (subst (Contains (numbers ++ n ∷ [])) (sym same) (Contains-push numbers n)))
+    others k absent (inr other) = get_or-set_other old n k slot None other ∙ h.others k (λ c. absent (Contains-append_left numbers (n ∷ []) k c))
+
+-- no store is purged yet
+pub purged_nowhere : (time : ℕ) (stores : List (Option Store)) → ArePurgedIn [] time stores stores
+purged_nowhere time stores = record { same = shapes_same stores; purged = λ n c. absurd (omega (arith, c)); used = λ n c. absurd (omega (arith, c)); others = λ n absent. refl }
+
+-- one number more of a loop
+pub purge_more : (time : ℕ) (numbers : List ℕ) (i : ℕ) (first old : List (Option Store)) (slot : Option Store) → i < length numbers → get_or numbers i 0 < length first
+    → instances_in slot ≡ alive_in time (get_or old (get_or numbers i 0) None) → shape_of slot ≡ shape_of (get_or old (get_or numbers i 0) None) → AreUsedIn slot
+    → ArePurgedIn (take i numbers) time first old → ArePurgedIn (take (i + 1) numbers) time first (set old (get_or numbers i 0) slot)
+purge_more time numbers i first old slot lt below is shape used h =
+    subst (λ (ns : List ℕ). ArePurgedIn ns time first (set old (get_or numbers i 0) slot)) (sym (take_more numbers i 0 lt)) (purge_push time (take i numbers) (get_or numbers i 0) first old slot below is shape used h)
+
+-- one pair more
+pub purge_pair : (time : ℕ) (pairs : List Pair) (i : ℕ) (d : Pair) (first old : List (Option Store)) (slot : Option Store) → i < length pairs → (get_or pairs i d).state < length first
+    → instances_in slot ≡ alive_in time (get_or old (get_or pairs i d).state None) → shape_of slot ≡ shape_of (get_or old (get_or pairs i d).state None) → AreUsedIn slot
+    → ArePurgedIn (map (λ (pair : Pair). pair.state) (take i pairs)) time first old → ArePurgedIn (map (λ (pair : Pair). pair.state) (take (i + 1) pairs)) time first (set old (get_or pairs i d).state slot)
+purge_pair time pairs i d first old slot lt below is shape used h =
+    subst (λ (ns : List ℕ). ArePurgedIn ns time first (set old (get_or pairs i d).state slot)) (sym (map_more (λ (pair : Pair). pair.state) pairs i d lt))
+    (purge_push time (map (λ (pair : Pair). pair.state) (take i pairs)) (get_or pairs i d).state first old slot below is shape used h)
+
+-- stores that were purged, and then others
+pub purged_both : (time : ℕ) (one two : List ℕ) (old mid new : List (Option Store)) → ArePurgedIn one time old mid → ArePurgedIn two time mid new → ArePurgedIn (one ++ two) time old new
+purged_both time one two old mid new was after = record {
+  same = shapes_trans old mid new was.same after.same;
+  purged = λ n c. purged n (contains_or_not one n) (contains_or_not two n) (Contains-append_cases one two n c);
+  used = λ n c. used n (contains_or_not two n) (Contains-append_cases one two n c);
+  others = λ n absent. after.others n (λ c. absent (Contains-append_right one two n c)) ∙ was.others n (λ c. absent (Contains-append_left one two n c));
+}
+  where
+    purged : (n : ℕ) → Contains one n ⊎ (Contains one n → ⊥) → Contains two n ⊎ (Contains two n → ⊥) → Contains one n ⊎ Contains two n → held new n ≡ alive_in time (get_or old n None)
+    purged n (inl c) (inl e) either = after.purged n e ∙ purged_twice time (get_or old n None) (get_or mid n None) (was.same.shapes n) (was.purged n c)
+    purged n (inr absent) (inl e) either = after.purged n e ∙ ap (alive_in time) (was.others n absent)
+    purged n first (inr absent) (inl c) = ap instances_in (after.others n absent) ∙ was.purged n c
+    purged n first (inr absent) (inr c) = absurd (absent c)
+
+    used : (n : ℕ) → Contains two n ⊎ (Contains two n → ⊥) → Contains one n ⊎ Contains two n → AreUsedIn (get_or new n None)
+    used n (inl c) either = after.used n c
+    used n (inr absent) (inl c) = subst AreUsedIn (sym (after.others n absent)) (was.used n c)
+    used n (inr absent) (inr c) = absurd (absent c)
+
+-- the store of a waiting state was purged
+pub purged_there : (net : Net) (time n : ℕ) (stores : List (Option Store)) (slot : Option Store) → n < length stores → is_some (wait_at net n) ≡ true → instances_in slot ≡ alive_in time (get_or stores n None) → shape_of slot ≡ shape_of (get_or stores n None) → AreUsedIn slot
+    → IsPurgedAt net time n stores (set stores n slot)
+purged_there net time n stores slot below waits is shape used = record {
+  same = shapes_set stores n slot below shape;
+  purged = λ w at. ap instances_in here ∙ is;
+  used = λ w at. subst AreUsedIn (sym here) used;
+  none = λ at. absurd (let no : true ≡ false = sym waits ∙ ap is_some at in cc);
+  others = λ m other. get_or-set_other stores n m slot None other;
+}
+  where
+    here : get_or (set stores n slot) n None ≡ slot
+    here = get_or-set_at stores n n slot None refl below
 
 -- the stores of the waiting states below a number were purged
 pub record ArePurgedBelow (net : Net) (bound time : ℕ) (old new : List (Option Store)) : Type 0 where
   pub same : SameShapes old new
   pub purged : (n : ℕ) (w : Wait) → n < bound → wait_at net n ≡ Some w → held new n ≡ alive_in time (get_or old n None)
+  pub used : (n : ℕ) (w : Wait) → n < bound → wait_at net n ≡ Some w → AreUsedIn (get_or new n None)
   pub others : (n : ℕ) → (n < bound → wait_at net n ≡ None) → get_or new n None ≡ get_or old n None
 
 -- none is yet
 pub purged_none : (net : Net) (time : ℕ) (stores : List (Option Store)) → ArePurgedBelow net 0 time stores stores
-purged_none net time stores = record { same = shapes_same stores; purged = λ n w lt at. absurd (omega (arith, lt)); others = λ n absent. refl }
+purged_none net time stores = record { same = shapes_same stores; purged = λ n w lt at. absurd (omega (arith, lt)); used = λ n w lt at. absurd (omega (arith, lt)); others = λ n absent. refl }
 
 -- one more state's
 pub purged_next : (net : Net) (n time : ℕ) (old mid new : List (Option Store)) → ArePurgedBelow net n time old mid → IsPurgedAt net time n mid new → ArePurgedBelow net (n + 1) time old new
 purged_next net n time old mid new was one = record {
   same = shapes_trans old mid new was.same one.same;
   purged = λ k w lt at. purged k w at (below_or_last k n lt);
+  used = λ k w lt at. used k w at (below_or_last k n lt);
   others = λ k absent. others k absent (same_or_other k n);
 }
   where
@@ -114,6 +183,10 @@ purged_next net n time old mid new was one = record {
     purged k w at (inr same) =
         ap (held new) same ∙ one.purged w (ap (wait_at net) (sym same) ∙ at) ∙ ap (alive_in time) (was.others n (λ lt. absurd (not_below lt))) ∙ ap (λ (m : ℕ). alive_in time (get_or old m None)) (sym same)
 
+    used : (k : ℕ) (w : Wait) → wait_at net k ≡ Some w → (k < n) ⊎ (k ≡ n) → AreUsedIn (get_or new k None)
+    used k w at (inl lt) = subst AreUsedIn (sym (one.others k (smaller k lt))) (was.used k w lt at)
+    used k w at (inr same) = subst (λ (m : ℕ). AreUsedIn (get_or new m None)) (sym same) (one.used w (ap (wait_at net) (sym same) ∙ at))
+
     last : (k : ℕ) → k ≡ n → k < n + 1
     last k same = omega (arith, same)
 
@@ -127,8 +200,7 @@ purged_next net n time old mid new was one = record {
 
 -- all are
 pub all_purged : (net : Net) (time : ℕ) (old new : List (Option Store)) → ArePurgedBelow net (length net) time old new → AreAllPurged net time old new
-all_purged net time old new was = record {
-  same = was.same;
-  purged = λ n w at. was.purged n w (let found = at_wait net n w at in entry_below net n (Waiting found.before found.hop) (wait_entry net n w found)) at;
-  others = λ n none. was.others n (λ lt. none);
-}
+all_purged net time old new was = record { same = was.same; purged = λ n w at. was.purged n w (below n w at) at; used = λ n w at. was.used n w (below n w at) at; others = λ n none. was.others n (λ lt. none) }
+  where
+    below : (n : ℕ) (w : Wait) → wait_at net n ≡ Some w → n < length net
+    below n w at = let found = at_wait net n w at in entry_below net n (Waiting found.before found.hop) (wait_entry net n w found)

@@ -1,5 +1,5 @@
 -- What the second half of a closing does to the stores.
-use Rattle.std.proofs.Common.{◌≡◌, ◌∙◌, sym, ap, refl, subst, inl, inr, ℕ, zero, suc, ◌+◌, ◌<◌, ◌≤◌, ◌==◌, ◌⊎◌, not, ◌&&◌, Bool, true, false, cond, IsTrue, length, get_or, set, take, List, [], ◌∷◌, ◌++◌, arith}
+use Rattle.std.proofs.Common.{◌≡◌, ◌∙◌, sym, ap, refl, subst, inl, inr, ℕ, zero, suc, ◌+◌, ◌<◌, ◌≤◌, ◌==◌, ◌⊎◌, not, ◌&&◌, Bool, true, false, cond, IsTrue, length, get_or, set, take, List, [], ◌∷◌, ◌++◌, map, arith}
 use Rattle.std.specs.Prelude.{Contains, Option, Some, None, is_some, option_to_list, slice_get, sum_by}
 use Rattle.std.specs.Option.{option_map}
 use Rattle.std.specs.List.{All, filter, flat_map, range_with_len}
@@ -7,7 +7,7 @@ use Rattle.std.specs.List.Sorted.{IsPermutation}
 use Rattle.std.proofs.lemmas.Bool.Decides.{nat_tests}
 use Rattle.std.proofs.lemmas.Grind.{flat_map-append, get_or-set_at}
 use Rattle.std.proofs.lemmas.List.{append-nil, get_or-set_other, length-set, take_more}
-use Rattle.std.proofs.lemmas.List.Elements.{All-contains, All-cons, All-filter, All-get_or, All-head, All-nil, All-tail, All-weaker, Contains-append_cases, Contains-append_left, Contains-append_right, Contains-push, Contains-push_cases, filter-append}
+use Rattle.std.proofs.lemmas.List.Elements.{All-append, All-contains, All-cons, All-filter, All-get_or, All-head, All-map, All-nil, All-tail, All-weaker, Contains-append_cases, Contains-append_left, Contains-append_right, Contains-push, Contains-push_cases, filter-append}
 use Rattle.std.proofs.lemmas.List.Sums.{sum_by-cons, sum_by_more}
 use Rattle.std.proofs.lemmas.List.FromFn.{get_or-range_with_len, length-range_with_len}
 use Rattle.std.proofs.lemmas.List.Sorted.{IsPermutation-append_left, IsPermutation-middle, IsPermutation-sym, IsPermutation-trans}
@@ -53,6 +53,7 @@ use Rattle.epoch_draft.specs.declared.draft.Draft.{Draft}
 use Rattle.epoch_draft.specs.declared.draft.Pair.{Pair}
 use Rattle.epoch_draft.proofs.DeriveLemmas.{contains_in, rows_suit}
 use Rattle.epoch_draft.proofs.DrawnLemmas.{drawn_is_after, entry_below}
+use Rattle.epoch_draft.proofs.GoingLemmas.{all_right}
 use Rattle.epoch_draft.proofs.KeyLemmas.{candidates_fewer}
 use Rattle.epoch_draft.proofs.Lists.{contains_more, contains_or_not, contains_this, more_contains, same_or_other}
 use Rattle.epoch_draft.proofs.MeetLemmas.{waits_used}
@@ -313,6 +314,17 @@ module _ (net : Net) (layout : Layout) (stores : List (Option Store)) (opened : 
               (All-get_or (TupleSuits net (held stores) p.stream) (news p.stream) p.place t h.1
               (rows_suit net can.network layout.kinds stores can.typed p.stream (below_kinds p h.0 (wait_at net p.state) refl) (news p.stream) (drawn.kinds p.stream)))
 
+  -- the states of the pairs wait
+  pub pairs_wait : All (λ n. IsTrue (is_some (wait_at net n))) (map (λ (p : Pair). p.state) pairs)
+  pairs_wait = All-map (λ n. IsTrue (is_some (wait_at net n))) (λ (p : Pair). p.state) pairs (All-weaker (λ (p : Pair). Contains (waits_on net p.stream) p.state × (p.place < length (news p.stream))) (λ (p : Pair). IsTrue (is_some (wait_at net p.state))) one pairs drawn.paired.sound)
+    where
+      one : (p : Pair) → Contains (waits_on net p.stream) p.state × (p.place < length (news p.stream)) → IsTrue (is_some (wait_at net p.state))
+      one p h = go (wait_at net p.state) (contains_passes (is_wait_on net p.stream) (range_with_len 0 (length net)) p.state h.0)
+        where
+          go : (o : Option Wait) → tells p.stream (option_map (λ (w : Wait). w.stream) o) ≡ true → IsTrue (is_some o)
+          go None e = absurd (cc)
+          go (Some w) e = refl
+
   -- the pairs' tuples are the epoch's, so the tests are as many
   pub takes_same : takes_work net listed (held stores) pairs ≡ takes_work net news (held stores) pairs
   takes_same = go pairs drawn.paired.sound
@@ -505,6 +517,22 @@ bounded_below net bound list lists = All-weaker (λ n. IsTrue (is_some (wait_at 
         go : (o : Option Wait) → wait_at net n ≡ o → IsTrue (is_some o) → n < length net
         go None at waits = absurd (cc)
         go (Some w) at waits = let found = at_wait net n w at in entry_below net n (Waiting found.before found.hop) (wait_entry net n w found)
+
+-- with more waiting states the list still has all with bounds
+pub bounded_more : (net : Net) (bound : ℕ) (list more : List ℕ) → ListsBounded net bound list → All (λ n. IsTrue (is_some (wait_at net n))) more → ListsBounded net bound (list ++ more)
+bounded_more net bound list more lists waits = record { waits = All-append (λ n. IsTrue (is_some (wait_at net n))) list more lists.waits waits; has = λ n w lt at. go n w (lists.has n w lt at) }
+  where
+    go : (n : ℕ) (w : Wait) → Contains list n ⊎ IsUnbound w.choose → Contains (list ++ more) n ⊎ IsUnbound w.choose
+    go n w (inl c) = inl (Contains-append_left list more n c)
+    go n w (inr none) = inr none
+
+-- what holds of numbers that end with the states of pairs holds of these
+pub all_states : (P : ℕ → Type 0) (numbers : List ℕ) (pairs : List Pair) → All P (numbers ++ map (λ (p : Pair). p.state) pairs) → All (λ (p : Pair). P p.state) pairs
+all_states P numbers pairs all = go pairs (all_right P numbers (map (λ (p : Pair). p.state) pairs) all)
+  where
+    go : (ps : List Pair) → All P (map (λ (p : Pair). p.state) ps) → All (λ (p : Pair). P p.state) ps
+    go [] h = All-nil (λ (p : Pair). P p.state)
+    go (p ∷ ps) h = All-cons (λ (p : Pair). P p.state) p ps (All-head P p.state (map (λ (p : Pair). p.state) ps) h) (go ps (All-tail P p.state (map (λ (p : Pair). p.state) ps) h))
 
 -- what settled and was purged is closed
 pub closed : (time : ℕ) (net : Net) (kinds : List (List Kind)) (old mid new : List (Option Store)) (news : Streams) (bounded : List ℕ) → IsTyped net kinds old → ListsBounded net (length net) bounded → AreSettled net news old mid → ArePurgedIn bounded time mid new

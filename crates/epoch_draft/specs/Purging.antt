@@ -1,5 +1,5 @@
 -- What the purge of stores does.
-use Rattle.std.specs.Prelude.{◌≡◌, ℕ, ◌<◌, ◌⊎◌, true, IsTrue, is_some, List, [], Option, Some, None, Contains, slice_index_or}
+use Rattle.std.specs.Prelude.{◌≡◌, ℕ, ◌<◌, ◌⊎◌, true, IsTrue, is_some, List, [], Option, Some, None, Any, Contains, slice_index_or}
 use Rattle.std.specs.List.{All}
 use Rattle.event_types.specs.Tuple.{TupleView}
 use Rattle.instances.specs.Alive.{is_alive}
@@ -7,33 +7,42 @@ use Rattle.semantics.specs.Scalars.{Pr}
 use Rattle.automaton.specs.States.{Net, wait_at}
 use Rattle.automaton.specs.declared.wait.Wait.{Wait}
 use Rattle.instances.specs.Bounds.{alive_instances}
+use Rattle.instances.specs.Keys.{HasKey}
+use Rattle.binding_index.specs.Leads.{ready_in}
 use Rattle.binding_index.specs.Stores.{condition_of, instances_of}
 use Rattle.binding_index.specs.declared.store.Store.{Store}
 use Rattle.instances.specs.declared.instance.Instance.{Instance}
-use Rattle.epoch_draft.specs.Held.{SameShapes, held}
+use Rattle.epoch_draft.specs.Held.{SameShapes, held, instances_in, key_in}
 
 -- those of a store's instances that are alive at a time; a state without a store has none
 abbrev pub alive_in : ℕ → Option Store → List Instance
 alive_in time None = []
 alive_in time (Some store) = alive_instances time (condition_of store) (instances_of store)
 
--- the stores with these numbers were purged, and all others are the same
+-- each key that is ready in a state's store is that of one of its instances
+abbrev pub AreUsedIn : Option Store → Type 0
+AreUsedIn slot = All (λ value. Any (λ instance. HasKey (key_in slot) instance.tuple value) (instances_in slot)) (ready_in slot)
+
+-- the stores with these numbers were purged and keep the keys of their instances alone, and all others are the same
 pub record ArePurgedIn (numbers : List ℕ) (time : ℕ) (old new : List (Option Store)) : Type 0 where
   pub same : SameShapes old new
   pub purged : (number : ℕ) → Contains numbers number → held new number ≡ alive_in time (slice_index_or old number None)
+  pub used : (number : ℕ) → Contains numbers number → AreUsedIn (slice_index_or new number None)
   pub others : (number : ℕ) → (Contains numbers number → ⊥) → slice_index_or new number None ≡ slice_index_or old number None
 
 -- the store of a state was purged, if it is a waiting state, and all others are the same
 pub record IsPurgedAt (net : Net) (time number : ℕ) (old new : List (Option Store)) : Type 0 where
   pub same : SameShapes old new
   pub purged : (wait : Wait) → wait_at net number ≡ Some wait → held new number ≡ alive_in time (slice_index_or old number None)
+  pub used : (wait : Wait) → wait_at net number ≡ Some wait → AreUsedIn (slice_index_or new number None)
   pub none : wait_at net number ≡ None → slice_index_or new number None ≡ slice_index_or old number None
   pub others : (other : ℕ) → (other ≡ number → ⊥) → slice_index_or new other None ≡ slice_index_or old other None
 
--- the store of each waiting state was purged, and all others are the same
+-- the store of each waiting state was purged and keeps the keys of its instances alone, and all others are the same
 pub record AreAllPurged (net : Net) (time : ℕ) (old new : List (Option Store)) : Type 0 where
   pub same : SameShapes old new
   pub purged : (number : ℕ) (wait : Wait) → wait_at net number ≡ Some wait → held new number ≡ alive_in time (slice_index_or old number None)
+  pub used : (number : ℕ) (wait : Wait) → wait_at net number ≡ Some wait → AreUsedIn (slice_index_or new number None)
   pub others : (number : ℕ) → wait_at net number ≡ None → slice_index_or new number None ≡ slice_index_or old number None
 
 -- no bound of the condition expires

@@ -1,7 +1,8 @@
 //! The closing of an epoch in two halves, of which the engine is made. The first half draws: it makes
-//! all tuples, beads and pairs of the epoch, and changes no store. The second half settles: it takes what
-//! was matched out of the stores, puts the beads in and purges, and takes no memory. Here too are the stores of
-//! a network: they are made, counted and purged whole.
+//! all tuples, beads and pairs of the epoch, and changes no store; then it makes room in the stores for the
+//! beads, and changes no instance. The second half settles: it takes what was matched out of the stores, puts
+//! the beads in and purges, and takes no memory. Here too are the stores of a network: they are made, counted
+//! and purged whole.
 //!
 //! Contracts see each public type as its fields. A `Draft` is the tuples made for each derived stream, the
 //! beads made for each state as a list of instances, and the `Marks` of the streams and the states that have

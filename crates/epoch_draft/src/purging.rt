@@ -1,17 +1,18 @@
 //! The purge of stores.
-ghost use Rattle.std.specs.Prelude.{◌≡◌, ◌+◌, ◌<◌, is_some, length};
+ghost use Rattle.std.specs.Prelude.{◌≡◌, ◌+◌, ◌<◌, is_some, length, map};
 ghost use Rattle.std.specs.List.{All};
 ghost use Rattle.automaton.specs.States.{wait_at};
 ghost use Rattle.epoch_draft.specs.Held.{instances_in, shape_of};
-ghost use Rattle.epoch_draft.specs.Purging.{AreAllPurged, ArePurgedIn, IsPurgedAt, alive_in};
+ghost use Rattle.epoch_draft.specs.Purging.{AreAllPurged, ArePurgedIn, AreUsedIn, IsPurgedAt, alive_in};
 
+use crate::draft::Pair;
 use crate::stores::Stores;
 use automaton::Network;
 use binding_index::Store;
 use instances::Waiting;
 
 /// Takes out of the store of each waiting state the instances that no event after this time can match, as
-/// the bounds on DUR tell. Takes no memory.
+/// the bounds on DUR tell, and forgets the keys that no instance has. Takes no memory.
 pub fn purge_all(network: &Network, stores: &mut Stores, time: u64)
     requires { length stores.old ≡ length network.now }
     ensures { AreAllPurged network.now (time + 1) stores.old stores.new }
@@ -42,6 +43,16 @@ pub(crate) fn purge_listed(stores: &mut Stores, numbers: &[usize], time: u64)
     }
 }
 
+/// The same of the stores of the states that these pairs name. Takes no memory.
+pub(crate) fn purge_paired(stores: &mut Stores, pairs: &[Pair], time: u64)
+    requires { All (λ pair. pair.state < length stores.old) pairs.now }
+    ensures { ArePurgedIn (map (λ pair. pair.state) pairs.now) (time + 1) stores.old stores.new }
+{
+    for pair in pairs {
+        purge(stores.get_mut(pair.state), time);
+    }
+}
+
 // Whether the state with a number is a waiting state.
 fn is_waiting(network: &Network, number: usize) -> bool
     requires { number < length network.now }
@@ -53,6 +64,7 @@ fn is_waiting(network: &Network, number: usize) -> bool
 // Purges the store of a state, if it has one.
 fn purge(slot: &mut Option<Store>, time: u64)
     ensures purged { instances_in slot.new ≡ alive_in (time + 1) slot.old }
+    ensures used { AreUsedIn slot.new }
     ensures shape { shape_of slot.new ≡ shape_of slot.old }
 {
     if let Some(store) = slot {

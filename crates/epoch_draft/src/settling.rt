@@ -15,13 +15,13 @@ ghost use Rattle.epoch_draft.specs.Deriving.{CanDraw, DrawnUpTo, news_of};
 ghost use Rattle.epoch_draft.specs.Candidates.{candidates_at};
 ghost use Rattle.epoch_draft.specs.Drafts.{DraftFits};
 ghost use Rattle.epoch_draft.specs.Held.{held, instances_in, key_in, shape_of};
-ghost use Rattle.epoch_draft.specs.Purging.{ListsBounded};
+ghost use Rattle.epoch_draft.specs.Purging.{AreUsedIn, ListsBounded};
 ghost use Rattle.epoch_draft.specs.Readying.{HasRoom, HaveRoom, HaveRoomIn};
 ghost use Rattle.epoch_draft.specs.Stores.{HasStores};
 ghost use Rattle.epoch_draft.specs.Settling.{AreClosed, AreLinked, AreSettled, AreTaken, IsTakenAt, PairSuits, takes_work, tuples_in};
 
 use crate::draft::{Beads, Draft, Lists, Pair, Pairs};
-use crate::purging::purge_listed;
+use crate::purging::{purge_listed, purge_paired};
 use crate::stores::Stores;
 use automaton::{Layout, Network};
 use binding_index::Store;
@@ -32,7 +32,8 @@ use scalar_expr::Conj;
 use steps::{Ledger, Steps};
 
 /// Takes the stores over an epoch of this time that was drawn: what its tuples match is taken out, the new
-/// instances come in, and what no event after that time can match is taken out. Takes no memory.
+/// instances come in, and what no event after that time can match is taken out. Where a tuple was listed, the
+/// keys that no instance has any more are forgotten. Takes no memory.
 pub fn settle<L: Ledger>(
     network: &Network,
     layout: &Layout,
@@ -49,12 +50,14 @@ pub fn settle<L: Ledger>(
     requires room { HaveRoom stores.old draft.old.beads }
     requires bounded { ListsBounded network.now (length network.now) bounded.now }
     ensures closed { AreClosed (time + 1) network.now (news_of opened.now draft.old.made layout.now.order) stores.old stores.new }
+    ensures used { All (λ pair. AreUsedIn (slice_index_or stores.new pair.state None)) pairs.now }
     ensures made { draft.new.made ≡ draft.old.made }
     ensures fits { DraftFits (length layout.now.kinds) (length network.now) draft.new }
     ensures ticks { steps.new ≤ steps.old + takes_work network.now (news_of opened.now draft.old.made layout.now.order) (held stores.old) pairs.now }
 {
     step(network, layout, stores, opened, draft, pairs, steps);
     purge_listed(stores, bounded, time);
+    purge_paired(stores, pairs.as_slice(), time);
 }
 
 // The same without the purge.

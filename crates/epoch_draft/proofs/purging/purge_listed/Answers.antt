@@ -15,5 +15,5 @@ loop-number-preserved c =
     let n = get_or ns i 0 in
     let slot = sym (get_or_from_slice_get c.loop-number.stores n c.get_mut.result.now None c.get_mut.ensures.value) in
     purge_more (c.args.time + 1) ns i c.args.stores.now c.loop-number.stores c.purge.new.slot c.loop-number-test.true (All-get_or (λ n. n < length c.args.stores.now) ns i 0 c.loop-number-test.true c.requires)
-    (c.purge.ensures.purged ∙ ap (alive_in (c.args.time + 1)) slot) (c.purge.ensures.shape ∙ ap shape_of slot)
+    (c.purge.ensures.purged ∙ ap (alive_in (c.args.time + 1)) slot) (c.purge.ensures.shape ∙ ap shape_of slot) c.purge.ensures.used
     c.loop-number.invariant

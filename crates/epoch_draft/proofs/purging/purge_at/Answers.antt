@@ -1,0 +1,15 @@
+use Rattle.std.proofs.Common.{◌∙◌, sym, ap, ◌+◌}
+use Rattle.std.specs.Prelude.{None}
+use Rattle.std.proofs.lemmas.Option.{get_or_from_slice_get, slice_get_within}
+use Rattle.epoch_draft.specs.Held.{shape_of}
+use Rattle.epoch_draft.specs.Purging.{alive_in}
+use Rattle.epoch_draft.proofs.PurgeLemmas.{purged_there}
+use Rattle.epoch_draft.proofs.purging.purge_at.Goals as goal
+
+pub returns-then-is_waiting : goal.returns-then-is_waiting
+returns-then-is_waiting c =
+    let stores = c.args.stores.now in
+    let n = c.args.number in
+    let slot = sym (get_or_from_slice_get stores n c.get_mut.result.now None c.get_mut.ensures.value) in
+    purged_there c.args.network.now (c.args.time + 1) n stores c.purge.new.slot (slice_get_within stores n c.get_mut.result.now c.get_mut.ensures.value) (sym c.is_waiting.ensures ∙ c.if-is_waiting.true)
+    (c.purge.ensures.purged ∙ ap (alive_in (c.args.time + 1)) slot) (c.purge.ensures.shape ∙ ap shape_of slot) c.purge.ensures.used
