@@ -1,5 +1,5 @@
 -- The tuples of the last time and those before it, and the nexts among both.
-use Rattle.std.proofs.Common.{◌≡◌, ◌∙◌, sym, ap, refl, ℕ, ◌<◌, ◌≤◌, ◌==◌, Bool, true, false, ◌&&◌, cond, nat_le, nat_lt, List, [], ◌∷◌, arith}
+use Rattle.std.proofs.Common.{◌≡◌, ◌∙◌, sym, ap, refl, ℕ, ◌≤◌, ◌==◌, Bool, true, false, ◌&&◌, cond, nat_le, nat_lt, List, [], ◌∷◌, arith}
 use Rattle.std.specs.Prelude.{Some}
 use Rattle.std.specs.List.{All, filter}
 use Rattle.std.proofs.lemmas.Bool.Decides.{nat_tests}
@@ -22,21 +22,9 @@ now_or time at h e = grind (arith, nat_tests)
 pub not_now : (time at : ℕ) → nat_lt at time ≡ true → (at == time) ≡ false
 not_now time at e = grind (arith, nat_tests)
 
--- what is at a time isn't before it
-pub not_old : (time at : ℕ) → (at == time) ≡ true → nat_lt at time ≡ false
-not_old time at e = grind (arith, nat_tests)
-
 -- what passes the test is at the time
 pub is_now : (time at : ℕ) → (at == time) ≡ true → at ≡ time
 is_now time at e = grind (arith, nat_tests)
-
--- what is at the time passes it
-pub now_at : (time at : ℕ) → at ≡ time → (at == time) ≡ true
-now_at time at e = grind (arith, nat_tests)
-
--- what passes the test is before the time
-pub is_old : (time at : ℕ) → nat_lt at time ≡ true → at < time
-is_old time at e = grind (arith, nat_tests)
 
 -- what doesn't isn't
 pub not_less : (time at : ℕ) → nat_lt at time ≡ false → time ≤ at

@@ -1,11 +1,8 @@
--- An epoch at one wait taken event by event.
-use Rattle.std.proofs.Common.{◌≡◌, ◌∙◌, sym, ap, refl, ℕ, Bool, true, false, not, ◌&&◌, cond, List, [], ◌∷◌, ◌++◌, map}
+-- What a tuple matches and leaves at one wait, whatever the key by which it is looked up.
+use Rattle.std.proofs.Common.{◌≡◌, ◌∙◌, sym, ap, refl, ℕ, Bool, true, false, not, ◌&&◌, List, [], ◌∷◌, map}
 use Rattle.std.specs.Prelude.{Option, Some, None}
 use Rattle.std.specs.List.{All, filter, flat_map}
-use Rattle.std.specs.List.Sorted.{IsPermutation}
-use Rattle.std.proofs.lemmas.List.Elements.{All-contains, All-cons, All-nil, filter-append, filter_agree}
-use Rattle.std.proofs.lemmas.List.Sorted.{IsPermutation-refl, IsPermutation-sym, IsPermutation-trans, IsPermutation-append_right}
-use Rattle.std.proofs.lemmas.List.{map-append}
+use Rattle.std.proofs.lemmas.List.Elements.{All-contains, All-cons, All-nil, filter_agree}
 use Rattle.event_types.specs.declared.comparison.Cmp.{Cmp}
 use Rattle.event_types.specs.declared.comparison.Cmp.TheVariants as cmp
 use Rattle.event_types.specs.declared.value.Value.{Value}
@@ -13,23 +10,14 @@ use Rattle.event_types.specs.declared.value.Value.TheVariants as value
 use Rattle.event_types.specs.Tuple.{TupleView}
 use Rattle.instances.specs.Keys.{Key, candidates_of, is_matched, key_matches, unmatched}
 use Rattle.instances.specs.declared.instance.Instance.{Instance}
-use Rattle.semantics.specs.Denotation.{joined}
 use Rattle.semantics.specs.Nexts.{is_eligible}
-use Rattle.semantics.specs.Runs.{rebound}
 use Rattle.semantics.specs.Scalars.{Pr, Test, Lit, Event, Binding, Dur}
 use Rattle.semantics.specs.Truth.{all_true, is_met, order_of, truth}
 use Rattle.semantics.specs.Values.{value_at}
 use Rattle.scalar_expr.specs.Classes as class
-use Rattle.scalar_expr.proofs.Bags.{permuted_from, permuted_to}
 use Rattle.scalar_expr.proofs.CanonicalLaws.{turned_met}
-use Rattle.automaton.specs.Waiting.{is_empty}
-use Rattle.automaton.specs.declared.wait.Turn.{Turn}
-use Rattle.epoch_laws.specs.Epochs.{eligible_of, is_unmet, unmatched_after, taken, taken_from, took}
-use Rattle.epoch_laws.specs.Events.{IsKeyOf, found, taken_out}
-use Rattle.epoch_laws.specs.Instances.{began}
-use Rattle.epoch_laws.proofs.Bags.{flat_map_parts}
-use Rattle.epoch_laws.proofs.Lists.{and-false, every, filter-filter, flat_map-filter, map-flat_map}
-use Rattle.semantics.proofs.ReportLemmas.{flat_map_same}
+use Rattle.epoch_laws.specs.Events.{IsKeyOf}
+use Rattle.epoch_laws.proofs.Lists.{and-false, flat_map-filter}
 
 -- equality of values doesn't depend on the side
 equal_turned : (v w : Value) → is_met cmp.Eq (order_of v w) ≡ is_met cmp.Eq (order_of w v)
@@ -143,79 +131,3 @@ module _ (key : Option Key) (choose : List Pr) (of : IsKeyOf key choose) where
           unmet : (i : Instance) → key_matches key r i.tuple ≡ false → (t : Bool) → is_eligible choose i.tuple r ≡ t → give i ≡ []
           unmet i e true f = let no : true ≡ false = sym (eligible_matches key choose r i.tuple of f) ∙ e in absurd (cc)
           unmet i e false f = none i f
-
-  one_unmet : (r : TupleView) (rs : List TupleView) (i : Instance) → (not (is_matched key choose r i) && is_unmet choose rs i.tuple) ≡ is_unmet choose (r ∷ rs) i.tuple
-  one_unmet r rs i = ap (λ m. not m && is_unmet choose rs i.tuple) (matched_is r i) ∙ go (is_eligible choose i.tuple r)
-    where
-      go : (t : Bool) → (not t && is_unmet choose rs i.tuple) ≡ is_empty (cond t (r ∷ eligible_of choose rs i.tuple) (eligible_of choose rs i.tuple))
-      go true = refl
-      go false = refl
-
-  -- what all tuples have taken out
-  pub taken_out_is_left : (rs : List TupleView) (store : List Instance) → taken_out key choose rs store ≡ unmatched_after choose rs store
-  taken_out_is_left [] store = sym (filter_every store)
-    where
-      filter_every : (xs : List Instance) → filter (λ _. true) xs ≡ xs
-      filter_every [] = refl
-      filter_every (x ∷ xs) = ap (λ ys. x ∷ ys) (filter_every xs)
-  taken_out_is_left (r ∷ rs) store =
-      taken_out_is_left rs (unmatched key choose r store)
-      ∙ filter-filter (λ i. is_unmet choose rs i.tuple) (λ i. not (is_matched key choose r i)) store
-      ∙ filter_agree (λ i. not (is_matched key choose r i) && is_unmet choose rs i.tuple) (λ i. is_unmet choose (r ∷ rs) i.tuple) (one_unmet r rs) store
-
-  module _ (turn : Option Turn) where
-    abbrev one : TupleView → Instance → List Instance
-    one r i = taken_from choose turn (r ∷ []) i
-
-    -- a tuple that isn't eligible gives nothing
-    none_taken : (r b : TupleView) → is_eligible choose b r ≡ false → taken choose turn (r ∷ []) b ≡ []
-    none_taken r b e = go turn
-      where
-        none : eligible_of choose (r ∷ []) b ≡ []
-        none = ap (λ t. cond t (r ∷ []) []) e
-
-        go : (turn : Option Turn) → taken choose turn (r ∷ []) b ≡ []
-        go None = ap (map (joined b)) none
-        go (Some t) = ap (λ rs. map (rebound t.set.parts b) (filter (λ r. all_true t.on r (Some b)) rs)) none
-
-    -- tuple by tuple, for one binding
-    taken_each : (rs : List TupleView) (b : TupleView) → flat_map (λ r. taken choose turn (r ∷ []) b) rs ≡ taken choose turn rs b
-    taken_each rs b = go turn rs
-      where
-        eligible_cut : (r : TupleView) (rs : List TupleView) → eligible_of choose (r ∷ rs) b ≡ eligible_of choose (r ∷ []) b ++ eligible_of choose rs b
-        eligible_cut r rs = filter-append (is_eligible choose b) (r ∷ []) rs
-
-        go : (turn : Option Turn) (rs : List TupleView) → flat_map (λ r. taken choose turn (r ∷ []) b) rs ≡ taken choose turn rs b
-        go None [] = refl
-        go (Some t) [] = refl
-        go None (r ∷ rs) =
-            ap (λ ys. taken choose None (r ∷ []) b ++ ys) (go None rs)
-            ∙ sym (map-append (joined b) (eligible_of choose (r ∷ []) b) (eligible_of choose rs b))
-            ∙ ap (map (joined b)) (sym (eligible_cut r rs))
-        go (Some t) (r ∷ rs) =
-            let goes : TupleView → Bool = λ r. all_true t.on r (Some b) in
-            ap (λ ys. taken choose (Some t) (r ∷ []) b ++ ys) (go (Some t) rs)
-            ∙ sym (map-append (rebound t.set.parts b) (filter goes (eligible_of choose (r ∷ []) b)) (filter goes (eligible_of choose rs b)))
-            ∙ ap (map (rebound t.set.parts b)) (sym (filter-append goes (eligible_of choose (r ∷ []) b) (eligible_of choose rs b)) ∙ ap (filter goes) (sym (eligible_cut r rs)))
-
-    -- for one instance
-    one_each : (rs : List TupleView) (i : Instance) → flat_map (λ r. one r i) rs ≡ taken_from choose turn rs i
-    one_each rs i = sym (map-flat_map (began i.first) (λ r. taken choose turn (r ∷ []) i.tuple) rs) ∙ ap (map (began i.first)) (taken_each rs i.tuple)
-
-    nothing : (xs : List Instance) → flat_map {X = Instance} {A = Instance} (λ _. []) xs ≡ []
-    nothing [] = refl
-    nothing (x ∷ xs) = nothing xs
-
-    -- tuples and instances may change places
-    exchange : (rs : List TupleView) (store : List Instance) → IsPermutation (flat_map (λ r. flat_map (one r) store) rs) (flat_map (λ i. flat_map (λ r. one r i) rs) store)
-    exchange [] store = permuted_from (sym (nothing store)) (IsPermutation-refl _)
-    exchange (r ∷ rs) store =
-        IsPermutation-trans _ _ _ (IsPermutation-append_right (flat_map (one r) store) _ _ (exchange rs store))
-        (IsPermutation-sym _ _ (flat_map_parts (one r) (λ i. flat_map (λ r. one r i) rs) store))
-
-    -- what each tuple finds among its candidates
-    pub found_is_took : (rs : List TupleView) (store : List Instance) → IsPermutation (found key choose turn rs store) (took choose turn rs store)
-    found_is_took rs store =
-        permuted_from (flat_map_same (λ r. flat_map (one r) (candidates_of key r store)) (λ r. flat_map (one r) store) rs (every (λ r. flat_map (one r) (candidates_of key r store) ≡ flat_map (one r) store) (λ r. candidates_give (one r) r (λ i e. ap (map (began i.first)) (none_taken r i.tuple e)) store) rs))
-        (permuted_to (exchange rs store)
-        (flat_map_same (λ i. flat_map (λ r. one r i) rs) (taken_from choose turn rs) store (every (λ (i : Instance). flat_map (λ r. one r i) rs ≡ taken_from choose turn rs i) (one_each rs) store)))

@@ -181,22 +181,6 @@ module _ (now : ℕ) (p : List Pr) where
         (IsPermutation-sym _ _ (IsPermutation-filter_both (is_alive now p) (λ b. not (is_alive now p b)) (λ _. refl) store)),
   )
 
--- a purged store holds it still
-pub purge_holds : (now later : ℕ) (p : List Pr) (store waits : List TupleView) → now ≤ later → IsStored now p store waits → IsStored later p (alive later p store) waits
-purge_holds now later p store waits le h = record {
-  within = (
-    filter (λ b. not (is_alive later p b)) store ++ h.within.0,
-    permuted_from (sym (append_assoc (alive later p store) (filter (λ b. not (is_alive later p b)) store) h.within.0))
-        (IsPermutation-trans _ _ _ (IsPermutation-append_left h.within.0 _ _ (IsPermutation-sym _ _ (IsPermutation-filter_both (is_alive later p) (λ b. not (is_alive later p b)) (λ _. refl) store))) h.within.1),
-  );
-  alive_same =
-      permuted_from (alive_alive later later p store (le_self later) ∙ sym (alive_alive now later p store le))
-      (permuted_to (filter_permuted (is_alive later p) (alive now p store) (alive now p waits) h.alive_same) (alive_alive now later p waits le));
-}
-  where
-    le_self : (n : ℕ) → n ≤ n
-    le_self n = omega arith
-
 -- what a store gives
 module _ (now : ℕ) (p : List Pr) (turn : Option Turn) where
   -- bindings that aren't alive give nothing

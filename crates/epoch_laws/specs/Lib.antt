@@ -2,7 +2,6 @@ pub mod Batch
 pub mod CloseLaws
 pub mod Closing
 pub mod Epochs
-pub mod EventLaws
 pub mod Events
 pub mod Histories
 pub mod Instances

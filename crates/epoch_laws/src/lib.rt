@@ -7,7 +7,6 @@
 
 ghost use Rattle.epoch_laws.specs.Batch.{BatchIsResults};
 ghost use Rattle.epoch_laws.specs.CloseLaws.{EpochGrows, EpochStarts, StandsAtStart, StandsClosed, StandsPurged};
-ghost use Rattle.epoch_laws.specs.EventLaws.{FoundIsTook, TakenOutIsLeft};
 ghost use Rattle.epoch_laws.specs.LineLaws.{LineGivesInEpoch, StateKeeps};
 ghost use Rattle.epoch_laws.specs.PurgeLaws.{DeadLater, DeadStayDead};
 ghost use Rattle.epoch_laws.specs.StandingLaws.{CloseStands, ClosingIsResults, OfferStands, PurgeStands, StartStands, TrimmedIsAlive};
@@ -27,16 +26,6 @@ pub fn wait_keeps()
 /// What left a wait before an epoch stands.
 pub fn wait_early()
     ensures { WaitEarly }
-{}
-
-/// A store may be asked for the candidates of one tuple after another.
-pub fn found_is_took()
-    ensures { FoundIsTook }
-{}
-
-/// What one tuple after another takes out are the instances that the epoch matches.
-pub fn taken_out_is_left()
-    ensures { TakenOutIsLeft }
 {}
 
 /// What a line gives in an epoch comes from the bindings that waited before it.
