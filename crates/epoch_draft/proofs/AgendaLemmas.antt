@@ -17,6 +17,7 @@ use Rattle.event_types.specs.Tuple.{TupleView}
 use Rattle.binding_index.specs.declared.store.Store.{Store}
 use Rattle.automaton.specs.States.{Net}
 use Rattle.automaton.specs.declared.layout.Layout.{Layout}
+use Rattle.automaton.proofs.NumberLemmas.{are_same_or_not}
 use Rattle.epoch_draft.specs.Agenda.{AreFrom, ArePlaces, IsPlanned}
 use Rattle.epoch_draft.specs.Deriving.{CanDraw, DrawnUpTo}
 use Rattle.epoch_draft.specs.Marks.{MarksMore}
@@ -28,7 +29,7 @@ use Rattle.epoch_draft.specs.declared.marks.Marks.{Marks}
 use Rattle.epoch_draft.proofs.DeriveLemmas.{idle_step, unmarked_none}
 use Rattle.epoch_draft.proofs.GoingLemmas.{all_right}
 use Rattle.epoch_draft.proofs.MarkLemmas.{all_below}
-use Rattle.epoch_draft.proofs.Lists.{below_or_last, contains_more, contains_this, same_or_other, taken_all}
+use Rattle.epoch_draft.proofs.Lists.{below_or_last, contains_more, contains_this, taken_all}
 
 -- an item of a list is the first or one of the others
 pub first_or_other : (x : ℕ) (xs : List ℕ) (n : ℕ) → Contains (x ∷ xs) n → (n ≡ x) ⊎ Contains xs n
@@ -180,7 +181,7 @@ pub record ArePlacesUpTo (order : List ℕ) (streams : ℕ) (i : ℕ) (places : 
 
 contains_taken : (order : List ℕ) (i k : ℕ) → k < i → i ≤ length order → Contains (take i order) (get_or order k 0)
 contains_taken order zero k lt below = absurd (omega (arith, lt))
-contains_taken order (suc i) k lt below = go (same_or_other k i) (contains_taken order i k)
+contains_taken order (suc i) k lt below = go (are_same_or_not k i) (contains_taken order i k)
   where
     next : i + 1 ≡ suc i
     next = omega arith
@@ -194,7 +195,7 @@ pub places_more : (order : List ℕ) (streams i : ℕ) (places : List ℕ) → i
 places_more order streams i places lt below once was = record {
   as_many = length-set places s i ∙ was.as_many;
   each = λ k less. each k (below_or_last k i less);
-  others = λ t there. others t (same_or_other t s) (was.others t there);
+  others = λ t there. others t (are_same_or_not t s) (was.others t there);
 }
   where
     s : ℕ
@@ -212,18 +213,6 @@ places_more order streams i places lt below once was = record {
     others t (inl same) h = inr (subst (Contains (take (i + 1) order)) (sym same) (contains_this order i 0 lt))
     others t (inr other) (inl none) = inl (get_or-set_other places s t i 0 other ∙ none)
     others t (inr other) (inr c) = inr (contains_more order i 0 t lt c)
-
--- all streams have their places
-pub places_all : (order : List ℕ) (streams i : ℕ) (places : List ℕ) → length order ≤ i → ArePlacesUpTo order streams i places → ArePlaces order streams places
-places_all order streams i places all was = record {
-  as_many = was.as_many;
-  each = λ k lt. was.each k (omega (arith, lt, all));
-  others = λ s lt. others s (was.others s lt);
-}
-  where
-    others : (s : ℕ) → (get_or places s 0 ≡ length order) ⊎ Contains (take i order) s → (get_or places s 0 ≡ length order) ⊎ Contains order s
-    others s (inl none) = inl none
-    others s (inr c) = inr (subst (λ (ns : List ℕ). Contains ns s) (taken_all order i all) c)
 
 -- one stream more is looked at: its place is planned, or not from the one place on and below the other
 pub planned_more : (places due keys : List ℕ) (i start end : ℕ) → i < length due → IsPlanned start end keys (get_or places (get_or due i 0) 0) → All (λ s. IsPlanned start end keys (get_or places s 0)) (take i due) → All (λ s. IsPlanned start end keys (get_or places s 0)) (take (i + 1) due)

@@ -3,7 +3,8 @@ use Rattle.std.proofs.Common.{◌≡◌, ◌∙◌, sym, refl, subst, inl, inr, 
 use Rattle.std.specs.Prelude.{Contains}
 use Rattle.std.proofs.lemmas.Grind.{get_or-set_at}
 use Rattle.std.proofs.lemmas.List.{get_or-set_other, length-set}
-use Rattle.epoch_draft.proofs.Lists.{more_contains, same_or_other}
+use Rattle.automaton.proofs.NumberLemmas.{are_same_or_not}
+use Rattle.epoch_draft.proofs.Lists.{more_contains}
 
 -- the lists of these numbers are empty, and each other one is as it was
 pub record Cleared {X : Type 0} (numbers : List ℕ) (old new : List (List X)) : Type 0 where
@@ -23,8 +24,8 @@ pub clear_more : {X : Type 0} (numbers : List ℕ) (i : ℕ) (first old : List (
     → Cleared (take (i + 1) numbers) first (set old (get_or numbers i 0) rows)
 clear_more {X} numbers i first old rows lt below none h = record {
   as_many = length-set old n rows ∙ h.as_many;
-  each = λ k. each k (same_or_other k n);
-  cleared = λ k c. cleared k (same_or_other k n) (more_contains numbers i 0 k lt c);
+  each = λ k. each k (are_same_or_not k n);
+  cleared = λ k c. cleared k (are_same_or_not k n) (more_contains numbers i 0 k lt c);
 }
   where
     n : ℕ

@@ -8,9 +8,11 @@ use Rattle.std.proofs.lemmas.Grind.{flat_map-append}
 use Rattle.std.proofs.lemmas.List.{append-nil, map-append}
 use Rattle.std.proofs.lemmas.List.Sorted.{IsPermutation-refl, IsPermutation-sym, IsPermutation-trans, IsPermutation-append_left}
 use Rattle.event_types.specs.Tuple.{TupleView}
+use Rattle.event_types.proofs.NumberLemmas.{same_number}
 use Rattle.instances.specs.declared.instance.Instance.{Instance}
 use Rattle.scalar_expr.proofs.Bags.{permuted_from}
 use Rattle.semantics.specs.Denotation.{Streams}
+use Rattle.semantics.specs.Programs.{with_stream}
 use Rattle.automaton.specs.States.{Net, entrance_at}
 use Rattle.automaton.specs.declared.network.Entrance.{Entrance}
 use Rattle.automaton.specs.declared.network.Entrance.TheVariants.{Root, Waiting}
@@ -19,12 +21,13 @@ use Rattle.epoch_laws.specs.Closing.{Stores, leaving_state, leaving_by}
 use Rattle.epoch_laws.specs.Epochs.{took}
 use Rattle.epoch_laws.proofs.Bags.{permuted_is}
 use Rattle.epoch_laws.specs.Instances.{begins}
-use Rattle.epoch_draft.specs.Comes.{gets, gets_by, with_tuple}
+use Rattle.epoch_draft.specs.Comes.{gets, gets_by}
 use Rattle.epoch_draft.specs.Pairs.{met}
 use Rattle.epoch_draft.proofs.Pairs.{met_took}
 
-equal_is : (m n : ℕ) → (m == n) ≡ true → m ≡ n
-equal_is m n e = grind (arith, nat_tests)
+-- the streams with one more tuple behind those of a stream
+abbrev pub with_tuple : Streams → ℕ → TupleView → Streams
+with_tuple seen stream tuple = with_stream seen stream (seen stream ++ tuple ∷ [])
 
 -- one more tuple at a wait
 took_more : (w : Wait) (store : List Instance) (tuples : List TupleView) (r : TupleView) → IsPermutation (took w.choose w.fold (tuples ++ r ∷ []) store) (took w.choose w.fold tuples store ++ met w store r)
@@ -49,7 +52,7 @@ with_is : (seen : Streams) (s t : ℕ) (r : TupleView) → with_tuple seen s r t
 with_is seen s t r = go (t == s) refl
   where
     go : (b : Bool) → (t == s) ≡ b → cond b (seen s ++ r ∷ []) (seen t) ≡ cond b (seen t ++ r ∷ []) (seen t)
-    go true e = ap (λ n. seen n ++ r ∷ []) (sym (equal_is t s e))
+    go true e = ap (λ n. seen n ++ r ∷ []) (sym (same_number t s e))
     go false e = refl
 
 -- what leaves each state with one more tuple, by how the state is entered

@@ -49,10 +49,12 @@ use Rattle.epoch_draft.specs.declared.draft.Draft.{Draft}
 use Rattle.epoch_draft.specs.declared.draft.Pair.{Pair}
 use Rattle.epoch_draft.proofs.DrawnLemmas.{bound_grows, drawn_comes, made_grows, moves_seen, paired_comes, stream_comes, unbound_grows, with_none}
 use Rattle.epoch_draft.proofs.GoingLemmas.{all_left}
-use Rattle.epoch_draft.proofs.Lists.{same_or_other}
-use Rattle.epoch_draft.proofs.Moves.{equal_number, is_itself}
+use Rattle.epoch_draft.proofs.Moves.{is_itself}
 use Rattle.epoch_draft.proofs.SuitLemmas.{published_kinds, tuple_suits}
 use Rattle.std.proofs.lemmas.Bool.{or_parts}
+use Rattle.event_types.proofs.NumberLemmas.{same_number}
+use Rattle.automaton.proofs.NumberLemmas.{are_same_or_not}
+use Rattle.epoch_draft.proofs.Lists.{none_in}
 
 or-true : (a : Bool) → (a || true) ≡ true
 or-true true = refl
@@ -67,9 +69,6 @@ turned m n e = grind (arith, nat_tests)
 
 other_test : (m n : ℕ) → (m ≡ n → ⊥) → (m == n) ≡ false
 other_test m n ne = grind (arith, nat_tests)
-
-none_in : {X : Type 0} (x : X) → Contains [] x → ⊥
-none_in x c = absurd (omega arith)
 
 -- a listed number is tested to be
 pub in_contains : (xs : List ℕ) (n : ℕ) → Contains xs n → is_in xs n ≡ true
@@ -90,7 +89,7 @@ contains_in [] n e = absurd (cc)
 contains_in (x ∷ xs) n e = go (n == x) refl e (contains_in xs n)
   where
     go : (b : Bool) → (n == x) ≡ b → (b || is_in xs n) ≡ true → (is_in xs n ≡ true → Contains xs n) → Contains (x ∷ xs) n
-    go true is e rest = subst (Contains (x ∷ xs)) (sym (equal_number n x is)) (Contains-append_left (x ∷ []) xs x (Contains-push [] x))
+    go true is e rest = subst (Contains (x ∷ xs)) (sym (same_number n x is)) (Contains-append_left (x ∷ []) xs x (Contains-push [] x))
     go false is e rest = Contains-append_right (x ∷ []) xs n (rest e)
 
 in_push : (xs : List ℕ) (s t : ℕ) → is_in (xs ++ s ∷ []) t ≡ (is_in xs t || (t == s))
@@ -142,7 +141,7 @@ pub opened_step : (opened : List (List TupleView)) (done : List ℕ) (s : ℕ) �
 opened_step opened done s = λ i t. each t i
   where
     go : (t : ℕ) (b d : Bool) → (t == s) ≡ b → cond b (get_or opened s []) (cond d (get_or opened t []) []) ≡ cond (d || b) (get_or opened t []) []
-    go t true d e = ap (λ k. get_or opened k []) (sym (equal_number t s e)) ∙ sym (ap (λ c. cond c (get_or opened t []) []) (or-true d))
+    go t true d e = ap (λ k. get_or opened k []) (sym (same_number t s e)) ∙ sym (ap (λ c. cond c (get_or opened t []) []) (or-true d))
     go t false d e = sym (ap (λ c. cond c (get_or opened t []) []) (or-false d))
 
     each : (t : ℕ) → with_stream (opened_of opened done) s (get_or opened s []) t ≡ opened_of opened (done ++ s ∷ []) t
@@ -216,8 +215,8 @@ news_step : (opened made more : List (List TupleView)) (done : List ℕ) (s : �
 news_step opened made more done s rows is same = λ i t. each t i
   where
     go : (t : ℕ) (b d : Bool) → (t == s) ≡ b → is_in done t ≡ d → cond b rows (cond d (get_or made t []) (get_or opened t [])) ≡ cond (d || b) (get_or more t []) (get_or opened t [])
-    go t true true e f = sym (ap (λ k. get_or more k []) (equal_number t s e) ∙ is)
-    go t true false e f = sym (ap (λ k. get_or more k []) (equal_number t s e) ∙ is)
+    go t true true e f = sym (ap (λ k. get_or more k []) (same_number t s e) ∙ is)
+    go t true false e f = sym (ap (λ k. get_or more k []) (same_number t s e) ∙ is)
     go t false true e f = sym (same t e f)
     go t false false e f = refl
 
@@ -340,7 +339,7 @@ module _ (net : Net) (layout : Layout) (stores : List (Option Store)) (opened : 
 
     drawn : Drawn net (held stores) later new
     drawn = record {
-      made = λ t. made_at t (same_or_other t s);
+      made = λ t. made_at t (are_same_or_not t s);
       bound = λ n b hop at.
           bound_grows net can.network (held stores) seen later moves n b hop at (get_or old.beads n []) (get_or new.beads n []) comes (was.drawn.bound n b hop at)
           (permuted_from (ap (λ (l : List (List Instance)). get_or l n []) derives.beads) (derives.grows.bound n));
@@ -367,7 +366,7 @@ module _ (net : Net) (layout : Layout) (stores : List (Option Store)) (opened : 
         go : (b : Bool) → (t == s) ≡ b → All (HasKinds known) (cond b rows (seen t))
         go true e =
             All-permutation (HasKinds known) (given_by_ends net seen (held stores) s) rows (IsPermutation-sym _ _ published_rows)
-            (published_kinds net can.network layout.kinds stores can.typed seen was.kinds s known (ap (slice_get layout.kinds) (sym (equal_number t s e)) ∙ is))
+            (published_kinds net can.network layout.kinds stores can.typed seen was.kinds s known (ap (slice_get layout.kinds) (sym (same_number t s e)) ∙ is))
         go false e = was.kinds t known is
 
     step : later ≡ news_of opened new.made (done ++ s ∷ [])
@@ -378,7 +377,7 @@ module _ (net : Net) (layout : Layout) (stores : List (Option Store)) (opened : 
     apart_from t f = go (t == s) refl
       where
         go : (b : Bool) → (t == s) ≡ b → b ≡ false
-        go true e = absurd (let no = sym f ∙ ap (is_in done) (equal_number t s e) ∙ apart in cc)
+        go true e = absurd (let no = sym f ∙ ap (is_in done) (same_number t s e) ∙ apart in cc)
         go false e = refl
 
     -- those that were done have their tuples in order, and so has this one

@@ -10,6 +10,7 @@ use Rattle.std.proofs.lemmas.List.{append-nil}
 use Rattle.std.proofs.lemmas.List.Elements.{All-append, All-weaker, Contains-append_left, Contains-append_right}
 use Rattle.std.proofs.lemmas.List.Sorted.{IsPermutation-append, IsPermutation-append_left, IsPermutation-append_right, IsPermutation-sym, IsPermutation-trans, length_permutation}
 use Rattle.event_types.specs.Tuple.{TupleView}
+use Rattle.event_types.proofs.NumberLemmas.{same_number}
 use Rattle.instances.specs.declared.instance.Instance.{Instance}
 use Rattle.semantics.specs.Denotation.{Streams}
 use Rattle.semantics.specs.Programs.{with_stream}
@@ -18,7 +19,6 @@ use Rattle.scalar_expr.proofs.Bags.{flat_map_permuted, permuted_from, permuted_t
 use Rattle.automaton.specs.Networks.{IsNetwork}
 use Rattle.automaton.specs.States.{Net, before_at, before_by, edges_at, ends_at, entrance_at, state_at, wait_at}
 use Rattle.automaton.specs.Steps.{pass}
-use Rattle.automaton.specs.Work.{is_in}
 use Rattle.automaton.specs.declared.network.End.{End}
 use Rattle.automaton.specs.declared.wait.Turn.{Turn}
 use Rattle.automaton.specs.declared.line.Hop.{Hop}
@@ -26,23 +26,23 @@ use Rattle.automaton.specs.declared.network.Entrance.{Entrance}
 use Rattle.automaton.specs.declared.network.Entrance.TheVariants.{Root, Waiting}
 use Rattle.automaton.specs.declared.network.State.{State}
 use Rattle.stream_readers.specs.Finding.{IsDeaf, waits_on}
-use Rattle.epoch_laws.specs.Closing.{IsEpoch, Stores, leaving_state, leaving_by, given_by_ends, given_by_ends_at, stepped_by, stores_after}
+use Rattle.epoch_laws.specs.Closing.{Stores, leaving_state, leaving_by, given_by_ends, given_by_ends_at, stepped_by, stores_after}
 use Rattle.epoch_laws.specs.Epochs.{again, unmatched_after, took}
 use Rattle.epoch_laws.specs.Instances.{bindings_of, instances_entering}
 use Rattle.epoch_laws.proofs.Bags.{no_length, permuted_is}
 use Rattle.epoch_laws.proofs.Lists.{every}
-use Rattle.epoch_draft.specs.Comes.{gets, with_tuple}
+use Rattle.epoch_draft.specs.Comes.{gets}
 use Rattle.epoch_draft.specs.Drafts.{Adds, Grows}
 use Rattle.epoch_draft.specs.Drawn.{Drawn, Paired}
 use Rattle.epoch_draft.specs.Meeting.{IsPairOf, ListsAll, moves_of, moves_of_all, pair_of}
 use Rattle.epoch_draft.specs.Moves.{Move, bound_by, bound_of, made_by, made_of, moves_over}
 use Rattle.epoch_draft.specs.declared.draft.Draft.{Draft}
 use Rattle.epoch_draft.specs.declared.draft.Pair.{Pair}
-use Rattle.epoch_draft.proofs.Comes.{tuple_comes}
+use Rattle.epoch_draft.proofs.Comes.{tuple_comes, with_tuple}
 use Rattle.epoch_draft.proofs.Concats.{nothing_of}
 use Rattle.epoch_draft.proofs.EdgeLemmas.{before_edge}
 use Rattle.epoch_draft.proofs.GoingLemmas.{state_below}
-use Rattle.epoch_draft.proofs.Moves.{bound_over, is_itself, equal_number, made_over, moves_parts, unbound_over}
+use Rattle.epoch_draft.proofs.Moves.{bound_over, is_itself, made_over, moves_parts, unbound_over}
 use Rattle.semantics.proofs.ReportLemmas.{flat_map_same}
 
 -- all moves of the tuples that are met so far
@@ -55,7 +55,7 @@ module _ (net : Net) (stores : Stores) (s : ℕ) where
   with_none seen = λ i t. each t i
     where
       go : (t : ℕ) (b : Bool) → (t == s) ≡ b → cond b (seen s ++ []) (seen t) ≡ seen t
-      go t true e = append-nil (seen s) ∙ ap seen (sym (equal_number t s e))
+      go t true e = append-nil (seen s) ∙ ap seen (sym (same_number t s e))
       go t false e = refl
 
       each : (t : ℕ) → with_stream seen s (seen s ++ []) t ≡ seen t
@@ -234,14 +234,6 @@ drawn_starts net stores draft made beads = record {
   unbound = λ n none. beads n;
 }
 
--- a draft over all tuples of an epoch has what its ends give
-pub drawn_is_epoch : (net : Net) (order : List ℕ) (stores : Stores) (heard news : Streams) (draft : Draft) → ((s : ℕ) → is_in order s ≡ false → IsPermutation (news s) (heard s))
-    → All (λ s. news s ≡ get_or draft.made s []) order → Drawn net stores news draft → IsEpoch net order stores heard news
-drawn_is_epoch net order stores heard news draft declared same drawn = record {
-  declared = declared;
-  derived = All-weaker (λ s. news s ≡ get_or draft.made s []) (λ s. IsPermutation (news s) (given_by_ends net news stores s)) (λ s e. permuted_from e (drawn.made s)) order same;
-}
-
 same_test : (m n : ℕ) → m ≡ n → (m == n) ≡ true
 same_test m n e = grind (arith, nat_tests)
 
@@ -259,7 +251,7 @@ paired_comes net seen s rows old new none was lists = record {
     IsSound p = Contains (waits_on net p.stream) p.state × (p.place < length (with_stream seen s rows p.stream))
 
     kept : (p : Pair) → p.place < length (seen p.stream) → (b : Bool) → (p.stream == s) ≡ b → p.place < length (cond b rows (seen p.stream))
-    kept p lt true e = let none' = ap length (ap seen (equal_number p.stream s e) ∙ none) in absurd (omega arith)
+    kept p lt true e = let none' = ap length (ap seen (same_number p.stream s e) ∙ none) in absurd (omega arith)
     kept p lt false e = lt
 
     one : (p : Pair) → IsPairOf net s rows p → IsSound p
@@ -276,5 +268,5 @@ paired_comes net seen s rows old new none was lists = record {
     new_pair t k r n same (inr deaf) = inr deaf
 
     at : (t k : ℕ) (r : TupleView) (n : ℕ) → Contains (waits_on net t) n → (b : Bool) → (t == s) ≡ b → slice_get (cond b rows (seen t)) k ≡ Some r → Contains new (pair_of t k n) ⊎ IsDeaf net r n
-    at t k r n c true e got = let same = equal_number t s e in new_pair t k r n same (lists.listed k r got n (subst (λ u. Contains (waits_on net u) n) same c))
+    at t k r n c true e got = let same = same_number t s e in new_pair t k r n same (lists.listed k r got n (subst (λ u. Contains (waits_on net u) n) same c))
     at t k r n c false e got = old_pair t k r n (was.listed t k r got n c)

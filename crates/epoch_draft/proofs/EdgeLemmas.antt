@@ -4,12 +4,10 @@ use Rattle.std.specs.Prelude.{Contains, Option, Some, None, count_by}
 use Rattle.std.specs.List.{All}
 use Rattle.std.proofs.lemmas.Bool.Decides.{nat_tests}
 use Rattle.std.proofs.lemmas.List.Elements.{All-contains, All-cons, All-nil, Contains-append_left, Contains-append_right, Contains-push}
+use Rattle.event_types.proofs.NumberLemmas.{same_number}
 use Rattle.automaton.specs.Networks.{IsNetwork}
 use Rattle.automaton.specs.States.{Net, before_at, edges_at, tells}
 use Rattle.automaton.proofs.CountLemmas.{count-cons}
-
-same_number : (m n : ℕ) → (m == n) ≡ true → m ≡ n
-same_number m n e = grind (arith, nat_tests)
 
 itself : (n : ℕ) → (n == n) ≡ false → ⊥
 itself n e = grind (arith, nat_tests)

@@ -6,24 +6,19 @@ use Rattle.std.proofs.lemmas.List.{length-append, map-append, take_more}
 use Rattle.std.specs.List.{All}
 use Rattle.std.proofs.lemmas.Option.{get_or_from_slice_get, slice_get_within}
 use Rattle.std.proofs.lemmas.List.Elements.{All-get_or, Contains-append_cases, Contains-append_left, Contains-append_right, Contains-push, Contains-push_cases}
+use Rattle.automaton.proofs.NumberLemmas.{are_same_or_not}
 
-same_number : (m n : ℕ) → (m == n) ≡ true → m ≡ n
-same_number m n e = grind (arith, nat_tests)
+-- what stands under Some
+pub some_is : {X : Type 0} (x y : X) → Some x ≡ Some y → x ≡ y
+some_is x y e = cc
 
-other_number : (m n : ℕ) → (m == n) ≡ false → m ≡ n → ⊥
-other_number m n e same = grind (arith, nat_tests)
-
--- two numbers are the same or not
-pub same_or_other : (m n : ℕ) → (m ≡ n) ⊎ (m ≡ n → ⊥)
-same_or_other m n = go (m == n) refl
-  where
-    go : (b : Bool) → (m == n) ≡ b → (m ≡ n) ⊎ (m ≡ n → ⊥)
-    go true e = inl (same_number m n e)
-    go false e = inr (other_number m n e)
+-- a list without items contains none
+pub none_in : {X : Type 0} (x : X) → Contains [] x → ⊥
+none_in x c = absurd (omega arith)
 
 -- below the next number is below this one or it
 pub below_or_last : (k n : ℕ) → k < n + 1 → (k < n) ⊎ (k ≡ n)
-below_or_last k n lt = go (same_or_other k n)
+below_or_last k n lt = go (are_same_or_not k n)
   where
     go : (k ≡ n) ⊎ (k ≡ n → ⊥) → (k < n) ⊎ (k ≡ n)
     go (inl same) = inr same
@@ -66,7 +61,7 @@ module _ {X : Type 0} where
 -- a number is in a list or not
 pub contains_or_not : (xs : List ℕ) (n : ℕ) → Contains xs n ⊎ (Contains xs n → ⊥)
 contains_or_not [] n = inr (λ c. absurd (omega arith))
-contains_or_not (x ∷ xs) n = go (same_or_other x n) (contains_or_not xs n)
+contains_or_not (x ∷ xs) n = go (are_same_or_not x n) (contains_or_not xs n)
   where
     one : Contains (x ∷ []) n → x ≡ n
     one c = first (Contains-push_cases [] x n c)
@@ -93,11 +88,6 @@ pub on_ok : {T E : Type 0} (r : Result T E) (P Q : Type 0) → (P → Q) → OnO
 on_ok (Ok x) P Q f h = f h
 on_ok (Err e) P Q f h = h
 
--- what is promised of an Ok by two clauses
-pub on_ok_both : {T E : Type 0} (r : Result T E) (P Q R : Type 0) → (P → Q → R) → OnOk r P → OnOk r Q → OnOk r R
-on_ok_both (Ok x) P Q R f p q = f p q
-on_ok_both (Err e) P Q R f p q = p
-
 -- what is promised of an Err gives what follows from it
 pub on_err_by : {T E : Type 0} (r : Result T E) (P Q : Type 0) → (P → Q) → OnErr r P → OnErr r Q
 on_err_by (Ok x) P Q f h = h
@@ -117,11 +107,6 @@ on_err (Err e) P holds = holds
 pub on_ok_four : {T E : Type 0} (r : Result T E) (P Q R S U : Type 0) → (P → Q → R → S → U) → OnOk r P → OnOk r Q → OnOk r R → OnOk r S → OnOk r U
 on_ok_four (Ok x) P Q R S U f p q s u = f p q s u
 on_ok_four (Err e) P Q R S U f p q s u = p
-
--- what is promised of an Ok by three clauses
-pub on_ok_three : {T E : Type 0} (r : Result T E) (P Q R S : Type 0) → (P → Q → R → S) → OnOk r P → OnOk r Q → OnOk r R → OnOk r S
-on_ok_three (Ok x) P Q R S f p q s = f p q s
-on_ok_three (Err e) P Q R S f p q s = p
 
 -- what holds of all items holds of the one at a place
 pub all_at : {X : Type 0} (P : X → Type 0) (xs : List X) (i : ℕ) (x : X) → All P xs → slice_get xs i ≡ Some x → P x

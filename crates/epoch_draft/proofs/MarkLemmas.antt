@@ -6,12 +6,11 @@ use Rattle.std.proofs.Math.Seq.{get_or-append_seam}
 use Rattle.std.proofs.lemmas.Grind.{get_or-set_at}
 use Rattle.std.proofs.lemmas.List.{append-nil, get_or_append_left, get_or-set_other, length-append, length-set, take-append-le}
 use Rattle.std.proofs.lemmas.List.Elements.{All-contains_itself, All-weaker, Contains-append_left, Contains-push, Contains-push_cases}
+use Rattle.std.proofs.lemmas.Bool.{true≢false}
+use Rattle.automaton.proofs.NumberLemmas.{are_same_or_not}
 use Rattle.epoch_draft.specs.Marks.{AreLowered, AreMarks, MarksMore}
 use Rattle.epoch_draft.specs.declared.marks.Marks.{Marks}
-use Rattle.epoch_draft.proofs.Lists.{below_or_last, more_contains, same_or_other, taken_all}
-
-true_false : true ≡ false → ⊥
-true_false e = cc
+use Rattle.epoch_draft.proofs.Lists.{below_or_last, more_contains, taken_all}
 
 no_number : (n : ℕ) → Contains [] n → ⊥
 no_number n c = absurd (omega arith)
@@ -45,7 +44,7 @@ marks_kept old new more n c = subst (λ (ns : List ℕ). Contains ns n) (sym mor
 -- no number is marked
 pub marks_none : (flags : List Bool) → ((n : ℕ) → get_or flags n false ≡ false) → (numbers : List ℕ) → numbers ≡ [] → AreMarks (record { flags = flags; numbers = numbers })
 marks_none flags lowered numbers e = record {
-  listed = λ n h. absurd (true_false (sym h ∙ lowered n));
+  listed = λ n h. absurd (true≢false (sym h ∙ lowered n));
   flagged = λ n c. absurd (no_number n (subst (λ (ns : List ℕ). Contains ns n) e c));
   once = λ i lt c. no_place i (subst (λ (ns : List ℕ). i < length ns) e lt);
 }
@@ -57,8 +56,8 @@ marks_none flags lowered numbers e = record {
 pub mark_more : (marks : Marks) (n : ℕ) (numbers : List ℕ) → AreMarks marks → n < length marks.flags → get_or marks.flags n false ≡ false → numbers ≡ marks.numbers ++ n ∷ [] → MarksMore marks (record { flags = set marks.flags n true; numbers = numbers })
 mark_more marks n numbers are lt e put = record {
   are = record {
-    listed = λ k h. subst (λ (ns : List ℕ). Contains ns k) (sym put) (listed k (same_or_other k n) h);
-    flagged = λ k c. flagged k (same_or_other k n) (Contains-push_cases marks.numbers n k (subst (λ (ns : List ℕ). Contains ns k) put c));
+    listed = λ k h. subst (λ (ns : List ℕ). Contains ns k) (sym put) (listed k (are_same_or_not k n) h);
+    flagged = λ k c. flagged k (are_same_or_not k n) (Contains-push_cases marks.numbers n k (subst (λ (ns : List ℕ). Contains ns k) put c));
     once = λ i less c.
         once i (below_or_last i (length marks.numbers) (omega (arith, ap length put, length-append marks.numbers (n ∷ [])))) (subst (λ (ns : List ℕ). Contains (take i ns) (get_or ns i 0)) put c);
   };
@@ -68,7 +67,7 @@ mark_more marks n numbers are lt e put = record {
 }
   where
     fresh : Contains marks.numbers n → ⊥
-    fresh c = true_false (sym (are.flagged n c) ∙ e)
+    fresh c = true≢false (sym (are.flagged n c) ∙ e)
 
     listed : (k : ℕ) → (k ≡ n) ⊎ (k ≡ n → ⊥) → get_or (set marks.flags n true) k false ≡ true → Contains (marks.numbers ++ n ∷ []) k
     listed k (inl same) h = subst (Contains (marks.numbers ++ n ∷ [])) (sym same) (Contains-push marks.numbers n)
@@ -96,7 +95,7 @@ lower_none flags = record { as_many = refl; raised = λ n h. (h, no_number n) }
 
 -- one flag more is down
 pub lower_more : (numbers : List ℕ) (i : ℕ) (first old : List Bool) → i < length numbers → get_or numbers i 0 < length first → AreLowered (take i numbers) first old → AreLowered (take (i + 1) numbers) first (set old (get_or numbers i 0) false)
-lower_more numbers i first old lt below h = record { as_many = length-set old m false ∙ h.as_many; raised = λ n up. go n (same_or_other n m) up }
+lower_more numbers i first old lt below h = record { as_many = length-set old m false ∙ h.as_many; raised = λ n up. go n (are_same_or_not n m) up }
   where
     m : ℕ
     m = get_or numbers i 0
@@ -109,7 +108,7 @@ lower_more numbers i first old lt below h = record { as_many = length-set old m 
     split n other none (inr same) = other (sym same)
 
     go : (n : ℕ) → (n ≡ m) ⊎ (n ≡ m → ⊥) → get_or (set old m false) n false ≡ true → (get_or first n false ≡ true) × (Contains (take (i + 1) numbers) n → ⊥)
-    go n (inl same) up = absurd (true_false (sym up ∙ get_or-set_at old m n false false same there))
+    go n (inl same) up = absurd (true≢false (sym up ∙ get_or-set_at old m n false false same there))
     go n (inr other) up =
         let was = h.raised n (sym (get_or-set_other old m n false false other) ∙ up) in (was.0, λ c. split n other was.1 (more_contains numbers i 0 n lt c))
 

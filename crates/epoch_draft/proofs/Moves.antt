@@ -10,6 +10,7 @@ use Rattle.std.proofs.lemmas.List.{append-nil}
 use Rattle.std.proofs.lemmas.List.Folds.{flat_map-map}
 use Rattle.std.proofs.lemmas.List.Sorted.{IsPermutation-trans}
 use Rattle.event_types.specs.Tuple.{TupleView}
+use Rattle.event_types.proofs.NumberLemmas.{same_number}
 use Rattle.instances.specs.declared.instance.Instance.{Instance}
 use Rattle.scalar_expr.proofs.Bags.{flat_map_permuted, permuted_from, permuted_to}
 use Rattle.automaton.specs.Networks.{IsNetwork}
@@ -30,10 +31,6 @@ use Rattle.epoch_laws.proofs.Lists.{every, flat_map-flat_map}
 use Rattle.epoch_draft.specs.Moves.{Move, bound_by, bound_of, made_by, made_of, moves_from, moves_on, moves_over}
 use Rattle.epoch_draft.proofs.Concats.{nothing_of, one_test, options_of, pairs_turned, tested_of}
 use Rattle.semantics.proofs.ReportLemmas.{flat_map_same}
-
--- numbers that test as equal are
-pub equal_number : (m n : ℕ) → (m == n) ≡ true → m ≡ n
-equal_number m n e = grind (arith, nat_tests)
 
 -- a number tests as equal to itself
 pub is_itself : (n : ℕ) → (n == n) ≡ true
@@ -74,7 +71,7 @@ picked_once k f [] h = absurd (cc)
 picked_once k f (x ∷ xs) h = go (x == k) refl (sym (count-cons (λ y. y == k) x xs) ∙ h) (picked_once k f xs)
   where
     go : (b : Bool) → (x == k) ≡ b → cond b 1 0 + count_by (λ y. y == k) xs ≡ 1 → (count_by (λ y. y == k) xs ≡ 1 → flat_map (λ x. cond (x == k) (f x) []) xs ≡ f k) → cond b (f x) [] ++ flat_map (λ x. cond (x == k) (f x) []) xs ≡ f k
-    go true e h rest = ap (λ zs. f x ++ zs) (picked_none k f xs (omega arith)) ∙ append-nil (f x) ∙ ap f (equal_number x k e)
+    go true e h rest = ap (λ zs. f x ++ zs) (picked_none k f xs (omega arith)) ∙ append-nil (f x) ∙ ap f (same_number x k e)
     go false e h rest = rest (omega arith)
 
 picked_told : {Z : Type 0} (k : ℕ) (f : ℕ → List Z) (xs : List ℕ) (b : Bool) → count_by (λ x. x == k) xs ≡ cond b 1 0 → flat_map (λ x. cond (x == k) (f x) []) xs ≡ cond b (f k) []
@@ -233,13 +230,13 @@ module _ (net : Net) (network : IsNetwork net) (w : ℕ) where
 
       came_is : flat_map (came flow) (range_with_len 0 (length net)) ≡ instances_entering hop (flow before)
       came_is =
-          picked (λ n. tells n (before_at net w)) before (λ n e. sym (equal_number before n (sym (ap (tells n) told_by) ∙ e))) (λ n. filter_map (pass_instance (step_at net w)) (flow n))
+          picked (λ n. tells n (before_at net w)) before (λ n e. sym (same_number before n (sym (ap (tells n) told_by) ∙ e))) (λ n. filter_map (pass_instance (step_at net w)) (flow n))
           (ap (tells before) told_by ∙ is_itself before) 0 (length net) (omega arith) (omega arith)
           ∙ ap (λ step. filter_map (pass_instance step) (flow before)) step_is
 
       went_is : flat_map (went flow) (range_with_len 0 (length net)) ≡ again hop.wait.fold (flow w)
       went_is =
-          picked (λ n. n == w) w (λ n e. equal_number n w e) (λ n. backed (wait_at net n) (flow n)) (is_itself w) 0 (length net) (omega arith) (omega arith)
+          picked (λ n. n == w) w (λ n e. same_number n w e) (λ n. backed (wait_at net n) (flow n)) (is_itself w) 0 (length net) (omega arith) (omega arith)
           ∙ ap (λ (o : Option Wait). backed o (flow w)) wait_is
 
   before_none : wait_at net w ≡ None → before_at net w ≡ None
@@ -259,7 +256,7 @@ module _ (net : Net) (network : IsNetwork net) (w : ℕ) where
       ∙ nothing_of (range_with_len 0 (length net))
     where
       back : (n : ℕ) (x : Instance) (b : Bool) → (n == w) ≡ b → cond b (backed (wait_at net n) (x ∷ [])) [] ≡ []
-      back n x true e = ap (λ (o : Option Wait). backed o (x ∷ [])) (ap (wait_at net) (equal_number n w e) ∙ none)
+      back n x true e = ap (λ (o : Option Wait). backed o (x ∷ [])) (ap (wait_at net) (same_number n w e) ∙ none)
       back n x false e = refl
 
       one : (n : ℕ) (x : Instance) → flat_map (bound_by net w x) (ways_at net n) ≡ []

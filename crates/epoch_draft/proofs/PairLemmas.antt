@@ -1,8 +1,8 @@
 -- Waiting states that are listed with tuples.
 use Rattle.std.proofs.Common.{◌≡◌, ◌∙◌, sym, ap, refl, subst, inl, inr, ℕ, zero, suc, ◌+◌, ◌<◌, ◌⊎◌, length, get_or, take, List, [], ◌∷◌, ◌++◌, map, append_assoc, arith}
 use Rattle.std.specs.Prelude.{Contains, Some, slice_get}
-use Rattle.std.proofs.lemmas.List.{append-nil, length-append, length-take-le, take_more}
-use Rattle.std.proofs.lemmas.List.Elements.{All-append, All-contains, All-contains_itself, All-map, All-nil, All-weaker, Contains-append_cases, Contains-append_left, Contains-append_right, Contains-push, Contains-push_cases}
+use Rattle.std.proofs.lemmas.List.{length-append, length-take-le, take_more}
+use Rattle.std.proofs.lemmas.List.Elements.{All-append, All-contains, All-contains_itself, All-map, All-weaker, Contains-append_cases, Contains-append_left, Contains-append_right, Contains-push, Contains-push_cases}
 use Rattle.std.proofs.lemmas.List.Sorted.{Contains-permutation, IsPermutation-sym}
 use Rattle.event_types.specs.Tuple.{TupleView}
 use Rattle.automaton.specs.States.{Net}
@@ -10,9 +10,7 @@ use Rattle.stream_readers.specs.Finding.{IsDeaf, waits_on}
 use Rattle.epoch_draft.specs.Meeting.{IsPairOf, Lists, ListsAll, pair_of}
 use Rattle.epoch_draft.specs.declared.draft.Pair.{Pair}
 use Rattle.epoch_draft.proofs.MeetLemmas.{found_all}
-
-some_is : {X : Type 0} (x y : X) → Some x ≡ Some y → x ≡ y
-some_is x y e = cc
+use Rattle.epoch_draft.proofs.Lists.{some_is}
 
 -- what stands at a place of a list with one more item
 pub slice_get_push : {X : Type 0} (xs : List X) (x : X) (k : ℕ) (y : X) → slice_get (xs ++ x ∷ []) k ≡ Some y → (slice_get xs k ≡ Some y) ⊎ ((k ≡ length xs) × (x ≡ y))
@@ -37,15 +35,6 @@ contains_map f (y ∷ xs) x c = go (Contains-append_cases (y ∷ []) xs x c) (co
     go : Contains (y ∷ []) x ⊎ Contains xs x → (Contains xs x → Contains (map f xs) (f x)) → Contains (map f (y ∷ xs)) (f x)
     go (inl c) rest = first (Contains-push_cases [] y x c)
     go (inr c) rest = Contains-append_right (f y ∷ []) (map f xs) (f x) (rest c)
-
--- no tuple, no pair
-pub lists_none : (net : Net) (s : ℕ) (pairs : List Pair) → ListsAll net s [] pairs pairs
-lists_none net s pairs = record {
-  added = [];
-  are = sym (append-nil pairs);
-  sound = All-nil (IsPairOf net s []);
-  listed = λ k t e n c. absurd (cc);
-}
 
 -- one tuple more
 pub lists_more : (net : Net) (s : ℕ) (rows : List TupleView) (i : ℕ) (d : TupleView) (old mid new : List Pair) → i < length rows → ListsAll net s (take i rows) old mid → Lists net s i (get_or rows i d) mid new → ListsAll net s (take (i + 1) rows) old new

@@ -17,11 +17,12 @@ use Rattle.instances.specs.declared.instance.Instance.{Instance}
 use Rattle.automaton.specs.States.{Net, wait_at}
 use Rattle.automaton.specs.declared.network.Entrance.TheVariants.{Waiting}
 use Rattle.automaton.specs.declared.wait.Wait.{Wait}
+use Rattle.automaton.proofs.NumberLemmas.{are_same_or_not}
 use Rattle.epoch_draft.specs.Held.{SameShapes, Shape, held, instances_in, shape_of}
 use Rattle.epoch_draft.specs.Purging.{AreAllPurged, ArePurgedIn, AreUsedIn, IsPurgedAt, alive_in}
 use Rattle.epoch_draft.specs.declared.draft.Pair.{Pair}
 use Rattle.epoch_draft.proofs.DrawnLemmas.{entry_below}
-use Rattle.epoch_draft.proofs.Lists.{below_or_last, contains_or_not, map_more, same_or_other}
+use Rattle.epoch_draft.proofs.Lists.{below_or_last, contains_or_not, map_more, some_is}
 use Rattle.epoch_draft.proofs.StateLemmas.{at_wait, wait_entry}
 
 -- stores have their own shapes
@@ -34,7 +35,7 @@ shapes_trans old mid new one two = record { as_many = two.as_many ∙ one.as_man
 
 -- one store was written over by one of its shape
 pub shapes_set : (stores : List (Option Store)) (n : ℕ) (slot : Option Store) → n < length stores → shape_of slot ≡ shape_of (get_or stores n None) → SameShapes stores (set stores n slot)
-shapes_set stores n slot below shape = record { as_many = length-set stores n slot; shapes = λ m. go m (same_or_other m n) }
+shapes_set stores n slot below shape = record { as_many = length-set stores n slot; shapes = λ m. go m (are_same_or_not m n) }
   where
     go : (m : ℕ) → (m ≡ n) ⊎ (m ≡ n → ⊥) → shape_of (get_or (set stores n slot) m None) ≡ shape_of (get_or stores m None)
     go m (inl same) = ap shape_of (get_or-set_at stores n m slot None same below) ∙ shape ∙ ap (λ k. shape_of (get_or stores k None)) (sym same)
@@ -44,9 +45,6 @@ shapes_set stores n slot below shape = record { as_many = length-set stores n sl
 pub alive_twice : (time : ℕ) (choose : List Pr) (store : List Instance) → alive_instances time choose (alive_instances time choose store) ≡ alive_instances time choose store
 alive_twice time choose store =
     filter_all (λ (i : Instance). is_alive time choose i.tuple) (alive_instances time choose store) (filter_passes (λ (i : Instance). is_alive time choose i.tuple) store)
-
-some_is : (x y : Shape) → Some x ≡ Some y → x ≡ y
-some_is x y e = cc
 
 -- a store that was purged is the same once purged again
 pub purged_twice : (time : ℕ) (old new : Option Store) → shape_of new ≡ shape_of old → instances_in new ≡ alive_in time old → alive_in time new ≡ alive_in time old
@@ -70,9 +68,9 @@ purge_push : (time : ℕ) (numbers : List ℕ) (n : ℕ) (first old : List (Opti
     → ArePurgedIn numbers time first old → ArePurgedIn (numbers ++ n ∷ []) time first (set old n slot)
 purge_push time numbers n first old slot below is shape used h = record {
   same = shapes_trans first old (set old n slot) h.same (shapes_set old n slot there shape);
-  purged = λ k c. purged k (same_or_other k n) (Contains-push_cases numbers n k c);
-  used = λ k c. keys k (same_or_other k n) (Contains-push_cases numbers n k c);
-  others = λ k absent. others k absent (same_or_other k n);
+  purged = λ k c. purged k (are_same_or_not k n) (Contains-push_cases numbers n k c);
+  used = λ k c. keys k (are_same_or_not k n) (Contains-push_cases numbers n k c);
+  others = λ k absent. others k absent (are_same_or_not k n);
 }
   where
     there : n < length old
@@ -159,17 +157,13 @@ pub record ArePurgedBelow (net : Net) (bound time : ℕ) (old new : List (Option
   pub used : (n : ℕ) (w : Wait) → n < bound → wait_at net n ≡ Some w → AreUsedIn (get_or new n None)
   pub others : (n : ℕ) → (n < bound → wait_at net n ≡ None) → get_or new n None ≡ get_or old n None
 
--- none is yet
-pub purged_none : (net : Net) (time : ℕ) (stores : List (Option Store)) → ArePurgedBelow net 0 time stores stores
-purged_none net time stores = record { same = shapes_same stores; purged = λ n w lt at. absurd (omega (arith, lt)); used = λ n w lt at. absurd (omega (arith, lt)); others = λ n absent. refl }
-
 -- one more state's
 pub purged_next : (net : Net) (n time : ℕ) (old mid new : List (Option Store)) → ArePurgedBelow net n time old mid → IsPurgedAt net time n mid new → ArePurgedBelow net (n + 1) time old new
 purged_next net n time old mid new was one = record {
   same = shapes_trans old mid new was.same one.same;
   purged = λ k w lt at. purged k w at (below_or_last k n lt);
   used = λ k w lt at. used k w at (below_or_last k n lt);
-  others = λ k absent. others k absent (same_or_other k n);
+  others = λ k absent. others k absent (are_same_or_not k n);
 }
   where
     not_below : n < n → ⊥

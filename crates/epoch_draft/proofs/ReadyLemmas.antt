@@ -21,6 +21,7 @@ use Rattle.automaton.specs.States.{Net, wait_at}
 use Rattle.automaton.specs.declared.layout.Layout.{Layout}
 use Rattle.automaton.specs.declared.wait.Turn.{Turn}
 use Rattle.automaton.specs.declared.wait.Wait.{Wait}
+use Rattle.automaton.proofs.NumberLemmas.{are_same_or_not}
 use Rattle.epoch_laws.specs.Closing.{leaving_state}
 use Rattle.epoch_laws.specs.Epochs.{again, took}
 use Rattle.epoch_laws.specs.Instances.{instances_entering}
@@ -30,7 +31,7 @@ use Rattle.epoch_draft.specs.Readying.{HasRoom, HaveKeyIn, HaveKeys, HaveRoom, H
 use Rattle.epoch_draft.specs.declared.draft.Draft.{Draft}
 use Rattle.epoch_draft.specs.declared.draft.Pair.{Pair}
 use Rattle.epoch_draft.proofs.KeyLemmas.{binding_fits, key_at}
-use Rattle.epoch_draft.proofs.Lists.{more_contains, same_or_other}
+use Rattle.epoch_draft.proofs.Lists.{more_contains}
 use Rattle.epoch_draft.proofs.PurgeLemmas.{shapes_same, shapes_set, shapes_trans}
 use Rattle.epoch_draft.proofs.StateLemmas.{at_wait, hop_typed, wait_entry, wait_typed}
 use Rattle.epoch_draft.proofs.StoreLemmas.{same_key, typed_has}
@@ -64,7 +65,7 @@ readied_none beads stores = record { same = record { same = shapes_same stores; 
 
 -- a store was written over by one with the same instances
 pub stored_set : (first old : List (Option Store)) (n : ℕ) (slot : Option Store) → n < length old → SameStored first old → shape_of slot ≡ shape_of (get_or old n None) → instances_in slot ≡ instances_in (get_or old n None) → SameStored first (set old n slot)
-stored_set first old n slot below was shape is = record { same = shapes_trans first old (set old n slot) was.same (shapes_set old n slot below shape); held = λ m. go m (same_or_other m n) }
+stored_set first old n slot below was shape is = record { same = shapes_trans first old (set old n slot) was.same (shapes_set old n slot below shape); held = λ m. go m (are_same_or_not m n) }
   where
     go : (m : ℕ) → (m ≡ n) ⊎ (m ≡ n → ⊥) → held (set old n slot) m ≡ held first m
     go m (inl same) = ap instances_in (get_or-set_at old n m slot None same below) ∙ is ∙ ap (held old) (sym same) ∙ was.held m
@@ -76,7 +77,7 @@ pub readied_more : (numbers : List ℕ) (i : ℕ) (beads : List (List Instance))
     → ReadiedSoFar (take i numbers) beads first old → ReadiedSoFar (take (i + 1) numbers) beads first (set old (get_or numbers i 0) slot)
 readied_more numbers i beads first old slot lt below shape is room was = record {
   same = stored_set first old n slot below was.same shape is;
-  room = λ m c. rooms m (same_or_other m n) (more_contains numbers i 0 m lt c);
+  room = λ m c. rooms m (are_same_or_not m n) (more_contains numbers i 0 m lt c);
 }
   where
     n : ℕ

@@ -40,6 +40,8 @@ use Rattle.epoch_laws.specs.Epochs.{is_unmet, unmatched_after}
 use Rattle.epoch_laws.proofs.Bags.{permuted_is}
 use Rattle.epoch_laws.proofs.Lists.{every, filter-filter, filter_false}
 use Rattle.std.proofs.lemmas.List.Elements.{filter_agree}
+use Rattle.event_types.proofs.NumberLemmas.{same_number}
+use Rattle.automaton.proofs.NumberLemmas.{are_same_or_not}
 use Rattle.epoch_draft.specs.Deriving.{CanDraw, DrawnUpTo, news_of}
 use Rattle.epoch_draft.specs.Candidates.{candidates_at, candidates_by}
 use Rattle.epoch_draft.specs.Held.{held, instances_in, shape_for, shape_of}
@@ -55,15 +57,12 @@ use Rattle.epoch_draft.proofs.DeriveLemmas.{contains_in, rows_suit}
 use Rattle.epoch_draft.proofs.DrawnLemmas.{drawn_is_after, entry_below}
 use Rattle.epoch_draft.proofs.GoingLemmas.{all_right}
 use Rattle.epoch_draft.proofs.KeyLemmas.{candidates_fewer}
-use Rattle.epoch_draft.proofs.Lists.{contains_more, contains_or_not, contains_this, more_contains, same_or_other}
+use Rattle.epoch_draft.proofs.Lists.{contains_more, contains_or_not, contains_this, more_contains, some_is, none_in}
 use Rattle.epoch_draft.proofs.MeetLemmas.{waits_used}
-use Rattle.epoch_draft.proofs.Moves.{equal_number, is_itself}
+use Rattle.epoch_draft.proofs.Moves.{is_itself}
 use Rattle.epoch_draft.proofs.PurgeLemmas.{shapes_same, shapes_set, shapes_trans}
-use Rattle.epoch_draft.proofs.StateLemmas.{AtWait, at_wait, some_is, wait_entry, wait_typed}
+use Rattle.epoch_draft.proofs.StateLemmas.{AtWait, at_wait, wait_entry, wait_typed}
 use Rattle.epoch_draft.proofs.StoreLemmas.{condition_is, typed_has}
-
-none_in : {X : Type 0} (x : X) → Contains [] x → ⊥
-none_in x c = absurd (omega arith)
 
 other_test : (m n : ℕ) → (m ≡ n → ⊥) → (m == n) ≡ false
 other_test m n ne = grind (arith, nat_tests)
@@ -96,8 +95,8 @@ pub taken_more : (net : Net) (news : Streams) (pairs : List Pair) (i : ℕ) (d :
     → AreTaken net news (take i pairs) old mid → IsTakenAt net t (get_or pairs i d).state mid new → AreTaken net news (take (i + 1) pairs) old new
 taken_more net news pairs i d t old mid new lt got was one = record {
   same = shapes_trans old mid new was.same one.same;
-  taken = λ n w at. waits n w at (same_or_other n p.state);
-  none = λ n at. others n at (same_or_other n p.state);
+  taken = λ n w at. waits n w at (are_same_or_not n p.state);
+  none = λ n at. others n at (are_same_or_not n p.state);
   ready = λ n. one.ready n ∙ was.ready n;
 }
   where
@@ -134,7 +133,7 @@ taken_there net t n w stores slot below at is shape ready = record {
   taken = λ x e. ap instances_in here ∙ is ∙ ap (λ choose. filter (λ (k : Instance). not (is_eligible choose k.tuple t)) (held stores n)) (ap (λ (x : Wait). x.choose) (some_is w x (sym at ∙ e)));
   none = λ e. absurd (let no : Some w ≡ None = sym at ∙ e in cc);
   others = λ m other. ap instances_in (get_or-set_other stores n m slot None other);
-  ready = λ m. all m (same_or_other m n);
+  ready = λ m. all m (are_same_or_not m n);
 }
   where
     here : get_or (set stores n slot) n None ≡ slot
@@ -165,7 +164,7 @@ in_is_news net layout stores opened made can s k lt = go (is_in layout.order s) 
 
 told : (s : ℕ) (o : Option ℕ) → tells s o ≡ true → o ≡ Some s
 told s None e = absurd (cc)
-told s (Some t) e = ap Some (equal_number t s e)
+told s (Some t) e = ap Some (same_number t s e)
 
 contains_passes : {X : Type 0} (p : X → Bool) (xs : List X) (x : X) → Contains (filter p xs) x → p x ≡ true
 contains_passes p [] x c = absurd (none_in x c)
@@ -364,7 +363,7 @@ module _ (net : Net) (layout : Layout) (stores : List (Option Store)) (opened : 
             where
               go : (b : Bool) → (p.state == n) ≡ b → All (Contains (news w.stream)) (cond b (row_at listed p) [])
               go true e =
-                  let stream : w.stream ≡ p.stream = wait_of p.stream p.state h.0 w (ap (wait_at net) (equal_number p.state n e) ∙ at) in
+                  let stream : w.stream ≡ p.stream = wait_of p.stream p.state h.0 w (ap (wait_at net) (same_number p.state n e) ∙ at) in
                   let is = in_is_news net layout stores opened draft.made can p.stream p.place h.1 in
                   row (slice_get (listed p.stream) p.place)
                   (λ t got. subst (λ (s : ℕ). Contains (news s) t) (sym stream) (contains_at (news p.stream) p.place t (ap (λ (ts : List TupleView). slice_get ts p.place) (sym is) ∙ got)))
@@ -450,13 +449,13 @@ pub linked_more : (numbers : List ℕ) (i : ℕ) (start beads : List (List Insta
     → LinkedSoFar (take i numbers) start beads old mid → LinkedSoFar (take (i + 1) numbers) start (set beads (get_or numbers i 0) rest) old (set mid (get_or numbers i 0) new)
 linked_more numbers i start beads old mid slot new chain rest lt below below_beads once read got puts idle shape was = record {
   linked = record {
-    same = record { as_many = length-set mid n new ∙ was.linked.same.as_many; shapes = λ m. shapes m (same_or_other m n) };
+    same = record { as_many = length-set mid n new ∙ was.linked.same.as_many; shapes = λ m. shapes m (are_same_or_not m n) };
     linked = λ m c store e. links m store e (more_contains numbers i 0 m lt c);
-    idle = λ m e. idles m e (same_or_other m n);
-    others = λ m absent. others m absent (same_or_other m n);
+    idle = λ m e. idles m e (are_same_or_not m n);
+    others = λ m absent. others m absent (are_same_or_not m n);
   };
   as_many = length-set beads n rest ∙ was.as_many;
-  kept = λ m absent. kept m absent (same_or_other m n);
+  kept = λ m absent. kept m absent (are_same_or_not m n);
 }
   where
     n : ℕ

@@ -14,10 +14,7 @@ use Rattle.automaton.specs.declared.wait.Wait.{Wait}
 use Rattle.epoch_laws.specs.Closing.{Stores, leaving_state, leaving_by}
 use Rattle.epoch_laws.specs.Epochs.{took}
 use Rattle.epoch_draft.specs.Kindings.{EntranceFits, Kinding, StatesFit}
-
--- what stands under Some
-pub some_is : {X : Type 0} (x y : X) → Some x ≡ Some y → x ≡ y
-some_is x y e = cc
+use Rattle.epoch_draft.proofs.Lists.{some_is}
 
 -- a waiting state, as it is entered
 pub record AtWait (net : Net) (number : ℕ) (wait : Wait) : Type 0 where

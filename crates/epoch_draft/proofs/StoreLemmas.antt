@@ -3,34 +3,29 @@ use Rattle.std.proofs.Common.{◌≡◌, ◌∙◌, sym, ap, refl, subst, ℕ, g
 use Rattle.std.specs.Prelude.{Option, Some, None}
 use Rattle.std.specs.Option.{option_and_then}
 use Rattle.std.specs.List.{All}
-use Rattle.std.specs.List.Sorted.{IsPermutation}
 use Rattle.event_types.specs.declared.kind.Kind.{Kind}
 use Rattle.event_types.specs.Tuple.{TupleView}
-use Rattle.instances.specs.Bounds.{alive_instances}
 use Rattle.instances.specs.Keys.{Key}
 use Rattle.instances.specs.declared.instance.Instance.{Instance}
-use Rattle.semantics.specs.Denotation.{Streams, streams_of}
+use Rattle.semantics.specs.Denotation.{streams_of}
 use Rattle.semantics.specs.Kinds.{HasKinds}
 use Rattle.semantics.specs.Scalars.{Pr}
 use Rattle.binding_index.specs.KeyParts.{first_key}
-use Rattle.binding_index.specs.Stores.{condition_of, instances_of, key_of}
+use Rattle.binding_index.specs.Stores.{condition_of, key_of}
 use Rattle.binding_index.specs.declared.store.Store.{Store}
 use Rattle.automaton.specs.States.{Net, wait_at}
 use Rattle.automaton.specs.declared.layout.Layout.{Layout}
 use Rattle.automaton.specs.declared.wait.Wait.{Wait}
-use Rattle.epoch_laws.specs.Closing.{IsEpoch, Stores, stores_after}
+use Rattle.epoch_laws.specs.Closing.{IsEpoch, Stores}
 use Rattle.epoch_draft.specs.Deriving.{CanDraw, DrawnUpTo, news_of}
 use Rattle.epoch_draft.specs.Drawn.{Drawn}
 use Rattle.epoch_draft.specs.Held.{SameShapes, SameStored, Shape, held, instances_in, key_in, shape_for, shape_of}
-use Rattle.epoch_draft.specs.Settling.{AreClosed}
 use Rattle.epoch_draft.specs.Stores.{HasStores}
 use Rattle.epoch_draft.specs.Typed.{IsTyped}
 use Rattle.epoch_draft.specs.declared.draft.Draft.{Draft}
 use Rattle.epoch_draft.specs.declared.draft.Pair.{Pair}
-use Rattle.epoch_draft.proofs.PurgeLemmas.{shapes_same, shapes_trans}
-
-some_is : (x y : Shape) → Some x ≡ Some y → x ≡ y
-some_is x y e = cc
+use Rattle.epoch_draft.proofs.PurgeLemmas.{shapes_same}
+use Rattle.epoch_draft.proofs.Lists.{some_is}
 
 -- two shapes of the same condition and key
 shape_is : (choose other : List Pr) (key by : Option Key) → choose ≡ other → key ≡ by → (let one : Shape = record { condition = choose; key = key } in one) ≡ (let one : Shape = record { condition = other; key = by } in one)
@@ -116,11 +111,3 @@ drawn_same net layout old new opened done draft pairs same drawn = record {
 -- stores have the same instances as themselves
 pub stored_same : (stores : List (Option Store)) → SameStored stores stores
 stored_same stores = record { same = shapes_same stores; held = λ n. refl }
-
--- what closed stores with the same instances closed these
-pub closed_same : (time : ℕ) (net : Net) (news : Streams) (old mid new : List (Option Store)) → SameStored old mid → AreClosed time net news mid new → AreClosed time net news old new
-closed_same time net news old mid new same closed = record {
-  same = shapes_trans old mid new same.same closed.same;
-  purged = λ n w at. subst (λ (stores : Stores). IsPermutation (held new n) (alive_instances time w.choose (stores_after net news stores n))) (sym (held_same old mid same)) (closed.purged n w at);
-  others = λ n at. closed.others n at ∙ same.held n;
-}

@@ -9,6 +9,7 @@ use Rattle.std.proofs.lemmas.List.Elements.{All-append, All-cons, All-contains_i
 use Rattle.std.proofs.lemmas.List.Sorted.{All-permutation, IsPermutation-sym}
 use Rattle.event_types.specs.declared.kind.Kind.{Kind}
 use Rattle.event_types.specs.Tuple.{TupleView}
+use Rattle.event_types.proofs.NumberLemmas.{same_number}
 use Rattle.binding_index.specs.declared.store.Store.{Store}
 use Rattle.instances.specs.declared.instance.Instance.{Instance}
 use Rattle.semantics.specs.Denotation.{Streams}
@@ -39,15 +40,13 @@ use Rattle.epoch_draft.specs.Typed.{HaveKinds, IsTyped}
 use Rattle.epoch_draft.proofs.EdgeLemmas.{edge_before}
 use Rattle.epoch_draft.proofs.KeyLemmas.{event_fits}
 use Rattle.epoch_draft.proofs.Pairs.{met_took}
-use Rattle.epoch_draft.proofs.StateLemmas.{at_wait, hop_typed, root_typed, some_is, wait_entry, wait_leaves, wait_typed}
+use Rattle.epoch_draft.proofs.StateLemmas.{at_wait, hop_typed, root_typed, wait_entry, wait_leaves, wait_typed}
 use Rattle.epoch_draft.proofs.TypingLemmas.{passed_kinds, step_passes, took_kinds, wait_suits}
-
-equal_number : (m n : ℕ) → (m == n) ≡ true → m ≡ n
-equal_number m n e = grind (arith, nat_tests)
+use Rattle.epoch_draft.proofs.Lists.{some_is}
 
 told : (s : ℕ) (o : Option ℕ) → tells s o ≡ true → o ≡ Some s
 told s None e = absurd (cc)
-told s (Some t) e = ap Some (equal_number t s e)
+told s (Some t) e = ap Some (same_number t s e)
 
 step_suits : (step : List Stage) (ks out : List Kind) (x : TupleView) → StepGives step ks out → HasKinds ks x → StepSuits step x
 step_suits step ks out x gives h = (step_passes step ks out x gives h).suits
@@ -174,7 +173,7 @@ module _ (net : Net) (network : IsNetwork net) (kinds : List (List Kind)) (store
         one : (n : ℕ) (e : End) → EndFits kinds (typed.kinding.leaving n) e → (e.out == s) ≡ true → All (HasKinds known) (filter_map (pass e.step) (bindings n))
         one n e fit out =
             subst (λ (ks : List Kind). All (HasKinds ks) (filter_map (pass e.step) (bindings n)))
-            (some_is fit.0 known (sym fit.2 ∙ ap (slice_get kinds) (equal_number e.out s out) ∙ is)) (passed_kinds e.step (typed.kinding.leaving n) fit.0 (bindings n) fit.1 (All-map (HasKinds (typed.kinding.leaving n)) (λ (i : Instance). i.tuple) (leaving_state net seen (held stores) n) (leaves_kinds n)))
+            (some_is fit.0 known (sym fit.2 ∙ ap (slice_get kinds) (same_number e.out s out) ∙ is)) (passed_kinds e.step (typed.kinding.leaving n) fit.0 (bindings n) fit.1 (All-map (HasKinds (typed.kinding.leaving n)) (λ (i : Instance). i.tuple) (leaving_state net seen (held stores) n) (leaves_kinds n)))
 
         each : (n : ℕ) → All (HasKinds known) (given_by_ends_at net seen (held stores) s n)
         each n =

@@ -26,11 +26,12 @@ use Rattle.epoch_laws.proofs.Lists.{map_all}
 use Rattle.epoch_draft.specs.Held.{SameShapes, held, instances_in, shape_of}
 use Rattle.epoch_draft.specs.Settling.{AreClosed}
 use Rattle.epoch_draft.specs.Typed.{HaveKinds, IsStoreOf, IsTyped}
-use Rattle.epoch_draft.proofs.StateLemmas.{at_wait, hop_typed, some_is, wait_entry, wait_typed}
+use Rattle.epoch_draft.proofs.StateLemmas.{at_wait, hop_typed, wait_entry, wait_typed}
 use Rattle.epoch_draft.proofs.StoreLemmas.{shaped_typed}
 use Rattle.epoch_draft.proofs.SuitLemmas.{instances_typed, leaves_kinds}
 use Rattle.epoch_draft.proofs.TypingLemmas.{entered_kinds, took_kinds}
 use Rattle.epoch_draft.proofs.ReadyLemmas.{again_kinds}
+use Rattle.epoch_draft.proofs.Lists.{some_is}
 
 module _ (net : Net) (network : IsNetwork net) (kinds : List (List Kind)) (stores : List (Option Store)) (typed : IsTyped net kinds stores) (news : Streams) (have : HaveKinds kinds news) where
   -- the instances of a waiting state after the epoch have its kinds

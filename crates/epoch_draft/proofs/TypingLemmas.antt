@@ -25,7 +25,7 @@ use Rattle.automaton.specs.declared.wait.Wait.{Wait}
 use Rattle.epoch_laws.specs.Epochs.{taken, taken_from, took}
 use Rattle.epoch_laws.specs.Instances.{began, pass_instance}
 use Rattle.epoch_draft.specs.Suits.{StepSuits, TurnSuits, WaitSuits}
-use Rattle.epoch_draft.proofs.StateLemmas.{some_is}
+use Rattle.epoch_draft.proofs.Lists.{some_is}
 
 turn_suits : (fold : Option Turn) (bs es out : List Kind) (b t : TupleView) → TurnGives fold bs es out → HasKinds es t → HasKinds bs b → TurnSuits fold b t
 turn_suits None bs es out b t h ht hb = tt

@@ -1,6 +1,5 @@
 pub mod Agenda
 pub mod Candidates
-pub mod Closing
 pub mod Comes
 pub mod Deriving
 pub mod Drafts

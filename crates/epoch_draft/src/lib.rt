@@ -9,18 +9,16 @@
 //! some. `Marks` are flags by number and the numbers whose flags are up, each once. A `Pair` is the number of
 //! a waiting state and a tuple by its stream and its place there.
 //!
-//! The contracts still lack a bound on the steps of `close`, of which `draw`
-//! and `settle` say parts, and on those of `draw` at want of memory.
+//! The contracts still lack a bound on the steps of both halves together, of which `draw` and `settle` say
+//! parts, and on those of `draw` at want of memory.
 #![tactic(auto)]
 
 mod agenda;
 mod bounds;
-mod closing;
 mod draft;
 mod drawing;
 mod filling;
 mod going;
-mod laws;
 mod marks;
 mod meeting;
 mod passing;
@@ -31,13 +29,9 @@ mod stores;
 
 pub use agenda::places_of;
 pub use bounds::bounded_states;
-pub use closing::close;
 pub use draft::{Draft, Lists, Pair, Pairs};
 pub use drawing::draw;
 pub use filling::{clear_lists, empty_lists, filled};
-pub use laws::{
-    drawn_comes, drawn_is_after, drawn_is_epoch, drawn_starts, paired_comes, tuple_comes,
-};
 pub use marks::Marks;
 pub use purging::purge_all;
 pub use readying::make_room;

@@ -5,14 +5,10 @@ use Rattle.std.proofs.lemmas.Bool.Decides.{nat_tests}
 use Rattle.std.proofs.lemmas.Grind.{get_or-set_at}
 use Rattle.std.proofs.lemmas.List.{get_or_append_left, get_or-set_other, length-append, length-map, length-set, length-take-le, same_lists, take_more}
 use Rattle.event_types.specs.Tuple.{TupleView}
-use Rattle.epoch_draft.proofs.Lists.{below_or_last, same_or_other}
+use Rattle.event_types.proofs.NumberLemmas.{same_number}
+use Rattle.automaton.proofs.NumberLemmas.{are_same_or_not}
+use Rattle.epoch_draft.proofs.Lists.{below_or_last}
 use Rattle.epoch_engine.specs.Batches.{AreReady, IsOfMade}
-
-true_false : true ≡ false → ⊥
-true_false e = cc
-
-equal_number : (m n : ℕ) → (m == n) ≡ true → m ≡ n
-equal_number m n e = grind (arith, nat_tests)
 
 -- a batch for no streams
 pub ready_none : (last : List ℕ) (made : List (List TupleView)) → AreReady [] last made []
@@ -110,12 +106,12 @@ module _ (outs last : List ℕ) (start made batch : List (List TupleView)) (i : 
     filled = λ k before inside. filled k (below_or_last k i before) inside;
     moves = λ k after inside f. get_or-set_other batch i k rows [] (λ same. absurd (omega (arith, same))) ∙ was.moves k (omega arith) inside f;
     copies = λ k after inside f. get_or-set_other batch i k rows [] (λ same. absurd (omega (arith, same))) ∙ was.copies k (omega arith) inside f;
-    kept = λ t le. kept t le (same_or_other t s);
-    others = λ t. others t (same_or_other t s);
+    kept = λ t le. kept t le (are_same_or_not t s);
+    others = λ t. others t (are_same_or_not t s);
   }
     where
       last_is : get_or last s 0 ≡ i
-      last_is = equal_number (get_or last s 0) i e
+      last_is = same_number (get_or last s 0) i e
 
       there : s < length made
       there = omega (arith, was.made_as_many)

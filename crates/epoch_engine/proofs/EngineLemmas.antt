@@ -8,8 +8,10 @@ use Rattle.std.proofs.lemmas.Grind.{get_or-set_at}
 use Rattle.std.proofs.lemmas.List.{get_or-set_other, length-set, set-get_or, take-append-drop}
 use Rattle.std.proofs.lemmas.List.Elements.{All-cons, All-head, All-nil, All-push, All-tail, All-weaker}
 use Rattle.std.proofs.lemmas.Option.{get_or_from_slice_get, slice_get_within}
+use Rattle.std.proofs.lemmas.Bool.{true≢false}
 use Rattle.event_types.specs.declared.kind.Kind.{Kind}
 use Rattle.event_types.specs.Tuple.{TupleView}
+use Rattle.event_types.proofs.NumberLemmas.{same_number}
 use Rattle.binding_index.specs.declared.store.Store.{Store}
 use Rattle.instances.specs.declared.instance.Instance.{Instance}
 use Rattle.semantics.specs.Denotation.{streams_of}
@@ -24,21 +26,20 @@ use Rattle.automaton.specs.declared.line.Line.{Line}
 use Rattle.automaton.specs.declared.network.End.{End}
 use Rattle.automaton.specs.declared.network.State.{State}
 use Rattle.automaton.specs.declared.wait.Wait.{Wait}
+use Rattle.automaton.proofs.NumberLemmas.{are_same_or_not}
 use Rattle.epoch_laws.specs.Closing.{Stores}
 use Rattle.epoch_laws.proofs.Lists.{every}
 use Rattle.epoch_draft.specs.Deriving.{AreOpened}
 use Rattle.epoch_draft.specs.Drafts.{EndsBelow}
 use Rattle.epoch_draft.specs.Held.{SameStored, held, instances_in, shape_for, shape_of}
 use Rattle.epoch_draft.specs.Kindings.{EndFits}
-use Rattle.epoch_draft.specs.Marks.{MarksMore}
 use Rattle.epoch_draft.specs.Stores.{AreNewStores}
 use Rattle.epoch_draft.specs.Typed.{HaveKinds, IsStoreOf, IsTyped}
 use Rattle.epoch_draft.specs.declared.marks.Marks.{Marks}
 use Rattle.epoch_draft.proofs.DeriveLemmas.{in_contains, not_done}
-use Rattle.epoch_draft.proofs.Lists.{same_or_other}
-use Rattle.epoch_draft.proofs.MarkLemmas.{all_below, marks_kept}
-use Rattle.epoch_draft.proofs.StateLemmas.{some_is}
+use Rattle.epoch_draft.proofs.MarkLemmas.{all_below}
 use Rattle.epoch_draft.proofs.StoreLemmas.{has_store, typed_same}
+use Rattle.epoch_draft.proofs.Lists.{some_is}
 use Rattle.epoch_engine.specs.Closes.{Closes, IsTaken}
 use Rattle.epoch_engine.specs.EngineView.{EngineView, stores_in}
 use Rattle.epoch_engine.specs.Running.{AreTouched, IsPlan, IsRunning}
@@ -64,9 +65,6 @@ held_in stores = λ i n. each stores n i
 -- a list that was lent and came back as it was
 pub lent_back : {X : Type 0} (lists : List (List X)) (s : ℕ) (old new : List X) → slice_get lists s ≡ Some old → new ≡ old → set lists s new ≡ lists
 lent_back lists s old new got same = ap (set lists s) (same ∙ sym (get_or_from_slice_get lists s old [] got)) ∙ set-get_or lists s []
-
-same_number : (m n : ℕ) → (m == n) ≡ true → m ≡ n
-same_number m n e = grind (arith, nat_tests)
 
 -- the out stream of a line has kinds
 out_below : (kinds : List (List Kind)) (lines : List Line) → All (LineFits kinds) lines → (s : ℕ) → list_any (λ (l : Line). l.out == s) lines ≡ true → s < length kinds
@@ -94,7 +92,7 @@ order_below net layout fits = All-weaker (λ s. IsTrue (list_any (λ (l : Line).
 
 -- no stream stands twice in the order of work
 pub order_once : (net : Net) (layout : Layout) → NetworkFits net layout → (place : ℕ) → place < length layout.order → Contains (take place layout.order) (get_or layout.order place 0) → ⊥
-order_once net layout fits place less has = true_false (sym (in_contains done stream has) ∙ not_done fits.0 done stream (drop (suc place) layout.order) (subst (IsInOrder fits.0) split fits.2.in_order))
+order_once net layout fits place less has = true≢false (sym (in_contains done stream has) ∙ not_done fits.0 done stream (drop (suc place) layout.order) (subst (IsInOrder fits.0) split fits.2.in_order))
   where
     done : List ℕ
     done = take place layout.order
@@ -104,9 +102,6 @@ order_once net layout fits place less has = true_false (sym (in_contains done st
 
     split : layout.order ≡ done ++ (stream ∷ drop (suc place) layout.order)
     split = sym (take-append-drop place layout.order) ∙ ap (λ xs. take place layout.order ++ xs) (drop-cons layout.order place 0 less)
-
-    true_false : true ≡ false → ⊥
-    true_false e = cc
 
 -- streams that are printed are among the derived ones, which have kinds
 pub printed_below : (bound : ℕ) (order outs : List ℕ) → All (λ s. s < bound) order → All (λ s. IsTrue (is_in order s)) outs → All (λ s. s < bound) outs
@@ -222,11 +217,6 @@ with_tuples plan stores old new running kinds as_many underived touched = record
   touched = touched;
 }
 
--- an epoch that was closed
-pub closed_running : (plan : Plan) (stores : List (Option Store)) (old new : Epoch) → IsRunning plan stores old → length new.tuples ≡ length old.tuples → ((s : ℕ) → get_or new.tuples s [] ≡ []) → AreTouched new.tuples new.touched → IsRunning plan stores new
-closed_running plan stores old new running as_many none touched =
-    with_tuples plan stores old new running (none_have plan.layout.kinds new.tuples none) as_many (every (λ s. get_or new.tuples s [] ≡ []) none plan.layout.order) touched
-
 -- an epoch that is as it was, but for what is marked
 pub kept_running : (plan : Plan) (stores : List (Option Store)) (old new : Epoch) → IsRunning plan stores old → new.tuples ≡ old.tuples → AreTouched new.tuples new.touched → IsRunning plan stores new
 kept_running plan stores old new running same touched =
@@ -259,7 +249,7 @@ offered_running plan stores old new s known tuple running is declared of_kinds p
     there = let lt = slice_get_within plan.layout.kinds s known is in omega (arith, lt, running.can_draw.as_many)
 
     kinds : HaveKinds plan.layout.kinds (streams_of (set old.tuples s more))
-    kinds t ks known_t = go (same_or_other t s)
+    kinds t ks known_t = go (are_same_or_not t s)
       where
         go : (t ≡ s) ⊎ (t ≡ s → ⊥) → All (HasKinds ks) (get_or (set old.tuples s more) t [])
         go (inl same) =
@@ -270,23 +260,6 @@ offered_running plan stores old new s known tuple running is declared of_kinds p
 
     underived : All (λ t. get_or (set old.tuples s more) t [] ≡ []) plan.layout.order
     underived k d lt = get_or-set_other old.tuples s (get_or plan.layout.order k d) more [] (others_in s plan.layout.order declared k d lt) ∙ running.can_draw.underived k d lt
-
--- a stream that is marked may get tuples
-pub touched_more : (tuples : List (List TupleView)) (touched more : Marks) (s : ℕ) (rows : List TupleView) → AreTouched tuples touched → MarksMore touched more → Contains more.numbers s → AreTouched (set tuples s rows) more
-touched_more tuples touched more s rows h grown this = record { are = grown.are; below = grown.as_many ∙ h.below ∙ sym (length-set tuples s rows); all = λ t. go t (same_or_other t s) (h.all t) }
-  where
-    go : (t : ℕ) → (t ≡ s) ⊎ (t ≡ s → ⊥) → (get_or tuples t [] ≡ []) ⊎ Contains touched.numbers t → (get_or (set tuples s rows) t [] ≡ []) ⊎ Contains more.numbers t
-    go t (inl same) was = inr (subst (Contains more.numbers) (sym same) this)
-    go t (inr other) (inl none) = inl (get_or-set_other tuples s t rows [] other ∙ none)
-    go t (inr other) (inr there) = inr (marks_kept touched more grown t there)
-
--- or not
-pub touched_same : (tuples : List (List TupleView)) (touched more : Marks) → AreTouched tuples touched → MarksMore touched more → AreTouched tuples more
-touched_same tuples touched more h grown = record { are = grown.are; below = grown.as_many ∙ h.below; all = λ t. go t (h.all t) }
-  where
-    go : (t : ℕ) → (get_or tuples t [] ≡ []) ⊎ Contains touched.numbers t → (get_or tuples t [] ≡ []) ⊎ Contains more.numbers t
-    go t (inl none) = inl none
-    go t (inr there) = inr (marks_kept touched more grown t there)
 
 -- each stream that has tuples is listed once
 pub opened_streams : (tuples : List (List TupleView)) (touched : Marks) (numbers : List ℕ) → AreTouched tuples touched → numbers ≡ touched.numbers → AreOpened tuples numbers

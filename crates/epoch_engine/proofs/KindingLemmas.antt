@@ -29,7 +29,7 @@ use Rattle.automaton.proofs.TypingLemmas.{kinds_are}
 use Rattle.epoch_laws.proofs.Lists.{All-flat_map, map_all}
 use Rattle.epoch_laws.proofs.Networks.{flat_all, line_at, path_back}
 use Rattle.epoch_draft.specs.Kindings.{EndFits, EntranceFits, Kinding, StatesFit}
-use Rattle.epoch_draft.proofs.StateLemmas.{some_is}
+use Rattle.epoch_draft.proofs.Lists.{some_is}
 
 -- there are kinds for which all states and ends of a network are typed
 abbrev pub AreStatesTyped : List (List Kind) → Net → Type 0

@@ -24,6 +24,7 @@ use Rattle.epoch_laws.specs.Times.{during}
 use Rattle.epoch_laws.proofs.Bags.{permuted_is}
 use Rattle.epoch_laws.proofs.Standing.{close_stands, offer_stands, start_stands}
 use Rattle.prefix_merge.specs.Merging.{IsMerged}
+use Rattle.event_types.proofs.NumberLemmas.{same_number, other_number}
 use Rattle.epoch_engine.specs.Closes.{Closes, KeepsPlan}
 use Rattle.epoch_engine.specs.Offers.{IsHeard, IsLate, IsNotAhead, with_tuple}
 use Rattle.epoch_engine.specs.EngineStandsFor.{EngineStandsFor}
@@ -51,12 +52,6 @@ new_stands net layout lines engine serves new =
           (subst (λ (st : Stores). Standing engine.network lines engine.layout.order st None (streams_of engine.opened) None []) stores
           (subst (λ (ts : Streams). Standing engine.network lines engine.layout.order (λ _. []) None ts None []) opened (start_stands engine.network lines engine.layout.order))));
     }
-
-same_number : (m n : ℕ) → (m == n) ≡ true → m ≡ n
-same_number m n e = grind (arith, nat_tests)
-
-other_number : (m n : ℕ) → (m == n) ≡ false → n ≡ m → ⊥
-other_number m n e same = grind (arith, nat_tests)
 
 -- a time that is neither late nor ahead may follow
 may_follow : (time closed_time : Option ℕ) (at : ℕ) → IsNotAhead time at → ((seen : ℕ) → IsLate time closed_time at seen → ⊥) → MayFollow time closed_time at
@@ -94,7 +89,7 @@ offered_stands engine lines history stream tuple stands heard sound ahead late =
 
     each : (s : ℕ) (b : Bool) → (stream == s) ≡ b → get_or (set engine.opened stream more) s [] ≡ get_or engine.opened s [] ++ map (λ (h : Event). h.tuple) (cond b (event ∷ []) [])
     each s true e = let same = same_number stream s e in get_or-set_at engine.opened stream s more [] (sym same) there ∙ ap (λ n. get_or engine.opened n [] ++ tuple ∷ []) same
-    each s false e = get_or-set_other engine.opened stream s more [] (other_number stream s e) ∙ sym (append-nil (get_or engine.opened s []))
+    each s false e = get_or-set_other engine.opened stream s more [] (λ same. other_number stream s e (sym same)) ∙ sym (append-nil (get_or engine.opened s []))
 
     added : (s : ℕ) → IsPermutation (get_or (set engine.opened stream more) s []) (get_or engine.opened s [] ++ heard_on (event ∷ []) s)
     added s = permuted_is (each s (stream == s) refl)
