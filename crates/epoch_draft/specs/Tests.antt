@@ -4,13 +4,13 @@ use Rattle.std.specs.List.{filter}
 use Rattle.event_types.specs.Tuple.{TupleView}
 use Rattle.automaton.specs.States.{Net}
 use Rattle.stream_readers.specs.Finding.{waits_on, ways_on}
-use Rattle.stream_readers.specs.Ways.{hears, looks}
+use Rattle.stream_readers.specs.Ways.{is_state_looked_up, is_way_looked_up}
 use Rattle.epoch_laws.specs.Closing.{Stores}
 use Rattle.epoch_draft.specs.Work.{state_work, ways_work}
 
 -- the steps of a tuple of a stream: on the ways out of the roots, and at the states that wait on it
 abbrev pub tuple_work : Net → Stores → ℕ → TupleView → ℕ
-tuple_work net stores stream tuple = ways_work net (filter (looks net tuple) (ways_on net stream)) + sum_by (state_work net stores tuple) (filter (hears net tuple) (waits_on net stream))
+tuple_work net stores stream tuple = ways_work net (filter (is_way_looked_up net tuple) (ways_on net stream)) + sum_by (state_work net stores tuple) (filter (is_state_looked_up net tuple) (waits_on net stream))
 
 -- the steps of these tuples of a stream
 abbrev pub stream_work : Net → Stores → ℕ → List TupleView → ℕ

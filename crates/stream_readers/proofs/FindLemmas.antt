@@ -18,7 +18,7 @@ use Rattle.stream_readers.specs.Filing.{Filed, filed_to, targets_met, waiting_as
 use Rattle.stream_readers.specs.Finding.{FindsWaits, FindsWays, IsDeaf, IsSilent, waits_on}
 use Rattle.stream_readers.specs.Readers.{targets_on}
 use Rattle.stream_readers.specs.Targets.{IsTarget, way_of}
-use Rattle.stream_readers.specs.Ways.{Way, hears, looks, parts_at}
+use Rattle.stream_readers.specs.Ways.{Way, is_state_looked_up, is_way_looked_up, parts_at}
 use Rattle.stream_readers.proofs.TargetLemmas.{deaf_state, looked_target, silent_target, targets_there, targets_ways}
 
 missed : (b : Bool) → not b ≡ true → b ≡ false
@@ -71,10 +71,10 @@ finds_ways net stream tuple filed network same = record {
       given net unmet (IsSilent net tuple) filed
       (each (λ one. unmet one ≡ true → All (IsSilent net tuple) (way_to net one))
       (every (λ target. unmet (filed_to net target) ≡ true → All (IsSilent net tuple) (way_of net target)) (λ target is. silent_target net tuple target (missed (met (filed_to net target)) is)) (targets_on net stream)));
-  looked =
-      given net met (λ way. looks net tuple way ≡ true) filed
-      (each (λ one. met one ≡ true → All (λ way. looks net tuple way ≡ true) (way_to net one))
-      (every (λ target. met (filed_to net target) ≡ true → All (λ way. looks net tuple way ≡ true) (way_of net target)) (λ target is. looked_target net tuple target is) (targets_on net stream)));
+  looked_up =
+      given net met (λ way. is_way_looked_up net tuple way ≡ true) filed
+      (each (λ one. met one ≡ true → All (λ way. is_way_looked_up net tuple way ≡ true) (way_to net one))
+      (every (λ target. met (filed_to net target) ≡ true → All (λ way. is_way_looked_up net tuple way ≡ true) (way_of net target)) (λ target is. looked_target net tuple target is) (targets_on net stream)));
 }
   where
     met : Filed → Bool
@@ -102,9 +102,9 @@ finds_waits net stream tuple conditions same = record {
   all =
       permuted_from (ap (λ ns. ns ++ filter unmet (waits_on net stream)) found) (IsPermutation-sym (waits_on net stream) (filter met (waits_on net stream) ++ filter unmet (waits_on net stream)) (IsPermutation-filter_both met unmet (λ n. refl) (waits_on net stream)));
   deaf = All-weaker (λ n. unmet n ≡ true) (IsDeaf net tuple) (λ n is. deaf_state net tuple n (missed (met n) is)) (filter unmet (waits_on net stream)) (filter_passes unmet (waits_on net stream));
-  heard =
-      subst (All (λ n. hears net tuple n ≡ true)) (sym found)
-      (All-weaker (λ n. met n ≡ true) (λ n. hears net tuple n ≡ true) (λ n is. matched_is_looked_up tuple (parts_at net n) is) (filter met (waits_on net stream)) (filter_passes met (waits_on net stream)));
+  looked_up =
+      subst (All (λ n. is_state_looked_up net tuple n ≡ true)) (sym found)
+      (All-weaker (λ n. met n ≡ true) (λ n. is_state_looked_up net tuple n ≡ true) (λ n is. matched_is_looked_up tuple (parts_at net n) is) (filter met (waits_on net stream)) (filter_passes met (waits_on net stream)));
 }
   where
     met : ℕ → Bool

@@ -9,7 +9,7 @@ use Rattle.automaton.specs.States.{Net, root_at, step_at, tells, wait_at}
 use Rattle.automaton.specs.Steps.{pass}
 use Rattle.automaton.specs.declared.wait.Wait.{Wait}
 use Rattle.stream_readers.specs.Targets.{IsTarget, way_of}
-use Rattle.stream_readers.specs.Ways.{Back, Into, Out, Way, hears, looks, ways_at}
+use Rattle.stream_readers.specs.Ways.{Back, Into, Out, Way, is_state_looked_up, is_way_looked_up, ways_at}
 use Rattle.stream_readers.specs.declared.target.Target.{Target}
 
 -- whether a state is a root of a stream
@@ -44,11 +44,11 @@ pub record FindsWays (net : Net) (stream : ℕ) (tuple : TupleView) (found : Lis
   pub others : List Way
   pub all : IsPermutation (flat_map (way_of net) found ++ others) (ways_on net stream)
   pub silent : All (IsSilent net tuple) others
-  pub looked : All (λ way. looks net tuple way ≡ true) (flat_map (way_of net) found)
+  pub looked_up : All (λ way. is_way_looked_up net tuple way ≡ true) (flat_map (way_of net) found)
 
 -- the numbers are those of states that wait on a stream and are looked up by the tuple, each once, and the tuple is eligible for no binding at the others
 pub record FindsWaits (net : Net) (stream : ℕ) (tuple : TupleView) (found : List ℕ) : Type 0 where
   pub others : List ℕ
   pub all : IsPermutation (found ++ others) (waits_on net stream)
   pub deaf : All (IsDeaf net tuple) others
-  pub heard : All (λ number. hears net tuple number ≡ true) found
+  pub looked_up : All (λ number. is_state_looked_up net tuple number ≡ true) found

@@ -52,9 +52,9 @@ abbrev pub parts_at : Net → ℕ → List FixedPart
 parts_at net number = parts_in (wait_at net number)
 
 -- whether a way is looked up by a tuple: the first of its fixed parts holds, or it has none
-abbrev pub looks : Net → TupleView → Way → Bool
-looks net tuple way = first_holds tuple (parts_on net way)
+abbrev pub is_way_looked_up : Net → TupleView → Way → Bool
+is_way_looked_up net tuple way = first_holds tuple (parts_on net way)
 
 -- whether a waiting state is looked up by a tuple: the first of its fixed parts holds, or it has none
-abbrev pub hears : Net → TupleView → ℕ → Bool
-hears net tuple number = first_holds tuple (parts_at net number)
+abbrev pub is_state_looked_up : Net → TupleView → ℕ → Bool
+is_state_looked_up net tuple number = first_holds tuple (parts_at net number)

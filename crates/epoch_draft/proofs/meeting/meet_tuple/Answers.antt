@@ -4,7 +4,7 @@ use Rattle.std.specs.List.{All, filter, flat_map}
 use Rattle.automaton.specs.States.{is_used}
 use Rattle.stream_readers.specs.Finding.{waits_on, ways_on}
 use Rattle.stream_readers.specs.Targets.{way_of}
-use Rattle.stream_readers.specs.Ways.{hears, looks}
+use Rattle.stream_readers.specs.Ways.{is_state_looked_up, is_way_looked_up}
 use Rattle.stream_readers.specs.declared.target.Target.{Target}
 use Rattle.epoch_laws.specs.Instances.{begins}
 use Rattle.epoch_draft.specs.Drafts.{Grows}
@@ -70,13 +70,13 @@ returns-clause-ticks g c =
     let end : ℕ = c.meet_waits.new.steps in
     let one : mid ≤ start + ways_work net (flat_map (way_of net) targets) =
     subst (λ (ts : List Target). mid ≤ start + ways_work net (flat_map (way_of net) ts)) c.as_slice.ensures c.in_ok-go_all.ensures.ticks in
-    let looked : ways_work net (flat_map (way_of net) targets) ≤ ways_work net (filter (looks net t) (ways_on net s)) =
-    found_less (way_work net) (looks net t) (flat_map (way_of net) targets) ways.others (ways_on net s) ways.all ways.looked in
-    let heard : sum_by (state_work net stores t) states ≤ sum_by (state_work net stores t) (filter (hears net t) (waits_on net s)) =
-    found_less (state_work net stores t) (hears net t) states waits.others (waits_on net s) waits.all waits.heard in
+    let looked : ways_work net (flat_map (way_of net) targets) ≤ ways_work net (filter (is_way_looked_up net t) (ways_on net s)) =
+    found_less (way_work net) (is_way_looked_up net t) (flat_map (way_of net) targets) ways.others (ways_on net s) ways.all ways.looked_up in
+    let heard : sum_by (state_work net stores t) states ≤ sum_by (state_work net stores t) (filter (is_state_looked_up net t) (waits_on net s)) =
+    found_less (state_work net stores t) (is_state_looked_up net t) states waits.others (waits_on net s) waits.all waits.looked_up in
     on_ok c.meet_waits.result (end ≤ mid + sum_by (state_work net stores t) c.as_slice-2.result.now) (end ≤ start + tuple_work net stores s t)
     (λ two.
-    both_within start mid end (ways_work net (flat_map (way_of net) targets)) (sum_by (state_work net stores t) states) (ways_work net (filter (looks net t) (ways_on net s))) (sum_by (state_work net stores t) (filter (hears net t) (waits_on net s))) one
+    both_within start mid end (ways_work net (flat_map (way_of net) targets)) (sum_by (state_work net stores t) states) (ways_work net (filter (is_way_looked_up net t) (ways_on net s))) (sum_by (state_work net stores t) (filter (is_state_looked_up net t) (waits_on net s))) one
     (subst (λ (ns : List ℕ). end ≤ mid + sum_by (state_work net stores t) ns) c.as_slice-2.ensures two) looked heard) c.meet_waits.ensures.ticks
 
 -- the states that are found are listed
