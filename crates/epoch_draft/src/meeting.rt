@@ -258,7 +258,7 @@ fn go<L: Ledger>(
 {
     match target {
         Target::Edge(state) => { go_into(alloc, network, draft, state, tuple, tuple.at(), steps) }
-        Target::Exit(place) => {
+        Target::End(place) => {
             let end = network.ends(place.state).get(place.place);
             go_out(alloc, draft, end, tuple, steps)
         }

@@ -15,7 +15,7 @@ use Rattle.automaton.specs.declared.network.End.{End}
 use Rattle.static_index.specs.FixedParts.{all_hold}
 use Rattle.static_index.specs.declared.fixed_part.FixedPart.{FixedPart}
 use Rattle.stream_readers.specs.Filing.{Filed, at_places, filed_in, filed_to, targets_met}
-use Rattle.stream_readers.specs.Targets.{exit_at, step_of, targets_at}
+use Rattle.stream_readers.specs.Targets.{end_at, step_of, targets_at}
 use Rattle.stream_readers.specs.Ways.{first_parts}
 use Rattle.stream_readers.specs.declared.target.Target.{Target}
 use Rattle.stream_readers.specs.declared.target.Target.TheVariants.{Edge}
@@ -115,12 +115,12 @@ mapped_more f xs i d old now new lt was is =
     ∙ ap (λ ys. old ++ ys) (sym (ap (map f) (take_more xs i d lt) ∙ map-append f (take i xs) (get_or xs i d ∷ [])))
 
 -- one end more
-pub exits_more : (net : Net) (number place : ℕ) (end : End) (old now new : List Filed) → slice_get (ends_at net number) place ≡ Some end → now ≡ old ++ map (λ place. filed_to net (exit_at number place)) (range_with_len 0 place)
-    → new ≡ now ++ record { target = exit_at number place; parts = first_parts end.step } ∷ [] → new ≡ old ++ map (λ place. filed_to net (exit_at number place)) (range_with_len 0 (place + 1))
-exits_more net number place end old now new here was is =
-    let filed : ℕ → Filed = λ place. filed_to net (exit_at number place) in
-    is ∙ ap (λ ys. ys ++ record { target = exit_at number place; parts = first_parts end.step } ∷ []) was
-    ∙ ap (λ (o : Option End). (old ++ map filed (range_with_len 0 place)) ++ record { target = exit_at number place; parts = first_parts (step_of o) } ∷ []) (sym here)
+pub ends_more : (net : Net) (number place : ℕ) (end : End) (old now new : List Filed) → slice_get (ends_at net number) place ≡ Some end → now ≡ old ++ map (λ place. filed_to net (end_at number place)) (range_with_len 0 place)
+    → new ≡ now ++ record { target = end_at number place; parts = first_parts end.step } ∷ [] → new ≡ old ++ map (λ place. filed_to net (end_at number place)) (range_with_len 0 (place + 1))
+ends_more net number place end old now new here was is =
+    let filed : ℕ → Filed = λ place. filed_to net (end_at number place) in
+    is ∙ ap (λ ys. ys ++ record { target = end_at number place; parts = first_parts end.step } ∷ []) was
+    ∙ ap (λ (o : Option End). (old ++ map filed (range_with_len 0 place)) ++ record { target = end_at number place; parts = first_parts (step_of o) } ∷ []) (sym here)
     ∙ append_assoc old (map filed (range_with_len 0 place)) (filed place ∷ [])
     ∙ ap (λ ys. old ++ ys) (sym (ap (map filed) (numbers_more place) ∙ map-append filed (range_with_len 0 place) (place ∷ [])))
 
@@ -156,12 +156,12 @@ places_met tuple targets conditions places =
 
 -- the edges and the ends of a root
 pub both_added : (net : Net) (number : ℕ) (old now new : List Filed) → now ≡ old ++ map (λ state. filed_to net (Edge state)) (edges_at net number)
-    → new ≡ now ++ map (λ place. filed_to net (exit_at number place)) (range_with_len 0 (length (ends_at net number))) → new ≡ old ++ map (filed_to net) (targets_at net number)
+    → new ≡ now ++ map (λ place. filed_to net (end_at number place)) (range_with_len 0 (length (ends_at net number))) → new ≡ old ++ map (filed_to net) (targets_at net number)
 both_added net number old now new one two =
     let edges = edges_at net number in
     let places = range_with_len 0 (length (ends_at net number)) in
-    two ∙ ap (λ fs. fs ++ map (λ place. filed_to net (exit_at number place)) places) one ∙ append_assoc old (map (λ state. filed_to net (Edge state)) edges) (map (λ place. filed_to net (exit_at number place)) places)
+    two ∙ ap (λ fs. fs ++ map (λ place. filed_to net (end_at number place)) places) one ∙ append_assoc old (map (λ state. filed_to net (Edge state)) edges) (map (λ place. filed_to net (end_at number place)) places)
     ∙ ap (λ fs. old ++ fs)
-    (sym (map-append (filed_to net) (map Edge edges) (map (exit_at number) places)
-    ∙ ap (λ fs. fs ++ map (filed_to net) (map (exit_at number) places)) (map-map (filed_to net) Edge edges)
-    ∙ ap (λ fs. map (λ state. filed_to net (Edge state)) edges ++ fs) (map-map (filed_to net) (exit_at number) places)))
+    (sym (map-append (filed_to net) (map Edge edges) (map (end_at number) places)
+    ∙ ap (λ fs. fs ++ map (filed_to net) (map (end_at number) places)) (map-map (filed_to net) Edge edges)
+    ∙ ap (λ fs. map (λ state. filed_to net (Edge state)) edges ++ fs) (map-map (filed_to net) (end_at number) places)))

@@ -24,10 +24,10 @@ use Rattle.static_index.specs.FixedParts.{all_hold, fixed_parts}
 use Rattle.static_index.proofs.LawLemmas.{holding_is_matched, matched_is_looked_up}
 use Rattle.stream_readers.specs.Finding.{IsDeaf, IsSilent, is_root_on, ways_on}
 use Rattle.stream_readers.specs.Readers.{targets_on}
-use Rattle.stream_readers.specs.Targets.{IsTarget, exit_at, out_by, step_of, step_to, targets_at, way_of}
+use Rattle.stream_readers.specs.Targets.{IsTarget, end_at, out_by, step_of, step_to, targets_at, way_of}
 use Rattle.stream_readers.specs.Ways.{Into, Out, Way, backs_by, first_parts, is_way_looked_up, parts_at, parts_in, ways_at}
 use Rattle.stream_readers.specs.declared.target.Target.{Target}
-use Rattle.stream_readers.specs.declared.target.Target.TheVariants.{Edge, Exit}
+use Rattle.stream_readers.specs.declared.target.Target.TheVariants as target
 use Rattle.stream_readers.proofs.FilingLemmas.{at_seam, range_below}
 
 -- edges lead to states
@@ -49,9 +49,9 @@ ends_used net n place lt = go (state_at net n) lt
 targets_are : (net : Net) → IsNetwork net → (n : ℕ) → All (IsTarget net) (targets_at net n)
 targets_are net network n =
     let count = length (ends_at net n) in
-    All-append (IsTarget net) (map Edge (edges_at net n)) (map (exit_at n) (range_with_len 0 count)) (All-map (IsTarget net) Edge (edges_at net n) (edges_used net network n))
-    (All-map (IsTarget net) (exit_at n) (range_with_len 0 count)
-    (All-weaker (λ (k : ℕ). k < count) (λ k. IsTarget net (exit_at n k)) (λ k lt. (ends_used net n k lt, lt)) (range_with_len 0 count) (range_below 0 count count (omega arith))))
+    All-append (IsTarget net) (map target.Edge (edges_at net n)) (map (end_at n) (range_with_len 0 count)) (All-map (IsTarget net) target.Edge (edges_at net n) (edges_used net network n))
+    (All-map (IsTarget net) (end_at n) (range_with_len 0 count)
+    (All-weaker (λ (k : ℕ). k < count) (λ k. IsTarget net (end_at n k)) (λ k lt. (ends_used net n k lt, lt)) (range_with_len 0 count) (range_below 0 count count (omega arith))))
 
 -- those of the roots of a stream are there
 pub targets_there : (net : Net) → IsNetwork net → (stream : ℕ) → All (IsTarget net) (targets_on net stream)
@@ -61,17 +61,17 @@ targets_there net network stream = go (filter (is_root_on net stream) (range_wit
     go [] = All-nil (IsTarget net)
     go (n ∷ numbers) = All-append (IsTarget net) (targets_at net n) (flat_map (targets_at net) numbers) (targets_are net network n) (go numbers)
 
-into_ways : (net : Net) (states : List ℕ) → flat_map (way_of net) (map Edge states) ≡ map Into states
+into_ways : (net : Net) (states : List ℕ) → flat_map (way_of net) (map target.Edge states) ≡ map Into states
 into_ways net [] = refl
 into_ways net (k ∷ states) = ap (λ ways. Into k ∷ ways) (into_ways net states)
 
 -- the ends behind the first ones, by their places
-out_ways : (net : Net) (n : ℕ) (before after : List End) → ends_at net n ≡ before ++ after → flat_map (way_of net) (map (exit_at n) (range_with_len (length before) (length after))) ≡ map Out after
+out_ways : (net : Net) (n : ℕ) (before after : List End) → ends_at net n ≡ before ++ after → flat_map (way_of net) (map (end_at n) (range_with_len (length before) (length after))) ≡ map Out after
 out_ways net n before [] is = refl
 out_ways net n before (end ∷ after) is =
-    ap (λ o. out_by o ++ flat_map (way_of net) (map (exit_at n) (range_with_len (length before + 1) (length after)))) (ap (λ (ends : List End). slice_get ends (length before)) is ∙ at_seam before after end)
+    ap (λ o. out_by o ++ flat_map (way_of net) (map (end_at n) (range_with_len (length before + 1) (length after)))) (ap (λ (ends : List End). slice_get ends (length before)) is ∙ at_seam before after end)
     ∙ ap (λ ways. Out end ∷ ways)
-    (ap (λ m. flat_map (way_of net) (map (exit_at n) (range_with_len m (length after)))) (sym (length-append before (end ∷ []))) ∙ out_ways net n (before ++ end ∷ []) after (is ∙ sym (append_assoc before (end ∷ []) after)))
+    (ap (λ m. flat_map (way_of net) (map (end_at n) (range_with_len m (length after)))) (sym (length-append before (end ∷ []))) ∙ out_ways net n (before ++ end ∷ []) after (is ∙ sym (append_assoc before (end ∷ []) after)))
 
 -- nothing goes back to a root
 root_backs : (net : Net) (stream n : ℕ) → is_root_on net stream n ≡ true → backs_by n (wait_at net n) ≡ []
@@ -87,8 +87,8 @@ root_ways : (net : Net) (stream n : ℕ) → is_root_on net stream n ≡ true �
 root_ways net stream n is =
     let edges = map Into (edges_at net n) in
     let ends = map Out (ends_at net n) in
-    flat_map-append (way_of net) (map Edge (edges_at net n)) (map (exit_at n) (range_with_len 0 (length (ends_at net n))))
-    ∙ ap (λ ways. ways ++ flat_map (way_of net) (map (exit_at n) (range_with_len 0 (length (ends_at net n))))) (into_ways net (edges_at net n)) ∙ ap (λ ways. edges ++ ways) (out_ways net n [] (ends_at net n) refl)
+    flat_map-append (way_of net) (map target.Edge (edges_at net n)) (map (end_at n) (range_with_len 0 (length (ends_at net n))))
+    ∙ ap (λ ways. ways ++ flat_map (way_of net) (map (end_at n) (range_with_len 0 (length (ends_at net n))))) (into_ways net (edges_at net n)) ∙ ap (λ ways. edges ++ ways) (out_ways net n [] (ends_at net n) refl)
     ∙ ap (λ ways. edges ++ ways) (sym (append-nil ends)) ∙ ap (λ ways. edges ++ (ends ++ ways)) (sym (root_backs net stream n is))
 
 -- the targets of the roots of a stream lead on the ways out of these roots
@@ -118,8 +118,8 @@ silent_step tuple (Make m ∷ step) fails = absurd (cc)
 
 -- nothing comes of a tuple on the way to a target of which a fixed part fails
 pub silent_target : (net : Net) (tuple : TupleView) (target : Target) → all_hold tuple (first_parts (step_to net target)) ≡ false → All (IsSilent net tuple) (way_of net target)
-silent_target net tuple (Edge next) fails = All-cons (IsSilent net tuple) (Into next) [] (silent_step tuple (step_at net next) fails) (All-nil (IsSilent net tuple))
-silent_target net tuple (Exit place) fails = go (slice_get (ends_at net place.state) place.place) fails
+silent_target net tuple (target.Edge next) fails = All-cons (IsSilent net tuple) (Into next) [] (silent_step tuple (step_at net next) fails) (All-nil (IsSilent net tuple))
+silent_target net tuple (target.End place) fails = go (slice_get (ends_at net place.state) place.place) fails
   where
     go : (o : Option End) → all_hold tuple (first_parts (step_of o)) ≡ false → All (IsSilent net tuple) (out_by o)
     go None fails = All-nil (IsSilent net tuple)
@@ -127,9 +127,9 @@ silent_target net tuple (Exit place) fails = go (slice_get (ends_at net place.st
 
 -- the way to a target whose fixed parts all hold is looked up
 pub looked_target : (net : Net) (tuple : TupleView) (target : Target) → all_hold tuple (first_parts (step_to net target)) ≡ true → All (λ way. is_way_looked_up net tuple way ≡ true) (way_of net target)
-looked_target net tuple (Edge next) holds =
+looked_target net tuple (target.Edge next) holds =
     All-cons (λ (way : Way). is_way_looked_up net tuple way ≡ true) (Into next) [] (matched_is_looked_up tuple (first_parts (step_at net next)) holds) (All-nil (λ (way : Way). is_way_looked_up net tuple way ≡ true))
-looked_target net tuple (Exit place) holds = go (slice_get (ends_at net place.state) place.place) holds
+looked_target net tuple (target.End place) holds = go (slice_get (ends_at net place.state) place.place) holds
   where
     go : (o : Option End) → all_hold tuple (first_parts (step_of o)) ≡ true → All (λ way. is_way_looked_up net tuple way ≡ true) (out_by o)
     go None holds = All-nil (λ (way : Way). is_way_looked_up net tuple way ≡ true)

@@ -6,7 +6,7 @@ ghost use Rattle.automaton.specs.States.{ends_at, is_used};
 ghost use Rattle.static_index.specs.Conditions.{HasId, with_condition};
 ghost use Rattle.static_index.specs.FixedParts.{fixed_parts};
 ghost use Rattle.stream_readers.specs.Filing.{filed_to};
-ghost use Rattle.stream_readers.specs.Targets.{exit_at, targets_at};
+ghost use Rattle.stream_readers.specs.Targets.{end_at, targets_at};
 ghost use Rattle.stream_readers.specs.Ways.{first_parts};
 ghost use Rattle.stream_readers.specs.declared.target.Target.TheVariants.{Edge};
 
@@ -54,7 +54,7 @@ impl Reader {
             network,
             network.edges(number).as_slice(),
         )?;
-        add_exits(alloc, &mut self.targets, network, number)
+        add_ends(alloc, &mut self.targets, network, number)
     }
 
     /// Adds a state that waits by a condition. Want of memory leaves the reader as it was.
@@ -83,22 +83,22 @@ fn add_edges(
 }
 
 // Adds the ends of a state.
-fn add_exits(
+fn add_ends(
     alloc: Global,
     index: &mut TargetIndex,
     network: &Network,
     number: usize,
 ) -> Result<(), Memory>
     requires { IsTrue (is_used network.now number) }
-    ensures { OnOk result (index.new ≡ index.old ++ map (λ place. filed_to network.now (exit_at number place)) (range_with_len 0 (length (ends_at network.now number)))) }
+    ensures { OnOk result (index.new ≡ index.old ++ map (λ place. filed_to network.now (end_at number place)) (range_with_len 0 (length (ends_at network.now number)))) }
 {
     let ends = network.ends(number);
     for place in 0..ends.len() {
-        let exit = Target::Exit(EndPlace {
+        let target = Target::End(EndPlace {
             state: number,
             place,
         });
-        add_target(alloc, index, exit, &ends.get(place).step)?;
+        add_target(alloc, index, target, &ends.get(place).step)?;
     }
     Ok(())
 }

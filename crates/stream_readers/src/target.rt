@@ -12,7 +12,7 @@ pub struct EndPlace {
 #[derive(Clone, Copy, Drop)]
 pub enum Target {
     Edge(usize),
-    Exit(EndPlace),
+    End(EndPlace),
 }
 
 /// Targets of a tuple.

@@ -24,7 +24,7 @@ go_into-requires-clause-suits g c =
 pub go_out-requires-clause-below : goal.go_out-requires-clause-below
 go_out-requires-clause-below g c =
     let net = c.args.network.now in
-    let place = c.in-Exit.place in
+    let place = c.in-End.place in
     let end = c.get-end.result.now in
     let got : slice_get (ends_at net place.state) place.place ≡ Some end = ap (λ es. slice_get es place.place) (sym c.ends.ensures) ∙ c.get-end.ensures in
     all_at (λ (e : End). e.out < length c.args.draft.now.made) (ends_at net place.state) place.place end (c.requires.below place.state) got
@@ -33,22 +33,22 @@ pub go_out-requires-clause-suits : goal.go_out-requires-clause-suits
 go_out-requires-clause-suits g c =
     let net = c.args.network.now in
     let x = c.args.tuple.now in
-    let place = c.in-Exit.place in
+    let place = c.in-End.place in
     let end = c.get-end.result.now in
     let got : slice_get (ends_at net place.state) place.place ≡ Some end = ap (λ es. slice_get es place.place) (sym c.ends.ensures) ∙ c.get-end.ensures in
     All-head (WaySuits net x) (Out end) []
-    (subst (λ (o : Option End). All (WaySuits net x) (out_by o)) got (subst (λ (t : Target). All (WaySuits net x) (way_of net t)) c.in-Exit.is c.requires.suits))
+    (subst (λ (o : Option End). All (WaySuits net x) (out_by o)) got (subst (λ (t : Target). All (WaySuits net x) (way_of net t)) c.in-End.is c.requires.suits))
 
 -- the tuple begins at its detection
-pub returns-in-Exit-clause-grows : goal.returns-in-Exit-clause-grows
-returns-in-Exit-clause-grows g c =
+pub returns-in-End-clause-grows : goal.returns-in-End-clause-grows
+returns-in-End-clause-grows g c =
     let net = c.args.network.now in
     let x = c.args.tuple.now in
     let old = c.args.draft.now in
     let new = c.go_out.new.draft in
-    let place = c.in-Exit.place in
+    let place = c.in-End.place in
     let end = c.get-end.result.now in
     let got : slice_get (ends_at net place.state) place.place ≡ Some end = ap (λ es. slice_get es place.place) (sym c.ends.ensures) ∙ c.get-end.ensures in
-    let ways : way_of net c.args.target ≡ Out end ∷ [] = ap (way_of net) c.in-Exit.is ∙ ap out_by got in
+    let ways : way_of net c.args.target ≡ Out end ∷ [] = ap (way_of net) c.in-End.is ∙ ap out_by got in
     on_ok c.go_out.result ((any : Net) (first : ℕ) → length old.beads ≡ length any → Grows any (moves_on (Out end ∷ []) (began first x)) old new) (Grows net (moves_on (way_of net c.args.target) (begins x)) old new)
     (λ grows. subst (λ (ws : List Way). Grows net (moves_on ws (begins x)) old new) (sym ways) (grows net x.at c.requires.fits.beads)) c.go_out.ensures.grows

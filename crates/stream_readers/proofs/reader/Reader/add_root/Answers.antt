@@ -17,5 +17,5 @@ returns c =
     let net = c.args.network.now in
     let old = c.args.self.now.targets in
     let edges = c.in_ok-add_edges.ensures ∙ ap (λ (states : List ℕ). old ++ map (λ state. filed_to net (Edge state)) states) (c.as_slice.ensures ∙ c.edges.ensures) in
-    on_ok_weaker c.add_exits.result
-    (λ exits. ap (λ (targets : List Filed). record { targets = targets; waits = c.args.self.now.waits }) (both_added net c.args.number old c.add_edges.new.index c.add_exits.new.index edges exits)) c.add_exits.ensures
+    on_ok_weaker c.add_ends.result
+    (λ ends. ap (λ (targets : List Filed). record { targets = targets; waits = c.args.self.now.waits }) (both_added net c.args.number old c.add_edges.new.index c.add_ends.new.index edges ends)) c.add_ends.ensures
