@@ -1,4 +1,4 @@
--- What one more tuple of an epoch brings.
+-- What one more tuple of an epoch brings. No public clause cites this module.
 use Rattle.std.specs.Prelude.{ℕ, ◌==◌, if◌then◌else◌, List, [], ◌∷◌, Option, Some, None}
 use Rattle.event_types.specs.Tuple.{TupleView}
 use Rattle.instances.specs.declared.instance.Instance.{Instance}

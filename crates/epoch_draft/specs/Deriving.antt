@@ -45,7 +45,7 @@ news_of opened made done stream = if is_in done stream then slice_index_or made 
 abbrev pub opened_of : List (List TupleView) → List ℕ → Streams
 opened_of opened done stream = if is_in done stream then slice_index_or opened stream [] else []
 
--- each stream that has open tuples is listed once
+-- at least those streams that have open tuples are listed, maybe some more, each once
 pub record AreOpened (opened : List (List TupleView)) (touched : List ℕ) : Type 0 where
   pub below : All (λ stream. stream < length opened) touched
   pub once : (place : ℕ) → place < length touched → Contains (take place touched) (slice_index_or touched place 0) → ⊥

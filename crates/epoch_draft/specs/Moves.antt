@@ -1,4 +1,4 @@
--- The ways on which an instance leaves a state, and what it comes to on each.
+-- The ways on which an instance leaves a state, and what it comes to on each. No public clause cites this module.
 use Rattle.std.specs.Prelude.{ℕ, ◌==◌, if◌then◌else◌, List, [], ◌∷◌, length, map, option_to_list}
 use Rattle.std.specs.List.{flat_map, range_with_len}
 use Rattle.event_types.specs.Tuple.{TupleView}

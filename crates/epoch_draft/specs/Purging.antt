@@ -49,7 +49,7 @@ pub record AreAllPurged (net : Net) (time : ℕ) (old new : List (Option Store))
 abbrev pub IsUnbound : List Pr → Type 0
 IsUnbound choose = (time : ℕ) (binding : TupleView) → is_alive time choose binding ≡ true
 
--- the list has each waiting state below a number whose condition has a bound that may expire, and waiting states alone
+-- at least those waiting states below a number whose conditions have a bound that may expire are listed, maybe some more, and waiting states alone
 pub record ListsBounded (net : Net) (bound : ℕ) (list : List ℕ) : Type 0 where
   pub waits : All (λ number. IsTrue (is_some (wait_at net number))) list
   pub has : (number : ℕ) (wait : Wait) → number < bound → wait_at net number ≡ Some wait → Contains list number ⊎ IsUnbound wait.choose

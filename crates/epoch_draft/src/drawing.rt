@@ -10,7 +10,7 @@ ghost use Rattle.epoch_draft.specs.Held.{held};
 ghost use Rattle.epoch_draft.specs.Readying.{HaveKeys};
 ghost use Rattle.epoch_draft.specs.Stores.{HasStores};
 ghost use Rattle.epoch_draft.specs.Suits.{TupleSuits};
-ghost use Rattle.epoch_draft.specs.Tests.{stream_work, streams_work};
+ghost use Rattle.epoch_draft.specs.Tests.{drawn_work, stream_work, streams_work};
 
 use crate::agenda::{Agenda, plan};
 use crate::draft::{Draft, Lists, Pairs};
@@ -48,7 +48,7 @@ pub fn draw<L: Ledger>(
     requires no_pairs { pairs.old ≡ [] }
     ensures drawn { OnOk result (DrawnUpTo network.now layout.now stores.now opened.now layout.now.order draft.new pairs.new) }
     ensures keys { OnOk result (HaveKeys stores.now draft.new.beads) }
-    ensures ticks { OnOk result (steps.new ≤ steps.old + (streams_work network.now (held stores.now) opened.now touched.now + streams_work network.now (held stores.now) draft.new.made layout.now.order)) }
+    ensures ticks { OnOk result (steps.new ≤ steps.old + drawn_work network.now (held stores.now) opened.now touched.now draft.new.made layout.now.order) }
 {
     meet_opened(
         alloc, network, layout, readers, stores, opened, touched, found, draft, pairs, steps,

@@ -169,11 +169,13 @@ module _ (old new : EngineView) (lines : List Line) (history : List Event) (stan
         value = ap (λ (n : ℕ). min n (2 ^ 64 - 1)) (sym (each ∙ whole));
       }
 
+-- an engine that is purged stands for what it stood for, with exactly the instances that are alive
 pub trimmed_stands : TrimmedStands
 trimmed_stands = record {
   stands = λ old new lines history stands trims. trims_stands old new lines history stands trims;
   exact = λ old new lines history stands trims number p h at. stored_exact old new lines history stands trims number p h (subst (λ (n : Net). IsAt n number (After p h)) trims.plan.network at);
 }
 
+-- their number is that of the bindings that wait and are alive
 pub trimmed_is_counted : TrimmedIsCounted
 trimmed_is_counted old new lines history stands trims = stored_counted old new lines history stands trims

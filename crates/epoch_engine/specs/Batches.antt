@@ -1,4 +1,4 @@
--- Batches that are made of the tuples of streams. No public clause names this.
+-- Batches that are made of the tuples of streams. No public clause cites this module.
 use Rattle.std.specs.Prelude.{◌≡◌, ℕ, ◌<◌, ◌==◌, false, true, List, [], length, map, slice_index_or}
 use Rattle.event_types.specs.Tuple.{TupleView}
 

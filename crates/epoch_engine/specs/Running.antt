@@ -1,4 +1,4 @@
--- What holds of the parts of an engine. No public clause names this.
+-- What holds of the parts of an engine. No public clause cites this module.
 use Rattle.std.specs.Prelude.{◌≡◌, ℕ, ◌⊎◌, IfSome, IsTrue, List, [], Contains, length, Option, slice_index_or}
 use Rattle.std.specs.List.{All}
 use Rattle.event_types.specs.Tuple.{TupleView}
@@ -22,7 +22,7 @@ pub record IsPlan (plan : Plan) : Type 0 where
   pub printed : All (λ stream. IsTrue (is_in plan.layout.order stream)) plan.layout.outs
   pub last : length plan.last ≡ length plan.layout.kinds
 
--- the marked streams are all that have tuples
+-- at least those streams that have tuples are marked, maybe some more
 pub record AreTouched (tuples : List (List TupleView)) (touched : Marks) : Type 0 where
   pub are : AreMarks touched
   pub below : length touched.flags ≡ length tuples

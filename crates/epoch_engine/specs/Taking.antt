@@ -1,4 +1,4 @@
--- What the two halves of a closing do with the parts of an engine. No public clause names this.
+-- What the two halves of a closing do with the parts of an engine. No public clause cites this module.
 use Rattle.std.specs.Prelude.{◌+◌, List, IfSome, Option}
 use Rattle.event_types.specs.Tuple.{TupleView}
 use Rattle.binding_index.specs.declared.store.Store.{Store}

@@ -1,4 +1,4 @@
--- Keys of conditions.
+-- Keys of conditions. No public clause cites this module.
 use Rattle.std.specs.Prelude.{⊤, List, map, Option, Some, None, Contains}
 use Rattle.instances.specs.Keys.{Key}
 use Rattle.semantics.specs.Scalars.{Pr}

@@ -1,4 +1,4 @@
--- Readers of the states of a network as far as it was gone through. No public clause cites it.
+-- Readers of the states of a network as far as it was gone through. No public clause cites this module.
 use Rattle.std.specs.Prelude.{◌≡◌, ℕ, List, map, Some, slice_get}
 use Rattle.std.specs.List.{filter, flat_map, range_with_len}
 use Rattle.automaton.specs.States.{Net}

@@ -5,6 +5,7 @@ ghost use Rattle.event_types.specs.declared.kind.Kind.TheVariants as kind;
 ghost use Rattle.event_types.specs.declared.value.Value.TheVariants as value;
 ghost use Rattle.semantics.specs.Scalars.{Binding, Dur, Event, Lit, Test};
 ghost use Rattle.automaton.specs.Layouts.{LayoutFits};
+ghost use Rattle.epoch_engine.specs.TestNetwork.{derived_streams, stream_kinds, test_layout};
 
 use crate::Engine;
 use automaton::{Hop, Layout, Line, Lines, Turn, Wait};
@@ -93,7 +94,7 @@ fn line(
 // Pair is Stock NEXT {$2.x = $1.x} Stock, Fall is Stock FOLD {$2.x < $.x, TRUE, $2.x AS x} Stock, Near
 // is Stock NEXT {DUR <= 5} Stock, and After is Stock NEXT Pair.
 fn lines(alloc: Global) -> Result<Lines, Memory>
-    ensures { IfOk result (λ lines. LayoutFits lines (record { order = 2 ∷ 3 ∷ 4 ∷ 5 ∷ []; outs = 2 ∷ 3 ∷ 4 ∷ 5 ∷ []; kinds = replicate 1 kind.Int ∷ replicate 1 kind.Int ∷ replicate 2 kind.Int ∷ replicate 1 kind.Int ∷ replicate 2 kind.Int ∷ replicate 3 kind.Int ∷ [] })) }
+    ensures { IfOk result (λ lines. LayoutFits lines test_layout) }
 {
     let mut lines = List::new(alloc);
     lines.add(line(alloc, equal(alloc)?, None, STOCK, 2)?)?;
@@ -107,7 +108,7 @@ fn lines(alloc: Global) -> Result<Lines, Memory>
 
 // The numbers of the derived streams.
 fn derived(alloc: Global) -> Result<Numbers, Memory>
-    ensures { IfOk result (λ numbers. numbers ≡ 2 ∷ 3 ∷ 4 ∷ 5 ∷ []) }
+    ensures { IfOk result (λ numbers. numbers ≡ derived_streams) }
 {
     let mut numbers = List::new(alloc);
     numbers.add(2)?;
@@ -130,7 +131,7 @@ fn ints(alloc: Global, count: usize) -> Result<Kinds, Memory>
 
 // The kinds of all streams.
 fn kinds(alloc: Global) -> Result<KindLists, Memory>
-    ensures { IfOk result (λ kinds. kinds ≡ replicate 1 kind.Int ∷ replicate 1 kind.Int ∷ replicate 2 kind.Int ∷ replicate 1 kind.Int ∷ replicate 2 kind.Int ∷ replicate 3 kind.Int ∷ []) }
+    ensures { IfOk result (λ kinds. kinds ≡ stream_kinds) }
 {
     let mut kinds = List::new(alloc);
     kinds.add(ints(alloc, 1)?)?;
