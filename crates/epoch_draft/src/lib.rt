@@ -20,6 +20,7 @@ mod drawing;
 mod filling;
 mod going;
 mod marks;
+mod matching;
 mod meeting;
 mod passing;
 mod purging;

@@ -15,7 +15,7 @@ use Rattle.epoch_draft.specs.Suits.{LeavingSuits, WaitSuits}
 use Rattle.epoch_draft.specs.Work.{binding_work, met_work}
 use Rattle.epoch_draft.proofs.DraftLemmas.{grows_none}
 use Rattle.epoch_draft.proofs.KeyLemmas.{candidates_all, found_there, key_at, met_candidates}
-use Rattle.epoch_draft.proofs.meeting.meet_wait.Goals as goal
+use Rattle.epoch_draft.proofs.matching.meet_wait.Goals as goal
 
 pub candidates-requires : goal.candidates-requires
 candidates-requires g c =

@@ -12,7 +12,7 @@ use Rattle.epoch_draft.specs.Pairs.{met, paired_with}
 use Rattle.epoch_draft.specs.Suits.{LeavingSuits, WaitSuits}
 use Rattle.epoch_draft.proofs.GoingLemmas.{all_left, all_right}
 use Rattle.epoch_draft.proofs.MeetLemmas.{Follows, follows_more, follows_none, head_none}
-use Rattle.epoch_draft.proofs.meeting.meet_instances.Goals as goal
+use Rattle.epoch_draft.proofs.matching.meet_instances.Goals as goal
 
 pub meet_instance-requires-clause-suits : goal.meet_instance-requires-clause-suits
 meet_instance-requires-clause-suits g c =

@@ -7,7 +7,7 @@ use Rattle.instances.specs.declared.instance.Instance.{Instance}
 use Rattle.epoch_laws.specs.Instances.{began}
 use Rattle.epoch_draft.specs.Pairs.{paired}
 use Rattle.epoch_draft.specs.Suits.{LeavingSuits}
-use Rattle.epoch_draft.proofs.meeting.meet_instance.Goals as goal
+use Rattle.epoch_draft.proofs.matching.meet_instance.Goals as goal
 
 pub leave-requires-clause-suits : goal.leave-requires-clause-suits
 leave-requires-clause-suits g c =

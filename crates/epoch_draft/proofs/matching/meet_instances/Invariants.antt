@@ -7,7 +7,7 @@ use Rattle.epoch_draft.specs.Moves.{moves_from}
 use Rattle.epoch_draft.specs.Pairs.{met}
 use Rattle.epoch_draft.specs.Suits.{LeavingSuits, WaitSuits}
 use Rattle.epoch_draft.proofs.MeetLemmas.{Follows}
-use Rattle.epoch_draft.proofs.meeting.meet_instances.Given as goal
+use Rattle.epoch_draft.proofs.matching.meet_instances.Given as goal
 
 -- what the tuple makes of the instances that are left is still to leave
 abbrev pub invariant-loop-instance : goal.invariant-loop-instance

@@ -1,0 +1,177 @@
+//! What a tuple makes of the instances that wait at a state.
+ghost use Rattle.std.specs.Prelude.{◌≡◌, ◌+◌, ◌<◌, ◌≤◌, IfOk, IsTrue, OnOk, Some, length, option_to_list, sum_by};
+ghost use Rattle.std.specs.List.{All};
+ghost use Rattle.semantics.specs.Nexts.{is_eligible};
+ghost use Rattle.scalar_expr.specs.Fits.{AllFit};
+ghost use Rattle.automaton.specs.Networks.{IsNetwork};
+ghost use Rattle.automaton.specs.States.{is_used, wait_at};
+ghost use Rattle.epoch_draft.specs.Drafts.{DraftFits, EndsBelow, Grows};
+ghost use Rattle.epoch_draft.specs.Held.{held};
+ghost use Rattle.epoch_draft.specs.Meeting.{met_at};
+ghost use Rattle.epoch_draft.specs.Moves.{moves_from};
+ghost use Rattle.epoch_draft.specs.Pairs.{followed, met, paired, paired_with};
+ghost use Rattle.epoch_draft.specs.Stores.{HasStores};
+ghost use Rattle.epoch_draft.specs.Suits.{LeavingSuits, MeetingSuits, TurnSuits, WaitSuits};
+ghost use Rattle.epoch_draft.specs.Work.{binding_work, pair_work, state_work, turn_work};
+
+use crate::draft::Draft;
+use crate::going::leave;
+use crate::stores::Stores;
+use automaton::{Network, Turn, Wait};
+use event_types::{Memory, Tuple};
+use inst_chain::Look;
+use instances::{Instance, Waiting};
+use scalar_expr::{Conj, holds, join, rebind};
+use std::alloc::Global;
+use steps::{Ledger, Steps};
+
+// What the tuple makes of the binding, if it is eligible.
+fn pair_up<L: Ledger>(
+    alloc: Global,
+    wait: &Wait,
+    binding: &Tuple,
+    tuple: &Tuple,
+    steps: &mut Steps<L>,
+) -> Result<Option<Tuple>, Memory>
+    requires { WaitSuits wait.now binding.now tuple.now }
+    ensures value { IfOk result (λ made. option_to_list made ≡ paired wait.now binding.now tuple.now) }
+    ensures ticks { steps.new ≤ steps.old + pair_work wait.now }
+{
+    if can_meet(&wait.choose, binding, tuple, steps) {
+        follow(alloc, &wait.fold, binding, tuple, steps)
+    } else {
+        Ok(None)
+    }
+}
+
+// Whether the tuple is eligible for the binding.
+fn can_meet<L: Ledger>(choose: &Conj, binding: &Tuple, tuple: &Tuple, steps: &mut Steps<L>) -> bool
+    requires { AllFit choose.now tuple.now (Some binding.now) }
+    ensures value { result ≡ is_eligible choose.now binding.now tuple.now }
+    ensures ticks { steps.new ≤ steps.old + 1 }
+{
+    binding.at() < tuple.from() && holds(choose, tuple, Some(binding), steps)
+}
+
+// What the tuple, which is eligible, makes of the binding.
+fn follow<L: Ledger>(
+    alloc: Global,
+    fold: &Option<Turn>,
+    binding: &Tuple,
+    tuple: &Tuple,
+    steps: &mut Steps<L>,
+) -> Result<Option<Tuple>, Memory>
+    requires later { binding.now.at < tuple.now.from }
+    requires suited { TurnSuits fold.now binding.now tuple.now }
+    ensures value { IfOk result (λ made. option_to_list made ≡ followed fold.now binding.now tuple.now) }
+    ensures ticks { steps.new ≤ steps.old + turn_work fold.now }
+{
+    match fold {
+        None => Ok(Some(join(alloc, binding, tuple)?)),
+        Some(turn) => {
+            if holds(&turn.on, tuple, Some(binding), steps) {
+                Ok(Some(rebind(alloc, &turn.set, binding, tuple)?))
+            } else {
+                Ok(None)
+            }
+        }
+    }
+}
+
+// What the tuple makes of an instance leaves the state where it waits.
+fn meet_instance<L: Ledger>(
+    alloc: Global,
+    network: &Network,
+    draft: &mut Draft,
+    state: usize,
+    wait: &Wait,
+    instance: &Instance,
+    tuple: &Tuple,
+    steps: &mut Steps<L>,
+) -> Result<(), Memory>
+    requires network { IsNetwork network.now }
+    requires used { IsTrue (is_used network.now state) }
+    requires wait { wait_at network.now state ≡ Some wait.now }
+    requires below { EndsBelow network.now (length draft.old.made) }
+    requires fits { DraftFits (length draft.old.made) (length network.now) draft.old }
+    requires suits { WaitSuits wait.now instance.now.tuple tuple.now }
+    requires leaving { All (λ made. LeavingSuits network.now state made.tuple) (paired_with wait.now tuple.now instance.now) }
+    ensures grows { OnOk result (Grows network.now (moves_from network.now state (paired_with wait.now tuple.now instance.now)) draft.old draft.new) }
+    ensures ticks { OnOk result (steps.new ≤ steps.old + binding_work network.now state wait.now tuple.now instance.now) }
+{
+    match pair_up(alloc, wait, &instance.tuple, tuple, steps)? {
+        Some(made) => {
+            let left = Instance {
+                tuple: made,
+                first: instance.first,
+            };
+            leave(alloc, network, draft, state, wait, left, steps)
+        }
+        None => Ok(()),
+    }
+}
+
+// The same of all instances that the reader gives.
+fn meet_instances<L: Ledger>(
+    alloc: Global,
+    network: &Network,
+    draft: &mut Draft,
+    state: usize,
+    wait: &Wait,
+    mut instances: Look<'_, Instance>,
+    tuple: &Tuple,
+    steps: &mut Steps<L>,
+) -> Result<(), Memory>
+    requires network { IsNetwork network.now }
+    requires used { IsTrue (is_used network.now state) }
+    requires wait { wait_at network.now state ≡ Some wait.now }
+    requires below { EndsBelow network.now (length draft.old.made) }
+    requires fits { DraftFits (length draft.old.made) (length network.now) draft.old }
+    requires suits { All (λ instance. WaitSuits wait.now instance.tuple tuple.now) instances }
+    requires leaving { All (λ made. LeavingSuits network.now state made.tuple) (met wait.now instances tuple.now) }
+    ensures grows { OnOk result (Grows network.now (moves_from network.now state (met wait.now instances.entry tuple.now)) draft.old draft.new) }
+    ensures ticks { OnOk result (steps.new ≤ steps.old + sum_by (binding_work network.now state wait.now tuple.now) instances.entry) }
+{
+    while let Some(instance) = instances.next() {
+        meet_instance(alloc, network, draft, state, wait, instance, tuple, steps)?;
+    }
+    Ok(())
+}
+
+/// What the tuple makes of the instances at a state leaves it. Those of its key alone are looked at. After want
+/// of memory the draft is of no more use.
+pub(crate) fn meet_wait<L: Ledger>(
+    alloc: Global,
+    network: &Network,
+    stores: &Stores,
+    draft: &mut Draft,
+    state: usize,
+    tuple: &Tuple,
+    steps: &mut Steps<L>,
+) -> Result<(), Memory>
+    requires network { IsNetwork network.now }
+    requires used { IsTrue (is_used network.now state) }
+    requires stores { HasStores network.now stores.now }
+    requires below { EndsBelow network.now (length draft.old.made) }
+    requires fits { DraftFits (length draft.old.made) (length network.now) draft.old }
+    requires suits { MeetingSuits network.now (held stores.now) tuple.now state }
+    ensures grows { OnOk result (Grows network.now (moves_from network.now state (met_at network.now (held stores.now) tuple.now state)) draft.old draft.new) }
+    ensures ticks { OnOk result (steps.new ≤ steps.old + state_work network.now (held stores.now) tuple.now state) }
+{
+    let Some(wait) = network.wait(state) else {
+        return Ok(());
+    };
+    match stores.get(state) {
+        Some(store) => meet_instances(
+            alloc,
+            network,
+            draft,
+            state,
+            wait,
+            store.candidates(tuple),
+            tuple,
+            steps,
+        ),
+        None => Ok(()),
+    }
+}
