@@ -1,8 +1,6 @@
 //! What a tuple makes of the instances that wait at a state.
 ghost use Rattle.std.specs.Prelude.{◌≡◌, ◌+◌, ◌<◌, ◌≤◌, IfOk, IsTrue, OnOk, Some, length, option_to_list, sum_by};
 ghost use Rattle.std.specs.List.{All};
-ghost use Rattle.semantics.specs.Nexts.{is_eligible};
-ghost use Rattle.scalar_expr.specs.Fits.{AllFit};
 ghost use Rattle.automaton.specs.Networks.{IsNetwork};
 ghost use Rattle.automaton.specs.States.{is_used, wait_at};
 ghost use Rattle.epoch_draft.specs.Drafts.{DraftFits, EndsBelow, Grows};
@@ -21,7 +19,7 @@ use automaton::{Network, Turn, Wait};
 use event_types::{Memory, Tuple};
 use inst_chain::Look;
 use instances::{Instance, Waiting};
-use scalar_expr::{Conj, holds, join, rebind};
+use scalar_expr::{can_follow, holds, join, rebind};
 use std::alloc::Global;
 use steps::{Ledger, Steps};
 
@@ -37,20 +35,11 @@ fn pair_up<L: Ledger>(
     ensures value { IfOk result (λ made. option_to_list made ≡ paired wait.now binding.now tuple.now) }
     ensures ticks { steps.new ≤ steps.old + pair_work wait.now }
 {
-    if can_meet(&wait.choose, binding, tuple, steps) {
+    if can_follow(&wait.choose, binding, tuple, steps) {
         follow(alloc, &wait.fold, binding, tuple, steps)
     } else {
         Ok(None)
     }
-}
-
-// Whether the tuple is eligible for the binding.
-fn can_meet<L: Ledger>(choose: &Conj, binding: &Tuple, tuple: &Tuple, steps: &mut Steps<L>) -> bool
-    requires { AllFit choose.now tuple.now (Some binding.now) }
-    ensures value { result ≡ is_eligible choose.now binding.now tuple.now }
-    ensures ticks { steps.new ≤ steps.old + 1 }
-{
-    binding.at() < tuple.from() && holds(choose, tuple, Some(binding), steps)
 }
 
 // What the tuple, which is eligible, makes of the binding.

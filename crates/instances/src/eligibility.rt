@@ -6,7 +6,7 @@ ghost use Rattle.scalar_expr.specs.Fits.{AllFit};
 use crate::instance::Instance;
 use event_types::Tuple;
 use inst_chain::Chain;
-use scalar_expr::{Conj, holds};
+use scalar_expr::{Conj, can_follow};
 use steps::{Ledger, Steps};
 
 /// Takes the instances for which the event is eligible out of a chain. Takes no memory.
@@ -22,19 +22,10 @@ pub fn take_eligible<L: Ledger>(
 {
     let mut walk = chain.walk();
     while let Some(instance) = walk.get() {
-        if meets(choose, &instance.tuple, event, steps) {
+        if can_follow(choose, &instance.tuple, event, steps) {
             let _ = walk.unlink();
         } else {
             walk.step();
         }
     }
-}
-
-// Whether the event is eligible for a binding.
-fn meets<L: Ledger>(choose: &Conj, binding: &Tuple, event: &Tuple, steps: &mut Steps<L>) -> bool
-    requires { AllFit choose.now event.now (Some binding.now) }
-    ensures value { result ≡ is_eligible choose.now binding.now event.now }
-    ensures ticks { steps.new ≤ steps.old + 1 }
-{
-    binding.at() < event.from() && holds(choose, event, Some(binding), steps)
 }

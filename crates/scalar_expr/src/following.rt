@@ -1,5 +1,5 @@
 //! What an event makes of a binding.
-ghost use Rattle.std.specs.Prelude.{◌≡◌, ◌++◌, ◌<◌, IfOk, OnOk, Some};
+ghost use Rattle.std.specs.Prelude.{◌≡◌, ◌+◌, ◌++◌, ◌<◌, ◌≤◌, IfOk, OnOk, Some};
 ghost use Rattle.std.specs.List.{All};
 ghost use Rattle.semantics.specs.Runs.{rebound};
 ghost use Rattle.scalar_expr.specs.Fits.{Fits, AllFit};
@@ -65,7 +65,8 @@ pub fn can_follow<L: Ledger>(
     steps: &mut Steps<L>,
 ) -> bool
     requires { AllFit condition.now tuple.now (Some binding.now) }
-    ensures { result ≡ is_eligible condition.now binding.now tuple.now }
+    ensures value { result ≡ is_eligible condition.now binding.now tuple.now }
+    ensures ticks { steps.new ≤ steps.old + 1 }
 {
     binding.at() < tuple.from() && holds(condition, tuple, Some(binding), steps)
 }
