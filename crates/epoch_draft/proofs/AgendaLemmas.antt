@@ -214,6 +214,18 @@ places_more order streams i places lt below once was = record {
     others t (inr other) (inl none) = inl (get_or-set_other places s t i 0 other ∙ none)
     others t (inr other) (inr c) = inr (contains_more order i 0 t lt c)
 
+-- all streams have their places
+pub places_all : (order : List ℕ) (streams i : ℕ) (places : List ℕ) → length order ≤ i → ArePlacesUpTo order streams i places → ArePlaces order streams places
+places_all order streams i places all was = record {
+  as_many = was.as_many;
+  each = λ k lt. was.each k (omega (arith, lt, all));
+  others = λ s lt. others s (was.others s lt);
+}
+  where
+    others : (s : ℕ) → (get_or places s 0 ≡ length order) ⊎ Contains (take i order) s → (get_or places s 0 ≡ length order) ⊎ Contains order s
+    others s (inl none) = inl none
+    others s (inr c) = inr (subst (λ (ns : List ℕ). Contains ns s) (taken_all order i all) c)
+
 -- one stream more is looked at: its place is planned, or not from the one place on and below the other
 pub planned_more : (places due keys : List ℕ) (i start end : ℕ) → i < length due → IsPlanned start end keys (get_or places (get_or due i 0) 0) → All (λ s. IsPlanned start end keys (get_or places s 0)) (take i due) → All (λ s. IsPlanned start end keys (get_or places s 0)) (take (i + 1) due)
 planned_more places due keys i start end lt this was =

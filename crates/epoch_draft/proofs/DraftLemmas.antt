@@ -1,6 +1,6 @@
 -- Drafts that have something more.
-use Rattle.std.proofs.Common.{◌≡◌, ◌∙◌, sym, ap, refl, subst, inl, inr, ℕ, ◌<◌, ◌⊎◌, ◌==◌, true, false, cond, length, get_or, set, List, [], ◌∷◌, ◌++◌, append_assoc, arith}
-use Rattle.std.specs.Prelude.{Contains, Some, option_to_list}
+use Rattle.std.proofs.Common.{◌≡◌, ◌∙◌, sym, ap, refl, subst, inl, inr, ℕ, ◌<◌, ◌⊎◌, ◌==◌, true, false, cond, length, get_or, set, List, [], ◌∷◌, ◌++◌, append_assoc, arith, zero, suc, Bool}
+use Rattle.std.specs.Prelude.{Contains, Some, option_to_list, None}
 use Rattle.std.specs.Option.{option_map}
 use Rattle.std.specs.List.Sorted.{IsPermutation}
 use Rattle.std.proofs.lemmas.Bool.Decides.{nat_tests}
@@ -13,8 +13,9 @@ use Rattle.scalar_expr.proofs.Bags.{flat_map_permuted, permuted_from, permuted_t
 use Rattle.automaton.specs.States.{Net, step_at}
 use Rattle.automaton.specs.Steps.{pass}
 use Rattle.automaton.proofs.NumberLemmas.{are_same_or_not}
-use Rattle.stream_readers.specs.Ways.{Back, Into, Way}
-use Rattle.epoch_laws.specs.Instances.{began}
+use Rattle.automaton.specs.declared.network.End.{End}
+use Rattle.stream_readers.specs.Ways.{Back, Into, Way, Out}
+use Rattle.epoch_laws.specs.Instances.{began, pass_instance}
 use Rattle.epoch_laws.proofs.Bags.{permuted_is}
 use Rattle.epoch_draft.specs.Drafts.{Adds, DraftFits, Grows}
 use Rattle.epoch_draft.specs.Marks.{AreMarks, MarksMore}
@@ -179,6 +180,33 @@ made_adds s rows old t lt made e = go (are_same_or_not t s)
         subst (λ (xs : List TupleView). Adds xs (get_or old t []) (get_or (set old s (get_or old s [] ++ rows)) t [])) (sym (e ∙ ap (λ b. cond b rows []) (other_test s t (λ eq. other (sym eq)))))
         (adds_none (get_or old t []) (get_or (set old s (get_or old s [] ++ rows)) t []) (get_or-set_other old s t (get_or old s [] ++ rows) [] other))
 
+-- an instance that goes out
+pub out_grows : (net : Net) (old new : Draft) (e : End) (x : Instance) (y : TupleView) → e.out < length old.made → pass e.step x.tuple ≡ Some y → length old.beads ≡ length net
+    → new.made ≡ set old.made e.out (get_or old.made e.out [] ++ y ∷ []) → new.beads ≡ old.beads → MarksMore old.due new.due → DraftFits (length old.made) (length old.beads) new → Grows net (moves_on (Out e ∷ []) x) old new
+out_grows net old new e x y lt passes many made beads due fits = record {
+  fits = subst (λ (m : ℕ). DraftFits (length old.made) m new) many fits;
+  due = due;
+  made = λ t.
+      subst (λ (lists : List (List TupleView)). Adds (made_of t (moves_on (Out e ∷ []) x)) (get_or old.made t []) (get_or lists t [])) (sym made)
+      (made_adds e.out (y ∷ []) old.made t lt (made_of t (moves_on (Out e ∷ []) x)) (append-nil (cond (e.out == t) (option_to_list (pass e.step x.tuple)) []) ∙ ap (λ o. cond (e.out == t) (option_to_list o) []) passes));
+  bound = λ w. permuted_is (ap (λ (lists : List (List Instance)). get_or lists w []) beads ∙ sym (append-nil (get_or old.beads w [])));
+}
+
+-- one that doesn't pass
+pub out_stays : (net : Net) (old : Draft) (e : End) (x : Instance) → pass e.step x.tuple ≡ None → DraftFits (length old.made) (length net) old → Grows net (moves_on (Out e ∷ []) x) old old
+out_stays net old e x passes fits = record {
+  fits = fits;
+  due = marks_same old.due fits.due;
+  made = λ t.
+      subst (λ (rows : List TupleView). Adds rows (get_or old.made t []) (get_or old.made t []))
+      (sym (append-nil (cond (e.out == t) (option_to_list (pass e.step x.tuple)) []) ∙ ap (λ o. cond (e.out == t) (option_to_list o) []) passes ∙ none (e.out == t))) (adds_none (get_or old.made t []) (get_or old.made t []) refl);
+  bound = λ w. permuted_is (sym (append-nil (get_or old.beads w [])));
+}
+  where
+    none : (b : Bool) → cond b (option_to_list {X = TupleView} None) [] ≡ []
+    none true = refl
+    none false = refl
+
 -- one chain is longer by a bead
 bound_adds : (w : ℕ) (y : Instance) (old : List (List Instance)) (v : ℕ) → w < length old → (bound : List Instance) → bound ≡ cond (w == v) (y ∷ []) []
     → IsPermutation (get_or (set old w (y ∷ get_or old w [])) v []) (get_or old v [] ++ bound)
@@ -217,3 +245,51 @@ into_grows net old new w x y lt passes many beads made due fits =
 pub back_grows : (net : Net) (old new : Draft) (w : ℕ) (x : Instance) → w < length old.beads → length old.beads ≡ length net
     → new.beads ≡ set old.beads w (x ∷ get_or old.beads w []) → new.made ≡ old.made → new.due ≡ old.due → DraftFits (length old.made) (length old.beads) new → Grows net (moves_on (Back w ∷ []) x) old new
 back_grows net old new w x lt many beads made due fits = bead_grows net old new (Back w) w x x lt (λ t. refl) (λ v. refl) many beads made due fits
+
+-- one that does not pass into a state
+pub into_stays : (net : Net) (old : Draft) (w : ℕ) (x : Instance) → pass (step_at net w) x.tuple ≡ None → DraftFits (length old.made) (length net) old → Grows net (moves_on (Into w ∷ []) x) old old
+into_stays net old w x passes fits = record {
+  fits = fits;
+  due = marks_same old.due fits.due;
+  made = λ t. adds_none (get_or old.made t []) (get_or old.made t []) refl;
+  bound = λ v.
+      permuted_is (sym (append-nil (get_or old.beads v []))
+      ∙ ap (λ rows. get_or old.beads v [] ++ rows)
+      (sym (append-nil (cond (w == v) (option_to_list (pass_instance (step_at net w) x)) []) ∙ ap (λ o. cond (w == v) (option_to_list (option_map (began x.first) o)) []) passes ∙ none (w == v))));
+}
+  where
+    none : (b : Bool) → cond b (option_to_list {X = Instance} None) [] ≡ []
+    none true = refl
+    none false = refl
+
+-- tuples that are taken out
+pub without_fits : (old : Draft) (s : ℕ) → DraftFits (length old.made) (length old.beads) old → DraftFits (length old.made) (length old.beads) (record { made = set old.made s []; beads = old.beads; due = old.due; reached = old.reached })
+without_fits old s fits = record {
+  made = length-set old.made s [];
+  beads = refl;
+  due = fits.due;
+  due_below = fits.due_below;
+  reached = fits.reached;
+  reached_below = fits.reached_below;
+  due_all = λ t. go t (are_same_or_not t s) (fits.due_all t);
+  reached_all = fits.reached_all;
+}
+  where
+    kept : (t : ℕ) → (get_or (set old.made s []) t [] ≡ get_or old.made t []) → (get_or old.made t [] ≡ []) ⊎ Contains old.due.numbers t → (get_or (set old.made s []) t [] ≡ []) ⊎ Contains old.due.numbers t
+    kept t e (inl none) = inl (e ∙ none)
+    kept t e (inr there) = inr there
+
+    dropped : (t : ℕ) → t ≡ s → (get_or old.made t [] ≡ []) ⊎ Contains old.due.numbers t → (get_or (set old.made s []) t [] ≡ []) ⊎ Contains old.due.numbers t
+    dropped t same (inl none) = inl (cleared old.made s t same none)
+      where
+        cleared : (lists : List (List TupleView)) (s t : ℕ) → t ≡ s → get_or lists t [] ≡ [] → get_or (set lists s []) t [] ≡ []
+        cleared [] s t same none = refl
+        cleared (l ∷ lists) zero zero same none = refl
+        cleared (l ∷ lists) zero (suc t) same none = absurd (omega arith)
+        cleared (l ∷ lists) (suc s) zero same none = absurd (omega arith)
+        cleared (l ∷ lists) (suc s) (suc t) same none = cleared lists s t (omega arith) none
+    dropped t same (inr there) = inr there
+
+    go : (t : ℕ) → (t ≡ s) ⊎ (t ≡ s → ⊥) → (get_or old.made t [] ≡ []) ⊎ Contains old.due.numbers t → (get_or (set old.made s []) t [] ≡ []) ⊎ Contains old.due.numbers t
+    go t (inl same) h = dropped t same h
+    go t (inr other) h = kept t (get_or-set_other old.made s t [] [] other) h

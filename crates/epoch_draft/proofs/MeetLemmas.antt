@@ -162,6 +162,10 @@ follows_more net a rest all start old new was grows = record {
 pub follows_none : (net : Net) (all : List Move) (start now : Draft) → Follows net [] all start now → Grows net all start now
 follows_none net all start now was = was.whole now (grows_none net now (subst (λ (m : ℕ). DraftFits m (length net) now) (sym was.fits.made) was.fits))
 
+-- none is made yet
+pub follows_all : (net : Net) (all : List Move) (start : Draft) → DraftFits (length start.made) (length net) start → Follows net all all start start
+follows_all net all start fits = record { fits = fits; whole = λ new h. h }
+
 -- one target more of a loop
 pub targets_more : {X : Type 0} (f : X → List Way) (net : Net) (xs : List X) (i : ℕ) (d : X) (r : Instance) (old mid new : Draft) → i < length xs → Grows net (moves_on (flat_map f (take i xs)) r) old mid → Grows net (moves_on (f (get_or xs i d)) r) mid new
     → Grows net (moves_on (flat_map f (take (i + 1) xs)) r) old new

@@ -1,8 +1,8 @@
 -- Waiting states that are listed with tuples.
 use Rattle.std.proofs.Common.{◌≡◌, ◌∙◌, sym, ap, refl, subst, inl, inr, ℕ, zero, suc, ◌+◌, ◌<◌, ◌⊎◌, length, get_or, take, List, [], ◌∷◌, ◌++◌, map, append_assoc, arith}
 use Rattle.std.specs.Prelude.{Contains, Some, slice_get}
-use Rattle.std.proofs.lemmas.List.{length-append, length-take-le, take_more}
-use Rattle.std.proofs.lemmas.List.Elements.{All-append, All-contains, All-contains_itself, All-map, All-weaker, Contains-append_cases, Contains-append_left, Contains-append_right, Contains-push, Contains-push_cases}
+use Rattle.std.proofs.lemmas.List.{length-append, length-take-le, take_more, append-nil}
+use Rattle.std.proofs.lemmas.List.Elements.{All-append, All-contains, All-contains_itself, All-map, All-weaker, Contains-append_cases, Contains-append_left, Contains-append_right, Contains-push, Contains-push_cases, All-nil}
 use Rattle.std.proofs.lemmas.List.Sorted.{Contains-permutation, IsPermutation-sym}
 use Rattle.event_types.specs.Tuple.{TupleView}
 use Rattle.automaton.specs.States.{Net}
@@ -35,6 +35,15 @@ contains_map f (y ∷ xs) x c = go (Contains-append_cases (y ∷ []) xs x c) (co
     go : Contains (y ∷ []) x ⊎ Contains xs x → (Contains xs x → Contains (map f xs) (f x)) → Contains (map f (y ∷ xs)) (f x)
     go (inl c) rest = first (Contains-push_cases [] y x c)
     go (inr c) rest = Contains-append_right (f y ∷ []) (map f xs) (f x) (rest c)
+
+-- no tuple, no pair
+pub lists_none : (net : Net) (s : ℕ) (pairs : List Pair) → ListsAll net s [] pairs pairs
+lists_none net s pairs = record {
+  added = [];
+  are = sym (append-nil pairs);
+  sound = All-nil (IsPairOf net s []);
+  listed = λ k t e n c. absurd (cc);
+}
 
 -- one tuple more
 pub lists_more : (net : Net) (s : ℕ) (rows : List TupleView) (i : ℕ) (d : TupleView) (old mid new : List Pair) → i < length rows → ListsAll net s (take i rows) old mid → Lists net s i (get_or rows i d) mid new → ListsAll net s (take (i + 1) rows) old new

@@ -157,6 +157,10 @@ pub record ArePurgedBelow (net : Net) (bound time : ℕ) (old new : List (Option
   pub used : (n : ℕ) (w : Wait) → n < bound → wait_at net n ≡ Some w → AreUsedIn (get_or new n None)
   pub others : (n : ℕ) → (n < bound → wait_at net n ≡ None) → get_or new n None ≡ get_or old n None
 
+-- none is yet
+pub purged_none : (net : Net) (time : ℕ) (stores : List (Option Store)) → ArePurgedBelow net 0 time stores stores
+purged_none net time stores = record { same = shapes_same stores; purged = λ n w lt at. absurd (omega (arith, lt)); used = λ n w lt at. absurd (omega (arith, lt)); others = λ n absent. refl }
+
 -- one more state's
 pub purged_next : (net : Net) (n time : ℕ) (old mid new : List (Option Store)) → ArePurgedBelow net n time old mid → IsPurgedAt net time n mid new → ArePurgedBelow net (n + 1) time old new
 purged_next net n time old mid new was one = record {

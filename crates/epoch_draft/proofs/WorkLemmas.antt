@@ -10,10 +10,10 @@ use Rattle.std.proofs.lemmas.List.Sorted.{sum_by-IsPermutation}
 use Rattle.scalar_expr.proofs.Bags.{filter_permuted}
 use Rattle.semantics.proofs.ReportLemmas.{filter_all}
 use Rattle.std.proofs.lemmas.List.Sums.{sum_by-append, sum_by_push}
-use Rattle.automaton.specs.States.{Net}
+use Rattle.automaton.specs.States.{Net, edges_at, ends_at, wait_at}
 use Rattle.automaton.specs.declared.wait.Turn.{Turn}
 use Rattle.automaton.specs.declared.wait.Wait.{Wait}
-use Rattle.stream_readers.specs.Ways.{Way, backs_by, backs_in}
+use Rattle.stream_readers.specs.Ways.{Way, backs_by, backs_in, Into, Out, ways_at}
 use Rattle.epoch_draft.specs.Work.{way_work, ways_work}
 
 -- one way more
@@ -28,6 +28,13 @@ no_work net n (Some turn) = refl
 backs_work : (net : Net) (n : ℕ) (o : Option Wait) → ways_work net (backs_by n o) ≡ 0
 backs_work net n None = refl
 backs_work net n (Some w) = no_work net n w.fold
+
+-- the ways out of a state
+pub out_work : (net : Net) (n : ℕ) → ways_work net (ways_at net n) ≡ ways_work net (map Into (edges_at net n)) + ways_work net (map Out (ends_at net n))
+out_work net n =
+    let one = sum_by-append (way_work net) (map Into (edges_at net n)) (map Out (ends_at net n) ++ backs_by n (wait_at net n)) in
+    let two = sum_by-append (way_work net) (map Out (ends_at net n)) (backs_by n (wait_at net n)) in
+    let three = backs_work net n (wait_at net n) in omega (arith, one, two, three)
 
 -- the ways of one target more
 pub flat_more : {X : Type 0} (f : X → List Way) (net : Net) (xs : List X) (i : ℕ) (d : X) → i < length xs → ways_work net (flat_map f (take (i + 1) xs)) ≡ ways_work net (flat_map f (take i xs)) + ways_work net (f (get_or xs i d))

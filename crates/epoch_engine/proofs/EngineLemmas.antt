@@ -37,9 +37,10 @@ use Rattle.epoch_draft.specs.Stores.{AreNewStores}
 use Rattle.epoch_draft.specs.Typed.{HaveKinds, IsStoreOf, IsTyped}
 use Rattle.epoch_draft.specs.declared.marks.Marks.{Marks}
 use Rattle.epoch_draft.proofs.DeriveLemmas.{in_contains, not_done}
-use Rattle.epoch_draft.proofs.MarkLemmas.{all_below}
+use Rattle.epoch_draft.proofs.MarkLemmas.{all_below, marks_kept}
 use Rattle.epoch_draft.proofs.StoreLemmas.{has_store, typed_same}
 use Rattle.epoch_draft.proofs.Lists.{some_is}
+use Rattle.epoch_draft.specs.Marks.{MarksMore}
 use Rattle.epoch_engine.specs.Closes.{Closes, IsTaken}
 use Rattle.epoch_engine.specs.EngineView.{EngineView, stores_in}
 use Rattle.epoch_engine.specs.Running.{AreTouched, IsPlan, IsRunning}
@@ -217,6 +218,11 @@ with_tuples plan stores old new running kinds as_many underived touched = record
   touched = touched;
 }
 
+-- an epoch that was closed
+pub closed_running : (plan : Plan) (stores : List (Option Store)) (old new : Epoch) → IsRunning plan stores old → length new.tuples ≡ length old.tuples → ((s : ℕ) → get_or new.tuples s [] ≡ []) → AreTouched new.tuples new.touched → IsRunning plan stores new
+closed_running plan stores old new running as_many none touched =
+    with_tuples plan stores old new running (none_have plan.layout.kinds new.tuples none) as_many (every (λ s. get_or new.tuples s [] ≡ []) none plan.layout.order) touched
+
 -- an epoch that is as it was, but for what is marked
 pub kept_running : (plan : Plan) (stores : List (Option Store)) (old new : Epoch) → IsRunning plan stores old → new.tuples ≡ old.tuples → AreTouched new.tuples new.touched → IsRunning plan stores new
 kept_running plan stores old new running same touched =
@@ -260,6 +266,23 @@ offered_running plan stores old new s known tuple running is declared of_kinds p
 
     underived : All (λ t. get_or (set old.tuples s more) t [] ≡ []) plan.layout.order
     underived k d lt = get_or-set_other old.tuples s (get_or plan.layout.order k d) more [] (others_in s plan.layout.order declared k d lt) ∙ running.can_draw.underived k d lt
+
+-- a stream that is marked may get tuples
+pub touched_more : (tuples : List (List TupleView)) (touched more : Marks) (s : ℕ) (rows : List TupleView) → AreTouched tuples touched → MarksMore touched more → Contains more.numbers s → AreTouched (set tuples s rows) more
+touched_more tuples touched more s rows h grown this = record { are = grown.are; below = grown.as_many ∙ h.below ∙ sym (length-set tuples s rows); all = λ t. go t (are_same_or_not t s) (h.all t) }
+  where
+    go : (t : ℕ) → (t ≡ s) ⊎ (t ≡ s → ⊥) → (get_or tuples t [] ≡ []) ⊎ Contains touched.numbers t → (get_or (set tuples s rows) t [] ≡ []) ⊎ Contains more.numbers t
+    go t (inl same) was = inr (subst (Contains more.numbers) (sym same) this)
+    go t (inr other) (inl none) = inl (get_or-set_other tuples s t rows [] other ∙ none)
+    go t (inr other) (inr there) = inr (marks_kept touched more grown t there)
+
+-- or not
+pub touched_same : (tuples : List (List TupleView)) (touched more : Marks) → AreTouched tuples touched → MarksMore touched more → AreTouched tuples more
+touched_same tuples touched more h grown = record { are = grown.are; below = grown.as_many ∙ h.below; all = λ t. go t (h.all t) }
+  where
+    go : (t : ℕ) → (get_or tuples t [] ≡ []) ⊎ Contains touched.numbers t → (get_or tuples t [] ≡ []) ⊎ Contains more.numbers t
+    go t (inl none) = inl none
+    go t (inr there) = inr (marks_kept touched more grown t there)
 
 -- each stream that has tuples is listed once
 pub opened_streams : (tuples : List (List TupleView)) (touched : Marks) (numbers : List ℕ) → AreTouched tuples touched → numbers ≡ touched.numbers → AreOpened tuples numbers
