@@ -12,24 +12,24 @@ use Rattle.std.proofs.Math.Seq.{drop-append_seam}
 use Rattle.std.proofs.lemmas.Grind.{get_or-set_at}
 use Rattle.std.proofs.lemmas.List.{get_or-set_other, length-drop, length-set, take_more}
 use Rattle.std.proofs.lemmas.List.Elements.{All-contains, All-contains_itself, All-head, All-push, All-tail, All-weaker, Contains-append_cases, Contains-append_left, Contains-append_right, Contains-push, Contains-push_cases}
-use Rattle.std.proofs.lemmas.List.Sums.{sum_by_more}
 use Rattle.event_types.specs.Tuple.{TupleView}
 use Rattle.binding_index.specs.declared.store.Store.{Store}
 use Rattle.automaton.specs.States.{Net}
 use Rattle.automaton.specs.declared.layout.Layout.{Layout}
 use Rattle.automaton.proofs.NumberLemmas.{are_same_or_not}
 use Rattle.epoch_draft.specs.Agenda.{AreFrom, ArePlaces, IsPlanned}
-use Rattle.epoch_draft.specs.Deriving.{CanDraw, DrawnUpTo}
+use Rattle.epoch_draft.specs.Deriving.{CanDraw, DrawnUpTo, news_of}
 use Rattle.epoch_draft.specs.Marks.{MarksMore}
 use Rattle.epoch_draft.specs.Held.{held}
-use Rattle.epoch_draft.specs.Tests.{stream_work, streams_work}
+use Rattle.epoch_draft.specs.EpochWork.{derived_tests}
 use Rattle.epoch_draft.specs.declared.draft.Draft.{Draft}
 use Rattle.epoch_draft.specs.declared.draft.Pair.{Pair}
 use Rattle.epoch_draft.specs.declared.marks.Marks.{Marks}
-use Rattle.epoch_draft.proofs.DeriveLemmas.{idle_step, unmarked_none}
+use Rattle.epoch_draft.proofs.DeriveLemmas.{idle_rest, idle_step, unmarked_none}
 use Rattle.epoch_draft.proofs.GoingLemmas.{all_right}
 use Rattle.epoch_draft.proofs.MarkLemmas.{all_below}
 use Rattle.epoch_draft.proofs.Lists.{below_or_last, contains_more, contains_this, taken_all}
+use Rattle.epoch_draft.specs.Tests.{tuple_work}
 
 -- an item of a list is the first or one of the others
 pub first_or_other : (x : ℕ) (xs : List ℕ) (n : ℕ) → Contains (x ∷ xs) n → (n ≡ x) ⊎ Contains xs n
@@ -142,6 +142,19 @@ module _ (net : Net) (layout : Layout) (stores : List (Option Store)) (opened : 
   pub idle_to : (i p : ℕ) → i ≤ p → p ≤ length layout.order → AreIdle i p → DrawnUpTo net layout stores opened (take i layout.order) draft pairs → DrawnUpTo net layout stores opened (take p layout.order) draft pairs
   idle_to i p from below idle was = idle_many (p - i) i p (omega (arith, from)) below idle was
 
+  -- the tests that are left before the streams from a place on
+  abbrev pub tests_left : (ℕ → TupleView → ℕ) → ℕ → ℕ
+  tests_left tests i = derived_tests tests net (drop i layout.order) (held stores) (news_of opened draft.made (take i layout.order))
+
+  -- idle streams leave them as they are, by induction on how many they are
+  left_many : (tests : ℕ → TupleView → ℕ) (n i p : ℕ) → i + n ≡ p → p ≤ length layout.order → AreIdle i p → DrawnUpTo net layout stores opened (take i layout.order) draft pairs → tests_left tests i ≡ tests_left tests p
+  left_many tests zero i p is below idle was = ap (tests_left tests) (let same : i ≡ p = omega (arith, is) in same)
+  left_many tests (suc n) i p is below idle was =
+      let none = idle i (omega arith) (omega (arith, is)) in
+      let lt : i < length layout.order = omega (arith, is, below) in
+      idle_rest net layout stores opened can i lt tests draft pairs none was
+      ∙ left_many tests n (i + 1) p (omega (arith, is)) below (λ k from lt. idle k (omega (arith, from)) lt) (idle_step net layout stores opened can i lt draft pairs none was)
+
   -- before the first place that is planned nothing is due
   idle_before : (next p : ℕ) (keys rest : List ℕ) → AllPlanned layout.order draft.due.numbers next keys → keys ≡ p ∷ rest → All (IsLtBy nat_cmp p) rest → p ≤ length layout.order → ((s : ℕ) → (get_or draft.made s [] ≡ []) ⊎ Contains draft.due.numbers s)
       → AreIdle next p
@@ -154,6 +167,12 @@ module _ (net : Net) (layout : Layout) (stores : List (Option Store)) (opened : 
   popped_until next p keys rest planned is later from lt was =
       idle_to next p from (omega (arith, lt)) (idle_before next p keys rest planned is later (omega (arith, lt)) was.fits.due_all) was
 
+  -- and they leave the tests as they are
+  pub popped_left : (tests : ℕ → TupleView → ℕ) (next p : ℕ) (keys rest : List ℕ) → AllPlanned layout.order draft.due.numbers next keys → keys ≡ p ∷ rest → All (IsLtBy nat_cmp p) rest → next ≤ p → p < length layout.order
+      → DrawnUpTo net layout stores opened (take next layout.order) draft pairs → tests_left tests next ≡ tests_left tests p
+  popped_left tests next p keys rest planned is later from lt was =
+      left_many tests (p - next) next p (omega (arith, from)) (omega (arith, lt)) (idle_before next p keys rest planned is later (omega (arith, lt)) was.fits.due_all) was
+
   -- once nothing is planned all streams are drawn
   pub ended_until : (next : ℕ) (keys : List ℕ) → AllPlanned layout.order draft.due.numbers next keys → (0 < length keys → ⊥) → next ≤ length layout.order
       → DrawnUpTo net layout stores opened (take next layout.order) draft pairs → DrawnUpTo net layout stores opened layout.order draft pairs
@@ -162,16 +181,9 @@ module _ (net : Net) (layout : Layout) (stores : List (Option Store)) (opened : 
       (idle_to next (length layout.order) from (omega arith)
       (λ k after lt. undue_none layout.order draft k was.fits.due_all (λ c. none (filled_list keys k (planned k after lt c)))) was)
 
--- the tests of more streams are no fewer, by induction on how many more they are
-work_many : (net : Net) (stores : List (Option Store)) (made : List (List TupleView)) (order : List ℕ) (n i p : ℕ) → i + n ≡ p → p ≤ length order → streams_work net (held stores) made (take i order) ≤ streams_work net (held stores) made (take p order)
-work_many net stores made order zero i p is below = subst (λ (m : ℕ). streams_work net (held stores) made (take i order) ≤ streams_work net (held stores) made (take m order)) (let same : i ≡ p = omega (arith, is) in same) (omega arith)
-work_many net stores made order (suc n) i p is below =
-    let one = sum_by_more (λ s. stream_work net (held stores) s (get_or made s [])) order i 0 (omega (arith, is, below)) in
-    let rest = work_many net stores made order n (i + 1) p (omega (arith, is)) below in omega (arith, one, rest)
-
--- the tests of more streams are no fewer
-pub work_to : (net : Net) (stores : List (Option Store)) (made : List (List TupleView)) (order : List ℕ) (i p : ℕ) → i ≤ p → p ≤ length order → streams_work net (held stores) made (take i order) ≤ streams_work net (held stores) made (take p order)
-work_to net stores made order i p from below = work_many net stores made order (p - i) i p (omega (arith, from)) below
+-- the tests by which the derived streams from a place on are still to be met
+abbrev pub work_left : Net → Layout → List (Option Store) → List (List TupleView) → Draft → ℕ → ℕ
+work_left net layout stores opened draft next = derived_tests (tuple_work net (held stores)) net (drop next layout.order) (held stores) (news_of opened draft.made (take next layout.order))
 
 -- the streams so far have their places, and the others the order's length
 pub record ArePlacesUpTo (order : List ℕ) (streams : ℕ) (i : ℕ) (places : List ℕ) : Type 0 where

@@ -1,14 +1,13 @@
 -- The tuples of an epoch, stream by stream.
-use Rattle.std.proofs.Common.{◌≡◌, ◌∙◌, sym, ap, refl, subst, inl, inr, ℕ, ◌+◌, ◌<◌, ◌==◌, ◌||◌, ◌⊎◌, Bool, true, false, cond, length, get_or, take, drop, List, [], ◌∷◌, ◌++◌, add-one, arith}
+use Rattle.std.proofs.Common.{◌≡◌, ◌∙◌, sym, ap, refl, subst, inl, inr, ℕ, ◌+◌, ◌<◌, ◌==◌, ◌||◌, ◌⊎◌, Bool, true, false, cond, length, get_or, take, drop, List, [], ◌∷◌, ◌++◌, add-one, arith, ◌≤◌}
 use Rattle.std.specs.Prelude.{Contains, Option, Some, slice_get, sum_by}
-use Rattle.std.proofs.lemmas.List.Sums.{sum_by-cons, sum_by_more}
 use Rattle.std.specs.List.{All}
 use Rattle.std.specs.List.Sorted.{IsPermutation}
 use Rattle.std.proofs.Math.Seq.{drop-cons}
 use Rattle.std.proofs.lemmas.Bool.Decides.{nat_tests}
 use Rattle.std.proofs.lemmas.Grind.{get_or-set_at}
 use Rattle.std.proofs.lemmas.List.{append-nil, get_or-set_other, length-append, length-set, take-append-drop, take_more}
-use Rattle.std.proofs.lemmas.List.Elements.{All-contains, All-contains_itself, All-get_or, All-head, All-tail, All-nil, All-push, All-weaker, Contains-append_cases, Contains-append_left, Contains-append_right, Contains-push, Contains-push_cases}
+use Rattle.std.proofs.lemmas.List.Elements.{All-contains, All-contains_itself, All-get_or, All-nil, All-push, All-weaker, Contains-append_cases, Contains-append_left, Contains-append_right, Contains-push, Contains-push_cases}
 use Rattle.std.proofs.lemmas.List.Folds.{list_any-append}
 use Rattle.std.proofs.lemmas.List.Sorted.{All-permutation, IsPermutation-cons, IsPermutation-middle, IsPermutation-refl, IsPermutation-sym, IsPermutation-trans, length_permutation, sum_by-IsPermutation}
 use Rattle.std.proofs.lemmas.Option.{slice_get-get_or}
@@ -43,7 +42,8 @@ use Rattle.epoch_draft.specs.Held.{held}
 use Rattle.epoch_draft.specs.Meeting.{ListsAll, moves_of_all}
 use Rattle.epoch_draft.specs.Moves.{Move, made_of}
 use Rattle.epoch_draft.specs.Suits.{TupleSuits}
-use Rattle.epoch_draft.specs.Tests.{stream_work, streams_work, tuple_work}
+use Rattle.epoch_draft.specs.EpochWork.{derived_tests}
+use Rattle.epoch_draft.specs.Tests.{stream_work, tuple_work}
 use Rattle.epoch_draft.specs.Typed.{HaveKinds, IsTyped}
 use Rattle.epoch_draft.specs.declared.draft.Draft.{Draft}
 use Rattle.epoch_draft.specs.declared.draft.Pair.{Pair}
@@ -55,6 +55,7 @@ use Rattle.std.proofs.lemmas.Bool.{or_parts}
 use Rattle.event_types.proofs.NumberLemmas.{same_number}
 use Rattle.automaton.proofs.NumberLemmas.{are_same_or_not}
 use Rattle.epoch_draft.proofs.Lists.{none_in}
+use Rattle.epoch_draft.proofs.EpochLemmas.{derived_first}
 
 or-true : (a : Bool) → (a || true) ≡ true
 or-true true = refl
@@ -223,12 +224,10 @@ news_step opened made more done s rows is same = λ i t. each t i
     each : (t : ℕ) → with_stream (news_of opened made done) s rows t ≡ news_of opened more (done ++ s ∷ []) t
     each t = go t (t == s) (is_in done t) refl refl ∙ ap (λ c. cond c (get_or more t []) (get_or opened t [])) (sym (in_push done s t))
 
-same_sums : (f g : ℕ → ℕ) (xs : List ℕ) → All (λ x. f x ≡ g x) xs → sum_by f xs ≡ sum_by g xs
-same_sums f g [] all = refl
-same_sums f g (x ∷ xs) all =
-    let one = All-head (λ x. f x ≡ g x) x xs all in
-    let more = same_sums f g xs (All-tail (λ x. f x ≡ g x) x xs all) in
-    sum_by-cons f x xs ∙ (λ k. one k + more k) ∙ sym (sum_by-cons g x xs)
+-- the tests of tuples don't depend on their order
+pub ordered_ticks : (net : Net) (stores : Stores) (s : ℕ) (rows tuples : List TupleView) → tuples ≡ sorted rows → (start end : ℕ) → end ≤ start + stream_work net stores s tuples → end ≤ start + stream_work net stores s rows
+ordered_ticks net stores s rows tuples is start end ticks =
+    let work = ap (stream_work net stores s) is ∙ sym (sum_by-IsPermutation (tuple_work net stores s) (sorted rows) rows (sort_permutes rows)) in omega (arith, ticks, work)
 
 module _ (net : Net) (layout : Layout) (stores : List (Option Store)) (opened : List (List TupleView)) (can : CanDraw net layout stores opened) (i : ℕ) (lt : i < length layout.order) where
   abbrev order : List ℕ
@@ -243,6 +242,10 @@ module _ (net : Net) (layout : Layout) (stores : List (Option Store)) (opened : 
   split : order ≡ done ++ (s ∷ drop (i + 1) order)
   split =
       sym (take-append-drop i order) ∙ ap (λ xs. take i order ++ xs) (drop-cons order i 0 lt) ∙ ap (λ (k : ℕ). take i order ++ (s ∷ drop k order)) (sym (add-one i))
+
+  -- it comes next
+  next_first : drop i order ≡ s ∷ drop (i + 1) order
+  next_first = drop-cons order i 0 lt ∙ ap (λ (k : ℕ). s ∷ drop k order) (sym (add-one i))
 
   serves : Serves net can.lines (done ++ (s ∷ drop (i + 1) order))
   serves = subst (Serves net can.lines) split can.serves
@@ -289,6 +292,24 @@ module _ (net : Net) (layout : Layout) (stores : List (Option Store)) (opened : 
       same : news_of opened draft.made done ≡ news_of opened draft.made (done ++ s ∷ [])
       same =
           sym (with_none net (held stores) s (news_of opened draft.made done)) ∙ ap (λ (rows : List TupleView). with_stream (news_of opened draft.made done) s (rows ++ [])) (unseen draft.made) ∙ step
+
+  -- it leaves the tests as they are
+  pub idle_rest : (tests : ℕ → TupleView → ℕ) (draft : Draft) (pairs : List Pair) → get_or draft.made s [] ≡ [] → DrawnUpTo net layout stores opened done draft pairs
+      → derived_tests tests net (drop i order) (held stores) (news_of opened draft.made done) ≡ derived_tests tests net (drop (i + 1) order) (held stores) (news_of opened draft.made (take (i + 1) order))
+  idle_rest tests draft pairs idle was =
+      let seen = news_of opened draft.made done in
+      let none : sum_by (tests s) [] ≡ 0 = refl in
+      let first = derived_first tests net (held stores) s (drop (i + 1) order) seen [] (permuted_from (sym idle) (was.drawn.made s)) in
+      ap (λ (ns : List ℕ). derived_tests tests net ns (held stores) seen) next_first ∙ (let bare : derived_tests tests net (s ∷ drop (i + 1) order) (held stores) seen ≡ derived_tests tests net (drop (i + 1) order) (held stores) (with_stream seen s []) = omega (arith, first, none) in bare)
+      ∙ ap (derived_tests tests net (drop (i + 1) order) (held stores)) (news_step opened draft.made draft.made done s [] idle (λ t e f. refl) ∙ ap (news_of opened draft.made) (sym (take_more order i 0 lt)))
+
+  -- the tests of what is made for the stream are among those that are left
+  pub made_within : (tests : ℕ → TupleView → ℕ) (draft : Draft) (pairs : List Pair) → DrawnUpTo net layout stores opened done draft pairs
+      → sum_by (tests s) (get_or draft.made s []) ≤ derived_tests tests net (drop i order) (held stores) (news_of opened draft.made done)
+  made_within tests draft pairs was =
+      let seen = news_of opened draft.made done in
+      let first = derived_first tests net (held stores) s (drop (i + 1) order) seen (get_or draft.made s []) (was.drawn.made s) in
+      let all = ap (λ (ns : List ℕ). derived_tests tests net ns (held stores) seen) next_first in omega (arith, first, all)
 
   -- one that is
   module _ (old new : Draft) (pairs more : List Pair) (was : DrawnUpTo net layout stores opened done old pairs) (derives : Derives net (held stores) s old new pairs more) where
@@ -405,24 +426,13 @@ module _ (net : Net) (layout : Layout) (stores : List (Option Store)) (opened : 
           ordered = ordered;
         })
 
-    -- what it adds to the tests
-    pub derived_work : streams_work net (held stores) new.made (take (i + 1) order) ≡ streams_work net (held stores) old.made done + stream_work net (held stores) s (get_or old.made s [])
-    derived_work =
-        sum_by_more work order i 0 lt
-        ∙ (λ k. same_sums work before done same k + mine k)
-      where
-        work : ℕ → ℕ
-        work t = stream_work net (held stores) t (get_or new.made t [])
-
-        before : ℕ → ℕ
-        before t = stream_work net (held stores) t (get_or old.made t [])
-
-        same : All (λ t. work t ≡ before t) done
-        same =
-            All-weaker (Contains done) (λ t. work t ≡ before t) (λ t c. let f = in_contains done t c in ap (stream_work net (held stores) t) (kept t (apart_from t f) f)) done (All-contains_itself done)
-
-        mine : work s ≡ stream_work net (held stores) s (get_or old.made s [])
-        mine = ap (stream_work net (held stores) s) own ∙ sym (sum_by-IsPermutation (tuple_work net (held stores) s) rows (get_or old.made s []) derives.same)
+    -- what it leaves of the tests
+    pub derived_rest : (tests : ℕ → TupleView → ℕ) → derived_tests tests net (drop i order) (held stores) (news_of opened old.made done)
+        ≡ sum_by (tests s) (get_or old.made s []) + derived_tests tests net (drop (i + 1) order) (held stores) (news_of opened new.made (take (i + 1) order))
+    derived_rest tests =
+        let mine = sym (sum_by-IsPermutation (tests s) rows (get_or old.made s []) derives.same) in
+        let rest = ap (derived_tests tests net (drop (i + 1) order) (held stores)) (step ∙ ap (news_of opened new.made) (sym (take_more order i 0 lt))) in
+        ap (λ (ns : List ℕ). derived_tests tests net ns (held stores) seen) next_first ∙ derived_first tests net (held stores) s (drop (i + 1) order) seen rows published_rows ∙ (λ k. mine k + rest k)
 
 -- a stream that is not marked has no tuples
 pub unmarked_none : (ts : List TupleView) (marked : List ℕ) (s : ℕ) → (ts ≡ []) ⊎ Contains marked s → (Contains marked s → ⊥) → ts ≡ []

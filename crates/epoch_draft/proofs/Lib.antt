@@ -7,6 +7,7 @@ pub mod DeriveLemmas
 pub mod DraftLemmas
 pub mod DrawnLemmas
 pub mod EdgeLemmas
+pub mod EpochLemmas
 pub mod GoingLemmas
 pub mod KeyLemmas
 pub mod Lists
@@ -21,6 +22,7 @@ pub mod SettleLemmas
 pub mod StateLemmas
 pub mod StoreLemmas
 pub mod SuitLemmas
+pub mod SumLemmas
 pub mod TypedLemmas
 pub mod TypingLemmas
 pub mod WorkLemmas

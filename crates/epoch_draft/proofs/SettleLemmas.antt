@@ -48,7 +48,8 @@ use Rattle.epoch_draft.specs.Held.{held, instances_in, shape_for, shape_of}
 use Rattle.epoch_draft.specs.Meeting.{pair_of}
 use Rattle.epoch_draft.specs.Purging.{ArePurgedIn, IsUnbound, ListsBounded, alive_in}
 use Rattle.epoch_draft.specs.Readying.{HaveRoom, HaveRoomIn}
-use Rattle.epoch_draft.specs.Settling.{AreClosed, AreLinked, AreSettled, AreTaken, IsTakenAt, PairSuits, first_of, listed_rows, row_at, takes_work, tuples_in}
+use Rattle.epoch_draft.specs.Settling.{AreClosed, AreLinked, AreSettled, AreTaken, IsTakenAt, PairSuits, first_of, listed_rows, tuples_in}
+use Rattle.epoch_draft.specs.Takes.{row_at, takes_work}
 use Rattle.epoch_draft.specs.Suits.{MeetingSuits, TupleSuits, WaitSuits}
 use Rattle.epoch_draft.specs.Typed.{IsTyped}
 use Rattle.epoch_draft.specs.declared.draft.Draft.{Draft}

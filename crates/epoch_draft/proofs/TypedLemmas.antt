@@ -1,8 +1,8 @@
 -- Stores stay typed through a closing.
-use Rattle.std.proofs.Common.{◌≡◌, ◌∙◌, sym, ap, refl, subst, ℕ, length, get_or, List, [], ◌++◌, map}
-use Rattle.std.specs.Prelude.{Option, Some, None}
+use Rattle.std.proofs.Common.{◌≡◌, ◌∙◌, sym, ap, subst, ℕ, List, ◌++◌}
+use Rattle.std.specs.Prelude.{Option, Some}
 use Rattle.std.specs.List.{All}
-use Rattle.std.proofs.lemmas.List.Elements.{All-append, All-filter, All-map, All-nil}
+use Rattle.std.proofs.lemmas.List.Elements.{All-append, All-filter}
 use Rattle.std.proofs.lemmas.List.Sorted.{All-permutation, IsPermutation-sym}
 use Rattle.event_types.specs.declared.kind.Kind.{Kind}
 use Rattle.instances.specs.Alive.{is_alive}
@@ -10,28 +10,21 @@ use Rattle.binding_index.specs.declared.store.Store.{Store}
 use Rattle.instances.specs.declared.instance.Instance.{Instance}
 use Rattle.semantics.specs.Denotation.{Streams}
 use Rattle.semantics.specs.Kinds.{HasKinds}
-use Rattle.semantics.specs.Scalars.{Pr}
-use Rattle.automaton.specs.LineKinds.{StepGives, TurnGives, WaitGives}
 use Rattle.automaton.specs.Networks.{IsNetwork}
 use Rattle.automaton.specs.States.{Net, wait_at}
-use Rattle.automaton.specs.declared.line.Hop.{Hop}
 use Rattle.automaton.specs.declared.network.Entrance.{Entrance}
-use Rattle.automaton.specs.declared.wait.Turn.{Turn}
 use Rattle.automaton.specs.declared.wait.Wait.{Wait}
 use Rattle.epoch_laws.specs.Closing.{leaving_state, stepped_by, stores_after}
 use Rattle.epoch_laws.specs.Epochs.{again, is_unmet, stepped, took, unmatched_after}
-use Rattle.epoch_laws.specs.Instances.{bindings_of, instances_entering}
-use Rattle.epoch_laws.proofs.Bindings.{passing_bindings}
-use Rattle.epoch_laws.proofs.Lists.{map_all}
-use Rattle.epoch_draft.specs.Held.{SameShapes, held, instances_in, shape_of}
+use Rattle.epoch_laws.specs.Instances.{instances_entering}
+use Rattle.epoch_draft.specs.Held.{held}
 use Rattle.epoch_draft.specs.Settling.{AreClosed}
-use Rattle.epoch_draft.specs.Typed.{HaveKinds, IsStoreOf, IsTyped}
+use Rattle.epoch_draft.specs.Typed.{HaveKinds, IsTyped}
 use Rattle.epoch_draft.proofs.StateLemmas.{at_wait, hop_typed, wait_entry, wait_typed}
 use Rattle.epoch_draft.proofs.StoreLemmas.{shaped_typed}
 use Rattle.epoch_draft.proofs.SuitLemmas.{instances_typed, leaves_kinds}
 use Rattle.epoch_draft.proofs.TypingLemmas.{entered_kinds, took_kinds}
 use Rattle.epoch_draft.proofs.ReadyLemmas.{again_kinds}
-use Rattle.epoch_draft.proofs.Lists.{some_is}
 
 module _ (net : Net) (network : IsNetwork net) (kinds : List (List Kind)) (stores : List (Option Store)) (typed : IsTyped net kinds stores) (news : Streams) (have : HaveKinds kinds news) where
   -- the instances of a waiting state after the epoch have its kinds

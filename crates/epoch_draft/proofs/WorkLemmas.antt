@@ -1,5 +1,5 @@
 -- Numbers of tests.
-use Rattle.std.proofs.Common.{◌≡◌, ◌∙◌, ap, refl, ℕ, ◌+◌, ◌<◌, ◌≤◌, Bool, true, length, get_or, take, List, [], ◌∷◌, ◌++◌, map, arith}
+use Rattle.std.proofs.Common.{◌≡◌, ◌∙◌, ap, refl, ℕ, zero, suc, ◌+◌, ◌<◌, ◌≤◌, Bool, true, length, get_or, take, List, [], ◌∷◌, ◌++◌, map, arith}
 use Rattle.std.specs.Prelude.{Option, Some, None, sum_by}
 use Rattle.std.specs.List.{All, filter, flat_map}
 use Rattle.std.specs.List.Sorted.{IsPermutation}
@@ -9,11 +9,15 @@ use Rattle.std.proofs.lemmas.List.Elements.{filter-append}
 use Rattle.std.proofs.lemmas.List.Sorted.{sum_by-IsPermutation}
 use Rattle.scalar_expr.proofs.Bags.{filter_permuted}
 use Rattle.semantics.proofs.ReportLemmas.{filter_all}
-use Rattle.std.proofs.lemmas.List.Sums.{sum_by-append, sum_by_push}
+use Rattle.std.proofs.lemmas.List.Sums.{sum_by-append, sum_by-cons, sum_by_push}
+use Rattle.event_types.specs.Tuple.{TupleView}
 use Rattle.automaton.specs.States.{Net, edges_at, ends_at, wait_at}
 use Rattle.automaton.specs.declared.wait.Turn.{Turn}
 use Rattle.automaton.specs.declared.wait.Wait.{Wait}
-use Rattle.stream_readers.specs.Ways.{Way, backs_by, backs_in, Into, Out, ways_at}
+use Rattle.stream_readers.specs.Ways.{Way, backs_by, backs_in, Into, Out, ways_at, is_state_looked_up, is_way_looked_up}
+use Rattle.stream_readers.specs.Finding.{FindsWaits, FindsWays, waits_on, ways_on}
+use Rattle.stream_readers.specs.Targets.{way_of}
+use Rattle.stream_readers.specs.declared.target.Target.{Target}
 use Rattle.epoch_draft.specs.Work.{way_work, ways_work}
 
 -- one way more
@@ -36,6 +40,24 @@ out_work net n =
     let two = sum_by-append (way_work net) (map Out (ends_at net n)) (backs_by n (wait_at net n)) in
     let three = backs_work net n (wait_at net n) in omega (arith, one, two, three)
 
+-- the ways so far and the next one are within all of them
+pub ways_part : {X : Type 0} (f : X → Way) (net : Net) (xs : List X) (i : ℕ) (d : X) → i < length xs → ways_work net (map f (take i xs)) + way_work net (f (get_or xs i d)) ≤ ways_work net (map f xs)
+ways_part f net [] i d lt = absurd (omega arith)
+ways_part f net (x ∷ xs) zero d lt = let one = sum_by-cons (way_work net) (f x) (map f xs) in omega (arith, one)
+ways_part f net (x ∷ xs) (suc i) d lt =
+    let rest = ways_part f net xs i d (omega (arith, lt)) in
+    let one = sum_by-cons (way_work net) (f x) (map f xs) in
+    let two = sum_by-cons (way_work net) (f x) (map f (take i xs)) in omega (arith, rest, one, two)
+
+-- the ways of the targets so far and of the next one are within those of all
+pub flat_part : {X : Type 0} (f : X → List Way) (net : Net) (xs : List X) (i : ℕ) (d : X) → i < length xs → ways_work net (flat_map f (take i xs)) + ways_work net (f (get_or xs i d)) ≤ ways_work net (flat_map f xs)
+flat_part f net [] i d lt = absurd (omega arith)
+flat_part f net (x ∷ xs) zero d lt = let one = sum_by-append (way_work net) (f x) (flat_map f xs) in omega (arith, one)
+flat_part f net (x ∷ xs) (suc i) d lt =
+    let rest = flat_part f net xs i d (omega (arith, lt)) in
+    let one = sum_by-append (way_work net) (f x) (flat_map f xs) in
+    let two = sum_by-append (way_work net) (f x) (flat_map f (take i xs)) in omega (arith, rest, one, two)
+
 -- the ways of one target more
 pub flat_more : {X : Type 0} (f : X → List Way) (net : Net) (xs : List X) (i : ℕ) (d : X) → i < length xs → ways_work net (flat_map f (take (i + 1) xs)) ≡ ways_work net (flat_map f (take i xs)) + ways_work net (f (get_or xs i d))
 flat_more f net xs i d lt =
@@ -49,6 +71,10 @@ found_less f p found others all same passes =
     let two = ap (sum_by f) (filter-append p found others ∙ ap (λ xs. xs ++ filter p others) (filter_all p found passes)) ∙ sum_by-append f found (filter p others) in
     omega (arith, e, two)
 
--- two parts of the work, each within its bound
-pub both_within : (start mid end a b c d : ℕ) → mid ≤ start + a → end ≤ mid + b → a ≤ c → b ≤ d → end ≤ start + (c + d)
-both_within start mid end a b c d one two three four = omega arith
+-- the targets that a tuple finds lead on ways that are looked up
+pub ways_less : (net : Net) (s : ℕ) (t : TupleView) (targets : List Target) → FindsWays net s t targets → ways_work net (flat_map (way_of net) targets) ≤ ways_work net (filter (is_way_looked_up net t) (ways_on net s))
+ways_less net s t targets finds = found_less (way_work net) (is_way_looked_up net t) (flat_map (way_of net) targets) finds.others (ways_on net s) finds.all finds.looked_up
+
+-- the states that it finds are looked up
+pub states_less : (work : ℕ → ℕ) (net : Net) (s : ℕ) (t : TupleView) (states : List ℕ) → FindsWaits net s t states → sum_by work states ≤ sum_by work (filter (is_state_looked_up net t) (waits_on net s))
+states_less work net s t states finds = found_less work (is_state_looked_up net t) states finds.others (waits_on net s) finds.all finds.looked_up

@@ -4,6 +4,7 @@ pub mod Comes
 pub mod Deriving
 pub mod Drafts
 pub mod Drawn
+pub mod EpochWork
 pub mod Held
 pub mod Kindings
 pub mod Marks
@@ -15,6 +16,7 @@ pub mod Readying
 pub mod Settling
 pub mod Stores
 pub mod Suits
+pub mod Takes
 pub mod Tests
 pub mod Typed
 pub mod Work

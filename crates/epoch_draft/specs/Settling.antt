@@ -1,5 +1,5 @@
 -- What the second half of a closing does to the stores.
-use Rattle.std.specs.Prelude.{◌≡◌, ℕ, ◌<◌, ◌==◌, not, if◌then◌else◌, IsTrue, List, [], ◌∷◌, ◌++◌, Contains, length, Option, Some, None, option_to_list, slice_get, slice_index_or, sum_by}
+use Rattle.std.specs.Prelude.{◌≡◌, ℕ, ◌<◌, ◌==◌, not, if◌then◌else◌, IsTrue, List, [], ◌∷◌, ◌++◌, Contains, length, Option, Some, None, slice_get, slice_index_or}
 use Rattle.std.specs.List.{All, filter, flat_map}
 use Rattle.std.specs.List.Sorted.{IsPermutation}
 use Rattle.event_types.specs.Tuple.{TupleView}
@@ -16,8 +16,8 @@ use Rattle.automaton.specs.States.{Net, is_used, wait_at}
 use Rattle.automaton.specs.declared.wait.Wait.{Wait}
 use Rattle.epoch_laws.specs.Closing.{Stores, stores_after}
 use Rattle.epoch_laws.specs.Epochs.{unmatched_after}
-use Rattle.epoch_draft.specs.Candidates.{candidates_at}
 use Rattle.epoch_draft.specs.Held.{SameReady, SameShapes, held}
+use Rattle.epoch_draft.specs.Takes.{row_at}
 use Rattle.epoch_draft.specs.declared.draft.Pair.{Pair}
 
 -- the first list, or the second where the first has no items
@@ -29,17 +29,9 @@ first_of (tuple ∷ tuples) made = tuple ∷ tuples
 abbrev pub tuples_in : List (List TupleView) → List (List TupleView) → Streams
 tuples_in opened made stream = first_of (slice_index_or opened stream []) (slice_index_or made stream [])
 
--- the tuple of a pair
-abbrev pub row_at : Streams → Pair → List TupleView
-row_at news pair = option_to_list (slice_get (news pair.stream) pair.place)
-
 -- the tuples with which a state is listed
 abbrev pub listed_rows : Streams → List Pair → ℕ → List TupleView
 listed_rows news pairs number = flat_map (λ pair. if pair.state == number then row_at news pair else []) pairs
-
--- the tests by which these pairs take out what matches: one for each instance that the tuple may match
-abbrev pub takes_work : Net → Streams → Stores → List Pair → ℕ
-takes_work net news stores pairs = sum_by (λ pair. sum_by (λ tuple. length (candidates_at net stores tuple pair.state)) (row_at news pair)) pairs
 
 -- the state and the tuple of a pair are there, and the tuple fits the state's condition with each instance there, and its key
 pub record PairSuits (net : Net) (news : Streams) (streams : ℕ) (stores : Stores) (pair : Pair) : Type 0 where

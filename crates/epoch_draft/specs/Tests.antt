@@ -19,7 +19,3 @@ stream_work net stores stream tuples = sum_by (tuple_work net stores stream) tup
 -- the steps of all tuples of these streams, where the lists have them by stream
 abbrev pub streams_work : Net → Stores → List (List TupleView) → List ℕ → ℕ
 streams_work net stores lists streams = sum_by (λ stream. stream_work net stores stream (slice_index_or lists stream [])) streams
-
--- the steps of the open tuples of some streams, and of the tuples that are made for others
-abbrev pub drawn_work : Net → Stores → List (List TupleView) → List ℕ → List (List TupleView) → List ℕ → ℕ
-drawn_work net stores opened touched made order = streams_work net stores opened touched + streams_work net stores made order

@@ -1,6 +1,7 @@
 //! The tuples of an epoch, stream by stream.
 ghost use Rattle.std.specs.Prelude.{◌≡◌, ◌+◌, ◌<◌, ◌≤◌, ℕ, [], OnOk, length, slice_index_or};
 ghost use Rattle.std.specs.List.{All};
+ghost use Rattle.semantics.specs.Denotation.{streams_of};
 ghost use Rattle.automaton.specs.Networks.{IsNetwork};
 ghost use Rattle.stream_readers.specs.Readers.{AreReadersOf};
 ghost use Rattle.epoch_draft.specs.Deriving.{AreOpened, AreReadersOfAll, CanDraw, Derives, DrawnUpTo};
@@ -10,7 +11,8 @@ ghost use Rattle.epoch_draft.specs.Held.{held};
 ghost use Rattle.epoch_draft.specs.Readying.{HaveKeys};
 ghost use Rattle.epoch_draft.specs.Stores.{HasStores};
 ghost use Rattle.epoch_draft.specs.Suits.{TupleSuits};
-ghost use Rattle.epoch_draft.specs.Tests.{drawn_work, stream_work, streams_work};
+ghost use Rattle.epoch_draft.specs.EpochWork.{derived_work, draw_work};
+ghost use Rattle.epoch_draft.specs.Tests.{stream_work, streams_work};
 
 use crate::agenda::{Agenda, plan};
 use crate::draft::{Draft, Lists, Pairs};
@@ -48,7 +50,7 @@ pub fn draw<L: Ledger>(
     requires no_pairs { pairs.old ≡ [] }
     ensures drawn { OnOk result (DrawnUpTo network.now layout.now stores.now opened.now layout.now.order draft.new pairs.new) }
     ensures keys { OnOk result (HaveKeys stores.now draft.new.beads) }
-    ensures ticks { OnOk result (steps.new ≤ steps.old + drawn_work network.now (held stores.now) opened.now touched.now draft.new.made layout.now.order) }
+    ensures ticks { steps.new ≤ steps.old + draw_work network.now layout.now (held stores.now) (streams_of opened.now) }
 {
     meet_opened(
         alloc, network, layout, readers, stores, opened, touched, found, draft, pairs, steps,
@@ -80,7 +82,7 @@ fn meet_opened<L: Ledger>(
     requires no_beads { (state : ℕ) → slice_index_or draft.old.beads state [] ≡ [] }
     requires no_pairs { pairs.old ≡ [] }
     ensures drawn { OnOk result (DrawnUpTo network.now layout.now stores.now opened.now [] draft.new pairs.new) }
-    ensures ticks { OnOk result (steps.new ≤ steps.old + streams_work network.now (held stores.now) opened.now touched.now) }
+    ensures ticks { steps.new ≤ steps.old + streams_work network.now (held stores.now) opened.now touched.now }
 {
     for stream in touched {
         meet_stream(
@@ -118,7 +120,7 @@ fn derive<L: Ledger>(
     requires places { ArePlaces layout.now.order (length layout.now.kinds) places.now }
     requires drawn { DrawnUpTo network.now layout.now stores.now opened.now [] draft.old pairs.old }
     ensures drawn { OnOk result (DrawnUpTo network.now layout.now stores.now opened.now layout.now.order draft.new pairs.new) }
-    ensures ticks { OnOk result (steps.new ≤ steps.old + streams_work network.now (held stores.now) draft.new.made layout.now.order) }
+    ensures ticks { steps.new ≤ steps.old + derived_work network.now layout.now.order (held stores.now) (streams_of opened.now) }
 {
     let end = layout.order.len();
     let mut agenda = Agenda::new(alloc);
@@ -158,7 +160,7 @@ fn derive_stream<L: Ledger>(
     requires fits { DraftFits (length draft.old.made) (length network.now) draft.old }
     requires suits { All (TupleSuits network.now (held stores.now) stream) (slice_index_or draft.old.made stream []) }
     ensures derives { OnOk result (Derives network.now (held stores.now) stream draft.old draft.new pairs.old pairs.new) }
-    ensures ticks { OnOk result (steps.new ≤ steps.old + stream_work network.now (held stores.now) stream (slice_index_or draft.old.made stream [])) }
+    ensures ticks { steps.new ≤ steps.old + stream_work network.now (held stores.now) stream (slice_index_or draft.old.made stream []) }
 {
     let mut tuples = draft.take_made(alloc, stream);
     put_in_order(&mut tuples);

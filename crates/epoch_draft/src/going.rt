@@ -80,7 +80,7 @@ fn go_into_all<L: Ledger>(
     requires fits { DraftFits (length draft.old.made) (length network.now) draft.old }
     requires suits { All (λ state. StepSuits (step_at network.now state) instance.now.tuple) states.now }
     ensures grows { OnOk result (Grows network.now (moves_on (map Into states.now) instance.now) draft.old draft.new) }
-    ensures ticks { OnOk result (steps.new ≤ steps.old + ways_work network.now (map Into states.now)) }
+    ensures ticks { steps.new ≤ steps.old + ways_work network.now (map Into states.now) }
 {
     for state in states {
         go_into(
@@ -109,7 +109,7 @@ fn go_out_all<L: Ledger>(
     requires fits { DraftFits (length draft.old.made) (length network.now) draft.old }
     requires suits { All (λ end. StepSuits end.step instance.now.tuple) ends.now }
     ensures grows { OnOk result (Grows network.now (moves_on (map Out ends.now) instance.now) draft.old draft.new) }
-    ensures ticks { OnOk result (steps.new ≤ steps.old + ways_work network.now (map Out ends.now)) }
+    ensures ticks { steps.new ≤ steps.old + ways_work network.now (map Out ends.now) }
 {
     for end in ends {
         go_out(alloc, draft, end, &instance.tuple, steps)?;
@@ -135,7 +135,7 @@ pub(crate) fn leave<L: Ledger>(
     requires fits { DraftFits (length draft.old.made) (length network.now) draft.old }
     requires suits { LeavingSuits network.now state instance.tuple }
     ensures grows { OnOk result (Grows network.now (moves_on (ways_at network.now state) instance) draft.old draft.new) }
-    ensures ticks { OnOk result (steps.new ≤ steps.old + ways_work network.now (ways_at network.now state)) }
+    ensures ticks { steps.new ≤ steps.old + ways_work network.now (ways_at network.now state) }
 {
     go_into_all(
         alloc,

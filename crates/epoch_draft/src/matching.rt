@@ -86,7 +86,7 @@ fn meet_instance<L: Ledger>(
     requires suits { WaitSuits wait.now instance.now.tuple tuple.now }
     requires leaving { All (λ made. LeavingSuits network.now state made.tuple) (paired_with wait.now tuple.now instance.now) }
     ensures grows { OnOk result (Grows network.now (moves_from network.now state (paired_with wait.now tuple.now instance.now)) draft.old draft.new) }
-    ensures ticks { OnOk result (steps.new ≤ steps.old + binding_work network.now state wait.now tuple.now instance.now) }
+    ensures ticks { steps.new ≤ steps.old + binding_work network.now state wait.now tuple.now instance.now }
 {
     match pair_up(alloc, wait, &instance.tuple, tuple, steps)? {
         Some(made) => {
@@ -119,7 +119,7 @@ fn meet_instances<L: Ledger>(
     requires suits { All (λ instance. WaitSuits wait.now instance.tuple tuple.now) instances }
     requires leaving { All (λ made. LeavingSuits network.now state made.tuple) (met wait.now instances tuple.now) }
     ensures grows { OnOk result (Grows network.now (moves_from network.now state (met wait.now instances.entry tuple.now)) draft.old draft.new) }
-    ensures ticks { OnOk result (steps.new ≤ steps.old + sum_by (binding_work network.now state wait.now tuple.now) instances.entry) }
+    ensures ticks { steps.new ≤ steps.old + sum_by (binding_work network.now state wait.now tuple.now) instances.entry }
 {
     while let Some(instance) = instances.next() {
         meet_instance(alloc, network, draft, state, wait, instance, tuple, steps)?;
@@ -145,7 +145,7 @@ pub(crate) fn meet_wait<L: Ledger>(
     requires fits { DraftFits (length draft.old.made) (length network.now) draft.old }
     requires suits { MeetingSuits network.now (held stores.now) tuple.now state }
     ensures grows { OnOk result (Grows network.now (moves_from network.now state (met_at network.now (held stores.now) tuple.now state)) draft.old draft.new) }
-    ensures ticks { OnOk result (steps.new ≤ steps.old + state_work network.now (held stores.now) tuple.now state) }
+    ensures ticks { steps.new ≤ steps.old + state_work network.now (held stores.now) tuple.now state }
 {
     let Some(wait) = network.wait(state) else {
         return Ok(());

@@ -48,7 +48,7 @@ fn meet_waits<L: Ledger>(
     requires suits { All (MeetingSuits network.now (held stores.now) tuple.now) states.now }
     ensures grows { OnOk result (Grows network.now (moves_met network.now (held stores.now) tuple.now states.now) draft.old draft.new) }
     ensures pairs { OnOk result (pairs.new ≡ pairs.old ++ map (pair_of stream place) states.now) }
-    ensures ticks { OnOk result (steps.new ≤ steps.old + sum_by (state_work network.now (held stores.now) tuple.now) states.now) }
+    ensures ticks { steps.new ≤ steps.old + sum_by (state_work network.now (held stores.now) tuple.now) states.now }
 {
     for state in states {
         add(
@@ -78,7 +78,7 @@ fn go_all<L: Ledger>(
     requires fits { DraftFits (length draft.old.made) (length network.now) draft.old }
     requires suits { All (λ target. All (WaySuits network.now tuple.now) (way_of network.now target)) targets.now }
     ensures grows { OnOk result (Grows network.now (moves_on (flat_map (way_of network.now) targets.now) (begins tuple.now)) draft.old draft.new) }
-    ensures ticks { OnOk result (steps.new ≤ steps.old + ways_work network.now (flat_map (way_of network.now) targets.now)) }
+    ensures ticks { steps.new ≤ steps.old + ways_work network.now (flat_map (way_of network.now) targets.now) }
 {
     for target in targets {
         go(alloc, network, draft, *target, tuple, steps)?;
@@ -100,7 +100,7 @@ fn go<L: Ledger>(
     requires fits { DraftFits (length draft.old.made) (length network.now) draft.old }
     requires suits { All (WaySuits network.now tuple.now) (way_of network.now target) }
     ensures grows { OnOk result (Grows network.now (moves_on (way_of network.now target) (begins tuple.now)) draft.old draft.new) }
-    ensures ticks { OnOk result (steps.new ≤ steps.old + ways_work network.now (way_of network.now target)) }
+    ensures ticks { steps.new ≤ steps.old + ways_work network.now (way_of network.now target) }
 {
     match target {
         Target::Edge(state) => { go_into(alloc, network, draft, state, tuple, tuple.at(), steps) }
@@ -134,7 +134,7 @@ fn meet_tuple<L: Ledger>(
     requires suits { TupleSuits network.now (held stores.now) stream tuple.now }
     ensures grows { OnOk result (Grows network.now (moves_of network.now (held stores.now) stream tuple.now) draft.old draft.new) }
     ensures lists { OnOk result (Lists network.now stream place tuple.now pairs.old pairs.new) }
-    ensures ticks { OnOk result (steps.new ≤ steps.old + tuple_work network.now (held stores.now) stream tuple.now) }
+    ensures ticks { steps.new ≤ steps.old + tuple_work network.now (held stores.now) stream tuple.now }
 {
     readers.find_targets(stream, tuple, found)?;
     go_all(
@@ -183,7 +183,7 @@ pub(crate) fn meet_stream<L: Ledger>(
     requires suits { All (TupleSuits network.now (held stores.now) stream) tuples.now }
     ensures grows { OnOk result (Grows network.now (moves_of_all network.now (held stores.now) stream tuples.now) draft.old draft.new) }
     ensures lists { OnOk result (ListsAll network.now stream tuples.now pairs.old pairs.new) }
-    ensures ticks { OnOk result (steps.new ≤ steps.old + stream_work network.now (held stores.now) stream tuples.now) }
+    ensures ticks { steps.new ≤ steps.old + stream_work network.now (held stores.now) stream tuples.now }
 {
     for (place, tuple) in tuples.iter().enumerate() {
         meet_tuple(

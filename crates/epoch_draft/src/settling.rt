@@ -18,7 +18,8 @@ ghost use Rattle.epoch_draft.specs.Held.{held, instances_in, key_in, shape_of};
 ghost use Rattle.epoch_draft.specs.Purging.{AreUsedIn, ListsBounded};
 ghost use Rattle.epoch_draft.specs.Readying.{HasRoom, HaveRoom, HaveRoomIn};
 ghost use Rattle.epoch_draft.specs.Stores.{HasStores};
-ghost use Rattle.epoch_draft.specs.Settling.{AreClosed, AreLinked, AreSettled, AreTaken, IsTakenAt, PairSuits, takes_work, tuples_in};
+ghost use Rattle.epoch_draft.specs.Settling.{AreClosed, AreLinked, AreSettled, AreTaken, IsTakenAt, PairSuits, tuples_in};
+ghost use Rattle.epoch_draft.specs.Takes.{takes_work};
 
 use crate::draft::{Beads, Draft, Lists, Pair, Pairs};
 use crate::purging::{purge_listed, purge_paired};

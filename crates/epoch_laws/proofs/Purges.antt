@@ -194,7 +194,8 @@ module _ (now : ℕ) (p : List Pr) (turn : Option Turn) where
       none b e None = ap (map (joined b)) (unmet b e)
       none b e (Some t) = ap (λ rs. map (rebound t.set.parts b) (filter (λ r. all_true t.on r (Some b)) rs)) (unmet b e)
 
-  taken_permuted : (news new : List TupleView) → IsPermutation news new → (b : TupleView) → IsPermutation (taken p turn news b) (taken p turn new b)
+  -- what a binding gives over the same tuples, up to order
+  pub taken_permuted : (news new : List TupleView) → IsPermutation news new → (b : TupleView) → IsPermutation (taken p turn news b) (taken p turn new b)
   taken_permuted news new h b = go turn
     where
       found : IsPermutation (filter (is_eligible p b) news) (filter (is_eligible p b) new)

@@ -5,9 +5,9 @@ use Rattle.epoch_draft.specs.Agenda.{AreFrom, IsPlanned}
 use Rattle.epoch_draft.specs.Deriving.{Derives}
 use Rattle.epoch_draft.specs.Held.{held}
 use Rattle.epoch_draft.specs.Suits.{TupleSuits}
-use Rattle.epoch_draft.specs.Tests.{stream_work}
-use Rattle.epoch_draft.proofs.AgendaLemmas.{ended_until, first_within, fresh_below, fresh_part, planned_next, popped_until, rest_within, work_to}
-use Rattle.epoch_draft.proofs.DeriveLemmas.{below, derived_step, derived_work, made_suits}
+use Rattle.epoch_draft.specs.Tests.{stream_work, tuple_work}
+use Rattle.epoch_draft.proofs.AgendaLemmas.{ended_until, first_within, fresh_below, fresh_part, planned_next, popped_left, popped_until, rest_within}
+use Rattle.epoch_draft.proofs.DeriveLemmas.{below, derived_rest, derived_step, made_suits, made_within}
 use Rattle.epoch_draft.proofs.MarkLemmas.{all_below}
 use Rattle.epoch_draft.proofs.StoreLemmas.{typed_has}
 use Rattle.epoch_draft.proofs.drawing.derive.Goals as goal
@@ -94,9 +94,10 @@ loop-place-preserved g c =
       until = derived_step net layout stores opened can p lt old new pairs more until derives;
       ticks =
           let was = c.loop-place.invariant.ticks in
-          let idle = work_to net stores old.made layout.order c.loop-place.next p from (omega (arith, lt)) in
-          let one = subst (λ (s : ℕ). c.derive_stream.new.steps ≤ c.loop-place.steps + stream_work net (held stores) s (get_or old.made s [])) (sym is) c.in_ok-derive_stream.ensures.ticks in
-          let all = derived_work net layout stores opened can p lt old new pairs more until derives in omega (arith, was, idle, one, all);
+          let tests = tuple_work net (held stores) in
+          let left = popped_left net layout stores opened can old pairs tests c.loop-place.next p keys rest c.loop-place.invariant.planned removal c.in-Some.ensures.all_above from lt c.loop-place.invariant.until in
+          let one = subst (λ (s : ℕ). c.derive_stream.new.steps ≤ c.loop-place.steps + stream_work net (held stores) s (get_or old.made s [])) (sym is) c.derive_stream.ensures.ticks in
+          let all = derived_rest net layout stores opened can p lt old new pairs more until derives tests in omega (arith, was, left, one, all);
       within = subst (λ (end : ℕ). AreFrom (p + 1) end now) c.len-end.ensures c.in_ok-plan-2.ensures.within;
       planned =
           planned_next layout.order (length layout.kinds) c.args.places.now keys rest now old.due.numbers derives.due.added new.due.numbers c.loop-place.next p c.requires.places c.loop-place.invariant.planned from removal c.in_ok-plan-2.ensures.kept
@@ -110,3 +111,52 @@ pub returns-clause-drawn : goal.returns-clause-drawn
 returns-clause-drawn g c =
     ended_until c.args.network.now c.args.layout.now c.args.stores.now c.args.opened.now c.requires.can_draw c.loop-place.draft c.loop-place.pairs c.loop-place.next c.loop-place.agenda.keys c.loop-place.invariant.planned
     (λ some. absurd (let no = c.in_default.ensures.variant.1 some in cc)) c.loop-place.invariant.below c.loop-place.invariant.until
+
+-- want of memory comes after some of the tests
+pub returns-in_err-derive_stream-clause-ticks : goal.returns-in_err-derive_stream-clause-ticks
+returns-in_err-derive_stream-clause-ticks g c =
+    let net = c.args.network.now in
+    let layout = c.args.layout.now in
+    let stores = c.args.stores.now in
+    let opened = c.args.opened.now in
+    let can = c.requires.can_draw in
+    let p = c.in-Some.place in
+    let keys = c.loop-place.agenda.keys in
+    let rest = c.pop_first.new.self.keys in
+    let old = c.loop-place.draft in
+    let pairs = c.loop-place.pairs in
+    let planned = c.loop-place.invariant.planned in
+    let removal = c.in-Some.ensures.removal in
+    let above = c.in-Some.ensures.all_above in
+    let within = first_within c.loop-place.next (length layout.order) p keys rest removal c.loop-place.invariant.within in
+    let is = get_or_from_slice_get layout.order p c.get-stream.result.now 0 c.get-stream.ensures in
+    let until = popped_until net layout stores opened can old pairs c.loop-place.next p keys rest planned removal above within.0 within.1 c.loop-place.invariant.until in
+    let tests = tuple_work net (held stores) in
+    let was = c.loop-place.invariant.ticks in
+    let left = popped_left net layout stores opened can old pairs tests c.loop-place.next p keys rest planned removal above within.0 within.1 c.loop-place.invariant.until in
+    let one = subst (λ (s : ℕ). c.derive_stream.new.steps ≤ c.loop-place.steps + stream_work net (held stores) s (get_or old.made s [])) (sym is) c.derive_stream.ensures.ticks in
+    let made = made_within net layout stores opened can p within.1 tests old pairs until in omega (arith, was, left, one, made)
+
+pub returns-in_err-plan-2-clause-ticks : goal.returns-in_err-plan-2-clause-ticks
+returns-in_err-plan-2-clause-ticks g c =
+    let net = c.args.network.now in
+    let layout = c.args.layout.now in
+    let stores = c.args.stores.now in
+    let opened = c.args.opened.now in
+    let can = c.requires.can_draw in
+    let p = c.in-Some.place in
+    let keys = c.loop-place.agenda.keys in
+    let rest = c.pop_first.new.self.keys in
+    let old = c.loop-place.draft in
+    let pairs = c.loop-place.pairs in
+    let planned = c.loop-place.invariant.planned in
+    let removal = c.in-Some.ensures.removal in
+    let above = c.in-Some.ensures.all_above in
+    let within = first_within c.loop-place.next (length layout.order) p keys rest removal c.loop-place.invariant.within in
+    let is = get_or_from_slice_get layout.order p c.get-stream.result.now 0 c.get-stream.ensures in
+    let until = popped_until net layout stores opened can old pairs c.loop-place.next p keys rest planned removal above within.0 within.1 c.loop-place.invariant.until in
+    let tests = tuple_work net (held stores) in
+    let was = c.loop-place.invariant.ticks in
+    let left = popped_left net layout stores opened can old pairs tests c.loop-place.next p keys rest planned removal above within.0 within.1 c.loop-place.invariant.until in
+    let one = subst (λ (s : ℕ). c.derive_stream.new.steps ≤ c.loop-place.steps + stream_work net (held stores) s (get_or old.made s [])) (sym is) c.derive_stream.ensures.ticks in
+    let made = made_within net layout stores opened can p within.1 tests old pairs until in omega (arith, was, left, one, made)

@@ -1,9 +1,10 @@
 use Rattle.std.proofs.Common.{◌+◌, ◌-◌, ◌≤◌, length, take}
+use Rattle.semantics.specs.Denotation.{streams_of}
 use Rattle.epoch_draft.specs.Agenda.{AreFrom}
 use Rattle.epoch_draft.specs.Deriving.{DrawnUpTo}
 use Rattle.epoch_draft.specs.Held.{held}
-use Rattle.epoch_draft.specs.Tests.{streams_work}
-use Rattle.epoch_draft.proofs.AgendaLemmas.{AllPlanned}
+use Rattle.epoch_draft.specs.EpochWork.{derived_work}
+use Rattle.epoch_draft.proofs.AgendaLemmas.{AllPlanned, work_left}
 use Rattle.epoch_draft.proofs.drawing.derive.Given as goal
 
 -- the streams so far are derived, and each later one that is due is planned
@@ -11,7 +12,7 @@ abbrev pub invariant-loop-place : goal.invariant-loop-place
 invariant-loop-place g l = record {
   below : l.next ≤ length l.layout.order;
   until : DrawnUpTo l.network l.layout l.stores l.opened (take l.next l.layout.order) l.draft l.pairs;
-  ticks : l.steps ≤ l.initial.steps + streams_work l.network (held l.stores) l.draft.made (take l.next l.layout.order);
+  ticks : l.steps + work_left l.network l.layout l.stores l.opened l.draft l.next ≤ l.initial.steps + derived_work l.network l.layout.order (held l.stores) (streams_of l.opened);
   within : AreFrom l.next (length l.layout.order) l.agenda.keys;
   planned : AllPlanned l.layout.order l.draft.due.numbers l.next l.agenda.keys;
 }

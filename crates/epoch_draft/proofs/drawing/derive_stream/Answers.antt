@@ -1,7 +1,7 @@
-use Rattle.std.proofs.Common.{◌≡◌, ◌∙◌, sym, ap, subst, ℕ, ◌+◌, ◌≤◌, [], List, length, get_or, set}
+use Rattle.std.proofs.Common.{◌≡◌, ◌∙◌, sym, ap, subst, ℕ, [], List, length, get_or, set}
 use Rattle.std.specs.List.{All}
 use Rattle.std.proofs.lemmas.List.{length-set}
-use Rattle.std.proofs.lemmas.List.Sorted.{All-permutation, IsPermutation-sym, sum_by-IsPermutation}
+use Rattle.std.proofs.lemmas.List.Sorted.{All-permutation, IsPermutation-sym}
 use Rattle.event_types.specs.Order.{sorted}
 use Rattle.event_types.specs.Tuple.{TupleView}
 use Rattle.scalar_expr.proofs.Bags.{permuted_from}
@@ -11,10 +11,9 @@ use Rattle.epoch_draft.specs.Held.{held}
 use Rattle.epoch_draft.specs.Marks.{MarksMore}
 use Rattle.epoch_draft.specs.Meeting.{ListsAll, moves_of_all}
 use Rattle.epoch_draft.specs.Suits.{TupleSuits}
-use Rattle.epoch_draft.specs.Tests.{stream_work, tuple_work}
 use Rattle.epoch_draft.specs.declared.draft.Draft.{Draft}
-use Rattle.epoch_draft.proofs.DeriveLemmas.{sort_permutes, sort_twice}
-use Rattle.epoch_draft.proofs.Lists.{ok_holds, on_ok_four}
+use Rattle.epoch_draft.proofs.DeriveLemmas.{ordered_ticks, sort_permutes, sort_twice}
+use Rattle.epoch_draft.proofs.Lists.{on_ok_four}
 use Rattle.epoch_draft.proofs.MarkLemmas.{marks_trans}
 use Rattle.epoch_draft.proofs.drawing.derive_stream.Goals as goal
 
@@ -54,15 +53,15 @@ returns-clause-derives g c =
       lists = subst (λ (ts : List TupleView). ListsAll net s ts c.args.pairs.now c.meet_stream.new.pairs) c.as_slice.ensures c.in_ok-meet_stream.ensures.lists;
     }) c.put_made.ensures.made c.put_made.ensures.beads c.put_made.ensures.due c.put_made.ensures.fits
 
+-- the order of the tuples is nothing to their tests
+pub returns-in_err-meet_stream-clause-ticks : goal.returns-in_err-meet_stream-clause-ticks
+returns-in_err-meet_stream-clause-ticks g c =
+    let rows = get_or c.args.draft.now.made c.args.stream [] in
+    let is : c.as_slice.result.now ≡ sorted rows = c.as_slice.ensures ∙ c.put_in_order.ensures ∙ ap sorted c.take_made-tuples.ensures.value in
+    ordered_ticks c.args.network.now (held c.args.stores.now) c.args.stream rows c.as_slice.result.now is c.args.steps.now c.meet_stream.new.steps c.meet_stream.ensures.ticks
+
 pub returns-clause-ticks : goal.returns-clause-ticks
 returns-clause-ticks g c =
-    let net = c.args.network.now in
-    let stores = held c.args.stores.now in
-    let s = c.args.stream in
-    let rows = get_or c.args.draft.now.made s [] in
-    let start : ℕ = c.args.steps.now in
-    let end : ℕ = c.meet_stream.new.steps in
+    let rows = get_or c.args.draft.now.made c.args.stream [] in
     let is : c.as_slice.result.now ≡ sorted rows = c.as_slice.ensures ∙ c.put_in_order.ensures ∙ ap sorted c.take_made-tuples.ensures.value in
-    let work : stream_work net stores s (sorted rows) ≡ stream_work net stores s rows = sym (sum_by-IsPermutation (tuple_work net stores s) (sorted rows) rows (sort_permutes rows)) in
-    ok_holds c.put_made.result (end ≤ start + stream_work net stores s rows)
-    (subst (λ (n : ℕ). end ≤ start + n) work (subst (λ (ts : List TupleView). end ≤ start + stream_work net stores s ts) is c.in_ok-meet_stream.ensures.ticks))
+    ordered_ticks c.args.network.now (held c.args.stores.now) c.args.stream rows c.as_slice.result.now is c.args.steps.now c.meet_stream.new.steps c.meet_stream.ensures.ticks

@@ -1,8 +1,11 @@
+use Rattle.std.proofs.Common.{arith}
 use Rattle.epoch_draft.specs.Deriving.{DrawnUpTo}
 use Rattle.epoch_draft.specs.Readying.{HaveKeys}
 use Rattle.epoch_draft.proofs.Lists.{on_ok}
 use Rattle.epoch_draft.proofs.ReadyLemmas.{beads_have_keys}
 use Rattle.epoch_draft.proofs.drawing.draw.Goals as goal
+use Rattle.epoch_draft.specs.Held.{held}
+use Rattle.epoch_draft.proofs.EpochLemmas.{heard_within}
 
 pub returns-clause-keys : goal.returns-clause-keys
 returns-clause-keys g c =
@@ -13,3 +16,16 @@ returns-clause-keys g c =
     let draft = c.derive.new.draft in
     let pairs = c.derive.new.pairs in
     on_ok c.derive.result (DrawnUpTo net layout stores opened layout.order draft pairs) (HaveKeys stores draft.beads) (beads_have_keys net layout stores opened c.requires.can_draw layout.order draft pairs) c.derive.ensures.drawn
+
+-- no more is tested than the tuples that are touched
+pub returns-in_err-meet_opened-clause-ticks : goal.returns-in_err-meet_opened-clause-ticks
+returns-in_err-meet_opened-clause-ticks g c =
+    let heard = heard_within c.args.network.now c.args.layout.now (held c.args.stores.now) c.args.opened.now c.args.touched.now c.requires.touched c.requires.can_draw.as_many in
+    let one = c.meet_opened.ensures.ticks in omega (arith, heard, one)
+
+-- and those that are derived
+pub returns-clause-ticks : goal.returns-clause-ticks
+returns-clause-ticks g c =
+    let heard = heard_within c.args.network.now c.args.layout.now (held c.args.stores.now) c.args.opened.now c.args.touched.now c.requires.touched c.requires.can_draw.as_many in
+    let one = c.meet_opened.ensures.ticks in
+    let two = c.derive.ensures.ticks in omega (arith, heard, one, two)

@@ -8,7 +8,7 @@ use Rattle.epoch_draft.specs.Drafts.{DraftFits, Grows}
 use Rattle.epoch_draft.specs.Drawn.{Drawn, Paired}
 use Rattle.epoch_draft.specs.Held.{held}
 use Rattle.epoch_draft.specs.Meeting.{ListsAll, moves_of_all}
-use Rattle.std.proofs.lemmas.List.Sums.{sum_by_more}
+use Rattle.std.proofs.lemmas.List.Sums.{sum_by_more, sum_by_more_le}
 use Rattle.epoch_draft.specs.Suits.{TupleSuits}
 use Rattle.epoch_draft.specs.Tests.{stream_work}
 use Rattle.epoch_draft.proofs.DeriveLemmas.{opened_drawn, opened_more, paired_none, rows_suit}
@@ -78,3 +78,17 @@ returns-clause-drawn g c =
     opened_drawn net c.args.layout.now stores opened touched c.loop-stream.draft c.loop-stream.pairs c.requires.can_draw c.requires.touched c.loop-stream.invariant.fits
     (subst (λ (xs : List ℕ). Drawn net (held stores) (opened_of opened xs) c.loop-stream.draft) all c.loop-stream.invariant.drawn)
     (subst (λ (xs : List ℕ). Paired net (opened_of opened xs) c.loop-stream.pairs) all c.loop-stream.invariant.paired)
+
+-- want of memory comes after some of the tests
+pub returns-in_err-meet_stream-clause-ticks : goal.returns-in_err-meet_stream-clause-ticks
+returns-in_err-meet_stream-clause-ticks g c =
+    let net = c.args.network.now in
+    let stores = held c.args.stores.now in
+    let opened = c.args.opened.now in
+    let touched = c.args.touched.now in
+    let i = c.loop-stream.stream-index in
+    let s = get_or touched i 0 in
+    let is : c.as_slice.result.now ≡ get_or opened s [] = c.as_slice.ensures ∙ sym (get_or_from_slice_get opened s c.get.result.now [] c.get.ensures) in
+    let part = sum_by_more_le (λ s. stream_work net stores s (get_or opened s [])) touched i 0 c.loop-stream-test.true in
+    let was = c.loop-stream.invariant.ticks in
+    let one = subst (λ (ts : List TupleView). c.meet_stream.new.steps ≤ c.loop-stream.steps + stream_work net stores s ts) is c.meet_stream.ensures.ticks in omega (arith, part, was, one)

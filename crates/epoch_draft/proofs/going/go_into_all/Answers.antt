@@ -1,7 +1,7 @@
 use Rattle.std.proofs.Common.{arith}
 use Rattle.stream_readers.specs.Ways.{Into}
 use Rattle.epoch_draft.proofs.GoingLemmas.{go_more}
-use Rattle.epoch_draft.proofs.WorkLemmas.{ways_more}
+use Rattle.epoch_draft.proofs.WorkLemmas.{ways_more, ways_part}
 use Rattle.epoch_draft.proofs.going.go_into_all.Goals as goal
 
 -- one state more
@@ -18,3 +18,10 @@ loop-state-preserved g c =
       grows = go_more Into net states i 0 c.args.instance.now c.args.draft.now c.loop-state.draft c.go_into.new.draft lt c.loop-state.invariant.grows c.in_ok-go_into.ensures.grows;
       ticks = omega (arith, more, was, one);
     }
+
+-- want of memory comes after some of the tests
+pub returns-in_err-go_into-clause-ticks : goal.returns-in_err-go_into-clause-ticks
+returns-in_err-go_into-clause-ticks g c =
+    let part = ways_part Into c.args.network.now c.args.states.now c.loop-state.state-index 0 c.loop-state-test.true in
+    let was = c.loop-state.invariant.ticks in
+    let one = c.go_into.ensures.ticks in omega (arith, part, was, one)

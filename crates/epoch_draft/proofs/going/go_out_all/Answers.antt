@@ -5,7 +5,7 @@ use Rattle.epoch_draft.specs.Drafts.{Grows}
 use Rattle.epoch_draft.specs.Moves.{moves_on}
 use Rattle.epoch_draft.specs.Work.{keeps}
 use Rattle.epoch_draft.proofs.GoingLemmas.{go_more}
-use Rattle.epoch_draft.proofs.WorkLemmas.{ways_more}
+use Rattle.epoch_draft.proofs.WorkLemmas.{ways_more, ways_part}
 use Rattle.epoch_draft.proofs.going.go_out_all.Goals as goal
 
 -- one end more
@@ -25,3 +25,11 @@ loop-end-preserved g c =
           (subst (λ (e : End). Grows net (moves_on (Out e ∷ []) c.args.instance.now) c.loop-end.draft c.go_out.new.draft) c.end-item.is (c.in_ok-go_out.ensures.grows net c.args.instance.now.first c.loop-end.invariant.grows.fits.beads));
       ticks = omega (arith, more, was, one);
     }
+
+-- want of memory comes after some of the tests
+pub returns-in_err-go_out-clause-ticks : goal.returns-in_err-go_out-clause-ticks
+returns-in_err-go_out-clause-ticks g c =
+    let end = c.end-item.result in
+    let part = ways_part Out c.args.network.now c.args.ends.now c.loop-end.end-index end c.loop-end-test.true in
+    let was = c.loop-end.invariant.ticks in
+    let one = subst (λ (e : End). c.go_out.new.steps ≤ c.loop-end.steps + keeps e.step) c.end-item.is c.go_out.ensures.ticks in omega (arith, part, was, one)

@@ -1,4 +1,4 @@
-use Rattle.std.proofs.Common.{◌≡◌, ◌∙◌, sym, subst, ℕ, ◌<◌, ◌∷◌, [], length, get_or, set, List, IsTrue, map}
+use Rattle.std.proofs.Common.{◌≡◌, ◌∙◌, sym, subst, ℕ, ◌<◌, ◌∷◌, [], length, get_or, set, List, IsTrue, map, ◌+◌, ◌≤◌, arith}
 use Rattle.std.specs.Prelude.{Option}
 use Rattle.std.specs.List.{All}
 use Rattle.automaton.specs.declared.network.End.{End}
@@ -13,6 +13,8 @@ use Rattle.epoch_draft.proofs.Lists.{on_ok_four}
 use Rattle.stream_readers.proofs.TargetLemmas.{edges_used}
 use Rattle.epoch_draft.proofs.GoingLemmas.{into_suits, left_all, out_suits, used_below}
 use Rattle.epoch_draft.proofs.going.leave.Goals as goal
+use Rattle.epoch_draft.specs.Work.{ways_work}
+use Rattle.epoch_draft.proofs.WorkLemmas.{out_work}
 
 pub go_into_all-requires-clause-used : goal.go_into_all-requires-clause-used
 go_into_all-requires-clause-used g c =
@@ -58,3 +60,32 @@ returns-in-None-clause-grows g c =
     let out = subst (λ (es : List End). Grows net (moves_on (map Out es) x) one mid) (c.as_slice-2.ensures ∙ c.ends.ensures) c.in_ok-go_out_all.ensures.grows in
     left_all net n wait x c.args.draft.now one mid mid c.requires.wait into out
     (subst (λ (o : Option Turn). Grows net (moves_on (backs_in n o) x) mid mid) (sym c.in-None.is) (grows_none net mid (subst (λ (m : ℕ). DraftFits m (length net) mid) (sym out.fits.made) out.fits)))
+
+-- want of memory comes after some of the tests
+pub returns-in_err-go_into_all-clause-ticks : goal.returns-in_err-go_into_all-clause-ticks
+returns-in_err-go_into_all-clause-ticks g c =
+    let net = c.args.network.now in
+    let one = subst (λ (ks : List ℕ). c.go_into_all.new.steps ≤ c.args.steps.now + ways_work net (map Into ks)) (c.as_slice.ensures ∙ c.edges.ensures) c.go_into_all.ensures.ticks in
+    let all = out_work net c.args.state in omega (arith, one, all)
+
+pub returns-in_err-go_out_all-clause-ticks : goal.returns-in_err-go_out_all-clause-ticks
+returns-in_err-go_out_all-clause-ticks g c =
+    let net = c.args.network.now in
+    let one = subst (λ (ks : List ℕ). c.go_into_all.new.steps ≤ c.args.steps.now + ways_work net (map Into ks)) (c.as_slice.ensures ∙ c.edges.ensures) c.go_into_all.ensures.ticks in
+    let two = subst (λ (es : List End). c.go_out_all.new.steps ≤ c.go_into_all.new.steps + ways_work net (map Out es)) (c.as_slice-2.ensures ∙ c.ends.ensures) c.go_out_all.ensures.ticks in
+    let all = out_work net c.args.state in omega (arith, one, two, all)
+
+-- all tests are those of the ways out
+pub returns-in-Some-clause-ticks : goal.returns-in-Some-clause-ticks
+returns-in-Some-clause-ticks g c =
+    let net = c.args.network.now in
+    let one = subst (λ (ks : List ℕ). c.go_into_all.new.steps ≤ c.args.steps.now + ways_work net (map Into ks)) (c.as_slice.ensures ∙ c.edges.ensures) c.go_into_all.ensures.ticks in
+    let two = subst (λ (es : List End). c.go_out_all.new.steps ≤ c.go_into_all.new.steps + ways_work net (map Out es)) (c.as_slice-2.ensures ∙ c.ends.ensures) c.go_out_all.ensures.ticks in
+    let all = out_work net c.args.state in omega (arith, one, two, all)
+
+pub returns-in-None-clause-ticks : goal.returns-in-None-clause-ticks
+returns-in-None-clause-ticks g c =
+    let net = c.args.network.now in
+    let one = subst (λ (ks : List ℕ). c.go_into_all.new.steps ≤ c.args.steps.now + ways_work net (map Into ks)) (c.as_slice.ensures ∙ c.edges.ensures) c.go_into_all.ensures.ticks in
+    let two = subst (λ (es : List End). c.go_out_all.new.steps ≤ c.go_into_all.new.steps + ways_work net (map Out es)) (c.as_slice-2.ensures ∙ c.ends.ensures) c.go_out_all.ensures.ticks in
+    let all = out_work net c.args.state in omega (arith, one, two, all)

@@ -60,3 +60,13 @@ returns-clause-grows g c =
     let none : c.loop-instance.instances ≡ [] = head_none c.loop-instance.instances c.in_default.ensures.first in
     follows_none net all c.args.draft.now c.loop-instance.draft
     (subst (λ (is : List Instance). Follows net (moves_from net n (met w is t)) all c.args.draft.now c.loop-instance.draft) none c.loop-instance.invariant.follows)
+
+-- want of memory comes after some of the tests
+pub returns-in_err-meet_instance-clause-ticks : goal.returns-in_err-meet_instance-clause-ticks
+returns-in_err-meet_instance-clause-ticks g c =
+    let i = c.in-Some.instance.now in
+    let rest = c.next.new.self in
+    let was = c.loop-instance.invariant.ticks in
+    let one = c.meet_instance.ensures.ticks in
+    let work = binding_work c.args.network.now c.args.state c.args.wait.now c.args.tuple.now in
+    let all = ap (sum_by work) c.in-Some.ensures.rest ∙ sum_by-cons work i rest in omega (arith, was, one, all)

@@ -74,7 +74,7 @@ returns-in-Some-get-clause-ticks g c =
     let slot = get_or_from_slice_get stores n c.get.result.now None c.get.ensures ∙ c.in-Some-get.is in
     let is = found_there net stores n w c.in-Some-get.store t c.candidates.result c.requires.stores at slot c.candidates.ensures in
     let same = ap (sum_by (binding_work net n w t)) is ∙ ap (λ (o : Option Wait). met_work net n o (held stores n) t) c.in-Some.ensures in
-    subst (λ (work : ℕ). OnOk c.meet_instances.result (c.meet_instances.new.steps ≤ c.args.steps.now + work)) same c.meet_instances.ensures.ticks
+    subst (λ (work : ℕ). c.meet_instances.new.steps ≤ c.args.steps.now + work) same c.meet_instances.ensures.ticks
 
 pub returns-in-None-clause-grows : goal.returns-in-None-clause-grows
 returns-in-None-clause-grows g c =

@@ -3,7 +3,7 @@ use Rattle.stream_readers.specs.Targets.{way_of}
 use Rattle.stream_readers.specs.declared.target.Target.TheVariants.{Edge}
 use Rattle.epoch_laws.specs.Instances.{begins}
 use Rattle.epoch_draft.proofs.MeetLemmas.{targets_more}
-use Rattle.epoch_draft.proofs.WorkLemmas.{flat_more}
+use Rattle.epoch_draft.proofs.WorkLemmas.{flat_more, flat_part}
 use Rattle.epoch_draft.proofs.meeting.go_all.Goals as goal
 
 -- one target more
@@ -20,3 +20,11 @@ loop-target-preserved g c =
       grows = targets_more (way_of net) net targets i (Edge 0) (begins c.args.tuple.now) c.args.draft.now c.loop-target.draft c.go.new.draft lt c.loop-target.invariant.grows c.in_ok-go.ensures.grows;
       ticks = omega (arith, more, was, one);
     }
+
+-- want of memory comes after some of the tests
+pub returns-in_err-go-clause-ticks : goal.returns-in_err-go-clause-ticks
+returns-in_err-go-clause-ticks g c =
+    let net = c.args.network.now in
+    let part = flat_part (way_of net) net c.args.targets.now c.loop-target.target-index (Edge 0) c.loop-target-test.true in
+    let was = c.loop-target.invariant.ticks in
+    let one = c.go.ensures.ticks in omega (arith, part, was, one)

@@ -1,5 +1,5 @@
 use Rattle.std.proofs.Common.{sym, subst, ◌+◌, ◌≤◌, arith}
-use Rattle.std.proofs.lemmas.List.Sums.{sum_by_more}
+use Rattle.std.proofs.lemmas.List.Sums.{sum_by_more, sum_by_more_le}
 use Rattle.epoch_draft.specs.Tests.{tuple_work}
 use Rattle.std.proofs.lemmas.List.Elements.{All-get_or}
 use Rattle.event_types.specs.Tuple.{TupleView}
@@ -38,3 +38,12 @@ loop-place-preserved g c =
           let one = subst (λ (r : TupleView). c.meet_tuple.new.steps ≤ c.loop-place.steps + tuple_work net stores s r) c.index-tuples-place.is c.in_ok-meet_tuple.ensures.ticks in
           let more = sum_by_more (tuple_work net stores s) rows i t c.loop-place-test.true in omega (arith, was, one, more);
     }
+
+-- want of memory comes after some of the tests
+pub returns-in_err-meet_tuple-clause-ticks : goal.returns-in_err-meet_tuple-clause-ticks
+returns-in_err-meet_tuple-clause-ticks g c =
+    let work = tuple_work c.args.network.now (held c.args.stores.now) c.args.stream in
+    let t = c.index-tuples-place.result in
+    let part = sum_by_more_le work c.args.tuples.now c.loop-place.place t c.loop-place-test.true in
+    let was = c.loop-place.invariant.ticks in
+    let one = subst (λ (r : TupleView). c.meet_tuple.new.steps ≤ c.loop-place.steps + work r) c.index-tuples-place.is c.meet_tuple.ensures.ticks in omega (arith, part, was, one)

@@ -1,10 +1,8 @@
-use Rattle.std.proofs.Common.{◌≡◌, sym, subst, ℕ, ◌+◌, ◌≤◌, ◌++◌, IsTrue, List, map}
+use Rattle.std.proofs.Common.{◌≡◌, sym, subst, ℕ, ◌+◌, ◌≤◌, ◌++◌, IsTrue, List, map, arith}
 use Rattle.std.specs.Prelude.{sum_by}
-use Rattle.std.specs.List.{All, filter, flat_map}
+use Rattle.std.specs.List.{All, flat_map}
 use Rattle.automaton.specs.States.{is_used}
-use Rattle.stream_readers.specs.Finding.{waits_on, ways_on}
 use Rattle.stream_readers.specs.Targets.{way_of}
-use Rattle.stream_readers.specs.Ways.{is_state_looked_up, is_way_looked_up}
 use Rattle.stream_readers.specs.declared.target.Target.{Target}
 use Rattle.epoch_laws.specs.Instances.{begins}
 use Rattle.epoch_draft.specs.Drafts.{Grows}
@@ -12,10 +10,9 @@ use Rattle.epoch_draft.specs.Held.{held}
 use Rattle.epoch_draft.specs.Meeting.{Lists, moves_met, moves_of, pair_of}
 use Rattle.epoch_draft.specs.Moves.{moves_on}
 use Rattle.epoch_draft.specs.Suits.{MeetingSuits, WaySuits}
-use Rattle.epoch_draft.specs.Tests.{tuple_work}
-use Rattle.epoch_draft.specs.Work.{state_work, way_work, ways_work}
+use Rattle.epoch_draft.specs.Work.{state_work, ways_work}
 use Rattle.epoch_draft.proofs.Lists.{on_ok}
-use Rattle.epoch_draft.proofs.WorkLemmas.{both_within, found_less}
+use Rattle.epoch_draft.proofs.WorkLemmas.{states_less, ways_less}
 use Rattle.epoch_draft.proofs.MeetLemmas.{found_all, found_grows, found_ways, waits_used}
 use Rattle.epoch_draft.proofs.meeting.meet_tuple.Goals as goal
 
@@ -55,6 +52,24 @@ returns-clause-grows g c =
     (subst (λ (ns : List ℕ). Grows net (moves_met net stores t ns) mid new) c.as_slice-2.ensures two)) c.meet_waits.ensures.grows
 
 -- no more is tested than what is looked up
+pub returns-in_err-go_all-clause-ticks : goal.returns-in_err-go_all-clause-ticks
+returns-in_err-go_all-clause-ticks g c =
+    let net = c.args.network.now in
+    let targets = c.find_targets.new.found.targets in
+    let one : c.go_all.new.steps ≤ c.args.steps.now + ways_work net (flat_map (way_of net) targets) =
+    subst (λ (ts : List Target). c.go_all.new.steps ≤ c.args.steps.now + ways_work net (flat_map (way_of net) ts)) c.as_slice.ensures c.go_all.ensures.ticks in
+    let looked = ways_less net c.args.stream c.args.tuple.now targets (c.in_ok-find_targets.ensures net c.requires.network c.requires.readers) in
+    omega (arith, one, looked)
+
+pub returns-in_err-find_waits-clause-ticks : goal.returns-in_err-find_waits-clause-ticks
+returns-in_err-find_waits-clause-ticks g c =
+    let net = c.args.network.now in
+    let targets = c.find_targets.new.found.targets in
+    let one : c.go_all.new.steps ≤ c.args.steps.now + ways_work net (flat_map (way_of net) targets) =
+    subst (λ (ts : List Target). c.go_all.new.steps ≤ c.args.steps.now + ways_work net (flat_map (way_of net) ts)) c.as_slice.ensures c.go_all.ensures.ticks in
+    let looked = ways_less net c.args.stream c.args.tuple.now targets (c.in_ok-find_targets.ensures net c.requires.network c.requires.readers) in
+    omega (arith, one, looked)
+
 pub returns-clause-ticks : goal.returns-clause-ticks
 returns-clause-ticks g c =
     let net = c.args.network.now in
@@ -63,21 +78,16 @@ returns-clause-ticks g c =
     let t = c.args.tuple.now in
     let targets = c.find_targets.new.found.targets in
     let states = c.find_waits.new.found.waits in
-    let ways = c.in_ok-find_targets.ensures net c.requires.network c.requires.readers in
-    let waits = c.in_ok-find_waits.ensures.waits net c.requires.readers in
     let start : ℕ = c.args.steps.now in
     let mid : ℕ = c.go_all.new.steps in
     let end : ℕ = c.meet_waits.new.steps in
     let one : mid ≤ start + ways_work net (flat_map (way_of net) targets) =
-    subst (λ (ts : List Target). mid ≤ start + ways_work net (flat_map (way_of net) ts)) c.as_slice.ensures c.in_ok-go_all.ensures.ticks in
-    let looked : ways_work net (flat_map (way_of net) targets) ≤ ways_work net (filter (is_way_looked_up net t) (ways_on net s)) =
-    found_less (way_work net) (is_way_looked_up net t) (flat_map (way_of net) targets) ways.others (ways_on net s) ways.all ways.looked_up in
-    let heard : sum_by (state_work net stores t) states ≤ sum_by (state_work net stores t) (filter (is_state_looked_up net t) (waits_on net s)) =
-    found_less (state_work net stores t) (is_state_looked_up net t) states waits.others (waits_on net s) waits.all waits.looked_up in
-    on_ok c.meet_waits.result (end ≤ mid + sum_by (state_work net stores t) c.as_slice-2.result.now) (end ≤ start + tuple_work net stores s t)
-    (λ two.
-    both_within start mid end (ways_work net (flat_map (way_of net) targets)) (sum_by (state_work net stores t) states) (ways_work net (filter (is_way_looked_up net t) (ways_on net s))) (sum_by (state_work net stores t) (filter (is_state_looked_up net t) (waits_on net s))) one
-    (subst (λ (ns : List ℕ). end ≤ mid + sum_by (state_work net stores t) ns) c.as_slice-2.ensures two) looked heard) c.meet_waits.ensures.ticks
+    subst (λ (ts : List Target). mid ≤ start + ways_work net (flat_map (way_of net) ts)) c.as_slice.ensures c.go_all.ensures.ticks in
+    let two : end ≤ mid + sum_by (state_work net stores t) states =
+    subst (λ (ns : List ℕ). end ≤ mid + sum_by (state_work net stores t) ns) c.as_slice-2.ensures c.meet_waits.ensures.ticks in
+    let looked = ways_less net s t targets (c.in_ok-find_targets.ensures net c.requires.network c.requires.readers) in
+    let heard = states_less (state_work net stores t) net s t states (c.in_ok-find_waits.ensures.waits net c.requires.readers) in
+    omega (arith, one, two, looked, heard)
 
 -- the states that are found are listed
 pub returns-clause-lists : goal.returns-clause-lists

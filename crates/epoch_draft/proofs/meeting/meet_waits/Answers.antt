@@ -1,6 +1,6 @@
 use Rattle.std.proofs.Common.{◌∙◌, sym, ap, ◌++◌, ◌∷◌, [], List, get_or, take, map, append_assoc}
 use Rattle.std.proofs.Common.{arith}
-use Rattle.std.proofs.lemmas.List.Sums.{sum_by_more}
+use Rattle.std.proofs.lemmas.List.Sums.{sum_by-take-le, sum_by_more, sum_by_more_le}
 use Rattle.epoch_draft.specs.Work.{state_work}
 use Rattle.std.proofs.lemmas.List.{map-append, take_more}
 use Rattle.std.proofs.lemmas.List.Elements.{All-get_or}
@@ -32,3 +32,15 @@ loop-state-preserved g c =
           c.in_ok-add.ensures ∙ ap (λ (ps : List Pair). ps ++ pair (get_or states i 0) ∷ []) c.loop-state.invariant.pairs ∙ append_assoc c.args.pairs.now (map pair (take i states)) (pair (get_or states i 0) ∷ [])
           ∙ ap (λ (ps : List Pair). c.args.pairs.now ++ ps) (sym (ap (map pair) (take_more states i 0 c.loop-state-test.true) ∙ map-append pair (take i states) (get_or states i 0 ∷ [])));
     }
+
+-- want of memory comes after some of the tests
+pub returns-in_err-add-clause-ticks : goal.returns-in_err-add-clause-ticks
+returns-in_err-add-clause-ticks g c =
+    let part = sum_by-take-le (state_work c.args.network.now (held c.args.stores.now) c.args.tuple.now) c.args.states.now c.loop-state.state-index in
+    let was = c.loop-state.invariant.ticks in omega (arith, part, was)
+
+pub returns-in_err-meet_wait-clause-ticks : goal.returns-in_err-meet_wait-clause-ticks
+returns-in_err-meet_wait-clause-ticks g c =
+    let part = sum_by_more_le (state_work c.args.network.now (held c.args.stores.now) c.args.tuple.now) c.args.states.now c.loop-state.state-index 0 c.loop-state-test.true in
+    let was = c.loop-state.invariant.ticks in
+    let one = c.meet_wait.ensures.ticks in omega (arith, part, was, one)

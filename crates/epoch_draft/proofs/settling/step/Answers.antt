@@ -2,7 +2,8 @@ use Rattle.std.proofs.Common.{◌≡◌, ◌∙◌, ap, sym, subst, ℕ, ◌+◌
 use Rattle.std.specs.Prelude.{Contains}
 use Rattle.std.specs.List.{All}
 use Rattle.epoch_draft.specs.Held.{held}
-use Rattle.epoch_draft.specs.Settling.{AreLinked, AreTaken, PairSuits, takes_work, tuples_in}
+use Rattle.epoch_draft.specs.Settling.{AreLinked, AreTaken, PairSuits, tuples_in}
+use Rattle.epoch_draft.specs.Takes.{takes_work}
 use Rattle.epoch_draft.specs.declared.draft.Pair.{Pair}
 use Rattle.epoch_draft.proofs.MarkLemmas.{all_below}
 use Rattle.epoch_draft.proofs.ReadyLemmas.{room_same}

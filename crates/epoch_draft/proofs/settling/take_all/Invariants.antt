@@ -1,6 +1,7 @@
 use Rattle.std.proofs.Common.{◌+◌, ◌≤◌, take}
 use Rattle.epoch_draft.specs.Held.{held}
-use Rattle.epoch_draft.specs.Settling.{AreTaken, takes_work, tuples_in}
+use Rattle.epoch_draft.specs.Settling.{AreTaken, tuples_in}
+use Rattle.epoch_draft.specs.Takes.{takes_work}
 use Rattle.epoch_draft.proofs.settling.take_all.Given as goal
 
 -- the tuples of the pairs so far took out what they match

@@ -1,0 +1,41 @@
+-- The tests of conditions that the closing of an epoch may take, whatever it answers.
+use Rattle.std.specs.Prelude.{ℕ, ◌+◌, List, [], ◌∷◌, length, sum_by}
+use Rattle.std.specs.List.{range_with_len}
+use Rattle.event_types.specs.Tuple.{TupleView}
+use Rattle.semantics.specs.Denotation.{Streams}
+use Rattle.semantics.specs.Programs.{with_stream}
+use Rattle.automaton.specs.States.{Net}
+use Rattle.automaton.specs.declared.layout.Layout.{Layout}
+use Rattle.epoch_laws.specs.Closing.{Stores, given_by_ends}
+use Rattle.epoch_draft.specs.Takes.{take_work}
+use Rattle.epoch_draft.specs.Tests.{tuple_work}
+
+-- the tests of the tuples that were heard on so many streams, where each tuple has its tests by its stream
+abbrev pub heard_tests : (ℕ → TupleView → ℕ) → ℕ → Streams → ℕ
+heard_tests tests streams heard = sum_by (λ stream. sum_by (tests stream) (heard stream)) (range_with_len 0 streams)
+
+-- the tests of the derived tuples: in the order of work each stream has what its ends give over the streams so far
+abbrev pub derived_tests : (ℕ → TupleView → ℕ) → Net → List ℕ → Stores → Streams → ℕ
+derived_tests tests net [] stores news = 0
+derived_tests tests net (stream ∷ order) stores news =
+    sum_by (tests stream) (given_by_ends net news stores stream) + derived_tests tests net order stores (with_stream news stream (given_by_ends net news stores stream))
+
+-- the tests of all tuples of an epoch: those that were heard, and the derived ones
+abbrev pub epoch_tests : (ℕ → TupleView → ℕ) → Net → Layout → Stores → Streams → ℕ
+epoch_tests tests net layout stores heard = heard_tests tests (length layout.kinds) heard + derived_tests tests net layout.order stores heard
+
+-- the tests by which the derived tuples are met
+abbrev pub derived_work : Net → List ℕ → Stores → Streams → ℕ
+derived_work net order stores heard = derived_tests (tuple_work net stores) net order stores heard
+
+-- the tests by which all tuples of an epoch are met
+abbrev pub draw_work : Net → Layout → Stores → Streams → ℕ
+draw_work net layout stores heard = epoch_tests (tuple_work net stores) net layout stores heard
+
+-- the tests by which the instances that they match are taken out
+abbrev pub taking_work : Net → Layout → Stores → Streams → ℕ
+taking_work net layout stores heard = epoch_tests (take_work net stores) net layout stores heard
+
+-- all tests of the closing
+abbrev pub epoch_work : Net → Layout → Stores → Streams → ℕ
+epoch_work net layout stores heard = draw_work net layout stores heard + taking_work net layout stores heard
