@@ -25,11 +25,12 @@ use Rattle.epoch_draft.specs.EpochWork.{derived_tests}
 use Rattle.epoch_draft.specs.declared.draft.Draft.{Draft}
 use Rattle.epoch_draft.specs.declared.draft.Pair.{Pair}
 use Rattle.epoch_draft.specs.declared.marks.Marks.{Marks}
-use Rattle.epoch_draft.proofs.DeriveLemmas.{idle_rest, idle_step, unmarked_none}
+use Rattle.epoch_draft.proofs.DeriveLemmas.{idle_news, idle_rest, idle_step, unmarked_none}
 use Rattle.epoch_draft.proofs.GoingLemmas.{all_right}
 use Rattle.epoch_draft.proofs.MarkLemmas.{all_below}
 use Rattle.epoch_draft.proofs.Lists.{below_or_last, contains_more, contains_this, taken_all}
 use Rattle.epoch_draft.specs.Tests.{tuple_work}
+use Rattle.epoch_draft.specs.Takes.{take_work}
 
 -- an item of a list is the first or one of the others
 pub first_or_other : (x : ℕ) (xs : List ℕ) (n : ℕ) → Contains (x ∷ xs) n → (n ≡ x) ⊎ Contains xs n
@@ -173,6 +174,24 @@ module _ (net : Net) (layout : Layout) (stores : List (Option Store)) (opened : 
   popped_left tests next p keys rest planned is later from lt was =
       left_many tests (p - next) next p (omega (arith, from)) (omega (arith, lt)) (idle_before next p keys rest planned is later (omega (arith, lt)) was.fits.due_all) was
 
+  -- idle streams leave the tuples as they are, by induction on how many they are
+  news_many : (n i p : ℕ) → i + n ≡ p → p ≤ length layout.order → AreIdle i p → news_of opened draft.made (take i layout.order) ≡ news_of opened draft.made (take p layout.order)
+  news_many zero i p is below idle = ap (λ (m : ℕ). news_of opened draft.made (take m layout.order)) (let same : i ≡ p = omega (arith, is) in same)
+  news_many (suc n) i p is below idle =
+      idle_news net layout stores opened can i (omega (arith, is, below)) draft (idle i (omega arith) (omega (arith, is))) ∙ news_many n (i + 1) p (omega (arith, is)) below (λ k from lt. idle k (omega (arith, from)) lt)
+
+  -- so do the streams before the first place that is planned
+  pub popped_news : (next p : ℕ) (keys rest : List ℕ) → AllPlanned layout.order draft.due.numbers next keys → keys ≡ p ∷ rest → All (IsLtBy nat_cmp p) rest → next ≤ p → p < length layout.order
+      → DrawnUpTo net layout stores opened (take next layout.order) draft pairs → news_of opened draft.made (take next layout.order) ≡ news_of opened draft.made (take p layout.order)
+  popped_news next p keys rest planned is later from lt was = news_many (p - next) next p (omega (arith, from)) (omega (arith, lt)) (idle_before next p keys rest planned is later (omega (arith, lt)) was.fits.due_all)
+
+  -- and all that are left, once nothing is planned
+  pub ended_news : (next : ℕ) (keys : List ℕ) → AllPlanned layout.order draft.due.numbers next keys → (0 < length keys → ⊥) → next ≤ length layout.order
+      → DrawnUpTo net layout stores opened (take next layout.order) draft pairs → news_of opened draft.made (take next layout.order) ≡ news_of opened draft.made layout.order
+  ended_news next keys planned none from was =
+      news_many (length layout.order - next) next (length layout.order) (omega (arith, from)) (omega arith) (λ k after lt. undue_none layout.order draft k was.fits.due_all (λ c. none (filled_list keys k (planned k after lt c))))
+      ∙ ap (news_of opened draft.made) (taken_all layout.order (length layout.order) (omega arith))
+
   -- once nothing is planned all streams are drawn
   pub ended_until : (next : ℕ) (keys : List ℕ) → AllPlanned layout.order draft.due.numbers next keys → (0 < length keys → ⊥) → next ≤ length layout.order
       → DrawnUpTo net layout stores opened (take next layout.order) draft pairs → DrawnUpTo net layout stores opened layout.order draft pairs
@@ -184,6 +203,10 @@ module _ (net : Net) (layout : Layout) (stores : List (Option Store)) (opened : 
 -- the tests by which the derived streams from a place on are still to be met
 abbrev pub work_left : Net → Layout → List (Option Store) → List (List TupleView) → Draft → ℕ → ℕ
 work_left net layout stores opened draft next = derived_tests (tuple_work net (held stores)) net (drop next layout.order) (held stores) (news_of opened draft.made (take next layout.order))
+
+-- the same of the tests by which the instances are taken out that they match
+abbrev pub takes_left : Net → Layout → List (Option Store) → List (List TupleView) → Draft → ℕ → ℕ
+takes_left net layout stores opened draft next = derived_tests (take_work net (held stores)) net (drop next layout.order) (held stores) (news_of opened draft.made (take next layout.order))
 
 -- the streams so far have their places, and the others the order's length
 pub record ArePlacesUpTo (order : List ℕ) (streams : ℕ) (i : ℕ) (places : List ℕ) : Type 0 where

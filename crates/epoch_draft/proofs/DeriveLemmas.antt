@@ -1,6 +1,6 @@
 -- The tuples of an epoch, stream by stream.
 use Rattle.std.proofs.Common.{◌≡◌, ◌∙◌, sym, ap, refl, subst, inl, inr, ℕ, ◌+◌, ◌<◌, ◌==◌, ◌||◌, ◌⊎◌, Bool, true, false, cond, length, get_or, take, drop, List, [], ◌∷◌, ◌++◌, add-one, arith, ◌≤◌}
-use Rattle.std.specs.Prelude.{Contains, Option, Some, slice_get, sum_by}
+use Rattle.std.specs.Prelude.{Contains, Option, Some, slice_get, sum_by, option_to_list}
 use Rattle.std.specs.List.{All}
 use Rattle.std.specs.List.Sorted.{IsPermutation}
 use Rattle.std.proofs.Math.Seq.{drop-cons}
@@ -42,7 +42,8 @@ use Rattle.epoch_draft.specs.Held.{held}
 use Rattle.epoch_draft.specs.Meeting.{ListsAll, moves_of_all}
 use Rattle.epoch_draft.specs.Moves.{Move, made_of}
 use Rattle.epoch_draft.specs.Suits.{TupleSuits}
-use Rattle.epoch_draft.specs.EpochWork.{derived_tests}
+use Rattle.epoch_draft.specs.EpochWork.{derived_tests, pairs_work}
+use Rattle.epoch_draft.specs.Takes.{row_at, take_work, takes_work}
 use Rattle.epoch_draft.specs.Tests.{stream_work, tuple_work}
 use Rattle.epoch_draft.specs.Typed.{HaveKinds, IsTyped}
 use Rattle.epoch_draft.specs.declared.draft.Draft.{Draft}
@@ -56,6 +57,7 @@ use Rattle.event_types.proofs.NumberLemmas.{same_number}
 use Rattle.automaton.proofs.NumberLemmas.{are_same_or_not}
 use Rattle.epoch_draft.proofs.Lists.{none_in}
 use Rattle.epoch_draft.proofs.EpochLemmas.{derived_first}
+use Rattle.epoch_draft.proofs.TakeLemmas.{takes_agree, takes_grow}
 
 or-true : (a : Bool) → (a || true) ≡ true
 or-true true = refl
@@ -174,11 +176,11 @@ paired_none net pairs none = record {
 -- one more of the open streams is met
 pub opened_more : (net : Net) (stores : Stores) (opened : List (List TupleView)) (touched : List ℕ) (i : ℕ) (old new : Draft) (pairs more : List Pair) → IsNetwork net → i < length touched → (Contains (take i touched) (get_or touched i 0) → ⊥)
     → Drawn net stores (opened_of opened (take i touched)) old → Paired net (opened_of opened (take i touched)) pairs
-    → Grows net (moves_of_all net stores (get_or touched i 0) (get_or opened (get_or touched i 0) [])) old new → ListsAll net (get_or touched i 0) (get_or opened (get_or touched i 0) []) pairs more
+    → Grows net (moves_of_all net stores (get_or touched i 0) (get_or opened (get_or touched i 0) [])) old new → ListsAll net stores (get_or touched i 0) (get_or opened (get_or touched i 0) []) pairs more
     → Drawn net stores (opened_of opened (take (i + 1) touched)) new × Paired net (opened_of opened (take (i + 1) touched)) more
 opened_more net stores opened touched i old new pairs more network lt once drawn paired grows lists = (
   subst (λ (seen : Streams). Drawn net stores seen new) (ap (with_stream seen s) longer ∙ later) (drawn_comes net stores seen s rows old new network drawn grows),
-  subst (λ (seen : Streams). Paired net seen more) later (paired_comes net seen s rows pairs more none paired lists),
+  subst (λ (seen : Streams). Paired net seen more) later (paired_comes net stores seen s rows pairs more none paired lists),
 )
   where
     s : ℕ
@@ -293,7 +295,14 @@ module _ (net : Net) (layout : Layout) (stores : List (Option Store)) (opened : 
       same =
           sym (with_none net (held stores) s (news_of opened draft.made done)) ∙ ap (λ (rows : List TupleView). with_stream (news_of opened draft.made done) s (rows ++ [])) (unseen draft.made) ∙ step
 
-  -- it leaves the tests as they are
+  -- it leaves the tuples as they are
+  pub idle_news : (draft : Draft) → get_or draft.made s [] ≡ [] → news_of opened draft.made done ≡ news_of opened draft.made (take (i + 1) order)
+  idle_news draft idle =
+      let seen = news_of opened draft.made done in
+      sym (with_none net (held stores) s seen) ∙ ap (λ (rows : List TupleView). with_stream seen s (rows ++ [])) (unseen draft.made) ∙ news_step opened draft.made draft.made done s [] idle (λ t e f. refl)
+      ∙ ap (news_of opened draft.made) (sym (take_more order i 0 lt))
+
+  -- and the tests
   pub idle_rest : (tests : ℕ → TupleView → ℕ) (draft : Draft) (pairs : List Pair) → get_or draft.made s [] ≡ [] → DrawnUpTo net layout stores opened done draft pairs
       → derived_tests tests net (drop i order) (held stores) (news_of opened draft.made done) ≡ derived_tests tests net (drop (i + 1) order) (held stores) (news_of opened draft.made (take (i + 1) order))
   idle_rest tests draft pairs idle was =
@@ -420,11 +429,29 @@ module _ (net : Net) (layout : Layout) (stores : List (Option Store)) (opened : 
         subst (λ (d : List ℕ). DrawnUpTo net layout stores opened d new more) (sym (take_more order i 0 lt)) (record {
           fits = subst (λ (m : ℕ). DraftFits m (length net) new) was.fits.made derives.fits;
           drawn = subst (λ (seen : Streams). Drawn net (held stores) seen new) step drawn;
-          paired = subst (λ (seen : Streams). Paired net seen more) step (paired_comes net seen s rows pairs more (unseen old.made) was.paired derives.lists);
+          paired = subst (λ (seen : Streams). Paired net seen more) step (paired_comes net (held stores) seen s rows pairs more (unseen old.made) was.paired derives.lists);
           epoch = subst (IsEpoch net (done ++ s ∷ []) (held stores) (streams_of opened)) step grown;
           kinds = subst (HaveKinds layout.kinds) step kinds;
           ordered = ordered;
         })
+
+    -- its pairs take out by no more tests than its tuples have
+    pub derived_takes : pairs_work net (take (i + 1) order) stores opened new.made more ≤ pairs_work net done stores opened old.made pairs + sum_by (take_work net (held stores) s) (get_or old.made s [])
+    derived_takes =
+        let news = ap (λ (now : Streams). takes_work net now (held stores) more) (step ∙ ap (news_of opened new.made) (sym (take_more order i 0 lt))) in
+        let grown = takes_grow net (held stores) later s rows pairs more (ap (λ b. cond b rows (seen s)) (is_itself s)) derives.lists in
+        let before = takes_agree net (held stores) later seen pairs (All-weaker IsSound (λ p. row_at later p ≡ row_at seen p) each pairs was.paired.sound) in
+        let mine = sum_by-IsPermutation (take_work net (held stores) s) rows (get_or old.made s []) derives.same in omega (arith, news, grown, before, mine)
+      where
+        IsSound : Pair → Type 0
+        IsSound p = Contains (waits_on net p.stream) p.state × (p.place < length (seen p.stream))
+
+        each : (p : Pair) → IsSound p → row_at later p ≡ row_at seen p
+        each p h = go (p.stream == s) refl
+          where
+            go : (b : Bool) → (p.stream == s) ≡ b → option_to_list (slice_get (cond b rows (seen p.stream)) p.place) ≡ option_to_list (slice_get (seen p.stream) p.place)
+            go true e = absurd (let none = ap length (ap seen (same_number p.stream s e) ∙ unseen old.made) in let there = h.1 in omega (arith, none, there))
+            go false e = refl
 
     -- what it leaves of the tests
     pub derived_rest : (tests : ℕ → TupleView → ℕ) → derived_tests tests net (drop i order) (held stores) (news_of opened old.made done)

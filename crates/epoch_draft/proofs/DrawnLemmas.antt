@@ -238,8 +238,8 @@ same_test : (m n : ℕ) → m ≡ n → (m == n) ≡ true
 same_test m n e = grind (arith, nat_tests)
 
 -- pairs of one stream more
-pub paired_comes : (net : Net) (seen : Streams) (s : ℕ) (rows : List TupleView) (old new : List Pair) → seen s ≡ [] → Paired net seen old → ListsAll net s rows old new → Paired net (with_stream seen s rows) new
-paired_comes net seen s rows old new none was lists = record {
+pub paired_comes : (net : Net) (stores : Stores) (seen : Streams) (s : ℕ) (rows : List TupleView) (old new : List Pair) → seen s ≡ [] → Paired net seen old → ListsAll net stores s rows old new → Paired net (with_stream seen s rows) new
+paired_comes net stores seen s rows old new none was lists = record {
   sound =
       subst (All IsSound) (sym lists.are)
       (All-append IsSound old lists.added (All-weaker (λ p. Contains (waits_on net p.stream) p.state × (p.place < length (seen p.stream))) IsSound (λ p h. (h.0, kept p h.1 (p.stream == s) refl)) old was.sound)

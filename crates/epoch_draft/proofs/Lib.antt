@@ -23,6 +23,7 @@ pub mod StateLemmas
 pub mod StoreLemmas
 pub mod SuitLemmas
 pub mod SumLemmas
+pub mod TakeLemmas
 pub mod TypedLemmas
 pub mod TypingLemmas
 pub mod WorkLemmas

@@ -7,10 +7,12 @@ use Rattle.std.proofs.lemmas.List.Sorted.{Contains-permutation, IsPermutation-sy
 use Rattle.event_types.specs.Tuple.{TupleView}
 use Rattle.automaton.specs.States.{Net}
 use Rattle.stream_readers.specs.Finding.{IsDeaf, waits_on}
+use Rattle.epoch_laws.specs.Closing.{Stores}
 use Rattle.epoch_draft.specs.Meeting.{IsPairOf, Lists, ListsAll, pair_of}
 use Rattle.epoch_draft.specs.declared.draft.Pair.{Pair}
 use Rattle.epoch_draft.proofs.MeetLemmas.{found_all}
 use Rattle.epoch_draft.proofs.Lists.{some_is}
+use Rattle.epoch_draft.proofs.TakeLemmas.{takes_one}
 
 -- what stands at a place of a list with one more item
 pub slice_get_push : {X : Type 0} (xs : List X) (x : X) (k : ℕ) (y : X) → slice_get (xs ++ x ∷ []) k ≡ Some y → (slice_get xs k ≡ Some y) ⊎ ((k ≡ length xs) × (x ≡ y))
@@ -37,17 +39,18 @@ contains_map f (y ∷ xs) x c = go (Contains-append_cases (y ∷ []) xs x c) (co
     go (inr c) rest = Contains-append_right (f y ∷ []) (map f xs) (f x) (rest c)
 
 -- no tuple, no pair
-pub lists_none : (net : Net) (s : ℕ) (pairs : List Pair) → ListsAll net s [] pairs pairs
-lists_none net s pairs = record {
+pub lists_none : (net : Net) (stores : Stores) (s : ℕ) (pairs : List Pair) → ListsAll net stores s [] pairs pairs
+lists_none net stores s pairs = record {
   added = [];
   are = sym (append-nil pairs);
   sound = All-nil (IsPairOf net s []);
   listed = λ k t e n c. absurd (cc);
+  takes = omega arith;
 }
 
 -- one tuple more
-pub lists_more : (net : Net) (s : ℕ) (rows : List TupleView) (i : ℕ) (d : TupleView) (old mid new : List Pair) → i < length rows → ListsAll net s (take i rows) old mid → Lists net s i (get_or rows i d) mid new → ListsAll net s (take (i + 1) rows) old new
-lists_more net s rows i d old mid new lt all one = record {
+pub lists_more : (net : Net) (stores : Stores) (s : ℕ) (rows : List TupleView) (i : ℕ) (d : TupleView) (old mid new : List Pair) → i < length rows → ListsAll net stores s (take i rows) old mid → Lists net stores s i (get_or rows i d) mid new → ListsAll net stores s (take (i + 1) rows) old new
+lists_more net stores s rows i d old mid new lt all one = record {
   added = all.added ++ map (pair_of s i) one.found;
   are = one.are ∙ ap (λ ps. ps ++ map (pair_of s i) one.found) all.are ∙ append_assoc old all.added (map (pair_of s i) one.found);
   sound =
@@ -57,6 +60,7 @@ lists_more net s rows i d old mid new lt all one = record {
       (All-weaker (Contains (waits_on net s)) (λ n. IsPairOf net s (take (i + 1) rows) (pair_of s i n)) (λ n c. record { stream_is = refl; waits = c; below = omega (arith, longer, short) }) one.found
       (found_all (Contains (waits_on net s)) net s (get_or rows i d) one.found one.finds (All-contains_itself (waits_on net s)))));
   listed = λ k t e n c. at k t n c (slice_get_push (take i rows) (get_or rows i d) k t (ap (λ ts. slice_get ts k) (sym (take_more rows i d lt)) ∙ e));
+  takes = takes_one net stores s rows i d all.added mid new lt all.sound all.takes one;
 }
   where
     longer : length (take (i + 1) rows) ≡ length (take i rows) + 1

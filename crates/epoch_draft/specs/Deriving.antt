@@ -35,7 +35,7 @@ pub record Derives (net : Net) (stores : Stores) (stream : ℕ) (old new : Draft
   pub beads : new.beads ≡ met.beads
   pub fits : DraftFits (length old.made) (length net) new
   pub due : MarksMore old.due new.due
-  pub lists : ListsAll net stream tuples pairs more
+  pub lists : ListsAll net stores stream tuples pairs more
 
 -- the tuples of an epoch as far as they are made: those of the streams that are done, and the open ones of the others
 abbrev pub news_of : List (List TupleView) → List (List TupleView) → List ℕ → Streams

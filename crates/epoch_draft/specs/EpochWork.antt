@@ -1,14 +1,18 @@
 -- The tests of conditions that the closing of an epoch may take, whatever it answers.
-use Rattle.std.specs.Prelude.{ℕ, ◌+◌, List, [], ◌∷◌, length, sum_by}
+use Rattle.std.specs.Prelude.{ℕ, ◌+◌, List, [], ◌∷◌, length, Option, sum_by}
 use Rattle.std.specs.List.{range_with_len}
 use Rattle.event_types.specs.Tuple.{TupleView}
+use Rattle.binding_index.specs.declared.store.Store.{Store}
 use Rattle.semantics.specs.Denotation.{Streams}
 use Rattle.semantics.specs.Programs.{with_stream}
 use Rattle.automaton.specs.States.{Net}
 use Rattle.automaton.specs.declared.layout.Layout.{Layout}
 use Rattle.epoch_laws.specs.Closing.{Stores, given_by_ends}
-use Rattle.epoch_draft.specs.Takes.{take_work}
+use Rattle.epoch_draft.specs.Deriving.{news_of}
+use Rattle.epoch_draft.specs.Held.{held}
+use Rattle.epoch_draft.specs.Takes.{take_work, takes_work}
 use Rattle.epoch_draft.specs.Tests.{tuple_work}
+use Rattle.epoch_draft.specs.declared.draft.Pair.{Pair}
 
 -- the tests of the tuples that were heard on so many streams, where each tuple has its tests by its stream
 abbrev pub heard_tests : (ℕ → TupleView → ℕ) → ℕ → Streams → ℕ
@@ -32,10 +36,18 @@ derived_work net order stores heard = derived_tests (tuple_work net stores) net 
 abbrev pub draw_work : Net → Layout → Stores → Streams → ℕ
 draw_work net layout stores heard = epoch_tests (tuple_work net stores) net layout stores heard
 
--- the tests by which the instances that they match are taken out
+-- the tests by which the instances are taken out that tuples match which were heard
+abbrev pub heard_taking : Net → Layout → Stores → Streams → ℕ
+heard_taking net layout stores heard = heard_tests (take_work net stores) (length layout.kinds) heard
+
+-- the tests by which the instances that all tuples of an epoch match are taken out
 abbrev pub taking_work : Net → Layout → Stores → Streams → ℕ
 taking_work net layout stores heard = epoch_tests (take_work net stores) net layout stores heard
 
 -- all tests of the closing
 abbrev pub epoch_work : Net → Layout → Stores → Streams → ℕ
 epoch_work net layout stores heard = draw_work net layout stores heard + taking_work net layout stores heard
+
+-- the tests by which pairs take out what they match, over the tuples of an epoch as far as they are made
+abbrev pub pairs_work : Net → List ℕ → List (Option Store) → List (List TupleView) → List (List TupleView) → List Pair → ℕ
+pairs_work net done stores opened made pairs = takes_work net (news_of opened made done) (held stores) pairs

@@ -1,5 +1,5 @@
 -- What comes of a tuple of a stream.
-use Rattle.std.specs.Prelude.{◌≡◌, ℕ, ◌<◌, ◌⊎◌, List, [], ◌++◌, Contains, length, map, Option, Some, None, slice_get}
+use Rattle.std.specs.Prelude.{◌≡◌, ℕ, ◌<◌, ◌≤◌, ◌⊎◌, List, [], ◌++◌, Contains, length, map, Option, Some, None, slice_get, sum_by}
 use Rattle.std.specs.List.{All, flat_map}
 use Rattle.event_types.specs.Tuple.{TupleView}
 use Rattle.instances.specs.declared.instance.Instance.{Instance}
@@ -10,6 +10,7 @@ use Rattle.epoch_laws.specs.Closing.{Stores}
 use Rattle.epoch_draft.specs.Comes.{gets}
 use Rattle.epoch_draft.specs.Moves.{Move, moves_from, moves_over}
 use Rattle.epoch_draft.specs.Pairs.{met}
+use Rattle.epoch_draft.specs.Takes.{take_work, takes_work}
 use Rattle.epoch_draft.specs.declared.draft.Pair.{Pair}
 
 -- what a tuple makes of the instances at a state, if it waits so
@@ -38,7 +39,7 @@ abbrev pub pair_of : ℕ → ℕ → ℕ → Pair
 pair_of stream place state = record { state = state; stream = stream; place = place }
 
 -- the states that were found by a tuple are listed with its place
-pub record Lists (net : Net) (stream place : ℕ) (tuple : TupleView) (old new : List Pair) : Type 0 where
+pub record Lists (net : Net) (stores : Stores) (stream place : ℕ) (tuple : TupleView) (old new : List Pair) : Type 0 where
   pub found : List ℕ
   pub finds : FindsWaits net stream tuple found
   pub are : new ≡ old ++ map (pair_of stream place) found
@@ -49,9 +50,10 @@ pub record IsPairOf (net : Net) (stream : ℕ) (tuples : List TupleView) (pair :
   pub waits : Contains (waits_on net stream) pair.state
   pub below : pair.place < length tuples
 
--- each waiting state and each of these tuples are listed, or the tuple is eligible for no binding there
-pub record ListsAll (net : Net) (stream : ℕ) (tuples : List TupleView) (old new : List Pair) : Type 0 where
+-- each waiting state and each of these tuples are listed, or the tuple is eligible for no binding there; what is listed is taken out by no more tests than these tuples have
+pub record ListsAll (net : Net) (stores : Stores) (stream : ℕ) (tuples : List TupleView) (old new : List Pair) : Type 0 where
   pub added : List Pair
   pub are : new ≡ old ++ added
   pub sound : All (IsPairOf net stream tuples) added
   pub listed : (place : ℕ) (tuple : TupleView) → slice_get tuples place ≡ Some tuple → (state : ℕ) → Contains (waits_on net stream) state → Contains added (pair_of stream place state) ⊎ IsDeaf net tuple state
+  pub takes : takes_work net (λ _. tuples) stores added ≤ sum_by (take_work net stores stream) tuples

@@ -11,7 +11,7 @@ ghost use Rattle.epoch_draft.specs.Held.{held};
 ghost use Rattle.epoch_draft.specs.Readying.{HaveKeys};
 ghost use Rattle.epoch_draft.specs.Stores.{HasStores};
 ghost use Rattle.epoch_draft.specs.Suits.{TupleSuits};
-ghost use Rattle.epoch_draft.specs.EpochWork.{derived_work, draw_work};
+ghost use Rattle.epoch_draft.specs.EpochWork.{derived_work, draw_work, heard_taking, pairs_work, taking_work};
 ghost use Rattle.epoch_draft.specs.Tests.{stream_work, streams_work};
 
 use crate::agenda::{Agenda, plan};
@@ -50,6 +50,7 @@ pub fn draw<L: Ledger>(
     requires no_pairs { pairs.old ≡ [] }
     ensures drawn { OnOk result (DrawnUpTo network.now layout.now stores.now opened.now layout.now.order draft.new pairs.new) }
     ensures keys { OnOk result (HaveKeys stores.now draft.new.beads) }
+    ensures takes { OnOk result (pairs_work network.now layout.now.order stores.now opened.now draft.new.made pairs.new ≤ taking_work network.now layout.now (held stores.now) (streams_of opened.now)) }
     ensures ticks { steps.new ≤ steps.old + draw_work network.now layout.now (held stores.now) (streams_of opened.now) }
 {
     meet_opened(
@@ -82,6 +83,7 @@ fn meet_opened<L: Ledger>(
     requires no_beads { (state : ℕ) → slice_index_or draft.old.beads state [] ≡ [] }
     requires no_pairs { pairs.old ≡ [] }
     ensures drawn { OnOk result (DrawnUpTo network.now layout.now stores.now opened.now [] draft.new pairs.new) }
+    ensures takes { OnOk result (pairs_work network.now [] stores.now opened.now draft.new.made pairs.new ≤ heard_taking network.now layout.now (held stores.now) (streams_of opened.now)) }
     ensures ticks { steps.new ≤ steps.old + streams_work network.now (held stores.now) opened.now touched.now }
 {
     for stream in touched {
@@ -119,7 +121,9 @@ fn derive<L: Ledger>(
     requires readers { AreReadersOfAll network.now layout.now readers.now }
     requires places { ArePlaces layout.now.order (length layout.now.kinds) places.now }
     requires drawn { DrawnUpTo network.now layout.now stores.now opened.now [] draft.old pairs.old }
+    requires takes { pairs_work network.now [] stores.now opened.now draft.old.made pairs.old ≤ heard_taking network.now layout.now (held stores.now) (streams_of opened.now) }
     ensures drawn { OnOk result (DrawnUpTo network.now layout.now stores.now opened.now layout.now.order draft.new pairs.new) }
+    ensures takes { OnOk result (pairs_work network.now layout.now.order stores.now opened.now draft.new.made pairs.new ≤ taking_work network.now layout.now (held stores.now) (streams_of opened.now)) }
     ensures ticks { steps.new ≤ steps.old + derived_work network.now layout.now.order (held stores.now) (streams_of opened.now) }
 {
     let end = layout.order.len();

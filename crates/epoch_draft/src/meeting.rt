@@ -133,7 +133,7 @@ fn meet_tuple<L: Ledger>(
     requires fits { DraftFits (length draft.old.made) (length network.now) draft.old }
     requires suits { TupleSuits network.now (held stores.now) stream tuple.now }
     ensures grows { OnOk result (Grows network.now (moves_of network.now (held stores.now) stream tuple.now) draft.old draft.new) }
-    ensures lists { OnOk result (Lists network.now stream place tuple.now pairs.old pairs.new) }
+    ensures lists { OnOk result (Lists network.now (held stores.now) stream place tuple.now pairs.old pairs.new) }
     ensures ticks { steps.new ≤ steps.old + tuple_work network.now (held stores.now) stream tuple.now }
 {
     readers.find_targets(stream, tuple, found)?;
@@ -182,7 +182,7 @@ pub(crate) fn meet_stream<L: Ledger>(
     requires fits { DraftFits (length draft.old.made) (length network.now) draft.old }
     requires suits { All (TupleSuits network.now (held stores.now) stream) tuples.now }
     ensures grows { OnOk result (Grows network.now (moves_of_all network.now (held stores.now) stream tuples.now) draft.old draft.new) }
-    ensures lists { OnOk result (ListsAll network.now stream tuples.now pairs.old pairs.new) }
+    ensures lists { OnOk result (ListsAll network.now (held stores.now) stream tuples.now pairs.old pairs.new) }
     ensures ticks { steps.new ≤ steps.old + stream_work network.now (held stores.now) stream tuples.now }
 {
     for (place, tuple) in tuples.iter().enumerate() {

@@ -14,6 +14,7 @@ ghost use Rattle.epoch_laws.specs.Events.{IsKeyOf};
 ghost use Rattle.epoch_draft.specs.Deriving.{CanDraw, DrawnUpTo, news_of};
 ghost use Rattle.epoch_draft.specs.Candidates.{candidates_at};
 ghost use Rattle.epoch_draft.specs.Drafts.{DraftFits};
+ghost use Rattle.epoch_draft.specs.EpochWork.{pairs_work};
 ghost use Rattle.epoch_draft.specs.Held.{held, instances_in, key_in, shape_of};
 ghost use Rattle.epoch_draft.specs.Purging.{AreUsedIn, ListsBounded};
 ghost use Rattle.epoch_draft.specs.Readying.{HasRoom, HaveRoom, HaveRoomIn};
@@ -54,7 +55,7 @@ pub fn settle<L: Ledger>(
     ensures used { All (λ pair. AreUsedIn (slice_index_or stores.new pair.state None)) pairs.now }
     ensures made { draft.new.made ≡ draft.old.made }
     ensures fits { DraftFits (length layout.now.kinds) (length network.now) draft.new }
-    ensures ticks { steps.new ≤ steps.old + takes_work network.now (news_of opened.now draft.old.made layout.now.order) (held stores.old) pairs.now }
+    ensures ticks { steps.new ≤ steps.old + pairs_work network.now layout.now.order stores.old opened.now draft.old.made pairs.now }
 {
     step(network, layout, stores, opened, draft, pairs, steps);
     purge_listed(stores, bounded, time);
@@ -77,7 +78,7 @@ fn step<L: Ledger>(
     ensures settled { AreSettled network.now (news_of opened.now draft.old.made _layout.now.order) stores.old stores.new }
     ensures made { draft.new.made ≡ draft.old.made }
     ensures fits { DraftFits (length _layout.now.kinds) (length network.now) draft.new }
-    ensures ticks { steps.new ≤ steps.old + takes_work network.now (news_of opened.now draft.old.made _layout.now.order) (held stores.old) pairs.now }
+    ensures ticks { steps.new ≤ steps.old + pairs_work network.now _layout.now.order stores.old opened.now draft.old.made pairs.now }
 {
     take_all(
         network,

@@ -41,12 +41,14 @@ use Rattle.epoch_draft.proofs.MarkLemmas.{all_below, marks_kept}
 use Rattle.epoch_draft.proofs.StoreLemmas.{has_store, typed_same}
 use Rattle.epoch_draft.proofs.Lists.{some_is}
 use Rattle.epoch_draft.specs.Marks.{MarksMore}
+use Rattle.epoch_draft.specs.EpochWork.{epoch_work}
 use Rattle.epoch_engine.specs.Closes.{Closes, IsTaken}
 use Rattle.epoch_engine.specs.EngineView.{EngineView, stores_in}
 use Rattle.epoch_engine.specs.Running.{AreTouched, IsPlan, IsRunning}
 use Rattle.epoch_engine.specs.declared.epoch.Epoch.{Epoch}
 use Rattle.epoch_engine.specs.declared.plan.Plan.{Plan}
 use Rattle.epoch_engine.proofs.KindingLemmas.{AreStatesTyped, fitting_typed}
+use Rattle.epoch_engine.specs.Taking.{closing_work}
 
 -- what contracts see of these parts
 abbrev pub view_of : Plan → List (Option Store) → Epoch → Option ℕ → EngineView
@@ -313,3 +315,9 @@ closes_view plan stores after old new closed_time batch empty as_many none (Some
   now_closed = is;
   none_open = none;
 }
+
+-- contracts see the stores whose tests are counted
+pub closes_ticks : (plan : Plan) (stores : List (Option Store)) (epoch : Epoch) (closed_time : Option ℕ) (start end : ℕ) → end ≤ start + closing_work plan stores epoch
+    → end ≤ start + epoch_work plan.merged plan.layout (stores_in (view_of plan stores epoch closed_time)) (streams_of epoch.tuples)
+closes_ticks plan stores epoch closed_time start end ticks =
+    let same = ap (λ (st : Stores). epoch_work plan.merged plan.layout st (streams_of epoch.tuples)) (held_in stores) in omega (arith, ticks, same)

@@ -1,9 +1,10 @@
 -- What the two halves of a closing do with the parts of an engine. No public clause cites this module.
-use Rattle.std.specs.Prelude.{◌+◌, List, IfSome, Option}
+use Rattle.std.specs.Prelude.{ℕ, ◌+◌, ◌≤◌, List, IfSome, Option}
 use Rattle.event_types.specs.Tuple.{TupleView}
 use Rattle.binding_index.specs.declared.store.Store.{Store}
 use Rattle.semantics.specs.Denotation.{streams_of}
 use Rattle.epoch_draft.specs.Deriving.{DrawnUpTo, news_of}
+use Rattle.epoch_draft.specs.EpochWork.{draw_work, epoch_work, pairs_work, taking_work}
 use Rattle.epoch_draft.specs.Held.{held}
 use Rattle.epoch_draft.specs.Settling.{AreClosed}
 use Rattle.epoch_engine.specs.Closes.{IsTaken}
@@ -22,3 +23,19 @@ IsSettled plan epoch drawing old new = IfSome epoch.time (λ time. AreClosed (ti
 -- so that the epoch is taken, with this batch
 abbrev pub TakesEpoch : Plan → Epoch → List (Option Store) → List (Option Store) → List (List TupleView) → Type 0
 TakesEpoch plan epoch old new batch = IfSome epoch.time (λ time. IsTaken plan.merged plan.layout time (held old) (streams_of epoch.tuples) (held new) batch)
+
+-- the tests by which all that comes of the open tuples is drawn over these stores
+abbrev pub drawing_work : Plan → List (Option Store) → Epoch → ℕ
+drawing_work plan stores epoch = draw_work plan.merged plan.layout (held stores) (streams_of epoch.tuples)
+
+-- the tests by which the drawn pairs take out what they match
+abbrev pub settling_work : Plan → List (Option Store) → Epoch → Drawing → ℕ
+settling_work plan stores epoch drawing = pairs_work plan.merged plan.layout.order stores epoch.tuples drawing.draft.made drawing.pairs
+
+-- all tests of the closing
+abbrev pub closing_work : Plan → List (Option Store) → Epoch → ℕ
+closing_work plan stores epoch = epoch_work plan.merged plan.layout (held stores) (streams_of epoch.tuples)
+
+-- the pairs that are drawn take out by no more tests than the tuples of the epoch have
+abbrev pub TakesWithin : Plan → List (Option Store) → Epoch → Drawing → Type 0
+TakesWithin plan stores epoch drawing = settling_work plan stores epoch drawing ≤ taking_work plan.merged plan.layout (held stores) (streams_of epoch.tuples)

@@ -1,11 +1,11 @@
 //! The closing of an epoch.
-ghost use Rattle.std.specs.Prelude.{◌≡◌, IfOk, IsSome, OnErr, OnOk};
+ghost use Rattle.std.specs.Prelude.{◌+◌, ◌≤◌, IfOk, IsSome, OnErr, OnOk};
 ghost use Rattle.epoch_draft.specs.Held.{SameStored};
 ghost use Rattle.epoch_draft.specs.Readying.{HaveRoom};
 ghost use Rattle.epoch_draft.specs.Typed.{IsTyped};
 ghost use Rattle.epoch_engine.specs.Batches.{AreReady, IsOfMade};
 ghost use Rattle.epoch_engine.specs.Running.{IsRunning, IsStillFor};
-ghost use Rattle.epoch_engine.specs.Taking.{IsDrawn, IsSettled, TakesEpoch};
+ghost use Rattle.epoch_engine.specs.Taking.{IsDrawn, IsSettled, TakesEpoch, TakesWithin, closing_work, drawing_work, settling_work};
 
 use crate::batch::{Batch, fill, prepare};
 use crate::drawing::Drawing;
@@ -33,6 +33,7 @@ pub(crate) fn take_epoch<L: Ledger>(
     ensures typed { OnOk result (IsTyped plan.now.merged plan.now.layout.kinds stores.new) }
     ensures still { OnOk result (IsStillFor plan.now drawing.new) }
     ensures kept { OnErr result (SameStored stores.old stores.new) }
+    ensures ticks { steps.new ≤ steps.old + closing_work plan.now stores.old epoch.now }
 {
     let batch = draw_epoch(alloc, plan, stores, epoch, drawing, steps)?;
     Ok(settle_epoch(plan, stores, epoch, drawing, batch, steps))
@@ -54,6 +55,8 @@ fn draw_epoch<L: Ledger>(
     ensures room { OnOk result (HaveRoom stores.new drawing.new.draft.beads) }
     ensures same { SameStored stores.old stores.new }
     ensures ready { IfOk result (AreReady plan.now.layout.outs plan.now.last drawing.new.draft.made) }
+    ensures takes { OnOk result (TakesWithin plan.now stores.new epoch.now drawing.new) }
+    ensures ticks { steps.new ≤ steps.old + drawing_work plan.now stores.old epoch.now }
 {
     draw(
         alloc,
@@ -96,6 +99,7 @@ fn settle_epoch<L: Ledger>(
     ensures settled { IsSettled plan.now epoch.now drawing.old stores.old stores.new }
     ensures batch { IsOfMade plan.now.layout.outs drawing.old.draft.made result }
     ensures still { IsStillFor plan.now drawing.new }
+    ensures ticks { steps.new ≤ steps.old + settling_work plan.now stores.old epoch.now drawing.old }
 {
     let time = match epoch.time {
         Some(time) => time,

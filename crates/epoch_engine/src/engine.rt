@@ -1,10 +1,13 @@
 //! The engine.
-ghost use Rattle.std.specs.Prelude.{◌≡◌, ◌-◌, ◌^◌, ℕ, min, IfNone, IfOk, IfSome, IsSome, OnErr, OnOk};
+ghost use Rattle.std.specs.Prelude.{◌≡◌, ◌+◌, ◌-◌, ◌^◌, ◌≤◌, ℕ, min, IfNone, IfOk, IfSome, IsSome, OnErr, OnOk};
 ghost use Rattle.automaton.specs.NetworkLines.{NetworkFits};
 ghost use Rattle.automaton.specs.Networks.{IsNetwork};
 ghost use Rattle.prefix_merge.specs.Merging.{IsMerged};
+ghost use Rattle.semantics.specs.Denotation.{streams_of};
+ghost use Rattle.epoch_draft.specs.EpochWork.{epoch_work};
 ghost use Rattle.epoch_engine.specs.Closes.{Closes, KeepsPlan};
 ghost use Rattle.epoch_engine.specs.Counts.{stored_in};
+ghost use Rattle.epoch_engine.specs.EngineView.{stores_in};
 ghost use Rattle.epoch_engine.specs.Offers.{IsAnswer, IsHeard, IsLate, IsNotAhead, with_tuple};
 ghost use Rattle.epoch_engine.specs.Running.{IsStillFor};
 ghost use Rattle.epoch_engine.specs.Starts.{IsNew};
@@ -140,6 +143,7 @@ impl Engine {
         ensures closed { IfOk result (λ batch. Closes self.old self.new batch) }
         ensures plan { KeepsPlan self.old self.new }
         ensures kept { OnErr result (self.new ≡ self.old) }
+        ensures ticks { steps.new ≤ steps.old + epoch_work self.old.network self.old.layout (stores_in self.old) (streams_of self.old.opened) }
     {
         let mut drawing = match self.drawing.take() {
             Some(drawing) => drawing,

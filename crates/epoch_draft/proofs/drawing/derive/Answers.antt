@@ -1,16 +1,18 @@
-use Rattle.std.proofs.Common.{◌∙◌, sym, subst, ℕ, ◌+◌, ◌<◌, ◌≤◌, [], length, get_or, arith}
+use Rattle.std.proofs.Common.{◌∙◌, sym, subst, ℕ, ◌+◌, ◌<◌, ◌≤◌, [], length, get_or, arith, ap}
 use Rattle.std.specs.List.{All}
 use Rattle.std.proofs.lemmas.Option.{get_or_from_slice_get}
+use Rattle.semantics.specs.Denotation.{Streams}
 use Rattle.epoch_draft.specs.Agenda.{AreFrom, IsPlanned}
 use Rattle.epoch_draft.specs.Deriving.{Derives}
 use Rattle.epoch_draft.specs.Held.{held}
 use Rattle.epoch_draft.specs.Suits.{TupleSuits}
 use Rattle.epoch_draft.specs.Tests.{stream_work, tuple_work}
-use Rattle.epoch_draft.proofs.AgendaLemmas.{ended_until, first_within, fresh_below, fresh_part, planned_next, popped_left, popped_until, rest_within}
-use Rattle.epoch_draft.proofs.DeriveLemmas.{below, derived_rest, derived_step, made_suits, made_within}
+use Rattle.epoch_draft.proofs.AgendaLemmas.{ended_news, ended_until, first_within, fresh_below, fresh_part, planned_next, popped_left, popped_news, popped_until, rest_within}
+use Rattle.epoch_draft.proofs.DeriveLemmas.{below, derived_rest, derived_step, derived_takes, made_suits, made_within}
 use Rattle.epoch_draft.proofs.MarkLemmas.{all_below}
 use Rattle.epoch_draft.proofs.StoreLemmas.{typed_has}
 use Rattle.epoch_draft.proofs.drawing.derive.Goals as goal
+use Rattle.epoch_draft.specs.Takes.{take_work, takes_work}
 
 pub plan-requires-clause-below : goal.plan-requires-clause-below
 plan-requires-clause-below g c =
@@ -98,6 +100,13 @@ loop-place-preserved g c =
           let left = popped_left net layout stores opened can old pairs tests c.loop-place.next p keys rest c.loop-place.invariant.planned removal c.in-Some.ensures.all_above from lt c.loop-place.invariant.until in
           let one = subst (λ (s : ℕ). c.derive_stream.new.steps ≤ c.loop-place.steps + stream_work net (held stores) s (get_or old.made s [])) (sym is) c.derive_stream.ensures.ticks in
           let all = derived_rest net layout stores opened can p lt old new pairs more until derives tests in omega (arith, was, left, one, all);
+      takes =
+          let was = c.loop-place.invariant.takes in
+          let tests = take_work net (held stores) in
+          let left = popped_left net layout stores opened can old pairs tests c.loop-place.next p keys rest c.loop-place.invariant.planned removal c.in-Some.ensures.all_above from lt c.loop-place.invariant.until in
+          let news = ap (λ (seen : Streams). takes_work net seen (held stores) pairs) (popped_news net layout stores opened can old pairs c.loop-place.next p keys rest c.loop-place.invariant.planned removal c.in-Some.ensures.all_above from lt c.loop-place.invariant.until) in
+          let one = derived_takes net layout stores opened can p lt old new pairs more until derives in
+          let all = derived_rest net layout stores opened can p lt old new pairs more until derives tests in omega (arith, was, left, news, one, all);
       within = subst (λ (end : ℕ). AreFrom (p + 1) end now) c.len-end.ensures c.in_ok-plan-2.ensures.within;
       planned =
           planned_next layout.order (length layout.kinds) c.args.places.now keys rest now old.due.numbers derives.due.added new.due.numbers c.loop-place.next p c.requires.places c.loop-place.invariant.planned from removal c.in_ok-plan-2.ensures.kept
@@ -111,6 +120,17 @@ pub returns-clause-drawn : goal.returns-clause-drawn
 returns-clause-drawn g c =
     ended_until c.args.network.now c.args.layout.now c.args.stores.now c.args.opened.now c.requires.can_draw c.loop-place.draft c.loop-place.pairs c.loop-place.next c.loop-place.agenda.keys c.loop-place.invariant.planned
     (λ some. absurd (let no = c.in_default.ensures.variant.1 some in cc)) c.loop-place.invariant.below c.loop-place.invariant.until
+
+-- what all pairs take out
+pub returns-clause-takes : goal.returns-clause-takes
+returns-clause-takes g c =
+    let net = c.args.network.now in
+    let stores = c.args.stores.now in
+    let was = c.loop-place.invariant.takes in
+    let news =
+    ap (λ (seen : Streams). takes_work net seen (held stores) c.loop-place.pairs)
+    (ended_news net c.args.layout.now stores c.args.opened.now c.requires.can_draw c.loop-place.draft c.loop-place.pairs c.loop-place.next c.loop-place.agenda.keys c.loop-place.invariant.planned
+    (λ some. absurd (let no = c.in_default.ensures.variant.1 some in cc)) c.loop-place.invariant.below c.loop-place.invariant.until) in omega (arith, was, news)
 
 -- want of memory comes after some of the tests
 pub returns-in_err-derive_stream-clause-ticks : goal.returns-in_err-derive_stream-clause-ticks

@@ -50,7 +50,7 @@ returns-clause-derives g c =
       beads = beads;
       fits = subst (λ (m : ℕ). DraftFits m (length net) new) (grows.fits.made ∙ length-set old.made s []) (subst (λ (m : ℕ). DraftFits (length met.made) m new) grows.fits.beads fits);
       due = marks_trans old.due met.due new.due grows.due due;
-      lists = subst (λ (ts : List TupleView). ListsAll net s ts c.args.pairs.now c.meet_stream.new.pairs) c.as_slice.ensures c.in_ok-meet_stream.ensures.lists;
+      lists = subst (λ (ts : List TupleView). ListsAll net stores s ts c.args.pairs.now c.meet_stream.new.pairs) c.as_slice.ensures c.in_ok-meet_stream.ensures.lists;
     }) c.put_made.ensures.made c.put_made.ensures.beads c.put_made.ensures.due c.put_made.ensures.fits
 
 -- the order of the tuples is nothing to their tests

@@ -7,6 +7,9 @@ use Rattle.epoch_draft.proofs.drawing.draw.Goals as goal
 use Rattle.epoch_draft.specs.Held.{held}
 use Rattle.epoch_draft.proofs.EpochLemmas.{heard_within}
 
+pub derive-requires-clause-takes : goal.derive-requires-clause-takes
+derive-requires-clause-takes g c = c.in_ok-meet_opened.ensures.takes
+
 pub returns-clause-keys : goal.returns-clause-keys
 returns-clause-keys g c =
     let net = c.args.network.now in

@@ -1,4 +1,4 @@
-use Rattle.std.proofs.Common.{◌≡◌, ◌∙◌, sym, subst, ℕ, ◌+◌, ◌<◌, ◌≤◌, [], List, length, get_or, arith}
+use Rattle.std.proofs.Common.{◌≡◌, ◌∙◌, sym, subst, ℕ, ◌+◌, ◌<◌, ◌≤◌, [], List, length, get_or, arith, ap, refl}
 use Rattle.std.specs.List.{All}
 use Rattle.std.proofs.lemmas.List.Elements.{All-get_or}
 use Rattle.std.proofs.lemmas.Option.{get_or_from_slice_get}
@@ -9,6 +9,8 @@ use Rattle.epoch_draft.specs.Drawn.{Drawn, Paired}
 use Rattle.epoch_draft.specs.Held.{held}
 use Rattle.epoch_draft.specs.Meeting.{ListsAll, moves_of_all}
 use Rattle.std.proofs.lemmas.List.Sums.{sum_by_more, sum_by_more_le}
+use Rattle.std.specs.Prelude.{sum_by}
+use Rattle.semantics.specs.Denotation.{streams_of}
 use Rattle.epoch_draft.specs.Suits.{TupleSuits}
 use Rattle.epoch_draft.specs.Tests.{stream_work}
 use Rattle.epoch_draft.proofs.DeriveLemmas.{opened_drawn, opened_more, paired_none, rows_suit}
@@ -16,12 +18,17 @@ use Rattle.epoch_draft.proofs.DrawnLemmas.{drawn_starts}
 use Rattle.epoch_draft.proofs.Lists.{taken_all}
 use Rattle.epoch_draft.proofs.StoreLemmas.{typed_has}
 use Rattle.epoch_draft.proofs.drawing.meet_opened.Goals as goal
+use Rattle.epoch_draft.specs.Takes.{take_work, takes_work}
+use Rattle.epoch_draft.specs.EpochWork.{heard_tests}
+use Rattle.epoch_draft.proofs.EpochLemmas.{heard_less}
+use Rattle.epoch_draft.proofs.TakeLemmas.{takes_grow}
 
 pub loop-stream-init : goal.loop-stream-init
 loop-stream-init g c = record {
   fits = c.requires.fits;
   drawn = drawn_starts c.args.network.now (held c.args.stores.now) c.args.draft.now c.requires.none_made c.requires.no_beads;
   paired = paired_none c.args.network.now c.args.pairs.now c.requires.no_pairs;
+  takes = let none = ap (takes_work c.args.network.now (streams_of c.args.opened.now) (held c.args.stores.now)) c.requires.no_pairs in omega (arith, none);
   ticks = omega arith;
 }
 
@@ -53,7 +60,7 @@ loop-stream-preserved g c =
     let new = c.meet_stream.new.draft in
     let is : c.as_slice.result.now ≡ get_or opened s [] = c.as_slice.ensures ∙ sym (get_or_from_slice_get opened s c.get.result.now [] c.get.ensures) in
     let grows : Grows net (moves_of_all net stores s (get_or opened s [])) old new = subst (λ (ts : List TupleView). Grows net (moves_of_all net stores s ts) old new) is c.in_ok-meet_stream.ensures.grows in
-    let lists : ListsAll net s (get_or opened s []) c.loop-stream.pairs c.meet_stream.new.pairs = subst (λ (ts : List TupleView). ListsAll net s ts c.loop-stream.pairs c.meet_stream.new.pairs) is c.in_ok-meet_stream.ensures.lists in
+    let lists : ListsAll net stores s (get_or opened s []) c.loop-stream.pairs c.meet_stream.new.pairs = subst (λ (ts : List TupleView). ListsAll net stores s ts c.loop-stream.pairs c.meet_stream.new.pairs) is c.in_ok-meet_stream.ensures.lists in
     let both =
     opened_more net stores opened touched i old new c.loop-stream.pairs c.meet_stream.new.pairs c.requires.can_draw.network c.loop-stream-test.true (c.requires.touched.once i c.loop-stream-test.true) c.loop-stream.invariant.drawn
     c.loop-stream.invariant.paired grows lists in
@@ -61,6 +68,10 @@ loop-stream-preserved g c =
       fits = subst (λ (m : ℕ). DraftFits m (length net) new) c.loop-stream.invariant.fits.made grows.fits;
       drawn = both.0;
       paired = both.1;
+      takes =
+          let was = c.loop-stream.invariant.takes in
+          let one = takes_grow net stores (streams_of opened) s (get_or opened s []) c.loop-stream.pairs c.meet_stream.new.pairs refl lists in
+          let more = sum_by_more (λ s. sum_by (take_work net stores s) (get_or opened s [])) touched i 0 c.loop-stream-test.true in omega (arith, was, one, more);
       ticks =
           let was = c.loop-stream.invariant.ticks in
           let one = subst (λ (ts : List TupleView). c.meet_stream.new.steps ≤ c.loop-stream.steps + stream_work net stores s ts) is c.in_ok-meet_stream.ensures.ticks in
@@ -78,6 +89,20 @@ returns-clause-drawn g c =
     opened_drawn net c.args.layout.now stores opened touched c.loop-stream.draft c.loop-stream.pairs c.requires.can_draw c.requires.touched c.loop-stream.invariant.fits
     (subst (λ (xs : List ℕ). Drawn net (held stores) (opened_of opened xs) c.loop-stream.draft) all c.loop-stream.invariant.drawn)
     (subst (λ (xs : List ℕ). Paired net (opened_of opened xs) c.loop-stream.pairs) all c.loop-stream.invariant.paired)
+
+-- what their pairs take out
+pub returns-clause-takes : goal.returns-clause-takes
+returns-clause-takes g c =
+    let net = c.args.network.now in
+    let stores = held c.args.stores.now in
+    let opened = c.args.opened.now in
+    let touched = c.args.touched.now in
+    let pairs = c.loop-stream.pairs in
+    let work = take_work net stores in
+    let was =
+    subst (λ (xs : List ℕ). takes_work net (streams_of opened) stores pairs ≤ sum_by (λ s. sum_by (work s) (get_or opened s [])) xs) (taken_all touched c.loop-stream.stream-index c.loop-stream-test.false) c.loop-stream.invariant.takes in
+    let most = heard_less work opened touched c.requires.touched in
+    let many = ap (λ (n : ℕ). heard_tests work n (streams_of opened)) c.requires.can_draw.as_many in omega (arith, was, most, many)
 
 -- want of memory comes after some of the tests
 pub returns-in_err-meet_stream-clause-ticks : goal.returns-in_err-meet_stream-clause-ticks

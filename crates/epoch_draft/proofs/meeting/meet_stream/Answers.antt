@@ -31,8 +31,8 @@ loop-place-preserved g c =
           moves_more (moves_of net stores s) net rows i t c.args.draft.now c.loop-place.draft c.meet_tuple.new.draft c.loop-place-test.true c.loop-place.invariant.grows
           (subst (λ (r : TupleView). Grows net (moves_of net stores s r) c.loop-place.draft c.meet_tuple.new.draft) c.index-tuples-place.is c.in_ok-meet_tuple.ensures.grows);
       lists =
-          lists_more net s rows i t c.args.pairs.now c.loop-place.pairs c.meet_tuple.new.pairs c.loop-place-test.true c.loop-place.invariant.lists
-          (subst (λ (r : TupleView). Lists net s i r c.loop-place.pairs c.meet_tuple.new.pairs) c.index-tuples-place.is c.in_ok-meet_tuple.ensures.lists);
+          lists_more net stores s rows i t c.args.pairs.now c.loop-place.pairs c.meet_tuple.new.pairs c.loop-place-test.true c.loop-place.invariant.lists
+          (subst (λ (r : TupleView). Lists net stores s i r c.loop-place.pairs c.meet_tuple.new.pairs) c.index-tuples-place.is c.in_ok-meet_tuple.ensures.lists);
       ticks =
           let was = c.loop-place.invariant.ticks in
           let one = subst (λ (r : TupleView). c.meet_tuple.new.steps ≤ c.loop-place.steps + tuple_work net stores s r) c.index-tuples-place.is c.in_ok-meet_tuple.ensures.ticks in

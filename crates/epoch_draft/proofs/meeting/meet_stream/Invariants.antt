@@ -9,6 +9,6 @@ use Rattle.epoch_draft.proofs.meeting.meet_stream.Given as goal
 abbrev pub invariant-loop-place : goal.invariant-loop-place
 invariant-loop-place g l = record {
   grows : Grows l.network (moves_of_all l.network (held l.stores) l.stream (take l.place l.tuples)) l.initial.draft l.draft;
-  lists : ListsAll l.network l.stream (take l.place l.tuples) l.initial.pairs l.pairs;
+  lists : ListsAll l.network (held l.stores) l.stream (take l.place l.tuples) l.initial.pairs l.pairs;
   ticks : l.steps ≤ l.initial.steps + stream_work l.network (held l.stores) l.stream (take l.place l.tuples);
 }

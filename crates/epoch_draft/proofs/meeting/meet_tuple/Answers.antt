@@ -98,6 +98,6 @@ returns-clause-lists g c =
     let old = c.args.pairs.now in
     let new = c.meet_waits.new.pairs in
     let states = c.find_waits.new.found.waits in
-    on_ok c.meet_waits.result (new ≡ old ++ map (pair_of s place) c.as_slice-2.result.now) (Lists net s place c.args.tuple.now old new)
+    on_ok c.meet_waits.result (new ≡ old ++ map (pair_of s place) c.as_slice-2.result.now) (Lists net (held c.args.stores.now) s place c.args.tuple.now old new)
     (λ are. record { found = states; finds = c.in_ok-find_waits.ensures.waits net c.requires.readers; are = subst (λ (ns : List ℕ). new ≡ old ++ map (pair_of s place) ns) c.as_slice-2.ensures are })
     c.meet_waits.ensures.pairs

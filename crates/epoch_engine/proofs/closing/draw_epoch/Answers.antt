@@ -1,8 +1,13 @@
-use Rattle.std.proofs.Common.{◌∙◌, ap, sym, subst, ℕ, length}
+use Rattle.std.proofs.Common.{◌∙◌, ap, sym, subst, ℕ, length, ◌+◌, ◌≤◌}
+use Rattle.semantics.specs.Denotation.{streams_of}
 use Rattle.automaton.specs.States.{Net}
-use Rattle.epoch_draft.specs.Deriving.{DrawnUpTo}
+use Rattle.epoch_laws.specs.Closing.{Stores}
+use Rattle.epoch_draft.specs.Deriving.{DrawnUpTo, news_of}
 use Rattle.epoch_draft.specs.Drafts.{DraftFits}
-use Rattle.epoch_draft.proofs.StoreLemmas.{drawn_same, stored_same}
+use Rattle.epoch_draft.proofs.StoreLemmas.{drawn_same, held_same, stored_same}
+use Rattle.epoch_draft.specs.EpochWork.{draw_work, pairs_work, taking_work}
+use Rattle.epoch_draft.specs.Held.{held}
+use Rattle.epoch_draft.specs.Takes.{takes_work}
 use Rattle.epoch_engine.proofs.EngineLemmas.{opened_streams, outs_inside}
 use Rattle.epoch_engine.proofs.closing.draw_epoch.Goals as goal
 
@@ -31,3 +36,35 @@ returns-clause-drawn g c =
 
 pub returns-in_err-draw-clause-same : goal.returns-in_err-draw-clause-same
 returns-in_err-draw-clause-same g c = stored_same c.args.stores.now
+
+-- what the pairs take out
+pub returns-clause-takes : goal.returns-clause-takes
+returns-clause-takes g c =
+    let plan = c.args.plan.now in
+    let opened = c.args.epoch.now.tuples in
+    let draft = c.draw.new.draft in
+    let pairs = c.draw.new.pairs in
+    let order = plan.layout.order in
+    subst (λ (st : Stores). takes_work plan.merged (news_of opened draft.made order) st pairs ≤ taking_work plan.merged plan.layout st (streams_of opened)) (held_same c.args.stores.now c.make_room.new.stores c.make_room.ensures.same)
+    (subst (λ (net : Net). pairs_work net order c.args.stores.now opened draft.made pairs ≤ taking_work net plan.layout (held c.args.stores.now) (streams_of opened)) c.network.ensures.value c.in_ok-draw.ensures.takes)
+
+-- all tests are those of the drawing
+pub returns-in_err-draw-clause-ticks : goal.returns-in_err-draw-clause-ticks
+returns-in_err-draw-clause-ticks g c =
+    let plan = c.args.plan.now in
+    subst (λ (net : Net). c.draw.new.steps ≤ c.args.steps.now + draw_work net plan.layout (held c.args.stores.now) (streams_of c.args.epoch.now.tuples)) c.network.ensures.value c.draw.ensures.ticks
+
+pub returns-in_err-batch-clause-ticks : goal.returns-in_err-batch-clause-ticks
+returns-in_err-batch-clause-ticks g c =
+    let plan = c.args.plan.now in
+    subst (λ (net : Net). c.draw.new.steps ≤ c.args.steps.now + draw_work net plan.layout (held c.args.stores.now) (streams_of c.args.epoch.now.tuples)) c.network.ensures.value c.draw.ensures.ticks
+
+pub returns-in_err-make_room-clause-ticks : goal.returns-in_err-make_room-clause-ticks
+returns-in_err-make_room-clause-ticks g c =
+    let plan = c.args.plan.now in
+    subst (λ (net : Net). c.draw.new.steps ≤ c.args.steps.now + draw_work net plan.layout (held c.args.stores.now) (streams_of c.args.epoch.now.tuples)) c.network.ensures.value c.draw.ensures.ticks
+
+pub returns-clause-ticks : goal.returns-clause-ticks
+returns-clause-ticks g c =
+    let plan = c.args.plan.now in
+    subst (λ (net : Net). c.draw.new.steps ≤ c.args.steps.now + draw_work net plan.layout (held c.args.stores.now) (streams_of c.args.epoch.now.tuples)) c.network.ensures.value c.draw.ensures.ticks

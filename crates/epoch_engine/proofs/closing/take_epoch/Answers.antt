@@ -1,9 +1,10 @@
-use Rattle.std.proofs.Common.{sym, subst}
+use Rattle.std.proofs.Common.{sym, subst, ap, arith}
 use Rattle.std.proofs.lemmas.Option.{IfSome_then}
 use Rattle.semantics.specs.Denotation.{streams_of}
 use Rattle.epoch_laws.specs.Closing.{Stores}
 use Rattle.epoch_draft.specs.Held.{held}
 use Rattle.epoch_draft.proofs.StoreLemmas.{can_draw_same, held_same}
+use Rattle.epoch_draft.specs.EpochWork.{taking_work}
 use Rattle.epoch_engine.specs.Closes.{IsTaken}
 use Rattle.epoch_engine.proofs.ClosedLemmas.{taken, typed_after}
 use Rattle.epoch_engine.proofs.EngineLemmas.{with_same}
@@ -37,3 +38,17 @@ returns-clause-typed g c =
     let mid = c.draw_epoch.new.stores in
     typed_after plan.merged plan.layout mid c.settle_epoch.new.stores epoch.tuples drawing.draft drawing.pairs
     (can_draw_same plan.merged plan.layout c.args.stores.now mid epoch.tuples c.draw_epoch.ensures.same c.requires.running.can_draw) c.in_ok-batch.ensures.drawn epoch.time c.requires.opened c.settle_epoch.ensures.settled
+
+-- want of memory comes in the first half
+pub returns-in_err-batch-clause-ticks : goal.returns-in_err-batch-clause-ticks
+returns-in_err-batch-clause-ticks g c = let one = c.draw_epoch.ensures.ticks in omega (arith, one)
+
+-- both halves together
+pub returns-clause-ticks : goal.returns-clause-ticks
+returns-clause-ticks g c =
+    let plan = c.args.plan.now in
+    let same =
+    ap (λ (st : Stores). taking_work plan.merged plan.layout st (streams_of c.args.epoch.now.tuples)) (held_same c.args.stores.now c.draw_epoch.new.stores c.draw_epoch.ensures.same) in
+    let one = c.draw_epoch.ensures.ticks in
+    let two = c.settle_epoch.ensures.ticks in
+    let takes = c.in_ok-batch.ensures.takes in omega (arith, same, one, two, takes)

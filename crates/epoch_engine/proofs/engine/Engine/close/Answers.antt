@@ -1,11 +1,13 @@
-use Rattle.std.proofs.Common.{◌≡◌, ◌∙◌, sym, refl, subst}
+use Rattle.std.proofs.Common.{◌≡◌, ◌∙◌, sym, refl, subst, ◌+◌, ◌≤◌}
 use Rattle.std.specs.Prelude.{IfSome, IsSome, Option}
+use Rattle.semantics.specs.Denotation.{streams_of}
 use Rattle.epoch_engine.specs.Closes.{Closes}
-use Rattle.epoch_engine.specs.EngineView.{EngineView}
+use Rattle.epoch_engine.specs.EngineView.{EngineView, stores_in}
 use Rattle.epoch_draft.proofs.Lists.{on_err}
+use Rattle.epoch_draft.specs.EpochWork.{epoch_work}
 use Rattle.epoch_engine.specs.Running.{IsStillFor}
 use Rattle.epoch_engine.specs.declared.drawing.Drawing.{Drawing}
-use Rattle.epoch_engine.proofs.EngineLemmas.{closes_view, view_of, view_same, with_same}
+use Rattle.epoch_engine.proofs.EngineLemmas.{closes_ticks, closes_view, view_of, view_same, with_same}
 use Rattle.epoch_engine.proofs.engine.Engine.close.Goals as goal
 
 -- the open epoch was taken
@@ -32,3 +34,16 @@ returns-in_err-batch-clause-kept g c =
     let e = c.self.inside in
     let after = c.take_epoch.new.stores in
     on_err c.from_residual-in_err-batch.result (view_of e.plan after e.epoch e.closed_time ≡ c.args.self.now) (view_same e.plan e.stores after e.epoch e.closed_time c.in_err-batch.ensures.kept ∙ c.self.view_is)
+
+-- no more is tested than the tuples of the epoch ask for
+pub returns-in_err-batch-clause-ticks : goal.returns-in_err-batch-clause-ticks
+returns-in_err-batch-clause-ticks g c =
+    let e = c.self.inside in
+    subst (λ (v : EngineView). c.take_epoch.new.steps ≤ c.args.steps.now + epoch_work v.network v.layout (stores_in v) (streams_of v.opened)) c.self.view_is
+    (closes_ticks e.plan e.stores e.epoch e.closed_time c.args.steps.now c.take_epoch.new.steps c.take_epoch.ensures.ticks)
+
+pub returns-clause-ticks : goal.returns-clause-ticks
+returns-clause-ticks g c =
+    let e = c.self.inside in
+    subst (λ (v : EngineView). c.take_epoch.new.steps ≤ c.args.steps.now + epoch_work v.network v.layout (stores_in v) (streams_of v.opened)) c.self.view_is
+    (closes_ticks e.plan e.stores e.epoch e.closed_time c.args.steps.now c.take_epoch.new.steps c.take_epoch.ensures.ticks)
