@@ -8,6 +8,7 @@ pub mod DraftLemmas
 pub mod DrawnLemmas
 pub mod EdgeLemmas
 pub mod EpochLemmas
+pub mod Examples
 pub mod GoingLemmas
 pub mod KeyLemmas
 pub mod Lists

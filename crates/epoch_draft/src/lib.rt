@@ -9,8 +9,8 @@
 //! some. `Marks` are flags by number and the numbers whose flags are up, each once. A `Pair` is the number of
 //! a waiting state and a tuple by its stream and its place there.
 //!
-//! The contracts still lack a bound on the steps of both halves together, of which `draw` and `settle` say
-//! parts, and on those of `draw` at want of memory.
+//! Each half states a bound on its tests of conditions, whatever it answers. Both together test no more than
+//! `epoch_work` says of the tuples of the epoch.
 #![tactic(auto)]
 
 mod agenda;
