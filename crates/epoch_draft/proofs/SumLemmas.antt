@@ -24,7 +24,7 @@ but_later f x a (suc n) lt =
 -- a sum over a range is what one number has and what the others have, by induction on the range
 pub split_sum : (f : ℕ → ℕ) (x a n : ℕ) → a ≤ x → x < a + n → sum_by f (range_with_len a n) ≡ f x + sum_by (but f x) (range_with_len a n)
 split_sum f x a zero le lt = absurd (omega (arith, le, lt))
-split_sum f x a (suc n) le lt = go (are_same_or_not a x)
+split_sum f x a (suc n) le lt = go (are_same_or_not a x) (split_sum f x (a + 1) n)
   where
     left : sum_by f (range_with_len a (suc n)) ≡ f a + sum_by f (range_with_len (a + 1) n)
     left = sum_by-cons f a (range_with_len (a + 1) n)
@@ -32,14 +32,14 @@ split_sum f x a (suc n) le lt = go (are_same_or_not a x)
     right : sum_by (but f x) (range_with_len a (suc n)) ≡ but f x a + sum_by (but f x) (range_with_len (a + 1) n)
     right = sum_by-cons (but f x) a (range_with_len (a + 1) n)
 
-    go : (a ≡ x) ⊎ (a ≡ x → ⊥) → sum_by f (range_with_len a (suc n)) ≡ f x + sum_by (but f x) (range_with_len a (suc n))
-    go (inl same) =
+    go : (a ≡ x) ⊎ (a ≡ x → ⊥) → (a + 1 ≤ x → x < a + 1 + n → sum_by f (range_with_len (a + 1) n) ≡ f x + sum_by (but f x) (range_with_len (a + 1) n)) → sum_by f (range_with_len a (suc n)) ≡ f x + sum_by (but f x) (range_with_len a (suc n))
+    go (inl same) more =
         let mine : f a ≡ f x = ap f same in
         let gone : but f x a ≡ 0 = ap (λ b. cond b 0 (f a)) (is_same a x same) in
         let later = but_later f x (a + 1) n (omega (arith, same)) in omega (arith, left, right, mine, gone, later)
-    go (inr other) =
+    go (inr other) more =
         let kept : but f x a ≡ f a = ap (λ b. cond b 0 (f a)) (is_other a x other) in
-        let rest = split_sum f x (a + 1) n (omega (arith, le, other)) (omega (arith, lt)) in omega (arith, left, right, kept, rest)
+        let rest = more (omega (arith, le, other)) (omega (arith, lt)) in omega (arith, left, right, kept, rest)
 
 -- what numbers have among which the one isn't
 but_absent : (f : ℕ → ℕ) (x : ℕ) (xs : List ℕ) → ((k : ℕ) → k < length xs → get_or xs k 0 ≡ x → ⊥) → sum_by f xs ≡ sum_by (but f x) xs
