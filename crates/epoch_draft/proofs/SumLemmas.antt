@@ -53,7 +53,8 @@ but_absent f x (y ∷ ys) absent =
 pub once_sum : (n : ℕ) (xs : List ℕ) (f : ℕ → ℕ) → All (λ x. x < n) xs → ((k : ℕ) → k < length xs → Contains (take k xs) (get_or xs k 0) → ⊥) → sum_by f xs ≤ sum_by f (range_with_len 0 n)
 once_sum n [] f below once = omega arith
 once_sum n (x ∷ xs) f below once =
-    let split = split_sum f x 0 n (omega arith) (All-head (λ y. y < n) x xs below) in
+    let first = All-head (λ y. y < n) x xs below in
+    let split = split_sum f x 0 n (omega arith) (omega (arith, first)) in
     let rest = once_sum n xs (but f x) (All-tail (λ y. y < n) x xs below) (λ k lt c. once (suc k) (omega (arith, lt)) (Contains-append_right (x ∷ []) (take k xs) (get_or xs k 0) c)) in
     let same =
     but_absent f x xs (λ k lt e. once (suc k) (omega (arith, lt)) (subst (Contains (x ∷ take k xs)) (sym e) (Contains-append_left (x ∷ []) (take k xs) x (Contains-push [] x)))) in
