@@ -1,7 +1,6 @@
 -- Batches are prepared and filled, place by place.
 use Rattle.std.proofs.Common.{◌≡◌, ◌∙◌, sym, ap, refl, subst, inl, inr, ℕ, zero, suc, ◌+◌, ◌==◌, ◌<◌, ◌≤◌, ◌⊎◌, true, false, length, get_or, set, take, List, [], ◌∷◌, ◌++◌, map, arith}
 use Rattle.std.proofs.Math.Seq.{get_or-append_seam}
-use Rattle.std.proofs.lemmas.Bool.Decides.{nat_tests}
 use Rattle.std.proofs.lemmas.Grind.{get_or-set_at}
 use Rattle.std.proofs.lemmas.List.{get_or_append_left, get_or-set_other, length-append, length-map, length-set, length-take-le, same_lists, take_more}
 use Rattle.event_types.specs.Tuple.{TupleView}

@@ -1,5 +1,5 @@
 //! What the closing of an epoch draws before it changes any store.
-ghost use Rattle.std.specs.Prelude.{◌≡◌, ℕ, IfOk, length};
+ghost use Rattle.std.specs.Prelude.{IfOk, length};
 ghost use Rattle.epoch_draft.specs.Drafts.{DraftFits};
 ghost use Rattle.epoch_engine.specs.Running.{IsStill};
 

@@ -1,6 +1,6 @@
 use Rattle.std.proofs.Common.{◌≡◌, ◌∙◌, ap, refl, subst, sym, ℕ, ◌==◌, false, List, [], ◌∷◌, ◌++◌}
-use Rattle.std.specs.Prelude.{IsTrue, Option, Some, None, pos, slice_get}
-use Rattle.std.specs.List.{All, filter, list_any}
+use Rattle.std.specs.Prelude.{IsTrue, Some, None, pos, slice_get}
+use Rattle.std.specs.List.{All, list_any}
 use Rattle.std.proofs.lemmas.List.Elements.{All-cons, All-nil}
 use Rattle.event_types.specs.declared.comparison.Cmp.TheVariants as cmp
 use Rattle.event_types.specs.declared.kind.Kind.{Kind}
@@ -10,11 +10,9 @@ use Rattle.semantics.specs.Scalars.{Pr, Binding, Dur, Event, Lit, Test}
 use Rattle.semantics.specs.Typing.{AreTyped, IsTyped}
 use Rattle.automaton.specs.Layouts.{LayoutFits}
 use Rattle.automaton.specs.LineKinds.{LineFits, WaitGives}
-use Rattle.automaton.specs.Work.{IsInOrder, ReadsNone, is_in}
-use Rattle.automaton.specs.declared.layout.Layout.{Layout}
+use Rattle.automaton.specs.Work.{ReadsNone, is_in}
 use Rattle.automaton.specs.declared.line.Hop.{Hop}
 use Rattle.automaton.specs.declared.line.Line.{Line}
-use Rattle.automaton.specs.declared.wait.Turn.{Turn}
 use Rattle.automaton.specs.declared.wait.Wait.{Wait}
 use Rattle.epoch_engine.proofs.tests.network.lines.Goals as goal
 
