@@ -15,7 +15,7 @@ use Rattle.static_index.specs.Conditions.{Condition, ids_of, matched}
 use Rattle.static_index.specs.FixedParts.{all_hold}
 use Rattle.static_index.proofs.LawLemmas.{matched_is_looked_up}
 use Rattle.stream_readers.specs.Filing.{Filed, filed_to, targets_met, waiting_as}
-use Rattle.stream_readers.specs.Finding.{FindsWaits, FindsWays, IsDeaf, IsSilent, waits_on}
+use Rattle.stream_readers.specs.Finding.{FindsPlain, FindsWays, IsDeaf, IsSilent, plain_waits_on}
 use Rattle.stream_readers.specs.Readers.{targets_on}
 use Rattle.stream_readers.specs.Targets.{IsTarget, way_of}
 use Rattle.stream_readers.specs.Ways.{Way, is_state_looked_up, is_way_looked_up, parts_at}
@@ -96,15 +96,15 @@ finds_ways net stream tuple filed network same = record {
         ∙ ap (λ xs. flat_map (way_to net) some ++ xs) (flat_map-map (way_of net) (λ (one : Filed). one.target) more) ∙ sym (flat_map-append (way_to net) some more)
 
 -- and the states that wait on the stream and may match it
-pub finds_waits : (net : Net) (stream : ℕ) (tuple : TupleView) (conditions : List Condition) → conditions ≡ map (waiting_as net) (waits_on net stream) → FindsWaits net stream tuple (matched tuple conditions)
-finds_waits net stream tuple conditions same = record {
-  others = filter unmet (waits_on net stream);
+pub finds_plain : (net : Net) (stream : ℕ) (tuple : TupleView) (conditions : List Condition) → conditions ≡ map (waiting_as net) (plain_waits_on net stream) → FindsPlain net stream tuple (matched tuple conditions)
+finds_plain net stream tuple conditions same = record {
+  others = filter unmet (plain_waits_on net stream);
   all =
-      permuted_from (ap (λ ns. ns ++ filter unmet (waits_on net stream)) found) (IsPermutation-sym (waits_on net stream) (filter met (waits_on net stream) ++ filter unmet (waits_on net stream)) (IsPermutation-filter_both met unmet (λ n. refl) (waits_on net stream)));
-  deaf = All-weaker (λ n. unmet n ≡ true) (IsDeaf net tuple) (λ n is. deaf_state net tuple n (missed (met n) is)) (filter unmet (waits_on net stream)) (filter_passes unmet (waits_on net stream));
+      permuted_from (ap (λ ns. ns ++ filter unmet (plain_waits_on net stream)) found) (IsPermutation-sym (plain_waits_on net stream) (filter met (plain_waits_on net stream) ++ filter unmet (plain_waits_on net stream)) (IsPermutation-filter_both met unmet (λ n. refl) (plain_waits_on net stream)));
+  deaf = All-weaker (λ n. unmet n ≡ true) (IsDeaf net tuple) (λ n is. deaf_state net tuple n (missed (met n) is)) (filter unmet (plain_waits_on net stream)) (filter_passes unmet (plain_waits_on net stream));
   looked_up =
       subst (All (λ n. is_state_looked_up net tuple n ≡ true)) (sym found)
-      (All-weaker (λ n. met n ≡ true) (λ n. is_state_looked_up net tuple n ≡ true) (λ n is. matched_is_looked_up tuple (parts_at net n) is) (filter met (waits_on net stream)) (filter_passes met (waits_on net stream)));
+      (All-weaker (λ n. met n ≡ true) (λ n. is_state_looked_up net tuple n ≡ true) (λ n is. matched_is_looked_up tuple (parts_at net n) is) (filter met (plain_waits_on net stream)) (filter_passes met (plain_waits_on net stream)));
 }
   where
     met : ℕ → Bool
@@ -113,5 +113,5 @@ finds_waits net stream tuple conditions same = record {
     unmet : ℕ → Bool
     unmet n = not (all_hold tuple (parts_at net n))
 
-    found : matched tuple conditions ≡ filter met (waits_on net stream)
-    found = ap (matched tuple) same ∙ waits_met net tuple (waits_on net stream)
+    found : matched tuple conditions ≡ filter met (plain_waits_on net stream)
+    found = ap (matched tuple) same ∙ waits_met net tuple (plain_waits_on net stream)

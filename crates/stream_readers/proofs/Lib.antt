@@ -1,4 +1,8 @@
 pub mod FilingLemmas
 pub mod FindLemmas
+pub mod KeyedLemmas
+pub mod KeyTableLemmas
+pub mod LeadLemmas
 pub mod MakeLemmas
+pub mod OnceLemmas
 pub mod TargetLemmas

@@ -1,5 +1,5 @@
 -- Readers of one state more.
-use Rattle.std.proofs.Common.{◌≡◌, ◌∙◌, sym, ap, refl, subst, ℕ, zero, suc, ◌+◌, ◌<◌, ◌≤◌, ◌==◌, Bool, true, false, cond, length, set, List, [], ◌∷◌, ◌++◌, map, arith}
+use Rattle.std.proofs.Common.{◌≡◌, ◌∙◌, sym, ap, refl, subst, ℕ, zero, suc, ◌+◌, ◌<◌, ◌≤◌, ◌==◌, ◌&&◌, not, Bool, true, false, cond, length, set, List, [], ◌∷◌, ◌++◌, map, arith}
 use Rattle.std.specs.Prelude.{Option, Some, None, is_some, slice_get}
 use Rattle.std.specs.Option.{option_and_then, option_map}
 use Rattle.std.specs.List.{All, filter, flat_map, range_with_len}
@@ -10,13 +10,17 @@ use Rattle.std.proofs.lemmas.List.Sorted.{IsPermutation-refl}
 use Rattle.std.proofs.lemmas.Option.{slice_get_within}
 use Rattle.event_types.proofs.NumberLemmas.{is_other, other_number, same_number}
 use Rattle.scalar_expr.proofs.Bags.{permuted_from}
+use Rattle.instances.specs.Keys.{Key}
 use Rattle.automaton.specs.States.{Net, entrance_in, is_used, root_at, root_in, state_at, tells, wait_at, wait_by}
 use Rattle.automaton.specs.declared.network.State.{State}
 use Rattle.automaton.specs.declared.wait.Wait.{Wait}
+use Rattle.binding_index.specs.KeyParts.{key_of_part}
+use Rattle.binding_index.specs.declared.key.KeyPart.{KeyPart}
 use Rattle.static_index.specs.Conditions.{Condition, HasId, ids_of, with_condition}
 use Rattle.static_index.specs.FixedParts.{fixed_parts}
 use Rattle.stream_readers.specs.Filing.{Filed, filed_to, waiting_as}
-use Rattle.stream_readers.specs.Finding.{is_root_on, is_wait_on}
+use Rattle.stream_readers.specs.Finding.{is_plain_on, is_root_on, is_wait_on}
+use Rattle.stream_readers.specs.Leading.{is_keyed, lead_key, lead_key_in}
 use Rattle.stream_readers.specs.Making.{AreReadersBelow, reader_below}
 use Rattle.stream_readers.specs.Readers.{AreReadersOf}
 use Rattle.stream_readers.specs.Targets.{targets_at}
@@ -54,6 +58,31 @@ pub unread_more : (net : Net) (old new : List Reader) (reader : Reader) → AreR
 unread_more net old new reader below none new_is stream one is =
     push_cases (λ (r : Reader). r ≡ reader_below net 0 0 stream) old stream reader one (ap (λ (rs : List Reader). slice_get rs stream) (sym new_is) ∙ is) (below stream one) none
 
+and_true : (b : Bool) → (b && true) ≡ b
+and_true true = refl
+and_true false = refl
+
+and_false : (b : Bool) → (b && false) ≡ false
+and_false true = refl
+and_false false = refl
+
+-- what waits on none of the streams waits on none without a key
+pub told_plain : (net : Net) (stream n : ℕ) → tells stream (option_map (λ (w : Wait). w.stream) (wait_at net n)) ≡ false → is_plain_on net stream n ≡ false
+told_plain net stream n none = ap (λ b. b && not (is_keyed net n)) none
+
+-- nor does what is found by a key
+pub keyed_plain : (net : Net) (stream n : ℕ) (wait : Wait) → wait_at net n ≡ Some wait → is_some (lead_key wait.choose) ≡ true → is_plain_on net stream n ≡ false
+keyed_plain net stream n wait is keyed = ap (λ b. is_wait_on net stream n && not b) (ap (λ (o : Option Wait). is_some (lead_key_in o)) is ∙ keyed) ∙ and_false (is_wait_on net stream n)
+
+-- whether there is a key, as the program tells
+pub has_key : (o : Option Key) (part : Option KeyPart) → option_map key_of_part part ≡ o → is_some part ≡ true → is_some o ≡ true
+has_key o None same some = absurd (cc)
+has_key o (Some part) same some = ap is_some (sym same)
+
+pub no_key : (o : Option Key) (part : Option KeyPart) → option_map key_of_part part ≡ o → is_some part ≡ false → o ≡ None
+no_key o None same none = sym same
+no_key o (Some part) same none = absurd (cc)
+
 -- what isn't told is none of the streams
 pub none_told : (o : Option ℕ) (stream : ℕ) → o ≡ None → tells stream o ≡ false
 none_told o stream is = ap (tells stream) is
@@ -80,12 +109,12 @@ module _ (net : Net) where
       go false = refl
 
   -- the waiting states of one number more
-  waits_more : (stream n m : ℕ) (b : Bool) → is_wait_on net stream m ≡ b → reader_below net n (m + 1) stream ≡ (let old = reader_below net n m stream in record { targets = old.targets; waits = old.waits ++ cond b (waiting_as net m ∷ []) [] })
+  waits_more : (stream n m : ℕ) (b : Bool) → is_plain_on net stream m ≡ b → reader_below net n (m + 1) stream ≡ (let old = reader_below net n m stream in record { targets = old.targets; waits = old.waits ++ cond b (waiting_as net m ∷ []) [] })
   waits_more stream n m b is = ap (λ (cs : List Condition). record { targets = (reader_below net n m stream).targets; waits = cs })
       (ap (map (waiting_as net)) (kept_more wait m) ∙ map-append (waiting_as net) (filter wait (range_with_len 0 m)) (cond (wait m) (m ∷ []) []) ∙ ap (λ cs. map (waiting_as net) (filter wait (range_with_len 0 m)) ++ cs) (ap (λ b. map (waiting_as net) (cond b (m ∷ []) [])) is ∙ go b))
     where
       wait : ℕ → Bool
-      wait = is_wait_on net stream
+      wait = is_plain_on net stream
 
       go : (b : Bool) → map (waiting_as net) (cond b (m ∷ []) []) ≡ cond b (waiting_as net m ∷ []) []
       go true = refl
@@ -97,7 +126,7 @@ module _ (net : Net) where
       below stream reader is ∙ ap (λ (fs : List Filed). record { targets = fs; waits = (reader_below net n m stream).waits }) (sym (append-nil (reader_below net n m stream).targets)) ∙ sym (targets_more stream n m false (none stream (slice_get_within readers stream reader is)))
 
   -- a number that waits on none of the streams
-  pub no_wait : (n m : ℕ) (readers : List Reader) → ((stream : ℕ) → stream < length readers → is_wait_on net stream m ≡ false) → AreReadersBelow net n m readers → AreReadersBelow net n (m + 1) readers
+  pub no_wait : (n m : ℕ) (readers : List Reader) → ((stream : ℕ) → stream < length readers → is_plain_on net stream m ≡ false) → AreReadersBelow net n m readers → AreReadersBelow net n (m + 1) readers
   no_wait n m readers none below stream reader is =
       below stream reader is ∙ ap (λ (cs : List Condition). record { targets = (reader_below net n m stream).targets; waits = cs }) (sym (append-nil (reader_below net n m stream).waits)) ∙ sym (waits_more stream n m false (none stream (slice_get_within readers stream reader is)))
 
@@ -118,7 +147,7 @@ module _ (net : Net) where
 
   -- the waiting states below a number have lesser numbers
   pub waits_below : (n m s : ℕ) (reader : Reader) → reader ≡ reader_below net n m s → All (λ k. k < m) (ids_of reader.waits)
-  waits_below n m s reader is = subst (λ (r : Reader). All (λ k. k < m) (ids_of r.waits)) (sym is) (go (filter (is_wait_on net s) (range_with_len 0 m)) (All-filter (is_wait_on net s) (λ k. k < m) (range_with_len 0 m) (range_below 0 m m (omega arith))))
+  waits_below n m s reader is = subst (λ (r : Reader). All (λ k. k < m) (ids_of r.waits)) (sym is) (go (filter (is_plain_on net s) (range_with_len 0 m)) (All-filter (is_plain_on net s) (λ k. k < m) (range_with_len 0 m) (range_below 0 m m (omega arith))))
     where
       ids : (ns : List ℕ) → ns ≡ ids_of (map (waiting_as net) ns)
       ids [] = refl
@@ -133,14 +162,15 @@ module _ (net : Net) where
 
   -- a waiting state comes
   pub wait_comes : (n m : ℕ) (wait : Wait) (old : List Reader) (was now : Reader) → wait_at net m ≡ Some wait → slice_get old wait.stream ≡ Some was → now ≡ record { targets = was.targets; waits = with_condition (record { id = m; parts = fixed_parts wait.choose }) was.waits }
-      → AreReadersBelow net n m old → AreReadersBelow net n (m + 1) (set old wait.stream now)
-  wait_comes n m wait old was now waiting here now_is below stream reader at = go (s == stream) refl
+      → lead_key wait.choose ≡ None → AreReadersBelow net n m old → AreReadersBelow net n (m + 1) (set old wait.stream now)
+  wait_comes n m wait old was now waiting here now_is plain below stream reader at = go (s == stream) refl
     where
       s : ℕ
       s = wait.stream
 
-      told : (b : Bool) → (s == stream) ≡ b → is_wait_on net stream m ≡ b
-      told b same = ap (λ (o : Option Wait). tells stream (option_map (λ (w : Wait). w.stream) o)) waiting ∙ same
+      told : (b : Bool) → (s == stream) ≡ b → is_plain_on net stream m ≡ b
+      told b same =
+          ap (λ (o : Option Wait). tells stream (option_map (λ (w : Wait). w.stream) o) && not (is_some (lead_key_in o))) waiting ∙ ap (λ b. b && not (is_some (lead_key wait.choose))) same ∙ ap (λ (o : Option Key). b && not (is_some o)) plain ∙ and_true b
 
       last : with_condition (record { id = m; parts = fixed_parts wait.choose }) was.waits ≡ was.waits ++ waiting_as net m ∷ []
       last =
@@ -166,7 +196,7 @@ module _ (net : Net) where
       roots stream None none = refl
       roots stream (Some state) none = absurd (cc)
 
-      waits : (stream : ℕ) (o : Option State) → is_some o ≡ false → tells stream (option_map (λ (w : Wait). w.stream) (option_and_then wait_by (entrance_in o))) ≡ false
+      waits : (stream : ℕ) (o : Option State) → is_some o ≡ false → (tells stream (option_map (λ (w : Wait). w.stream) (option_and_then wait_by (entrance_in o))) && not (is_some (lead_key_in (option_and_then wait_by (entrance_in o))))) ≡ false
       waits stream None none = refl
       waits stream (Some state) none = absurd (cc)
 

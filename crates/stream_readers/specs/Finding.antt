@@ -1,15 +1,21 @@
 -- What the look-ups by a tuple of a stream have to find.
-use Rattle.std.specs.Prelude.{◌≡◌, ℕ, Bool, false, true, List, ◌++◌, length, Some, None}
+use Rattle.std.specs.Prelude.{◌≡◌, ℕ, ◌<◌, ◌&&◌, ◌⊎◌, Bool, not, false, true, List, [], ◌++◌, length, min, Some, None, slice_index_or}
 use Rattle.std.specs.Option.{option_map}
 use Rattle.std.specs.List.{All, filter, flat_map, range_with_len}
 use Rattle.std.specs.List.Sorted.{IsPermutation}
 use Rattle.event_types.specs.Tuple.{TupleView}
+use Rattle.instances.specs.Keys.{Key}
 use Rattle.semantics.specs.Nexts.{is_eligible}
+use Rattle.semantics.specs.Values.{value_at}
 use Rattle.automaton.specs.States.{Net, root_at, step_at, tells, wait_at}
 use Rattle.automaton.specs.Steps.{pass}
 use Rattle.automaton.specs.declared.wait.Wait.{Wait}
+use Rattle.binding_index.specs.Leads.{Entries, Leads, states_at}
+use Rattle.static_index.specs.FixedParts.{all_hold}
+use Rattle.stream_readers.specs.KeyTables.{KeyTable, entries_at}
+use Rattle.stream_readers.specs.Leading.{is_keyed, lead_key_at}
 use Rattle.stream_readers.specs.Targets.{IsTarget, way_of}
-use Rattle.stream_readers.specs.Ways.{Back, Into, Out, Way, is_state_looked_up, is_way_looked_up, ways_at}
+use Rattle.stream_readers.specs.Ways.{Back, Into, Out, Way, is_state_looked_up, is_way_looked_up, parts_at, ways_at}
 use Rattle.stream_readers.specs.declared.target.Target.{Target}
 
 -- whether a state is a root of a stream
@@ -46,9 +52,47 @@ pub record FindsWays (net : Net) (stream : ℕ) (tuple : TupleView) (found : Lis
   pub silent : All (IsSilent net tuple) others
   pub looked_up : All (λ way. is_way_looked_up net tuple way ≡ true) (flat_map (way_of net) found)
 
--- the numbers are those of states that wait on a stream and are looked up by the tuple, each once, and the tuple is eligible for no binding at the others
-pub record FindsWaits (net : Net) (stream : ℕ) (tuple : TupleView) (found : List ℕ) : Type 0 where
+-- whether a state waits on a stream without a key to find it
+abbrev pub is_plain_on : Net → ℕ → ℕ → Bool
+is_plain_on net stream number = is_wait_on net stream number && not (is_keyed net number)
+
+-- whether a state waits on a stream and is found by a key
+abbrev pub is_keyed_on : Net → ℕ → ℕ → Bool
+is_keyed_on net stream number = is_wait_on net stream number && is_keyed net number
+
+-- the states that wait on a stream without a key to find them
+abbrev pub plain_waits_on : Net → ℕ → List ℕ
+plain_waits_on net stream = filter (is_plain_on net stream) (range_with_len 0 (length net))
+
+-- the states that wait on a stream and are found by a key
+abbrev pub keyed_waits_on : Net → ℕ → List ℕ
+keyed_waits_on net stream = filter (is_keyed_on net stream) (range_with_len 0 (length net))
+
+-- the numbers are those of states that wait on a stream without a key to find them and are looked up by the tuple, each once, and the tuple is eligible for no binding at the others
+pub record FindsPlain (net : Net) (stream : ℕ) (tuple : TupleView) (found : List ℕ) : Type 0 where
   pub others : List ℕ
-  pub all : IsPermutation (found ++ others) (waits_on net stream)
+  pub all : IsPermutation (found ++ others) (plain_waits_on net stream)
   pub deaf : All (IsDeaf net tuple) others
+  pub looked_up : All (λ number. is_state_looked_up net tuple number ≡ true) found
+
+-- the states to which the value of a tuple at an attribute leads, and whose fixed parts all hold for the tuple
+abbrev pub led_at : Net → List Entries → TupleView → ℕ → List ℕ
+led_at net columns tuple attribute = filter (λ number. all_hold tuple (parts_at net number)) (states_at (slice_index_or columns attribute []) (value_at tuple attribute))
+
+-- the same of the first so many attributes
+abbrev pub led_by : Net → List Entries → TupleView → ℕ → List ℕ
+led_by net columns tuple attributes = flat_map (led_at net columns tuple) (range_with_len 0 attributes)
+
+-- the value of a tuple doesn't lead to a state, at the attribute by which the state is found
+abbrev pub IsUnled : Net → KeyTable → ℕ → TupleView → ℕ → Type 0
+IsUnled net table stream tuple number =
+    (key : Key) → lead_key_at net number ≡ Some key → key.event < length tuple.vals → Leads (entries_at table stream key.event) (value_at tuple key.event) number → ⊥
+
+-- numbers of states that wait on a stream, are found by a key and are looked up by the tuple were put behind others, each once; a state was left out only where the tuple's value doesn't lead to it or a fixed part of its condition doesn't hold
+pub record FindsKeyed (net : Net) (table : KeyTable) (stream : ℕ) (tuple : TupleView) (old new : List ℕ) : Type 0 where
+  pub found : List ℕ
+  pub are : new ≡ old ++ found
+  pub others : List ℕ
+  pub all : IsPermutation (found ++ others) (keyed_waits_on net stream)
+  pub left_out : All (λ number. (all_hold tuple (parts_at net number) ≡ false) ⊎ IsUnled net table stream tuple number) others
   pub looked_up : All (λ number. is_state_looked_up net tuple number ≡ true) found

@@ -4,6 +4,7 @@ ghost use Rattle.automaton.specs.Networks.{IsNetwork};
 ghost use Rattle.automaton.specs.States.{Net, is_used};
 ghost use Rattle.stream_readers.specs.Making.{AreReadersBelow};
 
+use crate::leading::lead_key;
 use crate::reader::Reader;
 use automaton::Network;
 use event_types::{List, Memory};
@@ -74,6 +75,9 @@ fn add_wait(readers: &mut List<Reader>, network: &Network, number: usize) -> Res
     let Some(wait) = network.wait(number) else {
         return Ok(());
     };
+    if lead_key(&wait.choose).is_some() {
+        return Ok(());
+    }
     if wait.stream < readers.len() {
         readers.get_mut(wait.stream).add_wait(number, &wait.choose)
     } else {

@@ -2,7 +2,7 @@
 ghost use Rattle.std.specs.Prelude.{◌≡◌, ◌<◌, IfOk, OnOk, length};
 ghost use Rattle.automaton.specs.Networks.{IsNetwork};
 ghost use Rattle.automaton.specs.States.{Net};
-ghost use Rattle.stream_readers.specs.Finding.{FindsWaits, FindsWays};
+ghost use Rattle.stream_readers.specs.Finding.{FindsPlain, FindsWays};
 ghost use Rattle.stream_readers.specs.Readers.{AreReadersOf};
 
 use crate::making::{add_state, unread};
@@ -34,7 +34,7 @@ impl Found {
 }
 
 /// What reads each stream of a network: the ways out of the roots of the stream, and the states that wait on
-/// it, each filed by what it asks of a tuple alone.
+/// it without a key to find them, each filed by what it asks of a tuple alone.
 #[derive(Drop)]
 pub struct Readers {
     streams: List<Reader>,
@@ -78,7 +78,7 @@ impl Readers {
             .find(tuple, &mut found.places, &mut found.targets)
     }
 
-    /// The states that wait on the stream and may match the tuple.
+    /// The states that wait on the stream without a key to find them, and may match the tuple.
     pub fn find_waits(
         &self,
         stream: StreamId,
@@ -86,7 +86,7 @@ impl Readers {
         found: &mut Found,
     ) -> Result<(), Memory>
         requires { stream < length self.now }
-        ensures waits { OnOk result ((net : Net) → AreReadersOf net self.now → FindsWaits net stream tuple.now found.new.waits) }
+        ensures waits { OnOk result ((net : Net) → AreReadersOf net self.now → FindsPlain net stream tuple.now found.new.waits) }
         ensures targets { found.new.targets ≡ found.old.targets }
     {
         self.streams
