@@ -167,20 +167,20 @@ opened_all opened made touched are = λ i t. each t i
     each t = go t (is_in touched t) refl (are.all t)
 
 -- no stream is met yet
-pub paired_none : (net : Net) (pairs : List Pair) → pairs ≡ [] → Paired net (λ _. []) pairs
-paired_none net pairs none = record {
+pub paired_none : (net : Net) (stores : Stores) (pairs : List Pair) → pairs ≡ [] → Paired net stores (λ _. []) pairs
+paired_none net stores pairs none = record {
   sound = subst (All (λ (p : Pair). Contains (waits_on net p.stream) p.state × (p.place < length {A = TupleView} []))) (sym none) (All-nil (λ (p : Pair). Contains (waits_on net p.stream) p.state × (p.place < length {A = TupleView} [])));
   listed = λ s k r e n c. absurd (cc);
 }
 
 -- one more of the open streams is met
 pub opened_more : (net : Net) (stores : Stores) (opened : List (List TupleView)) (touched : List ℕ) (i : ℕ) (old new : Draft) (pairs more : List Pair) → IsNetwork net → i < length touched → (Contains (take i touched) (get_or touched i 0) → ⊥)
-    → Drawn net stores (opened_of opened (take i touched)) old → Paired net (opened_of opened (take i touched)) pairs
+    → Drawn net stores (opened_of opened (take i touched)) old → Paired net stores (opened_of opened (take i touched)) pairs
     → Grows net (moves_of_all net stores (get_or touched i 0) (get_or opened (get_or touched i 0) [])) old new → ListsAll net stores (get_or touched i 0) (get_or opened (get_or touched i 0) []) pairs more
-    → Drawn net stores (opened_of opened (take (i + 1) touched)) new × Paired net (opened_of opened (take (i + 1) touched)) more
+    → Drawn net stores (opened_of opened (take (i + 1) touched)) new × Paired net stores (opened_of opened (take (i + 1) touched)) more
 opened_more net stores opened touched i old new pairs more network lt once drawn paired grows lists = (
   subst (λ (seen : Streams). Drawn net stores seen new) (ap (with_stream seen s) longer ∙ later) (drawn_comes net stores seen s rows old new network drawn grows),
-  subst (λ (seen : Streams). Paired net seen more) later (paired_comes net stores seen s rows pairs more none paired lists),
+  subst (λ (seen : Streams). Paired net stores seen more) later (paired_comes net stores seen s rows pairs more none paired lists),
 )
   where
     s : ℕ
@@ -203,11 +203,11 @@ opened_more net stores opened touched i old new pairs more network lt once drawn
 
 -- once all are
 pub opened_drawn : (net : Net) (layout : Layout) (stores : List (Option Store)) (opened : List (List TupleView)) (touched : List ℕ) (draft : Draft) (pairs : List Pair) → CanDraw net layout stores opened → AreOpened opened touched
-    → DraftFits (length layout.kinds) (length net) draft → Drawn net (held stores) (opened_of opened touched) draft → Paired net (opened_of opened touched) pairs → DrawnUpTo net layout stores opened [] draft pairs
+    → DraftFits (length layout.kinds) (length net) draft → Drawn net (held stores) (opened_of opened touched) draft → Paired net (held stores) (opened_of opened touched) pairs → DrawnUpTo net layout stores opened [] draft pairs
 opened_drawn net layout stores opened touched draft pairs can are fits drawn paired = record {
   fits = fits;
   drawn = subst (λ (seen : Streams). Drawn net (held stores) seen draft) (opened_all opened draft.made touched are) drawn;
-  paired = subst (λ (seen : Streams). Paired net seen pairs) (opened_all opened draft.made touched are) paired;
+  paired = subst (λ (seen : Streams). Paired net (held stores) seen pairs) (opened_all opened draft.made touched are) paired;
   epoch = epoch_starts net (held stores) (streams_of opened) (streams_of opened) (λ s. IsPermutation-refl (get_or opened s []));
   kinds = can.kinds;
   ordered = All-nil (λ s. sorted (get_or draft.made s []) ≡ get_or draft.made s []);
@@ -280,7 +280,7 @@ module _ (net : Net) (layout : Layout) (stores : List (Option Store)) (opened : 
       subst (λ (d : List ℕ). DrawnUpTo net layout stores opened d draft pairs) (sym (take_more order i 0 lt)) (record {
         fits = was.fits;
         drawn = subst (λ (seen : Streams). Drawn net (held stores) seen draft) same was.drawn;
-        paired = subst (λ (seen : Streams). Paired net seen pairs) same was.paired;
+        paired = subst (λ (seen : Streams). Paired net (held stores) seen pairs) same was.paired;
         epoch =
             subst (IsEpoch net (done ++ s ∷ []) (held stores) (streams_of opened)) step
             (epoch_grows net can.lines done s (drop (i + 1) order) (held stores) (streams_of opened) (news_of opened draft.made done) [] serves was.epoch (permuted_from (sym idle) (was.drawn.made s)));
@@ -429,7 +429,7 @@ module _ (net : Net) (layout : Layout) (stores : List (Option Store)) (opened : 
         subst (λ (d : List ℕ). DrawnUpTo net layout stores opened d new more) (sym (take_more order i 0 lt)) (record {
           fits = subst (λ (m : ℕ). DraftFits m (length net) new) was.fits.made derives.fits;
           drawn = subst (λ (seen : Streams). Drawn net (held stores) seen new) step drawn;
-          paired = subst (λ (seen : Streams). Paired net seen more) step (paired_comes net (held stores) seen s rows pairs more (unseen old.made) was.paired derives.lists);
+          paired = subst (λ (seen : Streams). Paired net (held stores) seen more) step (paired_comes net (held stores) seen s rows pairs more (unseen old.made) was.paired derives.lists);
           epoch = subst (IsEpoch net (done ++ s ∷ []) (held stores) (streams_of opened)) step grown;
           kinds = subst (HaveKinds layout.kinds) step kinds;
           ordered = ordered;

@@ -25,7 +25,7 @@ use Rattle.automaton.specs.declared.line.Hop.{Hop}
 use Rattle.automaton.specs.declared.network.Entrance.{Entrance}
 use Rattle.automaton.specs.declared.network.Entrance.TheVariants.{Root, Waiting}
 use Rattle.automaton.specs.declared.network.State.{State}
-use Rattle.stream_readers.specs.Finding.{IsDeaf, waits_on}
+use Rattle.stream_readers.specs.Finding.{waits_on}
 use Rattle.epoch_laws.specs.Closing.{Stores, leaving_state, leaving_by, given_by_ends, given_by_ends_at, stepped_by, stores_after}
 use Rattle.epoch_laws.specs.Epochs.{again, unmatched_after, took}
 use Rattle.epoch_laws.specs.Instances.{bindings_of, instances_entering}
@@ -34,7 +34,7 @@ use Rattle.epoch_laws.proofs.Lists.{every}
 use Rattle.epoch_draft.specs.Comes.{gets}
 use Rattle.epoch_draft.specs.Drafts.{Adds, Grows}
 use Rattle.epoch_draft.specs.Drawn.{Drawn, Paired}
-use Rattle.epoch_draft.specs.Meeting.{IsPairOf, ListsAll, moves_of, moves_of_all, pair_of}
+use Rattle.epoch_draft.specs.Meeting.{IsPairOf, ListsAll, MatchesNone, moves_of, moves_of_all, pair_of}
 use Rattle.epoch_draft.specs.Moves.{Move, bound_by, bound_of, made_by, made_of, moves_over}
 use Rattle.epoch_draft.specs.declared.draft.Draft.{Draft}
 use Rattle.epoch_draft.specs.declared.draft.Pair.{Pair}
@@ -238,7 +238,7 @@ same_test : (m n : ℕ) → m ≡ n → (m == n) ≡ true
 same_test m n e = grind (arith, nat_tests)
 
 -- pairs of one stream more
-pub paired_comes : (net : Net) (stores : Stores) (seen : Streams) (s : ℕ) (rows : List TupleView) (old new : List Pair) → seen s ≡ [] → Paired net seen old → ListsAll net stores s rows old new → Paired net (with_stream seen s rows) new
+pub paired_comes : (net : Net) (stores : Stores) (seen : Streams) (s : ℕ) (rows : List TupleView) (old new : List Pair) → seen s ≡ [] → Paired net stores seen old → ListsAll net stores s rows old new → Paired net stores (with_stream seen s rows) new
 paired_comes net stores seen s rows old new none was lists = record {
   sound =
       subst (All IsSound) (sym lists.are)
@@ -258,15 +258,15 @@ paired_comes net stores seen s rows old new none was lists = record {
     one p h =
         (subst (λ t. Contains (waits_on net t) p.state) (sym h.stream_is) h.waits, subst (λ (b : Bool). p.place < length (cond b rows (seen p.stream))) (sym (same_test p.stream s h.stream_is)) h.below)
 
-    old_pair : (t k : ℕ) (r : TupleView) (n : ℕ) → Contains old (pair_of t k n) ⊎ IsDeaf net r n → Contains new (pair_of t k n) ⊎ IsDeaf net r n
+    old_pair : (t k : ℕ) (r : TupleView) (n : ℕ) → Contains old (pair_of t k n) ⊎ MatchesNone net stores r n → Contains new (pair_of t k n) ⊎ MatchesNone net stores r n
     old_pair t k r n (inl c) = inl (subst (λ ps. Contains ps (pair_of t k n)) (sym lists.are) (Contains-append_left old lists.added (pair_of t k n) c))
-    old_pair t k r n (inr deaf) = inr deaf
+    old_pair t k r n (inr left) = inr left
 
-    new_pair : (t k : ℕ) (r : TupleView) (n : ℕ) → t ≡ s → Contains lists.added (pair_of s k n) ⊎ IsDeaf net r n → Contains new (pair_of t k n) ⊎ IsDeaf net r n
+    new_pair : (t k : ℕ) (r : TupleView) (n : ℕ) → t ≡ s → Contains lists.added (pair_of s k n) ⊎ MatchesNone net stores r n → Contains new (pair_of t k n) ⊎ MatchesNone net stores r n
     new_pair t k r n same (inl c) =
         inl (subst (λ ps. Contains ps (pair_of t k n)) (sym lists.are) (Contains-append_right old lists.added (pair_of t k n) (subst (λ u. Contains lists.added (pair_of u k n)) (sym same) c)))
-    new_pair t k r n same (inr deaf) = inr deaf
+    new_pair t k r n same (inr left) = inr left
 
-    at : (t k : ℕ) (r : TupleView) (n : ℕ) → Contains (waits_on net t) n → (b : Bool) → (t == s) ≡ b → slice_get (cond b rows (seen t)) k ≡ Some r → Contains new (pair_of t k n) ⊎ IsDeaf net r n
+    at : (t k : ℕ) (r : TupleView) (n : ℕ) → Contains (waits_on net t) n → (b : Bool) → (t == s) ≡ b → slice_get (cond b rows (seen t)) k ≡ Some r → Contains new (pair_of t k n) ⊎ MatchesNone net stores r n
     at t k r n c true e got = let same = same_number t s e in new_pair t k r n same (lists.listed k r got n (subst (λ u. Contains (waits_on net u) n) same c))
     at t k r n c false e got = old_pair t k r n (was.listed t k r got n c)

@@ -11,6 +11,8 @@ pub mod EpochLemmas
 pub mod Examples
 pub mod GoingLemmas
 pub mod KeyLemmas
+pub mod LeadLemmas
+pub mod LedLemmas
 pub mod Lists
 pub mod MarkLemmas
 pub mod MeetLemmas
@@ -21,6 +23,7 @@ pub mod PurgeLemmas
 pub mod ReadyLemmas
 pub mod SettleLemmas
 pub mod StateLemmas
+pub mod StayLemmas
 pub mod StoreLemmas
 pub mod SuitLemmas
 pub mod SumLemmas

@@ -18,7 +18,7 @@ use Rattle.automaton.specs.declared.network.Entrance.{Entrance}
 use Rattle.automaton.specs.declared.network.Entrance.TheVariants.{Root, Waiting}
 use Rattle.automaton.specs.declared.network.State.{State}
 use Rattle.automaton.specs.declared.wait.Wait.{Wait}
-use Rattle.stream_readers.specs.Finding.{FindsWaits, FindsWays, IsDeaf, IsSilent, is_root_on, is_wait_on, waits_on, ways_on}
+use Rattle.stream_readers.specs.Finding.{FindsWays, IsSilent, is_root_on, is_wait_on, waits_on, ways_on}
 use Rattle.stream_readers.specs.Targets.{way_of}
 use Rattle.stream_readers.specs.Ways.{Back, Into, Out, Way, ways_at}
 use Rattle.stream_readers.specs.declared.target.Target.{Target}
@@ -28,7 +28,7 @@ use Rattle.epoch_laws.proofs.Bags.{flat_map_parts}
 use Rattle.epoch_laws.proofs.Lists.{every, map-flat_map}
 use Rattle.epoch_draft.specs.Comes.{gets, gets_by}
 use Rattle.epoch_draft.specs.Drafts.{Adds, DraftFits, Grows}
-use Rattle.epoch_draft.specs.Meeting.{met_at, met_by, moves_met, moves_of}
+use Rattle.epoch_draft.specs.Meeting.{FindsWaits, MatchesNone, met_at, met_by, moves_met, moves_of}
 use Rattle.epoch_draft.specs.Moves.{Move, bound_by, bound_of, made_by, made_of, moves_from, moves_on}
 use Rattle.epoch_draft.specs.Pairs.{followed, met}
 use Rattle.epoch_draft.specs.declared.draft.Draft.{Draft}
@@ -72,22 +72,24 @@ silent_all f net r one [] all = refl
 silent_all f net r one (way ∷ ways) all =
     ap (λ rows. rows ++ flat_map (λ (m : Move). f m.instance m.way) (moves_on ways (begins r))) (one way (All-head (IsSilent net r) way ways all)) ∙ silent_all f net r one ways (All-tail (IsSilent net r) way ways all)
 
--- nor of one that is eligible for no binding
-deaf_met : (w : Wait) (r : TupleView) → ((b : TupleView) → is_eligible w.choose b r ≡ false) → (store : List Instance) → met w store r ≡ []
-deaf_met w r deaf [] = refl
-deaf_met w r deaf (i ∷ store) = ap (λ t. map (began i.first) (cond t (followed w.fold i.tuple r) []) ++ met w store r) (deaf i.tuple) ∙ deaf_met w r deaf store
+-- nor of one that is eligible for none of the instances
+unmatched_met : (w : Wait) (r : TupleView) (store : List Instance) → All (λ (i : Instance). is_eligible w.choose i.tuple r ≡ false) store → met w store r ≡ []
+unmatched_met w r [] none = refl
+unmatched_met w r (i ∷ store) none =
+    ap (λ t. map (began i.first) (cond t (followed w.fold i.tuple r) []) ++ met w store r) (All-head (λ (i : Instance). is_eligible w.choose i.tuple r ≡ false) i store none)
+    ∙ unmatched_met w r store (All-tail (λ (i : Instance). is_eligible w.choose i.tuple r ≡ false) i store none)
 
-deaf_state : (net : Net) (stores : Stores) (r : TupleView) (n : ℕ) → IsDeaf net r n → met_at net stores r n ≡ []
-deaf_state net stores r n deaf = go (wait_at net n) (λ w e. deaf w e)
+unmatched_state : (net : Net) (stores : Stores) (r : TupleView) (n : ℕ) → MatchesNone net stores r n → met_at net stores r n ≡ []
+unmatched_state net stores r n none = go (wait_at net n) (λ w e. none w e)
   where
-    go : (o : Option Wait) → ((w : Wait) → o ≡ Some w → (b : TupleView) → is_eligible w.choose b r ≡ false) → met_by o (stores n) r ≡ []
-    go None deaf = refl
-    go (Some w) deaf = deaf_met w r (deaf w refl) (stores n)
+    go : (o : Option Wait) → ((w : Wait) → o ≡ Some w → All (λ (i : Instance). is_eligible w.choose i.tuple r ≡ false) (stores n)) → met_by o (stores n) r ≡ []
+    go None none = refl
+    go (Some w) none = unmatched_met w r (stores n) (none w refl)
 
-deaf_moves : (net : Net) (stores : Stores) (r : TupleView) (ns : List ℕ) → All (IsDeaf net r) ns → moves_met net stores r ns ≡ []
-deaf_moves net stores r [] all = refl
-deaf_moves net stores r (n ∷ ns) all =
-    ap (λ rows. moves_from net n rows ++ moves_met net stores r ns) (deaf_state net stores r n (All-head (IsDeaf net r) n ns all)) ∙ deaf_moves net stores r ns (All-tail (IsDeaf net r) n ns all)
+unmatched_moves : (net : Net) (stores : Stores) (r : TupleView) (ns : List ℕ) → All (MatchesNone net stores r) ns → moves_met net stores r ns ≡ []
+unmatched_moves net stores r [] all = refl
+unmatched_moves net stores r (n ∷ ns) all =
+    ap (λ rows. moves_from net n rows ++ moves_met net stores r ns) (unmatched_state net stores r n (All-head (MatchesNone net stores r) n ns all)) ∙ unmatched_moves net stores r ns (All-tail (MatchesNone net stores r) n ns all)
 
 -- a tuple moves on the ways out of its roots, and what it makes of instances moves out of their states
 pub moves_split : (net : Net) (stores : Stores) (s : ℕ) (r : TupleView) → IsPermutation (moves_of net stores s r) (moves_on (ways_on net s) (begins r) ++ moves_met net stores r (waits_on net s))
@@ -127,7 +129,7 @@ moves_split net stores s r =
         go (Some (Waiting before hop)) = at_wait (met hop.wait (stores n) r) (hop.wait.stream == s)
 
 -- what look-ups found is enough
-pub found_grows : (net : Net) (stores : Stores) (s : ℕ) (r : TupleView) (targets : List Target) (states : List ℕ) (old mid new : Draft) → FindsWays net s r targets → FindsWaits net s r states
+pub found_grows : (net : Net) (stores : Stores) (s : ℕ) (r : TupleView) (targets : List Target) (states : List ℕ) (old mid new : Draft) → FindsWays net s r targets → FindsWaits net stores s r states
     → Grows net (moves_on (flat_map (way_of net) targets) (begins r)) old mid → Grows net (moves_met net stores r states) mid new → Grows net (moves_of net stores s r) old new
 found_grows net stores s r targets states old mid new ways waits one two =
     grows_same net (moves_on (found ++ ways.others) (begins r) ++ moves_met net stores r states) (moves_of net stores s r) old new
@@ -135,7 +137,7 @@ found_grows net stores s r targets states old mid new ways waits one two =
     (IsPermutation-append (moves_on (found ++ ways.others) (begins r)) (moves_on (ways_on net s) (begins r)) (moves_met net stores r states) (moves_met net stores r (waits_on net s))
     (IsPermutation-map (λ (way : Way). record { instance = begins r; way = way }) (found ++ ways.others) (ways_on net s) ways.all)
     (permuted_from
-    (sym (flat_map-append (λ n. moves_from net n (met_at net stores r n)) states waits.others ∙ ap (λ ms. moves_met net stores r states ++ ms) (deaf_moves net stores r waits.others waits.deaf) ∙ append-nil (moves_met net stores r states)))
+    (sym (flat_map-append (λ n. moves_from net n (met_at net stores r n)) states waits.others ∙ ap (λ ms. moves_met net stores r states ++ ms) (unmatched_moves net stores r waits.others waits.unmatched) ∙ append-nil (moves_met net stores r states)))
     (flat_map_permuted (λ n. moves_from net n (met_at net stores r n)) (states ++ waits.others) (waits_on net s) waits.all)))
     (IsPermutation-sym _ _ (moves_split net stores s r)))
     (grows_trans net (moves_on (found ++ ways.others) (begins r)) (moves_met net stores r states) old mid new
@@ -193,8 +195,8 @@ found_ways P net s r targets finds all =
     all_flat P (way_of net) targets (all_left P (flat_map (way_of net) targets) finds.others (All-permutation P (ways_on net s) (flat_map (way_of net) targets ++ finds.others) (IsPermutation-sym _ _ finds.all) all))
 
 -- what holds of all waiting states holds of those that were found
-pub found_all : (P : ℕ → Type 0) (net : Net) (s : ℕ) (r : TupleView) (states : List ℕ) → FindsWaits net s r states → All P (waits_on net s) → All P states
-found_all P net s r states finds all = all_left P states finds.others (All-permutation P (waits_on net s) (states ++ finds.others) (IsPermutation-sym _ _ finds.all) all)
+pub found_all : (P : ℕ → Type 0) (net : Net) (stores : Stores) (s : ℕ) (r : TupleView) (states : List ℕ) → FindsWaits net stores s r states → All P (waits_on net s) → All P states
+found_all P net stores s r states finds all = all_left P states finds.others (All-permutation P (waits_on net s) (states ++ finds.others) (IsPermutation-sym _ _ finds.all) all)
 
 -- waiting states are there
 pub waits_used : (net : Net) (s : ℕ) → All (λ n. IsTrue (is_used net n)) (waits_on net s)

@@ -6,9 +6,9 @@ use Rattle.std.proofs.lemmas.List.Elements.{All-append, All-contains, All-contai
 use Rattle.std.proofs.lemmas.List.Sorted.{Contains-permutation, IsPermutation-sym}
 use Rattle.event_types.specs.Tuple.{TupleView}
 use Rattle.automaton.specs.States.{Net}
-use Rattle.stream_readers.specs.Finding.{IsDeaf, waits_on}
+use Rattle.stream_readers.specs.Finding.{waits_on}
 use Rattle.epoch_laws.specs.Closing.{Stores}
-use Rattle.epoch_draft.specs.Meeting.{IsPairOf, Lists, ListsAll, pair_of}
+use Rattle.epoch_draft.specs.Meeting.{IsPairOf, Lists, ListsAll, MatchesNone, pair_of}
 use Rattle.epoch_draft.specs.declared.draft.Pair.{Pair}
 use Rattle.epoch_draft.proofs.MeetLemmas.{found_all}
 use Rattle.epoch_draft.proofs.Lists.{some_is}
@@ -58,7 +58,7 @@ lists_more net stores s rows i d old mid new lt all one = record {
       (All-weaker (IsPairOf net s (take i rows)) (IsPairOf net s (take (i + 1) rows)) (λ p h. record { stream_is = h.stream_is; waits = h.waits; below = let b = h.below in omega (arith, b, longer) }) all.added all.sound)
       (All-map (IsPairOf net s (take (i + 1) rows)) (pair_of s i) one.found
       (All-weaker (Contains (waits_on net s)) (λ n. IsPairOf net s (take (i + 1) rows) (pair_of s i n)) (λ n c. record { stream_is = refl; waits = c; below = omega (arith, longer, short) }) one.found
-      (found_all (Contains (waits_on net s)) net s (get_or rows i d) one.found one.finds (All-contains_itself (waits_on net s)))));
+      (found_all (Contains (waits_on net s)) net stores s (get_or rows i d) one.found one.finds (All-contains_itself (waits_on net s)))));
   listed = λ k t e n c. at k t n c (slice_get_push (take i rows) (get_or rows i d) k t (ap (λ ts. slice_get ts k) (sym (take_more rows i d lt)) ∙ e));
   takes = takes_one net stores s rows i d all.added mid new lt all.sound all.takes one;
 }
@@ -69,20 +69,20 @@ lists_more net stores s rows i d old mid new lt all one = record {
     short : length (take i rows) ≡ i
     short = length-take-le i rows (omega arith)
 
-    deaf_or : (n : ℕ) → Contains one.found n ⊎ Contains one.finds.others n → Contains (map (pair_of s i) one.found) (pair_of s i n) ⊎ IsDeaf net (get_or rows i d) n
-    deaf_or n (inl c) = inl (contains_map (pair_of s i) one.found n c)
-    deaf_or n (inr c) = inr (All-contains (IsDeaf net (get_or rows i d)) one.finds.others n one.finds.deaf c)
+    none_or : (n : ℕ) → Contains one.found n ⊎ Contains one.finds.others n → Contains (map (pair_of s i) one.found) (pair_of s i n) ⊎ MatchesNone net stores (get_or rows i d) n
+    none_or n (inl c) = inl (contains_map (pair_of s i) one.found n c)
+    none_or n (inr c) = inr (All-contains (MatchesNone net stores (get_or rows i d)) one.finds.others n one.finds.unmatched c)
 
-    here : (n : ℕ) (t : TupleView) (k : ℕ) → k ≡ i → get_or rows i d ≡ t → Contains (map (pair_of s i) one.found) (pair_of s i n) ⊎ IsDeaf net (get_or rows i d) n → Contains (all.added ++ map (pair_of s i) one.found) (pair_of s k n) ⊎ IsDeaf net t n
+    here : (n : ℕ) (t : TupleView) (k : ℕ) → k ≡ i → get_or rows i d ≡ t → Contains (map (pair_of s i) one.found) (pair_of s i n) ⊎ MatchesNone net stores (get_or rows i d) n → Contains (all.added ++ map (pair_of s i) one.found) (pair_of s k n) ⊎ MatchesNone net stores t n
     here n t k same is (inl c) = inl (Contains-append_right all.added (map (pair_of s i) one.found) (pair_of s k n) (subst (λ j. Contains (map (pair_of s i) one.found) (pair_of s j n)) (sym same) c))
-    here n t k same is (inr deaf) = inr (subst (λ t. IsDeaf net t n) is deaf)
+    here n t k same is (inr none) = inr (subst (λ t. MatchesNone net stores t n) is none)
 
-    before : (n : ℕ) (t : TupleView) (k : ℕ) → Contains all.added (pair_of s k n) ⊎ IsDeaf net t n → Contains (all.added ++ map (pair_of s i) one.found) (pair_of s k n) ⊎ IsDeaf net t n
+    before : (n : ℕ) (t : TupleView) (k : ℕ) → Contains all.added (pair_of s k n) ⊎ MatchesNone net stores t n → Contains (all.added ++ map (pair_of s i) one.found) (pair_of s k n) ⊎ MatchesNone net stores t n
     before n t k (inl c) = inl (Contains-append_left all.added (map (pair_of s i) one.found) (pair_of s k n) c)
-    before n t k (inr deaf) = inr deaf
+    before n t k (inr none) = inr none
 
-    at : (k : ℕ) (t : TupleView) (n : ℕ) → Contains (waits_on net s) n → (slice_get (take i rows) k ≡ Some t) ⊎ ((k ≡ length (take i rows)) × (get_or rows i d ≡ t)) → Contains (all.added ++ map (pair_of s i) one.found) (pair_of s k n) ⊎ IsDeaf net t n
+    at : (k : ℕ) (t : TupleView) (n : ℕ) → Contains (waits_on net s) n → (slice_get (take i rows) k ≡ Some t) ⊎ ((k ≡ length (take i rows)) × (get_or rows i d ≡ t)) → Contains (all.added ++ map (pair_of s i) one.found) (pair_of s k n) ⊎ MatchesNone net stores t n
     at k t n c (inl e) = before n t k (all.listed k t e n c)
     at k t n c (inr h) =
         here n t k (h.0 ∙ short) h.1
-        (deaf_or n (Contains-append_cases one.found one.finds.others n (Contains-permutation (waits_on net s) (one.found ++ one.finds.others) n (IsPermutation-sym _ _ one.finds.all) c)))
+        (none_or n (Contains-append_cases one.found one.finds.others n (Contains-permutation (waits_on net s) (one.found ++ one.finds.others) n (IsPermutation-sym _ _ one.finds.all) c)))

@@ -19,11 +19,13 @@ use Rattle.automaton.specs.declared.network.Entrance.TheVariants.{Waiting}
 use Rattle.automaton.specs.declared.wait.Wait.{Wait}
 use Rattle.automaton.proofs.NumberLemmas.{are_same_or_not}
 use Rattle.epoch_draft.specs.Held.{SameShapes, Shape, held, instances_in, shape_of}
+use Rattle.epoch_draft.specs.Led.{StayReady, StaysReady}
 use Rattle.epoch_draft.specs.Purging.{AreAllPurged, ArePurgedIn, AreUsedIn, IsPurgedAt, alive_in}
 use Rattle.epoch_draft.specs.declared.draft.Pair.{Pair}
 use Rattle.epoch_draft.proofs.DrawnLemmas.{entry_below}
 use Rattle.epoch_draft.proofs.Lists.{below_or_last, contains_or_not, map_more, some_is}
 use Rattle.epoch_draft.proofs.StateLemmas.{at_wait, wait_entry}
+use Rattle.epoch_draft.proofs.StayLemmas.{stay_same, stay_set, stay_trans}
 
 -- stores have their own shapes
 pub shapes_same : (stores : List (Option Store)) → SameShapes stores stores
@@ -65,9 +67,10 @@ kept_used old new instances before after same keeps =
 
 -- one store more is purged
 purge_push : (time : ℕ) (numbers : List ℕ) (n : ℕ) (first old : List (Option Store)) (slot : Option Store) → n < length first → instances_in slot ≡ alive_in time (get_or old n None) → shape_of slot ≡ shape_of (get_or old n None) → AreUsedIn slot
-    → ArePurgedIn numbers time first old → ArePurgedIn (numbers ++ n ∷ []) time first (set old n slot)
-purge_push time numbers n first old slot below is shape used h = record {
+    → StaysReady (get_or old n None) slot → ArePurgedIn numbers time first old → ArePurgedIn (numbers ++ n ∷ []) time first (set old n slot)
+purge_push time numbers n first old slot below is shape used stays h = record {
   same = shapes_trans first old (set old n slot) h.same (shapes_set old n slot there shape);
+  stay = stay_set first old n slot there h.stay stays;
   purged = λ k c. purged k (are_same_or_not k n) (Contains-push_cases numbers n k c);
   used = λ k c. keys k (are_same_or_not k n) (Contains-push_cases numbers n k c);
   others = λ k absent. others k absent (are_same_or_not k n);
@@ -99,22 +102,22 @@ purge_push time numbers n first old slot below is shape used h = record {
 
 -- no store is purged yet
 pub purged_nowhere : (time : ℕ) (stores : List (Option Store)) → ArePurgedIn [] time stores stores
-purged_nowhere time stores = record { same = shapes_same stores; purged = λ n c. absurd (omega (arith, c)); used = λ n c. absurd (omega (arith, c)); others = λ n absent. refl }
+purged_nowhere time stores = record { same = shapes_same stores; purged = λ n c. absurd (omega (arith, c)); used = λ n c. absurd (omega (arith, c)); stay = stay_same stores; others = λ n absent. refl }
 
 -- one number more of a loop
 pub purge_more : (time : ℕ) (numbers : List ℕ) (i : ℕ) (first old : List (Option Store)) (slot : Option Store) → i < length numbers → get_or numbers i 0 < length first
     → instances_in slot ≡ alive_in time (get_or old (get_or numbers i 0) None) → shape_of slot ≡ shape_of (get_or old (get_or numbers i 0) None) → AreUsedIn slot
-    → ArePurgedIn (take i numbers) time first old → ArePurgedIn (take (i + 1) numbers) time first (set old (get_or numbers i 0) slot)
-purge_more time numbers i first old slot lt below is shape used h =
-    subst (λ (ns : List ℕ). ArePurgedIn ns time first (set old (get_or numbers i 0) slot)) (sym (take_more numbers i 0 lt)) (purge_push time (take i numbers) (get_or numbers i 0) first old slot below is shape used h)
+    → StaysReady (get_or old (get_or numbers i 0) None) slot → ArePurgedIn (take i numbers) time first old → ArePurgedIn (take (i + 1) numbers) time first (set old (get_or numbers i 0) slot)
+purge_more time numbers i first old slot lt below is shape used stays h =
+    subst (λ (ns : List ℕ). ArePurgedIn ns time first (set old (get_or numbers i 0) slot)) (sym (take_more numbers i 0 lt)) (purge_push time (take i numbers) (get_or numbers i 0) first old slot below is shape used stays h)
 
 -- one pair more
 pub purge_pair : (time : ℕ) (pairs : List Pair) (i : ℕ) (d : Pair) (first old : List (Option Store)) (slot : Option Store) → i < length pairs → (get_or pairs i d).state < length first
     → instances_in slot ≡ alive_in time (get_or old (get_or pairs i d).state None) → shape_of slot ≡ shape_of (get_or old (get_or pairs i d).state None) → AreUsedIn slot
-    → ArePurgedIn (map (λ (pair : Pair). pair.state) (take i pairs)) time first old → ArePurgedIn (map (λ (pair : Pair). pair.state) (take (i + 1) pairs)) time first (set old (get_or pairs i d).state slot)
-purge_pair time pairs i d first old slot lt below is shape used h =
+    → StaysReady (get_or old (get_or pairs i d).state None) slot → ArePurgedIn (map (λ (pair : Pair). pair.state) (take i pairs)) time first old → ArePurgedIn (map (λ (pair : Pair). pair.state) (take (i + 1) pairs)) time first (set old (get_or pairs i d).state slot)
+purge_pair time pairs i d first old slot lt below is shape used stays h =
     subst (λ (ns : List ℕ). ArePurgedIn ns time first (set old (get_or pairs i d).state slot)) (sym (map_more (λ (pair : Pair). pair.state) pairs i d lt))
-    (purge_push time (map (λ (pair : Pair). pair.state) (take i pairs)) (get_or pairs i d).state first old slot below is shape used h)
+    (purge_push time (map (λ (pair : Pair). pair.state) (take i pairs)) (get_or pairs i d).state first old slot below is shape used stays h)
 
 -- stores that were purged, and then others
 pub purged_both : (time : ℕ) (one two : List ℕ) (old mid new : List (Option Store)) → ArePurgedIn one time old mid → ArePurgedIn two time mid new → ArePurgedIn (one ++ two) time old new
@@ -122,6 +125,7 @@ purged_both time one two old mid new was after = record {
   same = shapes_trans old mid new was.same after.same;
   purged = λ n c. purged n (contains_or_not one n) (contains_or_not two n) (Contains-append_cases one two n c);
   used = λ n c. used n (contains_or_not two n) (Contains-append_cases one two n c);
+  stay = stay_trans old mid new was.stay after.stay;
   others = λ n absent. after.others n (λ c. absent (Contains-append_right one two n c)) ∙ was.others n (λ c. absent (Contains-append_left one two n c));
 }
   where
@@ -138,11 +142,12 @@ purged_both time one two old mid new was after = record {
 
 -- the store of a waiting state was purged
 pub purged_there : (net : Net) (time n : ℕ) (stores : List (Option Store)) (slot : Option Store) → n < length stores → is_some (wait_at net n) ≡ true → instances_in slot ≡ alive_in time (get_or stores n None) → shape_of slot ≡ shape_of (get_or stores n None) → AreUsedIn slot
-    → IsPurgedAt net time n stores (set stores n slot)
-purged_there net time n stores slot below waits is shape used = record {
+    → StaysReady (get_or stores n None) slot → IsPurgedAt net time n stores (set stores n slot)
+purged_there net time n stores slot below waits is shape used stays = record {
   same = shapes_set stores n slot below shape;
   purged = λ w at. ap instances_in here ∙ is;
   used = λ w at. subst AreUsedIn (sym here) used;
+  stay = stay_set stores stores n slot below (stay_same stores) stays;
   none = λ at. absurd (let no : true ≡ false = sym waits ∙ ap is_some at in cc);
   others = λ m other. get_or-set_other stores n m slot None other;
 }
@@ -155,11 +160,12 @@ pub record ArePurgedBelow (net : Net) (bound time : ℕ) (old new : List (Option
   pub same : SameShapes old new
   pub purged : (n : ℕ) (w : Wait) → n < bound → wait_at net n ≡ Some w → held new n ≡ alive_in time (get_or old n None)
   pub used : (n : ℕ) (w : Wait) → n < bound → wait_at net n ≡ Some w → AreUsedIn (get_or new n None)
+  pub stay : StayReady old new
   pub others : (n : ℕ) → (n < bound → wait_at net n ≡ None) → get_or new n None ≡ get_or old n None
 
 -- none is yet
 pub purged_none : (net : Net) (time : ℕ) (stores : List (Option Store)) → ArePurgedBelow net 0 time stores stores
-purged_none net time stores = record { same = shapes_same stores; purged = λ n w lt at. absurd (omega (arith, lt)); used = λ n w lt at. absurd (omega (arith, lt)); others = λ n absent. refl }
+purged_none net time stores = record { same = shapes_same stores; purged = λ n w lt at. absurd (omega (arith, lt)); used = λ n w lt at. absurd (omega (arith, lt)); stay = stay_same stores; others = λ n absent. refl }
 
 -- one more state's
 pub purged_next : (net : Net) (n time : ℕ) (old mid new : List (Option Store)) → ArePurgedBelow net n time old mid → IsPurgedAt net time n mid new → ArePurgedBelow net (n + 1) time old new
@@ -167,6 +173,7 @@ purged_next net n time old mid new was one = record {
   same = shapes_trans old mid new was.same one.same;
   purged = λ k w lt at. purged k w at (below_or_last k n lt);
   used = λ k w lt at. used k w at (below_or_last k n lt);
+  stay = stay_trans old mid new was.stay one.stay;
   others = λ k absent. others k absent (are_same_or_not k n);
 }
   where
@@ -198,7 +205,7 @@ purged_next net n time old mid new was one = record {
 
 -- all are
 pub all_purged : (net : Net) (time : ℕ) (old new : List (Option Store)) → ArePurgedBelow net (length net) time old new → AreAllPurged net time old new
-all_purged net time old new was = record { same = was.same; purged = λ n w at. was.purged n w (below n w at) at; used = λ n w at. was.used n w (below n w at) at; others = λ n none. was.others n (λ lt. none) }
+all_purged net time old new was = record { same = was.same; purged = λ n w at. was.purged n w (below n w at) at; used = λ n w at. was.used n w (below n w at) at; stay = was.stay; others = λ n none. was.others n (λ lt. none) }
   where
     below : (n : ℕ) (w : Wait) → wait_at net n ≡ Some w → n < length net
     below n w at = let found = at_wait net n w at in entry_below net n (Waiting found.before found.hop) (wait_entry net n w found)

@@ -7,7 +7,7 @@ use Rattle.std.specs.List.Sorted.{IsPermutation}
 use Rattle.std.proofs.lemmas.Bool.Decides.{nat_tests}
 use Rattle.std.proofs.lemmas.Grind.{flat_map-append, get_or-set_at}
 use Rattle.std.proofs.lemmas.List.{append-nil, get_or-set_other, length-set, take_more}
-use Rattle.std.proofs.lemmas.List.Elements.{All-append, All-contains, All-cons, All-filter, All-get_or, All-head, All-map, All-nil, All-tail, All-weaker, Contains-append_cases, Contains-append_left, Contains-append_right, Contains-push, Contains-push_cases, filter-append}
+use Rattle.std.proofs.lemmas.List.Elements.{All-append, All-contains, All-contains_itself, All-cons, All-filter, All-get_or, All-head, All-map, All-nil, All-tail, All-weaker, Contains-append_cases, Contains-append_left, Contains-append_right, Contains-push, Contains-push_cases, filter-append}
 use Rattle.std.proofs.lemmas.List.Sums.{sum_by-cons, sum_by_more}
 use Rattle.std.proofs.lemmas.List.FromFn.{get_or-range_with_len, length-range_with_len}
 use Rattle.std.proofs.lemmas.List.Sorted.{IsPermutation-append_left, IsPermutation-middle, IsPermutation-sym, IsPermutation-trans}
@@ -34,18 +34,18 @@ use Rattle.automaton.specs.Work.{is_in}
 use Rattle.automaton.specs.declared.layout.Layout.{Layout}
 use Rattle.automaton.specs.declared.network.Entrance.TheVariants.{Waiting}
 use Rattle.automaton.specs.declared.wait.Wait.{Wait}
-use Rattle.stream_readers.specs.Finding.{IsDeaf, is_wait_on, waits_on}
+use Rattle.stream_readers.specs.Finding.{is_wait_on, waits_on}
 use Rattle.epoch_laws.specs.Closing.{Stores, stores_after}
 use Rattle.epoch_laws.specs.Epochs.{is_unmet, unmatched_after}
 use Rattle.epoch_laws.proofs.Bags.{permuted_is}
-use Rattle.epoch_laws.proofs.Lists.{every, filter-filter, filter_false}
+use Rattle.epoch_laws.proofs.Lists.{every, filter-filter, filter_alike, filter_false}
 use Rattle.std.proofs.lemmas.List.Elements.{filter_agree}
 use Rattle.event_types.proofs.NumberLemmas.{same_number}
 use Rattle.automaton.proofs.NumberLemmas.{are_same_or_not}
 use Rattle.epoch_draft.specs.Deriving.{CanDraw, DrawnUpTo, news_of}
 use Rattle.epoch_draft.specs.Candidates.{candidates_at, candidates_by}
 use Rattle.epoch_draft.specs.Held.{held, instances_in, shape_for, shape_of}
-use Rattle.epoch_draft.specs.Meeting.{pair_of}
+use Rattle.epoch_draft.specs.Meeting.{MatchesNone, pair_of}
 use Rattle.epoch_draft.specs.Purging.{ArePurgedIn, IsUnbound, ListsBounded, alive_in}
 use Rattle.epoch_draft.specs.Readying.{HaveRoom, HaveRoomIn}
 use Rattle.epoch_draft.specs.Settling.{AreClosed, AreLinked, AreSettled, AreTaken, IsTakenAt, PairSuits, first_of, listed_rows, tuples_in}
@@ -259,9 +259,10 @@ module _ (p : TupleView → Bool) where
       go false true e f =
           absurd (let yes = all_empty xs (All-weaker (Contains ys) (λ x. p x ≡ false) (λ x c. All-contains (λ y. p y ≡ false) ys x (empty_all ys f) c) xs there) in let no : true ≡ false = sym yes ∙ e in cc)
 
-left_same : (choose : List Pr) (xs ys : List TupleView) (store : List Instance) → All (Contains ys) xs → ((b : TupleView) → All (λ y. Contains xs y ⊎ (is_eligible choose b y ≡ false)) ys) → unmatched_after choose xs store ≡ unmatched_after choose ys store
+left_same : (choose : List Pr) (xs ys : List TupleView) (store : List Instance) → All (Contains ys) xs → All (λ (i : Instance). All (λ y. Contains xs y ⊎ (is_eligible choose i.tuple y ≡ false)) ys) store → unmatched_after choose xs store ≡ unmatched_after choose ys store
 left_same choose xs ys store there back =
-    filter_agree (λ (n : Instance). is_unmet choose xs n.tuple) (λ (n : Instance). is_unmet choose ys n.tuple) (λ n. same_empty (is_eligible choose n.tuple) xs ys there (back n.tuple)) store
+    filter_alike (λ (n : Instance). is_unmet choose xs n.tuple) (λ (n : Instance). is_unmet choose ys n.tuple) store
+    (All-weaker (λ (i : Instance). All (λ y. Contains xs y ⊎ (is_eligible choose i.tuple y ≡ false)) ys) (λ (n : Instance). is_unmet choose xs n.tuple ≡ is_unmet choose ys n.tuple) (λ n each. same_empty (is_eligible choose n.tuple) xs ys there each) store back)
 
 module _ (net : Net) (layout : Layout) (stores : List (Option Store)) (opened : List (List TupleView)) (draft : Draft) (pairs : List Pair) (can : CanDraw net layout stores opened) (drawn : DrawnUpTo net layout stores opened layout.order draft pairs) where
   abbrev news : Streams
@@ -370,16 +371,19 @@ module _ (net : Net) (layout : Layout) (stores : List (Option Store)) (opened : 
                   (λ t got. subst (λ (s : ℕ). Contains (news s) t) (sym stream) (contains_at (news p.stream) p.place t (ap (λ (ts : List TupleView). slice_get ts p.place) (sym is) ∙ got)))
               go false e = All-nil (Contains (news w.stream))
 
-      back : (b : TupleView) → All (λ y. Contains (listed_rows listed pairs n) y ⊎ (is_eligible w.choose b y ≡ false)) (news w.stream)
-      back b k d lt = go (get_or (news w.stream) k d) (slice_get-get_or (news w.stream) k d lt) (drawn.paired.listed w.stream k (get_or (news w.stream) k d) (slice_get-get_or (news w.stream) k d lt) n (listed_wait n w at))
+      listed_or : (i : Instance) → Contains (held stores n) i → All (λ y. Contains (listed_rows listed pairs n) y ⊎ (is_eligible w.choose i.tuple y ≡ false)) (news w.stream)
+      listed_or i here k d lt = go (get_or (news w.stream) k d) (slice_get-get_or (news w.stream) k d lt) (drawn.paired.listed w.stream k (get_or (news w.stream) k d) (slice_get-get_or (news w.stream) k d lt) n (listed_wait n w at))
         where
-          go : (t : TupleView) → slice_get (news w.stream) k ≡ Some t → Contains pairs (pair_of w.stream k n) ⊎ IsDeaf net t n → Contains (listed_rows listed pairs n) t ⊎ (is_eligible w.choose b t ≡ false)
+          go : (t : TupleView) → slice_get (news w.stream) k ≡ Some t → Contains pairs (pair_of w.stream k n) ⊎ MatchesNone net (held stores) t n → Contains (listed_rows listed pairs n) t ⊎ (is_eligible w.choose i.tuple t ≡ false)
           go t got (inl c) =
               let is = in_is_news net layout stores opened draft.made can w.stream k lt in
               let mine : t ∷ [] ≡ cond (n == n) (row_at listed (pair_of w.stream k n)) [] =
               sym (ap (λ c. cond c (row_at listed (pair_of w.stream k n)) []) (is_itself n) ∙ ap (λ (o : Option TupleView). option_to_list o) (ap (λ (ts : List TupleView). slice_get ts k) is ∙ got)) in
               inl (contains_flat (λ (p : Pair). cond (p.state == n) (row_at listed p) []) pairs (pair_of w.stream k n) t c (subst (λ (ts : List TupleView). Contains ts t) mine (Contains-push [] t)))
-          go t got (inr deaf) = inr (deaf w at b)
+          go t got (inr none) = inr (All-contains (λ (i : Instance). is_eligible w.choose i.tuple t ≡ false) (held stores n) i (none w at) here)
+
+      back : All (λ (i : Instance). All (λ y. Contains (listed_rows listed pairs n) y ⊎ (is_eligible w.choose i.tuple y ≡ false)) (news w.stream)) (held stores n)
+      back = All-weaker (Contains (held stores n)) (λ (i : Instance). All (λ y. Contains (listed_rows listed pairs n) y ⊎ (is_eligible w.choose i.tuple y ≡ false)) (news w.stream)) listed_or (held stores n) (All-contains_itself (held stores n))
 
   -- what is taken out and linked settles
   pub settled : (mid new : List (Option Store)) → AreTaken net listed pairs stores mid → AreLinked draft.reached.numbers draft.beads mid new → AreSettled net news stores new
@@ -430,7 +434,7 @@ pub record LinkedSoFar (numbers : List ℕ) (start beads : List (List Instance))
 -- no state's beads are linked yet
 pub linked_none : (beads : List (List Instance)) (stores : List (Option Store)) → LinkedSoFar [] beads beads stores stores
 linked_none beads stores = record {
-  linked = record { same = shapes_same stores; linked = λ n c. absurd (none_in n c); idle = λ n e. refl; others = λ n absent. refl };
+  linked = record { same = shapes_same stores; ready = λ n. refl; linked = λ n c. absurd (none_in n c); idle = λ n e. refl; others = λ n absent. refl };
   as_many = refl;
   kept = λ n absent. refl;
 }
@@ -446,11 +450,12 @@ linked_room numbers n start beads old mid slot chain once read got was room =
 -- one state's more
 pub linked_more : (numbers : List ℕ) (i : ℕ) (start beads : List (List Instance)) (old mid : List (Option Store)) (slot new : Option Store) (chain rest : List Instance) → i < length numbers → get_or numbers i 0 < length old → get_or numbers i 0 < length start
     → (Contains (take i numbers) (get_or numbers i 0) → ⊥) → slice_get mid (get_or numbers i 0) ≡ Some slot → slice_get beads (get_or numbers i 0) ≡ Some chain
-    → ((store : Store) → slot ≡ Some store → IsPermutation (instances_in new) (instances_of store ++ chain)) → (chain ≡ [] → new ≡ slot) → shape_of new ≡ shape_of slot
+    → ((store : Store) → slot ≡ Some store → IsPermutation (instances_in new) (instances_of store ++ chain)) → (chain ≡ [] → new ≡ slot) → shape_of new ≡ shape_of slot → ready_in new ≡ ready_in slot
     → LinkedSoFar (take i numbers) start beads old mid → LinkedSoFar (take (i + 1) numbers) start (set beads (get_or numbers i 0) rest) old (set mid (get_or numbers i 0) new)
-linked_more numbers i start beads old mid slot new chain rest lt below below_beads once read got puts idle shape was = record {
+linked_more numbers i start beads old mid slot new chain rest lt below below_beads once read got puts idle shape ready was = record {
   linked = record {
     same = record { as_many = length-set mid n new ∙ was.linked.same.as_many; shapes = λ m. shapes m (are_same_or_not m n) };
+    ready = λ m. readies m (are_same_or_not m n);
     linked = λ m c store e. links m store e (more_contains numbers i 0 m lt c);
     idle = λ m e. idles m e (are_same_or_not m n);
     others = λ m absent. others m absent (are_same_or_not m n);
@@ -480,6 +485,10 @@ linked_more numbers i start beads old mid slot new chain rest lt below below_bea
     shapes : (m : ℕ) → (m ≡ n) ⊎ (m ≡ n → ⊥) → shape_of (get_or (set mid n new) m None) ≡ shape_of (get_or old m None)
     shapes m (inl same) = ap shape_of (set_is m same) ∙ shape ∙ ap shape_of (sym old_is) ∙ ap (λ k. shape_of (get_or old k None)) (sym same)
     shapes m (inr other) = ap shape_of (get_or-set_other mid n m new None other) ∙ was.linked.same.shapes m
+
+    readies : (m : ℕ) → (m ≡ n) ⊎ (m ≡ n → ⊥) → ready_in (get_or (set mid n new) m None) ≡ ready_in (get_or old m None)
+    readies m (inl same) = ap ready_in (set_is m same) ∙ ready ∙ ap ready_in (sym old_is) ∙ ap (λ k. ready_in (get_or old k None)) (sym same)
+    readies m (inr other) = ap ready_in (get_or-set_other mid n m new None other) ∙ was.linked.ready m
 
     links : (m : ℕ) (store : Store) → get_or old m None ≡ Some store → Contains (take i numbers) m ⊎ (n ≡ m) → IsPermutation (held (set mid n new) m) (instances_of store ++ get_or start m [])
     links m store e (inl c) =

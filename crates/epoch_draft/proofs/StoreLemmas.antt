@@ -18,7 +18,7 @@ use Rattle.automaton.specs.declared.layout.Layout.{Layout}
 use Rattle.automaton.specs.declared.wait.Wait.{Wait}
 use Rattle.epoch_laws.specs.Closing.{IsEpoch, Stores}
 use Rattle.epoch_draft.specs.Deriving.{CanDraw, DrawnUpTo, news_of}
-use Rattle.epoch_draft.specs.Drawn.{Drawn}
+use Rattle.epoch_draft.specs.Drawn.{Drawn, Paired}
 use Rattle.epoch_draft.specs.Held.{SameShapes, SameStored, Shape, held, instances_in, key_in, shape_for, shape_of}
 use Rattle.epoch_draft.specs.Stores.{HasStores}
 use Rattle.epoch_draft.specs.Typed.{IsTyped}
@@ -49,9 +49,13 @@ has_store (Some store) shape e =
 pub condition_is : (store : Store) (choose : List Pr) → shape_of (Some store) ≡ Some (shape_for choose) → condition_of store ≡ choose
 condition_is store choose e = ap (λ (s : Shape). s.condition) (some_is (let one : Shape = record { condition = condition_of store; key = key_of store } in one) (shape_for choose) e)
 
+-- a store of the same shape has the same key
+pub key_shape : (new old : Option Store) → shape_of new ≡ shape_of old → key_in new ≡ key_in old
+key_shape new old same = ap (option_and_then (λ (shape : Shape). shape.key)) same
+
 -- stores of the same shapes have the same keys
 pub same_key : (old new : List (Option Store)) → SameShapes old new → (n : ℕ) → key_in (get_or new n None) ≡ key_in (get_or old n None)
-same_key old new same n = ap (option_and_then (λ (shape : Shape). shape.key)) (same.shapes n)
+same_key old new same n = key_shape (get_or new n None) (get_or old n None) (same.shapes n)
 
 -- and are made for the same network
 pub same_has : (net : Net) (old new : List (Option Store)) → SameShapes old new → HasStores net old → HasStores net new
@@ -102,7 +106,7 @@ pub drawn_same : (net : Net) (layout : Layout) (old new : List (Option Store)) (
 drawn_same net layout old new opened done draft pairs same drawn = record {
   fits = drawn.fits;
   drawn = subst (λ (stores : Stores). Drawn net stores (news_of opened draft.made done) draft) (held_same old new same) drawn.drawn;
-  paired = drawn.paired;
+  paired = subst (λ (stores : Stores). Paired net stores (news_of opened draft.made done) pairs) (held_same old new same) drawn.paired;
   epoch = subst (λ (stores : Stores). IsEpoch net done stores (streams_of opened) (news_of opened draft.made done)) (held_same old new same) drawn.epoch;
   kinds = drawn.kinds;
   ordered = drawn.ordered;

@@ -69,7 +69,7 @@ module _ (net : Net) (stores : Stores) where
       (All-weaker (IsPairOf net s (take i rows)) (λ p. row_at (λ _. take (i + 1) rows) p ≡ row_at (λ _. take i rows) p)
       (λ p h. ap option_to_list (ap (λ (ts : List TupleView). slice_get ts p.place) longer ∙ slice_left (take i rows) (tuple ∷ []) p.place h.below)) added sound) in
       let second = takes_found (λ _. take (i + 1) rows) s i tuple one.found got in
-      let fewer = states_less (at_state tuple) net s tuple one.found one.finds in
+      let fewer = states_less (at_state tuple) net stores s tuple one.found one.finds in
       let all = sum_by_more (take_work net stores s) rows i d lt in omega (arith, parts, first, second, fewer, all, was)
 
   -- what is listed with the tuples of a stream takes no more than these

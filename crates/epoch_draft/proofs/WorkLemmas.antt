@@ -15,7 +15,9 @@ use Rattle.automaton.specs.States.{Net, edges_at, ends_at, wait_at}
 use Rattle.automaton.specs.declared.wait.Turn.{Turn}
 use Rattle.automaton.specs.declared.wait.Wait.{Wait}
 use Rattle.stream_readers.specs.Ways.{Way, backs_by, backs_in, Into, Out, ways_at, is_state_looked_up, is_way_looked_up}
-use Rattle.stream_readers.specs.Finding.{FindsWaits, FindsWays, waits_on, ways_on}
+use Rattle.stream_readers.specs.Finding.{FindsWays, waits_on, ways_on}
+use Rattle.epoch_laws.specs.Closing.{Stores}
+use Rattle.epoch_draft.specs.Meeting.{FindsWaits}
 use Rattle.stream_readers.specs.Targets.{way_of}
 use Rattle.stream_readers.specs.declared.target.Target.{Target}
 use Rattle.epoch_draft.specs.Work.{way_work, ways_work}
@@ -76,5 +78,5 @@ pub ways_less : (net : Net) (s : ℕ) (t : TupleView) (targets : List Target) �
 ways_less net s t targets finds = found_less (way_work net) (is_way_looked_up net t) (flat_map (way_of net) targets) finds.others (ways_on net s) finds.all finds.looked_up
 
 -- the states that it finds are looked up
-pub states_less : (work : ℕ → ℕ) (net : Net) (s : ℕ) (t : TupleView) (states : List ℕ) → FindsWaits net s t states → sum_by work states ≤ sum_by work (filter (is_state_looked_up net t) (waits_on net s))
-states_less work net s t states finds = found_less work (is_state_looked_up net t) states finds.others (waits_on net s) finds.all finds.looked_up
+pub states_less : (work : ℕ → ℕ) (net : Net) (stores : Stores) (s : ℕ) (t : TupleView) (states : List ℕ) → FindsWaits net stores s t states → sum_by work states ≤ sum_by work (filter (is_state_looked_up net t) (waits_on net s))
+states_less work net stores s t states finds = found_less work (is_state_looked_up net t) states finds.others (waits_on net s) finds.all finds.looked_up

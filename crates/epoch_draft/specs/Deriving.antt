@@ -76,7 +76,7 @@ AreOrdered made streams = All (λ stream. sorted (slice_index_or made stream [])
 pub record DrawnUpTo (net : Net) (layout : Layout) (stores : List (Option Store)) (opened : List (List TupleView)) (done : List ℕ) (draft : Draft) (pairs : List Pair) : Type 0 where
   pub fits : DraftFits (length layout.kinds) (length net) draft
   pub drawn : Drawn net (held stores) (news_of opened draft.made done) draft
-  pub paired : Paired net (news_of opened draft.made done) pairs
+  pub paired : Paired net (held stores) (news_of opened draft.made done) pairs
   pub epoch : IsEpoch net done (held stores) (streams_of opened) (news_of opened draft.made done)
   pub kinds : HaveKinds layout.kinds (news_of opened draft.made done)
   pub ordered : AreOrdered draft.made done

@@ -7,11 +7,11 @@ use Rattle.semantics.specs.Denotation.{Streams}
 use Rattle.automaton.specs.States.{Net, entrance_at, wait_at}
 use Rattle.automaton.specs.declared.line.Hop.{Hop}
 use Rattle.automaton.specs.declared.network.Entrance.TheVariants.{Waiting}
-use Rattle.stream_readers.specs.Finding.{IsDeaf, waits_on}
+use Rattle.stream_readers.specs.Finding.{waits_on}
 use Rattle.epoch_laws.specs.Closing.{Stores, leaving_state, given_by_ends}
 use Rattle.epoch_laws.specs.Epochs.{again, took}
 use Rattle.epoch_laws.specs.Instances.{instances_entering}
-use Rattle.epoch_draft.specs.Meeting.{pair_of}
+use Rattle.epoch_draft.specs.Meeting.{MatchesNone, pair_of}
 use Rattle.epoch_draft.specs.declared.draft.Draft.{Draft}
 use Rattle.epoch_draft.specs.declared.draft.Pair.{Pair}
 
@@ -22,7 +22,7 @@ pub record Drawn (net : Net) (stores : Stores) (seen : Streams) (draft : Draft) 
       → IsPermutation (slice_index_or draft.beads number []) (instances_entering hop (leaving_state net seen stores before) ++ again hop.wait.fold (took hop.wait.choose hop.wait.fold (seen hop.wait.stream) (stores number)))
   pub unbound : (number : ℕ) → wait_at net number ≡ None → slice_index_or draft.beads number [] ≡ []
 
--- the pairs are those of waiting states with tuples that are met, and each that isn't listed is of a tuple that is eligible for no binding at its state
-pub record Paired (net : Net) (seen : Streams) (pairs : List Pair) : Type 0 where
+-- the pairs are those of waiting states with tuples that are met, and each that isn't listed is of a tuple that is eligible for none of the instances at its state
+pub record Paired (net : Net) (stores : Stores) (seen : Streams) (pairs : List Pair) : Type 0 where
   pub sound : All (λ pair. Contains (waits_on net pair.stream) pair.state × (pair.place < length (seen pair.stream))) pairs
-  pub listed : (stream place : ℕ) (tuple : TupleView) → slice_get (seen stream) place ≡ Some tuple → (state : ℕ) → Contains (waits_on net stream) state → Contains pairs (pair_of stream place state) ⊎ IsDeaf net tuple state
+  pub listed : (stream place : ℕ) (tuple : TupleView) → slice_get (seen stream) place ≡ Some tuple → (state : ℕ) → Contains (waits_on net stream) state → Contains pairs (pair_of stream place state) ⊎ MatchesNone net stores tuple state

@@ -7,6 +7,7 @@ pub mod Drawn
 pub mod EpochWork
 pub mod Held
 pub mod Kindings
+pub mod Led
 pub mod Marks
 pub mod Meeting
 pub mod Moves

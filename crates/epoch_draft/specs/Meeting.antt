@@ -1,11 +1,14 @@
 -- What comes of a tuple of a stream.
-use Rattle.std.specs.Prelude.{◌≡◌, ℕ, ◌<◌, ◌≤◌, ◌⊎◌, List, [], ◌++◌, Contains, length, map, Option, Some, None, slice_get, sum_by}
+use Rattle.std.specs.Prelude.{◌≡◌, ℕ, ◌<◌, ◌≤◌, ◌⊎◌, false, true, List, [], ◌++◌, Contains, length, map, Option, Some, None, slice_get, sum_by}
 use Rattle.std.specs.List.{All, flat_map}
+use Rattle.std.specs.List.Sorted.{IsPermutation}
 use Rattle.event_types.specs.Tuple.{TupleView}
 use Rattle.instances.specs.declared.instance.Instance.{Instance}
+use Rattle.semantics.specs.Nexts.{is_eligible}
 use Rattle.automaton.specs.States.{Net, wait_at}
 use Rattle.automaton.specs.declared.wait.Wait.{Wait}
-use Rattle.stream_readers.specs.Finding.{FindsWaits, IsDeaf, waits_on}
+use Rattle.stream_readers.specs.Finding.{waits_on}
+use Rattle.stream_readers.specs.Ways.{is_state_looked_up}
 use Rattle.epoch_laws.specs.Closing.{Stores}
 use Rattle.epoch_draft.specs.Comes.{gets}
 use Rattle.epoch_draft.specs.Moves.{Move, moves_from, moves_over}
@@ -38,10 +41,21 @@ moves_of_all net stores stream tuples = flat_map (moves_of net stores stream) tu
 abbrev pub pair_of : ℕ → ℕ → ℕ → Pair
 pair_of stream place state = record { state = state; stream = stream; place = place }
 
+-- the tuple is eligible for none of the instances at a state
+abbrev pub MatchesNone : Net → Stores → TupleView → ℕ → Type 0
+MatchesNone net stores tuple number = (wait : Wait) → wait_at net number ≡ Some wait → All (λ instance. is_eligible wait.choose instance.tuple tuple ≡ false) (stores number)
+
+-- the numbers are those of states that wait on a stream and are looked up by the tuple, each once, and the tuple is eligible for none of the instances at the others
+pub record FindsWaits (net : Net) (stores : Stores) (stream : ℕ) (tuple : TupleView) (found : List ℕ) : Type 0 where
+  pub others : List ℕ
+  pub all : IsPermutation (found ++ others) (waits_on net stream)
+  pub unmatched : All (MatchesNone net stores tuple) others
+  pub looked_up : All (λ number. is_state_looked_up net tuple number ≡ true) found
+
 -- the states that were found by a tuple are listed with its place
 pub record Lists (net : Net) (stores : Stores) (stream place : ℕ) (tuple : TupleView) (old new : List Pair) : Type 0 where
   pub found : List ℕ
-  pub finds : FindsWaits net stream tuple found
+  pub finds : FindsWaits net stores stream tuple found
   pub are : new ≡ old ++ map (pair_of stream place) found
 
 -- a pair is that of a waiting state and one of these tuples
@@ -50,10 +64,10 @@ pub record IsPairOf (net : Net) (stream : ℕ) (tuples : List TupleView) (pair :
   pub waits : Contains (waits_on net stream) pair.state
   pub below : pair.place < length tuples
 
--- each waiting state and each of these tuples are listed, or the tuple is eligible for no binding there; what is listed is taken out by no more tests than these tuples have
+-- each waiting state and each of these tuples are listed, or the tuple is eligible for none of the instances there; what is listed is taken out by no more tests than these tuples have
 pub record ListsAll (net : Net) (stores : Stores) (stream : ℕ) (tuples : List TupleView) (old new : List Pair) : Type 0 where
   pub added : List Pair
   pub are : new ≡ old ++ added
   pub sound : All (IsPairOf net stream tuples) added
-  pub listed : (place : ℕ) (tuple : TupleView) → slice_get tuples place ≡ Some tuple → (state : ℕ) → Contains (waits_on net stream) state → Contains added (pair_of stream place state) ⊎ IsDeaf net tuple state
+  pub listed : (place : ℕ) (tuple : TupleView) → slice_get tuples place ≡ Some tuple → (state : ℕ) → Contains (waits_on net stream) state → Contains added (pair_of stream place state) ⊎ MatchesNone net stores tuple state
   pub takes : takes_work net (λ _. tuples) stores added ≤ sum_by (take_work net stores stream) tuples

@@ -13,6 +13,7 @@ use Rattle.binding_index.specs.Stores.{condition_of, instances_of}
 use Rattle.binding_index.specs.declared.store.Store.{Store}
 use Rattle.instances.specs.declared.instance.Instance.{Instance}
 use Rattle.epoch_draft.specs.Held.{SameShapes, held, instances_in, key_in}
+use Rattle.epoch_draft.specs.Led.{StayReady}
 
 -- those of a store's instances that are alive at a time; a state without a store has none
 abbrev pub alive_in : ℕ → Option Store → List Instance
@@ -28,6 +29,7 @@ pub record ArePurgedIn (numbers : List ℕ) (time : ℕ) (old new : List (Option
   pub same : SameShapes old new
   pub purged : (number : ℕ) → Contains numbers number → held new number ≡ alive_in time (slice_index_or old number None)
   pub used : (number : ℕ) → Contains numbers number → AreUsedIn (slice_index_or new number None)
+  pub stay : StayReady old new
   pub others : (number : ℕ) → (Contains numbers number → ⊥) → slice_index_or new number None ≡ slice_index_or old number None
 
 -- the store of a state was purged, if it is a waiting state, and all others are the same
@@ -35,6 +37,7 @@ pub record IsPurgedAt (net : Net) (time number : ℕ) (old new : List (Option St
   pub same : SameShapes old new
   pub purged : (wait : Wait) → wait_at net number ≡ Some wait → held new number ≡ alive_in time (slice_index_or old number None)
   pub used : (wait : Wait) → wait_at net number ≡ Some wait → AreUsedIn (slice_index_or new number None)
+  pub stay : StayReady old new
   pub none : wait_at net number ≡ None → slice_index_or new number None ≡ slice_index_or old number None
   pub others : (other : ℕ) → (other ≡ number → ⊥) → slice_index_or new other None ≡ slice_index_or old other None
 
@@ -43,6 +46,7 @@ pub record AreAllPurged (net : Net) (time : ℕ) (old new : List (Option Store))
   pub same : SameShapes old new
   pub purged : (number : ℕ) (wait : Wait) → wait_at net number ≡ Some wait → held new number ≡ alive_in time (slice_index_or old number None)
   pub used : (number : ℕ) (wait : Wait) → wait_at net number ≡ Some wait → AreUsedIn (slice_index_or new number None)
+  pub stay : StayReady old new
   pub others : (number : ℕ) → wait_at net number ≡ None → slice_index_or new number None ≡ slice_index_or old number None
 
 -- no bound of the condition expires

@@ -59,6 +59,7 @@ pub record AreTaken (net : Net) (news : Streams) (pairs : List Pair) (old new : 
 -- the beads of these states were put into their stores, and a store without beads is the same
 pub record AreLinked (numbers : List ℕ) (beads : List (List Instance)) (old new : List (Option Store)) : Type 0 where
   pub same : SameShapes old new
+  pub ready : SameReady old new
   pub linked : (number : ℕ) → Contains numbers number → (store : Store) → slice_index_or old number None ≡ Some store → IsPermutation (held new number) (instances_of store ++ slice_index_or beads number [])
   pub idle : (number : ℕ) → slice_index_or beads number [] ≡ [] → slice_index_or new number None ≡ slice_index_or old number None
   pub others : (number : ℕ) → (Contains numbers number → ⊥) → slice_index_or new number None ≡ slice_index_or old number None

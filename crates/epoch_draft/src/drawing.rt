@@ -8,6 +8,7 @@ ghost use Rattle.epoch_draft.specs.Deriving.{AreOpened, AreReadersOfAll, CanDraw
 ghost use Rattle.epoch_draft.specs.Agenda.{ArePlaces};
 ghost use Rattle.epoch_draft.specs.Drafts.{DraftFits, EndsBelow};
 ghost use Rattle.epoch_draft.specs.Held.{held};
+ghost use Rattle.epoch_draft.specs.Led.{AreLed};
 ghost use Rattle.epoch_draft.specs.Readying.{HaveKeys};
 ghost use Rattle.epoch_draft.specs.Stores.{HasStores};
 ghost use Rattle.epoch_draft.specs.Suits.{TupleSuits};
@@ -22,7 +23,7 @@ use automaton::{Layout, Network};
 use event_types::{Memory, StreamId, put_in_order};
 use std::alloc::Global;
 use steps::{Ledger, Steps};
-use stream_readers::{Found, Readers};
+use stream_readers::{Found, KeyReaders, Readers};
 
 /// Makes all that comes of the open tuples of an epoch. Nothing but the draft and the pairs is changed,
 /// and after want of memory these are of no more use.
@@ -32,6 +33,7 @@ pub fn draw<L: Ledger>(
     layout: &Layout,
     places: &[usize],
     readers: &Readers,
+    keys: &KeyReaders,
     stores: &Stores,
     opened: &Lists,
     touched: &[usize],
@@ -42,6 +44,7 @@ pub fn draw<L: Ledger>(
 ) -> Result<(), Memory>
     requires can_draw { CanDraw network.now layout.now stores.now opened.now }
     requires readers { AreReadersOfAll network.now layout.now readers.now }
+    requires led { AreLed network.now keys.now stores.now }
     requires places { ArePlaces layout.now.order (length layout.now.kinds) places.now }
     requires touched { AreOpened opened.now touched.now }
     requires fits { DraftFits (length layout.now.kinds) (length network.now) draft.old }
@@ -54,10 +57,10 @@ pub fn draw<L: Ledger>(
     ensures ticks { steps.new ≤ steps.old + draw_work network.now layout.now (held stores.now) (streams_of opened.now) }
 {
     meet_opened(
-        alloc, network, layout, readers, stores, opened, touched, found, draft, pairs, steps,
+        alloc, network, layout, readers, keys, stores, opened, touched, found, draft, pairs, steps,
     )?;
     derive(
-        alloc, network, layout, places, readers, stores, opened, found, draft, pairs, steps,
+        alloc, network, layout, places, readers, keys, stores, opened, found, draft, pairs, steps,
     )
 }
 
@@ -67,6 +70,7 @@ fn meet_opened<L: Ledger>(
     network: &Network,
     layout: &Layout,
     readers: &Readers,
+    keys: &KeyReaders,
     stores: &Stores,
     opened: &Lists,
     touched: &[usize],
@@ -77,6 +81,7 @@ fn meet_opened<L: Ledger>(
 ) -> Result<(), Memory>
     requires can_draw { CanDraw network.now layout.now stores.now opened.now }
     requires readers { AreReadersOfAll network.now layout.now readers.now }
+    requires led { AreLed network.now keys.now stores.now }
     requires touched { AreOpened opened.now touched.now }
     requires fits { DraftFits (length layout.now.kinds) (length network.now) draft.old }
     requires none_made { (stream : ℕ) → slice_index_or draft.old.made stream [] ≡ [] }
@@ -91,6 +96,7 @@ fn meet_opened<L: Ledger>(
             alloc,
             network,
             readers,
+            keys,
             stores,
             found,
             draft,
@@ -110,6 +116,7 @@ fn derive<L: Ledger>(
     layout: &Layout,
     places: &[usize],
     readers: &Readers,
+    keys: &KeyReaders,
     stores: &Stores,
     opened: &Lists,
     found: &mut Found,
@@ -119,6 +126,7 @@ fn derive<L: Ledger>(
 ) -> Result<(), Memory>
     requires can_draw { CanDraw network.now layout.now stores.now opened.now }
     requires readers { AreReadersOfAll network.now layout.now readers.now }
+    requires led { AreLed network.now keys.now stores.now }
     requires places { ArePlaces layout.now.order (length layout.now.kinds) places.now }
     requires drawn { DrawnUpTo network.now layout.now stores.now opened.now [] draft.old pairs.old }
     requires takes { pairs_work network.now [] stores.now opened.now draft.old.made pairs.old ≤ heard_taking network.now layout.now (held stores.now) (streams_of opened.now) }
@@ -134,7 +142,7 @@ fn derive<L: Ledger>(
         let stream = *layout.order.get(place);
         let known = draft.due.numbers.len();
         derive_stream(
-            alloc, network, readers, stores, stream, found, draft, pairs, steps,
+            alloc, network, readers, keys, stores, stream, found, draft, pairs, steps,
         )?;
         next = place + 1;
         let fresh = &draft.due.numbers.as_slice()[known..];
@@ -148,6 +156,7 @@ fn derive_stream<L: Ledger>(
     alloc: Global,
     network: &Network,
     readers: &Readers,
+    keys: &KeyReaders,
     stores: &Stores,
     stream: StreamId,
     found: &mut Found,
@@ -158,6 +167,7 @@ fn derive_stream<L: Ledger>(
     requires network { IsNetwork network.now }
     requires readers { AreReadersOf network.now readers.now }
     requires read { stream < length readers.now }
+    requires led { AreLed network.now keys.now stores.now }
     requires stores { HasStores network.now stores.now }
     requires stream { stream < length draft.old.made }
     requires below { EndsBelow network.now (length draft.old.made) }
@@ -172,6 +182,7 @@ fn derive_stream<L: Ledger>(
         alloc,
         network,
         readers,
+        keys,
         stores,
         found,
         draft,

@@ -8,6 +8,7 @@ ghost use Rattle.stream_readers.specs.Targets.{IsTarget, way_of};
 ghost use Rattle.epoch_laws.specs.Instances.{begins};
 ghost use Rattle.epoch_draft.specs.Drafts.{DraftFits, EndsBelow, Grows};
 ghost use Rattle.epoch_draft.specs.Held.{held};
+ghost use Rattle.epoch_draft.specs.Led.{AreLed};
 ghost use Rattle.epoch_draft.specs.Meeting.{Lists, ListsAll, moves_met, moves_of, moves_of_all, pair_of};
 ghost use Rattle.epoch_draft.specs.Moves.{moves_on};
 ghost use Rattle.epoch_draft.specs.Stores.{HasStores};
@@ -24,7 +25,7 @@ use automaton::Network;
 use event_types::{Memory, StreamId, Tuple};
 use std::alloc::Global;
 use steps::{Ledger, Steps};
-use stream_readers::{Found, Readers, Target};
+use stream_readers::{Found, KeyReaders, Readers, Target};
 
 // What the tuple makes of the instances at each of these states leaves it. The states are listed with the
 // tuple's place.
@@ -116,6 +117,7 @@ fn meet_tuple<L: Ledger>(
     alloc: Global,
     network: &Network,
     readers: &Readers,
+    keys: &KeyReaders,
     stores: &Stores,
     found: &mut Found,
     draft: &mut Draft,
@@ -128,6 +130,7 @@ fn meet_tuple<L: Ledger>(
     requires network { IsNetwork network.now }
     requires readers { AreReadersOf network.now readers.now }
     requires stream { stream < length readers.now }
+    requires led { AreLed network.now keys.now stores.now }
     requires stores { HasStores network.now stores.now }
     requires below { EndsBelow network.now (length draft.old.made) }
     requires fits { DraftFits (length draft.old.made) (length network.now) draft.old }
@@ -146,6 +149,7 @@ fn meet_tuple<L: Ledger>(
         steps,
     )?;
     readers.find_waits(stream, tuple, found)?;
+    keys.find(network, stream, tuple, found)?;
     meet_waits(
         alloc,
         network,
@@ -166,6 +170,7 @@ pub(crate) fn meet_stream<L: Ledger>(
     alloc: Global,
     network: &Network,
     readers: &Readers,
+    keys: &KeyReaders,
     stores: &Stores,
     found: &mut Found,
     draft: &mut Draft,
@@ -177,6 +182,7 @@ pub(crate) fn meet_stream<L: Ledger>(
     requires network { IsNetwork network.now }
     requires readers { AreReadersOf network.now readers.now }
     requires stream { stream < length readers.now }
+    requires led { AreLed network.now keys.now stores.now }
     requires stores { HasStores network.now stores.now }
     requires below { EndsBelow network.now (length draft.old.made) }
     requires fits { DraftFits (length draft.old.made) (length network.now) draft.old }
@@ -187,7 +193,7 @@ pub(crate) fn meet_stream<L: Ledger>(
 {
     for (place, tuple) in tuples.iter().enumerate() {
         meet_tuple(
-            alloc, network, readers, stores, found, draft, pairs, stream, place, tuple, steps,
+            alloc, network, readers, keys, stores, found, draft, pairs, stream, place, tuple, steps,
         )?;
     }
     Ok(())

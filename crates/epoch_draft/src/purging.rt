@@ -3,6 +3,7 @@ ghost use Rattle.std.specs.Prelude.{◌≡◌, ◌+◌, ◌<◌, is_some, length
 ghost use Rattle.std.specs.List.{All};
 ghost use Rattle.automaton.specs.States.{wait_at};
 ghost use Rattle.epoch_draft.specs.Held.{instances_in, shape_of};
+ghost use Rattle.epoch_draft.specs.Led.{StaysReady};
 ghost use Rattle.epoch_draft.specs.Purging.{AreAllPurged, ArePurgedIn, AreUsedIn, IsPurgedAt, alive_in};
 
 use crate::draft::Pair;
@@ -65,6 +66,7 @@ fn is_waiting(network: &Network, number: usize) -> bool
 fn purge(slot: &mut Option<Store>, time: u64)
     ensures purged { instances_in slot.new ≡ alive_in (time + 1) slot.old }
     ensures used { AreUsedIn slot.new }
+    ensures stays { StaysReady slot.old slot.new }
     ensures shape { shape_of slot.new ≡ shape_of slot.old }
 {
     if let Some(store) = slot {

@@ -1,70 +1,167 @@
 //! Room in the stores for what an epoch brings.
-ghost use Rattle.std.specs.Prelude.{◌≡◌, ◌<◌, [], ℕ, Contains, None, OnOk, length, slice_index_or};
+ghost use Rattle.std.specs.Prelude.{◌≡◌, ◌<◌, [], ℕ, Contains, IfNone, IfSome, None, OnOk, length, slice_index_or};
 ghost use Rattle.std.specs.List.{All};
 ghost use Rattle.instances.specs.Keys.{BindingFits};
 ghost use Rattle.binding_index.specs.Leads.{ready_in};
 ghost use Rattle.binding_index.specs.Stores.{condition_of, instances_of, key_of, ready_of};
+ghost use Rattle.stream_readers.specs.Leading.{lead_key_at};
 ghost use Rattle.epoch_draft.specs.Drafts.{DraftFits};
-ghost use Rattle.epoch_draft.specs.Held.{SameStored, instances_in, shape_of};
+ghost use Rattle.epoch_draft.specs.Held.{SameStored, instances_in, key_in, shape_of};
+ghost use Rattle.epoch_draft.specs.Led.{AreLed, HasKeyOf, IsLeadOf, LeadBy, LeadMore, LeadsBy};
 ghost use Rattle.epoch_draft.specs.Readying.{HasRoom, HaveKeyIn, HaveKeys, HaveRoom, HaveRoomIn};
+ghost use Rattle.epoch_draft.specs.Stores.{HasStores};
 
 use crate::draft::{Beads, Draft};
 use crate::stores::Stores;
-use binding_index::Store;
-use event_types::Memory;
+use automaton::Network;
+use binding_index::{KeyPart, Store};
+use event_types::{Memory, StreamId};
 use inst_chain::{Chain, Look};
 use instances::{Instance, Waiting};
+use stream_readers::{KeyReaders, lead_key};
 
-/// Makes room in the stores for the beads of an epoch that was drawn, and changes no instance. After want of
-/// memory there may be room for some that don't come.
-pub fn make_room(stores: &mut Stores, draft: &Draft) -> Result<(), Memory>
+/// A state that is found by a key: its number, the stream on which it waits, and the key.
+#[derive(Drop)]
+pub(crate) struct Lead {
+    pub state: usize,
+    pub stream: StreamId,
+    pub key: KeyPart,
+}
+
+/// Makes room in the stores for the beads of an epoch that was drawn, lets their keys lead to their states, and
+/// changes no instance. After want of memory there may be room for some that don't come.
+pub fn make_room(
+    network: &Network,
+    keys: &mut KeyReaders,
+    stores: &mut Stores,
+    draft: &Draft,
+) -> Result<(), Memory>
+    requires stores { HasStores network.now stores.old }
     requires fits { DraftFits (length draft.now.made) (length stores.old) draft.now }
     requires keys { HaveKeys stores.old draft.now.beads }
+    requires led { AreLed network.now keys.old stores.old }
     ensures room { OnOk result (HaveRoom stores.new draft.now.beads) }
     ensures same { SameStored stores.old stores.new }
+    ensures led { AreLed network.now keys.new stores.new }
 {
-    make_room_at(stores, &draft.beads, draft.reached.numbers.as_slice())
+    make_room_at(
+        network,
+        keys,
+        stores,
+        &draft.beads,
+        draft.reached.numbers.as_slice(),
+    )
 }
 
 // Makes room for the beads of these states.
-fn make_room_at(stores: &mut Stores, beads: &Beads, numbers: &[usize]) -> Result<(), Memory>
-    requires stores { All (λ number. number < length stores.old) numbers.now }
+fn make_room_at(
+    network: &Network,
+    keys: &mut KeyReaders,
+    stores: &mut Stores,
+    beads: &Beads,
+    numbers: &[usize],
+) -> Result<(), Memory>
+    requires stores { HasStores network.now stores.old }
+    requires within { All (λ number. number < length stores.old) numbers.now }
     requires beads { All (λ number. number < length beads.now) numbers.now }
     requires keys { HaveKeys stores.old beads.now }
+    requires led { AreLed network.now keys.old stores.old }
     ensures room { OnOk result ((number : ℕ) → Contains numbers.now number → HaveRoomIn (slice_index_or stores.new number None) (slice_index_or beads.now number [])) }
     ensures same { SameStored stores.old stores.new }
+    ensures led { AreLed network.now keys.new stores.new }
 {
     for number in numbers {
-        make_room_in(stores.get_mut(*number), beads.get(*number))?;
+        let lead = lead_of(network, *number);
+        make_room_in(keys, &lead, stores.get_mut(*number), beads.get(*number))?;
     }
     Ok(())
 }
 
+// How a state is found, if it is found by a key.
+fn lead_of(network: &Network, number: usize) -> Option<Lead>
+    requires { number < length network.now }
+    ensures found { IfSome result (IsLeadOf network.now number) }
+    ensures none { IfNone result (lead_key_at network.now number ≡ None) }
+{
+    if !network.used(number) {
+        return None;
+    }
+    let wait = network.wait(number)?;
+    let key = lead_key(&wait.choose)?;
+    Some(Lead {
+        state: number,
+        stream: wait.stream,
+        key,
+    })
+}
+
 // Makes room for beads in the store of a state, if it has one.
-fn make_room_in(slot: &mut Option<Store>, beads: &Chain<Instance>) -> Result<(), Memory>
-    requires keys { HaveKeyIn slot.old beads.now }
+fn make_room_in(
+    keys: &mut KeyReaders,
+    lead: &Option<Lead>,
+    slot: &mut Option<Store>,
+    beads: &Chain<Instance>,
+) -> Result<(), Memory>
+    requires fits { HaveKeyIn slot.old beads.now }
+    requires key { HasKeyOf (key_in slot.old) lead.now }
+    requires led { LeadBy keys.old lead.now (ready_in slot.old) }
     ensures room { OnOk result (HaveRoomIn slot.new beads.now) }
+    ensures led { LeadBy keys.new lead.now (ready_in slot.new) }
+    ensures leads { LeadMore lead.now keys.old keys.new }
     ensures more { All (Contains (ready_in slot.new)) (ready_in slot.old) }
     ensures shape { shape_of slot.new ≡ shape_of slot.old }
     ensures instances { instances_in slot.new ≡ instances_in slot.old }
 {
     match slot {
-        Some(store) => make_room_for(store, beads.look()),
+        Some(store) => make_room_for(keys, lead, store, beads.look()),
         None => Ok(()),
     }
 }
 
 // Makes room for these instances in the store.
-fn make_room_for(store: &mut Store, mut instances: Look<'_, Instance>) -> Result<(), Memory>
-    requires keys { All (λ instance. BindingFits (key_of store.old) instance.tuple) instances }
+fn make_room_for(
+    keys: &mut KeyReaders,
+    lead: &Option<Lead>,
+    store: &mut Store,
+    mut instances: Look<'_, Instance>,
+) -> Result<(), Memory>
+    requires fits { All (λ instance. BindingFits (key_of store.old) instance.tuple) instances }
+    requires key { HasKeyOf (key_of store.old) lead.now }
+    requires led { LeadBy keys.old lead.now (ready_of store.old) }
     ensures room { OnOk result (All (HasRoom (key_of store.new) (ready_of store.new)) instances.entry) }
+    ensures led { LeadBy keys.new lead.now (ready_of store.new) }
+    ensures leads { LeadMore lead.now keys.old keys.new }
     ensures more { All (Contains (ready_of store.new)) (ready_of store.old) }
     ensures condition { condition_of store.new ≡ condition_of store.old }
     ensures key { key_of store.new ≡ key_of store.old }
     ensures same { instances_of store.new ≡ instances_of store.old }
 {
     while let Some(instance) = instances.next() {
+        note(keys, lead, store, instance)?;
         store.ready(instance)?;
     }
     Ok(())
+}
+
+// Lets the key of an instance lead to its state, unless it is ready in the state's store.
+fn note(
+    keys: &mut KeyReaders,
+    lead: &Option<Lead>,
+    store: &Store,
+    instance: &Instance,
+) -> Result<(), Memory>
+    requires fits { BindingFits (key_of store.now) instance.now.tuple }
+    requires key { HasKeyOf (key_of store.now) lead.now }
+    requires led { LeadBy keys.old lead.now (ready_of store.now) }
+    ensures ok { OnOk result (LeadsBy keys.new lead.now instance.now.tuple) }
+    ensures leads { LeadMore lead.now keys.old keys.new }
+{
+    let Some(lead) = lead else {
+        return Ok(());
+    };
+    let key = instance.tuple.vals().get(lead.key.binding);
+    if store.is_ready(key) {
+        return Ok(());
+    }
+    keys.note(lead.stream, lead.key.event, key, lead.state)
 }

@@ -16,6 +16,7 @@ ghost use Rattle.epoch_draft.specs.Candidates.{candidates_at};
 ghost use Rattle.epoch_draft.specs.Drafts.{DraftFits};
 ghost use Rattle.epoch_draft.specs.EpochWork.{pairs_work};
 ghost use Rattle.epoch_draft.specs.Held.{held, instances_in, key_in, shape_of};
+ghost use Rattle.epoch_draft.specs.Led.{StayReady};
 ghost use Rattle.epoch_draft.specs.Purging.{AreUsedIn, ListsBounded};
 ghost use Rattle.epoch_draft.specs.Readying.{HasRoom, HaveRoom, HaveRoomIn};
 ghost use Rattle.epoch_draft.specs.Stores.{HasStores};
@@ -53,6 +54,7 @@ pub fn settle<L: Ledger>(
     requires bounded { ListsBounded network.now (length network.now) bounded.now }
     ensures closed { AreClosed (time + 1) network.now (news_of opened.now draft.old.made layout.now.order) stores.old stores.new }
     ensures used { All (λ pair. AreUsedIn (slice_index_or stores.new pair.state None)) pairs.now }
+    ensures stay { StayReady stores.old stores.new }
     ensures made { draft.new.made ≡ draft.old.made }
     ensures fits { DraftFits (length layout.now.kinds) (length network.now) draft.new }
     ensures ticks { steps.new ≤ steps.old + pairs_work network.now layout.now.order stores.old opened.now draft.old.made pairs.now }
@@ -76,6 +78,7 @@ fn step<L: Ledger>(
     requires drawn { DrawnUpTo network.now _layout.now stores.old opened.now _layout.now.order draft.old pairs.now }
     requires room { HaveRoom stores.old draft.old.beads }
     ensures settled { AreSettled network.now (news_of opened.now draft.old.made _layout.now.order) stores.old stores.new }
+    ensures stay { StayReady stores.old stores.new }
     ensures made { draft.new.made ≡ draft.old.made }
     ensures fits { DraftFits (length _layout.now.kinds) (length network.now) draft.new }
     ensures ticks { steps.new ≤ steps.old + pairs_work network.now _layout.now.order stores.old opened.now draft.old.made pairs.now }
@@ -182,6 +185,7 @@ fn link_in(slot: &mut Option<Store>, beads: &mut Chain<Instance>)
     ensures instances { (store : Stored) → slot.old ≡ Some store → IsPermutation (instances_in slot.new) (instances_of store ++ beads.old) }
     ensures idle { beads.old ≡ [] → slot.new ≡ slot.old }
     ensures shape { shape_of slot.new ≡ shape_of slot.old }
+    ensures ready { ready_in slot.new ≡ ready_in slot.old }
 {
     if let Some(store) = slot {
         link(store, beads);
@@ -195,6 +199,7 @@ fn link(store: &mut Store, beads: &mut Chain<Instance>)
     ensures idle { beads.old ≡ [] → store.new ≡ store.old }
     ensures condition { condition_of store.new ≡ condition_of store.old }
     ensures key { key_of store.new ≡ key_of store.old }
+    ensures ready { ready_of store.new ≡ ready_of store.old }
 {
     let mut walk = beads.walk();
     while let Some(bead) = walk.unlink() {

@@ -2,6 +2,7 @@
 ghost use Rattle.std.specs.Prelude.{◌≡◌, ◌-◌, ◌^◌, ◌<◌, [], IfOk, length, min, sum_by};
 ghost use Rattle.std.specs.Option.{option_map};
 ghost use Rattle.automaton.specs.States.{wait_at};
+ghost use Rattle.binding_index.specs.Leads.{ready_in};
 ghost use Rattle.epoch_draft.specs.Held.{instances_in, shape_for, shape_of};
 ghost use Rattle.epoch_draft.specs.Stores.{AreNewStores};
 
@@ -22,7 +23,8 @@ pub fn empty_stores(alloc: Global, network: &Network) -> Result<Stores, Memory>
 {
     let mut stores = List::new(alloc);
     for number in 0..network.places() {
-        add(&mut stores, empty_store(alloc, network, number)?)?;
+        let slot = empty_store(alloc, network, number)?;
+        add(&mut stores, slot)?;
     }
     Ok(stores)
 }
@@ -32,6 +34,7 @@ fn empty_store(alloc: Global, network: &Network, number: usize) -> Result<Option
     requires { number < length network.now }
     ensures shape { IfOk result (λ slot. shape_of slot ≡ option_map (λ wait. shape_for wait.choose) (wait_at network.now number)) }
     ensures empty { IfOk result (λ slot. instances_in slot ≡ []) }
+    ensures none_ready { IfOk result (λ slot. ready_in slot ≡ []) }
 {
     if !network.used(number) {
         return Ok(None);

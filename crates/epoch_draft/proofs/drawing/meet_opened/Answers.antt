@@ -27,7 +27,7 @@ pub loop-stream-init : goal.loop-stream-init
 loop-stream-init g c = record {
   fits = c.requires.fits;
   drawn = drawn_starts c.args.network.now (held c.args.stores.now) c.args.draft.now c.requires.none_made c.requires.no_beads;
-  paired = paired_none c.args.network.now c.args.pairs.now c.requires.no_pairs;
+  paired = paired_none c.args.network.now (held c.args.stores.now) c.args.pairs.now c.requires.no_pairs;
   takes = let none = ap (takes_work c.args.network.now (streams_of c.args.opened.now) (held c.args.stores.now)) c.requires.no_pairs in omega (arith, none);
   ticks = omega arith;
 }
@@ -88,7 +88,7 @@ returns-clause-drawn g c =
     let all = taken_all touched c.loop-stream.stream-index c.loop-stream-test.false in
     opened_drawn net c.args.layout.now stores opened touched c.loop-stream.draft c.loop-stream.pairs c.requires.can_draw c.requires.touched c.loop-stream.invariant.fits
     (subst (λ (xs : List ℕ). Drawn net (held stores) (opened_of opened xs) c.loop-stream.draft) all c.loop-stream.invariant.drawn)
-    (subst (λ (xs : List ℕ). Paired net (opened_of opened xs) c.loop-stream.pairs) all c.loop-stream.invariant.paired)
+    (subst (λ (xs : List ℕ). Paired net (held stores) (opened_of opened xs) c.loop-stream.pairs) all c.loop-stream.invariant.paired)
 
 -- what their pairs take out
 pub returns-clause-takes : goal.returns-clause-takes

@@ -14,7 +14,7 @@ abbrev pub invariant-loop-stream : goal.invariant-loop-stream
 invariant-loop-stream g l = record {
   fits : DraftFits (length l.layout.kinds) (length l.network) l.draft;
   drawn : Drawn l.network (held l.stores) (opened_of l.opened (take l.stream-index l.touched)) l.draft;
-  paired : Paired l.network (opened_of l.opened (take l.stream-index l.touched)) l.pairs;
+  paired : Paired l.network (held l.stores) (opened_of l.opened (take l.stream-index l.touched)) l.pairs;
   takes : takes_work l.network (streams_of l.opened) (held l.stores) l.pairs ≤ sum_by (λ s. sum_by (take_work l.network (held l.stores) s) (get_or l.opened s [])) (take l.stream-index l.touched);
   ticks : l.steps ≤ l.initial.steps + streams_work l.network (held l.stores) l.opened (take l.stream-index l.touched);
 }

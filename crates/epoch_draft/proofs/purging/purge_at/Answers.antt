@@ -1,7 +1,9 @@
-use Rattle.std.proofs.Common.{◌∙◌, sym, ap, ◌+◌}
-use Rattle.std.specs.Prelude.{None}
+use Rattle.std.proofs.Common.{subst, ◌∙◌, sym, ap, ◌+◌}
+use Rattle.std.specs.Prelude.{None, Option}
 use Rattle.std.proofs.lemmas.Option.{get_or_from_slice_get, slice_get_within}
+use Rattle.binding_index.specs.declared.store.Store.{Store}
 use Rattle.epoch_draft.specs.Held.{shape_of}
+use Rattle.epoch_draft.specs.Led.{StaysReady}
 use Rattle.epoch_draft.specs.Purging.{alive_in}
 use Rattle.epoch_draft.proofs.PurgeLemmas.{purged_there}
 use Rattle.epoch_draft.proofs.purging.purge_at.Goals as goal
@@ -12,4 +14,4 @@ returns-then-is_waiting c =
     let n = c.args.number in
     let slot = sym (get_or_from_slice_get stores n c.get_mut.result.now None c.get_mut.ensures.value) in
     purged_there c.args.network.now (c.args.time + 1) n stores c.purge.new.slot (slice_get_within stores n c.get_mut.result.now c.get_mut.ensures.value) (sym c.is_waiting.ensures ∙ c.if-is_waiting.true)
-    (c.purge.ensures.purged ∙ ap (alive_in (c.args.time + 1)) slot) (c.purge.ensures.shape ∙ ap shape_of slot) c.purge.ensures.used
+    (c.purge.ensures.purged ∙ ap (alive_in (c.args.time + 1)) slot) (c.purge.ensures.shape ∙ ap shape_of slot) c.purge.ensures.used (subst (λ (o : Option Store). StaysReady o c.purge.new.slot) slot c.purge.ensures.stays)

@@ -7,8 +7,8 @@ use Rattle.epoch_draft.proofs.MarkLemmas.{all_below}
 use Rattle.epoch_draft.proofs.ReadyLemmas.{readied_all}
 use Rattle.epoch_draft.proofs.readying.make_room.Goals as goal
 
-pub make_room_at-requires-clause-stores : goal.make_room_at-requires-clause-stores
-make_room_at-requires-clause-stores c =
+pub make_room_at-requires-clause-within : goal.make_room_at-requires-clause-within
+make_room_at-requires-clause-within c =
     subst (λ (m : ℕ). All (λ n. n < m) c.as_slice.result.now) c.requires.fits.reached_below (all_below c.args.draft.now.reached c.requires.fits.reached c.as_slice.result.now c.as_slice.ensures)
 
 pub make_room_at-requires-clause-beads : goal.make_room_at-requires-clause-beads

@@ -6,19 +6,34 @@ use Rattle.instances.specs.Keys.{BindingFits, Key}
 use Rattle.instances.specs.declared.instance.Instance.{Instance}
 use Rattle.binding_index.specs.Stores.{key_of, ready_of}
 use Rattle.epoch_draft.specs.Readying.{HasRoom}
+use Rattle.epoch_draft.specs.Led.{HasKeyOf}
+use Rattle.epoch_draft.proofs.LeadLemmas.{by_kept, by_ready, leads_trans, more_none}
 use Rattle.epoch_draft.proofs.MeetLemmas.{head_none}
 use Rattle.epoch_draft.proofs.ReadyLemmas.{more_trans, room_more}
 use Rattle.epoch_draft.proofs.readying.make_room_for.Goals as goal
 
 pub loop-instance-init : goal.loop-instance-init
 loop-instance-init c = record {
-  keys = c.requires.keys;
+  keys = c.requires.fits;
   room = λ ready more room. room;
   more = All-contains_itself (ready_of c.args.store.now);
   condition = refl;
   key = refl;
   same = refl;
+  found = c.requires.key;
+  led = c.requires.led;
+  leads = more_none c.args.lead.now c.args.keys.now;
 }
+
+pub note-requires : goal.note-requires
+note-requires c =
+    let was = c.loop-instance.invariant in
+    let fits = λ (i : Instance). BindingFits (key_of c.loop-instance.store) i.tuple in
+    record {
+      fits = All-head fits c.in-Some.instance.now c.next.new.self (subst (All fits) c.in-Some.ensures.rest was.keys);
+      key = was.found;
+      led = was.led;
+    }
 
 -- room for one more
 pub loop-instance-preserved : goal.loop-instance-preserved
@@ -42,7 +57,29 @@ loop-instance-preserved c =
       condition = c.ready.ensures.same_condition ∙ was.condition;
       key = same ∙ was.key;
       same = c.ready.ensures.same_instances ∙ was.same;
+      found = subst (λ (k : Option Key). HasKeyOf k c.args.lead.now) (sym same) was.found;
+      led =
+          by_ready c.args.lead.now c.note.new.keys (key_of old) (ready_of old) (ready_of new) i.tuple was.found (by_kept c.args.lead.now c.loop-instance.keys c.note.new.keys (ready_of old) c.note.ensures.leads was.led) c.in_ok-note.ensures.ok
+          c.ready.ensures.only;
+      leads = leads_trans c.args.lead.now c.args.keys.now c.loop-instance.keys c.note.new.keys was.leads c.note.ensures.leads;
     }
+
+-- want of memory leaves what leads to the state
+pub returns-in_err-note-clause-led : goal.returns-in_err-note-clause-led
+returns-in_err-note-clause-led c = by_kept c.args.lead.now c.loop-instance.keys c.note.new.keys (ready_of c.loop-instance.store) c.note.ensures.leads c.loop-instance.invariant.led
+
+pub returns-in_err-note-clause-leads : goal.returns-in_err-note-clause-leads
+returns-in_err-note-clause-leads c = leads_trans c.args.lead.now c.args.keys.now c.loop-instance.keys c.note.new.keys c.loop-instance.invariant.leads c.note.ensures.leads
+
+pub returns-in_err-ready-clause-led : goal.returns-in_err-ready-clause-led
+returns-in_err-ready-clause-led c =
+    let was = c.loop-instance.invariant in
+    let old = c.loop-instance.store in
+    by_ready c.args.lead.now c.note.new.keys (key_of old) (ready_of old) (ready_of c.ready.new.self) c.in-Some.instance.now.tuple was.found (by_kept c.args.lead.now c.loop-instance.keys c.note.new.keys (ready_of old) c.note.ensures.leads was.led) c.in_ok-note.ensures.ok
+    c.ready.ensures.only
+
+pub returns-in_err-ready-clause-leads : goal.returns-in_err-ready-clause-leads
+returns-in_err-ready-clause-leads c = leads_trans c.args.lead.now c.args.keys.now c.loop-instance.keys c.note.new.keys c.loop-instance.invariant.leads c.note.ensures.leads
 
 pub returns-in_err-ready-clause-more : goal.returns-in_err-ready-clause-more
 returns-in_err-ready-clause-more c = more_trans (ready_of c.args.store.now) (ready_of c.loop-instance.store) (ready_of c.ready.new.self) c.loop-instance.invariant.more c.ready.ensures.more_ready

@@ -5,6 +5,7 @@ use Rattle.event_types.specs.declared.value.Value.{Value}
 use Rattle.instances.specs.Keys.{BindingFits}
 use Rattle.instances.specs.declared.instance.Instance.{Instance}
 use Rattle.binding_index.specs.Stores.{condition_of, instances_of, key_of, ready_of}
+use Rattle.epoch_draft.specs.Led.{HasKeyOf, LeadBy, LeadMore}
 use Rattle.epoch_draft.specs.Readying.{HasRoom}
 use Rattle.epoch_draft.proofs.readying.make_room_for.Given as goal
 
@@ -17,6 +18,9 @@ invariant-loop-instance l = record {
   condition : condition_of l.store ≡ condition_of l.initial.store;
   key : key_of l.store ≡ key_of l.initial.store;
   same : instances_of l.store ≡ instances_of l.initial.store;
+  found : HasKeyOf (key_of l.store) l.lead;
+  led : LeadBy l.keys l.lead (ready_of l.store);
+  leads : LeadMore l.lead l.initial.keys l.keys;
 }
 
 abbrev pub decreases-loop-instance : goal.decreases-loop-instance

@@ -37,4 +37,5 @@ loop-bead-preserved c =
       idle = λ none. absurd (cons_none bead rest (sym here ∙ (c.loop-bead.invariant.idle none).1));
       condition = c.link.ensures.same_condition ∙ c.loop-bead.invariant.condition;
       key = c.link.ensures.same_key ∙ c.loop-bead.invariant.key;
+      ready = c.link.ensures.same_ready ∙ c.loop-bead.invariant.ready;
     }

@@ -13,6 +13,7 @@ invariant-loop-bead l = record {
   idle : l.initial.walk.chain.now ≡ [] → (l.store ≡ l.initial.store) × (l.walk.chain.now ≡ []);
   condition : condition_of l.store ≡ condition_of l.initial.store;
   key : key_of l.store ≡ key_of l.initial.store;
+  ready : ready_of l.store ≡ ready_of l.initial.store;
 }
 
 abbrev pub decreases-loop-bead : goal.decreases-loop-bead

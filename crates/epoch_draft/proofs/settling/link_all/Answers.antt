@@ -19,4 +19,4 @@ loop-number-preserved c =
     let lt = c.loop-number-test.true in
     linked_more ns i c.args.beads.now c.loop-number.beads c.args.stores.now c.loop-number.stores c.get_mut.result.now c.link_in.new.slot c.get_mut-in-loop-number.result.now c.link_in.new.beads lt
     (All-get_or (λ n. n < length c.args.stores.now) ns i 0 lt c.requires.stores) (All-get_or (λ n. n < length c.args.beads.now) ns i 0 lt c.requires.beads) (c.requires.once i lt) c.get_mut.ensures.value
-    c.get_mut-in-loop-number.ensures.value c.link_in.ensures.instances c.link_in.ensures.idle c.link_in.ensures.shape c.loop-number.invariant
+    c.get_mut-in-loop-number.ensures.value c.link_in.ensures.instances c.link_in.ensures.idle c.link_in.ensures.shape c.link_in.ensures.ready c.loop-number.invariant

@@ -8,6 +8,7 @@ use Rattle.epoch_draft.specs.declared.draft.Pair.{Pair}
 use Rattle.epoch_draft.proofs.PairLemmas.{contains_map}
 use Rattle.epoch_draft.proofs.PurgeLemmas.{purged_both}
 use Rattle.epoch_draft.proofs.SettleLemmas.{all_states, bounded_below, bounded_more, closed, pairs_wait}
+use Rattle.epoch_draft.proofs.StayLemmas.{stay_trans}
 use Rattle.epoch_draft.proofs.settling.settle.Goals as goal
 
 pub purge_listed-requires : goal.purge_listed-requires
@@ -42,3 +43,10 @@ returns-clause-used g c =
     let state = λ (p : Pair). p.state in
     let purged = subst (λ (ps : List Pair). ArePurgedIn (map (λ (p : Pair). p.state) ps) (c.args.time + 1) c.purge_listed.new.stores new) c.as_slice.ensures c.purge_paired.ensures in
     All-weaker (Contains pairs) (λ (p : Pair). AreUsedIn (get_or new p.state None)) (λ p there. purged.used p.state (contains_map state pairs p there)) pairs (All-contains_itself pairs)
+
+-- and where a store was purged, those of the instances that are left
+pub returns-clause-stay : goal.returns-clause-stay
+returns-clause-stay g c =
+    let old = c.args.stores.now in
+    let mid = c.purge_listed.new.stores in
+    let new = c.purge_paired.new.stores in stay_trans old mid new (stay_trans old c.step.new.stores mid c.step.ensures.stay c.purge_listed.ensures.stay) c.purge_paired.ensures.stay

@@ -8,6 +8,7 @@ use Rattle.epoch_draft.specs.declared.draft.Pair.{Pair}
 use Rattle.epoch_draft.proofs.MarkLemmas.{all_below}
 use Rattle.epoch_draft.proofs.ReadyLemmas.{room_same}
 use Rattle.epoch_draft.proofs.SettleLemmas.{pairs_suit, settled, takes_same}
+use Rattle.epoch_draft.proofs.StayLemmas.{linked_stay, stay_trans, taken_stay}
 use Rattle.epoch_draft.proofs.StoreLemmas.{typed_has}
 use Rattle.epoch_draft.proofs.DraftLemmas.{linked_fits}
 use Rattle.epoch_draft.proofs.settling.step.Goals as goal
@@ -64,3 +65,14 @@ pub returns-clause-fits : goal.returns-clause-fits
 returns-clause-fits g c =
     linked_fits (length c.args._layout.now.kinds) (length c.args.network.now) c.args.draft.now c.link_all.new.beads c.requires.drawn.fits c.link_all.ensures.as_many
     (subst (λ (ns : List ℕ). (n : ℕ) → (Contains ns n → ⊥) → get_or c.link_all.new.beads n [] ≡ get_or c.args.draft.now.beads n []) c.as_slice-2.ensures c.link_all.ensures.others)
+
+-- the keys of all instances stay ready
+pub returns-clause-stay : goal.returns-clause-stay
+returns-clause-stay g c =
+    let old = c.args.stores.now in
+    let mid = c.take_all.new.stores in
+    let new = c.link_all.new.stores in
+    let beads = c.args.draft.now.beads in
+    let taken = c.take_all.ensures.taken in
+    stay_trans old mid new (taken_stay c.args.network.now (tuples_in c.args.opened.now c.args.draft.now.made) c.as_slice.result.now old mid taken)
+    (linked_stay c.as_slice-2.result.now beads mid new c.link_all.ensures.linked (room_same old mid beads taken.same taken.ready c.requires.room))

@@ -1,0 +1,66 @@
+-- Keys that lead to the states where they are ready.
+use Rattle.std.specs.Prelude.{◌≡◌, ⊤, ℕ, IfSome, List, Option, Some, None, Contains, slice_index_or}
+use Rattle.std.specs.List.{All}
+use Rattle.event_types.specs.declared.value.Value.{Value}
+use Rattle.event_types.specs.Tuple.{TupleView}
+use Rattle.semantics.specs.Values.{value_at}
+use Rattle.instances.specs.Keys.{IsKeyReady, Key}
+use Rattle.automaton.specs.States.{Net, wait_at}
+use Rattle.automaton.specs.declared.wait.Wait.{Wait}
+use Rattle.binding_index.specs.KeyParts.{key_of_part}
+use Rattle.binding_index.specs.Leads.{Leads, ready_in}
+use Rattle.binding_index.specs.declared.store.Store.{Store}
+use Rattle.stream_readers.specs.KeyTables.{IsFoundAt, KeyTable, LeadOn, LeadsFit, entries_at}
+use Rattle.stream_readers.specs.Leading.{lead_key, lead_key_at}
+use Rattle.epoch_draft.specs.Held.{instances_in, key_in}
+use Rattle.epoch_draft.specs.declared.readying.Lead.{Lead}
+
+-- the key of each instance of a state's store is ready there
+abbrev pub AreReadyIn : Option Store → Type 0
+AreReadyIn slot = All (λ instance. IsKeyReady (key_in slot) (ready_in slot) instance.tuple) (instances_in slot)
+
+-- no more keys are ready in a store than were, and the keys of its instances are ready if they were
+pub record StaysReady (old new : Option Store) : Type 0 where
+  pub instances : AreReadyIn old → AreReadyIn new
+  pub keys : (key : Value) → Contains (ready_in new) key → Contains (ready_in old) key
+
+-- the same of each store
+abbrev pub StayReady : List (Option Store) → List (Option Store) → Type 0
+StayReady old new = (number : ℕ) → StaysReady (slice_index_or old number None) (slice_index_or new number None)
+
+-- each key that is ready in the store of a state leads there, if the state is found by a key
+abbrev pub LeadTo : Net → KeyTable → ℕ → Option Store → Type 0
+LeadTo net keys number slot =
+    (wait : Wait) (key : Key) → wait_at net number ≡ Some wait → lead_key wait.choose ≡ Some key → All (λ value. Leads (entries_at keys wait.stream key.event) value number) (ready_in slot)
+
+-- each key that is ready in a store leads to its state, and no key leads elsewhere; and the key of each instance is ready
+pub record AreLed (net : Net) (keys : KeyTable) (stores : List (Option Store)) : Type 0 where
+  pub fit : LeadsFit net keys
+  pub led : (number : ℕ) → LeadTo net keys number (slice_index_or stores number None)
+  pub ready : (number : ℕ) → AreReadyIn (slice_index_or stores number None)
+
+-- a state is found by a key on a stream
+pub record IsLeadOf (net : Net) (number : ℕ) (lead : Lead) : Type 0 where
+  pub state : lead.state ≡ number
+  pub key : lead_key_at net number ≡ Some (key_of_part lead.key)
+  pub found : IsFoundAt net lead.stream lead.key.event number
+
+-- the key of a store is that by which a state is found, if it is found by one
+abbrev pub HasKeyOf : Option Key → Option Lead → Type 0
+HasKeyOf key None = ⊤
+HasKeyOf key (Some lead) = key ≡ Some (key_of_part lead.key)
+
+-- each of these keys leads to a state, if it is found by a key
+abbrev pub LeadBy : KeyTable → Option Lead → List Value → Type 0
+LeadBy keys None ready = ⊤
+LeadBy keys (Some lead) ready = All (λ value. Leads (entries_at keys lead.stream lead.key.event) value lead.state) ready
+
+-- the key of a binding leads to a state, if it is found by a key
+abbrev pub LeadsBy : KeyTable → Option Lead → TupleView → Type 0
+LeadsBy keys None binding = ⊤
+LeadsBy keys (Some lead) binding = Leads (entries_at keys lead.stream lead.key.event) (value_at binding lead.key.binding) lead.state
+
+-- keys lead where they led, and besides to a state alone, which is found there
+pub record LeadMore (lead : Option Lead) (old new : KeyTable) : Type 0 where
+  pub kept : LeadOn old new
+  pub fit : (net : Net) (number : ℕ) → IfSome lead (IsLeadOf net number) → LeadsFit net old → LeadsFit net new
