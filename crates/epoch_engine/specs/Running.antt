@@ -3,10 +3,12 @@ use Rattle.std.specs.Prelude.{◌≡◌, ℕ, ◌⊎◌, IfSome, IsTrue, List, [
 use Rattle.std.specs.List.{All}
 use Rattle.event_types.specs.Tuple.{TupleView}
 use Rattle.binding_index.specs.declared.store.Store.{Store}
+use Rattle.stream_readers.specs.KeyTables.{KeyTable}
 use Rattle.automaton.specs.Work.{is_in}
 use Rattle.epoch_draft.specs.Agenda.{ArePlaces}
 use Rattle.epoch_draft.specs.Deriving.{AreReadersOfAll, CanDraw}
 use Rattle.epoch_draft.specs.Drafts.{DraftFits}
+use Rattle.epoch_draft.specs.Led.{AreLed}
 use Rattle.epoch_draft.specs.Marks.{AreMarks}
 use Rattle.epoch_draft.specs.Purging.{ListsBounded}
 use Rattle.epoch_draft.specs.declared.marks.Marks.{Marks}
@@ -45,7 +47,8 @@ pub record IsStill (streams states : ℕ) (drawing : Drawing) : Type 0 where
 abbrev pub IsStillFor : Plan → Drawing → Type 0
 IsStillFor plan drawing = IsStill (length plan.layout.kinds) (length plan.merged) drawing
 
--- the parts of an engine: they fit one another, and a drawing that is kept is still
-pub record IsEngine (plan : Plan) (stores : List (Option Store)) (epoch : Epoch) (kept : Option Drawing) : Type 0 where
+-- the parts of an engine: they fit one another, keys lead to the states where they are ready, and a drawing that is kept is still
+pub record IsEngine (plan : Plan) (keys : KeyTable) (stores : List (Option Store)) (epoch : Epoch) (kept : Option Drawing) : Type 0 where
   pub running : IsRunning plan stores epoch
+  pub led : AreLed plan.merged keys stores
   pub still : IfSome kept (IsStillFor plan)

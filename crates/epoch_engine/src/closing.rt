@@ -1,6 +1,7 @@
 //! The closing of an epoch.
 ghost use Rattle.std.specs.Prelude.{◌+◌, ◌≤◌, IfOk, IsSome, OnErr, OnOk};
 ghost use Rattle.epoch_draft.specs.Held.{SameStored};
+ghost use Rattle.epoch_draft.specs.Led.{AreLed};
 ghost use Rattle.epoch_draft.specs.Readying.{HaveRoom};
 ghost use Rattle.epoch_draft.specs.Typed.{IsTyped};
 ghost use Rattle.epoch_engine.specs.Batches.{AreReady, IsOfMade};
@@ -15,28 +16,32 @@ use epoch_draft::{Stores, draw, make_room, settle};
 use event_types::Memory;
 use std::alloc::Global;
 use steps::{Ledger, Steps};
+use stream_readers::KeyReaders;
 
-/// Takes the stores over the open epoch, and gives its results. Want of memory leaves all instances as they
+/// Takes the stores over the open epoch, with the keys that lead to them, and gives its results. Want of memory leaves all instances as they
 /// were, and the drawing is then of no more use.
 pub(crate) fn take_epoch<L: Ledger>(
     alloc: Global,
     plan: &Plan,
+    keys: &mut KeyReaders,
     stores: &mut Stores,
     epoch: &Epoch,
     drawing: &mut Drawing,
     steps: &mut Steps<L>,
 ) -> Result<Batch, Memory>
     requires running { IsRunning plan.now stores.old epoch.now }
+    requires led { AreLed plan.now.merged keys.old stores.old }
     requires opened { IsSome epoch.now.time }
     requires still { IsStillFor plan.now drawing.old }
     ensures taken { IfOk result (TakesEpoch plan.now epoch.now stores.old stores.new) }
     ensures typed { OnOk result (IsTyped plan.now.merged plan.now.layout.kinds stores.new) }
     ensures still { OnOk result (IsStillFor plan.now drawing.new) }
     ensures kept { OnErr result (SameStored stores.old stores.new) }
+    ensures led { AreLed plan.now.merged keys.new stores.new }
     ensures ticks { steps.new ≤ steps.old + closing_work plan.now stores.old epoch.now }
 {
-    let batch = draw_epoch(alloc, plan, stores, epoch, drawing, steps)?;
-    Ok(settle_epoch(plan, stores, epoch, drawing, batch, steps))
+    let batch = draw_epoch(alloc, plan, keys, stores, epoch, drawing, steps)?;
+    Ok(settle_epoch(plan, keys, stores, epoch, drawing, batch, steps))
 }
 
 // Makes all that comes of the open tuples, a batch that is prepared for it, and room in the stores, of which no
@@ -44,16 +49,19 @@ pub(crate) fn take_epoch<L: Ledger>(
 fn draw_epoch<L: Ledger>(
     alloc: Global,
     plan: &Plan,
+    keys: &mut KeyReaders,
     stores: &mut Stores,
     epoch: &Epoch,
     drawing: &mut Drawing,
     steps: &mut Steps<L>,
 ) -> Result<Batch, Memory>
     requires running { IsRunning plan.now stores.old epoch.now }
+    requires led { AreLed plan.now.merged keys.old stores.old }
     requires still { IsStillFor plan.now drawing.old }
     ensures drawn { OnOk result (IsDrawn plan.now stores.new epoch.now drawing.new) }
     ensures room { OnOk result (HaveRoom stores.new drawing.new.draft.beads) }
     ensures same { SameStored stores.old stores.new }
+    ensures led { AreLed plan.now.merged keys.new stores.new }
     ensures ready { IfOk result (AreReady plan.now.layout.outs plan.now.last drawing.new.draft.made) }
     ensures takes { OnOk result (TakesWithin plan.now stores.new epoch.now drawing.new) }
     ensures ticks { steps.new ≤ steps.old + drawing_work plan.now stores.old epoch.now }
@@ -64,6 +72,7 @@ fn draw_epoch<L: Ledger>(
         &plan.layout,
         plan.places.as_slice(),
         &plan.readers,
+        keys,
         stores,
         &epoch.tuples,
         epoch.touched.numbers.as_slice(),
@@ -78,13 +87,14 @@ fn draw_epoch<L: Ledger>(
         &plan.last,
         &drawing.draft.made,
     )?;
-    make_room(stores, &drawing.draft)?;
+    make_room(plan.merged.network(), keys, stores, &drawing.draft)?;
     Ok(batch)
 }
 
-// Puts what was drawn in place, and moves the made tuples into the batch. Takes no memory.
+// Puts what was drawn in place, tidies the keys, and moves the made tuples into the batch. Takes no memory.
 fn settle_epoch<L: Ledger>(
     plan: &Plan,
+    keys: &mut KeyReaders,
     stores: &mut Stores,
     epoch: &Epoch,
     drawing: &mut Drawing,
@@ -92,10 +102,12 @@ fn settle_epoch<L: Ledger>(
     steps: &mut Steps<L>,
 ) -> Batch
     requires running { IsRunning plan.now stores.old epoch.now }
+    requires led { AreLed plan.now.merged keys.old stores.old }
     requires opened { IsSome epoch.now.time }
     requires drawn { IsDrawn plan.now stores.old epoch.now drawing.old }
     requires room { HaveRoom stores.old drawing.old.draft.beads }
     requires ready { AreReady plan.now.layout.outs plan.now.last drawing.old.draft.made batch }
+    ensures led { AreLed plan.now.merged keys.new stores.new }
     ensures settled { IsSettled plan.now epoch.now drawing.old stores.old stores.new }
     ensures batch { IsOfMade plan.now.layout.outs drawing.old.draft.made result }
     ensures still { IsStillFor plan.now drawing.new }
@@ -116,6 +128,7 @@ fn settle_epoch<L: Ledger>(
         time,
         steps,
     );
+    keys.tidy(stores.as_slice());
     fill(
         &mut batch,
         plan.layout.outs.as_slice(),

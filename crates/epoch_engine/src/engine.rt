@@ -26,11 +26,13 @@ use prefix_merge::Merged;
 use std::alloc::Global;
 use std::marker::Model;
 use steps::{Ledger, Steps};
+use stream_readers::KeyReaders;
 
 /// The bindings that wait at the states of a network, and the tuples of the open epoch.
 #[derive(Drop)]
 pub struct Engine {
     plan: Plan,
+    keys: KeyReaders,
     stores: Stores,
     epoch: Epoch,
     // None after a closing was refused.
@@ -53,7 +55,7 @@ impl Model for Engine {
 
     ghost view = { λ e. record { network = e.plan.merged; layout = e.plan.layout; stores = map instances_in e.stores; opened = e.epoch.tuples; time = e.epoch.time; closed_time = e.closed_time } };
 
-    ghost invariant = { λ e. IsEngine e.plan e.stores e.epoch e.drawing };
+    ghost invariant = { λ e. IsEngine e.plan e.keys e.stores e.epoch e.drawing };
 }
 
 impl Engine {
@@ -65,10 +67,12 @@ impl Engine {
     {
         let plan = Plan::make(alloc, merged, layout)?;
         let stores = empty_stores(alloc, plan.merged.network())?;
+        let keys = KeyReaders::new(alloc);
         let epoch = Epoch::make(alloc, plan.layout.kinds.len())?;
         let drawing = drawing_for(alloc, &plan)?;
         Ok(Engine {
             plan,
+            keys,
             stores,
             epoch,
             drawing: Some(drawing),
@@ -152,6 +156,7 @@ impl Engine {
         let batch = take_epoch(
             alloc,
             &self.plan,
+            &mut self.keys,
             &mut self.stores,
             &self.epoch,
             &mut drawing,

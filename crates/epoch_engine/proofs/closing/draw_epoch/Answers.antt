@@ -4,9 +4,10 @@ use Rattle.automaton.specs.States.{Net}
 use Rattle.epoch_laws.specs.Closing.{Stores}
 use Rattle.epoch_draft.specs.Deriving.{DrawnUpTo, news_of}
 use Rattle.epoch_draft.specs.Drafts.{DraftFits}
-use Rattle.epoch_draft.proofs.StoreLemmas.{drawn_same, held_same, stored_same}
+use Rattle.epoch_draft.proofs.StoreLemmas.{drawn_same, held_same, stored_same, typed_has}
 use Rattle.epoch_draft.specs.EpochWork.{draw_work, pairs_work, taking_work}
 use Rattle.epoch_draft.specs.Held.{held}
+use Rattle.epoch_draft.specs.Stores.{HasStores}
 use Rattle.epoch_draft.specs.Takes.{takes_work}
 use Rattle.epoch_engine.proofs.EngineLemmas.{opened_streams, outs_inside}
 use Rattle.epoch_engine.proofs.closing.draw_epoch.Goals as goal
@@ -68,3 +69,9 @@ pub returns-clause-ticks : goal.returns-clause-ticks
 returns-clause-ticks g c =
     let plan = c.args.plan.now in
     subst (λ (net : Net). c.draw.new.steps ≤ c.args.steps.now + draw_work net plan.layout (held c.args.stores.now) (streams_of c.args.epoch.now.tuples)) c.network.ensures.value c.draw.ensures.ticks
+
+-- the stores are the network's
+pub make_room-requires-clause-stores : goal.make_room-requires-clause-stores
+make_room-requires-clause-stores g c =
+    let plan = c.args.plan.now in
+    subst (λ (net : Net). HasStores net c.args.stores.now) (sym c.network-2.ensures.value) (typed_has plan.merged plan.layout.kinds c.args.stores.now c.requires.running.can_draw.typed)

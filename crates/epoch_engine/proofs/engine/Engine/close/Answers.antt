@@ -25,6 +25,7 @@ pub invariant_of-self-in_err-batch : goal.invariant_of-self-in_err-batch
 invariant_of-self-in_err-batch g c =
     let e = c.self.inside in record {
       running = with_same e.plan e.stores c.take_epoch.new.stores e.epoch c.in_err-batch.ensures.kept c.self.invariant.running;
+      led = c.take_epoch.ensures.led;
       still = subst (λ (kept : Option Drawing). IfSome kept (IsStillFor e.plan)) (sym c.take.ensures.after) tt;
     }
 

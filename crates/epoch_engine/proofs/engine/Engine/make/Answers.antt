@@ -4,6 +4,9 @@ use Rattle.automaton.specs.States.{Net}
 use Rattle.automaton.specs.declared.layout.Layout.{Layout}
 use Rattle.prefix_merge.specs.Merging.{IsMerged}
 use Rattle.epoch_draft.specs.Stores.{AreNewStores}
+use Rattle.stream_readers.specs.KeyTables.{KeyTable}
+use Rattle.epoch_draft.specs.Led.{AreLed}
+use Rattle.epoch_draft.proofs.StayLemmas.{led_new}
 use Rattle.epoch_engine.proofs.EngineLemmas.{made_empty, made_running}
 use Rattle.epoch_engine.proofs.engine.Engine.make.Goals as goal
 
@@ -18,6 +21,8 @@ invariant_of-result c =
           made_running plan stores epoch fits c.drawing_for.ensures.network c.in_ok-plan.ensures.is
           (subst (λ (net : Net). AreNewStores net stores) c.network.ensures.value c.in_ok-stores.ensures) (c.in_ok-epoch.ensures.as_many ∙ c.len.ensures)
           c.in_ok-epoch.ensures.empty c.in_ok-epoch.ensures.touched;
+      led =
+          subst (λ (table : KeyTable). AreLed plan.merged table stores) (sym c.new-keys.ensures) (led_new plan.merged stores (subst (λ (net : Net). AreNewStores net stores) c.network.ensures.value c.in_ok-stores.ensures));
       still = c.in_ok-drawing.ensures.still;
     }
 

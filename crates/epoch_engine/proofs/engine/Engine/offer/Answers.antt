@@ -24,13 +24,14 @@ invariant_of-self c =
     let known = ap (λ (v : EngineView). slice_get v.layout.kinds c.args.stream) c.self.view_is ∙ c.requires.heard.known in
     let declared = ap (λ (v : EngineView). is_in v.layout.order c.args.stream) c.self.view_is ∙ c.requires.heard.declared in record {
       running = offered_running e.plan e.stores e.epoch (record c.add.new.self { time = Some c.at-at.result }) c.args.stream c.requires.heard.kinds c.args.tuple c.self.invariant.running known declared c.requires.heard.of_kinds c.in-Ok.ensures.ok c.add.ensures.touched;
+      led = c.self.invariant.led;
       still = c.self.invariant.still;
     }
 
 -- nothing was changed
 pub invariant_of-self-in-Err : goal.invariant_of-self-in-Err
 invariant_of-self-in-Err c =
-    let e = c.self.inside in record { running = kept_running e.plan e.stores e.epoch c.add.new.self c.self.invariant.running c.in-Err.ensures.kept c.add.ensures.touched; still = c.self.invariant.still }
+    let e = c.self.inside in record { running = kept_running e.plan e.stores e.epoch c.add.new.self c.self.invariant.running c.in-Err.ensures.kept c.add.ensures.touched; led = c.self.invariant.led; still = c.self.invariant.still }
 
 -- the tuple is late
 pub returns-in-Some-clause-answer : goal.returns-in-Some-clause-answer

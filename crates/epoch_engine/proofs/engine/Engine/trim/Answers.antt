@@ -1,5 +1,7 @@
 use Rattle.std.proofs.Common.{◌+◌, subst}
 use Rattle.automaton.specs.States.{Net}
+use Rattle.stream_readers.proofs.KeyTableLemmas.{tidied_same}
+use Rattle.epoch_draft.proofs.StayLemmas.{led_stay}
 use Rattle.epoch_draft.specs.Purging.{AreAllPurged}
 use Rattle.epoch_engine.specs.EngineView.{EngineView}
 use Rattle.epoch_engine.specs.Trims.{Trims}
@@ -15,6 +17,7 @@ invariant_of-self c =
       running =
           purged_running (c.in-Some.time + 1) e.plan e.stores purged e.epoch c.self.invariant.running
           (subst (λ (net : Net). AreAllPurged net (c.in-Some.time + 1) e.stores purged) c.network.ensures.value c.purge_all.ensures);
+      led = led_stay e.plan.merged e.keys e.keys e.stores purged c.self.invariant.led c.purge_all.ensures.stay (tidied_same purged e.keys);
       still = c.self.invariant.still;
     }
 
