@@ -1,9 +1,9 @@
 -- The tests of conditions that the closing of an epoch may take, whatever it answers.
-use Rattle.std.specs.Prelude.{ℕ, ◌+◌, List, [], ◌∷◌, length, Option, sum_by}
+use Rattle.std.specs.Prelude.{ℕ, ◌+◌, ◌≤◌, List, [], ◌∷◌, length, Option, sum_by}
 use Rattle.std.specs.List.{range_with_len}
 use Rattle.event_types.specs.Tuple.{TupleView}
 use Rattle.binding_index.specs.declared.store.Store.{Store}
-use Rattle.semantics.specs.Denotation.{Streams}
+use Rattle.semantics.specs.Denotation.{Streams, streams_of}
 use Rattle.semantics.specs.Programs.{with_stream}
 use Rattle.automaton.specs.States.{Net}
 use Rattle.automaton.specs.declared.layout.Layout.{Layout}
@@ -51,3 +51,7 @@ epoch_work net layout stores heard = draw_work net layout stores heard + taking_
 -- the tests by which pairs take out what they match, over the tuples of an epoch as far as they are made
 abbrev pub pairs_work : Net → List ℕ → List (Option Store) → List (List TupleView) → List (List TupleView) → List Pair → ℕ
 pairs_work net done stores opened made pairs = takes_work net (news_of opened made done) (held stores) pairs
+
+-- the pairs that are drawn of an epoch take out by no more tests than its tuples have
+abbrev pub TakesNoMore : Net → Layout → List (Option Store) → List (List TupleView) → List (List TupleView) → List Pair → Type 0
+TakesNoMore net layout stores opened made pairs = pairs_work net layout.order stores opened made pairs ≤ taking_work net layout (held stores) (streams_of opened)

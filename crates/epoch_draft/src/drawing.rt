@@ -12,7 +12,7 @@ ghost use Rattle.epoch_draft.specs.Led.{AreLed};
 ghost use Rattle.epoch_draft.specs.Readying.{HaveKeys};
 ghost use Rattle.epoch_draft.specs.Stores.{HasStores};
 ghost use Rattle.epoch_draft.specs.Suits.{TupleSuits};
-ghost use Rattle.epoch_draft.specs.EpochWork.{derived_work, draw_work, heard_taking, pairs_work, taking_work};
+ghost use Rattle.epoch_draft.specs.EpochWork.{TakesNoMore, derived_work, draw_work, heard_taking, pairs_work};
 ghost use Rattle.epoch_draft.specs.Tests.{stream_work, streams_work};
 
 use crate::agenda::{Agenda, plan};
@@ -53,7 +53,7 @@ pub fn draw<L: Ledger>(
     requires no_pairs { pairs.old ≡ [] }
     ensures drawn { OnOk result (DrawnUpTo network.now layout.now stores.now opened.now layout.now.order draft.new pairs.new) }
     ensures keys { OnOk result (HaveKeys stores.now draft.new.beads) }
-    ensures takes { OnOk result (pairs_work network.now layout.now.order stores.now opened.now draft.new.made pairs.new ≤ taking_work network.now layout.now (held stores.now) (streams_of opened.now)) }
+    ensures takes { OnOk result (TakesNoMore network.now layout.now stores.now opened.now draft.new.made pairs.new) }
     ensures ticks { steps.new ≤ steps.old + draw_work network.now layout.now (held stores.now) (streams_of opened.now) }
 {
     meet_opened(
@@ -131,7 +131,7 @@ fn derive<L: Ledger>(
     requires drawn { DrawnUpTo network.now layout.now stores.now opened.now [] draft.old pairs.old }
     requires takes { pairs_work network.now [] stores.now opened.now draft.old.made pairs.old ≤ heard_taking network.now layout.now (held stores.now) (streams_of opened.now) }
     ensures drawn { OnOk result (DrawnUpTo network.now layout.now stores.now opened.now layout.now.order draft.new pairs.new) }
-    ensures takes { OnOk result (pairs_work network.now layout.now.order stores.now opened.now draft.new.made pairs.new ≤ taking_work network.now layout.now (held stores.now) (streams_of opened.now)) }
+    ensures takes { OnOk result (TakesNoMore network.now layout.now stores.now opened.now draft.new.made pairs.new) }
     ensures ticks { steps.new ≤ steps.old + derived_work network.now layout.now.order (held stores.now) (streams_of opened.now) }
 {
     let end = layout.order.len();
