@@ -1,5 +1,5 @@
 -- Engines that are made, take a tuple and close an epoch.
-use Rattle.std.proofs.Common.{◌≡◌, ◌∙◌, sym, ap, refl, subst, inl, inr, ℕ, zero, suc, ◌==◌, ◌<◌, ◌⊎◌, Bool, true, false, ◌||◌, length, get_or, set, take, drop, drop-cons, List, [], ◌∷◌, ◌++◌, map, arith, ◌≤◌}
+use Rattle.std.proofs.Common.{◌≡◌, ◌∙◌, sym, ap, refl, subst, inl, inr, ℕ, zero, suc, ◌==◌, ◌<◌, ◌⊎◌, Bool, true, false, ◌||◌, length, get_or, set, take, drop, drop-cons, List, [], ◌∷◌, ◌++◌, map, arith, ◌≤◌, ◌+◌}
 use Rattle.std.specs.Prelude.{Contains, IfSome, IsSome, IsTrue, Option, Some, None, slice_get}
 use Rattle.std.specs.Option.{option_map, unwrap_or}
 use Rattle.std.specs.List.{All, list_any}

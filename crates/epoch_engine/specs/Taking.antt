@@ -1,10 +1,10 @@
 -- What the two halves of a closing do with the parts of an engine. No public clause cites this module.
-use Rattle.std.specs.Prelude.{ℕ, ◌+◌, ◌≤◌, List, IfSome, Option}
+use Rattle.std.specs.Prelude.{ℕ, ◌+◌, List, IfSome, Option}
 use Rattle.event_types.specs.Tuple.{TupleView}
 use Rattle.binding_index.specs.declared.store.Store.{Store}
 use Rattle.semantics.specs.Denotation.{streams_of}
 use Rattle.epoch_draft.specs.Deriving.{DrawnUpTo, news_of}
-use Rattle.epoch_draft.specs.EpochWork.{draw_work, epoch_work, pairs_work, taking_work}
+use Rattle.epoch_draft.specs.EpochWork.{TakesNoMore, draw_work, epoch_work, pairs_work}
 use Rattle.epoch_draft.specs.Held.{held}
 use Rattle.epoch_draft.specs.Settling.{AreClosed}
 use Rattle.epoch_engine.specs.Closes.{IsTaken}
@@ -38,4 +38,4 @@ closing_work plan stores epoch = epoch_work plan.merged plan.layout (held stores
 
 -- the pairs that are drawn take out by no more tests than the tuples of the epoch have
 abbrev pub TakesWithin : Plan → List (Option Store) → Epoch → Drawing → Type 0
-TakesWithin plan stores epoch drawing = settling_work plan stores epoch drawing ≤ taking_work plan.merged plan.layout (held stores) (streams_of epoch.tuples)
+TakesWithin plan stores epoch drawing = TakesNoMore plan.merged plan.layout stores epoch.tuples drawing.draft.made drawing.pairs
