@@ -1,8 +1,6 @@
--- Examples of the definitions, each worked out by hand. No contract cites them.
-use Rattle.std.proofs.Common.{◌≡◌, refl, lit<, ℕ, ◌-◌, ◌^◌, pos, negsuc, true, false, List, [], ◌∷◌, ◌++◌}
+-- Examples of values, conditions and what expressions denote, each worked out by hand. No contract cites them.
+use Rattle.std.proofs.Common.{◌≡◌, refl, ℕ, ◌-◌, ◌^◌, pos, negsuc, true, false, List, [], ◌∷◌}
 use Rattle.std.specs.Prelude.{Some, None, codes}
-use Rattle.std.specs.List.{join_with_byte}
-use Rattle.std.proofs.lemmas.Fmt.{decimal_digit}
 use Rattle.event_types.specs.declared.comparison.Cmp.TheVariants as cmp
 use Rattle.event_types.specs.declared.value.Value.{Value}
 use Rattle.event_types.specs.declared.value.Value.TheVariants as value
@@ -14,21 +12,17 @@ use Rattle.semantics.specs.Nexts.{is_eligible, nexts}
 use Rattle.semantics.specs.Runs.{runs}
 use Rattle.semantics.specs.Expressions.{Read, Filter, Select, Union, Next, Fold}
 use Rattle.semantics.specs.Denotation.{Streams, denote}
-use Rattle.semantics.specs.Histories.{Event as TheEvent, times}
-use Rattle.semantics.specs.Programs.{Program, Query, env}
-use Rattle.semantics.specs.Results.{results}
-use Rattle.semantics.specs.Report.{decimal_text, quoted, line, report}
 
 -- a literal number
-abbrev number : ℕ → Sc
+abbrev pub number : ℕ → Sc
 number n = Lit (value.Int (pos n))
 
 -- the tuple of one number with these times
-abbrev tuple : ℕ → ℕ → ℕ → TupleView
+abbrev pub tuple : ℕ → ℕ → ℕ → TupleView
 tuple n from at = record { vals = value.Int (pos n) ∷ []; from = from; at = at }
 
 -- the tuple of two numbers with these times
-abbrev pair : ℕ → ℕ → ℕ → ℕ → TupleView
+abbrev pub pair : ℕ → ℕ → ℕ → ℕ → TupleView
 pair m n from at = record { vals = value.Int (pos m) ∷ value.Int (pos n) ∷ []; from = from; at = at }
 
 -- the largest and the least number of 128 bits
@@ -236,7 +230,7 @@ next_is_sought_among_the_eligible : nexts (Test (Event 0) cmp.Gt (Binding 0) ∷
 next_is_sought_among_the_eligible = refl
 
 -- $2.a > $.a
-abbrev rises : List Pr
+abbrev pub rises : List Pr
 rises = Test (Event 0) cmp.Gt (Binding 0) ∷ []
 
 -- $.a + $2.a AS a
@@ -278,104 +272,3 @@ followed = refl
 -- S FOLD {$2.a > $.a, TRUE, $.a + $2.a AS a} S: from 5 to 5 + 7, which no price exceeds; from 7 to 7 + 9
 iterated : denote (Fold rises [] (record { width = 1; parts = sums }) (Read 0) (Read 0)) prices ≡ tuple 12 1 2 ∷ tuple 16 2 3 ∷ []
 iterated = refl
-
--- STREAM S (a INT);
--- SELECT * FROM FILTER {a_2 > 8} Up PUBLISH High;
--- SELECT * FROM S NEXT {$2.a > $1.a} S PUBLISH Up;
--- in which Up is worked out first, since High reads it
-abbrev high : Query
-high = record { name = codes "High"; stream = 2; hidden = 4; expr = Filter (Test (Event 1) cmp.Gt (number 8) ∷ []) (Read 1) }
-
-abbrev up : Query
-up = record { name = codes "Up"; stream = 1; hidden = 3; expr = Next rises (Read 0) (Read 0) }
-
-abbrev program : Program
-program = record { declared = 1; queries = high ∷ up ∷ []; order = up ∷ high ∷ [] }
-
-abbrev heard : ℕ → ℕ → ℕ → TheEvent
-heard n from at = record { stream = 0; tuple = tuple n from at }
-
-abbrev history : List TheEvent
-history = heard 5 1 1 ∷ heard 7 2 2 ∷ heard 9 3 3 ∷ heard 8 3 3 ∷ heard 9 4 4 ∷ []
-
--- each detection time once
-epochs : times history ≡ 1 ∷ 2 ∷ 3 ∷ 4 ∷ []
-epochs = refl
-
--- at 3 the binding of 7 meets two simultaneous events, whose pairs are sorted by their values
-pairs_at_three : results program history 1 3 ≡ pair 7 8 2 3 ∷ pair 7 9 2 3 ∷ []
-pairs_at_three = refl
-
--- a query that reads another sees its tuples in the same epoch
-high_at_three : results program history 2 3 ≡ pair 7 9 2 3 ∷ []
-high_at_three = refl
-
--- the same queries on streams whose numbers leave gaps: Up publishes 4 and hides from 6 on, High publishes 9
-abbrev with_gaps : Program
-with_gaps =
-    let up = record up { stream = 4; hidden = 6 } in
-    let high = record high { stream = 9; hidden = 12; expr = Filter (Test (Event 1) cmp.Gt (number 8) ∷ []) (Read 4) } in
-    record { declared = 1; queries = high ∷ up ∷ []; order = up ∷ high ∷ [] }
-
--- they give the same, and nothing stands on the numbers between
-gaps_change_no_results : results with_gaps history 9 3 ≡ pair 7 9 2 3 ∷ []
-gaps_change_no_results = refl
-
-streams_in_gaps_are_empty : (env with_gaps history 1 ≡ []) × (env with_gaps history 6 ≡ [])
-streams_in_gaps_are_empty = (refl, refl)
-
--- OVER is written by its name, a text with a comma stands in quotes, and a quote in it is doubled
-line_of_texts : line (codes "Q") (record { vals = value.Over ∷ value.Text (codes "a,b") ∷ value.Text (codes "say \"x\"") ∷ value.Text (codes "plain one") ∷ []; from = 2; at = 3 }) ≡ codes "Q,2,3,OVER,\"a,b\",\"say \"\"x\"\"\",plain one\n"
-line_of_texts =
-    let two = decimal_digit 2 (lit< tt) in
-    let three = decimal_digit 3 (lit< tt) in
-    let values = quoted (codes "a,b") ∷ quoted (codes "say \"x\"") ∷ quoted (codes "plain one") ∷ [] in
-    λ i. join_with_byte 44 (codes "Q" ∷ two i ∷ three i ∷ codes "OVER" ∷ values) ++ 10 ∷ []
-
--- a decimal is written with all its places, with its sign also below 1, and without a point where it has none
-places_are_written : decimal_text 3 (pos 1050) ≡ codes "1.050"
-places_are_written = let one = decimal_digit 1 (lit< tt) in λ i. (((one i ++ 46 ∷ []) ++ 48 ∷ []) ++ 53 ∷ []) ++ 48 ∷ []
-
-sign_is_written_below_one : decimal_text 2 (negsuc 4) ≡ codes "-0.05"
-sign_is_written_below_one = let none = decimal_digit 0 (lit< tt) in λ i. 45 ∷ (((none i ++ 46 ∷ []) ++ 48 ∷ []) ++ 53 ∷ [])
-
-no_point_without_places : decimal_text 0 (negsuc 6) ≡ codes "-7"
-no_point_without_places = let seven = decimal_digit 7 (lit< tt) in λ i. 45 ∷ seven i
-
--- a text and digits behind it, one by one
-abbrev digits_behind : List ℕ → List ℕ → List ℕ
-digits_behind text [] = text
-digits_behind text (digit ∷ more) = digits_behind (text ++ digit ∷ []) more
-
-minus_one_hundredth : decimal_text 2 (negsuc 0) ≡ codes "-0.01"
-minus_one_hundredth = let none = decimal_digit 0 (lit< tt) in λ i. 45 ∷ digits_behind (none i ++ 46 ∷ []) (codes "01")
-
-minus_ninety_nine_hundredths : decimal_text 2 (negsuc 98) ≡ codes "-0.99"
-minus_ninety_nine_hundredths = let none = decimal_digit 0 (lit< tt) in λ i. 45 ∷ digits_behind (none i ++ 46 ∷ []) (codes "99")
-
-none_of_two_places : decimal_text 2 (pos 0) ≡ codes "0.00"
-none_of_two_places = let none = decimal_digit 0 (lit< tt) in λ i. digits_behind (none i ++ 46 ∷ []) (codes "00")
-
-none_without_places : decimal_text 0 (pos 0) ≡ codes "0"
-none_without_places = decimal_digit 0 (lit< tt)
-
-least_of_eighteen_places : decimal_text 18 (pos 1) ≡ codes "0.000000000000000001"
-least_of_eighteen_places = let none = decimal_digit 0 (lit< tt) in λ i. digits_behind (none i ++ 46 ∷ []) (codes "000000000000000001")
-
-one_and_a_half_of_eighteen_places : decimal_text 18 (negsuc 1499999999999999999) ≡ codes "-1.500000000000000000"
-one_and_a_half_of_eighteen_places = let one = decimal_digit 1 (lit< tt) in λ i. 45 ∷ digits_behind (one i ++ 46 ∷ []) (codes "500000000000000000")
-
-line_of_pair : (name : List ℕ) → quoted name ≡ name → line name (pair 7 9 2 3) ≡ (name ++ codes ",2,3,7,9") ++ codes "\n"
-line_of_pair name plain =
-    let two = decimal_digit 2 (lit< tt) in
-    let three = decimal_digit 3 (lit< tt) in
-    let seven = decimal_digit 7 (lit< tt) in
-    let nine = decimal_digit 9 (lit< tt) in
-    λ i. join_with_byte 44 (plain i ∷ two i ∷ three i ∷ seven i ∷ nine i ∷ []) ++ 10 ∷ []
-
--- the lines of an epoch stand in the order of the file, whatever the order of work; the epoch of 2 has none
-two_epochs : report program (heard 7 2 2 ∷ heard 9 3 3 ∷ []) ≡ codes "High,2,3,7,9\nUp,2,3,7,9\n"
-two_epochs =
-    let high_line = line_of_pair (codes "High") refl in
-    let up_line = line_of_pair (codes "Up") refl in
-    λ i. ((high_line i ++ []) ++ ((up_line i ++ []) ++ [])) ++ []
