@@ -164,8 +164,11 @@ fn tuples_come_by_start_then_values_then_detection(rt: HostRuntime) -> Result<()
 #[test]
 fn copies_are_equal(rt: HostRuntime) -> Result<(), Fail> {
     let alloc = rt.alloc();
+    for source in ["", "café", "fourteen bytes", "more than fourteen bytes"] {
+        let copy = Text::make(alloc, source)?.copied(alloc)?;
+        assert_eq!(rt; copy.as_str(), source);
+    }
     let text = Text::make(alloc, "café")?;
-    assert_eq!(rt; text.copied(alloc)?.as_str(), "café");
     let looks = [
         ValueRef::Int(-3),
         ValueRef::Dec {

@@ -15,19 +15,20 @@ use std::alloc::Global;
 use std::cmp::Ordering;
 use std::hash::{Hash, Hasher};
 use std::marker::Model;
+use std::rc::RcStr;
 use std::str::from_utf8_unchecked;
 
-/// A text that owns its bytes. Texts are ordered by bytes.
+/// A text that owns its bytes, a long one together with its copies. Texts are ordered by bytes.
 #[derive(Drop)]
 pub struct Text {
     held: Held,
 }
 
-// The bytes of a text: few in place, more on the heap.
+// The bytes of a text: few in place, more on the heap, where copies share them.
 #[derive(Drop)]
 enum Held {
     Short(u8, [u8; SHORT]),
-    Long(Box<String>),
+    Long(RcStr),
 }
 
 // The most bytes that are held in place.
@@ -57,15 +58,10 @@ impl Text {
                 held: short_of(source),
             });
         }
-        let Ok(held) = String::from_str(alloc, source) else {
-            return Err(Memory);
-        };
-        match Box::new(alloc, held) {
-            Ok(held) => Ok(Text {
-                held: Held::Long(held),
-            }),
-            Err(_) => Err(Memory),
-        }
+        let held = RcStr::from_str(alloc, source)?;
+        Ok(Text {
+            held: Held::Long(held),
+        })
     }
 
     /// The bytes, which are UTF-8. Takes no memory.
@@ -146,8 +142,16 @@ impl Hash for Text {
     }
 }
 
+/// A copy takes no memory: long texts share their bytes.
 impl Copied for Text {
-    fn copied(&self, alloc: Global) -> Result<Self, Memory> {
-        Text::make(alloc, self.as_str())
+    fn copied(&self, _alloc: Global) -> Result<Self, Memory> {
+        match &self.held {
+            Held::Short(len, bytes) => Ok(Text {
+                held: Held::Short(*len, *bytes),
+            }),
+            Held::Long(held) => Ok(Text {
+                held: Held::Long(held.clone()?),
+            }),
+        }
     }
 }
