@@ -1,9 +1,12 @@
--- Examples of the order of values and of tuples, each worked out by hand. No contract cites them.
-use Rattle.std.proofs.Common.{◌≡◌, refl, ℕ, ◌-◌, ◌^◌, pos, negsuc, List, [], ◌∷◌}
+-- Examples of the order of values and of tuples, and of the words of kinds, each worked out by hand. No contract cites them.
+use Rattle.std.proofs.Common.{◌≡◌, ap, refl, lit<, ℕ, ◌-◌, ◌^◌, pos, negsuc, List, [], ◌∷◌, ◌++◌}
 use Rattle.std.specs.Prelude.{codes}
 use Rattle.std.specs.declared.cmp.Ordering.TheVariants.{Less, Equal, Greater}
+use Rattle.std.proofs.lemmas.Fmt.{decimal_digit, decimal-digits_of}
+use Rattle.event_types.specs.declared.kind.Kind.TheVariants as kind
 use Rattle.event_types.specs.declared.value.Value.{Value}
 use Rattle.event_types.specs.declared.value.Value.TheVariants.{Int, Over, Text, Dec}
+use Rattle.event_types.specs.KindWord.{kind_word}
 use Rattle.event_types.specs.Order.{value_cmp, tuple_cmp, sorted}
 use Rattle.event_types.specs.Tuple.{TupleView}
 
@@ -92,6 +95,26 @@ least_comes_before_texts = refl
 -- the least units of a scale stand before its largest
 least_units_are_below_largest : value_cmp (Dec 18 (negsuc (2 ^ 127 - 1))) (Dec 18 (pos (2 ^ 127 - 1))) ≡ Less
 least_units_are_below_largest = refl
+
+-- capitals stand before small letters, and those before letters of two bytes, as é
+capitals_come_first : value_cmp (Text (codes "Z")) (Text (codes "a")) ≡ Less
+capitals_come_first = refl
+
+letters_of_two_bytes_come_last : value_cmp (Text (codes "a0")) (Text (195 ∷ 169 ∷ [])) ≡ Less
+letters_of_two_bytes_come_last = refl
+
+-- kinds as they stand in a declaration
+word_of_a_whole_number : kind_word kind.Int ≡ codes "INT"
+word_of_a_whole_number = refl
+
+word_of_a_text : kind_word kind.Text ≡ codes "TEXT"
+word_of_a_text = refl
+
+word_without_places : kind_word (kind.Dec 0) ≡ codes "DEC 0"
+word_without_places = ap (λ digits. codes "DEC " ++ digits) (decimal_digit 0 (lit< tt))
+
+word_of_eighteen_places : kind_word (kind.Dec 18) ≡ codes "DEC 18"
+word_of_eighteen_places = ap (λ digits. codes "DEC " ++ digits) (decimal-digits_of 18 (lit< tt) (lit< tt))
 
 -- the tuple of these values from a start to a detection
 abbrev tuple : ℕ → List Value → ℕ → TupleView
