@@ -22,7 +22,7 @@ use Rattle.binding_index.proofs.EqualityLemmas.{key_decides, key_flips, key_itse
 use Rattle.binding_index.proofs.OrderLemmas.{flat_sort_filter}
 
 -- no item, where there is none
-empty : {X : Type 0} (xs : List X) → has_any xs ≡ false → xs ≡ []
+pub empty : {X : Type 0} (xs : List X) → has_any xs ≡ false → xs ≡ []
 empty [] e = refl
 empty (x ∷ xs) e = cc
 

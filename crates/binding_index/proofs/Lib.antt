@@ -1,7 +1,7 @@
-pub mod AliveLemmas
 pub mod BucketLemmas
 pub mod CandidateLemmas
 pub mod EqualityLemmas
+pub mod ExpiryLemmas
 pub mod KeyLemmas
 pub mod LeadLemmas
 pub mod MapLemmas

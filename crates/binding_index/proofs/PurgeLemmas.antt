@@ -1,26 +1,30 @@
 -- The buckets of a store after a purge.
-use Rattle.std.proofs.Common.{◌≡◌, ◌∙◌, sym, ap, refl, subst, ℕ, zero, suc, ◌<◌, ◌≤◌, ◌↔◌, Bool, true, length, get_or, map, take, List, [], ◌∷◌, Any, Contains, arith}
+use Rattle.std.proofs.Common.{◌≡◌, ◌∙◌, sym, ap, refl, subst, ℕ, zero, suc, ◌<◌, ◌≤◌, ◌↔◌, Bool, true, length, get_or, take, List, [], ◌∷◌, Any, Contains, arith}
 use Rattle.std.specs.List.{All, IsDistinct, filter, flat_map}
 use Rattle.std.specs.Map.{keys_of}
 use Rattle.std.proofs.lemmas.List.{length-take-le}
-use Rattle.std.proofs.lemmas.List.Elements.{All-nil, All-append, All-contains, All-contains_itself, All-filter, All-head, All-map, All-tail, Contains-append_left, Contains-append_right, filter_passes}
+use Rattle.std.proofs.lemmas.List.Elements.{All-nil, All-append, All-contains, All-contains_itself, All-filter, All-head, All-map, All-same, All-tail, Contains-append_left, Contains-append_right, filter_passes}
 use Rattle.std.proofs.lemmas.List.Sorted.{All-permutation, Contains-permutation}
+use Rattle.std.proofs.lemmas.Map.Keys.{IsDistinct-IsPermutation}
 use Rattle.std.proofs.lemmas.Map.Made.{IsDistinct-keys_filter}
-use Rattle.event_types.specs.Order.{sort_by, value_cmp}
+use Rattle.event_types.specs.Order.{value_cmp}
+use Rattle.event_types.specs.OrderLaws.{value_exact, value_total}
 use Rattle.event_types.specs.declared.value.Value.{Value}
+use Rattle.event_types.proofs.SortLemmas.{sort_permuted}
+use Rattle.scalar_expr.proofs.Bags.{filter-flat_map, flat_map_each}
 use Rattle.semantics.specs.Scalars.{Pr}
 use Rattle.semantics.specs.Values.{value_at}
 use Rattle.instances.proofs.BoundLemmas.{all_alive}
 use Rattle.instances.specs.Alive.{is_alive}
 use Rattle.instances.specs.Bounds.{alive_instances, started}
 use Rattle.instances.specs.declared.instance.Instance.{Instance}
-use Rattle.binding_index.specs.Buckets.{AreBuckets, AreKeyed, Bucket, IsKeyed, StartFrom, StartsFrom, instances_in_order, instances_at, keys_in_order}
+use Rattle.binding_index.specs.Buckets.{AreBuckets, AreKeyed, Bucket, IsKeyed, IsPurged, IsSplit, StartFrom, StartsFrom, instances_in_order, instances_at, keys_in_order}
 use Rattle.binding_index.specs.Among.{is_key}
 use Rattle.binding_index.specs.Entries.{has_any, is_filled}
-use Rattle.binding_index.proofs.BucketLemmas.{filter_in_order, in_order_permuted, kept_in_order}
+use Rattle.binding_index.proofs.BucketLemmas.{found_own, in_order_permuted, kept_in_order, keyed_at}
+use Rattle.binding_index.proofs.EqualityLemmas.{key_flips}
 use Rattle.binding_index.proofs.SplitLemmas.{all_filled, first_filled}
 use Rattle.binding_index.proofs.StoreLemmas.{from_order, to_order}
-use Rattle.binding_index.proofs.WriteLemmas.{keyed_passing, keys_passing, passing, passing_at}
 
 -- what holds of the instances of each bucket holds of all
 all_flat : (P : Instance → Type 0) (bs : List Bucket) → All (λ b. All P b.1) bs → All P (flat_map (λ b. b.1) bs)
@@ -131,32 +135,51 @@ module _ (place filled oldest : ℕ) (bs cs : List Bucket) (h : AreBuckets place
   pub cut_alive : (time : ℕ) (choose : List Pr) → is_alive time choose (started oldest) ≡ true → instances_in_order cs ≡ alive_instances time choose (instances_in_order bs)
   cut_alive time choose met = cut_in_order ∙ sym (all_alive time oldest choose (instances_in_order bs) (start_in_order oldest bs h.distinct h.start) met)
 
--- where instances may have expired, all buckets are walked
-module _ (place filled before oldest : ℕ) (test : Instance → Bool) (bs ds cs : List Bucket) (h : AreBuckets place filled before bs) (walked : ds ≡ map (passing test) bs) (start : StartFrom oldest ds) (forgotten : cs ≡ filter is_filled ds) where
-  walked_keys : keys_of ds ≡ keys_of bs
-  walked_keys = ap keys_of walked ∙ keys_passing test bs
-
-  walked_distinct : IsDistinct is_key (keys_of ds)
-  walked_distinct = subst (λ (ks : List Value). IsDistinct is_key ks) (sym walked_keys) h.distinct
-
-  walked_keyed : AreKeyed place ds
-  walked_keyed = subst (AreKeyed place) (sym walked) (keyed_passing test place bs h.keyed)
+-- where instances expired, they were taken out
+module _ (place filled before : ℕ) (test : Instance → Bool) (bs ds : List Bucket) (h : AreBuckets place filled before bs) (purged : IsPurged test bs ds) where
+  purged_distinct : IsDistinct is_key (keys_of ds)
+  purged_distinct = IsDistinct-IsPermutation is_key key_flips (keys_of bs) (keys_of ds) purged.same_keys h.distinct
 
   -- what is left are the buckets of a store
-  pub walked_buckets : (n : ℕ) → n ≡ length cs → AreBuckets place n oldest cs
-  walked_buckets n long =
-      subst (λ m. AreBuckets place m oldest cs) (sym long) (subst (λ (xs : List Bucket). AreBuckets place (length xs) oldest xs) (sym forgotten) (left_buckets place ds walked_keyed walked_distinct oldest start))
+  pub purged_buckets : (n oldest : ℕ) → StartFrom oldest ds → n ≤ length ds → IsSplit n ds → AreBuckets place n oldest ds
+  purged_buckets n oldest start within split = record {
+    distinct = purged_distinct;
+    keyed = λ k d lt.
+        All-same (λ instance. value_at instance.tuple place ≡ (get_or ds k d).0) _ _ (sym (found_own ds purged_distinct k d lt) ∙ purged.each (get_or ds k d).0)
+        (All-filter test (λ instance. value_at instance.tuple place ≡ (get_or ds k d).0) _ (keyed_at place bs h.keyed (get_or ds k d).0));
+    start = start;
+    within = within;
+    split = split;
+  }
+
+  -- the keys are the same
+  pub purged_keys : keys_in_order ds ≡ keys_in_order bs
+  purged_keys = sym (sort_permuted value_cmp value_total value_exact (keys_of bs) (keys_of ds) purged.same_keys)
 
   -- of the instances those stay that pass the test
-  pub walked_in_order : instances_in_order cs ≡ filter test (instances_in_order bs)
-  walked_in_order =
-      ap instances_in_order forgotten ∙ kept_in_order ds walked_distinct ∙ filter_in_order test bs ds walked_keys (λ k. ap (λ (xs : List Bucket). instances_at xs k) walked ∙ passing_at test bs k)
+  pub purged_in_order : instances_in_order ds ≡ filter test (instances_in_order bs)
+  purged_in_order =
+      flat_map_each (instances_at ds) (λ key. filter test (instances_at bs key)) purged.each (keys_in_order ds)
+      ∙ ap (flat_map (λ key. filter test (instances_at bs key))) purged_keys ∙ sym (filter-flat_map test (instances_at bs) (keys_in_order bs))
+
+-- what is left of it, where the buckets without instances are then cut off
+module _ (place filled before : ℕ) (test : Instance → Bool) (bs ds cs : List Bucket) (h : AreBuckets place filled before bs) (purged : IsPurged test bs ds) (n oldest : ℕ) (start : StartFrom oldest ds) (within : n ≤ length ds) (split : IsSplit n ds) (cut : cs ≡ take n ds) where
+  are : AreBuckets place n oldest ds
+  are = purged_buckets place filled before test bs ds h purged n oldest start within split
+
+  -- it is the buckets of a store
+  pub left_over : AreBuckets place n oldest cs
+  left_over = cut_buckets place n oldest ds cs are cut
+
+  -- its instances are those that pass the test
+  pub left_in_order : instances_in_order cs ≡ filter test (instances_in_order bs)
+  left_in_order = cut_in_order place n oldest ds cs are cut ∙ purged_in_order place filled before test bs ds h purged
 
   -- the keys that stay are those that were ready and that an instance has which stays
-  pub walked_ready : (key : Value) → Contains (keys_in_order cs) key ↔ (Contains (keys_in_order bs) key × Any (λ instance. value_at instance.tuple place ≡ key) (instances_in_order cs))
-  walked_ready key =
-      subst (λ (ks : List Value). Contains (keys_in_order cs) key ↔ (Contains ks key × Any (λ instance. value_at instance.tuple place ≡ key) (instances_in_order cs))) (ap (sort_by value_cmp) walked_keys)
-      (subst (λ (xs : List Bucket). Contains (keys_in_order xs) key ↔ (Contains (keys_in_order ds) key × Any (λ instance. value_at instance.tuple place ≡ key) (instances_in_order xs))) (sym forgotten) (left_ready place ds walked_keyed walked_distinct key))
+  pub left_over_ready : (key : Value) → Contains (keys_in_order cs) key ↔ (Contains (keys_in_order bs) key × Any (λ instance. value_at instance.tuple place ≡ key) (instances_in_order cs))
+  left_over_ready key =
+      subst (λ (ks : List Value). Contains (keys_in_order cs) key ↔ (Contains ks key × Any (λ instance. value_at instance.tuple place ≡ key) (instances_in_order cs))) (purged_keys place filled before test bs ds h purged)
+      (cut_ready place n oldest ds cs are cut key)
 
 -- the key of each instance is ready
 pub all_ready : (place : ℕ) (bs : List Bucket) → IsDistinct is_key (keys_of bs) → AreKeyed place bs → All (λ instance. Contains (keys_in_order bs) (value_at instance.tuple place)) (instances_in_order bs)

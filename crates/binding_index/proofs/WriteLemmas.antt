@@ -5,16 +5,15 @@ use Rattle.std.specs.List.{All, IsDistinct, filter, flat_map}
 use Rattle.std.specs.List.Sorted.{IsPermutation}
 use Rattle.std.specs.Map.{keys_of}
 use Rattle.std.proofs.lemmas.List.{append-nil}
-use Rattle.std.proofs.lemmas.List.Elements.{All-nil, All-cons, All-head, All-tail, All-filter, All-get_or, filter-append}
+use Rattle.std.proofs.lemmas.List.Elements.{All-nil, All-cons, All-head, All-tail, All-get_or, filter-append}
 use Rattle.std.proofs.lemmas.List.Sorted.{IsPermutation-append_right, IsPermutation-cons, IsPermutation-middle, IsPermutation-refl, IsPermutation-sym, IsPermutation-trans}
 use Rattle.std.proofs.lemmas.Map.Keys.{IsDistinct-head, IsDistinct-tail}
 use Rattle.std.proofs.lemmas.Option.{get_or_from_slice_get, slice_get_within}
 use Rattle.event_types.specs.declared.value.Value.{Value}
 use Rattle.indexmap.specs.IndexMap.{set_value_at}
-use Rattle.semantics.specs.Values.{value_at}
 use Rattle.scalar_expr.proofs.Bags.{permuted_to}
 use Rattle.instances.specs.declared.instance.Instance.{Instance}
-use Rattle.binding_index.specs.Buckets.{AreKeyed, Bucket, IsKeyed, IsSplit, IsSplitBut, instances_in_order, instances_at}
+use Rattle.binding_index.specs.Buckets.{Bucket, IsSplit, IsSplitBut, instances_in_order}
 use Rattle.binding_index.specs.Among.{is_key}
 use Rattle.binding_index.specs.Entries.{is_filled, items_at}
 use Rattle.binding_index.proofs.BucketLemmas.{apart, here, in_order_permuted, kept_in_order, past}
@@ -129,22 +128,3 @@ module _ {Y : Type 0} (test : Value → Y → Bool) where
       go : items_at (map keeping bs) k ≡ filter (test k) (items_at bs k) → (t : Bool) → is_key k b.0 ≡ t → items_at (map keeping (b ∷ bs)) k ≡ filter (test k) (items_at (b ∷ bs) k)
       go rest true e = here (keeping b) (map keeping bs) k e ∙ (let same : b.0 ≡ k = sym ((key_decides k b.0).0 e) in let there = sym (here b bs k e) in λ i. filter (test (same i)) (there i))
       go rest false e = past (keeping b) (map keeping bs) k e ∙ rest ∙ ap (filter (test k)) (sym (past b bs k e))
-
-module _ (test : Instance → Bool) where
-  -- a bucket with those of its instances that pass a test
-  abbrev pub passing : Bucket → Bucket
-  passing b = keeping (λ _ instance. test instance) b
-
-  -- the keys stay
-  pub keys_passing : (bs : List Bucket) → keys_of (map passing bs) ≡ keys_of bs
-  keys_passing bs = keys_keeping (λ _ instance. test instance) bs
-
-  -- under each key its instances stand that pass
-  pub passing_at : (bs : List Bucket) (k : Value) → instances_at (map passing bs) k ≡ filter test (instances_at bs k)
-  passing_at bs k = keeping_at (λ _ instance. test instance) bs k
-
-  -- each instance that passes stands under its key
-  pub keyed_passing : (place : ℕ) (bs : List Bucket) → AreKeyed place bs → AreKeyed place (map passing bs)
-  keyed_passing place [] all = All-nil (IsKeyed place)
-  keyed_passing place (b ∷ bs) all =
-      All-cons (IsKeyed place) (passing b) (map passing bs) (All-filter test (λ instance. value_at instance.tuple place ≡ b.0) b.1 (All-head (IsKeyed place) b bs all)) (keyed_passing place bs (All-tail (IsKeyed place) b bs all))

@@ -1,6 +1,6 @@
--- Buckets of instances by key. No public clause names this.
+-- Buckets of instances by key. No public clause cites this module.
 use Rattle.std.specs.Prelude.{◌≡◌, ℕ, ◌<◌, ◌≤◌, ◌≢◌, ◌⊎◌, Some, slice_get, Bool, true, false, nat_lt, List, [], length, slice_index_or}
-use Rattle.std.specs.List.{All, IsDistinct, flat_map}
+use Rattle.std.specs.List.{All, IsDistinct, filter, flat_map}
 use Rattle.std.specs.List.Sorted.{IsPermutation}
 use Rattle.std.specs.Map.{keys_of}
 use Rattle.event_types.specs.Order.{sort_by, value_cmp}
@@ -77,3 +77,12 @@ HasNoCandidates buckets key = (is_over key ≡ true) ⊎ ((is_over key ≡ false
 pub record AreSame (old new : List Bucket) : Type 0 where
   pub permuted : IsPermutation old new
   pub same : (key : Value) → instances_at new key ≡ instances_at old key
+
+-- no bucket that stood before a place stands at it or behind it
+abbrev pub StayBefore : ℕ → List Bucket → List Bucket → Type 0
+StayBefore place old new = (number : ℕ) (d : Bucket) → place ≤ number → number < length new → (from : ℕ) × (place ≤ from) × (from < length old) × (slice_index_or new number d ≡ slice_index_or old from d)
+
+-- each key has those of its instances that pass the test
+pub record IsPurged (test : Instance → Bool) (old new : List Bucket) : Type 0 where
+  pub same_keys : IsPermutation (keys_of old) (keys_of new)
+  pub each : (key : Value) → instances_at new key ≡ filter test (instances_at old key)

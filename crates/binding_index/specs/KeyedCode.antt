@@ -1,4 +1,4 @@
--- The code by which the logic stores a store with a key. No public clause names this.
+-- The code by which the logic stores a store with a key. No public clause cites this module.
 use Rattle.std.specs.Prelude.{ℕ, List, refl}
 use Rattle.std.specs.Coded.{Coded, code_by, coded×, coded_list, coded_ℕ}
 use Rattle.event_types.specs.contracts.value.Value as value

@@ -1,22 +1,21 @@
 //! Buckets of instances by key.
-ghost use Rattle.std.specs.Prelude.{◌≡◌, ◌<◌, ◌≤◌, ◌+◌, ◌-◌, ◌^◌, ◌++◌, ◌∷◌, [], Bool, IfNone, IfOk, IfSome, None, OnErr, OnOk, Some, length, map, filter, flat_map, min, slice_get};
+ghost use Rattle.std.specs.Prelude.{◌≡◌, ◌<◌, ◌≤◌, ◌+◌, ◌-◌, ◌^◌, ◌++◌, ◌∷◌, [], IfNone, IfOk, IfSome, None, OnErr, OnOk, length, flat_map, min};
 ghost use Rattle.std.specs.List.{IsDistinct};
 ghost use Rattle.std.specs.Map.{keys_of, lookup};
-ghost use Rattle.instances.specs.Bounds.{alive_instances};
-ghost use Rattle.binding_index.specs.Buckets.{AreSame, HasBucketAt, HasNoCandidates, IsSplit, IsSplitBut, StartFrom, instances_at};
+ghost use Rattle.instances.specs.Alive.{is_alive};
+ghost use Rattle.binding_index.specs.Buckets.{AreSame, HasBucketAt, HasNoCandidates, IsPurged, IsSplit, IsSplitBut, StartFrom, StayBefore};
 ghost use Rattle.binding_index.specs.Among.{is_key};
-ghost use Rattle.binding_index.specs.Entries.{has_any, is_filled};
 
+use crate::bucket::Bucket;
 use crate::entries::place_of;
 use event_types::{List, Memory, Value, ValueRef};
 use indexmap::IndexMap;
-use inst_chain::Chain;
-use instances::{Instance, Instances, add_copies, count_of, keep_alive};
+use instances::{Instances, earliest_alive};
 use scalar_expr::Conj;
 use std::alloc::Global;
 
 /// The instances of each key that is ready.
-pub(crate) type Buckets = IndexMap<Value, Chain<Instance>>;
+pub(crate) type Buckets = IndexMap<Value, Bucket>;
 
 /// The place of the bucket where the candidates of an event with this key stand. OVER has none. Takes no
 /// memory.
@@ -37,7 +36,7 @@ pub(crate) fn add_bucket(buckets: &mut Buckets, key: Value) -> Result<(), Memory
     ensures kept { OnErr result (buckets.new.entries ≡ buckets.old.entries) }
     ensures distinct { IsDistinct is_key (keys_of buckets.new.entries) }
 {
-    match buckets.insert(key, Chain::new()) {
+    match buckets.insert(key, Bucket::new()) {
         Ok(_) => Ok(()),
         Err(_) => Err(Memory),
     }
@@ -49,7 +48,7 @@ pub(crate) fn copy_all(alloc: Global, buckets: &Buckets) -> Result<Instances, Me
 {
     let mut copies = List::new(alloc);
     for place in 0..buckets.len() {
-        add_copies(alloc, &mut copies, &buckets[place])?;
+        buckets[place].add_copies(alloc, &mut copies)?;
     }
     Ok(copies)
 }
@@ -60,7 +59,7 @@ pub(crate) fn count_all(buckets: &Buckets) -> u64
 {
     let mut count: u64 = 0;
     for place in 0..buckets.len() {
-        count = count.saturating_add(count_of(&buckets[place]));
+        count = count.saturating_add(buckets[place].count());
     }
     count
 }
@@ -74,10 +73,12 @@ pub(crate) fn arrange(buckets: &mut Buckets, filled: usize, place: usize) -> usi
     ensures same { AreSame buckets.old.entries buckets.new.entries }
     ensures within { result ≤ length buckets.new.entries }
     ensures split { IsSplit result buckets.new.entries }
+    ensures no_further { place < filled → place ≤ result }
+    ensures before { place < filled → StayBefore place buckets.old.entries buckets.new.entries }
 {
     // `len` is called for its clause that the number of buckets is below 2^63
     let _len = buckets.len();
-    let has_some = has_instances(&buckets[place]);
+    let has_some = buckets[place].has_some();
     if place < filled && !has_some {
         buckets.swap_indices(place, filled - 1);
         return filled - 1;
@@ -89,42 +90,41 @@ pub(crate) fn arrange(buckets: &mut Buckets, filled: usize, place: usize) -> usi
     filled
 }
 
-/// Takes out the instances that no event after `now` can match, as the bounds on DUR tell. It gives a
-/// time before which none of the others starts. Takes no memory.
-pub(crate) fn keep_all_alive(buckets: &mut Buckets, condition: &Conj, now: u64) -> u64
-    ensures alive { buckets.new.entries ≡ map (λ b. (b.0, alive_instances (now + 1) condition.now b.1)) buckets.old.entries }
-    ensures oldest { StartFrom result buckets.new.entries }
+/// Takes out the instances that no event after `now` can match, as the bounds on DUR tell. It gives the
+/// place after the last bucket with instances, as `filled` was. Takes no memory.
+pub(crate) fn keep_all_alive(
+    buckets: &mut Buckets,
+    filled: usize,
+    condition: &Conj,
+    now: u64,
+) -> usize
+    requires within { filled ≤ length buckets.old.entries }
+    requires split { IsSplit filled buckets.old.entries }
+    requires distinct { IsDistinct is_key (keys_of buckets.old.entries) }
+    ensures purged { IsPurged (λ instance. is_alive (now + 1) condition.now instance.tuple) buckets.old.entries buckets.new.entries }
+    ensures within { result ≤ length buckets.new.entries }
+    ensures split { IsSplit result buckets.new.entries }
+{
+    let earliest = earliest_alive(condition, now);
+    let mut filled = filled;
+    let mut place = filled;
+    while place > 0 {
+        place -= 1;
+        if (buckets[place].oldest() as u128) < earliest {
+            buckets[place].keep_alive(condition, now);
+            filled = arrange(buckets, filled, place);
+        }
+    }
+    filled
+}
+
+/// A time before which no instance starts. Takes no memory.
+pub(crate) fn oldest_of(buckets: &Buckets) -> u64
+    ensures { StartFrom result buckets.now.entries }
 {
     let mut oldest = u64::MAX;
     for place in 0..buckets.len() {
-        let first = keep_alive(&mut buckets[place], condition, now);
-        oldest = oldest.min(first);
+        oldest = oldest.min(buckets[place].oldest());
     }
     oldest
-}
-
-/// Forgets the keys that no instance has. Takes no memory.
-pub(crate) fn forget(buckets: &mut Buckets)
-    ensures { buckets.new.entries ≡ filter is_filled buckets.old.entries }
-{
-    buckets.retain(
-        |_key: &Value, chain: &mut Chain<Instance>| -> bool
-            ensures { (result ≡ has_any chain.old) × (chain.new ≡ chain.old) }
-        { has_instances(chain) },
-    );
-}
-
-/// Puts the beads of a chain before those of a bucket, at once where the chain has one. Takes no memory.
-pub(crate) fn put_before(bucket: &mut Chain<Instance>, chain: &mut Chain<Instance>)
-    ensures { bucket.new ≡ chain.old ++ bucket.old }
-{
-    chain.append(bucket);
-    std::mem::swap(bucket, chain);
-}
-
-// Whether a bucket has instances.
-fn has_instances(chain: &Chain<Instance>) -> bool
-    ensures { result ≡ has_any chain.now }
-{
-    chain.look().next().is_some()
 }

@@ -5,15 +5,14 @@ ghost use Rattle.binding_index.specs.Among.{is_among};
 ghost use Rattle.binding_index.specs.KeyParts.{first_key as first_key_of, key_of_part};
 
 use crate::buckets::{
-    Buckets, add_bucket, arrange, candidate_place, copy_all, count_all, forget, keep_all_alive,
-    put_before,
+    Buckets, add_bucket, arrange, candidate_place, copy_all, count_all, keep_all_alive, oldest_of,
 };
 use crate::entries::place_of;
 use crate::key::{KeyPart, first_key};
 use event_types::{Copied, Memory, Tuple, Value};
 use indexmap::IndexMap;
 use inst_chain::{Bead, Chain, Look};
-use instances::{Instance, Instances, Waiting, can_be_met, take_eligible};
+use instances::{Instance, Instances, Waiting, earliest_alive};
 use scalar_expr::Conj;
 use std::alloc::Global;
 use std::marker::Model;
@@ -96,7 +95,7 @@ impl Waiting for KeyedStore {
 
     fn take<L: Ledger>(&mut self, event: &Tuple, choose: &Conj, steps: &mut Steps<L>) {
         if let Some(place) = candidate_place(&self.buckets, event.vals().get(self.key.event)) {
-            take_eligible(&mut self.buckets[place], event, choose, steps);
+            self.buckets[place].take(event, choose, steps);
             self.filled = arrange(&mut self.buckets, self.filled, place);
         }
     }
@@ -119,22 +118,23 @@ impl Waiting for KeyedStore {
         let mut chain = Chain::new();
         chain.link(bead);
         if let Some(instance) = chain.look().next() {
-            self.oldest = self.oldest.min(instance.tuple.from());
+            let from = instance.tuple.from();
+            self.oldest = self.oldest.min(from);
             let key = instance.tuple.vals().get(self.key.binding);
             if let Some(place) = place_of(&self.buckets, key) {
-                put_before(&mut self.buckets[place], &mut chain);
+                self.buckets[place].put(&mut chain, from);
                 self.filled = arrange(&mut self.buckets, self.filled, place);
             }
         }
     }
 
     fn purge(&mut self, now: u64) {
-        if can_be_met(&self.condition, now, self.oldest) {
+        if earliest_alive(&self.condition, now) <= self.oldest as u128 {
             self.buckets.truncate(self.filled);
         } else {
-            self.oldest = keep_all_alive(&mut self.buckets, &self.condition, now);
-            forget(&mut self.buckets);
-            self.filled = self.buckets.len();
+            self.filled = keep_all_alive(&mut self.buckets, self.filled, &self.condition, now);
+            self.oldest = oldest_of(&self.buckets);
+            self.buckets.truncate(self.filled);
         }
     }
 

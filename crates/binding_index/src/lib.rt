@@ -5,6 +5,7 @@
 //! keys, each with the numbers of the states to which it leads.
 #![tactic(auto)]
 
+mod bucket;
 mod buckets;
 mod directory;
 mod entries;

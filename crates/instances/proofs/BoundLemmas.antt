@@ -1,8 +1,9 @@
 -- Bounds on DUR, over the parts of a condition and over the starts of bindings.
-use Rattle.std.proofs.Common.{◌≡◌, ◌∙◌, ap, refl, ℕ, ℤ, zero, suc, pos, ◌≤◌, ◌-ℤ◌, Bool, true, false, ◌&&◌, min, take, List, [], ◌∷◌, arith}
+use Rattle.std.proofs.Common.{◌≡◌, ◌∙◌, ap, refl, ℕ, ℤ, zero, suc, pos, ◌≤◌, ◌-ℤ◌, Bool, true, false, ◌&&◌, min, max, nat_le, take, List, [], ◌∷◌, arith}
 use Rattle.std.specs.Prelude.{Some, int_le, int_lt, slice_get}
 use Rattle.std.specs.Option.{option_map}
 use Rattle.std.specs.List.{All, list_all}
+use Rattle.std.proofs.lemmas.Bool.Decides.{nat_tests}
 use Rattle.std.proofs.lemmas.Int.{ints}
 use Rattle.std.proofs.lemmas.List.Elements.{All-weaker}
 use Rattle.event_types.specs.Tuple.{TupleView}
@@ -67,15 +68,25 @@ module _ (test : Class → Bool) where
       go more true e rest = λ i. e i && more rest i
       go more false e rest = absurd (cc)
 
-  -- where one part fails, not all pass
-  pub one_fails : (parts : List Pr) (place : ℕ) (c : Class) → option_map class_of (slice_get parts place) ≡ Some c → test c ≡ false → list_all (λ p. test (class_of p)) parts ≡ false
-  one_fails [] place c is fails = absurd (cc)
-  one_fails (p ∷ ps) zero c is fails = let same : class_of p ≡ c = cc in ap (λ t. t && list_all (λ p. test (class_of p)) ps) (ap test same ∙ fails)
-  one_fails (p ∷ ps) (suc place) c is fails = go (one_fails ps place c is fails) (test (class_of p))
+  -- one more part is tested beside those before it
+  pub one_more_tested : (parts : List Pr) (place : ℕ) (c : Class) → option_map class_of (slice_get parts place) ≡ Some c
+      → list_all (λ p. test (class_of p)) (take (suc place) parts) ≡ (list_all (λ p. test (class_of p)) (take place parts) && test c)
+  one_more_tested [] place c is = absurd (cc)
+  one_more_tested (p ∷ ps) zero c is = let same : class_of p ≡ c = cc in alone (test (class_of p)) ∙ ap test same
     where
-      go : list_all (λ p. test (class_of p)) ps ≡ false → (t : Bool) → (t && list_all (λ p. test (class_of p)) ps) ≡ false
-      go rest true = rest
-      go rest false = refl
+      alone : (t : Bool) → (t && true) ≡ t
+      alone true = refl
+      alone false = refl
+  one_more_tested (p ∷ ps) (suc place) c is =
+      ap (λ t. test (class_of p) && t) (one_more_tested ps place c is) ∙ grouped (test (class_of p)) (list_all (λ p. test (class_of p)) (take place ps)) (test c)
+    where
+      grouped : (t u v : Bool) → (t && (u && v)) ≡ ((t && u) && v)
+      grouped true u v = refl
+      grouped false u v = refl
+
+-- what is no less than either of two numbers is no less than the greater of them
+pub both_at_most : (a b both from : ℕ) → both ≡ max a b → (nat_le a from && nat_le b from) ≡ nat_le both from
+both_at_most a b both from e = grind (arith, nat_tests)
 
 -- the lesser of two numbers is at most what each of them is at most
 pub least_of_left : (least a b c : ℕ) → least ≡ min a b → a ≤ c → least ≤ c

@@ -1,4 +1,4 @@
--- The code by which the logic stores a plain store. No public clause names this.
+-- The code by which the logic stores a plain store. No public clause cites this module.
 use Rattle.std.specs.Prelude.{List, refl}
 use Rattle.std.specs.Coded.{Coded, code_by, coded×, coded_list}
 use Rattle.semantics.specs.Codes.{conj_code}

@@ -1,5 +1,5 @@
 //! Instances whose bounds on DUR can still be met.
-ghost use Rattle.std.specs.Prelude.{◌≡◌, ◌+◌, ◌≤◌, All};
+ghost use Rattle.std.specs.Prelude.{◌≡◌, ◌+◌, ◌≤◌, ℕ, max, nat_le, All};
 ghost use Rattle.instances.specs.Alive.{is_alive, meets_bound};
 ghost use Rattle.scalar_expr.specs.Classes.{class_of_part};
 ghost use Rattle.instances.specs.Bounds.{alive_instances, started};
@@ -14,11 +14,12 @@ pub fn keep_alive(chain: &mut Chain<Instance>, condition: &Conj, now: u64) -> u6
     ensures alive { chain.new ≡ alive_instances (now + 1) condition.now chain.old }
     ensures oldest { All (λ instance. result ≤ instance.tuple.from) chain.new }
 {
+    let earliest = earliest_alive(condition, now);
     let mut oldest = u64::MAX;
     let mut walk = chain.walk();
     while let Some(instance) = walk.get() {
         let from = instance.tuple.from();
-        if can_be_met(condition, now, from) {
+        if earliest <= from as u128 {
             oldest = oldest.min(from);
             walk.step();
         } else {
@@ -28,29 +29,40 @@ pub fn keep_alive(chain: &mut Chain<Instance>, condition: &Conj, now: u64) -> u6
     oldest
 }
 
-/// Whether an event after `now` may meet each bound part with a binding that starts at `from`.
-pub fn can_be_met(condition: &Conj, now: u64, from: u64) -> bool
-    ensures { result ≡ is_alive (now + 1) condition.now (started from) }
+/// The earliest start of a binding with which an event after `now` may meet each bound part. Starts after
+/// it may do so too. Takes no memory.
+pub fn earliest_alive(condition: &Conj, now: u64) -> u128
+    ensures { (from : ℕ) → is_alive (now + 1) condition.now (started from) ≡ nat_le result from }
 {
+    let mut earliest = 0;
     let mut place = 0;
     while place < condition.size() {
-        if !is_within(condition.part(place), now, from) {
-            return false;
-        }
+        earliest = later(earliest, earliest_within(condition.part(place), now));
         place += 1;
     }
-    true
+    earliest
 }
 
-// Whether a part can be met by an event after `now`, as far as a bound tells.
-fn is_within(part: Part<'_>, now: u64, from: u64) -> bool
-    ensures { result ≡ meets_bound (now + 1) (started from) (class_of_part part.entry) }
+// The earliest start with which an event after `now` may meet a part, as far as a bound tells.
+fn earliest_within(part: Part<'_>, now: u64) -> u128
+    ensures { (from : ℕ) → meets_bound (now + 1) (started from) (class_of_part part.entry) ≡ nat_le result from }
 {
     match part {
         Part::Bound { strict, most } => {
-            let span = now as i128 + 1 - from as i128;
-            if strict { span < most } else { span <= most }
+            let time = now as u128 + if strict { 2 } else { 1 };
+            if most < 0 {
+                time + most.unsigned_abs()
+            } else {
+                time.saturating_sub(most.unsigned_abs())
+            }
         }
-        _ => true,
+        _ => 0,
     }
+}
+
+// The later of two starts.
+fn later(start: u128, other: u128) -> u128
+    ensures { result ≡ max start other }
+{
+    if start < other { other } else { start }
 }

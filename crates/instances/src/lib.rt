@@ -12,7 +12,7 @@ mod instance;
 mod plain_store;
 mod waiting;
 
-pub use bounds::{can_be_met, keep_alive};
+pub use bounds::{earliest_alive, keep_alive};
 pub use contents::{add_copies, count_of};
 pub use eligibility::take_eligible;
 pub use instance::{Instance, Instances};

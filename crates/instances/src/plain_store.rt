@@ -1,7 +1,7 @@
 //! A store without a key.
 ghost use Rattle.std.specs.Prelude.{◌≡◌, [], None, IfOk};
 
-use crate::bounds::{can_be_met, keep_alive};
+use crate::bounds::{earliest_alive, keep_alive};
 use crate::contents::{add_copies, count_of};
 use crate::eligibility::take_eligible;
 use crate::instance::{Instance, Instances};
@@ -93,7 +93,7 @@ impl Waiting for PlainStore {
     }
 
     fn purge(&mut self, now: u64) {
-        if !can_be_met(&self.condition, now, self.oldest) {
+        if (self.oldest as u128) < earliest_alive(&self.condition, now) {
             self.oldest = keep_alive(&mut self.chain, &self.condition, now);
         }
     }

@@ -1,6 +1,6 @@
 use Rattle.std.proofs.Common.{◌∙◌, sym}
 use Rattle.binding_index.proofs.MapLemmas.{filled_there, reordered}
-use Rattle.binding_index.proofs.SplitLemmas.{set_aside, set_forward, stands, where_it_should}
+use Rattle.binding_index.proofs.SplitLemmas.{set_aside, set_forward, stands, stay_before, where_it_should}
 use Rattle.binding_index.proofs.buckets.arrange.Goals as goal
 
 pub returns-then-not-has_some-clause-same : goal.returns-then-not-has_some-clause-same
@@ -9,7 +9,11 @@ returns-then-not-has_some-clause-same c = reordered c.args.buckets.now c.swap_in
 pub returns-then-not-has_some-clause-split : goal.returns-then-not-has_some-clause-split
 returns-then-not-has_some-clause-split c =
     set_aside c.args.filled c.args.place c.args.buckets.now.entries c.swap_indices.new.self.entries c.requires.within c.if-place-filled.true c.swap_indices.ensures.reordered.1 c.requires.others
-    (λ d. filled_there c.args.buckets.now.entries c.args.place c.index.result.now c.index.ensures d ∙ sym c.has_instances-has_some.ensures ∙ c.if-not-has_some.true) c.swap_indices.ensures.entries
+    (λ d. filled_there c.args.buckets.now.entries c.args.place c.index.result.now c.index.ensures d ∙ sym c.has_some-has_some.ensures ∙ c.if-not-has_some.true) c.swap_indices.ensures.entries
+
+pub returns-then-not-has_some-clause-before : goal.returns-then-not-has_some-clause-before
+returns-then-not-has_some-clause-before c _ =
+    stay_before c.args.filled c.args.place c.args.buckets.now.entries c.swap_indices.new.self.entries c.requires.within c.if-place-filled.true c.swap_indices.ensures.reordered.1 c.swap_indices.ensures.entries
 
 pub returns-then-has_some-clause-same : goal.returns-then-has_some-clause-same
 returns-then-has_some-clause-same c = reordered c.args.buckets.now c.swap_indices-then-has_some.new.self c.swap_indices-then-has_some.ensures.reordered
@@ -17,10 +21,10 @@ returns-then-has_some-clause-same c = reordered c.args.buckets.now c.swap_indice
 pub returns-then-has_some-clause-split : goal.returns-then-has_some-clause-split
 returns-then-has_some-clause-split c =
     set_forward c.args.filled c.args.place c.args.buckets.now.entries c.swap_indices-then-has_some.new.self.entries c.requires.there c.if-filled-place.true c.swap_indices-then-has_some.ensures.reordered.1 c.requires.others
-    (λ d. filled_there c.args.buckets.now.entries c.args.place c.index.result.now c.index.ensures d ∙ sym c.has_instances-has_some.ensures ∙ c.if-has_some.true) c.swap_indices-then-has_some.ensures.entries
+    (λ d. filled_there c.args.buckets.now.entries c.args.place c.index.result.now c.index.ensures d ∙ sym c.has_some-has_some.ensures ∙ c.if-has_some.true) c.swap_indices-then-has_some.ensures.entries
 
 pub returns-clause-split : goal.returns-clause-split
 returns-clause-split c =
     stands c.args.filled c.args.place c.args.buckets.now.entries c.requires.others
-    (λ d. filled_there c.args.buckets.now.entries c.args.place c.index.result.now c.index.ensures d ∙ sym c.has_instances-has_some.ensures
-    ∙ where_it_should c.has_instances-has_some.result c.args.place c.args.filled c.else-place-filled.either c.else-filled-place.either)
+    (λ d. filled_there c.args.buckets.now.entries c.args.place c.index.result.now c.index.ensures d ∙ sym c.has_some-has_some.ensures
+    ∙ where_it_should c.has_some-has_some.result c.args.place c.args.filled c.else-place-filled.either c.else-filled-place.either)

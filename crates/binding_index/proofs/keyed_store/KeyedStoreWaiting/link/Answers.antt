@@ -1,4 +1,5 @@
-use Rattle.std.proofs.Common.{◌≡◌, ◌∙◌, sym, ap, subst, Contains, List, [], ◌∷◌, ◌++◌, arith}
+use Rattle.std.proofs.Common.{◌≡◌, ◌∙◌, sym, ap, subst, ◌≤◌, Contains, List, [], ◌∷◌, ◌++◌, arith}
+use Rattle.std.proofs.lemmas.List.Elements.{All-cons, All-nil, All-same}
 use Rattle.std.proofs.lemmas.Option.{slice_get_within}
 use Rattle.event_types.specs.Order.{sort_by, value_cmp}
 use Rattle.instances.specs.declared.instance.Instance.{Instance}
@@ -14,17 +15,24 @@ use Rattle.binding_index.proofs.keyed_store.KeyedStoreWaiting.link.Goals as goal
 pub index_mut-requires : goal.index_mut-requires
 index_mut-requires c = slice_get_within c.self.inside.buckets.entries c.in-Some-place_of.place (c.get-key.result.now, instances_at c.self.inside.buckets.entries c.get-key.result.now) (items_stand c.self.inside.buckets.entries c.get-key.result.now c.in-Some-place_of.place c.in-Some-place_of.ensures.found)
 
+pub put-requires : goal.put-requires
+put-requires c =
+    let bead : c.in-Some.instance.now ≡ c.args.bead = the_bead c.new-chain.result c.link.new.self c.look.result c.args.bead c.in-Some.instance.now c.new-chain.ensures c.link.ensures c.look.ensures c.in-Some.ensures.first in
+    let front : c.link.new.self ≡ c.args.bead ∷ [] = c.link.ensures ∙ ap (λ (xs : List Instance). xs ++ c.args.bead ∷ []) c.new-chain.ensures in
+    let from : c.from-from.result ≡ c.args.bead.tuple.from = c.from-from.ensures.value ∙ ap (λ (n : Instance). n.tuple.from) bead in
+    All-same (λ (n : Instance). c.from-from.result ≤ n.tuple.from) c.link.new.self (c.args.bead ∷ []) front (All-cons (λ (n : Instance). c.from-from.result ≤ n.tuple.from) c.args.bead [] (omega (arith, from)) (All-nil _))
+
 pub arrange-self-inside-requires-clause-within : goal.arrange-self-inside-requires-clause-within
-arrange-self-inside-requires-clause-within c = let long = length_written c.self.inside.buckets.entries c.in-Some-place_of.place c.put_before.new.bucket in omega (arith, long, c.self.invariant.within)
+arrange-self-inside-requires-clause-within c = let long = length_written c.self.inside.buckets.entries c.in-Some-place_of.place c.put.new.self in omega (arith, long, c.self.invariant.within)
 
 pub arrange-self-inside-requires-clause-there : goal.arrange-self-inside-requires-clause-there
 arrange-self-inside-requires-clause-there c =
-    let long = length_written c.self.inside.buckets.entries c.in-Some-place_of.place c.put_before.new.bucket in
+    let long = length_written c.self.inside.buckets.entries c.in-Some-place_of.place c.put.new.self in
     let at = slice_get_within c.self.inside.buckets.entries c.in-Some-place_of.place (c.get-key.result.now, instances_at c.self.inside.buckets.entries c.get-key.result.now) (items_stand c.self.inside.buckets.entries c.get-key.result.now c.in-Some-place_of.place c.in-Some-place_of.ensures.found) in
     omega (arith, long, at)
 
 pub arrange-self-inside-requires-clause-others : goal.arrange-self-inside-requires-clause-others
-arrange-self-inside-requires-clause-others c = split_written c.self.inside.filled c.self.inside.buckets.entries c.in-Some-place_of.place c.put_before.new.bucket c.self.invariant.split
+arrange-self-inside-requires-clause-others c = split_written c.self.inside.filled c.self.inside.buckets.entries c.in-Some-place_of.place c.put.new.self c.self.invariant.split
 
 pub invariant_of-self : goal.invariant_of-self
 invariant_of-self c =
@@ -34,11 +42,11 @@ invariant_of-self c =
     let bead : c.in-Some.instance.now ≡ c.args.bead = the_bead c.new-chain.result c.link.new.self c.look.result c.args.bead c.in-Some.instance.now c.new-chain.ensures c.link.ensures c.look.ensures c.in-Some.ensures.first in
     let is = value_there bs c.in-Some-place_of.place key had c.index_mut.result.now (items_stand c.self.inside.buckets.entries c.get-key.result.now c.in-Some-place_of.place c.in-Some-place_of.ensures.found) c.index_mut.ensures.value in
     let front : c.link.new.self ≡ c.args.bead ∷ [] = c.link.ensures ∙ ap (λ (xs : List Instance). xs ++ c.args.bead ∷ []) c.new-chain.ensures in
-    let now : c.put_before.new.bucket ≡ c.args.bead ∷ had = c.put_before.ensures ∙ (λ i. front i ++ is i) in
-    linked c.self.inside.key.binding c.self.inside.oldest c.min-self-inside.result c.from.result c.self.inside.filled c.arrange-self-inside.result bs c.in-Some-place_of.place key had c.put_before.new.bucket c.args.bead c.arrange-self-inside.new.buckets.entries c.self.invariant
+    let now : c.put.new.self ≡ c.args.bead ∷ had = c.put.ensures ∙ (λ i. front i ++ is i) in
+    linked c.self.inside.key.binding c.self.inside.oldest c.min-self-inside.result c.from-from.result c.self.inside.filled c.arrange-self-inside.result bs c.in-Some-place_of.place key had c.put.new.self c.args.bead c.arrange-self-inside.new.buckets.entries c.self.invariant
     (items_stand c.self.inside.buckets.entries c.get-key.result.now c.in-Some-place_of.place c.in-Some-place_of.ensures.found) now
     (ap (λ (n : Instance). value_at n.tuple c.self.inside.key.binding) (sym bead) ∙ value_is c.in-Some.instance.now.tuple c.vals.result.now c.self.inside.key.binding key c.vals.ensures c.get-key.ensures)
-    c.min-self-inside.ensures (c.from.ensures.value ∙ ap (λ (n : Instance). n.tuple.from) bead) c.arrange-self-inside.ensures.same c.arrange-self-inside.ensures.within c.arrange-self-inside.ensures.split
+    c.min-self-inside.ensures (c.from-from.ensures.value ∙ ap (λ (n : Instance). n.tuple.from) bead) c.arrange-self-inside.ensures.same c.arrange-self-inside.ensures.within c.arrange-self-inside.ensures.split
 
 pub returns-in-Some-place_of-clause-linked : goal.returns-in-Some-place_of-clause-linked
 returns-in-Some-place_of-clause-linked c =
@@ -47,12 +55,12 @@ returns-in-Some-place_of-clause-linked c =
     let had = instances_at bs key in
     let is = value_there bs c.in-Some-place_of.place key had c.index_mut.result.now (items_stand c.self.inside.buckets.entries c.get-key.result.now c.in-Some-place_of.place c.in-Some-place_of.ensures.found) c.index_mut.ensures.value in
     let front : c.link.new.self ≡ c.args.bead ∷ [] = c.link.ensures ∙ ap (λ (xs : List Instance). xs ++ c.args.bead ∷ []) c.new-chain.ensures in
-    let now : c.put_before.new.bucket ≡ c.args.bead ∷ had = c.put_before.ensures ∙ (λ i. front i ++ is i) in
-    rw (← c.self.view_is) (linked_in_order bs c.in-Some-place_of.place key had c.put_before.new.bucket c.args.bead c.arrange-self-inside.new.buckets.entries c.self.invariant.distinct (items_stand c.self.inside.buckets.entries c.get-key.result.now c.in-Some-place_of.place c.in-Some-place_of.ensures.found) now c.arrange-self-inside.ensures.same)
+    let now : c.put.new.self ≡ c.args.bead ∷ had = c.put.ensures ∙ (λ i. front i ++ is i) in
+    rw (← c.self.view_is) (linked_in_order bs c.in-Some-place_of.place key had c.put.new.self c.args.bead c.arrange-self-inside.new.buckets.entries c.self.invariant.distinct (items_stand c.self.inside.buckets.entries c.get-key.result.now c.in-Some-place_of.place c.in-Some-place_of.ensures.found) now c.arrange-self-inside.ensures.same)
 
 pub returns-in-Some-place_of-clause-same_ready : goal.returns-in-Some-place_of-clause-same_ready
 returns-in-Some-place_of-clause-same_ready c =
-    rw (← c.self.view_is) (same_keys _ c.arrange-self-inside.new.buckets.entries c.arrange-self-inside.ensures.same ∙ ap (sort_by value_cmp) (keys_written c.self.inside.buckets.entries c.in-Some-place_of.place c.put_before.new.bucket))
+    rw (← c.self.view_is) (same_keys _ c.arrange-self-inside.new.buckets.entries c.arrange-self-inside.ensures.same ∙ ap (sort_by value_cmp) (keys_written c.self.inside.buckets.entries c.in-Some-place_of.place c.put.new.self))
 
 -- a key that is ready has a bucket
 pub returns-in-Some-clause-linked : goal.returns-in-Some-clause-linked

@@ -1,33 +1,34 @@
-use Rattle.std.proofs.Common.{◌∙◌, ◌+◌, sym}
+use Rattle.std.proofs.Common.{◌∙◌, ◌+◌}
+use Rattle.std.proofs.lemmas.Bool.{le-leb}
 use Rattle.instances.specs.Alive.{is_alive}
-use Rattle.binding_index.proofs.PurgeLemmas.{cut_alive, cut_buckets, cut_ready, walked_buckets, walked_in_order, walked_ready}
+use Rattle.binding_index.proofs.PurgeLemmas.{cut_alive, cut_buckets, cut_ready, left_in_order, left_over, left_over_ready}
 use Rattle.binding_index.proofs.keyed_store.KeyedStoreWaiting.purge.Goals as goal
 
 pub invariant_of-self : goal.invariant_of-self
 invariant_of-self c = cut_buckets c.self.inside.key.binding c.self.inside.filled c.self.inside.oldest c.self.inside.buckets.entries c.truncate.new.self.entries c.self.invariant c.truncate.ensures.entries
 
-pub invariant_of-self-else-can_be_met : goal.invariant_of-self-else-can_be_met
-invariant_of-self-else-can_be_met c =
-    walked_buckets c.self.inside.key.binding c.self.inside.filled c.self.inside.oldest c.keep_all_alive-self-inside.result (λ instance. is_alive (c.args.now + 1) c.self.inside.condition instance.tuple) c.self.inside.buckets.entries c.keep_all_alive-self-inside.new.buckets.entries
-    c.forget.new.buckets.entries c.self.invariant c.keep_all_alive-self-inside.ensures.alive c.keep_all_alive-self-inside.ensures.oldest c.forget.ensures c.len-self-inside.result c.len-self-inside.ensures.len
-
 -- nothing has expired
-pub returns-then-can_be_met-clause-alive : goal.returns-then-can_be_met-clause-alive
-returns-then-can_be_met-clause-alive c =
+pub returns-then-earliest_alive-self-clause-alive : goal.returns-then-earliest_alive-self-clause-alive
+returns-then-earliest_alive-self-clause-alive c =
     rw (← c.self.view_is) (cut_alive c.self.inside.key.binding c.self.inside.filled c.self.inside.oldest c.self.inside.buckets.entries c.truncate.new.self.entries c.self.invariant c.truncate.ensures.entries (c.args.now + 1) c.self.inside.condition
-    (sym c.can_be_met.ensures ∙ c.if-can_be_met.true))
+    (c.earliest_alive.ensures c.self.inside.oldest ∙ le-leb c.earliest_alive.result c.self.inside.oldest c.if-earliest_alive-self.true))
 
-pub returns-then-can_be_met-clause-ready : goal.returns-then-can_be_met-clause-ready
-returns-then-can_be_met-clause-ready c =
+pub returns-then-earliest_alive-self-clause-ready : goal.returns-then-earliest_alive-self-clause-ready
+returns-then-earliest_alive-self-clause-ready c =
     rw (← c.self.view_is) (λ key. cut_ready c.self.inside.key.binding c.self.inside.filled c.self.inside.oldest c.self.inside.buckets.entries c.truncate.new.self.entries c.self.invariant c.truncate.ensures.entries key)
 
--- what has expired is taken out
-pub returns-else-can_be_met-clause-alive : goal.returns-else-can_be_met-clause-alive
-returns-else-can_be_met-clause-alive c =
-    rw (← c.self.view_is) (walked_in_order c.self.inside.key.binding c.self.inside.filled c.self.inside.oldest c.keep_all_alive-self-inside.result (λ instance. is_alive (c.args.now + 1) c.self.inside.condition instance.tuple) c.self.inside.buckets.entries
-    c.keep_all_alive-self-inside.new.buckets.entries c.forget.new.buckets.entries c.self.invariant c.keep_all_alive-self-inside.ensures.alive c.keep_all_alive-self-inside.ensures.oldest c.forget.ensures)
+pub invariant_of-self-else-earliest_alive-self : goal.invariant_of-self-else-earliest_alive-self
+invariant_of-self-else-earliest_alive-self c =
+    left_over c.self.inside.key.binding c.self.inside.filled c.self.inside.oldest (λ instance. is_alive (c.args.now + 1) c.self.inside.condition instance.tuple) c.self.inside.buckets.entries c.keep_all_alive-self-inside.new.buckets.entries c.truncate-else-earliest_alive-self.new.self.entries c.self.invariant
+    c.keep_all_alive-self-inside.ensures.purged c.keep_all_alive-self-inside.result c.oldest_of-self-inside.result c.oldest_of-self-inside.ensures c.keep_all_alive-self-inside.ensures.within c.keep_all_alive-self-inside.ensures.split c.truncate-else-earliest_alive-self.ensures.entries
 
-pub returns-else-can_be_met-clause-ready : goal.returns-else-can_be_met-clause-ready
-returns-else-can_be_met-clause-ready c =
-    rw (← c.self.view_is) (λ key. walked_ready c.self.inside.key.binding c.self.inside.filled c.self.inside.oldest c.keep_all_alive-self-inside.result (λ instance. is_alive (c.args.now + 1) c.self.inside.condition instance.tuple) c.self.inside.buckets.entries
-    c.keep_all_alive-self-inside.new.buckets.entries c.forget.new.buckets.entries c.self.invariant c.keep_all_alive-self-inside.ensures.alive c.keep_all_alive-self-inside.ensures.oldest c.forget.ensures key)
+-- what has expired is taken out
+pub returns-else-earliest_alive-self-clause-alive : goal.returns-else-earliest_alive-self-clause-alive
+returns-else-earliest_alive-self-clause-alive c =
+    rw (← c.self.view_is) (left_in_order c.self.inside.key.binding c.self.inside.filled c.self.inside.oldest (λ instance. is_alive (c.args.now + 1) c.self.inside.condition instance.tuple) c.self.inside.buckets.entries c.keep_all_alive-self-inside.new.buckets.entries c.truncate-else-earliest_alive-self.new.self.entries c.self.invariant
+    c.keep_all_alive-self-inside.ensures.purged c.keep_all_alive-self-inside.result c.oldest_of-self-inside.result c.oldest_of-self-inside.ensures c.keep_all_alive-self-inside.ensures.within c.keep_all_alive-self-inside.ensures.split c.truncate-else-earliest_alive-self.ensures.entries)
+
+pub returns-else-earliest_alive-self-clause-ready : goal.returns-else-earliest_alive-self-clause-ready
+returns-else-earliest_alive-self-clause-ready c =
+    rw (← c.self.view_is) (λ key. left_over_ready c.self.inside.key.binding c.self.inside.filled c.self.inside.oldest (λ instance. is_alive (c.args.now + 1) c.self.inside.condition instance.tuple) c.self.inside.buckets.entries c.keep_all_alive-self-inside.new.buckets.entries c.truncate-else-earliest_alive-self.new.self.entries c.self.invariant
+    c.keep_all_alive-self-inside.ensures.purged c.keep_all_alive-self-inside.result c.oldest_of-self-inside.result c.oldest_of-self-inside.ensures c.keep_all_alive-self-inside.ensures.within c.keep_all_alive-self-inside.ensures.split c.truncate-else-earliest_alive-self.ensures.entries key)

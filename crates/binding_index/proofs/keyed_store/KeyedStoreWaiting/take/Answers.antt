@@ -21,8 +21,8 @@ use Rattle.binding_index.proofs.keyed_store.KeyedStoreWaiting.take.Goals as goal
 pub index_mut-requires : goal.index_mut-requires
 index_mut-requires g c = slice_get_within c.self.inside.buckets.entries c.in-Some.place (c.get.result.now, instances_at c.self.inside.buckets.entries c.get.result.now) c.in-Some.ensures.found.at
 
-pub take_eligible-requires : goal.take_eligible-requires
-take_eligible-requires g c =
+pub take-requires : goal.take-requires
+take-requires g c =
     let key = key_of_part c.self.inside.key in
     let bs = c.self.inside.buckets.entries in
     let are : c.index_mut.result.now ≡ candidates_of (Some key) c.args.event.now (instances_in_order bs) =
@@ -32,16 +32,16 @@ take_eligible-requires g c =
     (subst (λ (s : Keyed). All (λ (instance : Instance). AllFit c.args.choose.now c.args.event.now (Some instance.tuple)) (candidates_of (Some s.key) c.args.event.now s.instances)) (sym c.self.view_is) c.requires.condition_fits)
 
 pub arrange-self-inside-requires-clause-within : goal.arrange-self-inside-requires-clause-within
-arrange-self-inside-requires-clause-within g c = let long = length_written c.self.inside.buckets.entries c.in-Some.place c.take_eligible.new.chain in omega (arith, long, c.self.invariant.within)
+arrange-self-inside-requires-clause-within g c = let long = length_written c.self.inside.buckets.entries c.in-Some.place c.take.new.self in omega (arith, long, c.self.invariant.within)
 
 pub arrange-self-inside-requires-clause-there : goal.arrange-self-inside-requires-clause-there
 arrange-self-inside-requires-clause-there g c =
-    let long = length_written c.self.inside.buckets.entries c.in-Some.place c.take_eligible.new.chain in
+    let long = length_written c.self.inside.buckets.entries c.in-Some.place c.take.new.self in
     let at = slice_get_within c.self.inside.buckets.entries c.in-Some.place (c.get.result.now, instances_at c.self.inside.buckets.entries c.get.result.now) c.in-Some.ensures.found.at in
     omega (arith, long, at)
 
 pub arrange-self-inside-requires-clause-others : goal.arrange-self-inside-requires-clause-others
-arrange-self-inside-requires-clause-others g c = split_written c.self.inside.filled c.self.inside.buckets.entries c.in-Some.place c.take_eligible.new.chain c.self.invariant.split
+arrange-self-inside-requires-clause-others g c = split_written c.self.inside.filled c.self.inside.buckets.entries c.in-Some.place c.take.new.self c.self.invariant.split
 
 pub invariant_of-self : goal.invariant_of-self
 invariant_of-self g c =
@@ -49,8 +49,8 @@ invariant_of-self g c =
     let key = c.get.result.now in
     let had = instances_at bs key in
     let is = value_there bs c.in-Some.place key had c.index_mut.result.now c.in-Some.ensures.found.at c.index_mut.ensures.value in
-    let left : c.take_eligible.new.chain ≡ filter (λ (n : Instance). not (is_eligible c.args.choose.now n.tuple c.args.event.now)) had = c.take_eligible.ensures.others ∙ ap (filter (λ (n : Instance). not (is_eligible c.args.choose.now n.tuple c.args.event.now))) is in
-    arranged c.self.inside.key.binding c.self.inside.oldest c.arrange-self-inside.result bs c.in-Some.place key had c.take_eligible.new.chain c.arrange-self-inside.new.buckets.entries c.self.invariant.distinct c.self.invariant.keyed c.self.invariant.start
+    let left : c.take.new.self ≡ filter (λ (n : Instance). not (is_eligible c.args.choose.now n.tuple c.args.event.now)) had = c.take.ensures.others ∙ ap (filter (λ (n : Instance). not (is_eligible c.args.choose.now n.tuple c.args.event.now))) is in
+    arranged c.self.inside.key.binding c.self.inside.oldest c.arrange-self-inside.result bs c.in-Some.place key had c.take.new.self c.arrange-self-inside.new.buckets.entries c.self.invariant.distinct c.self.invariant.keyed c.self.invariant.start
     c.in-Some.ensures.found.at
     (All-same (λ (n : Instance). value_at n.tuple c.self.inside.key.binding ≡ key) _ _ left (All-filter (λ (n : Instance). not (is_eligible c.args.choose.now n.tuple c.args.event.now)) (λ (n : Instance). value_at n.tuple c.self.inside.key.binding ≡ key) had (all_at (IsKeyed c.self.inside.key.binding) bs c.in-Some.place (key, had) c.in-Some.ensures.found.at c.self.invariant.keyed)))
     (All-same (λ (n : Instance). c.self.inside.oldest ≤ n.tuple.from) _ _ left (All-filter (λ (n : Instance). not (is_eligible c.args.choose.now n.tuple c.args.event.now)) (λ (n : Instance). c.self.inside.oldest ≤ n.tuple.from) had (all_at (StartsFrom c.self.inside.oldest) bs c.in-Some.place (key, had) c.in-Some.ensures.found.at c.self.invariant.start)))
@@ -59,8 +59,8 @@ invariant_of-self g c =
 pub returns-in-Some-clause-others : goal.returns-in-Some-clause-others
 returns-in-Some-clause-others g c =
     rw (← c.self.view_is) (found_go (key_of_part c.self.inside.key) c.args.event.now c.self.inside.buckets.entries c.self.invariant.keyed c.self.invariant.distinct c.get.result.now
-    (value_is c.args.event.now c.vals.result.now c.self.inside.key.event c.get.result.now c.vals.ensures c.get.ensures) c.in-Some.place c.in-Some.ensures.found c.index_mut.result.now c.index_mut.ensures.value c.args.choose.now c.take_eligible.new.chain
-    c.arrange-self-inside.new.buckets.entries c.take_eligible.ensures.others c.arrange-self-inside.ensures.same)
+    (value_is c.args.event.now c.vals.result.now c.self.inside.key.event c.get.result.now c.vals.ensures c.get.ensures) c.in-Some.place c.in-Some.ensures.found c.index_mut.result.now c.index_mut.ensures.value c.args.choose.now c.take.new.self
+    c.arrange-self-inside.new.buckets.entries c.take.ensures.others c.arrange-self-inside.ensures.same)
 
 -- each candidate is tested once
 pub returns-in-Some-clause-ticks : goal.returns-in-Some-clause-ticks
@@ -70,11 +70,11 @@ returns-in-Some-clause-ticks g c =
     let are : length c.index_mut.result.now ≡ length (candidates_of (Some key) c.args.event.now (instances_in_order bs)) =
     ap length (found_are key c.args.event.now bs c.self.invariant.keyed c.self.invariant.distinct c.get.result.now (value_is c.args.event.now c.vals.result.now c.self.inside.key.event c.get.result.now c.vals.ensures c.get.ensures) c.in-Some.place c.in-Some.ensures.found
     c.index_mut.result.now c.index_mut.ensures.value) in
-    rw (← c.self.view_is) (omega (arith, are, c.take_eligible.ensures.ticks))
+    rw (← c.self.view_is) (omega (arith, are, c.take.ensures.ticks))
 
 pub returns-in-Some-clause-same_ready : goal.returns-in-Some-clause-same_ready
 returns-in-Some-clause-same_ready g c =
-    rw (← c.self.view_is) (same_keys _ c.arrange-self-inside.new.buckets.entries c.arrange-self-inside.ensures.same ∙ ap (sort_by value_cmp) (keys_written c.self.inside.buckets.entries c.in-Some.place c.take_eligible.new.chain))
+    rw (← c.self.view_is) (same_keys _ c.arrange-self-inside.new.buckets.entries c.arrange-self-inside.ensures.same ∙ ap (sort_by value_cmp) (keys_written c.self.inside.buckets.entries c.in-Some.place c.take.new.self))
 
 pub returns-in_default-clause-others : goal.returns-in_default-clause-others
 returns-in_default-clause-others g c =

@@ -1,0 +1,102 @@
+//! The instances that have one key.
+ghost use Rattle.std.specs.Prelude.{◌≡◌, ◌+◌, ◌-◌, ◌^◌, ◌≤◌, ◌++◌, [], OnOk, Some, min, length, not, filter, All};
+ghost use Rattle.semantics.specs.Nexts.{is_eligible};
+ghost use Rattle.scalar_expr.specs.Fits.{AllFit};
+ghost use Rattle.instances.specs.Bounds.{alive_instances};
+ghost use Rattle.binding_index.specs.Entries.{has_any};
+
+use event_types::{Memory, Tuple};
+use inst_chain::{Chain, Look};
+use instances::{Instance, Instances, add_copies, count_of, keep_alive, take_eligible};
+use scalar_expr::Conj;
+use std::alloc::Global;
+use std::marker::Model;
+use steps::{Ledger, Steps};
+
+/// The instances that have one key, the last one that came first.
+#[derive(Drop)]
+pub(crate) struct Bucket {
+    chain: Chain<Instance>,
+    // no instance starts before this time
+    oldest: u64,
+}
+
+impl Model for Bucket {
+    ghost use Rattle.std.specs.Prelude.{◌≤◌, List, All};
+    ghost use Rattle.instances.specs.declared.instance.Instance.{Instance};
+
+    ghost Value = { List Instance };
+
+    ghost view = { λ b. b.chain };
+
+    ghost invariant = { λ b. All (λ instance. b.oldest ≤ instance.tuple.from) b.chain };
+}
+
+impl Bucket {
+    pub(crate) fn new() -> Bucket
+        ensures { result ≡ [] }
+    {
+        Bucket {
+            chain: Chain::new(),
+            oldest: u64::MAX,
+        }
+    }
+
+    pub(crate) fn look(&self) -> Look<'_, Instance>
+        ensures { result ≡ self.now }
+    {
+        self.chain.look()
+    }
+
+    pub(crate) fn has_some(&self) -> bool
+        ensures { result ≡ has_any self.now }
+    {
+        self.chain.look().next().is_some()
+    }
+
+    /// A time before which no instance starts.
+    pub(crate) fn oldest(&self) -> u64
+        ensures { All (λ instance. result ≤ instance.tuple.from) self.now }
+    {
+        self.oldest
+    }
+
+    /// The number of instances, or 2^64-1 where there are more.
+    pub(crate) fn count(&self) -> u64
+        ensures { result ≡ min (length self.now) (2 ^ 64 - 1) }
+    {
+        count_of(&self.chain)
+    }
+
+    pub(crate) fn add_copies(&self, alloc: Global, copies: &mut Instances) -> Result<(), Memory>
+        ensures { OnOk result (copies.new ≡ copies.old ++ self.now) }
+    {
+        add_copies(alloc, copies, &self.chain)
+    }
+
+    /// Takes out the instances for which the event is eligible.
+    pub(crate) fn take<L: Ledger>(&mut self, event: &Tuple, choose: &Conj, steps: &mut Steps<L>)
+        requires { All (λ instance. AllFit choose.now event.now (Some instance.tuple)) self.old }
+        ensures others { self.new ≡ filter (λ instance. not (is_eligible choose.now instance.tuple event.now)) self.old }
+        ensures ticks { steps.new ≤ steps.old + length self.old }
+    {
+        take_eligible(&mut self.chain, event, choose, steps);
+    }
+
+    /// Puts the beads of a chain, of which none starts before `from`, before the others, at once.
+    pub(crate) fn put(&mut self, chain: &mut Chain<Instance>, from: u64)
+        requires { All (λ instance. from ≤ instance.tuple.from) chain.old }
+        ensures { self.new ≡ chain.old ++ self.old }
+    {
+        self.oldest = self.oldest.min(from);
+        chain.append(&mut self.chain);
+        std::mem::swap(&mut self.chain, chain);
+    }
+
+    /// Takes out the instances that no event after `now` can match, as the bounds on DUR tell.
+    pub(crate) fn keep_alive(&mut self, condition: &Conj, now: u64)
+        ensures { self.new ≡ alive_instances (now + 1) condition.now self.old }
+    {
+        self.oldest = keep_alive(&mut self.chain, condition, now);
+    }
+}
