@@ -1,151 +1,203 @@
--- Batches are prepared and filled, place by place.
-use Rattle.std.proofs.Common.{◌≡◌, ◌∙◌, sym, ap, refl, subst, inl, inr, ℕ, zero, suc, ◌+◌, ◌==◌, ◌<◌, ◌≤◌, ◌⊎◌, true, false, length, get_or, set, take, List, [], ◌∷◌, ◌++◌, map, arith}
-use Rattle.std.proofs.Math.Seq.{get_or-append_seam}
+-- Batches are prepared and filled, entry by entry.
+use Rattle.std.proofs.Common.{◌≡◌, ◌∙◌, sym, ap, refl, subst, inl, inr, ℕ, ◌+◌, ◌==◌, ◌<◌, ◌≤◌, ◌⊎◌, Bool, true, false, cond, length, get_or, set, take, List, [], ◌∷◌, ◌++◌, map, zero-add, arith}
+use Rattle.std.specs.Prelude.{Contains}
+use Rattle.std.specs.List.{All, range_with_len}
+use Rattle.std.specs.List.Sorted.{IsStrictlyIncreasing}
+use Rattle.std.proofs.Math.Seq.{map-set_same}
+use Rattle.std.proofs.lemmas.Bool.Decides.{nat_tests}
 use Rattle.std.proofs.lemmas.Grind.{get_or-set_at}
-use Rattle.std.proofs.lemmas.List.{get_or_append_left, get_or-set_other, length-append, length-map, length-set, length-take-le, same_lists, take_more}
+use Rattle.std.proofs.lemmas.List.{get_or-map, get_or-set_other, get_or_default, set-get_or, length-map, length-set, map-append, same_lists, take_more}
+use Rattle.std.proofs.lemmas.List.Elements.{All-get_or, All-head, All-nil, All-push, All-tail}
+use Rattle.std.proofs.lemmas.List.FromFn.{get_or-map-range_with_len, length-map-range_with_len}
+use Rattle.std.proofs.lemmas.List.Kept.{AllPairs-from_increasing}
 use Rattle.event_types.specs.Tuple.{TupleView}
-use Rattle.event_types.proofs.NumberLemmas.{same_number}
+use Rattle.event_types.proofs.NumberLemmas.{is_other, is_same, other_number, same_number}
 use Rattle.automaton.proofs.NumberLemmas.{are_same_or_not}
+use Rattle.epoch_draft.proofs.AgendaLemmas.{first_or_other}
 use Rattle.epoch_draft.proofs.Lists.{below_or_last}
-use Rattle.epoch_engine.specs.Batches.{AreReady, IsOfMade}
+use Rattle.epoch_engine.specs.Batches.{AreFilled, ArePlacesOf, AreReady, HasPlaces, HaveAll, IsOfMade, IsReady, made_for}
+use Rattle.epoch_engine.specs.Entries.{AreEntriesOf, AreInOrder, lists_of, places_in, tuples_at}
+use Rattle.epoch_engine.specs.declared.batch.Entry.{Entry}
 
--- a batch for no streams
-pub ready_none : (last : List ℕ) (made : List (List TupleView)) → AreReady [] last made []
-ready_none last made = record { as_many = refl; moves = λ k lt e. absurd (omega arith); copies = λ k lt e. absurd (omega arith) }
+-- entries in order are the entries of their lists
+pub entries_of : (printed : ℕ) (entries : List Entry) → AreInOrder printed entries → AreEntriesOf (lists_of printed entries) entries
+entries_of printed entries in_order =
+    let many : length (lists_of printed entries) ≡ printed = length-map-range_with_len (tuples_at entries) 0 printed in
+    record { in_order = subst (λ (n : ℕ). AreInOrder n entries) (sym many) in_order; all = ap (λ (n : ℕ). lists_of n entries) (sym many) }
 
--- a list for one stream more
-ready_push : (outs last : List ℕ) (made batch : List (List TupleView)) (s : ℕ) (rows : List TupleView) → ((get_or last s 0 == length outs) ≡ true → rows ≡ []) → ((get_or last s 0 == length outs) ≡ false → rows ≡ get_or made s []) → AreReady outs last made batch
-    → AreReady (outs ++ s ∷ []) last made (batch ++ rows ∷ [])
-ready_push outs last made batch s rows moved copied was = record {
-  as_many = length-append batch (rows ∷ []) ∙ ap (λ n. n + 1) was.as_many ∙ sym (length-append outs (s ∷ []));
-  moves = λ k lt. moves k (below_or_last k (length outs) (omega (arith, length-append outs (s ∷ []))));
-  copies = λ k lt. copies k (below_or_last k (length outs) (omega (arith, length-append outs (s ∷ []))));
+-- there are entries for these places, and they are ready
+pub record PreparedFor (outs last : List ℕ) (made : List (List TupleView)) (places : List ℕ) (entries : List Entry) : Type 0 where
+  pub places_are : places_in entries ≡ places
+  pub each : All (IsReady outs last made) entries
+
+-- for no places
+pub prepared_none : (outs last : List ℕ) (made : List (List TupleView)) → PreparedFor outs last made [] []
+prepared_none outs last made = record { places_are = refl; each = All-nil (IsReady outs last made) }
+
+-- for one place more
+pub prepared_more : (outs last : List ℕ) (made : List (List TupleView)) (places : List ℕ) (i : ℕ) (entries : List Entry) (entry : Entry) → i < length places → entry.place ≡ get_or places i 0 → IsReady outs last made entry
+    → PreparedFor outs last made (take i places) entries → PreparedFor outs last made (take (i + 1) places) (entries ++ entry ∷ [])
+prepared_more outs last made places i entries entry lt at ready was = record {
+  places_are = map-append (λ (e : Entry). e.place) entries (entry ∷ []) ∙ ap (λ ps. ps ++ entry.place ∷ []) was.places_are ∙ ap (λ p. take i places ++ p ∷ []) at ∙ sym (take_more places i 0 lt);
+  each = All-push (IsReady outs last made) entries entry was.each ready;
+}
+
+-- for the places of the streams that are due
+pub prepared_all : (outs last : List ℕ) (printed : List (List ℕ)) (rows : List (List TupleView)) (due places : List ℕ) (entries : List Entry) → HasPlaces outs (length rows) printed
+    → ((stream : ℕ) → (get_or rows stream [] ≡ []) ⊎ Contains due stream) → ArePlacesOf printed due places → PreparedFor outs last rows places entries → AreReady outs last rows entries
+prepared_all outs last printed rows due places entries has all_due are prepared = record {
+  in_order = record {
+    rise = subst IsStrictlyIncreasing (sym prepared.places_are) are.rise;
+    below = subst (All (λ place. place < length outs)) (sym prepared.places_are) (are.below (length outs) has.below);
+  };
+  each = prepared.each;
+  all = λ place lt. all place lt (all_due (get_or outs place 0));
 }
   where
-    stream_old : (k : ℕ) → k < length outs → get_or (outs ++ s ∷ []) k 0 ≡ get_or outs k 0
-    stream_old k lt = get_or_append_left outs (s ∷ []) 0 k lt
+    all : (place : ℕ) → place < length outs → (get_or rows (get_or outs place 0) [] ≡ []) ⊎ Contains due (get_or outs place 0) → (made_for outs rows place ≡ []) ⊎ Contains (places_in entries) place
+    all place lt (inl none) = inl none
+    all place lt (inr here) = inr (subst (λ (ps : List ℕ). Contains ps place) (sym prepared.places_are) (are.all (get_or outs place 0) place here (has.all place lt)))
 
-    rows_old : (k : ℕ) → k < length outs → get_or (batch ++ rows ∷ []) k [] ≡ get_or batch k []
-    rows_old k lt = get_or_append_left batch (rows ∷ []) [] k (omega (arith, was.as_many))
-
-    stream_new : (k : ℕ) → k ≡ length outs → get_or (outs ++ s ∷ []) k 0 ≡ s
-    stream_new k e = ap (λ (n : ℕ). get_or (outs ++ s ∷ []) n 0) e ∙ get_or-append_seam outs s [] 0
-
-    rows_new : (k : ℕ) → k ≡ length outs → get_or (batch ++ rows ∷ []) k [] ≡ rows
-    rows_new k e = ap (λ (n : ℕ). get_or (batch ++ rows ∷ []) n []) (e ∙ sym was.as_many) ∙ get_or-append_seam batch rows [] []
-
-    here : (k : ℕ) → k ≡ length outs → (get_or last s 0 == length outs) ≡ (get_or last (get_or (outs ++ s ∷ []) k 0) 0 == k)
-    here k is = ap (λ (n : ℕ). get_or last n 0 == length outs) (sym (stream_new k is)) ∙ ap (λ (n : ℕ). get_or last (get_or (outs ++ s ∷ []) k 0) 0 == n) (sym is)
-
-    moves : (k : ℕ) → (k < length outs) ⊎ (k ≡ length outs) → (get_or last (get_or (outs ++ s ∷ []) k 0) 0 == k) ≡ true → get_or (batch ++ rows ∷ []) k [] ≡ []
-    moves k (inl lt) e = rows_old k lt ∙ was.moves k lt (ap (λ (n : ℕ). get_or last n 0 == k) (sym (stream_old k lt)) ∙ e)
-    moves k (inr is) e = rows_new k is ∙ moved (here k is ∙ e)
-
-    copies : (k : ℕ) → (k < length outs) ⊎ (k ≡ length outs) → (get_or last (get_or (outs ++ s ∷ []) k 0) 0 == k) ≡ false → get_or (batch ++ rows ∷ []) k [] ≡ get_or made (get_or (outs ++ s ∷ []) k 0) []
-    copies k (inl lt) e =
-        rows_old k lt ∙ was.copies k lt (ap (λ (n : ℕ). get_or last n 0 == k) (sym (stream_old k lt)) ∙ e) ∙ ap (λ (n : ℕ). get_or made n []) (sym (stream_old k lt))
-    copies k (inr is) e = rows_new k is ∙ copied (here k is ∙ e) ∙ ap (λ (n : ℕ). get_or made n []) (sym (stream_new k is))
-
--- the list for the next stream of all
-pub ready_more : (outs last : List ℕ) (made batch : List (List TupleView)) (i : ℕ) (rows : List TupleView) → i < length outs → ((get_or last (get_or outs i 0) 0 == i) ≡ true → rows ≡ []) → ((get_or last (get_or outs i 0) 0 == i) ≡ false → rows ≡ get_or made (get_or outs i 0) [])
-    → AreReady (take i outs) last made batch → AreReady (take (i + 1) outs) last made (batch ++ rows ∷ [])
-ready_more outs last made batch i rows lt moved copied was =
-    let many : length (take i outs) ≡ i = length-take-le i outs (omega arith) in
-    subst (λ (xs : List ℕ). AreReady xs last made (batch ++ rows ∷ [])) (sym (take_more outs i 0 lt))
-    (ready_push (take i outs) last made batch (get_or outs i 0) rows (λ e. moved (ap (λ (n : ℕ). get_or last (get_or outs i 0) 0 == n) (sym many) ∙ e)) (λ e. copied (ap (λ (n : ℕ). get_or last (get_or outs i 0) 0 == n) (sym many) ∙ e)) was)
-
--- the places before a number are filled, and those behind are as they were
-pub record FilledSoFar (outs last : List ℕ) (start made batch : List (List TupleView)) (now : ℕ) : Type 0 where
-  pub as_many : length batch ≡ length outs
-  pub made_as_many : length made ≡ length start
-  pub filled : (place : ℕ) → place < now → place < length outs → get_or batch place [] ≡ get_or start (get_or outs place 0) []
-  pub moves : (place : ℕ) → now ≤ place → place < length outs → (get_or last (get_or outs place 0) 0 == place) ≡ true → get_or batch place [] ≡ []
-  pub copies : (place : ℕ) → now ≤ place → place < length outs → (get_or last (get_or outs place 0) 0 == place) ≡ false → get_or batch place [] ≡ get_or start (get_or outs place 0) []
-  pub kept : (stream : ℕ) → now ≤ get_or last stream 0 → get_or made stream [] ≡ get_or start stream []
+-- the entries before a number are filled, and those behind are as they were
+pub record FilledSoFar (outs last : List ℕ) (start made : List (List TupleView)) (first entries : List Entry) (now : ℕ) : Type 0 where
+  pub same : places_in entries ≡ places_in first
+  pub long : length entries ≡ length first
+  pub as_many : length made ≡ length start
+  pub filled : (k : ℕ) (d : Entry) → k < now → k < length entries → (get_or entries k d).tuples ≡ made_for outs start (get_or entries k d).place
+  pub ready : (k : ℕ) (d : Entry) → now ≤ k → k < length entries → IsReady outs last start (get_or entries k d)
+  pub kept : (stream k : ℕ) (d : Entry) → now ≤ k → k < length entries → (get_or entries k d).place ≡ get_or last stream 0 → get_or made stream [] ≡ get_or start stream []
   pub others : (stream : ℕ) → (get_or made stream [] ≡ get_or start stream []) ⊎ (get_or made stream [] ≡ [])
 
--- no place is filled yet
-pub filled_none : (outs last : List ℕ) (made batch : List (List TupleView)) → AreReady outs last made batch → FilledSoFar outs last made made batch 0
-filled_none outs last made batch ready = record {
-  as_many = ready.as_many;
-  made_as_many = refl;
-  filled = λ k lt. absurd (omega arith);
-  moves = λ k le. ready.moves k;
-  copies = λ k le. ready.copies k;
-  kept = λ s le. refl;
+-- no entry is filled yet
+pub filled_none : (outs last : List ℕ) (made : List (List TupleView)) (entries : List Entry) → AreReady outs last made entries → FilledSoFar outs last made made entries entries 0
+filled_none outs last made entries ready = record {
+  same = refl;
+  long = refl;
+  as_many = refl;
+  filled = λ k d lt inside. absurd (omega arith);
+  ready = λ k d from inside. ready.each k d inside;
+  kept = λ s k d from inside at. refl;
   others = λ s. inl refl;
 }
 
-module _ (outs last : List ℕ) (start made batch : List (List TupleView)) (i : ℕ) (lt : i < length outs) (was : FilledSoFar outs last start made batch i) where
+module _ (outs last : List ℕ) (start made : List (List TupleView)) (first entries : List Entry) (i : ℕ) (entry : Entry) (lt : i < length entries) (at : get_or entries i entry ≡ entry) (was : FilledSoFar outs last start made first entries i) where
   abbrev s : ℕ
-  s = get_or outs i 0
+  s = get_or outs entry.place 0
 
-  -- a place that isn't the last of its stream
-  pub filled_copy : (get_or last s 0 == i) ≡ false → FilledSoFar outs last start made batch (i + 1)
-  filled_copy e = record {
+  ready : IsReady outs last start entry
+  ready = subst (IsReady outs last start) at (was.ready i entry (omega arith) lt)
+
+  here : (k : ℕ) (d : Entry) → k ≡ i → k < length entries → get_or entries k d ≡ entry
+  here k d same inside = ap (λ (n : ℕ). get_or entries n d) same ∙ get_or_default entries i d entry lt ∙ at
+
+  -- its place is one of the printed streams
+  pub place_below : AreReady outs last start first → entry.place < length outs
+  place_below ready =
+      subst (λ (place : ℕ). place < length outs) (get_or-map (λ (e : Entry). e.place) entries i entry 0 lt ∙ ap (λ (e : Entry). e.place) at)
+      (All-get_or (λ place. place < length outs) (places_in entries) i 0 (omega (arith, lt, length-map entries (λ (e : Entry). e.place))) (subst (All (λ place. place < length outs)) (sym was.same) ready.in_order.below))
+
+  -- its stream is one of those that are made
+  pub stream_below : AreReady outs last start first → All (λ stream. stream < length start) outs → s < length start
+  stream_below ready below = All-get_or (λ stream. stream < length start) outs entry.place 0 (place_below ready) below
+
+  -- an entry that isn't at the last place of its stream
+  pub filled_copy : (get_or last s 0 ≡ entry.place → ⊥) → FilledSoFar outs last start made first (set entries i entry) (i + 1)
+  filled_copy e = subst (λ (es : List Entry). FilledSoFar outs last start made first es (i + 1)) (sym (ap (set entries i) (sym at) ∙ set-get_or entries i entry)) (record {
+    same = was.same;
+    long = was.long;
     as_many = was.as_many;
-    made_as_many = was.made_as_many;
-    filled = λ k before. filled k (below_or_last k i before);
-    moves = λ k after. was.moves k (omega arith);
-    copies = λ k after. was.copies k (omega arith);
-    kept = λ t le. was.kept t (omega arith);
+    filled = λ k d before inside. filled k d (below_or_last k i before) inside;
+    ready = λ k d from inside. was.ready k d (omega arith) inside;
+    kept = λ t k d from inside. was.kept t k d (omega arith) inside;
     others = was.others;
-  }
+  })
     where
-      filled : (k : ℕ) → (k < i) ⊎ (k ≡ i) → k < length outs → get_or batch k [] ≡ get_or start (get_or outs k 0) []
-      filled k (inl less) inside = was.filled k less inside
-      filled k (inr same) inside =
-          subst (λ (n : ℕ). get_or batch n [] ≡ get_or start (get_or outs n 0) []) (sym same) (was.copies i (omega arith) lt e)
+      filled : (k : ℕ) (d : Entry) → (k < i) ⊎ (k ≡ i) → k < length entries → (get_or entries k d).tuples ≡ made_for outs start (get_or entries k d).place
+      filled k d (inl less) inside = was.filled k d less inside
+      filled k d (inr same) inside =
+          subst (λ (x : Entry). x.tuples ≡ made_for outs start x.place) (sym (here k d same inside)) (ready.copies (is_other (get_or last s 0) entry.place e))
+
+  -- the places of the entries that are to come are others
+  later_place : IsStrictlyIncreasing (places_in first) → (k : ℕ) (d : Entry) → i < k → k < length entries → (get_or entries k d).place ≡ entry.place → ⊥
+  later_place rise k d less inside same =
+      let pairs = AllPairs-from_increasing (places_in entries) (subst IsStrictlyIncreasing (sym was.same) rise) in
+      let above : get_or (places_in entries) i 0 < get_or (places_in entries) k 0 = pairs i k 0 less (omega (arith, inside, length-map entries (λ (e : Entry). e.place))) in
+      let mine : get_or (places_in entries) i 0 ≡ entry.place = get_or-map (λ (e : Entry). e.place) entries i entry 0 lt ∙ ap (λ (e : Entry). e.place) at in
+      let its : get_or (places_in entries) k 0 ≡ entry.place = get_or-map (λ (e : Entry). e.place) entries k d 0 inside ∙ same in
+      absurd (omega (arith, above, mine, its))
 
   -- one that is
-  pub filled_move : (rows none : List TupleView) → s < length start → rows ≡ get_or made s [] → none ≡ get_or batch i [] → (get_or last s 0 == i) ≡ true → FilledSoFar outs last start (set made s none) (set batch i rows) (i + 1)
-  filled_move rows none below got had e = record {
-    as_many = length-set batch i rows ∙ was.as_many;
-    made_as_many = length-set made s none ∙ was.made_as_many;
-    filled = λ k before inside. filled k (below_or_last k i before) inside;
-    moves = λ k after inside f. get_or-set_other batch i k rows [] (λ same. absurd (omega (arith, same))) ∙ was.moves k (omega arith) inside f;
-    copies = λ k after inside f. get_or-set_other batch i k rows [] (λ same. absurd (omega (arith, same))) ∙ was.copies k (omega arith) inside f;
-    kept = λ t le. kept t le (are_same_or_not t s);
+  pub filled_move : (rows none : List TupleView) → IsStrictlyIncreasing (places_in first) → s < length start → rows ≡ get_or made s [] → none ≡ entry.tuples → get_or last s 0 ≡ entry.place
+      → FilledSoFar outs last start (set made s none) first (set entries i (record entry { tuples = rows })) (i + 1)
+  filled_move rows none rise below got had last_is = record {
+    same = map-set_same (λ (x : Entry). x.place) entries i (record entry { tuples = rows }) entry (ap (λ (x : Entry). x.place) (sym at)) ∙ was.same;
+    long = long ∙ was.long;
+    as_many = length-set made s none ∙ was.as_many;
+    filled = λ k d before inside. filled k d (below_or_last k i before) (omega (arith, inside, long));
+    ready = λ k d from inside. subst (IsReady outs last start) (sym (later k d from)) (was.ready k d (omega arith) (omega (arith, inside, long)));
+    kept = λ t k d from inside its. kept t k d from (omega (arith, inside, long)) (ap (λ (x : Entry). x.place) (sym (later k d from)) ∙ its) (are_same_or_not t s);
     others = λ t. others t (are_same_or_not t s);
   }
     where
-      last_is : get_or last s 0 ≡ i
-      last_is = same_number (get_or last s 0) i e
+      long : length (set entries i (record entry { tuples = rows })) ≡ length entries
+      long = length-set entries i (record entry { tuples = rows })
 
       there : s < length made
-      there = omega (arith, was.made_as_many)
+      there = omega (arith, was.as_many, below)
 
-      filled : (k : ℕ) → (k < i) ⊎ (k ≡ i) → k < length outs → get_or (set batch i rows) k [] ≡ get_or start (get_or outs k 0) []
-      filled k (inl less) inside = get_or-set_other batch i k rows [] (λ same. absurd (omega (arith, same))) ∙ was.filled k less inside
-      filled k (inr same) inside =
-          get_or-set_at batch i k rows [] same (omega (arith, was.as_many)) ∙ got ∙ was.kept s (omega (arith, last_is)) ∙ ap (λ (n : ℕ). get_or start (get_or outs n 0) []) (sym same)
+      later : (k : ℕ) (d : Entry) → i + 1 ≤ k → get_or (set entries i (record entry { tuples = rows })) k d ≡ get_or entries k d
+      later k d from = get_or-set_other entries i k (record entry { tuples = rows }) d (λ same. absurd (omega (arith, same, from)))
 
-      kept : (t : ℕ) → i + 1 ≤ get_or last t 0 → (t ≡ s) ⊎ (t ≡ s → ⊥) → get_or (set made s none) t [] ≡ get_or start t []
-      kept t le (inl same) = absurd (past (get_or last t 0) le (ap (λ (n : ℕ). get_or last n 0) same ∙ last_is))
-        where
-          past : (n : ℕ) → i + 1 ≤ n → n ≡ i → ⊥
-          past n le e = absurd (omega (arith, e))
-      kept t le (inr other) = get_or-set_other made s t none [] other ∙ was.kept t (omega arith)
+      filled : (k : ℕ) (d : Entry) → (k < i) ⊎ (k ≡ i) → k < length entries
+          → (get_or (set entries i (record entry { tuples = rows })) k d).tuples ≡ made_for outs start (get_or (set entries i (record entry { tuples = rows })) k d).place
+      filled k d (inl less) inside =
+          subst (λ (x : Entry). x.tuples ≡ made_for outs start x.place) (sym (get_or-set_other entries i k (record entry { tuples = rows }) d (λ same. absurd (omega (arith, same, less))))) (was.filled k d less inside)
+      filled k d (inr same) inside =
+          subst (λ (x : Entry). x.tuples ≡ made_for outs start x.place) (sym (get_or-set_at entries i k (record entry { tuples = rows }) d same lt))
+          (got ∙ was.kept s i entry (omega arith) lt (ap (λ (x : Entry). x.place) at ∙ sym last_is))
+
+      kept : (t k : ℕ) (d : Entry) → i + 1 ≤ k → k < length entries → (get_or entries k d).place ≡ get_or last t 0 → (t ≡ s) ⊎ (t ≡ s → ⊥) → get_or (set made s none) t [] ≡ get_or start t []
+      kept t k d from inside its (inl same) = absurd (later_place rise k d (omega (arith, from)) inside (its ∙ ap (λ (n : ℕ). get_or last n 0) same ∙ last_is))
+      kept t k d from inside its (inr other) = get_or-set_other made s t none [] other ∙ was.kept t k d (omega (arith, from)) inside its
 
       others : (t : ℕ) → (t ≡ s) ⊎ (t ≡ s → ⊥) → (get_or (set made s none) t [] ≡ get_or start t []) ⊎ (get_or (set made s none) t [] ≡ [])
-      others t (inl same) = inr (get_or-set_at made s t none [] same there ∙ had ∙ was.moves i (omega arith) lt e)
+      others t (inl same) = inr (get_or-set_at made s t none [] same there ∙ had ∙ ready.moves (is_same (get_or last s 0) entry.place last_is))
       others t (inr other) = subst (λ (xs : List TupleView). (xs ≡ get_or start t []) ⊎ (xs ≡ [])) (sym (get_or-set_other made s t none [] other)) (was.others t)
 
--- all places are filled
-pub filled_all : (outs last : List ℕ) (start made batch : List (List TupleView)) (now : ℕ) → length outs ≤ now → FilledSoFar outs last start made batch now → IsOfMade outs start batch
-filled_all outs last start made batch now past was =
-    same_lists batch (map f outs) (was.as_many ∙ sym (length-map outs f))
-    (λ k d lt. let inside : k < length outs = omega (arith, was.as_many) in default_free batch k d lt ∙ was.filled k (omega arith) inside ∙ sym (mapped outs k d inside))
+-- all entries are filled
+pub filled_all : (outs last : List ℕ) (start made : List (List TupleView)) (first entries : List Entry) (now : ℕ) → length entries ≤ now → AreReady outs last start first → FilledSoFar outs last start made first entries now → AreFilled outs start entries
+filled_all outs last start made first entries now past ready was = record {
+  in_order = record { rise = subst IsStrictlyIncreasing (sym was.same) ready.in_order.rise; below = subst (All (λ place. place < length outs)) (sym was.same) ready.in_order.below };
+  each = λ k d lt. was.filled k d (omega (arith, lt, past)) lt;
+  all = λ place lt. subst (λ (ps : List ℕ). (made_for outs start place ≡ []) ⊎ Contains ps place) (sym was.same) (ready.all place lt);
+}
+
+-- by induction on the entries: a place has the tuples that were made for it
+tuples_there : (outs : List ℕ) (made : List (List TupleView)) (place : ℕ) (entries : List Entry) → All (λ entry. entry.tuples ≡ made_for outs made entry.place) entries → (made_for outs made place ≡ []) ⊎ Contains (places_in entries) place
+    → tuples_at entries place ≡ made_for outs made place
+tuples_there outs made place [] each (inl none) = sym none
+tuples_there outs made place [] each (inr here) = absurd (let less = here.1 in omega (arith, less))
+tuples_there outs made place (entry ∷ entries) each has = go (entry.place == place) refl (tuples_there outs made place entries (All-tail (λ e. e.tuples ≡ made_for outs made e.place) entry entries each))
   where
-    f : ℕ → List TupleView
-    f s = get_or start s []
+    later : (entry.place == place) ≡ false → (made_for outs made place ≡ []) ⊎ Contains (places_in (entry ∷ entries)) place → (made_for outs made place ≡ []) ⊎ Contains (places_in entries) place
+    later other (inl none) = inl none
+    later other (inr here) = one (first_or_other entry.place (places_in entries) place here)
+      where
+        one : (place ≡ entry.place) ⊎ Contains (places_in entries) place → (made_for outs made place ≡ []) ⊎ Contains (places_in entries) place
+        one (inl same) = absurd (other_number entry.place place other (sym same))
+        one (inr here) = inr here
 
-    default_free : (xs : List (List TupleView)) (k : ℕ) (d : List TupleView) → k < length xs → get_or xs k d ≡ get_or xs k []
-    default_free [] k d lt = absurd (omega arith)
-    default_free (x ∷ xs) zero d lt = refl
-    default_free (x ∷ xs) (suc k) d lt = default_free xs k d (omega arith)
+    go : (b : Bool) → (entry.place == place) ≡ b → ((made_for outs made place ≡ []) ⊎ Contains (places_in entries) place → tuples_at entries place ≡ made_for outs made place)
+        → cond b entry.tuples (tuples_at entries place) ≡ made_for outs made place
+    go true same rest = All-head (λ e. e.tuples ≡ made_for outs made e.place) entry entries each ∙ ap (made_for outs made) (same_number entry.place place same)
+    go false other rest = rest (later other has)
 
-    mapped : (ns : List ℕ) (k : ℕ) (d : List TupleView) → k < length ns → get_or (map f ns) k d ≡ f (get_or ns k 0)
-    mapped [] k d lt = absurd (omega arith)
-    mapped (n ∷ ns) zero d lt = refl
-    mapped (n ∷ ns) (suc k) d lt = mapped ns k d (omega arith)
+-- filled entries are the batch of what was made
+pub batch_is : (outs : List ℕ) (made : List (List TupleView)) (entries : List Entry) → AreFilled outs made entries → IsOfMade outs made (lists_of (length outs) entries)
+batch_is outs made entries filled =
+    same_lists (lists_of (length outs) entries) (map (λ stream. get_or made stream []) outs) (many ∙ sym (length-map outs (λ stream. get_or made stream [])))
+    (λ k d lt. let inside : k < length outs = omega (arith, many, lt) in
+    get_or-map-range_with_len (tuples_at entries) 0 (length outs) k k d inside (zero-add k) ∙ tuples_there outs made k entries filled.each (filled.all k inside) ∙ sym (get_or-map (λ stream. get_or made stream []) outs k 0 d inside))
+  where
+    many : length (lists_of (length outs) entries) ≡ length outs
+    many = length-map-range_with_len (tuples_at entries) 0 (length outs)

@@ -2,6 +2,7 @@ pub mod BatchLemmas
 pub mod ClosedLemmas
 pub mod EngineLemmas
 pub mod KindingLemmas
+pub mod PrintedLemmas
 pub mod PurgeLemmas
 pub mod PurgedLemmas
 pub mod StandsLemmas

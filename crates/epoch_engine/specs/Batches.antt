@@ -1,14 +1,47 @@
 -- Batches that are made of the tuples of streams. No public clause cites this module.
-use Rattle.std.specs.Prelude.{◌≡◌, ℕ, ◌<◌, ◌==◌, false, true, List, [], length, map, slice_index_or}
+use Rattle.std.specs.Prelude.{◌≡◌, ℕ, ◌<◌, ◌⊎◌, ◌==◌, false, true, List, [], Contains, length, map, slice_index_or}
+use Rattle.std.specs.List.{All}
+use Rattle.std.specs.List.Sorted.{IsStrictlyIncreasing}
 use Rattle.event_types.specs.Tuple.{TupleView}
+use Rattle.epoch_engine.specs.Entries.{AreInOrder, places_in}
+use Rattle.epoch_engine.specs.declared.batch.Entry.{Entry}
 
--- a batch has a list for each of these streams: at the last place of a stream none yet, and before it the tuples of the stream
-pub record AreReady (outs last : List ℕ) (made batch : List (List TupleView)) : Type 0 where
-  pub as_many : length batch ≡ length outs
-  pub moves : (place : ℕ) → place < length outs → (slice_index_or last (slice_index_or outs place 0) 0 == place) ≡ true → slice_index_or batch place [] ≡ []
-  pub copies :
-      (place : ℕ) → place < length outs → (slice_index_or last (slice_index_or outs place 0) 0 == place) ≡ false
-      → slice_index_or batch place [] ≡ slice_index_or made (slice_index_or outs place 0) []
+-- for each of so many streams the places at which it is printed
+pub record HasPlaces (outs : List ℕ) (streams : ℕ) (printed : List (List ℕ)) : Type 0 where
+  pub as_many : length printed ≡ streams
+  pub below : (stream : ℕ) → All (λ place. place < length outs) (slice_index_or printed stream [])
+  pub all : (place : ℕ) → place < length outs → Contains (slice_index_or printed (slice_index_or outs place 0) []) place
+
+-- the places rise, each is one of a stream, and all places of the streams that are due are among them
+pub record ArePlacesOf (printed : List (List ℕ)) (due places : List ℕ) : Type 0 where
+  pub rise : IsStrictlyIncreasing places
+  pub below : (bound : ℕ) → ((stream : ℕ) → All (λ place. place < bound) (slice_index_or printed stream [])) → All (λ place. place < bound) places
+  pub all : (stream place : ℕ) → Contains due stream → Contains (slice_index_or printed stream []) place → Contains places place
+
+-- the tuples that were made for the stream that is printed at a place
+abbrev pub made_for : List ℕ → List (List TupleView) → ℕ → List TupleView
+made_for outs made place = slice_index_or made (slice_index_or outs place 0) []
+
+-- an entry has no tuples yet at the last place of a stream, and before it those of the stream
+pub record IsReady (outs last : List ℕ) (made : List (List TupleView)) (entry : Entry) : Type 0 where
+  pub moves : (slice_index_or last (slice_index_or outs entry.place 0) 0 == entry.place) ≡ true → entry.tuples ≡ []
+  pub copies : (slice_index_or last (slice_index_or outs entry.place 0) 0 == entry.place) ≡ false → entry.tuples ≡ made_for outs made entry.place
+
+-- at each place without an entry there are no tuples
+abbrev pub HaveAll : List ℕ → List (List TupleView) → List Entry → Type 0
+HaveAll outs made entries = (place : ℕ) → place < length outs → (made_for outs made place ≡ []) ⊎ Contains (places_in entries) place
+
+-- entries are ready for the tuples that were made
+pub record AreReady (outs last : List ℕ) (made : List (List TupleView)) (entries : List Entry) : Type 0 where
+  pub in_order : AreInOrder (length outs) entries
+  pub each : All (IsReady outs last made) entries
+  pub all : HaveAll outs made entries
+
+-- entries have the tuples that were made
+pub record AreFilled (outs : List ℕ) (made : List (List TupleView)) (entries : List Entry) : Type 0 where
+  pub in_order : AreInOrder (length outs) entries
+  pub each : All (λ entry. entry.tuples ≡ made_for outs made entry.place) entries
+  pub all : HaveAll outs made entries
 
 -- a batch has for each of these streams the tuples that were made for it
 abbrev pub IsOfMade : List ℕ → List (List TupleView) → List (List TupleView) → Type 0

@@ -3,6 +3,7 @@ pub mod Closes
 pub mod Counts
 pub mod EngineStandsFor
 pub mod EngineView
+pub mod Entries
 pub mod Laws
 pub mod Offers
 pub mod Running

@@ -12,16 +12,18 @@ use Rattle.epoch_draft.specs.Led.{AreLed}
 use Rattle.epoch_draft.specs.Marks.{AreMarks}
 use Rattle.epoch_draft.specs.Purging.{ListsBounded}
 use Rattle.epoch_draft.specs.declared.marks.Marks.{Marks}
+use Rattle.epoch_engine.specs.Batches.{HasPlaces}
 use Rattle.epoch_engine.specs.declared.drawing.Drawing.{Drawing}
 use Rattle.epoch_engine.specs.declared.epoch.Epoch.{Epoch}
 use Rattle.epoch_engine.specs.declared.plan.Plan.{Plan}
 
--- the readers are the network's, each stream has its place in the order of work, the waiting states whose conditions have bounds are listed, all printed streams are derived, and each stream with kinds has a last place
+-- the readers are the network's, each stream has its place in the order of work, the waiting states whose conditions have bounds are listed, all printed streams are derived, and each stream with kinds has its places among them and a last place
 pub record IsPlan (plan : Plan) : Type 0 where
   pub readers : AreReadersOfAll plan.merged plan.layout plan.readers
   pub places : ArePlaces plan.layout.order (length plan.layout.kinds) plan.places
   pub bounded : ListsBounded plan.merged (length plan.merged) plan.bounded
   pub printed : All (λ stream. IsTrue (is_in plan.layout.order stream)) plan.layout.outs
+  pub places_printed : HasPlaces plan.layout.outs (length plan.layout.kinds) plan.printed
   pub last : length plan.last ≡ length plan.layout.kinds
 
 -- at least those streams that have tuples are marked, maybe some more

@@ -1,34 +1,105 @@
 //! The results of an epoch.
-ghost use Rattle.std.specs.Prelude.{◌≡◌, ℕ, ◌<◌, ◌⊎◌, [], false, true, length, slice_index_or, IfOk};
+ghost use Rattle.std.specs.Prelude.{◌≡◌, ℕ, ◌<◌, ◌⊎◌, [], false, true, Contains, length, slice_index_or, IfOk};
 ghost use Rattle.std.specs.List.{All};
-ghost use Rattle.epoch_engine.specs.Batches.{AreReady, IsOfMade};
+ghost use Rattle.epoch_engine.specs.Batches.{AreFilled, ArePlacesOf, AreReady, HasPlaces};
+ghost use Rattle.epoch_engine.specs.Entries.{AreEntriesOf, AreInOrder, lists_of};
 
 use epoch_draft::Lists;
 use event_types::{Copied, List, Memory, Numbers, Tuples};
 use std::alloc::Global;
+use std::marker::Model;
 
-/// The results of an epoch: for each stream that is printed its tuples in their order.
-pub type Batch = List<Tuples>;
+/// A printed stream that has tuples in an epoch: its place among the printed streams, counted from 0, and its
+/// tuples in their order.
+#[derive(Drop)]
+pub struct Entry {
+    pub place: usize,
+    pub tuples: Tuples,
+}
 
-/// A batch with room for these streams, and with copies of the tuples of each stream that is printed once
-/// more at a later place. What it takes in at the last places is moved in by `fill`.
+/// Printed streams with their tuples.
+pub(crate) type Entries = List<Entry>;
+
+/// The results of an epoch: for each stream that is printed its tuples in their order. It has entries alone
+/// for the streams for which tuples were made.
+#[derive(Drop)]
+pub struct Batch {
+    printed: usize,
+    entries: Entries,
+}
+
+impl Model for Batch {
+    ghost use Rattle.std.specs.Prelude.{List};
+    ghost use Rattle.event_types.specs.Tuple.{TupleView};
+    ghost use Rattle.epoch_engine.specs.Entries.{AreInOrder, lists_of};
+
+    ghost Value = { List (List TupleView) };
+
+    ghost view = { λ b. lists_of b.printed b.entries };
+
+    ghost invariant = { λ b. AreInOrder b.printed b.entries };
+}
+
+impl Batch {
+    /// The batch of so many printed streams, of which these have tuples.
+    pub(crate) fn make(printed: usize, entries: Entries) -> Batch
+        requires { AreInOrder printed entries }
+        ensures { result ≡ lists_of printed entries }
+    {
+        Batch { printed, entries }
+    }
+
+    /// The printed streams that have tuples, by ascending places. Takes no memory.
+    pub fn entries(&self) -> &[Entry]
+        ensures { AreEntriesOf self.now result.now }
+    {
+        self.entries.as_slice()
+    }
+}
+
+/// An entry for each place at which a stream is printed that is due, with a copy of its tuples, or with none
+/// at its last place, where they are moved in by `fill`.
 pub(crate) fn prepare(
     alloc: Global,
-    outs: &[usize],
+    outs: &Numbers,
+    printed: &List<Numbers>,
     last: &Numbers,
+    due: &[usize],
     made: &Lists,
-) -> Result<Batch, Memory>
+) -> Result<Entries, Memory>
     requires outs { All (λ stream. stream < length made.now) outs.now }
+    requires printed { HasPlaces outs.now (length made.now) printed.now }
     requires last { length last.now ≡ length made.now }
+    requires due { All (λ stream. stream < length made.now) due.now }
+    requires all_due { (stream : ℕ) → (slice_index_or made.now stream [] ≡ []) ⊎ Contains due.now stream }
     ensures { IfOk result (AreReady outs.now last.now made.now) }
 {
-    let mut batch = List::with_room(alloc, outs.len())?;
-    for (place, stream) in outs.iter().enumerate() {
-        let moves = *last.get(*stream) == place;
-        let tuples = prepared(alloc, made.get(*stream), moves)?;
-        batch.add(tuples)?;
+    let places = places_of(alloc, printed, due)?;
+    let mut entries = List::with_room(alloc, places.len())?;
+    for place in places.as_slice() {
+        let stream = *outs.get(*place);
+        let moves = *last.get(stream) == *place;
+        let tuples = prepared(alloc, made.get(stream), moves)?;
+        entries.add(Entry {
+            place: *place,
+            tuples,
+        })?;
     }
-    Ok(batch)
+    Ok(entries)
+}
+
+// The places at which these streams are printed, in ascending order.
+fn places_of(alloc: Global, printed: &List<Numbers>, due: &[usize]) -> Result<Vec<usize>, Memory>
+    requires { All (λ stream. stream < length printed.now) due.now }
+    ensures { IfOk result (λ places. ArePlacesOf printed.now due.now places.items) }
+{
+    let mut places = Vec::new(alloc);
+    for stream in due {
+        places.extend_from_slice(printed.get(*stream).as_slice())?;
+    }
+    places.sort_unstable();
+    places.dedup();
+    Ok(places)
 }
 
 // The tuples as they are prepared: none where they will be moved, and else a copy.
@@ -42,20 +113,21 @@ fn prepared(alloc: Global, tuples: &Tuples, moves: bool) -> Result<Tuples, Memor
     tuples.copied(alloc)
 }
 
-/// Moves the tuples of each of these streams to its last place in a batch that is prepared for them. Takes
-/// no memory.
-pub(crate) fn fill(batch: &mut Batch, outs: &[usize], last: &Numbers, made: &mut Lists)
+/// Moves the tuples of each stream to its last place among entries that are prepared for them. Takes no
+/// memory.
+pub(crate) fn fill(entries: &mut Entries, outs: &Numbers, last: &Numbers, made: &mut Lists)
     requires outs { All (λ stream. stream < length made.old) outs.now }
     requires last { length last.now ≡ length made.old }
-    requires ready { AreReady outs.now last.now made.old batch.old }
-    ensures batch { IsOfMade outs.now made.old batch.new }
+    requires ready { AreReady outs.now last.now made.old entries.old }
+    ensures filled { AreFilled outs.now made.old entries.new }
     ensures as_many { length made.new ≡ length made.old }
     ensures others { (stream : ℕ) → (slice_index_or made.new stream [] ≡ slice_index_or made.old stream []) ⊎ (slice_index_or made.new stream [] ≡ []) }
 {
-    for (place, stream) in outs.iter().enumerate() {
-        if *last.get(*stream) != place {
-            continue;
+    for index in 0..entries.len() {
+        let entry = entries.get_mut(index);
+        let stream = *outs.get(entry.place);
+        if *last.get(stream) == entry.place {
+            std::mem::swap(&mut entry.tuples, made.get_mut(stream));
         }
-        std::mem::swap(batch.get_mut(place), made.get_mut(*stream));
     }
 }

@@ -8,7 +8,7 @@ ghost use Rattle.epoch_engine.specs.Batches.{AreReady, IsOfMade};
 ghost use Rattle.epoch_engine.specs.Running.{IsRunning, IsStillFor};
 ghost use Rattle.epoch_engine.specs.Taking.{IsDrawn, IsSettled, TakesEpoch, TakesWithin, closing_work, drawing_work, settling_work};
 
-use crate::batch::{Batch, fill, prepare};
+use crate::batch::{Batch, Entries, fill, prepare};
 use crate::drawing::Drawing;
 use crate::epoch::Epoch;
 use crate::plan::Plan;
@@ -18,8 +18,8 @@ use std::alloc::Global;
 use steps::{Ledger, Steps};
 use stream_readers::KeyReaders;
 
-/// Takes the stores over the open epoch, with the keys that lead to them, and gives its results. Want of memory leaves all instances as they
-/// were, and the drawing is then of no more use.
+/// Takes the stores over the open epoch, with the keys that lead to them, and gives its results. Want of memory leaves all
+/// instances as they were, and the drawing is then of no more use.
 pub(crate) fn take_epoch<L: Ledger>(
     alloc: Global,
     plan: &Plan,
@@ -40,11 +40,11 @@ pub(crate) fn take_epoch<L: Ledger>(
     ensures led { AreLed plan.now.merged keys.new stores.new }
     ensures ticks { steps.new ≤ steps.old + closing_work plan.now stores.old epoch.now }
 {
-    let batch = draw_epoch(alloc, plan, keys, stores, epoch, drawing, steps)?;
-    Ok(settle_epoch(plan, keys, stores, epoch, drawing, batch, steps))
+    let entries = draw_epoch(alloc, plan, keys, stores, epoch, drawing, steps)?;
+    Ok(settle_epoch(plan, keys, stores, epoch, drawing, entries, steps))
 }
 
-// Makes all that comes of the open tuples, a batch that is prepared for it, and room in the stores, of which no
+// Makes all that comes of the open tuples, entries that are prepared for it, and room in the stores, of which no
 // instance changes.
 fn draw_epoch<L: Ledger>(
     alloc: Global,
@@ -54,7 +54,7 @@ fn draw_epoch<L: Ledger>(
     epoch: &Epoch,
     drawing: &mut Drawing,
     steps: &mut Steps<L>,
-) -> Result<Batch, Memory>
+) -> Result<Entries, Memory>
     requires running { IsRunning plan.now stores.old epoch.now }
     requires led { AreLed plan.now.merged keys.old stores.old }
     requires still { IsStillFor plan.now drawing.old }
@@ -81,24 +81,26 @@ fn draw_epoch<L: Ledger>(
         &mut drawing.pairs,
         steps,
     )?;
-    let batch = prepare(
+    let entries = prepare(
         alloc,
-        plan.layout.outs.as_slice(),
+        &plan.layout.outs,
+        &plan.printed,
         &plan.last,
+        drawing.draft.due.numbers.as_slice(),
         &drawing.draft.made,
     )?;
     make_room(plan.merged.network(), keys, stores, &drawing.draft)?;
-    Ok(batch)
+    Ok(entries)
 }
 
-// Puts what was drawn in place, tidies the keys, and moves the made tuples into the batch. Takes no memory.
+// Puts what was drawn in place, tidies the keys, and moves the made tuples into the entries of the batch. Takes no memory.
 fn settle_epoch<L: Ledger>(
     plan: &Plan,
     keys: &mut KeyReaders,
     stores: &mut Stores,
     epoch: &Epoch,
     drawing: &mut Drawing,
-    mut batch: Batch,
+    mut entries: Entries,
     steps: &mut Steps<L>,
 ) -> Batch
     requires running { IsRunning plan.now stores.old epoch.now }
@@ -106,7 +108,7 @@ fn settle_epoch<L: Ledger>(
     requires opened { IsSome epoch.now.time }
     requires drawn { IsDrawn plan.now stores.old epoch.now drawing.old }
     requires room { HaveRoom stores.old drawing.old.draft.beads }
-    requires ready { AreReady plan.now.layout.outs plan.now.last drawing.old.draft.made batch }
+    requires ready { AreReady plan.now.layout.outs plan.now.last drawing.old.draft.made entries }
     ensures led { AreLed plan.now.merged keys.new stores.new }
     ensures settled { IsSettled plan.now epoch.now drawing.old stores.old stores.new }
     ensures batch { IsOfMade plan.now.layout.outs drawing.old.draft.made result }
@@ -130,11 +132,11 @@ fn settle_epoch<L: Ledger>(
     );
     keys.tidy(stores.as_slice());
     fill(
-        &mut batch,
-        plan.layout.outs.as_slice(),
+        &mut entries,
+        &plan.layout.outs,
         &plan.last,
         &mut drawing.draft.made,
     );
     drawing.clear();
-    batch
+    Batch::make(plan.layout.outs.len(), entries)
 }

@@ -1,7 +1,8 @@
 //! The engine, which keeps the bindings that wait and closes one epoch after another.
 //!
 //! Contracts see an `Engine` as its network and layout, the instances of each state, the open tuples of
-//! each stream, the open epoch and the last closed time (`EngineView`).
+//! each stream, the open epoch and the last closed time (`EngineView`), and a `Batch` as the list of the tuples of
+//! each printed stream. An `Entry` is seen as its fields.
 #![tactic(auto)]
 
 mod batch;
@@ -13,7 +14,7 @@ mod fault;
 mod laws;
 mod plan;
 
-pub use batch::Batch;
+pub use batch::{Batch, Entry};
 pub use engine::Engine;
 pub use fault::OfferFault;
 pub use laws::{

@@ -2,18 +2,19 @@
 ghost use Rattle.std.specs.Prelude.{◌≡◌, ◌<◌, IfOk, length};
 ghost use Rattle.std.specs.List.{All};
 ghost use Rattle.automaton.specs.NetworkLines.{NetworkFits};
+ghost use Rattle.epoch_engine.specs.Batches.{HasPlaces};
 ghost use Rattle.epoch_engine.specs.Running.{IsPlan};
 
 use automaton::Layout;
-use epoch_draft::{bounded_states, filled, places_of};
-use event_types::{Memory, Numbers};
+use epoch_draft::{bounded_states, empty_lists, filled, places_of};
+use event_types::{List, Memory, Numbers};
 use prefix_merge::Merged;
 use std::alloc::Global;
 use stream_readers::Readers;
 
 /// A merged network and its layout, what reads each stream and its place in the order of work, the numbers of the
-/// waiting states whose conditions have bounds on DUR, and for each stream the last place at which it is printed;
-/// places are counted from 0. No closing changes it.
+/// waiting states whose conditions have bounds on DUR, and for each stream the places at which it is printed and
+/// the last of them; places are counted from 0. No closing changes it.
 #[derive(Drop)]
 pub struct Plan {
     pub merged: Merged,
@@ -21,6 +22,7 @@ pub struct Plan {
     pub readers: Readers,
     pub places: Numbers,
     pub bounded: Numbers,
+    pub printed: List<Numbers>,
     pub last: Numbers,
 }
 
@@ -35,6 +37,7 @@ impl Plan {
         let readers = Readers::make(alloc, merged.network(), layout.kinds.len())?;
         let places = places_of(alloc, layout.order.as_slice(), layout.kinds.len())?;
         let bounded = bounded_states(alloc, merged.network())?;
+        let printed = printed_places(alloc, &layout.outs, layout.kinds.len())?;
         let last = last_places(alloc, &layout.outs, layout.kinds.len())?;
         Ok(Plan {
             merged,
@@ -42,9 +45,22 @@ impl Plan {
             readers,
             places,
             bounded,
+            printed,
             last,
         })
     }
+}
+
+// For each of so many streams the places at which it stands, in ascending order.
+fn printed_places(alloc: Global, outs: &Numbers, streams: usize) -> Result<List<Numbers>, Memory>
+    requires { All (λ stream. stream < streams) outs.now }
+    ensures { IfOk result (HasPlaces outs.now streams) }
+{
+    let mut printed = empty_lists(alloc, streams)?;
+    for (place, stream) in outs.as_slice().iter().enumerate() {
+        printed.get_mut(*stream).add(place)?;
+    }
+    Ok(printed)
 }
 
 // For each of so many streams the last place at which it stands, or 0.

@@ -1,14 +1,18 @@
-use Rattle.std.proofs.Common.{◌∙◌, ap, sym, subst, ℕ, length, ◌+◌, ◌≤◌}
+use Rattle.std.proofs.Common.{◌≡◌, ◌∙◌, ap, refl, sym, subst, ℕ, ◌+◌, ◌<◌, ◌≤◌, ◌⊎◌, List, [], get_or, length}
+use Rattle.std.specs.Prelude.{Contains}
+use Rattle.std.specs.List.{All}
 use Rattle.semantics.specs.Denotation.{streams_of}
 use Rattle.automaton.specs.States.{Net}
 use Rattle.epoch_laws.specs.Closing.{Stores}
 use Rattle.epoch_draft.specs.Deriving.{DrawnUpTo, news_of}
 use Rattle.epoch_draft.specs.Drafts.{DraftFits}
+use Rattle.epoch_draft.proofs.MarkLemmas.{all_below}
 use Rattle.epoch_draft.proofs.StoreLemmas.{drawn_same, held_same, stored_same, typed_has}
 use Rattle.epoch_draft.specs.EpochWork.{draw_work, pairs_work, taking_work}
 use Rattle.epoch_draft.specs.Held.{held}
 use Rattle.epoch_draft.specs.Stores.{HasStores}
 use Rattle.epoch_draft.specs.Takes.{takes_work}
+use Rattle.epoch_engine.specs.Batches.{HasPlaces}
 use Rattle.epoch_engine.proofs.EngineLemmas.{opened_streams, outs_inside}
 use Rattle.epoch_engine.proofs.closing.draw_epoch.Goals as goal
 
@@ -17,7 +21,24 @@ draw-requires-clause-touched g c = opened_streams c.args.epoch.now.tuples c.args
 
 pub prepare-requires-clause-outs : goal.prepare-requires-clause-outs
 prepare-requires-clause-outs g c =
-    outs_inside c.args.plan.now c.requires.running.plan_is c.requires.running.can_draw.order (length c.draw.new.draft.made) c.in_ok-draw.ensures.drawn.fits.made c.as_slice-3.result.now c.as_slice-3.ensures
+    outs_inside c.args.plan.now c.requires.running.plan_is c.requires.running.can_draw.order (length c.draw.new.draft.made) c.in_ok-draw.ensures.drawn.fits.made c.args.plan.now.layout.outs refl
+
+-- the places are those of the printed streams
+pub prepare-requires-clause-printed : goal.prepare-requires-clause-printed
+prepare-requires-clause-printed g c =
+    let plan = c.args.plan.now in
+    subst (λ (m : ℕ). HasPlaces plan.layout.outs m plan.printed) (sym c.in_ok-draw.ensures.drawn.fits.made) c.requires.running.plan_is.places_printed
+
+-- the streams that are due are those that are marked
+pub prepare-requires-clause-due : goal.prepare-requires-clause-due
+prepare-requires-clause-due g c =
+    let draft = c.draw.new.draft in
+    let fits = c.in_ok-draw.ensures.drawn.fits in
+    let due = c.as_slice-3.result.now in
+    subst (λ (m : ℕ). All (λ stream. stream < m) due) (fits.due_below ∙ sym fits.made) (all_below draft.due fits.due due c.as_slice-3.ensures)
+
+pub prepare-requires-clause-all_due : goal.prepare-requires-clause-all_due
+prepare-requires-clause-all_due g c = λ stream. subst (λ (due : List ℕ). (get_or c.draw.new.draft.made stream [] ≡ []) ⊎ Contains due stream) (sym c.as_slice-3.ensures) (c.in_ok-draw.ensures.drawn.fits.due_all stream)
 
 pub make_room-requires-clause-fits : goal.make_room-requires-clause-fits
 make_room-requires-clause-fits g c =
@@ -55,8 +76,8 @@ returns-in_err-draw-clause-ticks g c =
     let plan = c.args.plan.now in
     subst (λ (net : Net). c.draw.new.steps ≤ c.args.steps.now + draw_work net plan.layout (held c.args.stores.now) (streams_of c.args.epoch.now.tuples)) c.network.ensures.value c.draw.ensures.ticks
 
-pub returns-in_err-batch-clause-ticks : goal.returns-in_err-batch-clause-ticks
-returns-in_err-batch-clause-ticks g c =
+pub returns-in_err-entries-clause-ticks : goal.returns-in_err-entries-clause-ticks
+returns-in_err-entries-clause-ticks g c =
     let plan = c.args.plan.now in
     subst (λ (net : Net). c.draw.new.steps ≤ c.args.steps.now + draw_work net plan.layout (held c.args.stores.now) (streams_of c.args.epoch.now.tuples)) c.network.ensures.value c.draw.ensures.ticks
 

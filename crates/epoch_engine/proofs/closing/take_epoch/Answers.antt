@@ -27,7 +27,7 @@ returns-clause-taken g c =
     IfSome_then epoch.time c.settle_epoch.ensures.settled
     (λ time closed.
     subst (λ (stores : Stores). IsTaken plan.merged plan.layout time stores (streams_of epoch.tuples) (held after) batch) (sym (held_same c.args.stores.now mid c.draw_epoch.ensures.same))
-    (taken plan.merged plan.layout time mid after epoch.tuples batch drawing.draft drawing.pairs c.requires.running.plan_is.printed c.in_ok-batch.ensures.drawn closed c.settle_epoch.ensures.batch))
+    (taken plan.merged plan.layout time mid after epoch.tuples batch drawing.draft drawing.pairs c.requires.running.plan_is.printed c.in_ok-entries.ensures.drawn closed c.settle_epoch.ensures.batch))
 
 -- and the stores are typed
 pub returns-clause-typed : goal.returns-clause-typed
@@ -37,11 +37,11 @@ returns-clause-typed g c =
     let drawing = c.draw_epoch.new.drawing in
     let mid = c.draw_epoch.new.stores in
     typed_after plan.merged plan.layout mid c.settle_epoch.new.stores epoch.tuples drawing.draft drawing.pairs
-    (can_draw_same plan.merged plan.layout c.args.stores.now mid epoch.tuples c.draw_epoch.ensures.same c.requires.running.can_draw) c.in_ok-batch.ensures.drawn epoch.time c.requires.opened c.settle_epoch.ensures.settled
+    (can_draw_same plan.merged plan.layout c.args.stores.now mid epoch.tuples c.draw_epoch.ensures.same c.requires.running.can_draw) c.in_ok-entries.ensures.drawn epoch.time c.requires.opened c.settle_epoch.ensures.settled
 
 -- want of memory comes in the first half
-pub returns-in_err-batch-clause-ticks : goal.returns-in_err-batch-clause-ticks
-returns-in_err-batch-clause-ticks g c = let one = c.draw_epoch.ensures.ticks in omega (arith, one)
+pub returns-in_err-entries-clause-ticks : goal.returns-in_err-entries-clause-ticks
+returns-in_err-entries-clause-ticks g c = let one = c.draw_epoch.ensures.ticks in omega (arith, one)
 
 -- both halves together
 pub returns-clause-ticks : goal.returns-clause-ticks
@@ -51,4 +51,4 @@ returns-clause-ticks g c =
     ap (λ (st : Stores). taking_work plan.merged plan.layout st (streams_of c.args.epoch.now.tuples)) (held_same c.args.stores.now c.draw_epoch.new.stores c.draw_epoch.ensures.same) in
     let one = c.draw_epoch.ensures.ticks in
     let two = c.settle_epoch.ensures.ticks in
-    let takes = c.in_ok-batch.ensures.takes in omega (arith, same, one, two, takes)
+    let takes = c.in_ok-entries.ensures.takes in omega (arith, same, one, two, takes)

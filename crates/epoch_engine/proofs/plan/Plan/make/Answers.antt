@@ -5,12 +5,16 @@ use Rattle.automaton.specs.States.{Net}
 use Rattle.stream_readers.specs.Readers.{AreReadersOf}
 use Rattle.epoch_draft.specs.Agenda.{ArePlaces}
 use Rattle.epoch_draft.specs.Purging.{ListsBounded}
+use Rattle.epoch_engine.specs.Batches.{HasPlaces}
 use Rattle.epoch_engine.proofs.EngineLemmas.{order_below, order_once, outs_below}
 use Rattle.epoch_engine.proofs.plan.Plan.make.Goals as goal
 
 -- printed streams have kinds
 pub last_places-requires : goal.last_places-requires
-last_places-requires c = subst (λ (m : ℕ). All (λ s. s < m) c.args.layout.outs) (sym c.len-3.ensures) (outs_below c.args.merged c.args.layout c.requires)
+last_places-requires c = subst (λ (m : ℕ). All (λ s. s < m) c.args.layout.outs) (sym c.len-4.ensures) (outs_below c.args.merged c.args.layout c.requires)
+
+pub printed_places-requires : goal.printed_places-requires
+printed_places-requires c = subst (λ (m : ℕ). All (λ s. s < m) c.args.layout.outs) (sym c.len-3.ensures) (outs_below c.args.merged c.args.layout c.requires)
 
 -- derived streams have kinds
 pub places_of-requires-clause-below : goal.places_of-requires-clause-below
@@ -31,5 +35,6 @@ returns-clause-is c =
       places = subst (λ (streams : ℕ). ArePlaces c.args.layout.order streams c.in_ok-places.places) c.len-2.ensures (subst (λ (order : List ℕ). ArePlaces order c.len-2.result c.in_ok-places.places) c.as_slice.ensures c.in_ok-places.ensures);
       bounded = subst (λ (net : Net). ListsBounded net (length net) c.in_ok-bounded.bounded) c.network-2.ensures.value c.in_ok-bounded.ensures;
       printed = search rules;
-      last = c.in_ok-last.ensures ∙ c.len-3.ensures;
+      places_printed = subst (λ (m : ℕ). HasPlaces c.args.layout.outs m c.in_ok-printed.printed) c.len-3.ensures c.in_ok-printed.ensures;
+      last = c.in_ok-last.ensures ∙ c.len-4.ensures;
     }
