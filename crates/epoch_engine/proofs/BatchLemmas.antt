@@ -1,7 +1,7 @@
 -- Batches are prepared and filled, entry by entry.
 use Rattle.std.proofs.Common.{◌≡◌, ◌∙◌, sym, ap, refl, subst, inl, inr, ℕ, ◌+◌, ◌==◌, ◌<◌, ◌≤◌, ◌⊎◌, Bool, true, false, cond, length, get_or, set, take, List, [], ◌∷◌, ◌++◌, map, zero-add, arith}
 use Rattle.std.specs.Prelude.{Contains}
-use Rattle.std.specs.List.{All, range_with_len}
+use Rattle.std.specs.List.{All}
 use Rattle.std.specs.List.Sorted.{IsStrictlyIncreasing}
 use Rattle.std.proofs.Math.Seq.{map-set_same}
 use Rattle.std.proofs.lemmas.Bool.Decides.{nat_tests}
@@ -15,7 +15,7 @@ use Rattle.event_types.proofs.NumberLemmas.{is_other, is_same, other_number, sam
 use Rattle.automaton.proofs.NumberLemmas.{are_same_or_not}
 use Rattle.epoch_draft.proofs.AgendaLemmas.{first_or_other}
 use Rattle.epoch_draft.proofs.Lists.{below_or_last}
-use Rattle.epoch_engine.specs.Batches.{AreFilled, ArePlacesOf, AreReady, HasPlaces, HaveAll, IsOfMade, IsReady, made_for}
+use Rattle.epoch_engine.specs.Batches.{AreFilled, ArePlacesOf, AreReady, HasPlaces, IsOfMade, IsReady, made_for}
 use Rattle.epoch_engine.specs.Entries.{AreEntriesOf, AreInOrder, lists_of, places_in, tuples_at}
 use Rattle.epoch_engine.specs.declared.batch.Entry.{Entry}
 

@@ -1,7 +1,6 @@
 use Rattle.std.proofs.Common.{sym, subst, List}
 use Rattle.event_types.specs.Tuple.{TupleView}
 use Rattle.epoch_engine.specs.Entries.{AreEntriesOf}
-use Rattle.epoch_engine.specs.declared.batch.Entry.{Entry}
 use Rattle.epoch_engine.proofs.BatchLemmas.{entries_of}
 use Rattle.epoch_engine.proofs.batch.Batch.entries.Goals as goal
 
