@@ -1,10 +1,15 @@
--- The result lines of an epoch, query by query.
-use Rattle.std.proofs.Common.{◌≡◌, ◌∙◌, sym, ap, refl, ℕ, ◌+◌, ◌<◌, ◌≤◌, suc, add-one, zero-add, List, [], ◌∷◌, ◌++◌, map, drop, drop-cons, length, append_assoc, append-nil, Option, Some, slice_get}
-use Rattle.std.specs.List.{flat_map, range_with_len}
+-- The result lines of an epoch, entry by entry.
+use Rattle.std.proofs.Common.{◌≡◌, ◌∙◌, sym, ap, refl, subst, ℕ, ◌+◌, ◌==◌, ◌<◌, ◌≤◌, zero, suc, zero-add, Bool, true, false, cond, List, [], ◌∷◌, ◌++◌, map, get_or, length, take, append_assoc, append-nil, Option, Some, slice_get, arith}
+use Rattle.std.specs.Prelude.{⊤, AllPairs}
+use Rattle.std.specs.List.{All, flat_map, range_with_len}
 use Rattle.std.specs.Option.{option_map}
-use Rattle.std.proofs.lemmas.Option.{get_or_from_slice_get, slice_get-map, slice_get_read, slice_get_within}
-use Rattle.std.proofs.lemmas.List.{drop_all}
+use Rattle.std.proofs.lemmas.Bool.Decides.{nat_tests}
+use Rattle.std.proofs.lemmas.Grind.{flat_map-append}
+use Rattle.std.proofs.lemmas.Option.{slice_get-map, slice_get_read, slice_get_within}
+use Rattle.std.proofs.lemmas.List.{get_or-map, length-map, take_more}
+use Rattle.std.proofs.lemmas.List.Elements.{All-get_or, All-head, All-tail}
 use Rattle.std.proofs.lemmas.List.FromFn.{get_or-range_with_len, length-map-range_with_len, length-range_with_len}
+use Rattle.std.proofs.lemmas.List.Kept.{AllPairs-from_increasing}
 use Rattle.event_types.specs.Tuple.{TupleView}
 use Rattle.semantics.specs.Histories.{Event}
 use Rattle.semantics.specs.Programs.{Program, Query}
@@ -14,6 +19,8 @@ use Rattle.stream_schema.specs.Streams.{stream_names}
 use Rattle.catalogue.specs.Catalogued.{Catalogued, IsAccepted, judged_of}
 use Rattle.catalogue.specs.Judgement.{query_at}
 use Rattle.catalogue.proofs.ProgramLemmas.{streams_have_their_names}
+use Rattle.epoch_engine.specs.Entries.{AreEntriesOf, places_in, tuples_at}
+use Rattle.epoch_engine.specs.declared.batch.Entry.{Entry}
 use Rattle.session.specs.BatchLines.{batch_lines}
 use Rattle.session.specs.EngineStandsWithLastOpen.{program_over}
 
@@ -26,31 +33,92 @@ pub lines_are : (program : Program) (history : List Event) (time : ℕ) (queries
 lines_are program history time [] = refl
 lines_are program history time (query ∷ queries) = ap (λ rest. flat_map (line query.name) (results program history query.stream time) ++ rest) (lines_are program history time queries)
 
--- the list from a place on: the item there, and the others
-cut : {X : Type 0} (xs : List X) (i : ℕ) (x : X) → slice_get xs i ≡ Some x → drop i xs ≡ x ∷ drop (i + 1) xs
-cut xs i x e = drop-cons xs i x (slice_get_within xs i x e) ∙ ap (λ y. y ∷ drop (suc i) xs) (get_or_from_slice_get xs i x x e) ∙ ap (λ n. x ∷ drop n xs) (sym (add-one i))
+other_tests : (m n : ℕ) → (m ≡ n → ⊥) → (m == n) ≡ false
+other_tests m n e = grind (arith, nat_tests)
 
--- the lines from a place on: those of the query there, and the others
-lines_next : (queries : List Query) (lists : List (List TupleView)) (place : ℕ) (query : Query) (tuples : List TupleView) → slice_get queries place ≡ Some query → slice_get lists place ≡ Some tuples
-    → batch_lines (drop place queries) (drop place lists) ≡ flat_map (line query.name) tuples ++ batch_lines (drop (place + 1) queries) (drop (place + 1) lists)
-lines_next queries lists place query tuples q t =
-    ap (λ qs. batch_lines qs (drop place lists)) (cut queries place query q) ∙ ap (batch_lines (query ∷ drop (place + 1) queries)) (cut lists place tuples t)
+same_number : (m n : ℕ) → (m == n) ≡ true → m ≡ n
+same_number m n e = grind (arith, nat_tests)
 
--- these lines were put behind the rows, and those from a place on are still to be put
-abbrev pub IsPut : List Query → List (List TupleView) → ℕ → List ℕ → List ℕ → Type 0
-IsPut queries lists place old new = new ++ batch_lines (drop place queries) (drop place lists) ≡ old ++ batch_lines queries lists
+other_number : (m n : ℕ) → (m == n) ≡ false → m ≡ n → ⊥
+other_number m n e same = grind (arith, nat_tests)
 
--- the rows of one more query were put
-pub put_next : (queries : List Query) (lists : List (List TupleView)) (place : ℕ) (query : Query) (tuples : List TupleView) (old now new : List ℕ) → slice_get queries place ≡ Some query → slice_get lists place ≡ Some tuples
-    → new ≡ now ++ flat_map (line query.name) tuples → IsPut queries lists place old now → IsPut queries lists (place + 1) old new
-put_next queries lists place query tuples old now new q t e put =
-    let rest = batch_lines (drop (place + 1) queries) (drop (place + 1) lists) in
-    ap (λ rows. rows ++ rest) e ∙ append_assoc now (flat_map (line query.name) tuples) rest ∙ ap (λ rows. now ++ rows) (sym (lines_next queries lists place query tuples q t)) ∙ put
+-- the places of entries rise from a number on
+abbrev RiseFrom : ℕ → List Entry → Type 0
+RiseFrom start [] = ⊤
+RiseFrom start (entry ∷ entries) = (start ≤ entry.place) × RiseFrom (entry.place + 1) entries
 
--- behind all queries the rows of all were put
-pub put_all : (queries : List Query) (lists : List (List TupleView)) (place : ℕ) (old new : List ℕ) → length queries ≤ place → IsPut queries lists place old new → new ≡ old ++ batch_lines queries lists
-put_all queries lists place old new end put =
-    sym (append-nil new) ∙ ap (λ qs. new ++ batch_lines qs (drop place lists)) (sym (drop_all place queries end)) ∙ put
+-- places that rise do so from any number that is below them
+rise_from : (start : ℕ) (entries : List Entry) → All (λ place. start ≤ place) (places_in entries) → AllPairs (λ (x : ℕ) y. x < y) (places_in entries) → RiseFrom start entries
+rise_from start [] above pairs = tt
+rise_from start (entry ∷ entries) above pairs = (
+  All-head (λ place. start ≤ place) entry.place (places_in entries) above,
+  rise_from (entry.place + 1) entries
+      (λ k d lt. let less : entry.place < get_or (places_in entries) k d = pairs 0 (suc k) d (omega arith) (omega (arith, lt)) in omega (arith, less))
+      (λ i j d less lt. pairs (suc i) (suc j) d (omega (arith, less)) (omega (arith, lt))),
+)
+
+-- before the first place there are no tuples
+none_before : (start place : ℕ) (entries : List Entry) → place < start → RiseFrom start entries → tuples_at entries place ≡ []
+none_before start place [] less rise = refl
+none_before start place (entry ∷ entries) less rise =
+    ap (λ b. cond b entry.tuples (tuples_at entries place)) (other_tests entry.place place (λ same. absurd (omega (arith, same, less, rise.0))))
+    ∙ none_before (entry.place + 1) place entries (omega (arith, less, rise.0)) rise.1
+
+-- behind the first place its entry has no part in the tuples
+others_behind : (entry : Entry) (entries : List Entry) (start many : ℕ) → entry.place < start → map (tuples_at (entry ∷ entries)) (range_with_len start many) ≡ map (tuples_at entries) (range_with_len start many)
+others_behind entry entries start zero less = refl
+others_behind entry entries start (suc many) less = λ i.
+    ap (λ b. cond b entry.tuples (tuples_at entries start)) (other_tests entry.place start (λ same. absurd (omega (arith, same, less)))) i ∷ others_behind entry entries (start + 1) many (omega (arith, less)) i
+
+-- the lines of an entry of a query with a name
+abbrev pub lines_by : (ℕ → List ℕ) → Entry → List ℕ
+lines_by names entry = flat_map (line (names entry.place)) entry.tuples
+
+module _ (names : ℕ → List ℕ) where
+  -- the queries have these names, from a place on
+  abbrev AreNames : ℕ → List Query → Type 0
+  AreNames start [] = ⊤
+  AreNames start (query ∷ queries) = (names start ≡ query.name) × AreNames (start + 1) queries
+
+  are_names : (start : ℕ) (queries : List Query) → ((place : ℕ) (query : Query) → slice_get queries place ≡ Some query → names (start + place) ≡ query.name) → AreNames start queries
+  are_names start [] each = tt
+  are_names start (query ∷ queries) each = (
+    subst (λ n. names n ≡ query.name) (let same : start + 0 ≡ start = omega arith in same) (each 0 query refl),
+    are_names (start + 1) queries (λ place other found. subst (λ n. names n ≡ other.name) (let same : start + suc place ≡ (start + 1) + place = omega arith in same) (each (suc place) other found)),
+  )
+
+  -- by induction on the queries from a place on: the lines of the entries are those of the lists
+  lines_from : (queries : List Query) (start end : ℕ) (entries : List Entry) → start + length queries ≡ end → AreNames start queries → RiseFrom start entries → All (λ place. place < end) (places_in entries)
+      → batch_lines queries (map (tuples_at entries) (range_with_len start (length queries))) ≡ flat_map (lines_by names) entries
+  lines_from [] start end [] e named rise below = refl
+  lines_from [] start end (entry ∷ entries) e named rise below = absurd (let less = All-head (λ place. place < end) entry.place (places_in entries) below in omega (arith, e, less, rise.0))
+  lines_from (query ∷ queries) start end [] e named rise below = lines_from queries (start + 1) end [] (omega (arith, e)) named.1 tt below
+  lines_from (query ∷ queries) start end (entry ∷ entries) e named rise below =
+      go (entry.place == start) refl
+      (λ same. lines_from queries (start + 1) end entries (omega (arith, e)) named.1 (subst (λ n. RiseFrom (n + 1) entries) same rise.1) (All-tail (λ place. place < end) entry.place (places_in entries) below))
+      (λ above. lines_from queries (start + 1) end (entry ∷ entries) (omega (arith, e)) named.1 (above, rise.1) below)
+    where
+      rest : List Entry → List (List TupleView)
+      rest es = map (tuples_at es) (range_with_len (start + 1) (length queries))
+
+      go : (b : Bool) → (entry.place == start) ≡ b → (entry.place ≡ start → batch_lines queries (rest entries) ≡ flat_map (lines_by names) entries)
+          → (start + 1 ≤ entry.place → batch_lines queries (rest (entry ∷ entries)) ≡ flat_map (lines_by names) (entry ∷ entries))
+          → flat_map (line query.name) (cond b entry.tuples (tuples_at entries start)) ++ batch_lines queries (rest (entry ∷ entries)) ≡ flat_map (line (names entry.place)) entry.tuples ++ flat_map (lines_by names) entries
+      go true t here later =
+          let same = same_number entry.place start t in
+          ap (λ name. flat_map (line name) entry.tuples ++ batch_lines queries (rest (entry ∷ entries))) (sym named.0 ∙ ap names (sym same))
+          ∙ ap (λ lists. flat_map (line (names entry.place)) entry.tuples ++ batch_lines queries lists) (others_behind entry entries (start + 1) (length queries) (omega (arith, same)))
+          ∙ ap (λ lines. flat_map (line (names entry.place)) entry.tuples ++ lines) (here same)
+      go false t here later =
+          let other = other_number entry.place start t in
+          ap (λ tuples. flat_map (line query.name) tuples ++ batch_lines queries (rest (entry ∷ entries))) (none_before (entry.place + 1) start entries (omega (arith, rise.0)) rise.1)
+          ∙ later (omega (arith, rise.0, other))
+
+-- the place of an entry is one of theirs
+pub place_below : (bound : ℕ) (entries : List Entry) (i : ℕ) (entry : Entry) → i < length entries → get_or entries i entry ≡ entry → All (λ place. place < bound) (places_in entries) → entry.place < bound
+place_below bound entries i entry lt at below =
+    subst (λ place. place < bound) (get_or-map (λ (e : Entry). e.place) entries i entry 0 lt ∙ ap (λ (e : Entry). e.place) at)
+    (All-get_or (λ place. place < bound) (places_in entries) i 0 (omega (arith, lt, length-map entries (λ (e : Entry). e.place))) below)
 
 -- the numbers below a bound, each at its place
 number_at : (many number : ℕ) → number < many → slice_get (range_with_len 0 many) number ≡ Some number
@@ -74,3 +142,34 @@ module _ (c : Catalogued) where
     where
       some_is : {X : Type 0} {x y : X} → ◌≡◌ {A = Option X} (Some x) (Some y) → x ≡ y
       some_is e = cc
+
+  -- the result lines of an entry
+  abbrev pub entry_lines : Entry → List ℕ
+  entry_lines = lines_by (λ place. (query_at (judged_of c) place).name)
+
+  -- the lines of the queries are those of the entries
+  pub lines_by_entries : (lists : List (List TupleView)) (entries : List Entry) → length lists ≡ length c.order → AreEntriesOf lists entries → batch_lines (program_over c).queries lists ≡ flat_map entry_lines entries
+  lines_by_entries lists entries many are =
+      let queries = (program_over c).queries in
+      let names : ℕ → List ℕ = λ place. (query_at (judged_of c) place).name in
+      let same : length lists ≡ length queries = many ∙ sym as_many in
+      ap (batch_lines queries) (are.all ∙ ap (λ n. map (tuples_at entries) (range_with_len 0 n)) same)
+      ∙ lines_from names queries 0 (length queries) entries (zero-add (length queries)) (are_names names 0 queries named)
+      (rise_from 0 entries (λ k d lt. omega arith) (AllPairs-from_increasing (places_in entries) are.in_order.rise)) (subst (λ n. All (λ place. place < n) (places_in entries)) same are.in_order.below)
+    where
+      named : (place : ℕ) (query : Query) → slice_get (program_over c).queries place ≡ Some query → (query_at (judged_of c) (0 + place)).name ≡ query.name
+      named place query found =
+          ap (λ n. (query_at (judged_of c) n).name) (zero-add place)
+          ∙ ap (λ (q : Query). q.name) (some_is (sym (query_there place (subst (λ n. place < n) as_many (slice_get_within (program_over c).queries place query found))) ∙ found))
+        where
+          some_is : {x y : Query} → ◌≡◌ {A = Option Query} (Some x) (Some y) → x ≡ y
+          some_is e = cc
+
+  -- the lines of one entry more
+  pub entry_more : (entries : List Entry) (i : ℕ) (entry : Entry) (old now new name : List ℕ) → i < length entries → get_or entries i entry ≡ entry → (query_at (judged_of c) entry.place).name ≡ name
+      → new ≡ now ++ flat_map (line name) entry.tuples → now ≡ old ++ flat_map entry_lines (take i entries) → new ≡ old ++ flat_map entry_lines (take (i + 1) entries)
+  entry_more entries i entry old now new name lt at named e was =
+      let before = flat_map entry_lines (take i entries) in
+      e ∙ ap (λ rows. rows ++ flat_map (line name) entry.tuples) was ∙ append_assoc old before (flat_map (line name) entry.tuples)
+      ∙ ap (λ n. old ++ (before ++ flat_map (line n) entry.tuples)) (sym named) ∙ ap (λ rows. old ++ (before ++ rows)) (sym (append-nil (entry_lines entry)))
+      ∙ ap (λ rows. old ++ rows) (sym (flat_map-append entry_lines (take i entries) (entry ∷ [])) ∙ ap (flat_map entry_lines) (ap (λ x. take i entries ++ x ∷ []) (sym at) ∙ sym (take_more entries i entry lt)))

@@ -1,9 +1,7 @@
 //! The rows of closed epochs, on their way to the output.
 ghost use Rattle.std.specs.Prelude.{◌≡◌, ◌++◌, [], ℕ, List, length, OnOk, OnErr};
-ghost use Rattle.std.specs.List.{flat_map};
 ghost use Rattle.cay_host.specs.Faults.{Rose};
 ghost use Rattle.cay_host.specs.Output.{Wrote, WrotePart, SameButOutput};
-ghost use Rattle.semantics.specs.Report.{line};
 ghost use Rattle.catalogue.specs.Catalogued.{IsAccepted};
 ghost use Rattle.session.specs.BatchLines.{batch_lines};
 ghost use Rattle.session.specs.EngineStandsWithLastOpen.{program_over};
@@ -12,7 +10,7 @@ ghost use Rattle.session.specs.Owes.{Owes};
 use catalogue::Catalogue;
 use cay_host::{Failed, Host, write_whole};
 use epoch_engine::Batch;
-use event_types::{Memory, Tuples};
+use event_types::Memory;
 use result_text::Rows;
 
 /// Rows are written once there are so many bytes of them.
@@ -24,21 +22,12 @@ pub fn put_batch(catalogue: &Catalogue, batch: &Batch, rows: &mut Rows) -> Resul
     ensures put { OnOk result (rows.new ≡ rows.old ++ batch_lines (program_over catalogue.now).queries batch.now) }
     ensures accepted { IsAccepted catalogue.now }
 {
-    for number in 0..catalogue.queries() {
-        let name = catalogue.streams().name(catalogue.stream_of(number));
-        put_tuples(name, batch.get(number), rows)?;
+    let streams = catalogue.streams();
+    for entry in batch.entries() {
+        let name = streams.name(catalogue.stream_of(entry.place));
+        rows.append(name, entry.tuples.as_slice())?;
     }
     Ok(())
-}
-
-// Appends the result lines of a query's tuples.
-fn put_tuples(name: &str, tuples: &Tuples, rows: &mut Rows) -> Result<(), Memory>
-    ensures { OnOk result (rows.new ≡ rows.old ++ flat_map (line name.now) tuples.now) }
-{
-    if tuples.len() == 0 {
-        return Ok(());
-    }
-    rows.append(name, tuples.as_slice())
 }
 
 /// Writes the rows once there are many. Takes no memory.

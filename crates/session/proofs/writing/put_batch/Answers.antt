@@ -1,25 +1,39 @@
-use Rattle.std.proofs.Common.{◌∙◌, ◌++◌, ◌<◌, length, ap, sym, arith}
+use Rattle.std.proofs.Common.{◌≡◌, ◌∙◌, ◌++◌, ◌<◌, ◌≤◌, ℕ, List, length, ap, subst, sym, arith}
 use Rattle.std.specs.List.{flat_map}
 use Rattle.semantics.specs.Report.{line}
 use Rattle.catalogue.specs.Catalogued.{judged_of}
 use Rattle.catalogue.specs.Judgement.{query_at}
-use Rattle.session.specs.EngineStandsWithLastOpen.{program_over}
-use Rattle.session.proofs.BatchLinesLemmas.{as_many, name_is, put_all, put_next, query_there}
+use Rattle.epoch_engine.specs.declared.batch.Entry.{Entry}
+use Rattle.epoch_draft.proofs.Lists.{taken_all}
+use Rattle.session.proofs.BatchLinesLemmas.{entry_lines, entry_more, lines_by_entries, name_is, place_below}
 use Rattle.session.proofs.writing.put_batch.Goals as goal
 
--- the lines of one more query were put
-pub loop-number-preserved : goal.loop-number-preserved
-loop-number-preserved c =
-    let now = c.args.catalogue.now in
-    let number = c.loop-number.number in
-    let less : number < length now.order = omega (arith, c.loop-number-test.true, c.queries-number-end.ensures.value) in
-    let name = name_is now c.streams.ensures.is_accepted number c.stream_of.result c.name-name.result.now less c.stream_of.ensures.value (rw c.streams.ensures.value at c.name-name.ensures) in
-    put_next (program_over now).queries c.args.batch.now number (query_at (judged_of now) number) c.get.result.now c.args.rows.now c.loop-number.rows c.put_tuples.new.rows
-    (query_there now number less) c.get.ensures (c.in_ok-put_tuples.ensures ∙ ap (λ n. c.loop-number.rows ++ flat_map (line n) c.get.result.now) (sym name)) c.loop-number.invariant
+-- the place of an entry is the number of a query
+pub stream_of-requires : goal.stream_of-requires
+stream_of-requires c =
+    let entries = c.entries-entry-items.result.now in
+    let i = c.loop-entry.entry-index in
+    let entry = c.entry-item.result in
+    subst (λ n. entry.place < n) c.requires (place_below (length c.args.batch.now) entries i entry (omega arith) (sym c.entry-item.is) c.entries-entry-items.ensures.in_order.below)
 
--- the lines of all queries were put
+-- the lines of one entry more were put
+pub loop-entry-preserved : goal.loop-entry-preserved
+loop-entry-preserved c =
+    let now = c.args.catalogue.now in
+    let entries = c.entries-entry-items.result.now in
+    let i = c.loop-entry.entry-index in
+    let entry = c.entry-item.result in
+    let less : entry.place < length now.order = subst (λ n. entry.place < n) c.requires (place_below (length c.args.batch.now) entries i entry (omega arith) (sym c.entry-item.is) c.entries-entry-items.ensures.in_order.below) in
+    let name = name_is now c.streams-streams.ensures.is_accepted entry.place c.stream_of.result c.name-name.result.now less c.stream_of.ensures.value (rw c.streams-streams.ensures.value at c.name-name.ensures) in
+    let lt : i < length entries = omega arith in
+    entry_more now entries i entry c.args.rows.now c.loop-entry.rows c.append.new.self c.name-name.result.now lt (sym c.entry-item.is) name
+    (c.in_ok-append.ensures.appended ∙ ap (λ tuples. c.loop-entry.rows ++ flat_map (line c.name-name.result.now) tuples) c.as_slice.ensures) c.loop-entry.invariant
+
+-- the lines of all entries were put
 pub returns-clause-put : goal.returns-clause-put
 returns-clause-put c =
     let now = c.args.catalogue.now in
-    let many = as_many now in
-    put_all (program_over now).queries c.args.batch.now c.loop-number.number c.args.rows.now c.loop-number.rows (omega (arith, many, c.loop-number-test.false, c.queries-number-end.ensures.value)) c.loop-number.invariant
+    let entries = c.entries-entry-items.result.now in
+    let past : length entries ≤ c.loop-entry.entry-index = omega arith in
+    c.loop-entry.invariant ∙ ap (λ (es : List Entry). c.args.rows.now ++ flat_map (entry_lines now) es) (taken_all entries c.loop-entry.entry-index past)
+    ∙ ap (λ rows. c.args.rows.now ++ rows) (sym (lines_by_entries now c.args.batch.now entries c.requires c.entries-entry-items.ensures))

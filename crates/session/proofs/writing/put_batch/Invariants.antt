@@ -1,7 +1,8 @@
-use Rattle.session.specs.EngineStandsWithLastOpen.{program_over}
-use Rattle.session.proofs.BatchLinesLemmas.{IsPut}
+use Rattle.std.proofs.Common.{◌≡◌, ◌++◌, take}
+use Rattle.std.specs.List.{flat_map}
+use Rattle.session.proofs.BatchLinesLemmas.{entry_lines}
 use Rattle.session.proofs.writing.put_batch.Given as goal
 
--- the lines of the queries so far were put
-abbrev pub invariant-loop-number : goal.invariant-loop-number
-invariant-loop-number l = IsPut (program_over l.catalogue).queries l.batch l.number l.initial.rows l.rows
+-- the lines of the entries so far were put
+abbrev pub invariant-loop-entry : goal.invariant-loop-entry
+invariant-loop-entry l = l.rows ≡ l.initial.rows ++ flat_map (entry_lines l.catalogue) (take l.entry-index l.entry-items)
