@@ -1,10 +1,10 @@
 use Rattle.std.proofs.Common.{◌≡◌, ◌∙◌, ◌++◌, ◌<◌, ◌≤◌, ℕ, List, length, ap, subst, sym, arith}
 use Rattle.std.specs.List.{flat_map}
+use Rattle.std.proofs.lemmas.List.{take_all}
 use Rattle.semantics.specs.Report.{line}
 use Rattle.catalogue.specs.Catalogued.{judged_of}
 use Rattle.catalogue.specs.Judgement.{query_at}
 use Rattle.epoch_engine.specs.declared.batch.Entry.{Entry}
-use Rattle.epoch_draft.proofs.Lists.{taken_all}
 use Rattle.session.proofs.BatchLinesLemmas.{entry_lines, entry_more, lines_by_entries, name_is, place_below}
 use Rattle.session.proofs.writing.put_batch.Goals as goal
 
@@ -35,5 +35,5 @@ returns-clause-put c =
     let now = c.args.catalogue.now in
     let entries = c.entries-entry-items.result.now in
     let past : length entries ≤ c.loop-entry.entry-index = omega arith in
-    c.loop-entry.invariant ∙ ap (λ (es : List Entry). c.args.rows.now ++ flat_map (entry_lines now) es) (taken_all entries c.loop-entry.entry-index past)
+    c.loop-entry.invariant ∙ ap (λ (es : List Entry). c.args.rows.now ++ flat_map (entry_lines now) es) (take_all c.loop-entry.entry-index entries past)
     ∙ ap (λ rows. c.args.rows.now ++ rows) (sym (lines_by_entries now c.args.batch.now entries c.requires c.entries-entry-items.ensures))
