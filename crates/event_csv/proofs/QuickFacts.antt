@@ -1,12 +1,14 @@
 -- Fields at the front of a text, by the bytes that they end before.
-use Rattle.std.proofs.Common.{◌≡◌, ◌∙◌, ℕ, zero, suc, ◌+◌, ◌*◌, ◌-◌, ◌<◌, ◌≤◌, Bool, true, false, List, [], ◌∷◌, ◌++◌, length, take, drop, get_or, refl, sym, ap, arith, add-one, cond, Bor, IfSome, append-nil, append_assoc, length-append, eq-eqb, ◌^◌, Option, Some, None, Ok, option_map, ltb-true}
-use Rattle.std.specs.Prelude.{◌==◌, neg_ℤ, not, nat_le, nat_lt, pos, slice_get}
+use Rattle.std.proofs.Common.{◌≡◌, ◌∙◌, ℕ, zero, suc, ◌+◌, ◌*◌, ◌-◌, ◌<◌, ◌≤◌, Bool, true, false, List, [], ◌∷◌, ◌++◌, length, take, drop, get_or, refl, sym, ap, arith, add-one, cond, drop-cons, Bor, IfSome, append-nil, append_assoc, length-append, eq-eqb, ◌^◌, Option, Some, None, Ok, option_map, ltb-true}
+use Rattle.std.specs.Prelude.{◌==◌, IsUtf8, neg_ℤ, not, nat_le, nat_lt, pos, slice_get}
 use Rattle.std.specs.Char.{digit_value, is_ascii_digit}
 use Rattle.std.specs.List.{list_all}
+use Rattle.std.specs.Str.{IsAscii}
 use Rattle.std.specs.Str.Parse.{digits_value, digits_value_after}
 use Rattle.std.proofs.Math.Seq.{take-length, take-suc}
 use Rattle.std.proofs.lemmas.Bool.{le-leb, leb-true, and_parts}
-use Rattle.std.proofs.lemmas.List.{length-map, length-take-le}
+use Rattle.std.proofs.lemmas.List.{length-map, length-take-le, take-append-drop}
+use Rattle.std.proofs.lemmas.Str.{IsAscii-append, IsUtf8-append, IsUtf8-from_ascii, IsUtf8-nil}
 use Rattle.std.proofs.lemmas.List.Folds.{list_all_more}
 use Rattle.std.proofs.lemmas.List.Sums.{sum_by-cons}
 use Rattle.event_csv.specs.Lines.{is_line_feed}
@@ -22,7 +24,7 @@ use Rattle.event_types.specs.declared.value.Value.{Value}
 use Rattle.event_types.specs.declared.value.Value.TheVariants as value
 use Rattle.stream_schema.specs.Schema.{Attr, kinds_of}
 use Rattle.stream_schema.specs.Streams.{Entry, number_of, schemas_of}
-use Rattle.event_csv.specs.Quick.{HasDigits, IntFirst, IsFirst, IsPlainEnd, IsQuoteAt, IsQuoted, NumberFirst, SpanFirst, ValueFirst, WriteAll, is_simple, no_quote, read_left}
+use Rattle.event_csv.specs.Quick.{HasDigits, IntFirst, IsFirst, IsPlainEnd, IsQuoteAt, IsQuoted, IsText, NumberFirst, SpanFirst, ValueFirst, WriteAll, is_simple, no_quote, read_left}
 use Rattle.event_csv.proofs.PlainLines.{field_state, step-plain}
 use Rattle.event_csv.proofs.ValueFacts.{onto, onto-ok, read-more, values_of-all}
 use Rattle.event_csv.proofs.DigitFacts.{digit-at, digit_value-is}
@@ -56,6 +58,39 @@ is-digit b lo hi = rw (le-leb 48 b lo, le-leb b 57 hi) refl
 pub digits-more : (s : List ℕ) (i : ℕ) → i < length s → 48 ≤ get_or s i 0 → get_or s i 0 ≤ 57 → are_digits (take i s) ≡ true → are_digits (take (i + 1) s) ≡ true
 digits-more s i h lo hi e = list_all_more is_ascii_digit s i 0 h ∙ rw (e, is-digit (get_or s i 0) lo hi) refl
 
+-- a byte below 128 is of ASCII
+ascii-one : (b : ℕ) → b < 128 → IsAscii (b ∷ [])
+ascii-one b small zero = small
+ascii-one b small (suc i) = omega arith
+
+-- bytes of ASCII with one more are of ASCII
+pub ascii-more : (s : List ℕ) (i : ℕ) → i < length s → get_or s i 0 < 128 → IsAscii (take i s) → IsAscii (take (i + 1) s)
+ascii-more s i h small ascii =
+    let here : take (i + 1) s ≡ take i s ++ (get_or s i 0 ∷ []) = rw add-one (take-suc s i 0 h) in
+    rw here (IsAscii-append (take i s) (get_or s i 0 ∷ []) ascii (ascii-one (get_or s i 0) small))
+
+-- a byte of ASCII before a text makes a text
+utf8-before : (b : ℕ) (s : List ℕ) → b < 128 → IsUtf8 s → IsUtf8 (b ∷ s)
+utf8-before b s small text = IsUtf8-append (b ∷ []) s (IsUtf8-from_ascii (b ∷ []) (ascii-one b small)) text
+
+-- texts around a byte of ASCII make a text
+utf8-around : (s : List ℕ) (i : ℕ) → i < length s → get_or s i 0 < 128 → IsUtf8 (take i s) → IsUtf8 (drop (i + 1) s) → IsUtf8 s
+utf8-around s i h small front rest =
+    let here : drop i s ≡ get_or s i 0 ∷ drop (i + 1) s = rw (drop-cons s i 0, add-one) refl in
+    let whole : take i s ++ drop i s ≡ s = take-append-drop i s in
+    let joined : IsUtf8 (take i s ++ drop i s) =
+    rw here (IsUtf8-append (take i s) (get_or s i 0 ∷ drop (i + 1) s) front (utf8-before (get_or s i 0) (drop (i + 1) s) small rest)) in
+    rw whole at joined
+
+-- digits are of ASCII
+digits-ascii : (s : List ℕ) → are_digits s ≡ true → IsUtf8 s
+digits-ascii [] h = IsUtf8-nil
+digits-ascii (b ∷ s) h =
+    let both = and_parts (is_ascii_digit b) (are_digits s) h in
+    let e = and_parts (nat_le 48 b) (nat_le b 57) both.0 in
+    let hi : b ≤ 57 = leb-true b 57 e.1 in
+    utf8-before b s (omega (arith, hi)) (digits-ascii s both.1)
+
 plain-byte : (b : ℕ) → (b ≡ 34 → ⊥) → (b ≡ 10 → ⊥) → is_plain b ≡ true
 plain-byte b q l = rw (is_other b 34 q, is_other b 10 l) refl
 
@@ -84,8 +119,8 @@ digits-simple (b ∷ s) h =
     rw (simple-byte b (λ q. absurd (omega (arith, lo, q))) (λ l. absurd (omega (arith, lo, l))) (λ m. absurd (omega (arith, lo, m)))) (digits-simple s both.1)
 
 -- digits before a comma, or all, end plainly
-pub digits-end : (s : List ℕ) (number i : ℕ) → HasDigits s number i → (i < length s → get_or s i 0 ≡ 44) → IsPlainEnd s i
-digits-end s number i has there = record { within = has.within; simple = digits-simple (take i s) has.digits; ends = there }
+pub digits-end : (s : List ℕ) (number i : ℕ) → HasDigits s number i → (i < length s → get_or s i 0 ≡ 44) → IsPlainEnd s i false
+digits-end s number i has there = record { within = has.within; simple = digits-simple (take i s) has.digits; ascii = λ no. cc; ends = there }
 
 -- a number of so many digits has one more with a further digit
 pub power-more : (n i d : ℕ) → n < 10 ^ i → d ≤ 9 → n * 10 + d < 10 ^ (i + 1)
@@ -135,14 +170,18 @@ plain-rest (c ∷ s) b before field simple =
     )
 
 -- a plain field ends at its comma
-pub first-cut : (s : List ℕ) (i : ℕ) → IsPlainEnd s i → i < length s → IsFirst s (take i s) (Some (drop (i + 1) s))
-first-cut s i h lt = record { reads = λ before. plain-run s i false before [] lt h.simple (h.ends lt) }
+pub first-cut : (s : List ℕ) (i : ℕ) (is_ascii : Bool) → IsPlainEnd s i is_ascii → i < length s → IsUtf8 (take i s) → IsFirst s (take i s) (Some (drop (i + 1) s))
+first-cut s i is_ascii h lt text = record {
+  reads = λ before. plain-run s i false before [] lt h.simple (h.ends lt);
+  utf8 = λ rest. utf8-around s i lt (omega (arith, h.ends lt)) text rest;
+}
 
 -- a plain field may end with the line
-pub first-all : (s : List ℕ) (i : ℕ) → IsPlainEnd s i → i ≡ length s → IsFirst s s None
-first-all s i h e =
+pub first-all : (s : List ℕ) (i : ℕ) (is_ascii : Bool) → IsPlainEnd s i is_ascii → i ≡ length s → IsUtf8 (take i s) → IsFirst s (take i s) None
+first-all s i is_ascii h e text =
     let all : take i s ≡ s = rw e (take-length s) in
-    record { reads = λ before. plain-rest s false before [] (rw all at h.simple) }
+    let first : IsFirst s s None = record { reads = λ before. plain-rest s false before [] (rw all at h.simple); utf8 = λ rest. rw all at text } in
+    rw all first
 
 -- bytes up to a quote join a quoted field
 quoted-run : (s : List ℕ) (i : ℕ) (before : List (List ℕ)) (field : List ℕ) → i < length s → list_all no_quote (take i s) ≡ true → get_or s i 0 ≡ 34
@@ -171,19 +210,31 @@ unfolding next_record
 after-comma [] before field some there = absurd (omega arith)
 after-comma (c ∷ s) before field some there = let same : c ≡ 44 = there in rw same refl
 
+utf8-none : (s : List ℕ) → length s ≡ 0 → IsUtf8 s
+utf8-none [] none = IsUtf8-nil
+utf8-none (b ∷ s) none = absurd (omega arith)
+
 -- a quoted field may end with the line
-pub quoted-last : (s : List ℕ) (i : ℕ) → IsQuoteAt s i → length (drop (i + 1) s) ≡ 0 → IsQuoted s (take i s) None
-quoted-last s i h none = record { reads = λ before. quoted-run s i before [] h.within h.none h.here ∙ after-none (drop (i + 1) s) before (take i s) none }
+pub quoted-last : (s : List ℕ) (i : ℕ) (is_ascii : Bool) → IsQuoteAt s i is_ascii → length (drop (i + 1) s) ≡ 0 → IsUtf8 (take i s) → IsQuoted s (take i s) None
+quoted-last s i is_ascii h none text = record {
+  reads = λ before. quoted-run s i before [] h.within h.none h.here ∙ after-none (drop (i + 1) s) before (take i s) none;
+  utf8 = λ rest. utf8-around s i h.within (omega (arith, h.here)) text (utf8-none (drop (i + 1) s) none);
+}
 
 -- a quoted field ends at a quote before a comma
-pub quoted-cut : (s : List ℕ) (i : ℕ) → IsQuoteAt s i → 0 < length (drop (i + 1) s) → get_or (drop (i + 1) s) 0 0 ≡ 44 → IsQuoted s (take i s) (Some (drop 1 (drop (i + 1) s)))
-quoted-cut s i h some there = record { reads = λ before. quoted-run s i before [] h.within h.none h.here ∙ after-comma (drop (i + 1) s) before (take i s) some there }
+pub quoted-cut : (s : List ℕ) (i : ℕ) (is_ascii : Bool) → IsQuoteAt s i is_ascii → 0 < length (drop (i + 1) s) → get_or (drop (i + 1) s) 0 0 ≡ 44 → IsUtf8 (take i s)
+    → IsQuoted s (take i s) (Some (drop 1 (drop (i + 1) s)))
+quoted-cut s i is_ascii h some there text = record {
+  reads = λ before. quoted-run s i before [] h.within h.none h.here ∙ after-comma (drop (i + 1) s) before (take i s) some there;
+  utf8 = λ rest. utf8-around s i h.within (omega (arith, h.here)) text (utf8-around (drop (i + 1) s) 0 some (omega (arith, there)) IsUtf8-nil rest);
+}
 
 -- a quote begins a quoted field
 pub first-quoted : (s field : List ℕ) (left : Option (List ℕ)) → 0 < length s → get_or s 0 0 ≡ 34 → IsQuoted (drop 1 s) field left → IsFirst s field left
 unfolding next_record
 first-quoted [] field left some there h = absurd (omega arith)
-first-quoted (c ∷ s) field left some there h = let same : c ≡ 34 = there in record { reads = λ before. rw same (h.reads before) }
+first-quoted (c ∷ s) field left some there h =
+    let same : c ≡ 34 = there in record { reads = λ before. rw same (h.reads before); utf8 = λ rest. utf8-before c s (omega (arith, same)) (h.utf8 rest) }
 
 -- what is found behind a quote at the front is the first field
 pub some-quoted : (s : List ℕ) (r : Option (Bor (List ℕ) × Option (Bor (List ℕ)))) → 0 < length s → get_or s 0 0 ≡ 34
@@ -228,8 +279,11 @@ pub int-first : (s : List ℕ) (n : ℕ) (left : Option (List ℕ)) → NumberFi
 int-first s n left h = record { field = h.field; first = h.first; writes = ap (option_map value.Int) (int-digits h.field n h.some h.digits h.value h.fits) }
 
 -- a sign begins the field of the digits behind it
-signed-first : (sign : ℕ) (s : List ℕ) (n : ℕ) (left : Option (List ℕ)) → is_simple sign ≡ true → (h : NumberFirst s n left) → IsFirst (sign ∷ s) (sign ∷ h.field) left
-signed-first sign s n left simple h = record { reads = λ before. one-before sign s false before [] simple ∙ h.goes_on before (sign ∷ []) }
+signed-first : (sign : ℕ) (s : List ℕ) (n : ℕ) (left : Option (List ℕ)) → is_simple sign ≡ true → sign < 128 → (h : NumberFirst s n left) → IsFirst (sign ∷ s) (sign ∷ h.field) left
+signed-first sign s n left simple small h = record {
+  reads = λ before. one-before sign s false before [] simple ∙ h.goes_on before (sign ∷ []);
+  utf8 = λ rest. utf8-before sign s small (h.first.utf8 rest);
+}
 
 -- a minus writes the number below zero
 pub minus-first : (s : List ℕ) (n : ℕ) (left : Option (List ℕ)) → 0 < length s → get_or s 0 0 ≡ 45 → NumberFirst (drop 1 s) n left → IntFirst s (neg_ℤ (pos n)) left
@@ -238,7 +292,7 @@ minus-first (c ∷ s) n left some there h =
     let same : c ≡ 45 = there in
     let writes : int_of (45 ∷ h.field) ≡ Some (neg_ℤ (pos n)) =
     ap (option_map (λ n. neg_ℤ (pos n))) (number-up 170141183460469231731687303715884105728 h.field n h.some h.digits h.value (omega (arith, h.fits))) in
-    rw same (record { field = 45 ∷ h.field; first = signed-first 45 s n left refl h; writes = ap (option_map value.Int) writes })
+    rw same (record { field = 45 ∷ h.field; first = signed-first 45 s n left refl (omega arith) h; writes = ap (option_map value.Int) writes })
 
 -- a plus writes the number
 pub plus-first : (s : List ℕ) (n : ℕ) (left : Option (List ℕ)) → 0 < length s → get_or s 0 0 ≡ 43 → NumberFirst (drop 1 s) n left → IntFirst s (pos n) left
@@ -247,14 +301,14 @@ plus-first (c ∷ s) n left some there h =
     let same : c ≡ 43 = there in
     let writes : int_of (43 ∷ h.field) ≡ Some (pos n) =
     ap (option_map pos) (number-up 170141183460469231731687303715884105727 h.field n h.some h.digits h.value (omega (arith, h.fits))) in
-    rw same (record { field = 43 ∷ h.field; first = signed-first 43 s n left refl h; writes = ap (option_map value.Int) writes })
+    rw same (record { field = 43 ∷ h.field; first = signed-first 43 s n left refl (omega arith) h; writes = ap (option_map value.Int) writes })
 
 -- a number ends at its comma
 pub number-cut : (s : List ℕ) (n i : ℕ) → HasDigits s n i → (i ≡ 0 → ⊥) → i < length s → get_or s i 0 ≡ 44 → NumberFirst s n (Some (drop (i + 1) s))
 number-cut s n i has some lt there =
     let size = length-take-le i s has.within in record {
       field = take i s;
-      first = first-cut s i (digits-end s n i has (λ _. there)) lt;
+      first = first-cut s i false (digits-end s n i has (λ _. there)) lt (digits-ascii (take i s) has.digits);
       goes_on = λ before begun. plain-run s i true before begun lt (digits-simple (take i s) has.digits) there;
       some = omega (arith, size, some);
       digits = has.digits;
@@ -265,9 +319,10 @@ number-cut s n i has some lt there =
 -- a number may end with the line
 pub number-all : (s : List ℕ) (n i : ℕ) → HasDigits s n i → (i ≡ 0 → ⊥) → i ≡ length s → NumberFirst s n None
 number-all s n i has some e =
-    let all : take i s ≡ s = rw e (take-length s) in record {
+    let all : take i s ≡ s = rw e (take-length s) in
+    let first : IsFirst s (take i s) None = first-all s i false (digits-end s n i has (λ lt. absurd (omega (arith, lt, e)))) e (digits-ascii (take i s) has.digits) in record {
       field = s;
-      first = first-all s i (digits-end s n i has (λ lt. absurd (omega (arith, lt, e)))) e;
+      first = rw all at first;
       goes_on = λ before begun. plain-rest s true before begun (digits-simple s (rw all at has.digits));
       some = omega (arith, e, some);
       digits = rw all at has.digits;
@@ -278,11 +333,12 @@ number-all s n i has some e =
 -- a comma stands first, and then the detection
 pub span-short : (s : List ℕ) (n : ℕ) (left : Option (List ℕ)) → 0 < length s → get_or s 0 0 ≡ 44 → NumberFirst (drop 1 s) n left → SpanFirst s (n, n) left
 span-short s n left some there h =
-    let end : IsPlainEnd s 0 = record { within = omega arith; simple = refl; ends = λ lt. there } in record {
+    let end : IsPlainEnd s 0 false = record { within = omega arith; simple = refl; ascii = λ no. cc; ends = λ lt. there } in record {
       start = [];
       detection = h.field;
-      reads = λ before. (first-cut s 0 end some).reads before ∙ h.first.reads (before ++ [] ∷ []) ∙ ap (read_left left) (append_assoc before ([] ∷ []) (h.field ∷ []));
+      reads = λ before. (first-cut s 0 false end some IsUtf8-nil).reads before ∙ h.first.reads (before ++ [] ∷ []) ∙ ap (read_left left) (append_assoc before ([] ∷ []) (h.field ∷ []));
       times = rw (time-first (drop 1 s) n left h) refl;
+      utf8 = λ rest. (first-cut s 0 false end some IsUtf8-nil).utf8 (h.first.utf8 rest);
     }
 
 -- the start, and then the detection
@@ -294,6 +350,7 @@ span-long s rest n m left h g le =
       detection = g.field;
       reads = λ before. h.first.reads before ∙ g.first.reads (before ++ h.field ∷ []) ∙ ap (read_left left) (append_assoc before (h.field ∷ []) (g.field ∷ []));
       times = rw (some, time-first s n (Some rest) h, time-first rest m left g, early) refl;
+      utf8 = λ text. h.first.utf8 (g.first.utf8 text);
     }
 
 -- these values were read, one of each field so far
@@ -302,10 +359,11 @@ pub record SoFar (kinds : List Kind) (first now : Option (List ℕ)) (vals : Lis
   pub reads : (before : List (List ℕ)) → read_left first before ≡ read_left now (before ++ done)
   pub values : (more : List (List ℕ)) → values_of 4 kinds (done ++ more) ≡ onto vals (values_of (length vals + 4) (drop (length vals) kinds) more)
   pub many : length done ≡ length vals
+  pub utf8 : IsText now → IsText first
 
 -- at first no value was read
 pub none-yet : (kinds : List Kind) (first : Option (List ℕ)) → SoFar kinds first first []
-none-yet kinds first = record { done = []; reads = λ before. ap (read_left first) (sym (append-nil before)); values = λ more. refl; many = refl }
+none-yet kinds first = record { done = []; reads = λ before. ap (read_left first) (sym (append-nil before)); values = λ more. refl; many = refl; utf8 = λ text. text }
 
 -- one more value was read
 pub one-value : (kinds : List Kind) (first : Option (List ℕ)) (text : List ℕ) (left : Option (List ℕ)) (vals : List Value) (kind : Kind) (value : Value)
@@ -318,6 +376,7 @@ one-value kinds first text left vals kind value so v at =
       values = λ more. ap (values_of 4 kinds) (append_assoc so.done (v.field ∷ []) more)
           ∙ read-more (values_of 4 kinds (so.done ++ v.field ∷ more)) vals kinds kind value (v.field ∷ more) v.field more (length (vals ++ value ∷ [])) (so.values (v.field ∷ more)) refl at (sym v.writes) size;
       many = omega (arith, size, size-done, so.many);
+      utf8 = λ text. so.utf8 (v.first.utf8 text);
     }
 
 -- where as many were read as there are attributes, all were
@@ -327,6 +386,7 @@ all-values schema first vals so many = record {
   reads = so.reads;
   values = ap (values_of 4 (kinds_of schema)) (sym (append-nil so.done)) ∙ so.values [] ∙ ap (onto vals) (values_of-all (length vals + 4) (drop (length vals) (kinds_of schema))) ∙ onto-ok vals;
   many = so.many ∙ many;
+  utf8 = so.utf8 tt;
 }
 
 -- a line of a name, the times and the values is an event

@@ -1,6 +1,7 @@
 -- What stands at the front of the fields of a line that is read quickly. No public contract cites this module.
-use Rattle.std.specs.Prelude.{◌≡◌, ◌==◌, ◌&&◌, ◌<◌, ◌≤◌, ℕ, ℤ, Bool, true, not, List, [], ◌∷◌, ◌++◌, take, length, slice_index, Option, Some, None, Ok}
+use Rattle.std.specs.Prelude.{◌≡◌, ◌==◌, ◌&&◌, ◌<◌, ◌≤◌, ℕ, ℤ, Bool, true, not, List, [], ◌∷◌, ◌++◌, take, length, slice_index, Option, Some, None, Ok, IsUtf8, ⊤}
 use Rattle.std.specs.List.{list_all}
+use Rattle.std.specs.Str.{IsAscii}
 use Rattle.std.specs.Str.Parse.{digits_value}
 use Rattle.csv.specs.Machine.{Read, next_record}
 use Rattle.csv.specs.declared.parser.State.TheVariants as st
@@ -26,24 +27,33 @@ abbrev pub read_left : Option (List ℕ) → List (List ℕ) → Option Read
 read_left None fields = Some (fields, st.StartRecord, [])
 read_left (Some text) fields = next_record line_config st.StartField fields [] text
 
--- a field stands first, and this is left
+-- what is left, if anything is, is UTF-8
+abbrev pub IsText : Option (List ℕ) → Type 0
+IsText None = ⊤
+IsText (Some text) = IsUtf8 text
+
+-- a field stands first, and this is left, and the text is UTF-8 where that is
 pub record IsFirst (text field : List ℕ) (left : Option (List ℕ)) : Type 0 where
   pub reads : (before : List (List ℕ)) → next_record line_config st.StartField before [] text ≡ read_left left (before ++ field ∷ [])
+  pub utf8 : IsText left → IsUtf8 text
 
 -- the same of a field whose first quote is gone
 pub record IsQuoted (text field : List ℕ) (left : Option (List ℕ)) : Type 0 where
   pub reads : (before : List (List ℕ)) → next_record line_config st.InQuoted before [] text ≡ read_left left (before ++ field ∷ [])
+  pub utf8 : IsText left → IsUtf8 text
 
--- up to this place each byte is simple, and there a comma stands or the text ends
-pub record IsPlainEnd (text : List ℕ) (end : ℕ) : Type 0 where
+-- up to this place each byte is simple, and of ASCII where that is so, and there a comma stands or the text ends
+pub record IsPlainEnd (text : List ℕ) (end : ℕ) (is_ascii : Bool) : Type 0 where
   pub within : end ≤ length text
   pub simple : list_all is_simple (take end text) ≡ true
+  pub ascii : is_ascii ≡ true → IsAscii (take end text)
   pub ends : end < length text → slice_index text end ≡ comma
 
--- the first quote
-pub record IsQuoteAt (text : List ℕ) (end : ℕ) : Type 0 where
+-- the first quote, and whether each byte before it is of ASCII
+pub record IsQuoteAt (text : List ℕ) (end : ℕ) (is_ascii : Bool) : Type 0 where
   pub within : end < length text
   pub none : list_all no_quote (take end text) ≡ true
+  pub ascii : is_ascii ≡ true → IsAscii (take end text)
   pub here : slice_index text end ≡ quote
 
 -- so many digits, few of them, stand first, and write the number
@@ -70,6 +80,7 @@ pub record SpanFirst (text : List ℕ) (span : Span) (left : Option (List ℕ)) 
   pub detection : List ℕ
   pub reads : (before : List (List ℕ)) → next_record line_config st.StartField before [] text ≡ read_left left (before ++ start ∷ detection ∷ [])
   pub times : span_of start detection ≡ Ok span
+  pub utf8 : IsText left → IsUtf8 text
 
 -- a field stands first that writes the value of the kind
 pub record ValueFirst (kind : Kind) (text : List ℕ) (value : Value) (left : Option (List ℕ)) : Type 0 where
@@ -81,9 +92,14 @@ pub record ValueFirst (kind : Kind) (text : List ℕ) (value : Value) (left : Op
 abbrev pub IntFirst : List ℕ → ℤ → Option (List ℕ) → Type 0
 IntFirst text number left = ValueFirst kind.Int text (value.Int number) left
 
+-- a field stands first that writes the decimal of so many places
+abbrev pub DecFirst : ℕ → List ℕ → ℤ → Option (List ℕ) → Type 0
+DecFirst places text units left = ValueFirst (kind.Dec places) text (value.Dec places units) left
+
 -- the fields that are left write the values of the attributes, one each
 pub record WriteAll (schema : List Attr) (left : Option (List ℕ)) (vals : List Value) : Type 0 where
   pub fields : List (List ℕ)
   pub reads : (before : List (List ℕ)) → read_left left before ≡ Some (before ++ fields, st.StartRecord, [])
   pub values : values_of 4 (kinds_of schema) fields ≡ Ok vals
   pub many : length fields ≡ length schema
+  pub utf8 : IsText left

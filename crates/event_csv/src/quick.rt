@@ -1,9 +1,10 @@
 //! The quick reading of a line, field by field, in one pass and without the reader of `csv`. Every line that is an event
 //! by fields of few digits, and by texts in which no quote stands, is read so; any other is left, and its fault isn't told.
-ghost use Rattle.std.specs.Prelude.{◌≡◌, neg_ℤ, option_map, pos, IfSome, Ok};
+ghost use Rattle.std.specs.Prelude.{◌≡◌, neg_ℤ, option_map, pos, true, IfSome, IsUtf8, Ok};
+ghost use Rattle.std.specs.Str.{IsAscii};
 ghost use Rattle.event_csv.specs.Event.{event};
 ghost use Rattle.event_csv.specs.Fed.{IsLine};
-ghost use Rattle.event_csv.specs.Quick.{HasDigits, IntFirst, IsFirst, IsPlainEnd, IsQuoteAt, IsQuoted, NumberFirst, SpanFirst, ValueFirst, WriteAll};
+ghost use Rattle.event_csv.specs.Quick.{DecFirst, HasDigits, IntFirst, IsFirst, IsPlainEnd, IsQuoteAt, IsQuoted, NumberFirst, SpanFirst, ValueFirst, WriteAll};
 
 use crate::decimals::units;
 use crate::event::{Seen, find_declared};
@@ -11,6 +12,7 @@ use crate::fields::may_have_mark;
 use crate::numbers::SHORT;
 use event_types::{Kind, List, StreamId, Text, Tuple, Vals, Value};
 use std::alloc::Global;
+use std::str::{from_utf8, from_utf8_unchecked};
 use stream_schema::{Schema, Streams};
 
 /// The event of a line, where it has one and is read quickly.
@@ -26,10 +28,7 @@ pub(crate) fn read_quickly(
     if may_have_mark(line) {
         return None;
     }
-    let Ok(text) = std::str::from_utf8(line) else {
-        return None;
-    };
-    let (name, rest) = take_field(text)?;
+    let (name, rest) = take_field(line)?;
     let stream = find_declared(streams, near, name)?;
     let ((from, at), rest) = take_span(rest?)?;
     let vals = take_values(alloc, streams.schema(stream), rest)?;
@@ -40,11 +39,11 @@ pub(crate) fn read_quickly(
 }
 
 // The times of the fields at the front, and the fields behind them.
-fn take_span(text: &str) -> Option<((u64, u64), Option<&str>)>
+#[inline(always)]
+fn take_span(text: &[u8]) -> Option<((u64, u64), Option<&[u8]>)>
     ensures { IfSome result (λ r. SpanFirst text.now r.0 (option_map (λ s. s.now) r.1)) }
 {
-    let bytes = text.as_bytes();
-    if 0 < bytes.len() && bytes[0] == b',' {
+    if 0 < text.len() && text[0] == b',' {
         let (at, rest) = take_number(&text[1..])?;
         return Some(((at, at), rest));
     }
@@ -57,7 +56,8 @@ fn take_span(text: &str) -> Option<((u64, u64), Option<&str>)>
 }
 
 // The values of the fields that are left, where there is one for each attribute.
-fn take_values(alloc: Global, schema: &Schema, rest: Option<&str>) -> Option<Vals>
+#[inline(always)]
+fn take_values(alloc: Global, schema: &Schema, rest: Option<&[u8]>) -> Option<Vals>
     ensures { IfSome result (WriteAll schema.now (option_map (λ s. s.now) rest.entry)) }
 {
     let mut rest = rest;
@@ -84,7 +84,8 @@ fn take_values(alloc: Global, schema: &Schema, rest: Option<&str>) -> Option<Val
 }
 
 // The value of the field at the front, and the fields behind it.
-fn take_value(alloc: Global, kind: Kind, text: &str) -> Option<(Value, Option<&str>)>
+#[inline(always)]
+fn take_value(alloc: Global, kind: Kind, text: &[u8]) -> Option<(Value, Option<&[u8]>)>
     ensures { IfSome result (λ r. ValueFirst kind text.now r.0 (option_map (λ s. s.now) r.1)) }
 {
     match kind {
@@ -100,77 +101,109 @@ fn take_value(alloc: Global, kind: Kind, text: &str) -> Option<(Value, Option<&s
             }
         }
         Kind::Dec(places) => {
-            let (field, rest) = take_field(text)?;
-            match units(alloc, places, field.as_bytes()) {
-                Ok(Some(units)) => Some((
-                    Value::Dec {
-                        scale: places,
-                        units,
-                    },
-                    rest,
-                )),
-                _ => None,
-            }
+            let (units, rest) = take_decimal(alloc, places, text)?;
+            Some((
+                Value::Dec {
+                    scale: places,
+                    units,
+                },
+                rest,
+            ))
         }
     }
 }
 
+// The units of the decimal at the front, which has so many places, and the fields behind it.
+#[inline(never)]
+fn take_decimal(alloc: Global, places: u8, text: &[u8]) -> Option<(i128, Option<&[u8]>)>
+    ensures { IfSome result (λ r. DecFirst places text.now r.0 (option_map (λ s. s.now) r.1)) }
+{
+    let (field, rest) = take_field(text)?;
+    match units(alloc, places, field.as_bytes()) {
+        Ok(Some(units)) => Some((units, rest)),
+        _ => None,
+    }
+}
+
 // The field at the front and those behind it, where that is quickly read.
-fn take_field(text: &str) -> Option<(&str, Option<&str>)>
+#[inline(always)]
+fn take_field(text: &[u8]) -> Option<(&str, Option<&[u8]>)>
     ensures { IfSome result (λ r. IsFirst text.now r.0.now (option_map (λ s. s.now) r.1)) }
 {
-    let bytes = text.as_bytes();
-    if 0 < bytes.len() && bytes[0] == b'"' {
+    if 0 < text.len() && text[0] == b'"' {
         return take_quoted(&text[1..]);
     }
-    let end = plain_end(bytes)?;
+    let (end, is_ascii) = plain_end(text)?;
+    let field = text_of(&text[..end], is_ascii)?;
     if end < text.len() {
-        Some((&text[..end], Some(&text[end + 1..])))
+        Some((field, Some(&text[end + 1..])))
     } else {
-        Some((text, None))
+        Some((field, None))
     }
 }
 
 // The field whose first quote is gone and those behind it, where no quote stands in it.
-fn take_quoted(text: &str) -> Option<(&str, Option<&str>)>
+#[inline(always)]
+fn take_quoted(text: &[u8]) -> Option<(&str, Option<&[u8]>)>
     ensures { IfSome result (λ r. IsQuoted text.now r.0.now (option_map (λ s. s.now) r.1)) }
 {
-    let end = quote_at(text.as_bytes())?;
-    let field = &text[..end];
+    let (end, is_ascii) = quote_at(text)?;
+    let field = text_of(&text[..end], is_ascii)?;
     let rest = &text[end + 1..];
-    let bytes = rest.as_bytes();
-    if bytes.len() == 0 {
+    if rest.len() == 0 {
         return Some((field, None));
     }
-    if bytes[0] == b',' {
+    if rest[0] == b',' {
         return Some((field, Some(&rest[1..])));
     }
     None
 }
 
-// The place of the first quote.
-fn quote_at(text: &[u8]) -> Option<usize>
-    ensures { IfSome result (IsQuoteAt text.now) }
+// The text of bytes. Those that are known to be ASCII aren't looked at again.
+#[inline(always)]
+fn text_of(bytes: &[u8], is_ascii: bool) -> Option<&str>
+    requires { is_ascii ≡ true → IsAscii bytes.now }
+    ensures { IfSome result (λ text. (text.now ≡ bytes.now) × IsUtf8 bytes.now) }
 {
+    if is_ascii {
+        return Some(unsafe { from_utf8_unchecked(bytes) });
+    }
+    match from_utf8(bytes) {
+        Ok(text) => Some(text),
+        Err(_) => None,
+    }
+}
+
+// The place of the first quote, and whether all bytes before it are ASCII.
+#[inline(always)]
+fn quote_at(text: &[u8]) -> Option<(usize, bool)>
+    ensures { IfSome result (λ r. IsQuoteAt text.now r.0 r.1) }
+{
+    let mut is_ascii = true;
     for (place, byte) in text.iter().enumerate() {
         if *byte == b'"' {
-            return Some(place);
+            return Some((place, is_ascii));
+        }
+        if 127 < *byte {
+            is_ascii = false;
         }
     }
     None
 }
 
-// The place of the first comma, or the length where there is none, unless a quote or a line feed comes first. All three
-// are small, so most bytes are passed by one comparison.
-fn plain_end(text: &[u8]) -> Option<usize>
-    ensures { IfSome result (IsPlainEnd text.now) }
+// The place of the first comma, or the length where there is none, unless a quote or a line feed comes first; and whether
+// all bytes before it are ASCII. All three are small, so most bytes are passed by one comparison.
+#[inline(always)]
+fn plain_end(text: &[u8]) -> Option<(usize, bool)>
+    ensures { IfSome result (λ r. IsPlainEnd text.now r.0 r.1) }
 {
+    let mut is_ascii = true;
     for (place, byte) in text.iter().enumerate() {
-        if b',' < *byte {
+        if b',' < *byte && *byte < 128 {
             continue;
         }
         if *byte == b',' {
-            return Some(place);
+            return Some((place, is_ascii));
         }
         if *byte == b'"' {
             return None;
@@ -178,20 +211,23 @@ fn plain_end(text: &[u8]) -> Option<usize>
         if *byte == b'\n' {
             return None;
         }
+        if 127 < *byte {
+            is_ascii = false;
+        }
     }
-    Some(text.len())
+    Some((text.len(), is_ascii))
 }
 
 // The INT of the field at the front, where few digits write it, and the fields behind it.
-fn take_int(text: &str) -> Option<(i128, Option<&str>)>
+#[inline(always)]
+fn take_int(text: &[u8]) -> Option<(i128, Option<&[u8]>)>
     ensures { IfSome result (λ r. IntFirst text.now r.0 (option_map (λ s. s.now) r.1)) }
 {
-    let bytes = text.as_bytes();
-    if 0 < bytes.len() && bytes[0] == b'-' {
+    if 0 < text.len() && text[0] == b'-' {
         let (number, rest) = take_number(&text[1..])?;
         return Some((below_zero(number), rest));
     }
-    if 0 < bytes.len() && bytes[0] == b'+' {
+    if 0 < text.len() && text[0] == b'+' {
         let (number, rest) = take_number(&text[1..])?;
         return Some((number as i128, rest));
     }
@@ -199,6 +235,7 @@ fn take_int(text: &str) -> Option<(i128, Option<&str>)>
     Some((number as i128, rest))
 }
 
+#[inline(always)]
 fn below_zero(number: u64) -> i128
     ensures { result ≡ neg_ℤ (pos number) }
 {
@@ -206,37 +243,36 @@ fn below_zero(number: u64) -> i128
 }
 
 // The number of the field at the front, where that is few digits, and the fields behind it.
-fn take_number(text: &str) -> Option<(u64, Option<&str>)>
+#[inline(always)]
+fn take_number(text: &[u8]) -> Option<(u64, Option<&[u8]>)>
     ensures { IfSome result (λ r. NumberFirst text.now r.0 (option_map (λ s. s.now) r.1)) }
 {
-    let bytes = text.as_bytes();
-    let (number, end) = few_digits(bytes);
+    let (number, end) = few_digits(text);
     if end == 0 {
         return None;
     }
-    if end == bytes.len() {
+    if end == text.len() {
         return Some((number, None));
     }
-    if bytes[end] == b',' {
+    if text[end] == b',' {
         return Some((number, Some(&text[end + 1..])));
     }
     None
 }
 
 // The number that the digits at the front write, of few at most, and how many they are.
+#[inline(always)]
 fn few_digits(text: &[u8]) -> (u64, usize)
     ensures { HasDigits text.now result.0 result.1 }
 {
     let most = text.len().min(SHORT);
     let mut number: u64 = 0;
     for place in 0..most {
-        let Some(digit) = text[place].checked_sub(b'0') else {
-            return (number, place);
-        };
-        if 9 < digit {
+        let byte = text[place];
+        if byte < b'0' || b'9' < byte {
             return (number, place);
         }
-        number = number * 10 + digit as u64;
+        number = number * 10 + (byte - b'0') as u64;
     }
     (number, most)
 }

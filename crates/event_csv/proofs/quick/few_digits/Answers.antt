@@ -1,4 +1,4 @@
-use Rattle.std.proofs.Common.{◌∙◌, ◌≤◌, ◌<◌, ◌+◌, ◌*◌, ap, arith, get_or, length, sym}
+use Rattle.std.proofs.Common.{◌≤◌, ◌<◌, ◌-◌, arith, get_or, length}
 use Rattle.event_csv.proofs.NumberFacts.{room}
 use Rattle.event_csv.proofs.QuickFacts.{digits-more, power-more, value-more}
 use Rattle.event_csv.proofs.quick.few_digits.Goals as goal
@@ -11,16 +11,18 @@ overflow_mul-number c =
 pub overflow_add-number : goal.overflow_add-number
 overflow_add-number c =
     let few = c.min-most.ensures in
-    let r = room c.loop-place.number c.loop-place.place c.in-Some.digit c.loop-place.invariant.small (omega (arith, few)) c.if-digit-gt9.false in omega arith
+    let digit : get_or c.args.text.now c.loop-place.place 0 - 48 ≤ 9 = omega (arith, c.if-byte-gt57.false) in
+    let r = room c.loop-place.number c.loop-place.place _ c.loop-place.invariant.small (omega (arith, few)) digit in omega arith
 
 pub loop-place-preserved : goal.loop-place-preserved
 loop-place-preserved c =
-    let here : c.loop-place.place < length c.args.text.now = omega (arith, c.min-most.ensures) in
-    let lo : 48 ≤ get_or c.args.text.now c.loop-place.place 0 = c.in-Some.ensures.0 in
-    let digit = c.in-Some.ensures.1 in
-    let hi : get_or c.args.text.now c.loop-place.place 0 ≤ 57 = omega (arith, digit, lo, c.if-digit-gt9.false) in
+    let s = c.args.text.now in
+    let i = c.loop-place.place in
+    let here : i < length s = omega (arith, c.min-most.ensures) in
+    let lo : 48 ≤ get_or s i 0 = c.if-byte-lt48.false in
+    let hi : get_or s i 0 ≤ 57 = c.if-byte-gt57.false in
     record {
-      small = power-more c.loop-place.number c.loop-place.place c.in-Some.digit c.loop-place.invariant.small c.if-digit-gt9.false;
-      digits = digits-more c.args.text.now c.loop-place.place here lo hi c.loop-place.invariant.digits;
-      value = value-more c.args.text.now c.loop-place.place c.loop-place.number here lo hi c.loop-place.invariant.value ∙ ap (λ d. c.loop-place.number * 10 + d) (sym digit);
+      small = power-more c.loop-place.number i (get_or s i 0 - 48) c.loop-place.invariant.small (omega (arith, hi));
+      digits = digits-more s i here lo hi c.loop-place.invariant.digits;
+      value = value-more s i c.loop-place.number here lo hi c.loop-place.invariant.value;
     }

@@ -1,7 +1,11 @@
 use Rattle.std.proofs.Common.{◌≡◌, take, true}
 use Rattle.std.specs.List.{list_all}
+use Rattle.std.specs.Str.{IsAscii}
 use Rattle.event_csv.specs.Quick.{no_quote}
 use Rattle.event_csv.proofs.quick.quote_at.Given as goal
 
 abbrev pub invariant-loop-place : goal.invariant-loop-place
-invariant-loop-place l = list_all no_quote (take l.place l.text) ≡ true
+invariant-loop-place l = record {
+  none : list_all no_quote (take l.place l.text) ≡ true;
+  ascii : l.is_ascii ≡ true → IsAscii (take l.place l.text);
+}

@@ -1,18 +1,18 @@
-use Rattle.std.proofs.Common.{◌≡◌, ◌<◌, arith, get_or, length}
-use Rattle.std.proofs.lemmas.Str.{IsCharBoundary-after_ascii}
-use Rattle.event_csv.proofs.QuickFacts.{span-short}
+use Rattle.std.proofs.Common.{Bor, List, ℕ, Option, Some, option_map, refl, subst, ◌≡◌}
+use Rattle.std.proofs.lemmas.List.{take_rest}
+use Rattle.event_csv.specs.Quick.{NumberFirst}
+use Rattle.event_csv.proofs.QuickFacts.{span-long, span-short}
 use Rattle.event_csv.proofs.quick.take_span.Goals as goal
 
-pub range_from-requires : goal.range_from-requires
-range_from-requires c =
+pub returns-then-text-eq44 : goal.returns-then-text-eq44
+returns-then-text-eq44 c =
     let s = c.args.text.now in
-    let some : 0 < length s = rw c.as_bytes-bytes.ensures.value at c.if-bytes-gt0.true in
-    let b : get_or s 0 0 ≡ 44 = rw c.as_bytes-bytes.ensures.value at c.if-bytes-eq44.true in
-    λ _. IsCharBoundary-after_ascii s 0 c.utf8.text some (omega (arith, b))
+    span-short s c.in_ok-at.at _ c.if-text-gt0.true c.if-text-eq44.true (rw (take_rest s 1) at c.in_ok-at.ensures)
 
-pub returns-then-bytes-eq44 : goal.returns-then-bytes-eq44
-returns-then-bytes-eq44 c =
+pub returns : goal.returns
+returns c =
     let s = c.args.text.now in
-    let some : 0 < length s = rw c.as_bytes-bytes.ensures.value at c.if-bytes-gt0.true in
-    let b : get_or s 0 0 ≡ 44 = rw c.as_bytes-bytes.ensures.value at c.if-bytes-eq44.true in
-    span-short s c.in_ok-at.at _ some b (rw c.range_from.ensures.value at c.in_ok-at.ensures)
+    let from = c.in_ok-from.from in
+    let rest : option_map (λ (t : Bor (List ℕ)). t.now) c.in_ok-from.rest ≡ Some c.in_ok-rest.field-0.now = rw c.in_ok-rest.was refl in
+    let start : NumberFirst s from (Some c.in_ok-rest.field-0.now) = subst (λ (left : Option (List ℕ)). NumberFirst s from left) rest c.in_ok-from.ensures in
+    span-long s c.in_ok-rest.field-0.now from c.in_ok-at-2.at _ start c.in_ok-at-2.ensures c.if-at-from.false
