@@ -1,9 +1,7 @@
-use Rattle.std.proofs.Common.{◌≡◌, ◌∙◌, ◌++◌, ◌<◌, ◌≤◌, ℕ, List, length, ap, subst, sym, arith}
+use Rattle.std.proofs.Common.{◌∙◌, ◌++◌, ◌<◌, ◌≤◌, List, length, ap, subst, sym, arith}
 use Rattle.std.specs.List.{flat_map}
 use Rattle.std.proofs.lemmas.List.{take_all}
 use Rattle.semantics.specs.Report.{line}
-use Rattle.catalogue.specs.Catalogued.{judged_of}
-use Rattle.catalogue.specs.Judgement.{query_at}
 use Rattle.epoch_engine.specs.declared.batch.Entry.{Entry}
 use Rattle.session.proofs.BatchLinesLemmas.{entry_lines, entry_more, lines_by_entries, name_is, place_below}
 use Rattle.session.proofs.writing.put_batch.Goals as goal
