@@ -20,20 +20,26 @@ arrange-filled-requires-clause-others c = split_written c.loop-place.filled c.lo
 -- the bucket has what is alive of its own, and stands where it should
 pub loop-place-preserved-then-oldest-earliest : goal.loop-place-preserved-then-oldest-earliest
 loop-place-preserved-then-oldest-earliest c =
-    let next : c.loop-place.place ≡ c.loop-place.place - 1 + 1 = omega arith in
-    (c.arrange-filled.ensures.no_further (omega (arith, c.loop-place.invariant.0)), c.arrange-filled.ensures.within, c.arrange-filled.ensures.split,
+    let next : c.loop-place.place ≡ c.loop-place.place - 1 + 1 = omega arith in (
+      c.arrange-filled.ensures.no_further (omega (arith, c.loop-place.invariant.0)),
+      c.arrange-filled.ensures.within,
+      c.arrange-filled.ensures.split,
       still_purged (λ instance. is_alive (c.args.now + 1) c.args.condition.now instance.tuple) (c.loop-place.place - 1) c.args.buckets.now.entries (set_value_at c.loop-place.buckets.entries (c.loop-place.place - 1) c.keep_alive.new.self) c.arrange-filled.new.buckets.entries c.arrange-filled.ensures.same (c.arrange-filled.ensures.before (omega (arith, c.loop-place.invariant.0)))
-      (one_purged (λ instance. is_alive (c.args.now + 1) c.args.condition.now instance.tuple) (c.loop-place.place - 1) c.args.buckets.now.entries c.loop-place.buckets.entries c.index_mut.result.now c.keep_alive.new.self c.requires.distinct c.index_mut.ensures.value c.keep_alive.ensures
-      (subst (λ n. IsPurgedFrom (λ instance. is_alive (c.args.now + 1) c.args.condition.now instance.tuple) n c.args.buckets.now.entries c.loop-place.buckets.entries) next c.loop-place.invariant.3)))
+          (one_purged (λ instance. is_alive (c.args.now + 1) c.args.condition.now instance.tuple) (c.loop-place.place - 1) c.args.buckets.now.entries c.loop-place.buckets.entries c.index_mut.result.now c.keep_alive.new.self c.requires.distinct c.index_mut.ensures.value c.keep_alive.ensures
+          (subst (λ n. IsPurgedFrom (λ instance. is_alive (c.args.now + 1) c.args.condition.now instance.tuple) n c.args.buckets.now.entries c.loop-place.buckets.entries) next c.loop-place.invariant.3)),
+    )
 
 -- none of the bucket has expired
 pub loop-place-preserved : goal.loop-place-preserved
 loop-place-preserved c =
-    let next : c.loop-place.place ≡ c.loop-place.place - 1 + 1 = omega arith in
-    (omega (arith, c.loop-place.invariant.0), c.loop-place.invariant.1, c.loop-place.invariant.2,
+    let next : c.loop-place.place ≡ c.loop-place.place - 1 + 1 = omega arith in (
+      omega (arith, c.loop-place.invariant.0),
+      c.loop-place.invariant.1,
+      c.loop-place.invariant.2,
       one_passed (λ instance. is_alive (c.args.now + 1) c.args.condition.now instance.tuple) (c.loop-place.place - 1) c.args.buckets.now.entries c.loop-place.buckets.entries c.index.result.now c.index.ensures
-      (all_later (c.args.now + 1) c.earliest_alive-earliest.result c.oldest.result c.args.condition.now c.index.result.now c.earliest_alive-earliest.ensures (omega (arith, c.if-oldest-earliest.false)) c.oldest.ensures)
-      (subst (λ n. IsPurgedFrom (λ instance. is_alive (c.args.now + 1) c.args.condition.now instance.tuple) n c.args.buckets.now.entries c.loop-place.buckets.entries) next c.loop-place.invariant.3))
+          (all_later (c.args.now + 1) c.earliest_alive-earliest.result c.oldest.result c.args.condition.now c.index.result.now c.earliest_alive-earliest.ensures (omega (arith, c.if-oldest-earliest.false)) c.oldest.ensures)
+          (subst (λ n. IsPurgedFrom (λ instance. is_alive (c.args.now + 1) c.args.condition.now instance.tuple) n c.args.buckets.now.entries c.loop-place.buckets.entries) next c.loop-place.invariant.3),
+    )
 
 pub returns-clause-purged : goal.returns-clause-purged
 returns-clause-purged c =
