@@ -1,5 +1,5 @@
 -- What the look-ups by a tuple of a stream have to find.
-use Rattle.std.specs.Prelude.{◌≡◌, ℕ, ◌<◌, ◌&&◌, ◌⊎◌, Bool, not, false, true, List, [], ◌++◌, length, min, Some, None, slice_index_or}
+use Rattle.std.specs.Prelude.{◌≡◌, ℕ, ◌<◌, ◌≢◌, ◌&&◌, ◌⊎◌, AllPairs, Bool, not, false, true, List, [], ◌++◌, length, min, Some, None, slice_index_or}
 use Rattle.std.specs.Option.{option_map}
 use Rattle.std.specs.List.{All, filter, flat_map, range_with_len}
 use Rattle.std.specs.List.Sorted.{IsPermutation}
@@ -82,6 +82,10 @@ led_at net columns tuple attribute = filter (λ number. all_hold tuple (parts_at
 -- the same of the first so many attributes
 abbrev pub led_by : Net → List Entries → TupleView → ℕ → List ℕ
 led_by net columns tuple attributes = flat_map (led_at net columns tuple) (range_with_len 0 attributes)
+
+-- the value of a tuple at each of the first so many attributes leads to no state twice
+abbrev pub LeadOnce : List Entries → TupleView → ℕ → Type 0
+LeadOnce columns tuple attributes = (attribute : ℕ) → attribute < attributes → AllPairs (λ state other. state ≢ other) (states_at (slice_index_or columns attribute []) (value_at tuple attribute))
 
 -- the value of a tuple doesn't lead to a state, at the attribute by which the state is found
 abbrev pub IsUnled : Net → KeyTable → ℕ → TupleView → ℕ → Type 0

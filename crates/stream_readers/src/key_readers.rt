@@ -1,11 +1,10 @@
 //! The waiting states that a tuple finds by a key.
-ghost use Rattle.std.specs.Prelude.{◌≡◌, ◌≢◌, ◌<◌, ◌++◌, ◌∷◌, [], ℕ, All, AllPairs, IsTrue, OnErr, OnOk, filter, length, min, slice_index_or};
+ghost use Rattle.std.specs.Prelude.{◌≡◌, ◌<◌, ◌++◌, ◌∷◌, [], ℕ, All, IsTrue, OnErr, OnOk, filter, length, min, slice_index_or};
 ghost use Rattle.event_types.specs.declared.value.Value.{Value};
-ghost use Rattle.semantics.specs.Values.{value_at};
-ghost use Rattle.binding_index.specs.Leads.{Leads, states_at};
+ghost use Rattle.binding_index.specs.Leads.{Leads};
 ghost use Rattle.automaton.specs.States.{is_used};
 ghost use Rattle.static_index.specs.FixedParts.{all_hold};
-ghost use Rattle.stream_readers.specs.Finding.{FindsKeyed, led_by};
+ghost use Rattle.stream_readers.specs.Finding.{FindsKeyed, LeadOnce, led_by};
 ghost use Rattle.stream_readers.specs.KeyTables.{AreTidied, IsNoted, LeadSame, LeadsFit};
 ghost use Rattle.stream_readers.specs.Ways.{parts_at};
 
@@ -117,7 +116,7 @@ fn add_led(
 ) -> Result<(), Memory>
     requires { (attribute : ℕ) (key : Value) (number : ℕ) → Leads (slice_index_or directories.now attribute []) key number → IsTrue (is_used network.now number) }
     ensures led { OnOk result (waits.new ≡ waits.old ++ led_by network.now directories.now tuple.now (min (length directories.now) (length tuple.now.vals))) }
-    ensures once { OnOk result ((attribute : ℕ) → attribute < min (length directories.now) (length tuple.now.vals) → AllPairs (λ state other. state ≢ other) (states_at (slice_index_or directories.now attribute []) (value_at tuple.now attribute))) }
+    ensures once { OnOk result (LeadOnce directories.now tuple.now (min (length directories.now) (length tuple.now.vals))) }
 {
     let attributes = directories.len().min(tuple.vals().len());
     for attribute in 0..attributes {
