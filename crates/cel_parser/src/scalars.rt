@@ -138,8 +138,8 @@ fn read_two<'a>(
     let (x, rest) = read_scalar(alloc, fuel - 1, rest)?;
     let rest = after_comma(rest)?;
     let (y, rest) = read_scalar(alloc, fuel - 1, rest)?;
-    let rest = after_close(rest)?;
-    Ok((joined(alloc, operation, x, y)?, rest))
+    let two = joined(alloc, operation, x, y)?;
+    Ok((two, after_close(rest)?))
 }
 
 // What is done with two scalars.
