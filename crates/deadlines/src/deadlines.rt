@@ -1,0 +1,83 @@
+//! Deadlines by place.
+ghost use Rattle.std.specs.Prelude.{◌≡◌, ◌<◌, ◌≤◌, ℕ, All, IfNone, IfOk, IfSome, length, replicate, slice_index, slice_set};
+
+use crate::tournament::{first_leaf, set_leaf};
+use event_types::Memory;
+use std::alloc::Global;
+use std::marker::Model;
+
+/// A deadline after all times.
+pub const NEVER: u128 = u128::MAX;
+
+/// A deadline for each of so many places, which are counted from 0.
+///
+/// It is a tournament tree: the deadlines stand behind their minima, two by two, so the earliest is the root.
+/// The children of node n are 2n and 2n+1, and the root is node 1.
+#[derive(Drop)]
+pub struct Deadlines {
+    nodes: Vec<u128>,
+    // the leaves behind so many are none of the places
+    places: usize,
+}
+
+impl Model for Deadlines {
+    ghost use Rattle.std.specs.Prelude.{◌≤◌, ℕ, List, length, take};
+    ghost use Rattle.deadlines.specs.Tournament.{IsTournament, leaves_of};
+
+    ghost Value = { List ℕ };
+
+    ghost view = { λ d. take d.places (leaves_of d.nodes.items) };
+
+    ghost invariant = { λ d. IsTournament d.nodes.items × (d.places ≤ length (leaves_of d.nodes.items)) };
+}
+
+impl Deadlines {
+    /// So many places without a deadline.
+    pub fn make(alloc: Global, places: usize) -> Result<Deadlines, Memory>
+        ensures { IfOk result (λ deadlines. deadlines ≡ replicate places NEVER) }
+    {
+        let Some(leaves) = places.checked_next_power_of_two() else {
+            return Err(Memory);
+        };
+        let Some(count) = leaves.checked_mul(2) else {
+            return Err(Memory);
+        };
+        let nodes = vec![in alloc; NEVER; count]?;
+        Ok(Deadlines { nodes, places })
+    }
+
+    /// The deadline of a place. Takes no memory.
+    pub fn get(&self, place: usize) -> u128
+        requires { place < length self.now }
+        ensures { result ≡ slice_index self.now place }
+    {
+        self.nodes[self.nodes.len() / 2 + place]
+    }
+
+    /// Gives a place another deadline, in as many steps as the tree is high. Takes no memory.
+    pub fn set(&mut self, place: usize, deadline: u128)
+        requires { place < length self.old }
+        ensures { self.new ≡ slice_set self.old place deadline }
+    {
+        set_leaf(&mut self.nodes, place, deadline);
+    }
+
+    /// The first place whose deadline is at most this time, in one step where there is none. Takes no
+    /// memory.
+    pub fn first_until(&self, time: u128) -> Option<usize>
+        ensures within { IfSome result (λ place. place < length self.now) }
+        ensures found { IfSome result (λ place. slice_index self.now place ≤ time) }
+        ensures before { IfSome result (λ place. (other : ℕ) → other < place → time < slice_index self.now other) }
+        ensures absent { IfNone result (All (λ deadline. time < deadline) self.now) }
+    {
+        if time < self.nodes[1] {
+            return None;
+        }
+        let place = first_leaf(&self.nodes, time);
+        if place < self.places {
+            Some(place)
+        } else {
+            None
+        }
+    }
+}
