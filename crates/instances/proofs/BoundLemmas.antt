@@ -1,17 +1,18 @@
 -- Bounds on DUR, over the parts of a condition and over the starts of bindings.
-use Rattle.std.proofs.Common.{◌≡◌, ◌∙◌, ap, refl, ℕ, ℤ, zero, suc, pos, ◌≤◌, ◌-ℤ◌, Bool, true, false, ◌&&◌, min, max, nat_le, take, List, [], ◌∷◌, arith}
+use Rattle.std.proofs.Common.{◌≡◌, ◌∙◌, sym, ap, refl, subst, ℕ, ℤ, zero, suc, pos, ◌+◌, ◌-◌, ◌^◌, ◌<◌, ◌≤◌, ◌⊎◌, inl, inr, ◌-ℤ◌, Bool, true, false, ◌&&◌, min, max, nat_le, nat_lt, take, List, [], ◌∷◌, arith}
 use Rattle.std.specs.Prelude.{Some, int_le, int_lt, slice_get}
 use Rattle.std.specs.Option.{option_map}
 use Rattle.std.specs.List.{All, list_all}
+use Rattle.std.proofs.lemmas.Bool.{cases_lt, lt-ltb}
 use Rattle.std.proofs.lemmas.Bool.Decides.{nat_tests}
 use Rattle.std.proofs.lemmas.Int.{ints}
-use Rattle.std.proofs.lemmas.List.Elements.{All-weaker}
+use Rattle.std.proofs.lemmas.List.Elements.{All-same, All-weaker, filter_passes}
 use Rattle.event_types.specs.Tuple.{TupleView}
 use Rattle.semantics.specs.Scalars.{Pr}
 use Rattle.semantics.proofs.ReportLemmas.{filter_all}
 use Rattle.instances.specs.Alive.{is_alive, meets_bound}
 use Rattle.scalar_expr.specs.Classes.{Class, Fixed, Key, Bound, Rest, class_of}
-use Rattle.instances.specs.Bounds.{alive_instances, started}
+use Rattle.instances.specs.Bounds.{AreAliveUntil, alive_instances, started}
 use Rattle.instances.specs.declared.instance.Instance.{Instance}
 
 -- a bound reads the start alone
@@ -47,6 +48,28 @@ alive_later time from b le (p ∷ ps) e = go (alive_later time from b le ps) (me
   where
     go : (is_alive time ps (started from) ≡ true → is_alive time ps b ≡ true) → (t : Bool) → meets_bound time (started from) (class_of p) ≡ t → (t && is_alive time ps (started from)) ≡ true → (meets_bound time b (class_of p) && is_alive time ps b) ≡ true
     go rest true is e = λ i. meets_later time from b le (class_of p) is i && rest e i
+    go rest false is e = absurd (cc)
+
+-- what meets a bound at a time met it before
+less_before : (time next from : ℕ) (most : ℤ) → time ≤ next → int_lt (pos next -ℤ pos from) most ≡ true → int_lt (pos time -ℤ pos from) most ≡ true
+less_before time next from most le e = grind (arith, ints)
+
+most_before : (time next from : ℕ) (most : ℤ) → time ≤ next → int_le (pos next -ℤ pos from) most ≡ true → int_le (pos time -ℤ pos from) most ≡ true
+most_before time next from most le e = grind (arith, ints)
+
+meets_before : (time next : ℕ) (b : TupleView) → time ≤ next → (c : Class) → meets_bound next b c ≡ true → meets_bound time b c ≡ true
+meets_before time next b le (Bound true most) e = less_before time next b.from most le e
+meets_before time next b le (Bound false most) e = most_before time next b.from most le e
+meets_before time next b le (Fixed place cmp v) e = refl
+meets_before time next b le (Key event binding) e = refl
+meets_before time next b le Rest e = refl
+
+alive_before : (time next : ℕ) (b : TupleView) → time ≤ next → (choose : List Pr) → is_alive next choose b ≡ true → is_alive time choose b ≡ true
+alive_before time next b le [] e = refl
+alive_before time next b le (p ∷ ps) e = go (alive_before time next b le ps) (meets_bound next b (class_of p)) refl e
+  where
+    go : (is_alive next ps b ≡ true → is_alive time ps b ≡ true) → (t : Bool) → meets_bound next b (class_of p) ≡ t → (t && is_alive next ps b) ≡ true → (meets_bound time b (class_of p) && is_alive time ps b) ≡ true
+    go rest true is e = λ i. meets_before time next b le (class_of p) is i && rest e i
     go rest false is e = absurd (cc)
 
 -- where the oldest start can still meet each bound, so can all
@@ -95,3 +118,28 @@ least_of_left least a b c e h = omega arith
 -- nor is it greater than the second
 pub least_of_right : (least a b c : ℕ) → least ≡ min a b → b ≡ c → least ≤ c
 least_of_right least a b c e h = omega arith
+
+-- what is less than both of two numbers is less than the lesser of them
+pub both_before : (a b both time : ℕ) → both ≡ min a b → (nat_lt time a && nat_lt time b) ≡ nat_lt time both
+both_before a b both time e = grind (arith, nat_tests)
+
+-- what a purge left is alive until the oldest start expires, and until the next time at least
+pub alive_both : (deadline end next oldest : ℕ) (choose : List Pr) (instances : List Instance) → ((time : ℕ) → time < 2 ^ 128 - 1 → is_alive time choose (started oldest) ≡ nat_lt time end) → end < 2 ^ 128 → deadline ≡ max end (next + 1) → All (λ instance. oldest ≤ instance.tuple.from) instances → alive_instances next choose instances ≡ instances → AreAliveUntil deadline choose instances
+alive_both deadline end next oldest choose instances told fits is all alive time before = go (cases_lt time end)
+  where
+    go : (time < end) ⊎ (end ≤ time) → alive_instances time choose instances ≡ instances
+    go (inl early) = all_alive time oldest choose instances all (told time (omega (arith, early, fits)) ∙ lt-ltb time end early)
+    go (inr late) =
+        let le : time ≤ next = omega (arith, before, is, late) in
+        filter_all (λ instance. is_alive time choose instance.tuple) instances
+        (All-weaker (λ (instance : Instance). is_alive next choose instance.tuple ≡ true) (λ instance. is_alive time choose instance.tuple ≡ true) (λ instance e. alive_before time next instance.tuple le choose e) instances
+        (All-same (λ (instance : Instance). is_alive next choose instance.tuple ≡ true) _ _ (sym alive) (filter_passes (λ (instance : Instance). is_alive next choose instance.tuple) instances)))
+
+-- what a purge left has a deadline that the condition tells
+pub left_until : (deadline next oldest : ℕ) (told choose : List Pr) (old new : List Instance) → told ≡ choose → new ≡ alive_instances next choose old → All (λ (instance : Instance). oldest ≤ instance.tuple.from) new
+    → ((instances : List Instance) → All (λ (instance : Instance). oldest ≤ instance.tuple.from) instances → alive_instances next told instances ≡ instances → AreAliveUntil deadline told instances) → AreAliveUntil deadline choose new
+left_until deadline next oldest told choose old new same is all until =
+    subst (λ (ps : List Pr). AreAliveUntil deadline ps new) same (until new all (subst (λ (ps : List Pr). alive_instances next ps new ≡ new) (sym same) again))
+  where
+    again : alive_instances next choose new ≡ new
+    again = ap (alive_instances next choose) is ∙ filter_all (λ (instance : Instance). is_alive next choose instance.tuple) (alive_instances next choose old) (filter_passes (λ (instance : Instance). is_alive next choose instance.tuple) old) ∙ sym is

@@ -1,5 +1,5 @@
 -- The instances that a later event may still match, as far as the bounds on DUR tell.
-use Rattle.std.specs.Prelude.{ℕ, List, []}
+use Rattle.std.specs.Prelude.{◌≡◌, ℕ, ◌<◌, List, []}
 use Rattle.std.specs.List.{filter}
 use Rattle.event_types.specs.Tuple.{TupleView}
 use Rattle.semantics.specs.Scalars.{Pr}
@@ -13,3 +13,7 @@ alive_instances time choose instances = filter (λ instance. is_alive time choos
 -- a binding of which only the start is told, as a bound part reads no more
 abbrev pub started : ℕ → TupleView
 started from = record { vals = []; from = from; at = from }
+
+-- each of the instances is alive at every time before a deadline
+abbrev pub AreAliveUntil : ℕ → List Pr → List Instance → Type 0
+AreAliveUntil deadline choose instances = (time : ℕ) → time < deadline → alive_instances time choose instances ≡ instances

@@ -8,6 +8,7 @@
 mod bounds;
 mod contents;
 mod eligibility;
+mod expiry;
 mod instance;
 mod plain_store;
 mod waiting;
@@ -15,6 +16,7 @@ mod waiting;
 pub use bounds::{earliest_alive, keep_alive};
 pub use contents::{add_copies, count_of};
 pub use eligibility::take_eligible;
+pub use expiry::{expires_at, purged_until};
 pub use instance::{Instance, Instances};
 pub use plain_store::PlainStore;
 pub use waiting::Waiting;

@@ -1,9 +1,11 @@
 //! A store without a key.
-ghost use Rattle.std.specs.Prelude.{◌≡◌, [], None, IfOk};
+ghost use Rattle.std.specs.Prelude.{◌≡◌, ◌+◌, ◌≤◌, [], All, None, IfOk};
+ghost use Rattle.instances.specs.Bounds.{alive_instances};
 
 use crate::bounds::{earliest_alive, keep_alive};
 use crate::contents::{add_copies, count_of};
 use crate::eligibility::take_eligible;
+use crate::expiry::purged_until;
 use crate::instance::{Instance, Instances};
 use crate::waiting::Waiting;
 use event_types::{List, Memory, Tuple};
@@ -52,6 +54,20 @@ impl PlainStore {
             oldest: u64::MAX,
         })
     }
+
+    // Takes out the instances that no event after `now` can match. It gives a time before which none of the
+    // others starts.
+    fn expire(&mut self, now: u64) -> u64
+        ensures alive { self.new.instances ≡ alive_instances (now + 1) self.old.condition self.old.instances }
+        ensures oldest { All (λ instance. result ≤ instance.tuple.from) self.new.instances }
+        ensures same_condition { self.new.condition ≡ self.old.condition }
+    {
+        if (self.oldest as u128) < earliest_alive(&self.condition, now) {
+            self.oldest = keep_alive(&mut self.chain, &self.condition, now);
+            return self.oldest;
+        }
+        self.oldest
+    }
 }
 
 impl Waiting for PlainStore {
@@ -92,10 +108,9 @@ impl Waiting for PlainStore {
         std::mem::swap(&mut self.chain, &mut chain);
     }
 
-    fn purge(&mut self, now: u64) {
-        if (self.oldest as u128) < earliest_alive(&self.condition, now) {
-            self.oldest = keep_alive(&mut self.chain, &self.condition, now);
-        }
+    fn purge(&mut self, now: u64) -> u128 {
+        let oldest = self.expire(now);
+        purged_until(&self.condition, oldest, now)
     }
 
     fn count(&self) -> u64 {

@@ -1,9 +1,9 @@
-use Rattle.std.proofs.Common.{◌∙◌, ◌+◌, sym}
-use Rattle.std.proofs.lemmas.Bool.{le-leb}
-use Rattle.instances.proofs.BoundLemmas.{all_alive}
+use Rattle.std.proofs.Common.{◌∙◌, ◌+◌, ap}
+use Rattle.instances.proofs.BoundLemmas.{left_until}
+use Rattle.instances.specs.Plain.{Plain}
 use Rattle.instances.proofs.plain_store.PlainStoreWaiting.purge.Goals as goal
 
-pub returns-else-self-earliest_alive-clause-alive : goal.returns-else-self-earliest_alive-clause-alive
-returns-else-self-earliest_alive-clause-alive c =
-    rw (← c.self.view_is) (sym (all_alive (c.args.now + 1) c.self.inside.oldest c.self.inside.condition c.self.inside.chain c.self.invariant
-    (c.earliest_alive.ensures c.self.inside.oldest ∙ le-leb c.earliest_alive.result c.self.inside.oldest c.if-self-earliest_alive.false)))
+pub returns-clause-until : goal.returns-clause-until
+returns-clause-until c =
+    left_until c.purged_until.result (c.args.now + 1) c.expire-oldest.result c.self.inside.condition c.args.self.now.condition c.args.self.now.instances c.expire-oldest.new.self.instances (ap (λ (s : Plain). s.condition) c.self.view_is ∙ c.expire-oldest.ensures.same_condition)
+    c.expire-oldest.ensures.alive c.expire-oldest.ensures.oldest c.purged_until.ensures.until
