@@ -1,5 +1,5 @@
 -- The states to which keys lead, from one call to the next.
-use Rattle.std.proofs.Common.{◌≡◌, ◌∙◌, sym, ap, refl, subst, ℕ, zero, suc, ◌+◌, ◌≤◌, ◌⊎◌, ◌↔◌, inl, inr, Bool, true, false, cond, drop, filter, length, map, take, List, [], ◌∷◌, ◌++◌, Contains, arith, get_or}
+use Rattle.std.proofs.Common.{◌≡◌, ◌∙◌, sym, ap, refl, subst, ℕ, zero, suc, ◌+◌, ◌≤◌, ◌⊎◌, ◌↔◌, inl, inr, Bool, true, false, cond, drop, filter, length, map, take, List, [], ◌∷◌, ◌++◌, Contains, arith}
 use Rattle.std.specs.Prelude.{Err, None, Ok, OnErr, OnOk, Option, Result, Some, slice_get}
 use Rattle.std.specs.Option.{unwrap_or}
 use Rattle.std.specs.List.{IsDistinct}
@@ -8,18 +8,13 @@ use Rattle.std.proofs.Math.ListN.{drop_of_length-le}
 use Rattle.std.proofs.lemmas.List.{append-nil, take_all}
 use Rattle.std.proofs.lemmas.List.Elements.{Contains-append_left, Contains-append_right, Contains-append_cases}
 use Rattle.event_types.specs.declared.value.Value.{Value}
-use Rattle.semantics.specs.Values.{value_at}
-use Rattle.std.proofs.lemmas.List.Folds.{list_any-from_Any}
 use Rattle.event_types.specs.contracts.value.ValuePartialEq.TheImpl as derived
 use Rattle.indexmap.specs.IndexMap.{set_value_at}
 use Rattle.binding_index.specs.Among.{is_key}
 use Rattle.binding_index.specs.Entries.{is_filled, items_at}
-use Rattle.binding_index.specs.Leads.{AreReady, Entries, IsLed, Leads, is_ready_at, ready_in}
-use Rattle.binding_index.specs.Among.{is_among}
-use Rattle.binding_index.specs.declared.store.Store.{Store}
-use Rattle.binding_index.specs.declared.store.Store.TheVariants.{Keyed, Plain}
+use Rattle.binding_index.specs.Leads.{Entries, Leads}
 use Rattle.binding_index.proofs.BucketLemmas.{kept}
-use Rattle.binding_index.proofs.EqualityLemmas.{eq_same, key_decides, key_itself}
+use Rattle.binding_index.proofs.EqualityLemmas.{eq_same, key_decides}
 use Rattle.binding_index.proofs.MapLemmas.{by_order}
 use Rattle.binding_index.proofs.WriteLemmas.{keeping, keeping_at, keys_keeping, written_at}
 
@@ -172,19 +167,3 @@ pub new_leads : (old new : Entries) (key given : Value) (state : ℕ) (none w : 
 new_leads old new key given state none w same absent empty more put =
     leads_more old new key state w (put_items old new key w (subst (λ (k : Value). (q : Value) → lookup ((derived.eq-value).it q) new ≡ cond ((derived.eq-value).it k q) (Some w) (lookup ((derived.eq-value).it q) old)) same put))
     (subst (λ (xs : List ℕ). (n : ℕ) → Contains w n ↔ (Contains xs n ⊎ (state ≡ n))) (empty ∙ sym (ap (λ (p : Option (List ℕ)). unwrap_or p []) absent)) more)
-
--- where each key leads on, that of each instance does
-pub led_more : (old new : Entries) → ((key : Value) (n : ℕ) → Leads old key n → Leads new key n) → (number : ℕ) (store : Store) → IsLed old number store → IsLed new number store
-led_more old new more number (Plain store) led = led
-led_more old new more number (Keyed store) led = λ k d lt. more (value_at (get_or store.instances k d).tuple store.key.binding) number (led k d lt)
-
--- where a sweep keeps what leads to a store where the key is ready, it keeps what the instances need
-pub led_swept : (old new : Entries) (stores : List (Option Store)) → ((key : Value) (number : ℕ) → Leads new key number ↔ (Leads old key number × (is_ready_at stores number key ≡ true))) → (number : ℕ) (store : Store) → get_or stores number None ≡ Some store → AreReady store
-    → IsLed old number store → IsLed new number store
-led_swept old new stores leads number (Plain store) at ready led = led
-led_swept old new stores leads number (Keyed store) at ready led =
-    λ k d lt.
-    let key = value_at (get_or store.instances k d).tuple store.key.binding in
-    let h = ready k d lt in
-    let among : is_among key store.ready ≡ true = list_any-from_Any (is_key key) store.ready (h.0, key, h.1, h.2, key_itself key) in
-    (leads key number).1 (led k d lt, ap (λ (o : Option Store). is_among key (ready_in o)) at ∙ among)

@@ -180,10 +180,3 @@ module _ (place filled before : ℕ) (test : Instance → Bool) (bs ds cs : List
   left_over_ready key =
       subst (λ (ks : List Value). Contains (keys_in_order cs) key ↔ (Contains ks key × Any (λ instance. value_at instance.tuple place ≡ key) (instances_in_order cs))) (purged_keys place filled before test bs ds h purged)
       (cut_ready place n oldest ds cs are cut key)
-
--- the key of each instance is ready
-pub all_ready : (place : ℕ) (bs : List Bucket) → IsDistinct is_key (keys_of bs) → AreKeyed place bs → All (λ instance. Contains (keys_in_order bs) (value_at instance.tuple place)) (instances_in_order bs)
-all_ready place bs d keyed =
-    All-permutation (λ instance. Contains (keys_in_order bs) (value_at instance.tuple place)) _ _ (in_order_permuted bs d)
-    (all_flat (λ instance. Contains (keys_in_order bs) (value_at instance.tuple place)) bs
-    (λ k e lt j n in'. subst (Contains (keys_in_order bs)) (sym (keyed k e lt j n in')) (to_order bs (get_or bs k e).0 (keys_among bs k e lt))))

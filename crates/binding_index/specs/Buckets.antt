@@ -80,7 +80,8 @@ pub record AreSame (old new : List Bucket) : Type 0 where
 
 -- no bucket that stood before a place stands at it or behind it
 abbrev pub StayBefore : ℕ → List Bucket → List Bucket → Type 0
-StayBefore place old new = (number : ℕ) (d : Bucket) → place ≤ number → number < length new → (from : ℕ) × (place ≤ from) × (from < length old) × (slice_index_or new number d ≡ slice_index_or old from d)
+StayBefore place old new = (number : ℕ) (d : Bucket) → place ≤ number → number < length new
+    → (from : ℕ) × (place ≤ from) × (from < length old) × (slice_index_or new number d ≡ slice_index_or old from d)
 
 -- each key has those of its instances that pass the test
 pub record IsPurged (test : Instance → Bool) (old new : List Bucket) : Type 0 where

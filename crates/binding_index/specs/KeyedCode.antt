@@ -12,5 +12,8 @@ use Rattle.binding_index.specs.Keyed.{Keyed}
 -- a store with a key is stored as its condition, the two places of its key, its ready keys and its instances
 abbrev pub keyed_code : Coded Keyed
 keyed_code =
-    code_by ((List Pr × List Value) × ((ℕ × ℕ) × List Instance)) (coded× (coded× conj_code (coded_list value.the_row.coded)) (coded× (coded× coded_ℕ coded_ℕ) (coded_list instance.the_row.coded)))
-    (λ s. ((s.condition, s.ready), ((s.key.event, s.key.binding), s.instances))) (λ p. record { condition = p.0.0; key = record { event = p.1.0.0; binding = p.1.0.1 }; ready = p.0.1; instances = p.1.1 }) (λ _. refl)
+    code_by ((List Pr × List Value) × ((ℕ × ℕ) × List Instance))
+    (coded× (coded× conj_code (coded_list value.the_row.coded)) (coded× (coded× coded_ℕ coded_ℕ) (coded_list instance.the_row.coded)))
+    (λ s. ((s.condition, s.ready), ((s.key.event, s.key.binding), s.instances)))
+    (λ p. record { condition = p.0.0; key = record { event = p.1.0.0; binding = p.1.0.1 }; ready = p.0.1; instances = p.1.1 })
+    (λ _. refl)

@@ -1,12 +1,10 @@
 -- The states to which a key leads.
-use Rattle.std.specs.Prelude.{ℕ, ◌≢◌, ⊤, All, AllPairs, Bool, List, [], Option, Some, None, Contains, length, flat_map, slice_index_or}
+use Rattle.std.specs.Prelude.{ℕ, ◌≢◌, All, AllPairs, Bool, List, [], Option, Some, None, Contains, length, flat_map, slice_index_or}
 use Rattle.event_types.specs.declared.value.Value.{Value}
-use Rattle.semantics.specs.Values.{value_at}
 use Rattle.binding_index.specs.Among.{is_among}
 use Rattle.binding_index.specs.Entries.{items_at}
 use Rattle.binding_index.specs.Stores.{ready_of}
 use Rattle.binding_index.specs.declared.store.Store.{Store}
-use Rattle.binding_index.specs.declared.store.Store.TheVariants.{Plain, Keyed}
 
 -- keys, each with the numbers of the states to which it leads
 abbrev pub Entries : Type 0
@@ -36,13 +34,3 @@ ready_in (Some store) = ready_of store
 -- whether a key is ready in the store of a state
 abbrev pub is_ready_at : List (Option Store) → ℕ → Value → Bool
 is_ready_at stores number key = is_among key (ready_in (slice_index_or stores number None))
-
--- the key of each instance of the store is ready
-abbrev pub AreReady : Store → Type 0
-AreReady (Plain store) = ⊤
-AreReady (Keyed store) = All (λ instance. Contains store.ready (value_at instance.tuple store.key.binding)) store.instances
-
--- the key of each instance of the store leads to the state
-abbrev pub IsLed : Entries → ℕ → Store → Type 0
-IsLed entries number (Plain store) = ⊤
-IsLed entries number (Keyed store) = All (λ instance. Leads entries (value_at instance.tuple store.key.binding) number) store.instances

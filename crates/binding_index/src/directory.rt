@@ -1,12 +1,11 @@
 //! The states to which a key leads.
-ghost use Rattle.std.specs.Prelude.{◌≡◌, ◌≢◌, ℕ, ◌+◌, ◌-◌, ◌^◌, ◌↔◌, ◌⊎◌, [], filter, length, min, true, All, AllPairs, Contains, IfOk, None, OnErr, OnOk, Some, slice_index_or};
+ghost use Rattle.std.specs.Prelude.{◌≡◌, ◌≢◌, ℕ, ◌+◌, ◌-◌, ◌^◌, ◌↔◌, ◌⊎◌, [], filter, length, min, true, All, AllPairs, Contains, IfOk, OnErr, OnOk};
 ghost use Rattle.event_types.specs.declared.value.Value.{Value};
 ghost use Rattle.std.specs.List.{IsDistinct};
 ghost use Rattle.std.specs.Map.{keys_of};
 ghost use Rattle.binding_index.specs.Among.{is_key};
 ghost use Rattle.binding_index.specs.Entries.{has_any};
-ghost use Rattle.binding_index.specs.Leads.{AreReady, IsLed, Leads, StandOnce, is_ready_at, pairs_of, states_at};
-ghost use Rattle.binding_index.specs.declared.store.Store.{Store};
+ghost use Rattle.binding_index.specs.Leads.{Leads, StandOnce, is_ready_at, pairs_of, states_at};
 
 use crate::entries::place_of;
 use crate::store::Store;
@@ -72,7 +71,6 @@ impl Directory {
     pub fn note(&mut self, key: &Value, state: usize) -> Result<(), Memory>
         ensures ok { OnOk result ((other : Value) (number : ℕ) → Leads self.new other number ↔ (Leads self.old other number ⊎ ((key.now ≡ other) × (state ≡ number)))) }
         ensures kept { OnErr result (self.new ≡ self.old) }
-        ensures led { (number : ℕ) (store : Store) → IsLed self.old number store → IsLed self.new number store }
     {
         let added = lead(&mut self.states, key, state)?;
         self.pairs = self.pairs.saturating_add(added);
@@ -84,7 +82,6 @@ impl Directory {
     pub fn sweep(&mut self, stores: &[Option<Store>])
         ensures leads { (key : Value) (number : ℕ) → Leads self.new key number ↔ (Leads self.old key number × (is_ready_at stores.now number key ≡ true)) }
         ensures all_lead { All (λ entry. has_any entry.1 ≡ true) self.new }
-        ensures led { (number : ℕ) (store : Store) → slice_index_or stores.now number None ≡ Some store → AreReady store → IsLed self.old number store → IsLed self.new number store }
     {
         for place in 0..self.states.len() {
             let (key, states) = self.states.pair_mut(place);

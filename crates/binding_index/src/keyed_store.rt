@@ -1,6 +1,7 @@
 //! A store with a key.
-ghost use Rattle.std.specs.Prelude.{◌≡◌, [], All, Contains, IfOk, IsSome, OnOk, Some};
-ghost use Rattle.semantics.specs.Values.{value_at};
+ghost use Rattle.std.specs.Prelude.{◌≡◌, ◌+◌, ◌≤◌, [], All, IfOk, IsSome, OnOk, Some};
+ghost use Rattle.instances.specs.Bounds.{alive_instances};
+ghost use Rattle.instances.specs.Keys.{KeepsUsedKeys};
 ghost use Rattle.binding_index.specs.Among.{is_among};
 ghost use Rattle.binding_index.specs.KeyParts.{first_key as first_key_of, key_of_part};
 
@@ -12,7 +13,7 @@ use crate::key::{KeyPart, first_key};
 use event_types::{Copied, Memory, Tuple, Value};
 use indexmap::IndexMap;
 use inst_chain::{Bead, Chain, Look};
-use instances::{Instance, Instances, Waiting, earliest_alive};
+use instances::{Instance, Instances, Waiting, earliest_alive, purged_until};
 use scalar_expr::Conj;
 use std::alloc::Global;
 use std::marker::Model;
@@ -69,10 +70,29 @@ impl KeyedStore {
 
     /// Whether there is room for an instance with this key. Takes no memory.
     pub fn is_ready(&self, key: &Value) -> bool
-        ensures ready { result ≡ is_among key.now self.now.ready }
-        ensures all_ready { All (λ instance. Contains self.now.ready (value_at instance.tuple self.now.key.binding)) self.now.instances }
+        ensures { result ≡ is_among key.now self.now.ready }
     {
         place_of(&self.buckets, key).is_some()
+    }
+
+    // Takes out the instances that no event after `now` can match, and forgets the keys that no instance has.
+    // It gives a time before which none of the others starts.
+    fn expire(&mut self, now: u64) -> u64
+        ensures alive { self.new.instances ≡ alive_instances (now + 1) self.old.condition self.old.instances }
+        ensures oldest { All (λ instance. result ≤ instance.tuple.from) self.new.instances }
+        ensures ready { KeepsUsedKeys (Some self.old.key) self.new.instances self.old.ready self.new.ready }
+        ensures same_condition { self.new.condition ≡ self.old.condition }
+        ensures same_key { self.new.key ≡ self.old.key }
+    {
+        if earliest_alive(&self.condition, now) <= self.oldest as u128 {
+            self.buckets.truncate(self.filled);
+            self.oldest
+        } else {
+            self.filled = keep_all_alive(&mut self.buckets, self.filled, &self.condition, now);
+            self.oldest = oldest_of(&self.buckets);
+            self.buckets.truncate(self.filled);
+            self.oldest
+        }
     }
 }
 
@@ -128,14 +148,9 @@ impl Waiting for KeyedStore {
         }
     }
 
-    fn purge(&mut self, now: u64) {
-        if earliest_alive(&self.condition, now) <= self.oldest as u128 {
-            self.buckets.truncate(self.filled);
-        } else {
-            self.filled = keep_all_alive(&mut self.buckets, self.filled, &self.condition, now);
-            self.oldest = oldest_of(&self.buckets);
-            self.buckets.truncate(self.filled);
-        }
+    fn purge(&mut self, now: u64) -> u128 {
+        let oldest = self.expire(now);
+        purged_until(&self.condition, oldest, now)
     }
 
     fn count(&self) -> u64 {

@@ -2,7 +2,6 @@
 ghost use Rattle.std.specs.Prelude.{◌≡◌, [], IfOk};
 ghost use Rattle.binding_index.specs.Among.{is_among};
 ghost use Rattle.binding_index.specs.KeyParts.{first_key as first_key_of};
-ghost use Rattle.binding_index.specs.Leads.{AreReady};
 ghost use Rattle.binding_index.specs.Stores.{condition_of, instances_of, key_of, ready_of};
 
 use crate::key::first_key;
@@ -40,8 +39,7 @@ impl Store {
     /// Whether there is room for an instance with this key. A store without a key has no keys. Takes no
     /// memory.
     pub fn is_ready(&self, key: &Value) -> bool
-        ensures ready { result ≡ is_among key.now (ready_of self.now) }
-        ensures all_ready { AreReady self.now }
+        ensures { result ≡ is_among key.now (ready_of self.now) }
     {
         match self {
             Store::Plain(_) => false,
@@ -94,7 +92,7 @@ impl Waiting for Store {
         }
     }
 
-    fn purge(&mut self, now: u64) {
+    fn purge(&mut self, now: u64) -> u128 {
         match self {
             Store::Plain(store) => store.purge(now),
             Store::Keyed(store) => store.purge(now),

@@ -6,7 +6,7 @@ use Rattle.indexmap.proofs.CallerLemmas.{filter-RetainsPairs}
 use Rattle.binding_index.specs.Entries.{has_any, is_filled}
 use Rattle.binding_index.specs.Leads.{is_ready_at}
 use Rattle.binding_index.proofs.EqualityLemmas.{distinct_keys}
-use Rattle.binding_index.proofs.LeadLemmas.{keep_more, kept_leads, led_swept}
+use Rattle.binding_index.proofs.LeadLemmas.{keep_more, kept_leads}
 use Rattle.binding_index.proofs.OnceLemmas.{once_swept}
 use Rattle.binding_index.proofs.directory.Directory.sweep.Goals as goal
 
@@ -19,12 +19,6 @@ pub returns-clause-leads : goal.returns-clause-leads
 returns-clause-leads c =
     rw (← c.self.view_is) (kept_leads (λ key number. is_ready_at c.args.stores.now number key) c.self.inside.states.entries c.loop-place.self-inside.states.entries c.retain.new.self.entries c.loop-place.place c.loop-place.invariant (omega arith)
     (filter-RetainsPairs _ is_filled _ (λ k v b w g call. search rules) _ _ c.retain.ensures.filtered) (distinct_keys _ c.len-place-end.ensures.unique))
-
-pub returns-clause-led : goal.returns-clause-led
-returns-clause-led c =
-    rw (← c.self.view_is) (led_swept c.self.inside.states.entries c.retain.new.self.entries c.args.stores.now
-    (kept_leads (λ key number. is_ready_at c.args.stores.now number key) c.self.inside.states.entries c.loop-place.self-inside.states.entries c.retain.new.self.entries c.loop-place.place c.loop-place.invariant (omega arith)
-    (filter-RetainsPairs _ is_filled _ (λ k v b w g call. search rules) _ _ c.retain.ensures.filtered) (distinct_keys _ c.len-place-end.ensures.unique)))
 
 -- the pairs were counted anew, and no key has more states
 pub invariant_of-self : goal.invariant_of-self

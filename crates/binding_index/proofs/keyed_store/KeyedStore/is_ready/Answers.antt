@@ -1,13 +1,9 @@
 use Rattle.std.proofs.Common.{◌∙◌}
 use Rattle.binding_index.specs.Buckets.{instances_at}
 use Rattle.binding_index.proofs.MapLemmas.{items_found}
-use Rattle.binding_index.proofs.PurgeLemmas.{all_ready}
 use Rattle.binding_index.proofs.StoreLemmas.{ready_if}
 use Rattle.binding_index.proofs.keyed_store.KeyedStore.is_ready.Goals as goal
 
-pub returns-clause-ready : goal.returns-clause-ready
-returns-clause-ready c =
+pub returns : goal.returns
+returns c =
     rw (← c.self.view_is) (c.is_some.ensures ∙ ready_if c.self.inside.buckets.entries c.args.key.now (instances_at c.self.inside.buckets.entries c.args.key.now) c.place_of.result (items_found c.self.inside.buckets.entries c.args.key.now c.place_of.result c.place_of.ensures.found) c.place_of.ensures.absent)
-
-pub returns-clause-all_ready : goal.returns-clause-all_ready
-returns-clause-all_ready c = rw (← c.self.view_is) (all_ready c.self.inside.key.binding c.self.inside.buckets.entries c.self.invariant.distinct c.self.invariant.keyed)
