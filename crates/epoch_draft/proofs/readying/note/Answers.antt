@@ -23,7 +23,7 @@ returns-then-is_ready-clause-ok c =
     let value : value_at t lead.key.binding ≡ key = ap (λ (vs : List Value). get_or vs lead.key.binding Over) (sym c.vals.ensures) ∙ get_or_from_slice_get c.vals.result.now lead.key.binding key Over c.get-key.ensures in
     subst (λ (o : Option Lead). LeadsBy keys o t) (sym c.in-Some.is)
     (subst (λ (v : Value). Leads (entries_at keys lead.stream lead.key.event) v lead.state) (sym value)
-    (ready_leads lead keys (ready_of c.args.store.now) key (subst (λ (o : Option Lead). LeadBy keys o (ready_of c.args.store.now)) c.in-Some.is c.requires.led) (sym c.is_ready.ensures.ready ∙ c.if-is_ready.true)))
+    (ready_leads lead keys (ready_of c.args.store.now) key (subst (λ (o : Option Lead). LeadBy keys o (ready_of c.args.store.now)) c.in-Some.is c.requires.led) (sym c.is_ready.ensures ∙ c.if-is_ready.true)))
 
 -- it comes to lead there
 pub returns-clause-ok : goal.returns-clause-ok
