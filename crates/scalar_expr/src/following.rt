@@ -9,7 +9,7 @@ ghost use Rattle.semantics.specs.Nexts.{is_eligible};
 use crate::conjunction::Conj;
 use crate::projection::{Map, apply};
 use crate::truth::holds;
-use event_types::{Copied, Memory, Tuple, Vals};
+use event_types::{Copied, List, Memory, Tuple, Vals};
 use std::alloc::Global;
 use steps::{Ledger, Steps};
 
@@ -39,7 +39,9 @@ pub fn join(alloc: Global, left: &Tuple, right: &Tuple) -> Result<Tuple, Memory>
     requires { left.now.at < right.now.from }
     ensures { IfOk result (λ tuple. tuple ≡ joined left.now right.now) }
 {
-    let mut vals = left.vals().copied(alloc)?;
+    let room = left.vals().len().saturating_add(right.vals().len());
+    let mut vals = List::with_room(alloc, room)?;
+    add_vals(alloc, &mut vals, left.vals())?;
     add_vals(alloc, &mut vals, right.vals())?;
     match Tuple::make(vals, left.from(), right.at()) {
         Ok(tuple) => Ok(tuple),

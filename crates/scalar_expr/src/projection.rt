@@ -99,7 +99,7 @@ fn values_of(
     requires { All (λ s. Fits (sc_of s) event.now (option_copied binding)) scalars.now }
     ensures { IfOk result (λ vals. vals ≡ map (λ s. val (sc_of s) event.now (option_copied binding.entry)) scalars.now) }
 {
-    let mut vals = List::new(alloc);
+    let mut vals = List::with_room(alloc, scalars.len())?;
     'scalars: for scalar in scalars {
         let value = value_of(scalar, event, binding).to_value(alloc)?;
         vals.add(value)?;
