@@ -3,7 +3,7 @@ use Rattle.std.proofs.Common.{◌≡◌, ◌∙◌, ap, refl, sym, subst, ℕ, �
 use Rattle.std.specs.Prelude.{Some}
 use Rattle.std.specs.declared.cmp.Ordering.TheVariants.{Less}
 use Rattle.std.specs.Ordering.{nat_cmp}
-use Rattle.std.specs.BTreeMap.{BTreeMap, is_at}
+use Rattle.std.specs.BTreeMap.{is_at}
 use Rattle.std.specs.List.{All, AllByRecursion, dedup, filter}
 use Rattle.std.specs.List.Sorted.{IsSorted, IsStrictlySortedBy}
 use Rattle.std.specs.Map.{keys_of, lookup}
@@ -13,6 +13,7 @@ use Rattle.std.proofs.lemmas.Cmp.{nat_cmp_total}
 use Rattle.std.proofs.lemmas.List.Kept.{IsStrictlySortedBy-dedup, IsStrictlySortedBy-filter}
 use Rattle.event_types.specs.Tuple.{TupleView}
 use Rattle.static_index.specs.Conditions.{Ascends, Condition, ids_of}
+use Rattle.static_index.specs.Entries.{AreOrdered}
 use Rattle.static_index.specs.Narrowing.{passing}
 use Rattle.static_index.specs.Table.{asked_ids, condition_of, conditions_of, entry_meets, holds_as, meets}
 use Rattle.static_index.specs.declared.entry.Asked.{Asked}
@@ -94,15 +95,14 @@ module _ (asked : Asked) (event : TupleView) where
       go false is among rest = rest among
 
   -- of sorted ids, among which are those of all that hold, exactly these are kept
-  pub found_is : (entries : BTreeMap ℕ Entry) (xs : List ℕ) → IsStrictlySortedBy nat_cmp (keys_of entries.entries) → IsSorted nat_cmp xs → All (λ e. holds_as asked event e.1.parts ≡ true → Contains xs e.0) entries.entries
-      → passing (meets entries asked event) xs ≡ asked_ids asked event (conditions_of entries.entries)
-  found_is entries xs up sorted found =
-      let es = entries.entries in
+  pub found_is : (es : List (ℕ × Entry)) (xs : List ℕ) → AreOrdered es → IsSorted nat_cmp xs → All (λ e. holds_as asked event e.1.parts ≡ true → Contains xs e.0) es
+      → passing (meets es asked event) xs ≡ asked_ids asked event (conditions_of es)
+  found_is es xs up sorted found =
       let ascends = Ascends-filter test (conditions_of es) (subst Ascends (sym (keys_are_ids es)) up) in
       let once = IsStrictlySortedBy-dedup nat_cmp_total (λ x y. grind (arith, nat_tests)) xs sorted in
-      passing_is (meets entries asked event) xs (listed es) (rises (passing (meets entries asked event) xs) (IsStrictlySortedBy-filter nat_cmp (meets entries asked event) (dedup eqb xs) once)) (rises (listed es) ascends)
+      passing_is (meets es asked event) xs (listed es) (rises (passing (meets es asked event) xs) (IsStrictlySortedBy-filter nat_cmp (meets es asked event) (dedup eqb xs) once)) (rises (listed es) ascends)
       (λ z there. (listed_met es up z there, listed_found xs es found z there)) (met_listed es)
 
   -- these ids ascend, where the keys of the entries do
-  pub found_ascends : (entries : BTreeMap ℕ Entry) → IsStrictlySortedBy nat_cmp (keys_of entries.entries) → Ascends (asked_ids asked event (conditions_of entries.entries))
-  found_ascends entries up = let es = entries.entries in Ascends-filter test (conditions_of es) (subst Ascends (sym (keys_are_ids es)) up)
+  pub found_ascends : (es : List (ℕ × Entry)) → AreOrdered es → Ascends (asked_ids asked event (conditions_of es))
+  found_ascends es up = Ascends-filter test (conditions_of es) (subst Ascends (sym (keys_are_ids es)) up)

@@ -1,5 +1,6 @@
 pub mod BucketLemmas
 pub mod ColumnLemmas
+pub mod EntryLemmas
 pub mod FindLemmas
 pub mod HoldingLemmas
 pub mod IdLemmas

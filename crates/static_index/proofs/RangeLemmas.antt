@@ -1,5 +1,5 @@
 -- Buckets between two bounds.
-use Rattle.std.proofs.Common.{◌≡◌, ◌∙◌, ap, refl, sym, subst, ℕ, ℤ, pos, ◌-ℤ◌, ◌≤ℤ◌, ◌<ℤ◌, Bool, true, false, not, ◌&&◌, ◌==◌, cond, inl, inr, eqb-true, List, [], ◌∷◌, Contains, arith}
+use Rattle.std.proofs.Common.{◌≡◌, ◌∙◌, ap, refl, sym, subst, ℕ, ℤ, pos, ◌-ℤ◌, ◌≤ℤ◌, ◌<ℤ◌, Bool, true, false, not, ◌&&◌, ◌==◌, cond, inl, inr, eqb-true, List, [], ◌∷◌, length, Contains, arith}
 use Rattle.std.specs.Prelude.{Option, Some, None}
 use Rattle.std.specs.declared.cmp.Ordering.{Ordering}
 use Rattle.std.specs.declared.cmp.Ordering.TheVariants.{Less, Equal, Greater}
@@ -141,3 +141,8 @@ near_number first low reach x is near =
 -- low ends that a number is near lie no higher than it
 pub up_to_near : (low : ℤ) (reach : ℕ) (x : ℤ) → IsNear low reach (value.Int x) → range_contains ordered Unbounded (Included (value.Int x)) (value.Int low) ≡ true
 up_to_near low reach x near = not_lt_tested x low near.0
+
+-- no bucket is between bounds where there is none
+pub none_between : (low high : Bound Value) (taken : Value × List ℕ → List ℕ) (es : List (Value × List ℕ)) → length es ≡ 0 → flat_map taken (entries_between ordered low high es) ≡ []
+none_between low high taken [] none = refl
+none_between low high taken (e ∷ es) none = absurd (omega (arith, none))

@@ -1,10 +1,9 @@
 -- Ids filed for each of the two questions. No public clause cites it.
 use Rattle.std.specs.Prelude.{◌≡◌, ◌≢◌, ℕ, true, List, Contains}
-use Rattle.std.specs.BTreeMap.{BTreeMap, IsOrdered}
 use Rattle.std.specs.List.{All}
-use Rattle.std.specs.Ordering.{nat_cmp}
 use Rattle.event_types.specs.Tuple.{TupleView}
 use Rattle.static_index.specs.Choosing.{Covers, IsBest}
+use Rattle.static_index.specs.Entries.{AreOrdered}
 use Rattle.static_index.specs.Headings.{label_of}
 use Rattle.static_index.specs.Table.{holds_as}
 use Rattle.static_index.specs.Tables.{filed_ids}
@@ -28,7 +27,7 @@ abbrev pub FindsAsked : Asked → TupleView → Filing → List ℕ → Type 0
 FindsAsked asked event filing found = (n : ℕ) (e : Entry) → IsFiled filing n e → holds_as asked event e.parts ≡ true → Contains found n
 
 -- what an index keeps: its entries stand in order, each is filed, and none under what comes after another of its parts
-pub record Keeps (entries : BTreeMap ℕ Entry) (filing : Filing) : Type 0 where
-  pub ordered : IsOrdered nat_cmp entries
-  pub filed : All (λ e. IsFiled filing e.0 e.1) entries.entries
-  pub best : All (λ e. IsBest e.1.choice e.1.parts) entries.entries
+pub record Keeps (entries : List (ℕ × Entry)) (filing : Filing) : Type 0 where
+  pub ordered : AreOrdered entries
+  pub filed : All (λ e. IsFiled filing e.0 e.1) entries
+  pub best : All (λ e. IsBest e.1.choice e.1.parts) entries

@@ -2,6 +2,7 @@ pub mod Buckets
 pub mod Choosing
 pub mod Columns
 pub mod Conditions
+pub mod Entries
 pub mod Filing
 pub mod FixedParts
 pub mod Headings

@@ -1,10 +1,9 @@
 -- What the table of an index says of its conditions. No public clause cites it.
 use Rattle.std.specs.Prelude.{ℕ, Bool, false, List, map, Option, Some, None}
-use Rattle.std.specs.BTreeMap.{BTreeMap, get}
 use Rattle.std.specs.List.{filter}
-use Rattle.std.specs.Ordering.{nat_cmp}
 use Rattle.event_types.specs.Tuple.{TupleView}
 use Rattle.static_index.specs.Conditions.{Condition, ids_of}
+use Rattle.static_index.specs.Entries.{entry_of}
 use Rattle.static_index.specs.FixedParts.{all_hold, first_holds}
 use Rattle.static_index.specs.declared.entry.Asked.{Asked}
 use Rattle.static_index.specs.declared.entry.Asked.TheVariants as asked
@@ -30,8 +29,8 @@ entry_meets asked event None = false
 entry_meets asked event (Some entry) = holds_as asked event entry.parts
 
 -- the same of the entry with an id
-abbrev pub meets : BTreeMap ℕ Entry → Asked → TupleView → ℕ → Bool
-meets entries asked event id = entry_meets asked event (get nat_cmp entries id)
+abbrev pub meets : List (ℕ × Entry) → Asked → TupleView → ℕ → Bool
+meets entries asked event id = entry_meets asked event (entry_of id entries)
 
 -- the ids of the conditions whose parts that are asked hold
 abbrev pub asked_ids : Asked → TupleView → List Condition → List ℕ

@@ -52,6 +52,9 @@ pub(crate) fn collect_hashed(
 ) -> Result<(), Memory>
     ensures { OnOk result (found.new ≡ found.old ++ hashed_ids buckets.now lit.now) }
 {
+    if buckets.is_empty() {
+        return Ok(());
+    }
     match buckets.get(lit) {
         Some(ids) => append(found, ids),
         None => Ok(()),

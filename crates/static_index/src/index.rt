@@ -5,13 +5,13 @@ ghost use Rattle.static_index.specs.FixedParts.{fixed_parts};
 ghost use Rattle.static_index.specs.Table.{asked_ids};
 
 use crate::condition::copy_fixed;
-use crate::entry::{Asked, Entries, Entry};
+use crate::entries::Entries;
+use crate::entry::{Asked, Entry};
 use crate::filing::Filing;
 use crate::narrowing::narrow;
 use event_types::{List, Memory, Numbers, Tuple};
 use scalar_expr::Conj;
 use std::alloc::Global;
-use std::collections::BTreeMap;
 use std::marker::Model;
 
 /// Conditions by their fixed parts, of which an event meets few.
@@ -34,7 +34,7 @@ impl Model for StaticIndex {
     ghost use Rattle.static_index.specs.Filing.{Keeps};
     ghost use Rattle.static_index.specs.Table.{conditions_of};
 
-    ghost view = { λ s. conditions_of s.entries.entries };
+    ghost view = { λ s. conditions_of s.entries };
 
     ghost invariant = { λ s. Keeps s.entries s.filing };
 }
@@ -46,7 +46,7 @@ impl StaticIndex {
     {
         StaticIndex {
             alloc,
-            entries: BTreeMap::new(alloc),
+            entries: Entries::new(alloc),
             filing: Filing::new(alloc),
         }
     }
@@ -55,7 +55,7 @@ impl StaticIndex {
     pub fn has(&self, id: usize) -> bool
         ensures { IsTrue result ↔ HasId id self.now }
     {
-        self.entries.contains_key(&id)
+        self.entries.get(id).is_some()
     }
 
     /// Adds a condition. Want of memory leaves the index as it was.
@@ -69,7 +69,7 @@ impl StaticIndex {
         let entry = Entry { parts, choice };
         self.filing.file(self.alloc, id, &entry)?;
         match self.entries.insert(id, entry) {
-            Ok(_) => Ok(()),
+            Ok(()) => Ok(()),
             Err(refused) => {
                 let (_, entry) = refused.value;
                 self.filing.forget(id, &entry);
@@ -83,7 +83,7 @@ impl StaticIndex {
         requires { HasId id self.old }
         ensures { self.new ≡ without id self.old }
     {
-        if let Some(entry) = self.entries.remove(&id) {
+        if let Some(entry) = self.entries.remove(id) {
             self.filing.forget(id, &entry);
         }
     }
@@ -107,6 +107,9 @@ impl StaticIndex {
         ensures emptied { OnErr result (found.new ≡ []) }
     {
         found.clear();
+        if self.entries.is_empty() {
+            return Ok(());
+        }
         match self.find(Asked::All, event, found) {
             Ok(()) => Ok(()),
             Err(fault) => {

@@ -8,6 +8,7 @@ mod appending;
 mod choosing;
 mod column;
 mod condition;
+mod entries;
 mod entry;
 mod filing;
 mod fixed_part;

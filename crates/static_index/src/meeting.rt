@@ -1,20 +1,33 @@
 //! Whether fixed parts hold for an event.
 ghost use Rattle.std.specs.Prelude.{◌≡◌};
+ghost use Rattle.semantics.specs.Truth.{is_met, order_of};
 ghost use Rattle.static_index.specs.FixedParts.{all_hold, first_holds, part_holds};
+ghost use Rattle.static_index.specs.Table.{holds_as};
 
+use crate::entry::Asked;
 use crate::fixed_part::{FixedPart, FixedParts};
-use event_types::{Cmp, Tuple, Value};
+use event_types::{Cmp, Tuple, Value, ValueRef};
 use scalar_expr::compares;
 
+// Whether the parts that are asked hold for an event.
+pub(crate) fn holds(parts: &FixedParts, asked: Asked, event: &Tuple) -> bool
+    ensures { result ≡ holds_as asked event.now parts.now }
+{
+    match asked {
+        Asked::First => is_met_by_first(parts, event),
+        Asked::All => is_met_by_all(parts, event),
+    }
+}
+
 // Whether all the parts hold.
-pub(crate) fn is_met_by_all(parts: &FixedParts, event: &Tuple) -> bool
+fn is_met_by_all(parts: &FixedParts, event: &Tuple) -> bool
     ensures { result ≡ all_hold event.now parts.now }
 {
     parts.as_slice().iter().all(|part| meets_part(part, event))
 }
 
 // Whether the first part holds, or there is none.
-pub(crate) fn is_met_by_first(parts: &FixedParts, event: &Tuple) -> bool
+fn is_met_by_first(parts: &FixedParts, event: &Tuple) -> bool
     ensures { result ≡ first_holds event.now parts.now }
 {
     parts.len() == 0 || meets_part(parts.get(0), event)
@@ -31,5 +44,17 @@ fn meets_part(part: &FixedPart, event: &Tuple) -> bool
 pub(crate) fn meets(event: &Tuple, attr: usize, cmp: Cmp, lit: &Value) -> bool
     ensures { result ≡ part_holds event.now (record { attr = attr; cmp = cmp; lit = lit.now }) }
 {
-    attr < event.vals().len() && compares(cmp, event.vals().get(attr).look(), lit.look())
+    attr < event.vals().len() && is_compared(cmp, event.vals().get(attr), lit)
+}
+
+// Whether a value compares with a literal. Two numbers, as most are, are told apart from the other kinds first.
+fn is_compared(cmp: Cmp, value: &Value, lit: &Value) -> bool
+    ensures { result ≡ is_met cmp (order_of value.now lit.now) }
+{
+    match (value, lit) {
+        (Value::Int(number), Value::Int(other)) => {
+            compares(cmp, ValueRef::Int(*number), ValueRef::Int(*other))
+        }
+        _ => compares(cmp, value.look(), lit.look()),
+    }
 }

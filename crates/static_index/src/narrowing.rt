@@ -3,7 +3,9 @@ ghost use Rattle.std.specs.Prelude.{◌≡◌, ◌&&◌};
 ghost use Rattle.static_index.specs.Narrowing.{is_other, passing};
 ghost use Rattle.static_index.specs.Table.{meets};
 
-use crate::entry::{Asked, Entries, is_met};
+use crate::entries::Entries;
+use crate::entry::Asked;
+use crate::meeting::holds;
 use event_types::{Numbers, Tuple};
 
 // Keeps those ids that are met, where equal ones that follow one another are asked once.
@@ -35,4 +37,14 @@ fn is_kept(entries: &Entries, asked: Asked, event: &Tuple, last: Option<usize>, 
         None => true,
     };
     is_other && is_met(entries, asked, event, id)
+}
+
+// Whether there is a condition with this id, and the parts that are asked hold for an event.
+fn is_met(entries: &Entries, asked: Asked, event: &Tuple, id: usize) -> bool
+    ensures { result ≡ meets entries.now asked event.now id }
+{
+    match entries.get(id) {
+        Some(entry) => holds(&entry.parts, asked, event),
+        None => false,
+    }
 }

@@ -103,6 +103,9 @@ fn collect_met(
     requires { IsForward (IsLeBy ordered) (IsLtBy ordered) (value_bound low) (value_bound high) }
     ensures { OnOk result (found.new ≡ found.old ++ met_ids_between cmp value.now (value_bound low.entry) (value_bound high.entry) buckets.now) }
 {
+    if buckets.is_empty() {
+        return Ok(());
+    }
     'buckets: for (lit, ids) in buckets.range((low, high)) {
         if compares(cmp, value.look(), lit.look()) {
             append(found, ids)?;

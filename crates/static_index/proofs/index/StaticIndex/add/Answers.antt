@@ -6,9 +6,14 @@ use Rattle.static_index.specs.Filing.{IsFiled}
 use Rattle.static_index.specs.FixedParts.{fixed_parts}
 use Rattle.static_index.specs.Table.{conditions_of}
 use Rattle.static_index.specs.declared.entry.Entry.{Entry}
+use Rattle.static_index.proofs.EntryLemmas.{no_entry}
 use Rattle.static_index.proofs.KeepsLemmas.{All-insert, apart_all, refiled}
 use Rattle.static_index.proofs.TableLemmas.{conditions_of-insert}
 use Rattle.static_index.proofs.index.StaticIndex.add.Goals as goal
+
+-- no condition has the id
+pub insert-requires : goal.insert-requires
+insert-requires c = no_entry c.args.id c.self.inside.entries (rw c.self.view_is c.requires)
 
 pub invariant_of-self : goal.invariant_of-self
 invariant_of-self c =
@@ -17,8 +22,8 @@ invariant_of-self c =
     record {
       ordered = c.self.invariant.ordered;
       filed =
-          refiled old c.file.new.self c.args.id entries.entries c.file.ensures.kept
-          (apart_all (λ (e : ℕ × Entry). IsFiled old e.0 e.1) c.args.id entries.entries (rw c.self.view_is c.requires) c.self.invariant.filed);
+          refiled old c.file.new.self c.args.id entries c.file.ensures.kept
+          (apart_all (λ (e : ℕ × Entry). IsFiled old e.0 e.1) c.args.id entries (rw c.self.view_is c.requires) c.self.invariant.filed);
       best = c.self.invariant.best;
     }
 
@@ -28,14 +33,14 @@ invariant_of-self-in-Ok c =
     let new = c.file.new.self in
     let entries = c.self.inside.entries in
     let entry : Entry = record { parts = c.in_ok-parts.parts; choice = c.choose-choice.result } in
-    let others = refiled old new c.args.id entries.entries c.file.ensures.kept
-    (apart_all (λ (e : ℕ × Entry). IsFiled old e.0 e.1) c.args.id entries.entries (rw c.self.view_is c.requires) c.self.invariant.filed) in
+    let others = refiled old new c.args.id entries c.file.ensures.kept
+    (apart_all (λ (e : ℕ × Entry). IsFiled old e.0 e.1) c.args.id entries (rw c.self.view_is c.requires) c.self.invariant.filed) in
     record {
       ordered = c.in-Ok.ensures.ordered;
-      filed = subst (All (λ (e : ℕ × Entry). IsFiled new e.0 e.1)) (sym c.in-Ok.ensures.entries) (All-insert (λ (e : ℕ × Entry). IsFiled new e.0 e.1) c.args.id entry entries.entries c.in_ok-file.ensures.ok others);
+      filed = subst (All (λ (e : ℕ × Entry). IsFiled new e.0 e.1)) (sym c.in-Ok.ensures.ok) (All-insert (λ (e : ℕ × Entry). IsFiled new e.0 e.1) c.args.id entry entries c.in_ok-file.ensures.ok others);
       best =
-          subst (All (λ (e : ℕ × Entry). IsBest e.1.choice e.1.parts)) (sym c.in-Ok.ensures.entries)
-          (All-insert (λ (e : ℕ × Entry). IsBest e.1.choice e.1.parts) c.args.id entry entries.entries c.choose-choice.ensures.best c.self.invariant.best);
+          subst (All (λ (e : ℕ × Entry). IsBest e.1.choice e.1.parts)) (sym c.in-Ok.ensures.ok)
+          (All-insert (λ (e : ℕ × Entry). IsBest e.1.choice e.1.parts) c.args.id entry entries c.choose-choice.ensures.best c.self.invariant.best);
     }
 
 pub invariant_of-self-in-Err : goal.invariant_of-self-in-Err
@@ -44,20 +49,20 @@ invariant_of-self-in-Err c =
     let mid = c.file.new.self in
     let new = c.forget.new.self in
     let entries = c.self.inside.entries in
-    let others = refiled old mid c.args.id entries.entries c.file.ensures.kept
-    (apart_all (λ (e : ℕ × Entry). IsFiled old e.0 e.1) c.args.id entries.entries (rw c.self.view_is c.requires) c.self.invariant.filed) in
-    let left = refiled mid new c.args.id entries.entries c.forget.ensures (apart_all (λ (e : ℕ × Entry). IsFiled mid e.0 e.1) c.args.id entries.entries (rw c.self.view_is c.requires) others) in
+    let others = refiled old mid c.args.id entries c.file.ensures.kept
+    (apart_all (λ (e : ℕ × Entry). IsFiled old e.0 e.1) c.args.id entries (rw c.self.view_is c.requires) c.self.invariant.filed) in
+    let left = refiled mid new c.args.id entries c.forget.ensures (apart_all (λ (e : ℕ × Entry). IsFiled mid e.0 e.1) c.args.id entries (rw c.self.view_is c.requires) others) in
     record {
       ordered = c.in-Err.ensures.ordered;
-      filed = subst (All (λ (e : ℕ × Entry). IsFiled new e.0 e.1)) (sym c.in-Err.ensures.err) left;
-      best = subst (All (λ (e : ℕ × Entry). IsBest e.1.choice e.1.parts)) (sym c.in-Err.ensures.err) c.self.invariant.best;
+      filed = subst (All (λ (e : ℕ × Entry). IsFiled new e.0 e.1)) (sym c.in-Err.ensures.kept) left;
+      best = subst (All (λ (e : ℕ × Entry). IsBest e.1.choice e.1.parts)) (sym c.in-Err.ensures.kept) c.self.invariant.best;
     }
 
 pub returns-in-Ok-clause-ok : goal.returns-in-Ok-clause-ok
 returns-in-Ok-clause-ok c =
     let one : Condition = record { id = c.args.id; parts = fixed_parts c.args.condition.now } in
     let entry : Entry = record { parts = c.in_ok-parts.parts; choice = c.choose-choice.result } in
-    ap conditions_of c.in-Ok.ensures.entries
-    ∙ conditions_of-insert c.args.id entry c.self.inside.entries.entries (rw c.self.view_is c.requires)
-    ∙ ap (λ parts. with_condition (record { id = c.args.id; parts = parts }) (conditions_of c.self.inside.entries.entries)) c.in_ok-parts.ensures
+    ap conditions_of c.in-Ok.ensures.ok
+    ∙ conditions_of-insert c.args.id entry c.self.inside.entries (rw c.self.view_is c.requires)
+    ∙ ap (λ parts. with_condition (record { id = c.args.id; parts = parts }) (conditions_of c.self.inside.entries)) c.in_ok-parts.ensures
     ∙ ap (with_condition one) c.self.view_is

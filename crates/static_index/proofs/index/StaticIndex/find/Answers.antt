@@ -13,7 +13,7 @@ returns-clause-value c =
     let entries = c.self.inside.entries in
     let event = c.args.event.now in
     let found = All-weaker (λ (e : ℕ × Entry). IsFiled c.self.inside.filing e.0 e.1) (λ e. holds_as c.args.asked event e.1.parts ≡ true → Contains c.sort.new.self e.0)
-    (λ e filed holds. Contains-permutation c.collect.new.found c.sort.new.self e.0 c.sort.ensures.permutation (c.in_ok-collect.ensures e.0 e.1 filed holds)) entries.entries c.self.invariant.filed in
+    (λ e filed holds. Contains-permutation c.collect.new.found c.sort.new.self e.0 c.sort.ensures.permutation (c.in_ok-collect.ensures e.0 e.1 filed holds)) entries c.self.invariant.filed in
     c.narrow.ensures ∙ found_is c.args.asked event entries c.sort.new.self c.self.invariant.ordered c.sort.ensures.sorted found ∙ ap (asked_ids c.args.asked event) c.self.view_is
 
 pub returns-clause-ascends : goal.returns-clause-ascends
