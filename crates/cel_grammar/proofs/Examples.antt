@@ -1,7 +1,8 @@
 -- Examples of the definitions, each worked out by hand. No contract cites them.
-use Rattle.std.proofs.Common.{◌≡◌, ℕ, pos, negsuc, List, [], ◌∷◌, refl}
+use Rattle.std.proofs.Common.{◌≡◌, ℕ, pos, negsuc, List, [], ◌∷◌, refl, arith}
 use Rattle.std.specs.Prelude.{codes}
 use Rattle.event_types.specs.declared.comparison.Cmp.TheVariants as cmp
+use Rattle.event_types.specs.declared.kind.Kind.{Kind}
 use Rattle.event_types.specs.declared.kind.Kind.TheVariants as kind
 use Rattle.cel_lexer.specs.declared.token.What.TheVariants as what
 use Rattle.cel_grammar.specs.declared.mark.Mark.TheVariants as mark
@@ -81,3 +82,21 @@ statements_end_with_a_semicolon : statement.IsFile
 statements_end_with_a_semicolon =
     statement.then (statement.declaration (statement.one statement.int))
     (statement.then (statement.query (source.one source.name) (source.term source.of)) statement.empty)
+
+-- STREAM A (DEC DEC 2, A DEC 0)
+dec_is_also_a_name : statement.IsStatement
+    (the.Stream ∷ the.Name a ∷ the.Open ∷ the.Name (codes "DEC") ∷ the.Name (codes "DEC") ∷ the.Number 2 ∷ the.Comma ∷ the.Name a ∷ the.Name (codes "DEC") ∷ the.Number 0 ∷ the.Close ∷ [])
+    (tree.Stream a (tree.Col (codes "DEC") (kind.Dec 2) ∷ tree.Col a (kind.Dec 0) ∷ [])) []
+dec_is_also_a_name = statement.declaration (statement.more (statement.dec (omega arith)) (statement.one (statement.dec (omega arith))))
+
+-- DEC 19
+nineteen_places_are_too_many : {k : Kind} {ts rest : List Symbol} → statement.IsKind (the.Name (codes "DEC") ∷ the.Number 19 ∷ ts) k rest → ⊥
+nineteen_places_are_too_many (statement.dec few) = absurd (omega arith)
+
+-- a name and a number are all of a kind
+name_and_number : {a : List ℕ} {n : ℕ} {k : Kind} {ts rest : List Symbol} → statement.IsKind (the.Name a ∷ the.Number n ∷ ts) k rest → ts ≡ rest
+name_and_number (statement.dec few) = refl
+
+-- DEC 2.5
+places_are_whole : {k : Kind} {ts rest : List Symbol} → statement.IsKind (the.Name (codes "DEC") ∷ the.Number 2 ∷ the.Dot ∷ the.Number 5 ∷ ts) k (the.Comma ∷ rest) → ⊥
+places_are_whole h = let all = name_and_number h in absurd cc

@@ -1,6 +1,6 @@
 -- The grammar of statements and files. `IsStatement ts s rest` says that a statement which is s stands
 -- at the front of the symbols ts, and that rest follows it.
-use Rattle.std.specs.Prelude.{ℕ, List, [], ◌∷◌}
+use Rattle.std.specs.Prelude.{ℕ, ◌≤◌, List, [], ◌∷◌, codes}
 use Rattle.event_types.specs.declared.kind.Kind.{Kind}
 use Rattle.event_types.specs.declared.kind.Kind.TheVariants as kind
 use Rattle.cel_grammar.specs.Symbols.{Symbol}
@@ -8,15 +8,16 @@ use Rattle.cel_grammar.specs.Symbols as the
 use Rattle.cel_grammar.specs.Trees.{Item, Source, Column, Col, Statement, Stream, Query}
 use Rattle.cel_grammar.specs.Sources.{IsItems, IsSource}
 
--- INT or TEXT
-pub data IsKind : Symbol → Kind → Type 0 where
-  int : IsKind the.Int kind.Int
-  text : IsKind the.Text kind.Text
+-- INT, or TEXT, or the name DEC, which is no keyword, and a number of places from 0 to 18
+pub data IsKind : List Symbol → Kind → List Symbol → Type 0 where
+  int : {rest : List Symbol} → IsKind (the.Int ∷ rest) kind.Int rest
+  text : {rest : List Symbol} → IsKind (the.Text ∷ rest) kind.Text rest
+  dec : {places : ℕ} {rest : List Symbol} → places ≤ 18 → IsKind (the.Name (codes "DEC") ∷ the.Number places ∷ rest) (kind.Dec places) rest
 
 -- name kind, zero or more of (, name kind)
 pub data IsColumns : List Symbol → List Column → List Symbol → Type 0 where
-  one : {a : List ℕ} {t : Symbol} {k : Kind} {rest : List Symbol} → IsKind t k → IsColumns (the.Name a ∷ t ∷ rest) (Col a k ∷ []) rest
-  more : {a : List ℕ} {t : Symbol} {k : Kind} {ts rest : List Symbol} {cs : List Column} → IsKind t k → IsColumns ts cs rest → IsColumns (the.Name a ∷ t ∷ the.Comma ∷ ts) (Col a k ∷ cs) rest
+  one : {a : List ℕ} {k : Kind} {ts rest : List Symbol} → IsKind ts k rest → IsColumns (the.Name a ∷ ts) (Col a k ∷ []) rest
+  more : {a : List ℕ} {k : Kind} {ts us rest : List Symbol} {cs : List Column} → IsKind ts k (the.Comma ∷ us) → IsColumns us cs rest → IsColumns (the.Name a ∷ ts) (Col a k ∷ cs) rest
 
 -- STREAM name ( columns ), or SELECT items FROM source PUBLISH name
 pub data IsStatement : List Symbol → Statement → List Symbol → Type 0 where
