@@ -1,5 +1,6 @@
 -- The symbols that a reading takes: none is a semicolon, and before any other symbols they read the same.
 use Rattle.std.proofs.Common.{◌≡◌, ◌∙◌, List, [], ◌∷◌, ◌++◌, refl, sym, ap, subst, append_assoc}
+use Rattle.std.specs.Prelude.{codes}
 use Rattle.event_types.specs.declared.kind.Kind.{Kind}
 use Rattle.cel_grammar.specs.Symbols.{Symbol}
 use Rattle.cel_grammar.specs.Symbols as the
@@ -181,15 +182,18 @@ mutual
       behind (the.Filter ∷ the.BraceOpen ∷ []) {A = λ vs ws. IsTerm (the.Filter ∷ the.BraceOpen ∷ vs) _ ws} (tt, (tt, tt))
       (both (upto (the.BraceClose ∷ []) (tt, tt) (pred_front h)) (term_front k) (λ _ _ _ h k. source.filter h k)) (λ _ _ h. h)
 
--- INT and TEXT are no semicolons
-kind_inside : {t : Symbol} {k : Kind} → IsKind t k → IsInside t
-kind_inside statement.int = tt
-kind_inside statement.text = tt
+-- the symbols of a kind
+kind_front : {ts rest : List Symbol} {k : Kind} → IsKind ts k rest → Front (λ vs ws. IsKind vs k ws) ts rest
+kind_front statement.int = these (the.Int ∷ []) (tt, tt) (λ _. statement.int)
+kind_front statement.text = these (the.Text ∷ []) (tt, tt) (λ _. statement.text)
+kind_front (statement.dec {places = n} few) = these (the.Name (codes "DEC") ∷ the.Number n ∷ []) (tt, (tt, tt)) (λ _. statement.dec few)
 
 -- the symbols of columns
 columns_front : {ts rest : List Symbol} {cs : List Column} → IsColumns ts cs rest → Front (λ vs ws. IsColumns vs cs ws) ts rest
-columns_front (statement.one {a = a} {t = t} k) = these (the.Name a ∷ t ∷ []) (tt, (kind_inside k, tt)) (λ _. statement.one k)
-columns_front (statement.more {a = a} {t = t} k h) = behind (the.Name a ∷ t ∷ the.Comma ∷ []) (tt, (kind_inside k, (tt, tt))) (columns_front h) (λ _ _ h. statement.more k h)
+columns_front (statement.one {a = a} h) = behind (the.Name a ∷ []) (tt, tt) (kind_front h) (λ _ _ h. statement.one h)
+columns_front (statement.more {a = a} h k) =
+    behind (the.Name a ∷ []) {A = λ vs ws. IsColumns (the.Name a ∷ vs) _ ws} (tt, tt)
+    (both (upto (the.Comma ∷ []) (tt, tt) (kind_front h)) (columns_front k) (λ _ _ _ h k. statement.more h k)) (λ _ _ h. h)
 
 -- the symbols of a statement hold no semicolon, and read so before any others
 pub statement_front : {ts rest : List Symbol} {s : Statement} → IsStatement ts s rest → Front (λ vs ws. IsStatement vs s ws) ts rest

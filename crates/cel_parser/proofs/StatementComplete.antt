@@ -1,14 +1,15 @@
 -- Statements in the grammar are read, so no symbols have two readings.
 use Rattle.std.proofs.Common.{◌≡◌, ◌∙◌, ℕ, zero, suc, ◌+◌, ◌*◌, ◌<◌, ◌≤◌, List, [], ◌∷◌, length, refl, sym, arith}
-use Rattle.std.specs.Prelude.{Option, Some}
+use Rattle.std.specs.Prelude.{Option, Some, true, nat_le}
+use Rattle.std.proofs.lemmas.Bool.Decides.{nat_tests}
 use Rattle.event_types.specs.declared.kind.Kind.{Kind}
 use Rattle.cel_grammar.specs.Symbols.{Symbol}
 use Rattle.cel_grammar.specs.Symbols as the
 use Rattle.cel_grammar.specs.Trees.{Item, Source, Column, Col, Statement, Stream, Query}
-use Rattle.cel_grammar.specs.Statements.{IsKind, int, text, IsColumns, one, more, IsStatement, declaration, query, IsFile, empty, then}
+use Rattle.cel_grammar.specs.Statements.{IsKind, int, text, dec, IsColumns, one, more, IsStatement, declaration, query, IsFile, empty, then}
 use Rattle.cel_parser.specs.ScalarReader.{done}
 use Rattle.cel_parser.specs.SourceReader.{items_at, source_at}
-use Rattle.cel_parser.specs.StatementReader.{column_at, columns_at, columns_more, statement_at}
+use Rattle.cel_parser.specs.StatementReader.{dec_of, kind_at, column_at, columns_at, columns_more, statement_at}
 use Rattle.cel_parser.proofs.ScalarSound.{same}
 use Rattle.cel_parser.proofs.SourceComplete.{items_complete, items_shorter, source_complete, source_shorter, source_stays}
 
@@ -23,37 +24,54 @@ unfolding columns_more
 columns_stay n c (the.Comma ∷ ts) h = absurd h
 columns_stay n c ts h = refl
 
+-- a number of places that is small enough is tested to be so
+few_enough : (n : ℕ) → n ≤ 18 → nat_le n 18 ≡ true
+few_enough n few = grind (arith, nat_tests)
+
 -- the reader reads it from its parts
-column_is : {t : Symbol} {k : Kind} → IsKind t k → (a : List ℕ) (ts : List Symbol) → column_at (the.Name a ∷ t ∷ ts) ≡ Some (Col a k, ts)
-column_is int a ts = refl
-column_is text a ts = refl
+kind_is : {ts rest : List Symbol} {k : Kind} → IsKind ts k rest → kind_at ts ≡ Some (k, rest)
+unfolding kind_at dec_of
+kind_is int = refl
+kind_is text = refl
+kind_is (dec {places = n} few) = rw (few_enough n few) refl
+
+-- the reader reads it from its parts
+column_is : {ts rest : List Symbol} {k : Kind} → IsKind ts k rest → (a : List ℕ) → column_at (the.Name a ∷ ts) ≡ Some (Col a k, rest)
+unfolding column_at
+column_is h a = rw (kind_is h) refl
 
 -- the last column is read
-columns_one : (n : ℕ) (a : List ℕ) (t : Symbol) (k : Kind) (ts : List Symbol) → IsKind t k → NotComma ts
-    → columns_at (suc (suc n)) (the.Name a ∷ t ∷ ts) ≡ Some (Col a k ∷ [], ts)
+columns_one : (n : ℕ) (a : List ℕ) (ts : List Symbol) (k : Kind) (rest : List Symbol) → IsKind ts k rest → NotComma rest
+    → columns_at (suc (suc n)) (the.Name a ∷ ts) ≡ Some (Col a k ∷ [], rest)
 unfolding columns_at
-columns_one n a t k ts h ends = rw (column_is h a ts) (columns_stay n (Col a k) ts ends)
+columns_one n a ts k rest h ends = rw (column_is h a) (columns_stay n (Col a k) rest ends)
 
 -- a column and those behind the comma are read
-columns_next : (n : ℕ) (a : List ℕ) (t : Symbol) (k : Kind) (ts : List Symbol) (cs : List Column) (rest : List Symbol) → IsKind t k
-    → columns_at n ts ≡ Some (cs, rest) → columns_at (suc (suc n)) (the.Name a ∷ t ∷ the.Comma ∷ ts) ≡ Some (Col a k ∷ cs, rest)
+columns_next : (n : ℕ) (a : List ℕ) (ts us : List Symbol) (k : Kind) (cs : List Column) (rest : List Symbol) → IsKind ts k (the.Comma ∷ us)
+    → columns_at n us ≡ Some (cs, rest) → columns_at (suc (suc n)) (the.Name a ∷ ts) ≡ Some (Col a k ∷ cs, rest)
 unfolding columns_at
-columns_next n a t k ts cs rest h e = rw (column_is h a (the.Comma ∷ ts)) (rw e refl)
+columns_next n a ts us k cs rest h e = rw (column_is h a) (rw e refl)
+
+-- it takes one symbol at least
+kind_shorter : {ts rest : List Symbol} {k : Kind} → IsKind ts k rest → length rest < length ts
+kind_shorter int = omega arith
+kind_shorter text = omega arith
+kind_shorter (dec few) = omega arith
 
 -- it takes one symbol at least
 columns_shorter : {ts rest : List Symbol} {cs : List Column} → IsColumns ts cs rest → length rest < length ts
-columns_shorter (one h) = omega arith
-columns_shorter (more h k) = omega (arith, columns_shorter k)
+columns_shorter (one h) = omega (arith, kind_shorter h)
+columns_shorter (more h k) = omega (arith, kind_shorter h, columns_shorter k)
 
 -- what is in the grammar is read
 pub columns_complete : {ts rest : List Symbol} {cs : List Column} → IsColumns ts cs rest → (m : ℕ) → NotComma rest
     → length ts ≤ m + length rest → columns_at m ts ≡ Some (cs, rest)
 columns_complete h zero ends le = absurd (omega (arith, columns_shorter h))
-columns_complete (one h) (suc zero) ends le = absurd (omega arith)
-columns_complete {rest = rest} (one {a = a} {t = t} {k = k} h) (suc (suc m)) ends le = columns_one m a t k rest h ends
-columns_complete (more h k) (suc zero) ends le = absurd (omega (arith, columns_shorter k))
-columns_complete {rest = rest} (more {a = a} {t = t} {k = kind} {ts = ts} {cs = cs} h k) (suc (suc m)) ends le =
-    columns_next m a t kind ts cs rest h (columns_complete k m ends (omega arith))
+columns_complete (one h) (suc zero) ends le = absurd (omega (arith, kind_shorter h))
+columns_complete {rest = rest} (one {a = a} {k = k} {ts = ts} h) (suc (suc m)) ends le = columns_one m a ts k rest h ends
+columns_complete (more h k) (suc zero) ends le = absurd (omega (arith, kind_shorter h, columns_shorter k))
+columns_complete {rest = rest} (more {a = a} {k = kind} {ts = ts} {us = us} {cs = cs} h k) (suc (suc m)) ends le =
+    columns_next m a ts us kind cs rest h (columns_complete k m ends (omega (arith, kind_shorter h)))
 
 -- it takes one symbol at least
 pub statement_shorter : {ts rest : List Symbol} {s : Statement} → IsStatement ts s rest → length rest < length ts

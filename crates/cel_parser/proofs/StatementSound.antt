@@ -1,15 +1,19 @@
 -- What is read as a statement is in the grammar.
-use Rattle.std.proofs.Common.{◌≡◌, ℕ, zero, suc, List, [], ◌∷◌, refl}
-use Rattle.std.specs.Prelude.{Some}
+use Rattle.std.proofs.Common.{◌≡◌, ℕ, zero, suc, ◌≤◌, Bool, true, false, List, [], ◌∷◌, refl, sym, subst, arith}
+use Rattle.std.specs.Prelude.{Some, None, nat_le, ◌&&◌, codes, if◌then◌else◌}
+use Rattle.std.specs.Str.{bytes_eq}
+use Rattle.std.proofs.lemmas.Bool.Decides.{nat_tests}
+use Rattle.std.proofs.lemmas.Slice.Eq.{bytes_eq-Decides}
+use Rattle.event_types.specs.declared.kind.Kind.{Kind}
 use Rattle.event_types.specs.declared.kind.Kind.TheVariants as kind
 use Rattle.cel_grammar.specs.Symbols.{Symbol}
 use Rattle.cel_grammar.specs.Symbols as the
 use Rattle.cel_grammar.specs.Sources.{IsItems, IsSource}
 use Rattle.cel_grammar.specs.Trees.{Item, Source, Column, Col, Statement, Stream, Query}
-use Rattle.cel_grammar.specs.Statements.{int, text, IsColumns, one, more, IsStatement, declaration, query}
+use Rattle.cel_grammar.specs.Statements.{IsKind, int, text, dec, IsColumns, one, more, IsStatement, declaration, query}
 use Rattle.cel_parser.specs.ScalarReader.{◌>>=◌, done, close_at}
 use Rattle.cel_parser.specs.SourceReader.{from_at, items_at, source_at}
-use Rattle.cel_parser.specs.StatementReader.{column_at, columns_at, columns_more, publish_at, statement_at}
+use Rattle.cel_parser.specs.StatementReader.{dec_of, kind_at, column_at, columns_at, columns_more, publish_at, statement_at}
 use Rattle.cel_parser.proofs.ScalarSound.{bind_some, same}
 use Rattle.cel_parser.proofs.SourceSound.{from_is, items_sound, source_sound}
 
@@ -18,18 +22,42 @@ record BeginsColumns (front : List Symbol) (c : Column) (ts : List Symbol) : Typ
   last : IsColumns front (c ∷ []) ts
   goes_on : (us : List Symbol) (cs : List Column) (rest : List Symbol) → ts ≡ the.Comma ∷ us → IsColumns us cs rest → IsColumns front (c ∷ cs) rest
 
--- what it begins with
-int_begins : (a : List ℕ) (ts : List Symbol) → BeginsColumns (the.Name a ∷ the.Int ∷ ts) (Col a kind.Int) ts
-int_begins a ts = record { last = one int; goes_on = λ us cs rest e h. rw e (more int h) }
+-- a kind makes it a column
+column_begins : (a : List ℕ) (ts : List Symbol) (k : Kind) (rest : List Symbol) → IsKind ts k rest → BeginsColumns (the.Name a ∷ ts) (Col a k) rest
+column_begins a ts k rest h = record { last = one h; goes_on = λ us cs end e more_columns. more (subst (λ behind. IsKind ts k behind) e h) more_columns }
 
--- what it begins with
-text_begins : (a : List ℕ) (ts : List Symbol) → BeginsColumns (the.Name a ∷ the.Text ∷ ts) (Col a kind.Text) ts
-text_begins a ts = record { last = one text; goes_on = λ us cs rest e h. rw e (more text h) }
+-- the name is DEC and the places are few, where the tests say so
+dec_when : (a : List ℕ) (n : ℕ) (k : Kind) (ts : List Symbol) (named few : Bool) → bytes_eq a (codes "DEC") ≡ named → nat_le n 18 ≡ few
+    → (if named && few then Some (kind.Dec n) else None) ≡ Some k → IsKind (the.Name a ∷ the.Number n ∷ ts) k ts
+dec_when a n k ts true true name low e =
+    let is_dec : codes "DEC" ≡ a = sym ((bytes_eq-Decides a (codes "DEC")).0 name) in
+    let is_kind : kind.Dec n ≡ k = cc in
+    let is_few : n ≤ 18 = grind (arith, nat_tests, low) in
+    subst (λ word. IsKind (the.Name word ∷ the.Number n ∷ ts) k ts) is_dec (subst (λ kind. IsKind (the.Name (codes "DEC") ∷ the.Number n ∷ ts) kind ts) is_kind (dec is_few))
+dec_when a n k ts true false name low e = absurd cc
+dec_when a n k ts false few name low e = absurd cc
+
+-- what is read is in the grammar
+dec_sound : (a : List ℕ) (n : ℕ) (k : Kind) (ts : List Symbol) → dec_of a n ≡ Some k → IsKind (the.Name a ∷ the.Number n ∷ ts) k ts
+unfolding dec_of
+dec_sound a n k ts e = dec_when a n k ts (bytes_eq a (codes "DEC")) (nat_le n 18) refl refl e
+
+-- what is read is in the grammar
+kind_sound : (ts : List Symbol) (k : Kind) (rest : List Symbol) → kind_at ts ≡ Some (k, rest) → IsKind ts k rest
+unfolding kind_at
+kind_sound (the.Int ∷ ts) k rest e = same (IsKind (the.Int ∷ ts)) kind.Int ts k rest e int
+kind_sound (the.Text ∷ ts) k rest e = same (IsKind (the.Text ∷ ts)) kind.Text ts k rest e text
+kind_sound (the.Name a ∷ the.Number n ∷ ts) k rest e =
+    let s = bind_some (dec_of a n) (λ found. done found ts) (k, rest) e in
+    same (IsKind (the.Name a ∷ the.Number n ∷ ts)) s.0 ts k rest s.2 (dec_sound a n s.0 ts s.1)
+kind_sound ts k rest e = absurd cc
 
 -- what is read is in the grammar
 column_sound : (front : List Symbol) (c : Column) (ts : List Symbol) → column_at front ≡ Some (c, ts) → BeginsColumns front c ts
-column_sound (the.Name a ∷ the.Int ∷ ts) c us e = same (BeginsColumns (the.Name a ∷ the.Int ∷ ts)) _ ts c us e (int_begins a ts)
-column_sound (the.Name a ∷ the.Text ∷ ts) c us e = same (BeginsColumns (the.Name a ∷ the.Text ∷ ts)) _ ts c us e (text_begins a ts)
+unfolding column_at
+column_sound (the.Name a ∷ ts) c us e =
+    let s = bind_some (kind_at ts) (λ k. done (Col a k.0) k.1) (c, us) e in
+    same (BeginsColumns (the.Name a ∷ ts)) (Col a s.0.0) s.0.1 c us s.2 (column_begins a ts s.0.0 s.0.1 (kind_sound ts s.0.0 s.0.1 s.1))
 column_sound ts c us e = absurd cc
 
 mutual

@@ -1,6 +1,8 @@
 -- Reading statements from left to right. No public clause cites this module. The number bounds how
 -- deep the calls go.
-use Rattle.std.specs.Prelude.{ℕ, zero, suc, List, [], ◌∷◌, None}
+use Rattle.std.specs.Prelude.{ℕ, zero, suc, nat_le, ◌&&◌, List, [], ◌∷◌, Option, Some, None, codes, if◌then◌else◌}
+use Rattle.std.specs.Str.{bytes_eq}
+use Rattle.event_types.specs.declared.kind.Kind.{Kind}
 use Rattle.event_types.specs.declared.kind.Kind.TheVariants as kind
 use Rattle.cel_grammar.specs.Symbols.{Symbol}
 use Rattle.cel_grammar.specs.Symbols as the
@@ -8,10 +10,20 @@ use Rattle.cel_grammar.specs.Trees.{Column, Col, Statement, Stream, Query}
 use Rattle.cel_parser.specs.ScalarReader.{◌>>=◌, Read, done, close_at}
 use Rattle.cel_parser.specs.SourceReader.{from_at, items_at, source_at}
 
+-- the kind of a name and a number: DEC with at most 18 places
+unfoldable pub dec_of : List ℕ → ℕ → Option Kind
+dec_of name places = if bytes_eq name (codes "DEC") && nat_le places 18 then Some (kind.Dec places) else None
+
+-- a kind
+unfoldable pub kind_at : List Symbol → Read Kind
+kind_at (the.Int ∷ ts) = done kind.Int ts
+kind_at (the.Text ∷ ts) = done kind.Text ts
+kind_at (the.Name a ∷ the.Number places ∷ ts) = dec_of a places >>= λ k. done k ts
+kind_at ts = None
+
 -- a name and its kind
-abbrev pub column_at : List Symbol → Read Column
-column_at (the.Name a ∷ the.Int ∷ ts) = done (Col a kind.Int) ts
-column_at (the.Name a ∷ the.Text ∷ ts) = done (Col a kind.Text) ts
+unfoldable pub column_at : List Symbol → Read Column
+column_at (the.Name a ∷ ts) = kind_at ts >>= λ k. done (Col a k.0) k.1
 column_at ts = None
 
 unfoldable mutual

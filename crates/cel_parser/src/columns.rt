@@ -4,15 +4,20 @@ ghost use Rattle.cel_grammar.specs.Views.{column_of};
 ghost use Rattle.cel_parser.specs.Columns.{columns_after, columns_behind};
 ghost use Rattle.cel_parser.specs.ReturnsReading.{ReturnsReading};
 ghost use Rattle.cel_parser.specs.GrammarSymbols.{grammar_symbol_of};
-ghost use Rattle.cel_parser.specs.StatementReader.{column_at, columns_at};
+ghost use Rattle.cel_parser.specs.Numbers.{counted};
+ghost use Rattle.cel_parser.specs.StatementReader.{column_at, columns_at, dec_of, kind_at};
 
 use crate::literals::name_text;
+use crate::numbers::plain;
 use crate::reading::{Reading, Symbols};
 use crate::symbol::Symbol;
 use crate::unread::Unread;
 use cel_grammar::{Attr, Attrs};
 use event_types::Kind;
 use std::alloc::Global;
+
+// The most places of a decimal.
+const MOST_PLACES: i128 = 18;
 
 /// Names with their kinds, between commas, and the symbols behind them.
 #[tactic(auto, using(crate::proofs::ColumnNext::columns_alone))]
@@ -74,20 +79,43 @@ fn with_column(mut columns: Attrs, column: Attr) -> Result<Attrs, Unread>
 }
 
 // A name and its kind.
+#[tactic(auto, unfolding(crate::specs::StatementReader::column_at))]
 fn read_column<'a>(alloc: Global, symbols: Symbols<'a>) -> Reading<'a, Attr>
     ensures { ReturnsReading (λ p. (column_of p.0, map grammar_symbol_of p.1.now)) result (column_at (map grammar_symbol_of symbols.now)) }
 {
     match symbols {
-        [Symbol::Name(name), Symbol::Int, rest @ ..] => Ok((made(alloc, name, Kind::Int)?, rest)),
-        [Symbol::Name(name), Symbol::Text, rest @ ..] => Ok((made(alloc, name, Kind::Text)?, rest)),
+        [Symbol::Name(name), rest @ ..] => {
+            let (kind, rest) = read_kind(rest)?;
+            let name = name_text(alloc, name)?;
+            Ok((Attr { name, kind }, rest))
+        }
         _ => Err(Unread::Bad),
     }
 }
 
-fn made(alloc: Global, name: &str, kind: Kind) -> Result<Attr, Unread>
-    ensures ok { IfOk result (λ column. column ≡ record { name = name.now; kind = kind }) }
-    ensures memory { IfErr result (λ fault. fault ≡ Unread.Memory) }
+// INT, TEXT, or DEC and its places.
+#[tactic(auto, unfolding(crate::specs::StatementReader::kind_at))]
+fn read_kind<'a>(symbols: Symbols<'a>) -> Reading<'a, Kind>
+    ensures { ReturnsReading (λ p. (p.0, map grammar_symbol_of p.1.now)) result (kind_at (map grammar_symbol_of symbols.now)) }
 {
-    let name = name_text(alloc, name)?;
-    Ok(Attr { name, kind })
+    match symbols {
+        [Symbol::Int, rest @ ..] => Ok((Kind::Int, rest)),
+        [Symbol::Text, rest @ ..] => Ok((Kind::Text, rest)),
+        [Symbol::Name(name), Symbol::Number(places), rest @ ..] => {
+            Ok((decimal(name, *places)?, rest))
+        }
+        _ => Err(Unread::Bad),
+    }
+}
+
+// The kind of a name and a number, which is DEC with at most 18 places.
+#[tactic(auto, unfolding(crate::specs::StatementReader::dec_of))]
+fn decimal(name: &str, number: i128) -> Result<Kind, Unread>
+    ensures { ReturnsReading (λ k. k) result (dec_of name.now (counted number)) }
+{
+    let places = plain(number);
+    if name != "DEC" || places > MOST_PLACES {
+        return Err(Unread::Bad);
+    }
+    Ok(Kind::Dec(places as u8))
 }

@@ -12,6 +12,7 @@ mod items;
 mod laws;
 mod links;
 mod literals;
+mod numbers;
 mod parsing;
 mod predicates;
 mod reading;

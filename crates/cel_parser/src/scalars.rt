@@ -1,14 +1,14 @@
 //! Scalars from symbols.
-ghost use Rattle.std.specs.Prelude.{◌≡◌, ◌<◌, IfOk, IfErr, map, pos};
+ghost use Rattle.std.specs.Prelude.{◌≡◌, ◌<◌, IfOk, IfErr, map};
 ghost use Rattle.cel_grammar.specs.Trees.{Two};
 ghost use Rattle.cel_grammar.specs.Views.{scalar_of};
 ghost use Rattle.cel_parser.specs.ReturnsReading.{ReturnsReading};
-ghost use Rattle.cel_parser.specs.Numbers.{counted};
 ghost use Rattle.cel_parser.specs.Operations.{op_of};
 ghost use Rattle.cel_parser.specs.GrammarSymbols.{grammar_symbol_of};
 ghost use Rattle.cel_parser.specs.ScalarReader.{both_at, factor_at, name_at, number_at, product_at, product_more, scalar_at, scalar_more};
 
 use crate::literals::{literal_text, name_text};
+use crate::numbers::plain;
 use crate::reading::{Reading, Symbols};
 use crate::signs::{after_close, after_comma, after_open};
 use crate::symbol::Symbol;
@@ -188,11 +188,4 @@ fn read_marked<'a>(alloc: Global, mark: Mark, symbols: Symbols<'a>) -> Reading<'
         )),
         _ => Err(Unread::Bad),
     }
-}
-
-// A number, or 0 for one below it, which no token has.
-fn plain(n: i128) -> i128
-    ensures { result ≡ pos (counted n) }
-{
-    if n < 0 { 0 } else { n }
 }
