@@ -2,7 +2,6 @@
 use Rattle.std.proofs.Common.{ℕ, zero, suc, Bool, true, false, List, [], ◌∷◌, ◌<◌, ◌^◌}
 use Rattle.std.specs.Prelude.{if◌then◌else◌}
 use Rattle.event_types.specs.declared.kind.Kind.{Kind}
-use Rattle.event_types.specs.declared.kind.Kind.TheVariants as kind
 use Rattle.cel_grammar.specs.declared.mark.Mark.TheVariants as mark
 use Rattle.cel_grammar.specs.Symbols.{Symbol}
 use Rattle.cel_grammar.specs.Symbols as the
@@ -19,9 +18,9 @@ use Rattle.cel_print.specs.Words.{Word, Of}
 use Rattle.cel_print.specs.ScalarWords.{takes_sum, takes_product, number_words, scalar_words}
 use Rattle.cel_print.specs.PredicateWords.{takes_or, takes_and, pred_words}
 use Rattle.cel_print.specs.SourceWords.{is_own_name, named_words, item_words, items_words, aggs_words, condition_words, takes_link, source_words}
-use Rattle.cel_print.specs.StatementWords.{columns_words, statement_words}
+use Rattle.cel_print.specs.StatementWords.{kind_words, columns_words, statement_words}
 use Rattle.cel_print.proofs.ReadScalars.{negative_suc}
-use Rattle.cel_print.proofs.Good.{IsName, Good, AllGood, Keeps, within_good}
+use Rattle.cel_print.proofs.Good.{IsName, AllGood, Keeps, within_good}
 
 -- what follows is good, and so are the words at each place
 pub record Kept {Place : Type 0} (f : Place → List Word → List Word) (us : List Symbol) : Type 0 where
@@ -171,14 +170,17 @@ mutual
       let a = pred_good h good.1.1 in let b = term_good k a.left.1 in
       record { left = b.left; words = λ place r end. (tt, (tt, a.words pred_place.Pred _ (tt, b.words source_place.Term r end))) }
 
+-- a kind
+kind_good : {ts rest : List Symbol} {k : Kind} → statement.IsKind ts k rest → AllGood ts → Follows (kind_words k) rest
+kind_good statement.int good = record { left = good.1; words = λ r end. (tt, end) }
+kind_good statement.text good = record { left = good.1; words = λ r end. (tt, end) }
+kind_good (statement.dec few) good = record { left = good.1.1; words = λ r end. (good.0, (good.1.0, end)) }
+
 -- declared attributes
 columns_good : {ts rest : List Symbol} {cs : List tree.Column} → statement.IsColumns ts cs rest → AllGood ts → Follows (columns_words cs) rest
-columns_good (statement.one statement.int) good = record { left = good.1.1; words = λ r end. (good.0, (tt, end)) }
-columns_good (statement.one statement.text) good = record { left = good.1.1; words = λ r end. (good.0, (tt, end)) }
-columns_good (statement.more {cs = tree.Col b l ∷ cs} statement.int j) good =
-    let a = columns_good j good.1.1.1 in record { left = a.left; words = λ r end. (good.0, (tt, (tt, a.words r end))) }
-columns_good (statement.more {cs = tree.Col b l ∷ cs} statement.text j) good =
-    let a = columns_good j good.1.1.1 in record { left = a.left; words = λ r end. (good.0, (tt, (tt, a.words r end))) }
+columns_good (statement.one h) good = let a = kind_good h good.1 in record { left = a.left; words = λ r end. (good.0, a.words r end) }
+columns_good (statement.more {cs = tree.Col b l ∷ cs} h j) good =
+    let a = kind_good h good.1 in let c = columns_good j a.left.1 in record { left = c.left; words = λ r end. (good.0, a.words _ (tt, c.words r end)) }
 columns_good (statement.more {cs = []} h j) good = elim j [ ]
 
 -- a statement

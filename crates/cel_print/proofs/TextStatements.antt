@@ -13,7 +13,7 @@ use Rattle.cel_print.specs.SourceWords.{items_words, source_words}
 use Rattle.cel_print.specs.StatementWords.{kind_words, columns_words, statement_words}
 use Rattle.cel_print.specs.Spelled.{line_of}
 use Rattle.cel_print.specs.Parts.{items_text, source_text, column_text, columns_text}
-use Rattle.cel_print.proofs.Spacing.{whole, Ends, Front, Tail, behind, leaf, spaced, linked, followed, chained, prefixed, opened, idle}
+use Rattle.cel_print.proofs.Spacing.{whole, Front, Tail, behind, leaf, spaced, linked, followed, chained, prefixed, opened, idle}
 use Rattle.cel_print.proofs.TextSources.{items_tail, source_front}
 
 -- a kind, and what stands behind it
