@@ -6,4 +6,5 @@ pub mod Input
 pub mod MemHost
 pub mod Output
 pub mod Sides
+pub mod TallyHost
 pub mod Told

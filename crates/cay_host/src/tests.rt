@@ -3,7 +3,7 @@ ghost use Rattle.std.specs.Prelude.{◌<◌, IfOk};
 ghost use Rattle.cay_host.specs.MemHost.{mem_told};
 ghost use Rattle.cay_host.specs.Told.{IsFree};
 
-use crate::{Failed, Host, MemHost, Side, write_whole};
+use crate::{Failed, Host, MemHost, Side, TallyHost, write_whole};
 use std::alloc::{AllocError, Global};
 use std::test::Fail;
 
@@ -56,5 +56,16 @@ fn a_whole_write_stops_where_the_room_ends(rt: HostRuntime) -> Result<(), Fail> 
     assert_eq!(rt; write_whole(&mut host, b"abcde"), Ok(()));
     assert_eq!(rt; write_whole(&mut host, b"fgh"), Err(Failed));
     assert_eq!(rt; host.written(), b"abcdefg".as_slice());
+    Ok(())
+}
+
+#[test]
+fn a_tally_counts_lines_and_opens_no_file(rt: HostRuntime) -> Result<(), Fail> {
+    let mut host = TallyHost::new();
+    assert_eq!(rt; host.lines(), 0);
+    assert_eq!(rt; host.attach(Side::Queries, "events"), Err(Failed));
+    assert_eq!(rt; host.write(b"ab\n\ncd"), Ok(6));
+    assert_eq!(rt; write_whole(&mut host, b"\n"), Ok(()));
+    assert_eq!(rt; host.lines(), 3);
     Ok(())
 }
