@@ -1,5 +1,5 @@
 -- Engines that stand for a history.
-use Rattle.std.proofs.Common.{◌≡◌, ◌∙◌, sym, ap, refl, subst, ℕ, ◌+◌, ◌<◌, ◌≤◌, ◌==◌, Bool, true, false, cond, nat_lt, List, [], ◌∷◌, ◌++◌, map, append-nil, arith}
+use Rattle.std.proofs.Common.{◌≡◌, ◌∙◌, sym, ap, refl, subst, ℕ, ◌+◌, ◌<◌, ◌≤◌, ◌==◌, Bool, true, false, cond, nat_le, nat_lt, List, [], ◌∷◌, ◌++◌, map, append-nil, arith}
 use Rattle.std.specs.Prelude.{Option, Some, None}
 use Rattle.std.specs.List.{All, filter}
 use Rattle.std.specs.List.Sorted.{IsPermutation}
@@ -11,13 +11,14 @@ use Rattle.event_types.specs.Order.{sorted}
 use Rattle.event_types.specs.Tuple.{IsSound}
 use Rattle.instances.specs.Bounds.{alive_instances}
 use Rattle.semantics.specs.Denotation.{Streams}
-use Rattle.semantics.specs.Histories.{Event, heard_on}
+use Rattle.semantics.specs.Histories.{Event, heard_on, upto}
 use Rattle.semantics.specs.Laws.{NeverFalls}
 use Rattle.semantics.specs.Programs.{Program}
 use Rattle.semantics.specs.Results.{results}
 use Rattle.semantics.proofs.ReportLemmas.{filter_all}
 use Rattle.instances.specs.Alive.{alive}
 use Rattle.scalar_expr.proofs.Bags.{permuted_from, permuted_to}
+use Rattle.automaton.specs.Flow.{flow}
 use Rattle.automaton.specs.Networks.{IsAt}
 use Rattle.automaton.specs.Prefixes.{Prefix, After}
 use Rattle.automaton.specs.States.{Net}
@@ -25,16 +26,16 @@ use Rattle.automaton.specs.Waiting.{waiting}
 use Rattle.automaton.specs.declared.line.Hop.{Hop}
 use Rattle.automaton.specs.declared.line.Line.{Line}
 use Rattle.epoch_laws.specs.Batch.{Agree}
-use Rattle.epoch_laws.specs.Closing.{ArePurged, IsEpoch, Stores, stores_after}
+use Rattle.epoch_laws.specs.Closing.{ArePurged, IsEpoch, Stores, leaving_state, stores_after}
 use Rattle.epoch_laws.specs.Histories.{events_before, events_during, streams_over}
 use Rattle.epoch_laws.specs.Instances.{bindings_of}
 use Rattle.epoch_laws.specs.Standing.{MayFollow, PartsStandFor, closed_part, last_time, next_time, open_part}
 use Rattle.epoch_laws.specs.StoresStandFor.{Serves, StoresStandFor}
-use Rattle.epoch_laws.specs.Times.{during}
+use Rattle.epoch_laws.specs.Times.{IsPast, during}
 use Rattle.epoch_laws.proofs.Batches.{batch_is_results}
 use Rattle.epoch_laws.proofs.Lists.{filter_false}
 use Rattle.epoch_laws.proofs.Networks.{is_stored}
-use Rattle.epoch_laws.proofs.StoresStandFor.{alive_bindings, stands_at_start, stands_closed, stands_purged}
+use Rattle.epoch_laws.proofs.StoresStandFor.{alive_bindings, net_flows, net_gives, stands_at_start, stands_closed, stands_purged}
 
 -- the last time of a history
 last_of : (history : List Event) (event : Event) → last_time (history ++ event ∷ []) ≡ Some event.tuple.at
@@ -125,6 +126,14 @@ parts_are (event ∷ later) time falls all = go (parts_are later time falls.1 (A
         all_now : events_during time (event ∷ later) ≡ event ∷ later
         all_now = filter_all (λ e. e.tuple.at == time) (event ∷ later) (All-weaker (λ e. e.tuple.at ≡ time) (λ e. (e.tuple.at == time) ≡ true) (λ e h. now_now e.tuple.at time h) (event ∷ later) (All-cons (λ e. e.tuple.at ≡ time) event later same late))
 
+-- by its last time all of a history is detected
+pub upto_last : (history : List Event) (time : ℕ) → NeverFalls history → last_time history ≡ Some time → upto time history ≡ history
+upto_last history time falls is =
+    filter_all (λ e. nat_le e.tuple.at time) history (All-weaker (λ e. e.tuple.at ≤ time) (λ e. nat_le e.tuple.at time ≡ true) (λ e h. by e.tuple.at h) history (by_last history time falls is))
+  where
+    by : (at : ℕ) → at ≤ time → nat_le at time ≡ true
+    by at h = grind (arith, nat_tests)
+
 heard_more : (history more : List Event) (s : ℕ) → heard_on (history ++ more) s ≡ heard_on history s ++ heard_on more s
 heard_more history more s = ap (map (λ e. e.tuple)) (filter-append (λ e. e.stream == s) history more) ∙ map-append (λ (e : Event). e.tuple) (filter (λ e. e.stream == s) history) (filter (λ e. e.stream == s) more)
 
@@ -205,6 +214,17 @@ module _ (net : Net) (lines : List Line) (order : List ℕ) (stores : Stores) (t
 
   heard_epoch : IsEpoch net order stores (heard_on (events_during time history)) news
   heard_epoch = record { declared = λ s e. IsPermutation-trans _ _ _ (epoch.declared s e) (stands.tuples_are_open s); derived = epoch.derived }
+
+  past_now : All (λ e. IsPast time e.tuple) history
+  past_now i d lt = (stands.sound i d lt, by_last history time stands.never_falls stands.open_is_last i d lt)
+
+  -- the epoch has the tuples that the streams have at its time
+  pub epoch_gives : (s : ℕ) → IsPermutation (news s) (during time (streams_over lines order history s))
+  epoch_gives = net_gives net lines order history time (next_time closed_time) stores news serves past_now in_time stands.stores_stand.holds heard_epoch
+
+  -- and what leaves a state in it is what flows out of the state's prefix then
+  pub epoch_flows : (number : ℕ) (p : Prefix) → IsAt net number p → IsPermutation (bindings_of (leaving_state net news stores number)) (during time (flow (streams_over lines order history) p))
+  epoch_flows = net_flows net lines order history time (next_time closed_time) stores news serves past_now in_time stands.stores_stand.holds heard_epoch
 
   -- after a closing they stand for the same events
   pub close_stands : (kept : Stores) → ArePurged (time + 1) net (stores_after net news stores) kept

@@ -17,9 +17,9 @@ use Rattle.semantics.proofs.ListLemmas.{filter-map}
 use Rattle.semantics.proofs.ReportLemmas.{filter_all, flat_map_same}
 use Rattle.instances.specs.Alive.{alive, is_alive}
 use Rattle.scalar_expr.proofs.Bags.{permuted_from, permuted_to}
-use Rattle.automaton.specs.Flow.{derived, given}
+use Rattle.automaton.specs.Flow.{derived, flow, given}
 use Rattle.automaton.specs.Networks.{IsAt}
-use Rattle.automaton.specs.Prefixes.{Prefix, After, path}
+use Rattle.automaton.specs.Prefixes.{Prefix, Root, After, path}
 use Rattle.automaton.specs.States.{Net, wait_by}
 use Rattle.automaton.specs.Steps.{pass}
 use Rattle.automaton.specs.Waiting.{waiting}
@@ -27,7 +27,7 @@ use Rattle.automaton.specs.Work.{IsInOrder, is_in}
 use Rattle.automaton.specs.declared.line.Hop.{Hop}
 use Rattle.automaton.specs.declared.line.Line.{Line}
 use Rattle.automaton.proofs.WorkLemmas.{completed_other, streams_derived}
-use Rattle.epoch_laws.specs.Closing.{ArePurged, IsEpoch, Stores, given_by_ends, stores_after}
+use Rattle.epoch_laws.specs.Closing.{ArePurged, IsEpoch, Stores, given_by_ends, leaving_state, stores_after}
 use Rattle.epoch_laws.specs.Histories.{events_before, events_during, streams_over}
 use Rattle.epoch_laws.specs.Instances.{bindings_of}
 use Rattle.epoch_laws.specs.Lines.{flow_now}
@@ -35,10 +35,10 @@ use Rattle.epoch_laws.specs.StoresStandFor.{Serves, StoresStandFor}
 use Rattle.epoch_laws.specs.Stores.{Holds, Purged}
 use Rattle.epoch_laws.specs.Times.{ArePast, during, IsPast, streams_before, streams_during}
 use Rattle.epoch_laws.proofs.Bags.{map_within, within_permuted, within_through}
-use Rattle.epoch_laws.proofs.Flows.{line_gives, rows_state}
+use Rattle.epoch_laws.proofs.Flows.{flow_gives, line_gives, rows_state}
 use Rattle.epoch_laws.proofs.Folds.{during_at}
 use Rattle.epoch_laws.proofs.Lists.{every, filter-flat_map, filter_false}
-use Rattle.epoch_laws.proofs.Networks.{published_alike, stores_keep}
+use Rattle.epoch_laws.proofs.Networks.{leaves_alike, published_alike, stores_keep}
 use Rattle.epoch_laws.proofs.Purges.{IsStored, between_holds, holds_between}
 use Rattle.epoch_laws.proofs.Streams.{heard_now, over_before, over_past, start_waits}
 
@@ -125,6 +125,11 @@ module _ (net : Net) (lines : List Line) (order : List ℕ) (h : List Event) (ti
   net_gives t =
       news_alike order serves.in_order epoch.derived (streams_derived lines order (heard_on h) serves.in_order)
       (λ t e. permuted_to (epoch.declared t e) (sym (ap (during time) (completed_other lines order (heard_on h) t e) ∙ heard_now time h t))) t
+
+  -- what leaves a state is what flows out of its prefix in the epoch
+  pub net_flows : (number : ℕ) (p : Prefix) → IsAt net number p → IsPermutation (bindings_of (leaving_state net news stores number)) (during time (flow full p))
+  net_flows number (Root s) at = permuted_to (leaves_alike net now stores news exact earlier late holds_earlier number (Root s) at (net_gives s)) (sym (flow_gives time full full_past (Root s)))
+  net_flows number (After p k) at = permuted_to (leaves_alike net now stores news exact earlier late holds_earlier number (After p k) at (net_gives k.wait.stream)) (sym (flow_gives time full full_past (After p k)))
 
   -- and keeps the bindings that wait on
   pub net_keeps : (later : ℕ) → now ≤ later → AllHold net later (stores_after net news stores) (streams_over lines order h)

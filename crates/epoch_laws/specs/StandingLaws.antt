@@ -5,10 +5,11 @@ use Rattle.event_types.specs.Order.{sorted}
 use Rattle.event_types.specs.Tuple.{IsSound}
 use Rattle.instances.specs.Bounds.{alive_instances}
 use Rattle.semantics.specs.Denotation.{Streams}
-use Rattle.semantics.specs.Histories.{Event, heard_on}
+use Rattle.semantics.specs.Histories.{Event, heard_on, upto}
 use Rattle.semantics.specs.Programs.{Program}
 use Rattle.semantics.specs.Results.{results}
 use Rattle.instances.specs.Alive.{alive}
+use Rattle.automaton.specs.Flow.{flow}
 use Rattle.automaton.specs.Networks.{IsAt}
 use Rattle.automaton.specs.Prefixes.{Prefix, After}
 use Rattle.automaton.specs.States.{Net}
@@ -16,7 +17,7 @@ use Rattle.automaton.specs.Waiting.{waiting}
 use Rattle.automaton.specs.declared.line.Hop.{Hop}
 use Rattle.automaton.specs.declared.line.Line.{Line}
 use Rattle.epoch_laws.specs.Batch.{Agree}
-use Rattle.epoch_laws.specs.Closing.{ArePurged, IsEpoch, Stores, stores_after}
+use Rattle.epoch_laws.specs.Closing.{ArePurged, IsEpoch, Stores, leaving_state, stores_after}
 use Rattle.epoch_laws.specs.Histories.{streams_over}
 use Rattle.epoch_laws.specs.Instances.{bindings_of}
 use Rattle.epoch_laws.specs.Standing.{MayFollow, PartsStandFor, closed_part, next_time}
@@ -42,6 +43,20 @@ CloseStands =
     → Serves net lines order → PartsStandFor net lines order stores (Some time) tuples closed_time history
     → IsEpoch net order stores tuples news → ArePurged (time + 1) net (stores_after net news stores) kept
     → ((stream : ℕ) → IsPermutation (news stream) (during time (streams_over lines order history stream))) × PartsStandFor net lines order kept None (λ _. []) (Some time) history
+
+-- an epoch that is open is that of the last time of its history, so it has no later events
+abbrev pub OpenIsLast : Type 0
+OpenIsLast =
+    (net : Net) (lines : List Line) (order : List ℕ) (stores : Stores) (time : ℕ) (tuples : Streams) (closed_time : Option ℕ) (history : List Event)
+    → PartsStandFor net lines order stores (Some time) tuples closed_time history → upto time history ≡ history
+
+-- what leaves a state in the epoch is what flows out of the state's prefix at the open time
+abbrev pub EpochFlows : Type 0
+EpochFlows =
+    (net : Net) (lines : List Line) (order : List ℕ) (stores : Stores) (time : ℕ) (tuples news : Streams) (closed_time : Option ℕ) (history : List Event)
+    → Serves net lines order → PartsStandFor net lines order stores (Some time) tuples closed_time history → IsEpoch net order stores tuples news
+    → (number : ℕ) (prefix : Prefix) → IsAt net number prefix
+    → IsPermutation (bindings_of (leaving_state net news stores number)) (during time (flow (streams_over lines order history) prefix))
 
 -- these tuples, put in order, are the results of each query whose stream the lines agree on
 abbrev pub ClosingIsResults : Type 0

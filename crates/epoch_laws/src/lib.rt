@@ -9,7 +9,7 @@ ghost use Rattle.epoch_laws.specs.Batch.{BatchIsResults};
 ghost use Rattle.epoch_laws.specs.CloseLaws.{EpochGrows, EpochStarts, StandsAtStart, StandsClosed, StandsPurged};
 ghost use Rattle.epoch_laws.specs.LineLaws.{LineGivesInEpoch, StateKeeps};
 ghost use Rattle.epoch_laws.specs.PurgeLaws.{DeadLater, DeadStayDead};
-ghost use Rattle.epoch_laws.specs.StandingLaws.{CloseStands, ClosingIsResults, OfferStands, PurgeStands, StartStands, TrimmedIsAlive};
+ghost use Rattle.epoch_laws.specs.StandingLaws.{CloseStands, ClosingIsResults, EpochFlows, OfferStands, OpenIsLast, PurgeStands, StartStands, TrimmedIsAlive};
 ghost use Rattle.epoch_laws.specs.StreamLaws.{StreamsEarly, StreamsGive};
 ghost use Rattle.epoch_laws.specs.WaitLaws.{WaitEarly, WaitGivesInEpoch, WaitKeeps};
 
@@ -107,6 +107,16 @@ pub fn close_stands()
 /// What a closing gives for a query is its results.
 pub fn closing_is_results()
     ensures { ClosingIsResults }
+{}
+
+/// An open epoch is that of the last time of its history.
+pub fn open_is_last()
+    ensures { OpenIsLast }
+{}
+
+/// What leaves a state in an epoch is what flows out of the state's prefix at its time.
+pub fn epoch_flows()
+    ensures { EpochFlows }
 {}
 
 /// Purges change nothing of what an engine stands for.
