@@ -1,4 +1,5 @@
 pub mod CutFacts
+pub mod DecimalFacts
 pub mod DigitFacts
 pub mod EventFacts
 pub mod Examples

@@ -1,102 +1,79 @@
 //! The decimals that fields write.
-ghost use Rattle.std.specs.Prelude.{◌≡◌, ◌++◌, ◌≤◌, IfOk, OnOk, neg_ℤ, option_map, pos, replicate};
-ghost use Rattle.event_csv.specs.Decimals.{places_behind, units_above, units_below, units_of, units_up_to, with_all_places};
+ghost use Rattle.std.specs.Prelude.{◌≡◌, ◌==◌, ◌*◌, ◌^◌, ◌<◌, ◌≤◌, ◌∷◌, ◌++◌, length, MatchOption};
+ghost use Rattle.std.specs.List.{position_or_len};
+ghost use Rattle.event_csv.specs.Decimals.{units_above, units_below, units_of, units_up_to};
 
-use crate::numbers::up_to;
-use event_types::Memory;
-use std::alloc::Global;
+use crate::fields::place_of;
+use crate::numbers::{below_zero, up_to};
 
 /// The units that a field of so many places writes.
-pub(crate) fn units(alloc: Global, places: u8, field: &[u8]) -> Result<Option<i128>, Memory>
-    ensures { IfOk result (λ units. units ≡ units_of places field.now) }
+pub(crate) fn units(places: u8, field: &[u8]) -> Option<i128>
+    ensures { result ≡ units_of places field.now }
 {
     match field {
-        [] => Ok(None),
-        [b'-', unsigned @ ..] => negative(alloc, places, unsigned),
-        [b'+', unsigned @ ..] => positive(alloc, places, unsigned),
-        _ => positive(alloc, places, field),
+        [] => None,
+        [b'-', unsigned @ ..] => negative(places, unsigned),
+        [b'+', unsigned @ ..] => positive(places, unsigned),
+        _ => positive(places, field),
     }
 }
 
-fn negative(alloc: Global, places: u8, field: &[u8]) -> Result<Option<i128>, Memory>
-    ensures { IfOk result (λ units. units ≡ units_below places field.now) }
+fn negative(places: u8, field: &[u8]) -> Option<i128>
+    ensures { result ≡ units_below places field.now }
 {
-    match unsigned(alloc, places, field, 1 << 127)? {
-        None => Ok(None),
-        Some(number) => Ok(Some(below_zero(number))),
-    }
+    let number = unsigned(places, field, 1 << 127)?;
+    Some(below_zero(number))
 }
 
-// The number below zero.
-fn below_zero(number: u128) -> i128
-    requires { number ≤ 170141183460469231731687303715884105728 }
-    ensures { result ≡ neg_ℤ (pos number) }
+fn positive(places: u8, field: &[u8]) -> Option<i128>
+    ensures { result ≡ units_above places field.now }
 {
-    if number == 1 << 127 {
-        i128::MIN
-    } else {
-        -(number as i128)
-    }
-}
-
-fn positive(alloc: Global, places: u8, field: &[u8]) -> Result<Option<i128>, Memory>
-    ensures { IfOk result (λ units. units ≡ units_above places field.now) }
-{
-    match unsigned(alloc, places, field, i128::MAX as u128)? {
-        None => Ok(None),
-        Some(number) => Ok(Some(number as i128)),
-    }
+    let number = unsigned(places, field, i128::MAX as u128)?;
+    Some(number as i128)
 }
 
 // The units, at most `most`, of a field without its sign.
-fn unsigned(alloc: Global, places: u8, field: &[u8], most: u128) -> Result<Option<u128>, Memory>
+fn unsigned(places: u8, field: &[u8], most: u128) -> Option<u128>
     requires { 9 ≤ most }
-    ensures { IfOk result (λ units. units ≡ units_up_to most places field.now) }
+    ensures { result ≡ units_up_to most places field.now }
 {
-    match field {
-        [] | [b'.', ..] => Ok(None),
-        _ => match digits(alloc, places, field)? {
-            None => Ok(None),
-            Some(digits) => Ok(up_to(digits.as_slice(), most)),
-        },
+    let end = place_of(b'.', field);
+    if end < field.len() {
+        return pointed(places, &field[..end], &field[end + 1..], most);
+    }
+    with_zeros(up_to(field, most)?, places, most)
+}
+
+// The units, at most `most`, of what stands before a point and behind it.
+fn pointed(places: u8, front: &[u8], behind: &[u8], most: u128) -> Option<u128>
+    requires room { 9 ≤ most }
+    requires first { position_or_len (λ b. b == 46) front.now ≡ length front.now }
+    ensures { result ≡ units_up_to most places (front.now ++ 46 ∷ behind.now) }
+{
+    if behind.len() > places as usize {
+        return None;
+    }
+    let whole = with_zeros(up_to(front, most)?, places, most)?;
+    let part = with_zeros(up_to(behind, most)?, places - behind.len() as u8, most)?;
+    if most - whole < part {
+        None
+    } else {
+        Some(whole + part)
     }
 }
 
-// The digits of a field with all their places and without their point.
-fn digits(alloc: Global, places: u8, field: &[u8]) -> Result<Option<Vec<u8>>, Memory>
-    ensures { IfOk result (λ found. option_map (λ d. d.items) found ≡ with_all_places places field.now) }
+// A number with so many zeros behind it, where that is at most `most`.
+fn with_zeros(number: u128, zeros: u8, most: u128) -> Option<u128>
+    requires { number ≤ most }
+    ensures { MatchOption result (most < number * 10 ^ zeros) (λ found. (found ≡ number * 10 ^ zeros) × (found ≤ most)) }
 {
-    let mut digits = Vec::new(alloc);
-    'bytes: for place in 0..field.len() {
-        if field[place] == b'.' {
-            return behind_point(digits, places, &field[place + 1..]);
+    let tenth = most / 10;
+    let mut found = number;
+    for zero in 0..zeros {
+        if tenth < found {
+            return None;
         }
-        digits.push(field[place])?;
+        found = found * 10;
     }
-    add_zeros(&mut digits, places)?;
-    Ok(Some(digits))
-}
-
-// Digits and, behind them, the places behind a point.
-fn behind_point(digits: Vec<u8>, places: u8, field: &[u8]) -> Result<Option<Vec<u8>>, Memory>
-    ensures { IfOk result (λ found. option_map (λ d. d.items) found ≡ option_map (λ more. digits.items ++ more) (places_behind places field.now)) }
-{
-    if field.is_empty() || field.len() > places as usize {
-        return Ok(None);
-    }
-    let mut digits = digits;
-    digits.extend_from_slice(field)?;
-    add_zeros(&mut digits, places - field.len() as u8)?;
-    Ok(Some(digits))
-}
-
-// Puts so many zeros behind digits.
-fn add_zeros(digits: &mut Vec<u8>, count: u8) -> Result<(), Memory>
-    ensures { OnOk result (digits.new.items ≡ digits.old.items ++ replicate count 48) }
-{
-    if count == 0 {
-        return Ok(());
-    }
-    digits.push(b'0')?;
-    add_zeros(digits, count - 1)
+    Some(found)
 }

@@ -191,7 +191,7 @@ fn read_value(alloc: Global, kind: Kind, field: &str) -> Result<Option<Value>, M
             Some(number) => Ok(Some(Value::Int(number))),
         },
         Kind::Text => Ok(Some(Value::Text(Text::make(alloc, field)?))),
-        Kind::Dec(places) => match units(alloc, places, field.as_bytes())? {
+        Kind::Dec(places) => match units(places, field.as_bytes()) {
             None => Ok(None),
             Some(units) => Ok(Some(Value::Dec {
                 scale: places,

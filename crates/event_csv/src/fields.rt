@@ -54,7 +54,7 @@ impl<'a> Fields<'a> {
 fn cut(text: &str) -> (&str, Option<&str>)
     ensures { parts_of text.now ≡ result.0.now ∷ parts_left (option_map (λ s. s.now) result.1) }
 {
-    let end = comma_at(text.as_bytes());
+    let end = place_of(b',', text.as_bytes());
     if end < text.len() {
         (&text[..end], Some(&text[end + 1..]))
     } else {
@@ -62,12 +62,12 @@ fn cut(text: &str) -> (&str, Option<&str>)
     }
 }
 
-// The place of the first comma, or the length where there is none.
-fn comma_at(text: &[u8]) -> usize
-    ensures { result ≡ position_or_len (λ b. b == comma) text.now }
+/// The first place of a byte, or the length where it doesn't stand in the text.
+pub(crate) fn place_of(wanted: u8, text: &[u8]) -> usize
+    ensures { result ≡ position_or_len (λ b. b == wanted) text.now }
 {
     for (place, byte) in text.iter().enumerate() {
-        if *byte == b',' {
+        if *byte == wanted {
             return place;
         }
     }

@@ -1,5 +1,5 @@
 //! The numbers and times that fields write.
-ghost use Rattle.std.specs.Prelude.{◌≡◌, ◌≤◌, ◌<◌, length, true, Some, None, MatchOption, if◌then◌else◌};
+ghost use Rattle.std.specs.Prelude.{◌≡◌, ◌≤◌, ◌<◌, length, neg_ℤ, pos, true, Some, None, MatchOption, if◌then◌else◌};
 ghost use Rattle.std.specs.Str.Parse.{digits_value};
 ghost use Rattle.event_csv.specs.Numbers.{are_digits as digits_test, int_of, negative_of, number_up_to, positive_of, time_of};
 
@@ -32,10 +32,18 @@ fn negative(digits: &[u8]) -> Option<i128>
     ensures { result ≡ negative_of digits.now }
 {
     let number = up_to(digits, 1 << 127)?;
+    Some(below_zero(number))
+}
+
+/// The number below zero.
+pub(crate) fn below_zero(number: u128) -> i128
+    requires { number ≤ 170141183460469231731687303715884105728 }
+    ensures { result ≡ neg_ℤ (pos number) }
+{
     if number == 1 << 127 {
-        Some(i128::MIN)
+        i128::MIN
     } else {
-        Some(-(number as i128))
+        -(number as i128)
     }
 }
 

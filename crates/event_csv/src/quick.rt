@@ -101,7 +101,7 @@ fn take_value(alloc: Global, kind: Kind, text: &[u8]) -> Option<(Value, Option<&
             }
         }
         Kind::Dec(places) => {
-            let (units, rest) = take_decimal(alloc, places, text)?;
+            let (units, rest) = take_decimal(places, text)?;
             Some((
                 Value::Dec {
                     scale: places,
@@ -115,14 +115,12 @@ fn take_value(alloc: Global, kind: Kind, text: &[u8]) -> Option<(Value, Option<&
 
 // The units of the decimal at the front, which has so many places, and the fields behind it.
 #[inline(never)]
-fn take_decimal(alloc: Global, places: u8, text: &[u8]) -> Option<(i128, Option<&[u8]>)>
+fn take_decimal(places: u8, text: &[u8]) -> Option<(i128, Option<&[u8]>)>
     ensures { IfSome result (λ r. DecFirst places text.now r.0 (option_map (λ s. s.now) r.1)) }
 {
     let (field, rest) = take_field(text)?;
-    match units(alloc, places, field.as_bytes()) {
-        Ok(Some(units)) => Some((units, rest)),
-        _ => None,
-    }
+    let units = units(places, field.as_bytes())?;
+    Some((units, rest))
 }
 
 // The field at the front and those behind it, where that is quickly read.

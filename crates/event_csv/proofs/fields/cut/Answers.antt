@@ -9,23 +9,23 @@ use Rattle.event_csv.proofs.fields.cut.Goals as goal
 
 pub range-requires-clause-end_boundary : goal.range-requires-clause-end_boundary
 range-requires-clause-end_boundary c =
-    let i = c.comma_at-end.result in
+    let i = c.place_of-end.result in
     let s = c.args.text.now in
-    let b : get_or s i 0 ≡ 44 = comma-byte s c.as_bytes.result.now i c.as_bytes.ensures.value c.comma_at-end.ensures c.if-end-text.true in
+    let b : get_or s i 0 ≡ 44 = comma-byte s c.as_bytes.result.now i c.as_bytes.ensures.value c.place_of-end.ensures c.if-end-text.true in
     IsCharBoundary-before_ascii s i c.if-end-text.true (omega arith)
 
 pub range_from-requires : goal.range_from-requires
 range_from-requires c =
-    let i = c.comma_at-end.result in
+    let i = c.place_of-end.result in
     let s = c.args.text.now in
-    let b : get_or s i 0 ≡ 44 = comma-byte s c.as_bytes.result.now i c.as_bytes.ensures.value c.comma_at-end.ensures c.if-end-text.true in
+    let b : get_or s i 0 ≡ 44 = comma-byte s c.as_bytes.result.now i c.as_bytes.ensures.value c.place_of-end.ensures c.if-end-text.true in
     λ _. IsCharBoundary-after_ascii s i c.utf8.text c.if-end-text.true (omega arith)
 
 pub returns-then-end-text : goal.returns-then-end-text
 returns-then-end-text c =
-    let i = c.comma_at-end.result in
+    let i = c.place_of-end.result in
     let s = c.args.text.now in
-    let p = parts-first s i (rw c.as_bytes.ensures.value at c.comma_at-end.ensures) c.if-end-text.true in
+    let p = parts-first s i (rw c.as_bytes.ensures.value at c.place_of-end.ensures) c.if-end-text.true in
     let v = c.range.ensures.value in
     let w = c.range_from.ensures.value in
     let z : i - 0 ≡ i = omega arith in
@@ -33,7 +33,7 @@ returns-then-end-text c =
 
 pub returns-else-end-text : goal.returns-else-end-text
 returns-else-end-text c =
-    let i = c.comma_at-end.result in
+    let i = c.place_of-end.result in
     let s = c.args.text.now in
-    let q : i ≡ position_or_len (λ b. b == comma) s = rw c.as_bytes.ensures.value at c.comma_at-end.ensures in
+    let q : i ≡ position_or_len (λ b. b == comma) s = rw c.as_bytes.ensures.value at c.place_of-end.ensures in
     parts-none s (omega (arith, prefix_len-le-length (λ x. not (x == comma)) s, q))

@@ -1,7 +1,0 @@
-use Rattle.std.proofs.Common.{◌≡◌, ℕ, ◌<◌, get_or, false}
-use Rattle.std.specs.Prelude.{◌==◌}
-use Rattle.event_csv.specs.Fields.{comma}
-use Rattle.event_csv.proofs.fields.comma_at.Given as goal
-
-abbrev pub invariant-loop-place : goal.invariant-loop-place
-invariant-loop-place l = (k : ℕ) → k < l.place → (get_or l.text k 0 == comma) ≡ false
