@@ -42,14 +42,14 @@ pub record IsQuoted (text field : List ℕ) (left : Option (List ℕ)) : Type 0 
   pub reads : (before : List (List ℕ)) → next_record line_config st.InQuoted before [] text ≡ read_left left (before ++ field ∷ [])
   pub utf8 : IsText left → IsUtf8 text
 
--- up to this place each byte is simple, and of ASCII where that is so, and there a comma stands or the text ends
+-- up to this place each byte is simple, and of ASCII if the flag is true, and there a comma stands or the text ends
 pub record IsPlainEnd (text : List ℕ) (end : ℕ) (is_ascii : Bool) : Type 0 where
   pub within : end ≤ length text
   pub simple : list_all is_simple (take end text) ≡ true
   pub ascii : is_ascii ≡ true → IsAscii (take end text)
   pub ends : end < length text → slice_index text end ≡ comma
 
--- the first quote, and whether each byte before it is of ASCII
+-- the first quote, before which each byte is of ASCII if the flag is true
 pub record IsQuoteAt (text : List ℕ) (end : ℕ) (is_ascii : Bool) : Type 0 where
   pub within : end < length text
   pub none : list_all no_quote (take end text) ≡ true

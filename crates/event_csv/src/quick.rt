@@ -172,7 +172,7 @@ fn text_of(bytes: &[u8], is_ascii: bool) -> Option<&str>
     }
 }
 
-// The place of the first quote, and whether all bytes before it are ASCII.
+// The place of the first quote, if there is one, and a flag that is true only if all bytes before it are ASCII.
 #[inline(always)]
 fn quote_at(text: &[u8]) -> Option<(usize, bool)>
     ensures { IfSome result (λ r. IsQuoteAt text.now r.0 r.1) }
@@ -189,8 +189,8 @@ fn quote_at(text: &[u8]) -> Option<(usize, bool)>
     None
 }
 
-// The place of the first comma, or the length where there is none, unless a quote or a line feed comes first; and whether
-// all bytes before it are ASCII. All three are small, so most bytes are passed by one comparison.
+// A place up to which no quote, comma or line feed stands, and where a comma does or the text ends; and a flag that is
+// true only if all bytes before it are ASCII. It may answer none. All three are small, so one comparison passes most bytes.
 #[inline(always)]
 fn plain_end(text: &[u8]) -> Option<(usize, bool)>
     ensures { IfSome result (λ r. IsPlainEnd text.now r.0 r.1) }
