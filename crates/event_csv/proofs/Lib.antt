@@ -11,6 +11,7 @@ pub mod NumberFacts
 pub mod PlaceFacts
 pub mod PlainLines
 pub mod QuickFacts
+pub mod ReadBackFacts
 pub mod RecordFacts
 pub mod RoundFacts
 pub mod ValueFacts

@@ -7,4 +7,5 @@ pub mod Lines
 pub mod Numbers
 pub mod Place
 pub mod Quick
+pub mod ReadBack
 pub mod Rounds

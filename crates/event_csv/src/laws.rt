@@ -1,6 +1,7 @@
 //! Laws of the lines of a text, and of what they say.
 ghost use Rattle.event_csv.specs.Faults.{LinesHaveTheirFirstFault};
 ghost use Rattle.event_csv.specs.Fed.{LinesStay};
+ghost use Rattle.event_csv.specs.ReadBack.{DecimalsAreReadAsTheyAreWritten, NumbersAreReadAsTheyAreWritten, TimesAreReadAsTheyAreWritten};
 ghost use Rattle.event_csv.specs.Rounds.{PiecesGiveTheLines, RoundsGiveTheLines};
 
 /// The lines that are left stay as more bytes come, and where the text ends: no byte takes a line back.
@@ -18,4 +19,11 @@ pub fn pieces_give_the_lines_of_the_text()
 /// its fields say.
 pub fn lines_have_their_first_fault()
     ensures { LinesHaveTheirFirstFault }
+{}
+
+/// A time, a whole number and a decimal are read from the fields that result lines have for them.
+pub fn numbers_are_read_as_they_are_written()
+    ensures times { TimesAreReadAsTheyAreWritten }
+    ensures numbers { NumbersAreReadAsTheyAreWritten }
+    ensures decimals { DecimalsAreReadAsTheyAreWritten }
 {}

@@ -19,7 +19,10 @@ pub use event::{Seen, read_event, read_event_near};
 pub use fault::{LineFault, ReadFail};
 pub use feed::Feed;
 pub use got::Got;
-pub use laws::{lines_have_their_first_fault, lines_stay, pieces_give_the_lines_of_the_text};
+pub use laws::{
+    lines_have_their_first_fault, lines_stay, numbers_are_read_as_they_are_written,
+    pieces_give_the_lines_of_the_text,
+};
 
 #[cfg(test)]
 mod tests;
