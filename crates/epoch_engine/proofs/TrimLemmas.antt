@@ -64,7 +64,7 @@ none_bound store none =
     let no : length (bindings_of store) ≡ 0 = ap length none in no_length store (omega (arith, len, no))
 
 -- no binding waits at a root state, nor where no state is
-root_waits : (net : Net) (number s : ℕ) → root_at net number ≡ Some s → wait_at net number ≡ None
+pub root_waits : (net : Net) (number s : ℕ) → root_at net number ≡ Some s → wait_at net number ≡ None
 root_waits net number s at = go (entrance_at net number) at
   where
     go : (o : Option Entrance) → option_and_then root_by o ≡ Some s → option_and_then wait_by o ≡ None
@@ -72,7 +72,8 @@ root_waits net number s at = go (entrance_at net number) at
     go (Some (entrance.Root t)) e = refl
     go (Some (entrance.Waiting before hop)) e = cc
 
-free_waits : (net : Net) (number : ℕ) → is_used net number ≡ false → wait_at net number ≡ None
+-- nor where there is no state
+pub free_waits : (net : Net) (number : ℕ) → is_used net number ≡ false → wait_at net number ≡ None
 free_waits net number free = go (state_at net number) free
   where
     go : (o : Option State) → is_some o ≡ false → option_and_then wait_by (entrance_in o) ≡ None

@@ -12,3 +12,5 @@ pub mod Taking
 pub mod TestNetwork
 pub mod Trims
 pub mod ViewCode
+pub mod Work
+pub mod WorkLaws

@@ -12,6 +12,7 @@ ghost use Rattle.epoch_engine.specs.Offers.{IsAnswer, IsHeard, IsLate, IsNotAhea
 ghost use Rattle.epoch_engine.specs.Running.{IsStillFor};
 ghost use Rattle.epoch_engine.specs.Starts.{IsNew};
 ghost use Rattle.epoch_engine.specs.Trims.{Trims};
+ghost use Rattle.epoch_engine.specs.WorkLaws.{RisesByWork};
 
 use crate::batch::Batch;
 use crate::closing::take_epoch;
@@ -148,6 +149,7 @@ impl Engine {
         ensures plan { KeepsPlan self.old self.new }
         ensures kept { OnErr result (self.new ≡ self.old) }
         ensures ticks { steps.new ≤ steps.old + epoch_work self.old.network self.old.layout (stores_in self.old) (streams_of self.old.opened) }
+        ensures work { RisesByWork self.old steps.old steps.new }
     {
         let mut drawing = match self.drawing.take() {
             Some(drawing) => drawing,

@@ -1,5 +1,6 @@
 //! Laws of engines over the histories for which they stand.
 ghost use Rattle.epoch_engine.specs.Laws.{BatchIsStreams, ClosedStands, NewStands, OfferedStands, TrimmedIsCounted, TrimmedStands};
+ghost use Rattle.epoch_engine.specs.WorkLaws.{FewerAskForLess, StoredAskForAll, WaitingAskForAll};
 
 /// A new engine stands for the empty history.
 pub fn new_stands()
@@ -30,4 +31,19 @@ pub fn trimmed_stands()
 /// The instances of an engine whose stores were purged are as many as the bindings that wait and are alive.
 pub fn trimmed_is_counted()
     ensures { TrimmedIsCounted }
+{}
+
+/// With fewer bindings an epoch asks for no more tests.
+pub fn fewer_ask_for_less()
+    ensures { FewerAskForLess }
+{}
+
+/// The closing of an epoch takes no more tests than the epoch asks for with what is stored.
+pub fn stored_ask_for_all()
+    ensures { StoredAskForAll }
+{}
+
+/// And no more than it asks for with all that waits.
+pub fn waiting_ask_for_all()
+    ensures { WaitingAskForAll }
 {}

@@ -18,7 +18,8 @@ pub use batch::{Batch, Entry};
 pub use engine::Engine;
 pub use fault::OfferFault;
 pub use laws::{
-    batch_is_streams, closed_stands, new_stands, offered_stands, trimmed_is_counted, trimmed_stands,
+    batch_is_streams, closed_stands, fewer_ask_for_less, new_stands, offered_stands,
+    stored_ask_for_all, trimmed_is_counted, trimmed_stands, waiting_ask_for_all,
 };
 
 #[cfg(test)]

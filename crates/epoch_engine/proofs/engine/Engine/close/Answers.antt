@@ -6,8 +6,11 @@ use Rattle.epoch_engine.specs.EngineView.{EngineView, stores_in}
 use Rattle.epoch_draft.proofs.Lists.{on_err}
 use Rattle.epoch_draft.specs.EpochWork.{epoch_work}
 use Rattle.epoch_engine.specs.Running.{IsStillFor}
+use Rattle.epoch_engine.specs.WorkLaws.{IsConsistent}
 use Rattle.epoch_engine.specs.declared.drawing.Drawing.{Drawing}
+use Rattle.epoch_engine.proofs.ConsistentLemmas.{consistent}
 use Rattle.epoch_engine.proofs.EngineLemmas.{closes_ticks, closes_view, view_of, view_same, with_same}
+use Rattle.epoch_engine.proofs.WorkLemmas.{rises_by_work}
 use Rattle.epoch_engine.proofs.engine.Engine.close.Goals as goal
 
 -- the open epoch was taken
@@ -48,3 +51,18 @@ returns-clause-ticks g c =
     let e = c.self.inside in
     subst (λ (v : EngineView). c.take_epoch.new.steps ≤ c.args.steps.now + epoch_work v.network v.layout (stores_in v) (streams_of v.opened)) c.self.view_is
     (closes_ticks e.plan e.stores e.epoch e.closed_time c.args.steps.now c.take_epoch.new.steps c.take_epoch.ensures.ticks)
+
+-- whatever the engine stands for, that is no more than the history asks for
+pub returns-in_err-batch-clause-work : goal.returns-in_err-batch-clause-work
+returns-in_err-batch-clause-work g c =
+    let e = c.self.inside in
+    rises_by_work c.args.self.now c.args.steps.now c.take_epoch.new.steps (subst IsConsistent c.self.view_is (consistent e.plan e.stores e.epoch e.closed_time c.self.invariant.running))
+    (subst (λ (v : EngineView). c.take_epoch.new.steps ≤ c.args.steps.now + epoch_work v.network v.layout (stores_in v) (streams_of v.opened)) c.self.view_is
+    (closes_ticks e.plan e.stores e.epoch e.closed_time c.args.steps.now c.take_epoch.new.steps c.take_epoch.ensures.ticks))
+
+pub returns-clause-work : goal.returns-clause-work
+returns-clause-work g c =
+    let e = c.self.inside in
+    rises_by_work c.args.self.now c.args.steps.now c.take_epoch.new.steps (subst IsConsistent c.self.view_is (consistent e.plan e.stores e.epoch e.closed_time c.self.invariant.running))
+    (subst (λ (v : EngineView). c.take_epoch.new.steps ≤ c.args.steps.now + epoch_work v.network v.layout (stores_in v) (streams_of v.opened)) c.self.view_is
+    (closes_ticks e.plan e.stores e.epoch e.closed_time c.args.steps.now c.take_epoch.new.steps c.take_epoch.ensures.ticks))

@@ -1,0 +1,56 @@
+-- Examples of the tests that epochs ask for, worked out by hand. No contract cites them.
+use Rattle.std.proofs.Common.{◌≡◌, refl, ℕ, pos, List, [], ◌∷◌}
+use Rattle.std.specs.Prelude.{Option, Some, None}
+use Rattle.event_types.specs.declared.comparison.Cmp.TheVariants as cmp
+use Rattle.event_types.specs.declared.value.Value.TheVariants as value
+use Rattle.semantics.specs.Histories.{Event as Heard}
+use Rattle.semantics.specs.Scalars.{Binding, Dur, Event, Lit, Test}
+use Rattle.automaton.specs.Prefixes.{Prefix, Root, After}
+use Rattle.automaton.specs.declared.line.Hop.{Hop}
+use Rattle.automaton.specs.declared.line.Line.{Line}
+use Rattle.automaton.specs.declared.step.Stage.TheVariants.{Keep}
+use Rattle.automaton.specs.declared.wait.Turn.{Turn}
+use Rattle.epoch_engine.specs.Work.{work}
+
+-- the event of one number on a stream, at a time
+abbrev heard : ℕ → ℕ → ℕ → Heard
+heard stream n at = record { stream = stream; tuple = record { vals = value.Int (pos n) ∷ []; from = at; at = at } }
+
+-- S with a > 7, and then a tuple of T with the same number, as a sequence or as an iteration
+abbrev hop : Option Turn → Hop
+hop fold = record {
+  step = Keep (Test (Event 0) cmp.Gt (Lit (value.Int (pos 7))) ∷ []) ∷ [];
+  wait = record { stream = 1; choose = Test (Event 0) cmp.Eq (Binding 0) ∷ []; fold = fold };
+}
+
+-- what comes of it is kept where DUR < 9
+abbrev line : Option Turn → Line
+line fold = record { root = 0; hops = hop fold ∷ []; last = Keep (Test Dur cmp.Lt (Lit (value.Int (pos 9))) ∷ []) ∷ []; out = 2 }
+
+-- its two states
+abbrev states : Option Turn → List Prefix
+states fold = Root 0 ∷ After (Root 0) (hop fold) ∷ []
+
+-- an iteration that goes on
+abbrev turn : Turn
+turn = record { on = []; set = record { width = 1; parts = Event 0 ∷ [] } }
+
+-- S brings 8, 6 and 9 at the time 1, and T brings 8 at the time 2
+abbrev history : List Heard
+history = heard 0 8 1 ∷ heard 0 6 1 ∷ heard 0 9 1 ∷ heard 1 8 2 ∷ []
+
+-- at the time 1 the step behind the root is looked up by 8 and by 9, which have one test each
+pub two_are_looked_up : work (states None) (line None ∷ []) (2 ∷ []) history 1 ≡ 2
+two_are_looked_up = refl
+
+-- at the time 2 the tuple of T has two tests with the binding of its number and none with the other, and what comes of it one on the last step
+pub one_has_the_key : work (states None) (line None ∷ []) (2 ∷ []) history 2 ≡ 3
+one_has_the_key = refl
+
+-- in a FOLD it has three with that binding
+pub fold_has_one_more : work (states (Some turn)) (line (Some turn) ∷ []) (2 ∷ []) history 2 ≡ 4
+fold_has_one_more = refl
+
+-- two equal lines share both states and have an end each
+pub ends_are_counted_apart : work (states None) (line None ∷ line None ∷ []) (2 ∷ []) history 2 ≡ 4
+ends_are_counted_apart = refl
