@@ -36,14 +36,14 @@ use Rattle.epoch_laws.proofs.Bags.{no_length}
 use Rattle.epoch_laws.proofs.Grows.{epoch_grows, epoch_starts}
 use Rattle.epoch_laws.proofs.Lists.{All_last}
 use Rattle.epoch_draft.specs.Deriving.{AreOpened, AreOrdered, CanDraw, Derives, DrawnUpTo, news_of, opened_of}
-use Rattle.epoch_draft.specs.Drafts.{Adds, DraftFits, Grows}
+use Rattle.epoch_draft.specs.Drafts.{Adds, DraftFits, EndsBelow, Grows, IsDraftOf}
 use Rattle.epoch_draft.specs.Drawn.{Drawn, Paired}
 use Rattle.epoch_draft.specs.Held.{held}
 use Rattle.epoch_draft.specs.Meeting.{ListsAll, moves_of_all}
 use Rattle.epoch_draft.specs.Moves.{Move, made_of}
 use Rattle.epoch_draft.specs.Suits.{TupleSuits}
 use Rattle.epoch_draft.specs.EpochWork.{derived_tests, pairs_work}
-use Rattle.epoch_draft.specs.Takes.{row_at, take_work, takes_work}
+use Rattle.epoch_draft.specs.Takes.{tuple_of, take_work, takes_work}
 use Rattle.epoch_draft.specs.Tests.{stream_work, tuple_work}
 use Rattle.epoch_draft.specs.Typed.{HaveKinds, IsTyped}
 use Rattle.epoch_draft.specs.declared.draft.Draft.{Draft}
@@ -72,6 +72,13 @@ turned m n e = grind (arith, nat_tests)
 
 other_test : (m n : ℕ) → (m ≡ n → ⊥) → (m == n) ≡ false
 other_test m n ne = grind (arith, nat_tests)
+
+-- a draft that fits the streams of a layout is for its network
+pub drawn_of : (net : Net) (layout : Layout) (stores : List (Option Store)) (opened : List (List TupleView)) (draft : Draft) → CanDraw net layout stores opened → DraftFits (length layout.kinds) (length net) draft → IsDraftOf net draft
+drawn_of net layout stores opened draft can fits = record {
+  below = subst (λ (m : ℕ). EndsBelow net m) (sym fits.made) can.below;
+  fits = subst (λ (m : ℕ). DraftFits m (length net) draft) (sym fits.made) fits;
+}
 
 -- a listed number is tested to be
 pub in_contains : (xs : List ℕ) (n : ℕ) → Contains xs n → is_in xs n ≡ true
@@ -440,13 +447,13 @@ module _ (net : Net) (layout : Layout) (stores : List (Option Store)) (opened : 
     derived_takes =
         let news = ap (λ (now : Streams). takes_work net now (held stores) more) (step ∙ ap (news_of opened new.made) (sym (take_more order i 0 lt))) in
         let grown = takes_grow net (held stores) later s rows pairs more (ap (λ b. cond b rows (seen s)) (is_itself s)) derives.lists in
-        let before = takes_agree net (held stores) later seen pairs (All-weaker IsSound (λ p. row_at later p ≡ row_at seen p) each pairs was.paired.sound) in
+        let before = takes_agree net (held stores) later seen pairs (All-weaker IsSound (λ p. tuple_of later p ≡ tuple_of seen p) each pairs was.paired.sound) in
         let mine = sum_by-IsPermutation (take_work net (held stores) s) rows (get_or old.made s []) derives.same in omega (arith, news, grown, before, mine)
       where
         IsSound : Pair → Type 0
         IsSound p = Contains (waits_on net p.stream) p.state × (p.place < length (seen p.stream))
 
-        each : (p : Pair) → IsSound p → row_at later p ≡ row_at seen p
+        each : (p : Pair) → IsSound p → tuple_of later p ≡ tuple_of seen p
         each p h = go (p.stream == s) refl
           where
             go : (b : Bool) → (p.stream == s) ≡ b → option_to_list (slice_get (cond b rows (seen p.stream)) p.place) ≡ option_to_list (slice_get (seen p.stream) p.place)

@@ -17,7 +17,7 @@ use Rattle.automaton.specs.declared.network.End.{End}
 use Rattle.stream_readers.specs.Ways.{Back, Into, Way, Out}
 use Rattle.epoch_laws.specs.Instances.{began, pass_instance}
 use Rattle.epoch_laws.proofs.Bags.{permuted_is}
-use Rattle.epoch_draft.specs.Drafts.{Adds, DraftFits, Grows}
+use Rattle.epoch_draft.specs.Drafts.{Adds, DraftFits, EndsBelow, Grows, IsDraftOf}
 use Rattle.epoch_draft.specs.Marks.{AreMarks, MarksMore}
 use Rattle.epoch_draft.specs.Moves.{Move, bound_by, bound_of, made_by, made_of, moves_on}
 use Rattle.epoch_draft.specs.declared.draft.Draft.{Draft}
@@ -27,7 +27,7 @@ use Rattle.epoch_draft.proofs.MarkLemmas.{marks_kept, marks_same, marks_trans}
 
 -- tuples of one stream
 pub made_fits : (old : Draft) (s : ℕ) (rows : List TupleView) (due : Marks) → DraftFits (length old.made) (length old.beads) old → MarksMore old.due due → Contains due.numbers s
-    → DraftFits (length old.made) (length old.beads) (record { made = set old.made s rows; beads = old.beads; due = due; reached = old.reached })
+    → DraftFits (length old.made) (length old.beads) (record { alloc = old.alloc; made = set old.made s rows; beads = old.beads; due = due; reached = old.reached })
 made_fits old s rows due fits more marked = record {
   made = length-set old.made s rows;
   beads = refl;
@@ -49,7 +49,7 @@ made_fits old s rows due fits more marked = record {
 
 -- beads of one state
 pub beads_fit : (old : Draft) (w : ℕ) (beads : List Instance) (reached : Marks) → DraftFits (length old.made) (length old.beads) old → MarksMore old.reached reached → Contains reached.numbers w
-    → DraftFits (length old.made) (length old.beads) (record { made = old.made; beads = set old.beads w beads; due = old.due; reached = reached })
+    → DraftFits (length old.made) (length old.beads) (record { alloc = old.alloc; made = old.made; beads = set old.beads w beads; due = old.due; reached = reached })
 beads_fit old w beads reached fits more marked = record {
   made = refl;
   beads = length-set old.beads w beads;
@@ -71,7 +71,7 @@ beads_fit old w beads reached fits more marked = record {
 
 -- the beads of states that are reached may be taken out
 pub linked_fits : (streams states : ℕ) (old : Draft) (beads : List (List Instance)) → DraftFits streams states old → length beads ≡ length old.beads → ((n : ℕ) → (Contains old.reached.numbers n → ⊥) → get_or beads n [] ≡ get_or old.beads n [])
-    → DraftFits streams states (record { made = old.made; beads = beads; due = old.due; reached = old.reached })
+    → DraftFits streams states (record { alloc = old.alloc; made = old.made; beads = beads; due = old.due; reached = old.reached })
 linked_fits streams states old beads fits as_many others = record {
   made = fits.made;
   beads = as_many ∙ fits.beads;
@@ -262,8 +262,15 @@ into_stays net old w x passes fits = record {
     none true = refl
     none false = refl
 
+-- a draft that fits as another did is for the same network
+pub draft_of : (net : Net) (start now : Draft) → IsDraftOf net start → DraftFits (length start.made) (length net) now → IsDraftOf net now
+draft_of net start now was fits = record {
+  below = subst (λ (m : ℕ). EndsBelow net m) (sym fits.made) was.below;
+  fits = subst (λ (m : ℕ). DraftFits m (length net) now) (sym fits.made) fits;
+}
+
 -- tuples that are taken out
-pub without_fits : (old : Draft) (s : ℕ) → DraftFits (length old.made) (length old.beads) old → DraftFits (length old.made) (length old.beads) (record { made = set old.made s []; beads = old.beads; due = old.due; reached = old.reached })
+pub without_fits : (old : Draft) (s : ℕ) → DraftFits (length old.made) (length old.beads) old → DraftFits (length old.made) (length old.beads) (record { alloc = old.alloc; made = set old.made s []; beads = old.beads; due = old.due; reached = old.reached })
 without_fits old s fits = record {
   made = length-set old.made s [];
   beads = refl;

@@ -1,7 +1,7 @@
 -- Keys that come to lead to a state.
-use Rattle.std.proofs.Common.{◌≡◌, ◌∙◌, sym, ap, refl, subst, inl, inr, ℕ, ◌<◌, ◌⊎◌, Bool, true, get_or, set, length, List, []}
+use Rattle.std.proofs.Common.{◌≡◌, ◌∙◌, sym, ap, subst, inl, inr, ℕ, ◌<◌, ◌⊎◌, true, get_or, set, length, List}
 use Rattle.std.specs.Prelude.{Contains, IfNone, IfSome, OnErr, OnOk, Option, Some, None, Result, Ok, Err}
-use Rattle.std.specs.List.{All, list_any}
+use Rattle.std.specs.List.{All}
 use Rattle.std.proofs.lemmas.Grind.{get_or-set_at}
 use Rattle.std.proofs.lemmas.List.{get_or-set_other}
 use Rattle.std.proofs.lemmas.List.Elements.{All-contains, All-contains_itself, All-weaker}
@@ -11,16 +11,16 @@ use Rattle.event_types.specs.declared.value.Value.{Value}
 use Rattle.instances.specs.Keys.{BindingFits, HasKey, IsKeyReady, Key}
 use Rattle.instances.specs.declared.instance.Instance.{Instance}
 use Rattle.semantics.specs.Values.{value_at}
-use Rattle.automaton.specs.States.{Net, wait_at}
+use Rattle.automaton.specs.States.{Net}
 use Rattle.automaton.specs.declared.wait.Wait.{Wait}
 use Rattle.automaton.proofs.NumberLemmas.{are_same_or_not}
-use Rattle.binding_index.specs.Among.{is_among, is_key}
-use Rattle.binding_index.specs.KeyParts.{first_key, key_of_part}
+use Rattle.binding_index.specs.Among.{is_among}
+use Rattle.binding_index.specs.KeyParts.{key_of_part}
 use Rattle.binding_index.specs.Leads.{Entries, Leads, ready_in}
 use Rattle.binding_index.specs.declared.store.Store.{Store}
 use Rattle.binding_index.proofs.EqualityLemmas.{key_decides}
 use Rattle.stream_readers.specs.KeyTables.{IsFoundAt, IsNoted, KeyTable, LeadSame, LeadsFit, entries_at}
-use Rattle.stream_readers.specs.Leading.{lead_key, lead_key_at, lead_key_in}
+use Rattle.stream_readers.specs.Leading.{lead_key_at, lead_key_in}
 use Rattle.epoch_draft.specs.Held.{instances_in, key_in, shape_of}
 use Rattle.epoch_draft.specs.Led.{AreLed, AreReadyIn, HasKeyOf, IsLeadOf, LeadBy, LeadMore, LeadTo, LeadsBy}
 use Rattle.epoch_draft.specs.Stores.{HasStores}

@@ -1,5 +1,5 @@
 -- Keys that lead to the states where they are ready.
-use Rattle.std.proofs.Common.{◌≡◌, ◌∙◌, sym, ap, refl, subst, inl, inr, ℕ, ◌<◌, ◌==◌, ◌⊎◌, ◌&&◌, not, Bool, true, false, cond, length, get_or, List, [], ◌∷◌, ◌++◌}
+use Rattle.std.proofs.Common.{◌≡◌, ◌∙◌, sym, ap, refl, subst, inl, inr, ℕ, ◌==◌, ◌⊎◌, ◌&&◌, not, Bool, true, false, cond, length, get_or, List, [], ◌∷◌, ◌++◌}
 use Rattle.std.specs.Prelude.{Contains, Option, Some, None, is_some}
 use Rattle.std.specs.Option.{option_map}
 use Rattle.std.specs.Ordering.{int_cmp}
@@ -19,28 +19,26 @@ use Rattle.semantics.specs.Scalars.{Pr}
 use Rattle.semantics.specs.Truth.{is_met, order_of}
 use Rattle.semantics.specs.Values.{value_at}
 use Rattle.scalar_expr.specs.Classes.{class_of}
-use Rattle.scalar_expr.proofs.Bags.{permuted_from, permuted_to}
+use Rattle.scalar_expr.proofs.Bags.{permuted_from}
 use Rattle.static_index.specs.FixedParts.{all_hold}
-use Rattle.automaton.specs.States.{Net, tells, wait_at}
+use Rattle.automaton.specs.States.{Net, tells}
 use Rattle.automaton.specs.declared.wait.Wait.{Wait}
-use Rattle.binding_index.specs.Among.{is_key}
-use Rattle.binding_index.specs.KeyParts.{first_key, key_of_part}
+use Rattle.binding_index.specs.KeyParts.{first_key}
 use Rattle.binding_index.specs.Leads.{Leads, ready_in}
 use Rattle.binding_index.specs.declared.store.Store.{Store}
 use Rattle.binding_index.proofs.EqualityLemmas.{key_decides}
-use Rattle.stream_readers.specs.Finding.{FindsKeyed, FindsPlain, IsDeaf, IsUnled, is_keyed_on, is_plain_on, is_wait_on, keyed_waits_on, plain_waits_on, waits_on}
-use Rattle.stream_readers.specs.KeyTables.{IsFoundAt, KeyTable, entries_at}
+use Rattle.stream_readers.specs.Finding.{FindsKeyed, FindsPlain, IsDeaf, IsUnled, is_keyed_on, is_wait_on, keyed_waits_on, plain_waits_on, waits_on}
+use Rattle.stream_readers.specs.KeyTables.{KeyTable, entries_at}
 use Rattle.stream_readers.specs.Leading.{asks_literal, is_keyed, lead_key, lead_key_at, lead_key_in}
 use Rattle.stream_readers.specs.Ways.{is_state_looked_up, parts_at}
 use Rattle.stream_readers.proofs.OnceLemmas.{from_filter}
 use Rattle.stream_readers.proofs.TargetLemmas.{deaf_state}
-use Rattle.epoch_laws.specs.Closing.{Stores}
 use Rattle.epoch_laws.specs.Events.{IsKeyOf}
-use Rattle.epoch_laws.proofs.Bags.{permuted_is, swap_four}
+use Rattle.epoch_laws.proofs.Bags.{swap_four}
 use Rattle.epoch_laws.proofs.Events.{unmatched_is}
 use Rattle.epoch_laws.proofs.Lists.{every, filter-filter}
-use Rattle.epoch_draft.specs.Held.{held, instances_in, key_in}
-use Rattle.epoch_draft.specs.Led.{AreLed, AreReadyIn}
+use Rattle.epoch_draft.specs.Held.{held, key_in}
+use Rattle.epoch_draft.specs.Led.{AreLed}
 use Rattle.epoch_draft.specs.Meeting.{FindsWaits, MatchesNone}
 use Rattle.epoch_draft.specs.Stores.{HasStores}
 use Rattle.epoch_draft.specs.Suits.{MeetingSuits}

@@ -48,8 +48,8 @@ use Rattle.epoch_draft.specs.Held.{held, instances_in, shape_for, shape_of}
 use Rattle.epoch_draft.specs.Meeting.{MatchesNone, pair_of}
 use Rattle.epoch_draft.specs.Purging.{ArePurgedIn, IsUnbound, ListsBounded, alive_in}
 use Rattle.epoch_draft.specs.Readying.{HaveRoom, HaveRoomIn}
-use Rattle.epoch_draft.specs.Settling.{AreClosed, AreLinked, AreSettled, AreTaken, IsTakenAt, PairSuits, first_of, listed_rows, tuples_in}
-use Rattle.epoch_draft.specs.Takes.{row_at, takes_work}
+use Rattle.epoch_draft.specs.Settling.{AreClosed, AreLinked, AreSettled, AreTaken, IsTakenAt, PairSuits, first_of, listed_tuples, tuples_in}
+use Rattle.epoch_draft.specs.Takes.{tuple_of, takes_work}
 use Rattle.epoch_draft.specs.Suits.{MeetingSuits, TupleSuits, WaitSuits}
 use Rattle.epoch_draft.specs.Typed.{IsTyped}
 use Rattle.epoch_draft.specs.declared.draft.Draft.{Draft}
@@ -104,22 +104,22 @@ taken_more net news pairs i d t old mid new lt got was one = record {
     p : Pair
     p = get_or pairs i d
 
-    rows : (n : ℕ) → listed_rows news (take (i + 1) pairs) n ≡ listed_rows news (take i pairs) n ++ cond (p.state == n) (row_at news p) []
+    rows : (n : ℕ) → listed_tuples news (take (i + 1) pairs) n ≡ listed_tuples news (take i pairs) n ++ cond (p.state == n) (tuple_of news p) []
     rows n =
-        ap (λ ps. listed_rows news ps n) (take_more pairs i d lt) ∙ flat_map-append (λ (q : Pair). cond (q.state == n) (row_at news q) []) (take i pairs) (p ∷ [])
-        ∙ ap (λ rs. listed_rows news (take i pairs) n ++ rs) (append-nil (cond (p.state == n) (row_at news p) []))
+        ap (λ ps. listed_tuples news ps n) (take_more pairs i d lt) ∙ flat_map-append (λ (q : Pair). cond (q.state == n) (tuple_of news q) []) (take i pairs) (p ∷ [])
+        ∙ ap (λ rs. listed_tuples news (take i pairs) n ++ rs) (append-nil (cond (p.state == n) (tuple_of news p) []))
 
-    waits : (n : ℕ) (w : Wait) → wait_at net n ≡ Some w → (n ≡ p.state) ⊎ (n ≡ p.state → ⊥) → held new n ≡ unmatched_after w.choose (listed_rows news (take (i + 1) pairs) n) (held old n)
+    waits : (n : ℕ) (w : Wait) → wait_at net n ≡ Some w → (n ≡ p.state) ⊎ (n ≡ p.state → ⊥) → held new n ≡ unmatched_after w.choose (listed_tuples news (take (i + 1) pairs) n) (held old n)
     waits n w at (inl same) =
-        let mine : listed_rows news (take (i + 1) pairs) n ≡ listed_rows news (take i pairs) n ++ t ∷ [] =
-        rows n ∙ ap (λ b. listed_rows news (take i pairs) n ++ cond b (row_at news p) []) (ap (λ k. k == n) (sym same) ∙ is_itself n) ∙ ap (λ (o : Option TupleView). listed_rows news (take i pairs) n ++ option_to_list o) got in
+        let mine : listed_tuples news (take (i + 1) pairs) n ≡ listed_tuples news (take i pairs) n ++ t ∷ [] =
+        rows n ∙ ap (λ b. listed_tuples news (take i pairs) n ++ cond b (tuple_of news p) []) (ap (λ k. k == n) (sym same) ∙ is_itself n) ∙ ap (λ (o : Option TupleView). listed_tuples news (take i pairs) n ++ option_to_list o) got in
         let here : held new n ≡ filter (λ (k : Instance). not (is_eligible w.choose k.tuple t)) (held mid n) =
         ap (held new) same ∙ one.taken w (ap (wait_at net) (sym same) ∙ at) ∙ ap (λ k. filter (λ (k : Instance). not (is_eligible w.choose k.tuple t)) (held mid k)) (sym same) in
-        here ∙ ap (filter (λ (k : Instance). not (is_eligible w.choose k.tuple t))) (was.taken n w at) ∙ left_push w.choose (listed_rows news (take i pairs) n) t (held old n)
+        here ∙ ap (filter (λ (k : Instance). not (is_eligible w.choose k.tuple t))) (was.taken n w at) ∙ left_push w.choose (listed_tuples news (take i pairs) n) t (held old n)
         ∙ ap (λ rs. unmatched_after w.choose rs (held old n)) (sym mine)
     waits n w at (inr other) =
-        let mine : listed_rows news (take (i + 1) pairs) n ≡ listed_rows news (take i pairs) n =
-        rows n ∙ ap (λ b. listed_rows news (take i pairs) n ++ cond b (row_at news p) []) (other_test p.state n (λ e. other (sym e))) ∙ append-nil (listed_rows news (take i pairs) n) in
+        let mine : listed_tuples news (take (i + 1) pairs) n ≡ listed_tuples news (take i pairs) n =
+        rows n ∙ ap (λ b. listed_tuples news (take i pairs) n ++ cond b (tuple_of news p) []) (other_test p.state n (λ e. other (sym e))) ∙ append-nil (listed_tuples news (take i pairs) n) in
         one.others n other ∙ was.taken n w at ∙ ap (λ rs. unmatched_after w.choose rs (held old n)) (sym mine)
 
     others : (n : ℕ) → wait_at net n ≡ None → (n ≡ p.state) ⊎ (n ≡ p.state → ⊥) → held new n ≡ held old n
@@ -149,7 +149,7 @@ pub taken_fits : (net : Net) (news : Streams) (streams : ℕ) (pairs done : List
     → (w : Wait) → wait_at net p.state ≡ Some w → All (λ (k : Instance). AllFit w.choose t (Some k.tuple)) (held mid p.state)
 taken_fits net news streams pairs done p old mid was suits t got w at =
     subst (All (λ (k : Instance). AllFit w.choose t (Some k.tuple))) (sym (was.taken p.state w at))
-    (All-filter (λ (k : Instance). is_unmet w.choose (listed_rows news done p.state) k.tuple) (λ (k : Instance). AllFit w.choose t (Some k.tuple)) (held old p.state) (suits.fits w t at got))
+    (All-filter (λ (k : Instance). is_unmet w.choose (listed_tuples news done p.state) k.tuple) (λ (k : Instance). AllFit w.choose t (Some k.tuple)) (held old p.state) (suits.fits w t at got))
 
 -- the tuples of a stream that has some
 pub in_is_news : (net : Net) (layout : Layout) (stores : List (Option Store)) (opened made : List (List TupleView)) → CanDraw net layout stores opened → (s k : ℕ) → k < length (news_of opened made layout.order s) → tuples_in opened made s ≡ news_of opened made layout.order s
@@ -334,7 +334,7 @@ module _ (net : Net) (layout : Layout) (stores : List (Option Store)) (opened : 
       Sound p = Contains (waits_on net p.stream) p.state × (p.place < length (news p.stream))
 
       work : Streams → Pair → ℕ
-      work seen p = sum_by (λ (t : TupleView). length (candidates_at net (held stores) t p.state)) (row_at seen p)
+      work seen p = sum_by (λ (t : TupleView). length (candidates_at net (held stores) t p.state)) (tuple_of seen p)
 
       one : (p : Pair) → Sound p → work listed p ≡ work news p
       one p h =
@@ -348,22 +348,22 @@ module _ (net : Net) (layout : Layout) (stores : List (Option Store)) (opened : 
           sum_by-cons (work listed) p ps ∙ (λ k. here k + rest k) ∙ sym (sum_by-cons (work news) p ps)
 
   -- what the listed tuples leave is what all leave
-  pub left_all_same : (n : ℕ) (w : Wait) → wait_at net n ≡ Some w → unmatched_after w.choose (listed_rows listed pairs n) (held stores n) ≡ unmatched_after w.choose (news w.stream) (held stores n)
-  left_all_same n w at = left_same w.choose (listed_rows listed pairs n) (news w.stream) (held stores n) there back
+  pub left_all_same : (n : ℕ) (w : Wait) → wait_at net n ≡ Some w → unmatched_after w.choose (listed_tuples listed pairs n) (held stores n) ≡ unmatched_after w.choose (news w.stream) (held stores n)
+  left_all_same n w at = left_same w.choose (listed_tuples listed pairs n) (news w.stream) (held stores n) there back
     where
-      there : All (Contains (news w.stream)) (listed_rows listed pairs n)
+      there : All (Contains (news w.stream)) (listed_tuples listed pairs n)
       there =
-          all_flat_at (Contains (news w.stream)) (λ (p : Pair). cond (p.state == n) (row_at listed p) []) pairs
-          (All-weaker (λ (p : Pair). Contains (waits_on net p.stream) p.state × (p.place < length (news p.stream))) (λ (p : Pair). All (Contains (news w.stream)) (cond (p.state == n) (row_at listed p) [])) one pairs drawn.paired.sound)
+          all_flat_at (Contains (news w.stream)) (λ (p : Pair). cond (p.state == n) (tuple_of listed p) []) pairs
+          (All-weaker (λ (p : Pair). Contains (waits_on net p.stream) p.state × (p.place < length (news p.stream))) (λ (p : Pair). All (Contains (news w.stream)) (cond (p.state == n) (tuple_of listed p) [])) one pairs drawn.paired.sound)
         where
           row : (o : Option TupleView) → ((t : TupleView) → o ≡ Some t → Contains (news w.stream) t) → All (Contains (news w.stream)) (option_to_list o)
           row None h = All-nil (Contains (news w.stream))
           row (Some t) h = All-cons (Contains (news w.stream)) t [] (h t refl) (All-nil (Contains (news w.stream)))
 
-          one : (p : Pair) → Contains (waits_on net p.stream) p.state × (p.place < length (news p.stream)) → All (Contains (news w.stream)) (cond (p.state == n) (row_at listed p) [])
+          one : (p : Pair) → Contains (waits_on net p.stream) p.state × (p.place < length (news p.stream)) → All (Contains (news w.stream)) (cond (p.state == n) (tuple_of listed p) [])
           one p h = go (p.state == n) refl
             where
-              go : (b : Bool) → (p.state == n) ≡ b → All (Contains (news w.stream)) (cond b (row_at listed p) [])
+              go : (b : Bool) → (p.state == n) ≡ b → All (Contains (news w.stream)) (cond b (tuple_of listed p) [])
               go true e =
                   let stream : w.stream ≡ p.stream = wait_of p.stream p.state h.0 w (ap (wait_at net) (same_number p.state n e) ∙ at) in
                   let is = in_is_news net layout stores opened draft.made can p.stream p.place h.1 in
@@ -371,19 +371,19 @@ module _ (net : Net) (layout : Layout) (stores : List (Option Store)) (opened : 
                   (λ t got. subst (λ (s : ℕ). Contains (news s) t) (sym stream) (contains_at (news p.stream) p.place t (ap (λ (ts : List TupleView). slice_get ts p.place) (sym is) ∙ got)))
               go false e = All-nil (Contains (news w.stream))
 
-      listed_or : (i : Instance) → Contains (held stores n) i → All (λ y. Contains (listed_rows listed pairs n) y ⊎ (is_eligible w.choose i.tuple y ≡ false)) (news w.stream)
+      listed_or : (i : Instance) → Contains (held stores n) i → All (λ y. Contains (listed_tuples listed pairs n) y ⊎ (is_eligible w.choose i.tuple y ≡ false)) (news w.stream)
       listed_or i here k d lt = go (get_or (news w.stream) k d) (slice_get-get_or (news w.stream) k d lt) (drawn.paired.listed w.stream k (get_or (news w.stream) k d) (slice_get-get_or (news w.stream) k d lt) n (listed_wait n w at))
         where
-          go : (t : TupleView) → slice_get (news w.stream) k ≡ Some t → Contains pairs (pair_of w.stream k n) ⊎ MatchesNone net (held stores) t n → Contains (listed_rows listed pairs n) t ⊎ (is_eligible w.choose i.tuple t ≡ false)
+          go : (t : TupleView) → slice_get (news w.stream) k ≡ Some t → Contains pairs (pair_of w.stream k n) ⊎ MatchesNone net (held stores) t n → Contains (listed_tuples listed pairs n) t ⊎ (is_eligible w.choose i.tuple t ≡ false)
           go t got (inl c) =
               let is = in_is_news net layout stores opened draft.made can w.stream k lt in
-              let mine : t ∷ [] ≡ cond (n == n) (row_at listed (pair_of w.stream k n)) [] =
-              sym (ap (λ c. cond c (row_at listed (pair_of w.stream k n)) []) (is_itself n) ∙ ap (λ (o : Option TupleView). option_to_list o) (ap (λ (ts : List TupleView). slice_get ts k) is ∙ got)) in
-              inl (contains_flat (λ (p : Pair). cond (p.state == n) (row_at listed p) []) pairs (pair_of w.stream k n) t c (subst (λ (ts : List TupleView). Contains ts t) mine (Contains-push [] t)))
+              let mine : t ∷ [] ≡ cond (n == n) (tuple_of listed (pair_of w.stream k n)) [] =
+              sym (ap (λ c. cond c (tuple_of listed (pair_of w.stream k n)) []) (is_itself n) ∙ ap (λ (o : Option TupleView). option_to_list o) (ap (λ (ts : List TupleView). slice_get ts k) is ∙ got)) in
+              inl (contains_flat (λ (p : Pair). cond (p.state == n) (tuple_of listed p) []) pairs (pair_of w.stream k n) t c (subst (λ (ts : List TupleView). Contains ts t) mine (Contains-push [] t)))
           go t got (inr none) = inr (All-contains (λ (i : Instance). is_eligible w.choose i.tuple t ≡ false) (held stores n) i (none w at) here)
 
-      back : All (λ (i : Instance). All (λ y. Contains (listed_rows listed pairs n) y ⊎ (is_eligible w.choose i.tuple y ≡ false)) (news w.stream)) (held stores n)
-      back = All-weaker (Contains (held stores n)) (λ (i : Instance). All (λ y. Contains (listed_rows listed pairs n) y ⊎ (is_eligible w.choose i.tuple y ≡ false)) (news w.stream)) listed_or (held stores n) (All-contains_itself (held stores n))
+      back : All (λ (i : Instance). All (λ y. Contains (listed_tuples listed pairs n) y ⊎ (is_eligible w.choose i.tuple y ≡ false)) (news w.stream)) (held stores n)
+      back = All-weaker (Contains (held stores n)) (λ (i : Instance). All (λ y. Contains (listed_tuples listed pairs n) y ⊎ (is_eligible w.choose i.tuple y ≡ false)) (news w.stream)) listed_or (held stores n) (All-contains_itself (held stores n))
 
   -- what is taken out and linked settles
   pub settled : (mid new : List (Option Store)) → AreTaken net listed pairs stores mid → AreLinked draft.reached.numbers draft.beads mid new → AreSettled net news stores new
@@ -585,7 +585,7 @@ taken_fewer net news pairs old mid was n t = go (wait_at net n) refl
     go : (o : Option Wait) → wait_at net n ≡ o → length (candidates_by o (held mid n) t) ≤ length (candidates_by o (held old n) t)
     go None at = omega arith
     go (Some w) at =
-        let left = λ (k : Instance). is_unmet w.choose (listed_rows news pairs n) k.tuple in
+        let left = λ (k : Instance). is_unmet w.choose (listed_tuples news pairs n) k.tuple in
         let e = ap (λ (is : List Instance). length (candidates_of (first_key w.choose) t is)) (was.taken n w at) in
         let le = candidates_fewer (first_key w.choose) t left (held old n) in omega (arith, e, le)
 
@@ -595,7 +595,7 @@ pub takes_more : (net : Net) (news : Streams) (stores : Stores) (pairs : List Pa
 takes_more net news stores pairs i d t lt got = sum_by_more work pairs i d lt ∙ ap (λ (n : ℕ). takes_work net news stores (take i pairs) + n) one
   where
     work : Pair → ℕ
-    work p = sum_by (λ (t : TupleView). length (candidates_at net stores t p.state)) (row_at news p)
+    work p = sum_by (λ (t : TupleView). length (candidates_at net stores t p.state)) (tuple_of news p)
 
     count : TupleView → ℕ
     count t = length (candidates_at net stores t (get_or pairs i d).state)

@@ -1,6 +1,6 @@
 -- Stores in which keys stay ready.
 use Rattle.std.proofs.Common.{◌≡◌, ◌∙◌, sym, ap, refl, subst, inl, inr, ℕ, ◌<◌, ◌⊎◌, get_or, set, length, List, [], ◌++◌}
-use Rattle.std.specs.Prelude.{Any, Contains, Option, Some, None}
+use Rattle.std.specs.Prelude.{Contains, Option, Some, None}
 use Rattle.std.specs.Option.{option_and_then}
 use Rattle.std.specs.List.{All}
 use Rattle.std.proofs.lemmas.Grind.{get_or-set_at}
@@ -11,7 +11,7 @@ use Rattle.std.proofs.lemmas.List.Folds.{list_any-from_Any}
 use Rattle.event_types.specs.declared.value.Value.{Value}
 use Rattle.instances.specs.Alive.{is_alive}
 use Rattle.instances.specs.Bounds.{alive_instances}
-use Rattle.instances.specs.Keys.{HasKey, IsKeyReady, KeepsUsedKeys, Key}
+use Rattle.instances.specs.Keys.{IsKeyReady, KeepsUsedKeys, Key}
 use Rattle.instances.specs.declared.instance.Instance.{Instance}
 use Rattle.semantics.specs.Values.{value_at}
 use Rattle.automaton.specs.States.{Net, wait_at}
@@ -28,7 +28,7 @@ use Rattle.epoch_laws.specs.Epochs.{is_unmet}
 use Rattle.epoch_draft.specs.Held.{SameReady, SameShapes, Shape, held, instances_in, key_in, shape_of}
 use Rattle.epoch_draft.specs.Led.{AreLed, AreReadyIn, StayReady, StaysReady}
 use Rattle.epoch_draft.specs.Readying.{HasRoom, HaveRoom}
-use Rattle.epoch_draft.specs.Settling.{AreLinked, AreTaken, listed_rows}
+use Rattle.epoch_draft.specs.Settling.{AreLinked, AreTaken, listed_tuples}
 use Rattle.epoch_draft.specs.Stores.{AreNewStores}
 use Rattle.epoch_draft.specs.declared.draft.Pair.{Pair}
 use Rattle.epoch_draft.proofs.Lists.{contains_or_not, none_in}
@@ -95,7 +95,7 @@ taken_stay net news pairs old new taken = same_stay old new taken.same taken.rea
 
     go : (n : ℕ) (o : Option Wait) → wait_at net n ≡ o → All (Ready n) (held old n) → All (Ready n) (held new n)
     go n None at ready = subst (All (Ready n)) (sym (taken.none n at)) ready
-    go n (Some w) at ready = subst (All (Ready n)) (sym (taken.taken n w at)) (All-filter (λ (i : Instance). is_unmet w.choose (listed_rows news pairs n) i.tuple) (Ready n) (held old n) ready)
+    go n (Some w) at ready = subst (All (Ready n)) (sym (taken.taken n w at)) (All-filter (λ (i : Instance). is_unmet w.choose (listed_tuples news pairs n) i.tuple) (Ready n) (held old n) ready)
 
 no_store : (slot : Option Store) → shape_of slot ≡ None → instances_in slot ≡ []
 no_store None e = refl

@@ -11,7 +11,7 @@ use Rattle.automaton.specs.States.{Net}
 use Rattle.epoch_laws.specs.Closing.{Stores}
 use Rattle.epoch_draft.specs.Candidates.{candidates_at}
 use Rattle.epoch_draft.specs.Meeting.{IsPairOf, Lists, ListsAll, pair_of}
-use Rattle.epoch_draft.specs.Takes.{row_at, take_work, takes_work}
+use Rattle.epoch_draft.specs.Takes.{tuple_of, take_work, takes_work}
 use Rattle.epoch_draft.specs.declared.draft.Pair.{Pair}
 use Rattle.epoch_draft.proofs.WorkLemmas.{states_less}
 
@@ -33,14 +33,14 @@ module _ (net : Net) (stores : Stores) where
 
   -- the tests of a pair
   abbrev pub pair_takes : Streams → Pair → ℕ
-  pair_takes news p = sum_by (λ (tuple : TupleView). at_state tuple p.state) (row_at news p)
+  pair_takes news p = sum_by (λ (tuple : TupleView). at_state tuple p.state) (tuple_of news p)
 
   -- pairs whose tuples are the same
-  pub takes_agree : (news later : Streams) (pairs : List Pair) → All (λ p. row_at news p ≡ row_at later p) pairs → takes_work net news stores pairs ≡ takes_work net later stores pairs
+  pub takes_agree : (news later : Streams) (pairs : List Pair) → All (λ p. tuple_of news p ≡ tuple_of later p) pairs → takes_work net news stores pairs ≡ takes_work net later stores pairs
   takes_agree news later [] all = refl
   takes_agree news later (p ∷ ps) all =
-      let here : pair_takes news p ≡ pair_takes later p = ap (sum_by (λ (tuple : TupleView). at_state tuple p.state)) (All-head (λ p. row_at news p ≡ row_at later p) p ps all) in
-      let rest = takes_agree news later ps (All-tail (λ p. row_at news p ≡ row_at later p) p ps all) in
+      let here : pair_takes news p ≡ pair_takes later p = ap (sum_by (λ (tuple : TupleView). at_state tuple p.state)) (All-head (λ p. tuple_of news p ≡ tuple_of later p) p ps all) in
+      let rest = takes_agree news later ps (All-tail (λ p. tuple_of news p ≡ tuple_of later p) p ps all) in
       sum_by-cons (pair_takes news) p ps ∙ (λ i. here i + rest i) ∙ sym (sum_by-cons (pair_takes later) p ps)
 
   -- the states that a tuple finds
@@ -66,7 +66,7 @@ module _ (net : Net) (stores : Stores) where
       let parts = sum_by-append (pair_takes (λ _. take (i + 1) rows)) added (map (pair_of s i) one.found) in
       let first =
       takes_agree (λ _. take (i + 1) rows) (λ _. take i rows) added
-      (All-weaker (IsPairOf net s (take i rows)) (λ p. row_at (λ _. take (i + 1) rows) p ≡ row_at (λ _. take i rows) p)
+      (All-weaker (IsPairOf net s (take i rows)) (λ p. tuple_of (λ _. take (i + 1) rows) p ≡ tuple_of (λ _. take i rows) p)
       (λ p h. ap option_to_list (ap (λ (ts : List TupleView). slice_get ts p.place) longer ∙ slice_left (take i rows) (tuple ∷ []) p.place h.below)) added sound) in
       let second = takes_found (λ _. take (i + 1) rows) s i tuple one.found got in
       let fewer = states_less (at_state tuple) net stores s tuple one.found one.finds in
@@ -79,5 +79,5 @@ module _ (net : Net) (stores : Stores) where
       let all = ap (takes_work net news stores) lists.are ∙ sum_by-append (pair_takes news) old lists.added in
       let same =
       takes_agree news (λ _. tuples) lists.added
-      (All-weaker (IsPairOf net s tuples) (λ p. row_at news p ≡ row_at (λ _. tuples) p) (λ p h. ap (λ (ts : List TupleView). option_to_list (slice_get ts p.place)) (ap news h.stream_is ∙ is)) lists.added lists.sound) in
+      (All-weaker (IsPairOf net s tuples) (λ p. tuple_of news p ≡ tuple_of (λ _. tuples) p) (λ p h. ap (λ (ts : List TupleView). option_to_list (slice_get ts p.place)) (ap news h.stream_is ∙ is)) lists.added lists.sound) in
       let most = lists.takes in omega (arith, all, same, most)

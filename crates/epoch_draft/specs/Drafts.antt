@@ -26,6 +26,11 @@ without draft stream = record draft { made = slice_set draft.made stream [] }
 abbrev pub EndsBelow : Net → ℕ → Type 0
 EndsBelow net streams = (number : ℕ) → All (λ end. end.out < streams) (ends_at net number)
 
+-- a draft has room for the states of a network, and for the streams of all ends
+pub record IsDraftOf (net : Net) (draft : Draft) : Type 0 where
+  pub below : EndsBelow net (length draft.made)
+  pub fits : DraftFits (length draft.made) (length net) draft
+
 -- items were put behind those of a list: these, up to order
 pub record Adds {X : Type 0} (more old new : List X) : Type 0 where
   pub added : List X

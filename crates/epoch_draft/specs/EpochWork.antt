@@ -44,7 +44,7 @@ heard_taking net layout stores heard = heard_tests (take_work net stores) (lengt
 abbrev pub taking_work : Net → Layout → Stores → Streams → ℕ
 taking_work net layout stores heard = epoch_tests (take_work net stores) net layout stores heard
 
--- all tests of the closing
+-- both together: no closing makes more tests
 abbrev pub epoch_work : Net → Layout → Stores → Streams → ℕ
 epoch_work net layout stores heard = draw_work net layout stores heard + taking_work net layout stores heard
 

@@ -27,4 +27,5 @@ EndFits kinds leaving end = (out : List Kind) × StepGives end.step leaving out 
 
 -- all states and ends of a network are typed
 abbrev pub StatesFit : List (List Kind) → Net → Kinding → Type 0
-StatesFit kinds net kinding = (number : ℕ) (state : State) → state_at net number ≡ Some state → EntranceFits kinds kinding number state.entrance × All (EndFits kinds (kinding.leaving number)) state.ends
+StatesFit kinds net kinding = (number : ℕ) (state : State) → state_at net number ≡ Some state
+    → EntranceFits kinds kinding number state.entrance × All (EndFits kinds (kinding.leaving number)) state.ends

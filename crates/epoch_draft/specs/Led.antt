@@ -33,7 +33,7 @@ abbrev pub LeadTo : Net → KeyTable → ℕ → Option Store → Type 0
 LeadTo net keys number slot =
     (wait : Wait) (key : Key) → wait_at net number ≡ Some wait → lead_key wait.choose ≡ Some key → All (λ value. Leads (entries_at keys wait.stream key.event) value number) (ready_in slot)
 
--- each key that is ready in a store leads to its state, and no key leads elsewhere; and the key of each instance is ready
+-- keys lead to states alone that are found by them; a key that is ready in the store of such a state leads there; and the key of each instance is ready
 pub record AreLed (net : Net) (keys : KeyTable) (stores : List (Option Store)) : Type 0 where
   pub fit : LeadsFit net keys
   pub led : (number : ℕ) → LeadTo net keys number (slice_index_or stores number None)
@@ -60,7 +60,7 @@ abbrev pub LeadsBy : KeyTable → Option Lead → TupleView → Type 0
 LeadsBy keys None binding = ⊤
 LeadsBy keys (Some lead) binding = Leads (entries_at keys lead.stream lead.key.event) (value_at binding lead.key.binding) lead.state
 
--- keys lead where they led, and besides to a state alone, which is found there
+-- keys lead where they led; and where the state is found as it says, they lead to states alone that are found by them, if they did
 pub record LeadMore (lead : Option Lead) (old new : KeyTable) : Type 0 where
   pub kept : LeadOn old new
   pub fit : (net : Net) (number : ℕ) → IfSome lead (IsLeadOf net number) → LeadsFit net old → LeadsFit net new

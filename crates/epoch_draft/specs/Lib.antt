@@ -3,11 +3,13 @@ pub mod Candidates
 pub mod Comes
 pub mod Deriving
 pub mod Drafts
+pub mod Drawings
 pub mod Drawn
 pub mod EpochWork
 pub mod Held
 pub mod Kindings
 pub mod Led
+pub mod Machines
 pub mod Marks
 pub mod Meeting
 pub mod Moves

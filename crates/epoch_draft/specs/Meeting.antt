@@ -45,6 +45,10 @@ pair_of stream place state = record { state = state; stream = stream; place = pl
 abbrev pub MatchesNone : Net → Stores → TupleView → ℕ → Type 0
 MatchesNone net stores tuple number = (wait : Wait) → wait_at net number ≡ Some wait → All (λ instance. is_eligible wait.choose instance.tuple tuple ≡ false) (stores number)
 
+-- the pair is listed, or its tuple is eligible for none of the instances at its state
+abbrev pub IsListed : Net → Stores → List Pair → Pair → TupleView → Type 0
+IsListed net stores pairs pair tuple = Contains pairs pair ⊎ MatchesNone net stores tuple pair.state
+
 -- the numbers are those of states that wait on a stream and are looked up by the tuple, each once, and the tuple is eligible for none of the instances at the others
 pub record FindsWaits (net : Net) (stores : Stores) (stream : ℕ) (tuple : TupleView) (found : List ℕ) : Type 0 where
   pub others : List ℕ
@@ -52,22 +56,23 @@ pub record FindsWaits (net : Net) (stores : Stores) (stream : ℕ) (tuple : Tupl
   pub unmatched : All (MatchesNone net stores tuple) others
   pub looked_up : All (λ number. is_state_looked_up net tuple number ≡ true) found
 
--- the states that were found by a tuple are listed with its place
+-- states that were found by a tuple, each once, are listed with its place behind the pairs that were there
 pub record Lists (net : Net) (stores : Stores) (stream place : ℕ) (tuple : TupleView) (old new : List Pair) : Type 0 where
   pub found : List ℕ
   pub finds : FindsWaits net stores stream tuple found
   pub are : new ≡ old ++ map (pair_of stream place) found
 
--- a pair is that of a waiting state and one of these tuples
+-- a pair names a stream, a state that waits on it, and the place of one of these tuples
 pub record IsPairOf (net : Net) (stream : ℕ) (tuples : List TupleView) (pair : Pair) : Type 0 where
   pub stream_is : pair.stream ≡ stream
   pub waits : Contains (waits_on net stream) pair.state
   pub below : pair.place < length tuples
 
--- each waiting state and each of these tuples are listed, or the tuple is eligible for none of the instances there; what is listed is taken out by no more tests than these tuples have
+-- each state that waits on a stream is listed with each of these tuples, or the tuple is eligible for none of the instances there; what is listed takes out by no more tests than these tuples have
 pub record ListsAll (net : Net) (stores : Stores) (stream : ℕ) (tuples : List TupleView) (old new : List Pair) : Type 0 where
   pub added : List Pair
   pub are : new ≡ old ++ added
   pub sound : All (IsPairOf net stream tuples) added
-  pub listed : (place : ℕ) (tuple : TupleView) → slice_get tuples place ≡ Some tuple → (state : ℕ) → Contains (waits_on net stream) state → Contains added (pair_of stream place state) ⊎ MatchesNone net stores tuple state
+  pub listed : (place : ℕ) (tuple : TupleView) → slice_get tuples place ≡ Some tuple
+      → (state : ℕ) → Contains (waits_on net stream) state → IsListed net stores added (pair_of stream place state) tuple
   pub takes : takes_work net (λ _. tuples) stores added ≤ sum_by (take_work net stores stream) tuples

@@ -17,7 +17,7 @@ use Rattle.automaton.specs.declared.wait.Wait.{Wait}
 use Rattle.epoch_laws.specs.Closing.{Stores, stores_after}
 use Rattle.epoch_laws.specs.Epochs.{unmatched_after}
 use Rattle.epoch_draft.specs.Held.{SameReady, SameShapes, held}
-use Rattle.epoch_draft.specs.Takes.{row_at}
+use Rattle.epoch_draft.specs.Takes.{tuple_of}
 use Rattle.epoch_draft.specs.declared.draft.Pair.{Pair}
 
 -- the first list, or the second where the first has no items
@@ -30,15 +30,16 @@ abbrev pub tuples_in : List (List TupleView) → List (List TupleView) → Strea
 tuples_in opened made stream = first_of (slice_index_or opened stream []) (slice_index_or made stream [])
 
 -- the tuples with which a state is listed
-abbrev pub listed_rows : Streams → List Pair → ℕ → List TupleView
-listed_rows news pairs number = flat_map (λ pair. if pair.state == number then row_at news pair else []) pairs
+abbrev pub listed_tuples : Streams → List Pair → ℕ → List TupleView
+listed_tuples news pairs number = flat_map (λ pair. if pair.state == number then tuple_of news pair else []) pairs
 
 -- the state and the tuple of a pair are there, and the tuple fits the state's condition with each instance there, and its key
 pub record PairSuits (net : Net) (news : Streams) (streams : ℕ) (stores : Stores) (pair : Pair) : Type 0 where
   pub used : IsTrue (is_used net pair.state)
   pub stream : pair.stream < streams
   pub place : pair.place < length (news pair.stream)
-  pub fits : (wait : Wait) (tuple : TupleView) → wait_at net pair.state ≡ Some wait → slice_get (news pair.stream) pair.place ≡ Some tuple → All (λ instance. AllFit wait.choose tuple (Some instance.tuple)) (stores pair.state)
+  pub fits : (wait : Wait) (tuple : TupleView) → wait_at net pair.state ≡ Some wait → slice_get (news pair.stream) pair.place ≡ Some tuple
+      → All (λ instance. AllFit wait.choose tuple (Some instance.tuple)) (stores pair.state)
   pub key : (wait : Wait) (tuple : TupleView) → wait_at net pair.state ≡ Some wait → slice_get (news pair.stream) pair.place ≡ Some tuple → EventFits (first_key wait.choose) tuple
 
 -- the instances that a tuple matches were taken out at a state
@@ -52,7 +53,7 @@ pub record IsTakenAt (net : Net) (tuple : TupleView) (number : ℕ) (old new : L
 -- the instances that the tuples of these pairs match were taken out
 pub record AreTaken (net : Net) (news : Streams) (pairs : List Pair) (old new : List (Option Store)) : Type 0 where
   pub same : SameShapes old new
-  pub taken : (number : ℕ) (wait : Wait) → wait_at net number ≡ Some wait → held new number ≡ unmatched_after wait.choose (listed_rows news pairs number) (held old number)
+  pub taken : (number : ℕ) (wait : Wait) → wait_at net number ≡ Some wait → held new number ≡ unmatched_after wait.choose (listed_tuples news pairs number) (held old number)
   pub none : (number : ℕ) → wait_at net number ≡ None → held new number ≡ held old number
   pub ready : SameReady old new
 
@@ -60,7 +61,8 @@ pub record AreTaken (net : Net) (news : Streams) (pairs : List Pair) (old new : 
 pub record AreLinked (numbers : List ℕ) (beads : List (List Instance)) (old new : List (Option Store)) : Type 0 where
   pub same : SameShapes old new
   pub ready : SameReady old new
-  pub linked : (number : ℕ) → Contains numbers number → (store : Store) → slice_index_or old number None ≡ Some store → IsPermutation (held new number) (instances_of store ++ slice_index_or beads number [])
+  pub linked : (number : ℕ) → Contains numbers number → (store : Store) → slice_index_or old number None ≡ Some store
+      → IsPermutation (held new number) (instances_of store ++ slice_index_or beads number [])
   pub idle : (number : ℕ) → slice_index_or beads number [] ≡ [] → slice_index_or new number None ≡ slice_index_or old number None
   pub others : (number : ℕ) → (Contains numbers number → ⊥) → slice_index_or new number None ≡ slice_index_or old number None
 

@@ -15,9 +15,9 @@ abbrev pub take_work : Net → Stores → ℕ → TupleView → ℕ
 take_work net stores stream tuple = sum_by (λ number. length (candidates_at net stores tuple number)) (filter (is_state_looked_up net tuple) (waits_on net stream))
 
 -- the tuple of a pair
-abbrev pub row_at : Streams → Pair → List TupleView
-row_at news pair = option_to_list (slice_get (news pair.stream) pair.place)
+abbrev pub tuple_of : Streams → Pair → List TupleView
+tuple_of news pair = option_to_list (slice_get (news pair.stream) pair.place)
 
 -- the tests by which these pairs take out what matches: one for each instance that the tuple may match
 abbrev pub takes_work : Net → Streams → Stores → List Pair → ℕ
-takes_work net news stores pairs = sum_by (λ pair. sum_by (λ tuple. length (candidates_at net stores tuple pair.state)) (row_at news pair)) pairs
+takes_work net news stores pairs = sum_by (λ pair. sum_by (λ tuple. length (candidates_at net stores tuple pair.state)) (tuple_of news pair)) pairs

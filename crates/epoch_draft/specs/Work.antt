@@ -1,4 +1,4 @@
--- The steps that an epoch may take: the tests of conditions.
+-- The tests of conditions that instances and tuples may take.
 use Rattle.std.specs.Prelude.{ℕ, ◌+◌, List, [], ◌∷◌, Option, Some, None, sum_by}
 use Rattle.event_types.specs.Tuple.{TupleView}
 use Rattle.instances.specs.Keys.{candidates_of}
@@ -29,12 +29,12 @@ way_work net (Back number) = 0
 abbrev pub ways_work : Net → List Way → ℕ
 ways_work net ways = sum_by (way_work net) ways
 
--- the tests of an eligible tuple with a binding: in a FOLD one, of the condition on which the new binding goes on
+-- the tests of a tuple with a binding that it is eligible for: in a FOLD one, of the condition on which the new binding goes on
 abbrev pub turn_work : Option Turn → ℕ
 turn_work None = 0
 turn_work (Some turn) = 1
 
--- the tests of a tuple with a binding at a wait: whether it is eligible, and then in a FOLD one more
+-- the tests of a tuple with a binding at a wait: whether it is eligible, and in a FOLD one more, which is counted though it isn't eligible
 abbrev pub pair_work : Wait → ℕ
 pair_work wait = 1 + turn_work wait.fold
 

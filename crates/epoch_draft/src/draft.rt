@@ -18,9 +18,11 @@ pub type Lists = List<Tuples>;
 pub type Beads = List<Chain<Instance>>;
 
 /// What an epoch brings: the tuples of derived streams, the beads of new instances, the streams for which
-/// tuples were made (`due`), and the states for which beads were (`reached`).
+/// tuples were made (`due`), and the states for which beads were (`reached`). New ones take their memory from
+/// `alloc`.
 #[derive(Drop)]
 pub struct Draft {
+    pub alloc: Global,
     pub made: Lists,
     pub beads: Beads,
     pub due: Marks,
@@ -51,6 +53,7 @@ impl Draft {
         let due = Marks::make(alloc, streams)?;
         let reached = Marks::make(alloc, states)?;
         Ok(Draft {
+            alloc,
             made,
             beads,
             due,
@@ -88,14 +91,14 @@ impl Draft {
     }
 
     /// Takes the tuples of a stream out. Takes no memory.
-    pub(crate) fn take_made(&mut self, alloc: Global, stream: StreamId) -> Tuples
+    pub(crate) fn take_made(&mut self, stream: StreamId) -> Tuples
         requires fits { DraftFits (length self.old.made) (length self.old.beads) self.old }
         requires stream { stream < length self.old.made }
         ensures value { result ≡ slice_index_or self.old.made stream [] }
         ensures taken { self.new ≡ without self.old stream }
         ensures fits { DraftFits (length self.old.made) (length self.old.beads) self.new }
     {
-        std::mem::replace(self.made.get_mut(stream), List::new(alloc))
+        std::mem::replace(self.made.get_mut(stream), List::new(self.alloc))
     }
 
     /// Makes these the tuples of a stream. After want of memory the draft is of no more use.
@@ -113,12 +116,7 @@ impl Draft {
     }
 
     /// Makes a bead of an instance for a state. After want of memory the draft is of no more use.
-    pub(crate) fn add_bead(
-        &mut self,
-        alloc: Global,
-        state: usize,
-        instance: Instance,
-    ) -> Result<(), Memory>
+    pub(crate) fn add_bead(&mut self, state: usize, instance: Instance) -> Result<(), Memory>
         requires fits { DraftFits (length self.old.made) (length self.old.beads) self.old }
         requires state { state < length self.old.beads }
         ensures beads { OnOk result (self.new.beads ≡ slice_set self.old.beads state (instance ∷ slice_index_or self.old.beads state [])) }
@@ -127,7 +125,7 @@ impl Draft {
         ensures fits { OnOk result (DraftFits (length self.old.made) (length self.old.beads) self.new) }
     {
         self.reached.mark(state)?;
-        match Bead::make(alloc, instance) {
+        match Bead::make(self.alloc, instance) {
             Ok(bead) => {
                 put_first(self.beads.get_mut(state), bead);
                 Ok(())

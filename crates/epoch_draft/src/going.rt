@@ -1,26 +1,25 @@
 //! Instances on their ways out of a state.
 ghost use Rattle.std.specs.Prelude.{◌≡◌, ◌+◌, ◌<◌, ◌≤◌, ◌∷◌, [], ℕ, IsTrue, OnOk, Some, length, map};
 ghost use Rattle.std.specs.List.{All};
-ghost use Rattle.automaton.specs.Networks.{IsNetwork};
-ghost use Rattle.automaton.specs.States.{Net, is_used, step_at, wait_at};
+ghost use Rattle.automaton.specs.States.{Net, is_used, step_at};
 ghost use Rattle.stream_readers.specs.Ways.{Into, Out, ways_at};
 ghost use Rattle.epoch_laws.specs.Instances.{began};
-ghost use Rattle.epoch_draft.specs.Drafts.{DraftFits, EndsBelow, Grows};
+ghost use Rattle.epoch_draft.specs.Drafts.{DraftFits, Grows, IsDraftOf};
+ghost use Rattle.epoch_draft.specs.Machines.{IsStation};
 ghost use Rattle.epoch_draft.specs.Moves.{moves_on};
 ghost use Rattle.epoch_draft.specs.Suits.{LeavingSuits, StepSuits};
 ghost use Rattle.epoch_draft.specs.Work.{keeps, ways_work};
 
 use crate::draft::Draft;
 use crate::passing::pass_on;
-use automaton::{End, Network, Wait};
+use crate::station::Station;
+use automaton::{End, Network};
 use event_types::{Memory, Tuple};
 use instances::Instance;
-use std::alloc::Global;
 use steps::{Ledger, Steps};
 
 /// A tuple goes out by an end, whenever it began. After want of memory the draft is of no more use.
 pub(crate) fn go_out<L: Ledger>(
-    alloc: Global,
     draft: &mut Draft,
     end: &End,
     tuple: &Tuple,
@@ -32,7 +31,7 @@ pub(crate) fn go_out<L: Ledger>(
     ensures grows { OnOk result ((net : Net) (first : ℕ) → length draft.old.beads ≡ length net → Grows net (moves_on (Out end.now ∷ []) (began first tuple.now)) draft.old draft.new) }
     ensures ticks { steps.new ≤ steps.old + keeps end.now.step }
 {
-    match pass_on(alloc, end.step.as_slice(), tuple, steps)? {
+    match pass_on(draft.alloc, end.step.as_slice(), tuple, steps)? {
         Some(passed) => draft.add_made(end.out, passed),
         None => Ok(()),
     }
@@ -41,7 +40,6 @@ pub(crate) fn go_out<L: Ledger>(
 /// A tuple that began at the time `first` goes by a forward edge into the state with a number. After want
 /// of memory the draft is of no more use.
 pub(crate) fn go_into<L: Ledger>(
-    alloc: Global,
     network: &Network,
     draft: &mut Draft,
     state: usize,
@@ -55,13 +53,13 @@ pub(crate) fn go_into<L: Ledger>(
     ensures grows { OnOk result (Grows network.now (moves_on (Into state ∷ []) (began first tuple.now)) draft.old draft.new) }
     ensures ticks { steps.new ≤ steps.old + keeps (step_at network.now state) }
 {
-    match pass_on(alloc, network.step(state).as_slice(), tuple, steps)? {
+    match pass_on(draft.alloc, network.step(state).as_slice(), tuple, steps)? {
         Some(passed) => {
             let instance = Instance {
                 tuple: passed,
                 first,
             };
-            draft.add_bead(alloc, state, instance)
+            draft.add_bead(state, instance)
         }
         None => Ok(()),
     }
@@ -69,7 +67,6 @@ pub(crate) fn go_into<L: Ledger>(
 
 // An instance goes into each of these states.
 fn go_into_all<L: Ledger>(
-    alloc: Global,
     network: &Network,
     draft: &mut Draft,
     states: &[usize],
@@ -84,7 +81,6 @@ fn go_into_all<L: Ledger>(
 {
     for state in states {
         go_into(
-            alloc,
             network,
             draft,
             *state,
@@ -98,7 +94,6 @@ fn go_into_all<L: Ledger>(
 
 // An instance goes out by each of these ends.
 fn go_out_all<L: Ledger>(
-    alloc: Global,
     network: &Network,
     draft: &mut Draft,
     ends: &[End],
@@ -112,49 +107,41 @@ fn go_out_all<L: Ledger>(
     ensures ticks { steps.new ≤ steps.old + ways_work network.now (map Out ends.now) }
 {
     for end in ends {
-        go_out(alloc, draft, end, &instance.tuple, steps)?;
+        go_out(draft, end, &instance.tuple, steps)?;
     }
     Ok(())
 }
 
-/// An instance leaves the waiting state with a number on all ways. After want of memory the draft is of no
+/// An instance leaves a waiting state on all ways. After want of memory the draft is of no
 /// more use.
 pub(crate) fn leave<L: Ledger>(
-    alloc: Global,
-    network: &Network,
+    station: &Station<'_>,
     draft: &mut Draft,
-    state: usize,
-    wait: &Wait,
     instance: Instance,
     steps: &mut Steps<L>,
 ) -> Result<(), Memory>
-    requires network { IsNetwork network.now }
-    requires used { IsTrue (is_used network.now state) }
-    requires wait { wait_at network.now state ≡ Some wait.now }
-    requires below { EndsBelow network.now (length draft.old.made) }
-    requires fits { DraftFits (length draft.old.made) (length network.now) draft.old }
-    requires suits { LeavingSuits network.now state instance.tuple }
-    ensures grows { OnOk result (Grows network.now (moves_on (ways_at network.now state) instance) draft.old draft.new) }
-    ensures ticks { steps.new ≤ steps.old + ways_work network.now (ways_at network.now state) }
+    requires station { IsStation station.now }
+    requires draft { IsDraftOf station.now.network.now draft.old }
+    requires suits { LeavingSuits station.now.network.now station.now.state instance.tuple }
+    ensures grows { OnOk result (Grows station.now.network.now (moves_on (ways_at station.now.network.now station.now.state) instance) draft.old draft.new) }
+    ensures ticks { steps.new ≤ steps.old + ways_work station.now.network.now (ways_at station.now.network.now station.now.state) }
 {
     go_into_all(
-        alloc,
-        network,
+        station.network,
         draft,
-        network.edges(state).as_slice(),
+        station.network.edges(station.state).as_slice(),
         &instance,
         steps,
     )?;
     go_out_all(
-        alloc,
-        network,
+        station.network,
         draft,
-        network.ends(state).as_slice(),
+        station.network.ends(station.state).as_slice(),
         &instance,
         steps,
     )?;
-    match &wait.fold {
-        Some(_) => draft.add_bead(alloc, state, instance),
+    match &station.wait.fold {
+        Some(_) => draft.add_bead(station.state, instance),
         None => Ok(()),
     }
 }

@@ -4,10 +4,13 @@
 //! the beads in and purges, and takes no memory. Here too are the stores of a network: they are made, counted
 //! and purged whole.
 //!
-//! Contracts see each public type as its fields. A `Draft` is the tuples made for each derived stream, the
-//! beads made for each state as a list of instances, and the `Marks` of the streams and the states that have
-//! some. `Marks` are flags by number and the numbers whose flags are up, each once. A `Pair` is the number of
-//! a waiting state and a tuple by its stream and its place there.
+//! The first half reads a `Machine` and changes a `Drawing` alone; the second half goes by a `Course`.
+//!
+//! Contracts see each public type as its fields. A `Drawing` is a `Draft`, its pairs, and lists that are used
+//! anew. A `Draft` is the tuples made for each derived stream, the beads made for each state as a list of
+//! instances, and the `Marks` of the streams and the states that have some. `Marks` are flags by number and the
+//! numbers whose flags are up, each once. A `Pair` is the number of a waiting state and a tuple by its stream and
+//! its place there.
 //!
 //! Each half states a bound on its tests of conditions, whatever it answers. Both together test no more than
 //! `epoch_work` says of the tuples of the epoch.
@@ -19,6 +22,8 @@ mod draft;
 mod drawing;
 mod filling;
 mod going;
+mod machine;
+mod making;
 mod marks;
 mod matching;
 mod meeting;
@@ -26,15 +31,18 @@ mod passing;
 mod purging;
 mod readying;
 mod settling;
+mod station;
 mod stores;
 
 pub use agenda::places_of;
 pub use bounds::bounded_states;
 pub use draft::{Draft, Lists, Pair, Pairs};
-pub use drawing::draw;
+pub use drawing::Drawing;
 pub use filling::{clear_lists, empty_lists, filled};
+pub use machine::Machine;
+pub use making::draw;
 pub use marks::Marks;
 pub use purging::purge_all;
 pub use readying::make_room;
-pub use settling::settle;
+pub use settling::{Course, settle};
 pub use stores::{Stores, empty_stores, stored};

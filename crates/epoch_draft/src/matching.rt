@@ -2,9 +2,10 @@
 ghost use Rattle.std.specs.Prelude.{◌≡◌, ◌+◌, ◌<◌, ◌≤◌, IfOk, IsTrue, OnOk, Some, length, option_to_list, sum_by};
 ghost use Rattle.std.specs.List.{All};
 ghost use Rattle.automaton.specs.Networks.{IsNetwork};
-ghost use Rattle.automaton.specs.States.{is_used, wait_at};
-ghost use Rattle.epoch_draft.specs.Drafts.{DraftFits, EndsBelow, Grows};
+ghost use Rattle.automaton.specs.States.{is_used};
+ghost use Rattle.epoch_draft.specs.Drafts.{Grows, IsDraftOf};
 ghost use Rattle.epoch_draft.specs.Held.{held};
+ghost use Rattle.epoch_draft.specs.Machines.{IsStation};
 ghost use Rattle.epoch_draft.specs.Meeting.{met_at};
 ghost use Rattle.epoch_draft.specs.Moves.{moves_from};
 ghost use Rattle.epoch_draft.specs.Pairs.{followed, met, paired, paired_with};
@@ -14,6 +15,7 @@ ghost use Rattle.epoch_draft.specs.Work.{binding_work, pair_work, state_work, tu
 
 use crate::draft::Draft;
 use crate::going::leave;
+use crate::station::Station;
 use crate::stores::Stores;
 use automaton::{Network, Turn, Wait};
 use event_types::{Memory, Tuple};
@@ -69,32 +71,26 @@ fn follow<L: Ledger>(
 
 // What the tuple makes of an instance leaves the state where it waits.
 fn meet_instance<L: Ledger>(
-    alloc: Global,
-    network: &Network,
+    station: &Station<'_>,
     draft: &mut Draft,
-    state: usize,
-    wait: &Wait,
     instance: &Instance,
     tuple: &Tuple,
     steps: &mut Steps<L>,
 ) -> Result<(), Memory>
-    requires network { IsNetwork network.now }
-    requires used { IsTrue (is_used network.now state) }
-    requires wait { wait_at network.now state ≡ Some wait.now }
-    requires below { EndsBelow network.now (length draft.old.made) }
-    requires fits { DraftFits (length draft.old.made) (length network.now) draft.old }
-    requires suits { WaitSuits wait.now instance.now.tuple tuple.now }
-    requires leaving { All (λ made. LeavingSuits network.now state made.tuple) (paired_with wait.now tuple.now instance.now) }
-    ensures grows { OnOk result (Grows network.now (moves_from network.now state (paired_with wait.now tuple.now instance.now)) draft.old draft.new) }
-    ensures ticks { steps.new ≤ steps.old + binding_work network.now state wait.now tuple.now instance.now }
+    requires station { IsStation station.now }
+    requires draft { IsDraftOf station.now.network.now draft.old }
+    requires suits { WaitSuits station.now.wait.now instance.now.tuple tuple.now }
+    requires leaving { All (λ made. LeavingSuits station.now.network.now station.now.state made.tuple) (paired_with station.now.wait.now tuple.now instance.now) }
+    ensures grows { OnOk result (Grows station.now.network.now (moves_from station.now.network.now station.now.state (paired_with station.now.wait.now tuple.now instance.now)) draft.old draft.new) }
+    ensures ticks { steps.new ≤ steps.old + binding_work station.now.network.now station.now.state station.now.wait.now tuple.now instance.now }
 {
-    match pair_up(alloc, wait, &instance.tuple, tuple, steps)? {
+    match pair_up(draft.alloc, station.wait, &instance.tuple, tuple, steps)? {
         Some(made) => {
             let left = Instance {
                 tuple: made,
                 first: instance.first,
             };
-            leave(alloc, network, draft, state, wait, left, steps)
+            leave(station, draft, left, steps)
         }
         None => Ok(()),
     }
@@ -102,27 +98,21 @@ fn meet_instance<L: Ledger>(
 
 // The same of all instances that the reader gives.
 fn meet_instances<L: Ledger>(
-    alloc: Global,
-    network: &Network,
+    station: &Station<'_>,
     draft: &mut Draft,
-    state: usize,
-    wait: &Wait,
     mut instances: Look<'_, Instance>,
     tuple: &Tuple,
     steps: &mut Steps<L>,
 ) -> Result<(), Memory>
-    requires network { IsNetwork network.now }
-    requires used { IsTrue (is_used network.now state) }
-    requires wait { wait_at network.now state ≡ Some wait.now }
-    requires below { EndsBelow network.now (length draft.old.made) }
-    requires fits { DraftFits (length draft.old.made) (length network.now) draft.old }
-    requires suits { All (λ instance. WaitSuits wait.now instance.tuple tuple.now) instances }
-    requires leaving { All (λ made. LeavingSuits network.now state made.tuple) (met wait.now instances tuple.now) }
-    ensures grows { OnOk result (Grows network.now (moves_from network.now state (met wait.now instances.entry tuple.now)) draft.old draft.new) }
-    ensures ticks { steps.new ≤ steps.old + sum_by (binding_work network.now state wait.now tuple.now) instances.entry }
+    requires station { IsStation station.now }
+    requires draft { IsDraftOf station.now.network.now draft.old }
+    requires suits { All (λ instance. WaitSuits station.now.wait.now instance.tuple tuple.now) instances }
+    requires leaving { All (λ made. LeavingSuits station.now.network.now station.now.state made.tuple) (met station.now.wait.now instances tuple.now) }
+    ensures grows { OnOk result (Grows station.now.network.now (moves_from station.now.network.now station.now.state (met station.now.wait.now instances.entry tuple.now)) draft.old draft.new) }
+    ensures ticks { steps.new ≤ steps.old + sum_by (binding_work station.now.network.now station.now.state station.now.wait.now tuple.now) instances.entry }
 {
     while let Some(instance) = instances.next() {
-        meet_instance(alloc, network, draft, state, wait, instance, tuple, steps)?;
+        meet_instance(station, draft, instance, tuple, steps)?;
     }
     Ok(())
 }
@@ -130,7 +120,6 @@ fn meet_instances<L: Ledger>(
 /// What the tuple makes of the instances at a state leaves it. Those of its key alone are looked at. After want
 /// of memory the draft is of no more use.
 pub(crate) fn meet_wait<L: Ledger>(
-    alloc: Global,
     network: &Network,
     stores: &Stores,
     draft: &mut Draft,
@@ -141,8 +130,7 @@ pub(crate) fn meet_wait<L: Ledger>(
     requires network { IsNetwork network.now }
     requires used { IsTrue (is_used network.now state) }
     requires stores { HasStores network.now stores.now }
-    requires below { EndsBelow network.now (length draft.old.made) }
-    requires fits { DraftFits (length draft.old.made) (length network.now) draft.old }
+    requires draft { IsDraftOf network.now draft.old }
     requires suits { MeetingSuits network.now (held stores.now) tuple.now state }
     ensures grows { OnOk result (Grows network.now (moves_from network.now state (met_at network.now (held stores.now) tuple.now state)) draft.old draft.new) }
     ensures ticks { steps.new ≤ steps.old + state_work network.now (held stores.now) tuple.now state }
@@ -150,17 +138,13 @@ pub(crate) fn meet_wait<L: Ledger>(
     let Some(wait) = network.wait(state) else {
         return Ok(());
     };
+    let station = Station {
+        network,
+        state,
+        wait,
+    };
     match stores.get(state) {
-        Some(store) => meet_instances(
-            alloc,
-            network,
-            draft,
-            state,
-            wait,
-            store.candidates(tuple),
-            tuple,
-            steps,
-        ),
+        Some(store) => meet_instances(&station, draft, store.candidates(tuple), tuple, steps),
         None => Ok(()),
     }
 }

@@ -3,12 +3,11 @@ ghost use Rattle.std.specs.Prelude.{◌≡◌, ◌+◌, ◌<◌, ◌≤◌, ◌+
 ghost use Rattle.std.specs.List.{All, flat_map};
 ghost use Rattle.automaton.specs.Networks.{IsNetwork};
 ghost use Rattle.automaton.specs.States.{is_used};
-ghost use Rattle.stream_readers.specs.Readers.{AreReadersOf};
 ghost use Rattle.stream_readers.specs.Targets.{IsTarget, way_of};
 ghost use Rattle.epoch_laws.specs.Instances.{begins};
-ghost use Rattle.epoch_draft.specs.Drafts.{DraftFits, EndsBelow, Grows};
+ghost use Rattle.epoch_draft.specs.Drafts.{Grows, IsDraftOf};
 ghost use Rattle.epoch_draft.specs.Held.{held};
-ghost use Rattle.epoch_draft.specs.Led.{AreLed};
+ghost use Rattle.epoch_draft.specs.Machines.{IsMachine};
 ghost use Rattle.epoch_draft.specs.Meeting.{Lists, ListsAll, moves_met, moves_of, moves_of_all, pair_of};
 ghost use Rattle.epoch_draft.specs.Moves.{moves_on};
 ghost use Rattle.epoch_draft.specs.Stores.{HasStores};
@@ -16,58 +15,59 @@ ghost use Rattle.epoch_draft.specs.Suits.{MeetingSuits, TupleSuits, WaySuits};
 ghost use Rattle.epoch_draft.specs.Tests.{stream_work, tuple_work};
 ghost use Rattle.epoch_draft.specs.Work.{state_work, ways_work};
 
-use crate::draft::{Draft, Pair, Pairs};
+use crate::draft::{Draft, Pair};
+use crate::drawing::Drawing;
 use crate::filling::add;
 use crate::going::{go_into, go_out};
+use crate::machine::Machine;
 use crate::matching::meet_wait;
-use crate::stores::Stores;
 use automaton::Network;
 use event_types::{Memory, StreamId, Tuple};
-use std::alloc::Global;
 use steps::{Ledger, Steps};
-use stream_readers::{Found, KeyReaders, Readers, Target};
+use stream_readers::Target;
 
-// What the tuple makes of the instances at each of these states leaves it. The states are listed with the
-// tuple's place.
+// What the tuple makes of the instances at each of the states that were found leaves it. The states are listed
+// with the tuple's place.
 fn meet_waits<L: Ledger>(
-    alloc: Global,
-    network: &Network,
-    stores: &Stores,
-    draft: &mut Draft,
-    pairs: &mut Pairs,
-    states: &[usize],
+    machine: &Machine<'_>,
+    drawing: &mut Drawing,
     stream: StreamId,
     place: usize,
     tuple: &Tuple,
     steps: &mut Steps<L>,
 ) -> Result<(), Memory>
-    requires network { IsNetwork network.now }
-    requires used { All (λ state. IsTrue (is_used network.now state)) states.now }
-    requires stores { HasStores network.now stores.now }
-    requires below { EndsBelow network.now (length draft.old.made) }
-    requires fits { DraftFits (length draft.old.made) (length network.now) draft.old }
-    requires suits { All (MeetingSuits network.now (held stores.now) tuple.now) states.now }
-    ensures grows { OnOk result (Grows network.now (moves_met network.now (held stores.now) tuple.now states.now) draft.old draft.new) }
-    ensures pairs { OnOk result (pairs.new ≡ pairs.old ++ map (pair_of stream place) states.now) }
-    ensures ticks { steps.new ≤ steps.old + sum_by (state_work network.now (held stores.now) tuple.now) states.now }
+    requires network { IsNetwork machine.now.network.now }
+    requires used { All (λ state. IsTrue (is_used machine.now.network.now state)) drawing.old.found.waits }
+    requires stores { HasStores machine.now.network.now machine.now.stores.now }
+    requires draft { IsDraftOf machine.now.network.now drawing.old.draft }
+    requires suits { All (MeetingSuits machine.now.network.now (held machine.now.stores.now) tuple.now) drawing.old.found.waits }
+    ensures grows { OnOk result (Grows machine.now.network.now (moves_met machine.now.network.now (held machine.now.stores.now) tuple.now drawing.old.found.waits) drawing.old.draft drawing.new.draft) }
+    ensures pairs { OnOk result (drawing.new.pairs ≡ drawing.old.pairs ++ map (pair_of stream place) drawing.old.found.waits) }
+    ensures agenda { drawing.new.agenda.keys ≡ drawing.old.agenda.keys }
+    ensures ticks { steps.new ≤ steps.old + sum_by (state_work machine.now.network.now (held machine.now.stores.now) tuple.now) drawing.old.found.waits }
 {
-    for state in states {
-        add(
-            pairs,
-            Pair {
-                state: *state,
-                stream,
-                place,
-            },
+    for index in 0..drawing.found.waits.len() {
+        let state = *drawing.found.waits.get(index);
+        let pair = Pair {
+            state,
+            stream,
+            place,
+        };
+        add(&mut drawing.pairs, pair)?;
+        meet_wait(
+            machine.network,
+            machine.stores,
+            &mut drawing.draft,
+            state,
+            tuple,
+            steps,
         )?;
-        meet_wait(alloc, network, stores, draft, *state, tuple, steps)?;
     }
     Ok(())
 }
 
 // A tuple, which begins here, goes to each of these targets.
 fn go_all<L: Ledger>(
-    alloc: Global,
     network: &Network,
     draft: &mut Draft,
     targets: &[Target],
@@ -75,21 +75,19 @@ fn go_all<L: Ledger>(
     steps: &mut Steps<L>,
 ) -> Result<(), Memory>
     requires targets { All (IsTarget network.now) targets.now }
-    requires below { EndsBelow network.now (length draft.old.made) }
-    requires fits { DraftFits (length draft.old.made) (length network.now) draft.old }
+    requires draft { IsDraftOf network.now draft.old }
     requires suits { All (λ target. All (WaySuits network.now tuple.now) (way_of network.now target)) targets.now }
     ensures grows { OnOk result (Grows network.now (moves_on (flat_map (way_of network.now) targets.now) (begins tuple.now)) draft.old draft.new) }
     ensures ticks { steps.new ≤ steps.old + ways_work network.now (flat_map (way_of network.now) targets.now) }
 {
     for target in targets {
-        go(alloc, network, draft, *target, tuple, steps)?;
+        go(network, draft, *target, tuple, steps)?;
     }
     Ok(())
 }
 
 // A tuple, which begins here, goes to a target.
 fn go<L: Ledger>(
-    alloc: Global,
     network: &Network,
     draft: &mut Draft,
     target: Target,
@@ -97,104 +95,77 @@ fn go<L: Ledger>(
     steps: &mut Steps<L>,
 ) -> Result<(), Memory>
     requires target { IsTarget network.now target }
-    requires below { EndsBelow network.now (length draft.old.made) }
-    requires fits { DraftFits (length draft.old.made) (length network.now) draft.old }
+    requires draft { IsDraftOf network.now draft.old }
     requires suits { All (WaySuits network.now tuple.now) (way_of network.now target) }
     ensures grows { OnOk result (Grows network.now (moves_on (way_of network.now target) (begins tuple.now)) draft.old draft.new) }
     ensures ticks { steps.new ≤ steps.old + ways_work network.now (way_of network.now target) }
 {
     match target {
-        Target::Edge(state) => { go_into(alloc, network, draft, state, tuple, tuple.at(), steps) }
+        Target::Edge(state) => { go_into(network, draft, state, tuple, tuple.at(), steps) }
         Target::End(place) => {
             let end = network.ends(place.state).get(place.place);
-            go_out(alloc, draft, end, tuple, steps)
+            go_out(draft, end, tuple, steps)
         }
     }
 }
 
 // Makes what comes of a tuple of a stream, which stands there at a place.
 fn meet_tuple<L: Ledger>(
-    alloc: Global,
-    network: &Network,
-    readers: &Readers,
-    keys: &KeyReaders,
-    stores: &Stores,
-    found: &mut Found,
-    draft: &mut Draft,
-    pairs: &mut Pairs,
+    machine: &Machine<'_>,
+    drawing: &mut Drawing,
     stream: StreamId,
     place: usize,
     tuple: &Tuple,
     steps: &mut Steps<L>,
 ) -> Result<(), Memory>
-    requires network { IsNetwork network.now }
-    requires readers { AreReadersOf network.now readers.now }
-    requires stream { stream < length readers.now }
-    requires led { AreLed network.now keys.now stores.now }
-    requires stores { HasStores network.now stores.now }
-    requires below { EndsBelow network.now (length draft.old.made) }
-    requires fits { DraftFits (length draft.old.made) (length network.now) draft.old }
-    requires suits { TupleSuits network.now (held stores.now) stream tuple.now }
-    ensures grows { OnOk result (Grows network.now (moves_of network.now (held stores.now) stream tuple.now) draft.old draft.new) }
-    ensures lists { OnOk result (Lists network.now (held stores.now) stream place tuple.now pairs.old pairs.new) }
-    ensures ticks { steps.new ≤ steps.old + tuple_work network.now (held stores.now) stream tuple.now }
+    requires machine { IsMachine machine.now }
+    requires stream { stream < length machine.now.readers.now }
+    requires draft { IsDraftOf machine.now.network.now drawing.old.draft }
+    requires suits { TupleSuits machine.now.network.now (held machine.now.stores.now) stream tuple.now }
+    ensures grows { OnOk result (Grows machine.now.network.now (moves_of machine.now.network.now (held machine.now.stores.now) stream tuple.now) drawing.old.draft drawing.new.draft) }
+    ensures lists { OnOk result (Lists machine.now.network.now (held machine.now.stores.now) stream place tuple.now drawing.old.pairs drawing.new.pairs) }
+    ensures agenda { drawing.new.agenda.keys ≡ drawing.old.agenda.keys }
+    ensures ticks { steps.new ≤ steps.old + tuple_work machine.now.network.now (held machine.now.stores.now) stream tuple.now }
 {
-    readers.find_targets(stream, tuple, found)?;
+    machine
+        .readers
+        .find_targets(stream, tuple, &mut drawing.found)?;
     go_all(
-        alloc,
-        network,
-        draft,
-        found.targets.as_slice(),
+        machine.network,
+        &mut drawing.draft,
+        drawing.found.targets.as_slice(),
         tuple,
         steps,
     )?;
-    readers.find_waits(stream, tuple, found)?;
-    keys.find(network, stream, tuple, found)?;
-    meet_waits(
-        alloc,
-        network,
-        stores,
-        draft,
-        pairs,
-        found.waits.as_slice(),
-        stream,
-        place,
-        tuple,
-        steps,
-    )
+    machine
+        .readers
+        .find_waits(stream, tuple, &mut drawing.found)?;
+    machine
+        .keys
+        .find(machine.network, stream, tuple, &mut drawing.found)?;
+    meet_waits(machine, drawing, stream, place, tuple, steps)
 }
 
 /// Makes what comes of the tuples of a stream, and lists them with the waiting states. After want of memory
-/// the draft and the pairs are of no more use.
+/// the drawing is of no more use.
 pub(crate) fn meet_stream<L: Ledger>(
-    alloc: Global,
-    network: &Network,
-    readers: &Readers,
-    keys: &KeyReaders,
-    stores: &Stores,
-    found: &mut Found,
-    draft: &mut Draft,
-    pairs: &mut Pairs,
+    machine: &Machine<'_>,
+    drawing: &mut Drawing,
     stream: StreamId,
     tuples: &[Tuple],
     steps: &mut Steps<L>,
 ) -> Result<(), Memory>
-    requires network { IsNetwork network.now }
-    requires readers { AreReadersOf network.now readers.now }
-    requires stream { stream < length readers.now }
-    requires led { AreLed network.now keys.now stores.now }
-    requires stores { HasStores network.now stores.now }
-    requires below { EndsBelow network.now (length draft.old.made) }
-    requires fits { DraftFits (length draft.old.made) (length network.now) draft.old }
-    requires suits { All (TupleSuits network.now (held stores.now) stream) tuples.now }
-    ensures grows { OnOk result (Grows network.now (moves_of_all network.now (held stores.now) stream tuples.now) draft.old draft.new) }
-    ensures lists { OnOk result (ListsAll network.now (held stores.now) stream tuples.now pairs.old pairs.new) }
-    ensures ticks { steps.new ≤ steps.old + stream_work network.now (held stores.now) stream tuples.now }
+    requires machine { IsMachine machine.now }
+    requires stream { stream < length machine.now.readers.now }
+    requires draft { IsDraftOf machine.now.network.now drawing.old.draft }
+    requires suits { All (TupleSuits machine.now.network.now (held machine.now.stores.now) stream) tuples.now }
+    ensures grows { OnOk result (Grows machine.now.network.now (moves_of_all machine.now.network.now (held machine.now.stores.now) stream tuples.now) drawing.old.draft drawing.new.draft) }
+    ensures lists { OnOk result (ListsAll machine.now.network.now (held machine.now.stores.now) stream tuples.now drawing.old.pairs drawing.new.pairs) }
+    ensures agenda { drawing.new.agenda.keys ≡ drawing.old.agenda.keys }
+    ensures ticks { steps.new ≤ steps.old + stream_work machine.now.network.now (held machine.now.stores.now) stream tuples.now }
 {
     for (place, tuple) in tuples.iter().enumerate() {
-        meet_tuple(
-            alloc, network, readers, keys, stores, found, draft, pairs, stream, place, tuple, steps,
-        )?;
+        meet_tuple(machine, drawing, stream, place, tuple, steps)?;
     }
     Ok(())
 }

@@ -23,7 +23,8 @@ ghost use Rattle.epoch_draft.specs.Stores.{HasStores};
 ghost use Rattle.epoch_draft.specs.Settling.{AreClosed, AreLinked, AreSettled, AreTaken, IsTakenAt, PairSuits, tuples_in};
 ghost use Rattle.epoch_draft.specs.Takes.{takes_work};
 
-use crate::draft::{Beads, Draft, Lists, Pair, Pairs};
+use crate::draft::{Beads, Lists, Pair};
+use crate::drawing::Drawing;
 use crate::purging::{purge_listed, purge_paired};
 use crate::stores::Stores;
 use automaton::{Layout, Network};
@@ -34,63 +35,69 @@ use instances::{Instance, Waiting};
 use scalar_expr::Conj;
 use steps::{Ledger, Steps};
 
+/// What the second half of a closing goes by: a network and its layout, and the numbers of the waiting states
+/// whose conditions have bounds on DUR.
+#[derive(Drop)]
+pub struct Course<'a> {
+    pub network: &'a Network,
+    pub layout: &'a Layout,
+    pub bounded: &'a [usize],
+}
+
 /// Takes the stores over an epoch of this time that was drawn: what its tuples match is taken out, the new
 /// instances come in, and what no event after that time can match is taken out. Where a tuple was listed, the
 /// keys that no instance has any more are forgotten. Takes no memory.
 pub fn settle<L: Ledger>(
-    network: &Network,
-    layout: &Layout,
-    bounded: &[usize],
+    course: &Course<'_>,
     stores: &mut Stores,
     opened: &Lists,
-    draft: &mut Draft,
-    pairs: &Pairs,
+    drawing: &mut Drawing,
     time: u64,
     steps: &mut Steps<L>,
 )
-    requires can_draw { CanDraw network.now layout.now stores.old opened.now }
-    requires drawn { DrawnUpTo network.now layout.now stores.old opened.now layout.now.order draft.old pairs.now }
-    requires room { HaveRoom stores.old draft.old.beads }
-    requires bounded { ListsBounded network.now (length network.now) bounded.now }
-    ensures closed { AreClosed (time + 1) network.now (news_of opened.now draft.old.made layout.now.order) stores.old stores.new }
-    ensures used { All (λ pair. AreUsedIn (slice_index_or stores.new pair.state None)) pairs.now }
+    requires can_draw { CanDraw course.now.network.now course.now.layout.now stores.old opened.now }
+    requires drawn { DrawnUpTo course.now.network.now course.now.layout.now stores.old opened.now course.now.layout.now.order drawing.old.draft drawing.old.pairs }
+    requires room { HaveRoom stores.old drawing.old.draft.beads }
+    requires bounded { ListsBounded course.now.network.now (length course.now.network.now) course.now.bounded.now }
+    ensures closed { AreClosed (time + 1) course.now.network.now (news_of opened.now drawing.old.draft.made course.now.layout.now.order) stores.old stores.new }
+    ensures used { All (λ pair. AreUsedIn (slice_index_or stores.new pair.state None)) drawing.old.pairs }
     ensures stay { StayReady stores.old stores.new }
-    ensures made { draft.new.made ≡ draft.old.made }
-    ensures fits { DraftFits (length layout.now.kinds) (length network.now) draft.new }
-    ensures ticks { steps.new ≤ steps.old + pairs_work network.now layout.now.order stores.old opened.now draft.old.made pairs.now }
+    ensures made { drawing.new.draft.made ≡ drawing.old.draft.made }
+    ensures fits { DraftFits (length course.now.layout.now.kinds) (length course.now.network.now) drawing.new.draft }
+    ensures ticks { steps.new ≤ steps.old + pairs_work course.now.network.now course.now.layout.now.order stores.old opened.now drawing.old.draft.made drawing.old.pairs }
 {
-    step(network, layout, stores, opened, draft, pairs, steps);
-    purge_listed(stores, bounded, time);
-    purge_paired(stores, pairs.as_slice(), time);
+    step(course, stores, opened, drawing, steps);
+    purge_listed(stores, course.bounded, time);
+    purge_paired(stores, drawing.pairs.as_slice(), time);
 }
 
 // The same without the purge.
 fn step<L: Ledger>(
-    network: &Network,
-    _layout: &Layout,
+    course: &Course<'_>,
     stores: &mut Stores,
     opened: &Lists,
-    draft: &mut Draft,
-    pairs: &Pairs,
+    drawing: &mut Drawing,
     steps: &mut Steps<L>,
 )
-    requires can_draw { CanDraw network.now _layout.now stores.old opened.now }
-    requires drawn { DrawnUpTo network.now _layout.now stores.old opened.now _layout.now.order draft.old pairs.now }
-    requires room { HaveRoom stores.old draft.old.beads }
-    ensures settled { AreSettled network.now (news_of opened.now draft.old.made _layout.now.order) stores.old stores.new }
+    requires can_draw { CanDraw course.now.network.now course.now.layout.now stores.old opened.now }
+    requires drawn { DrawnUpTo course.now.network.now course.now.layout.now stores.old opened.now course.now.layout.now.order drawing.old.draft drawing.old.pairs }
+    requires room { HaveRoom stores.old drawing.old.draft.beads }
+    ensures settled { AreSettled course.now.network.now (news_of opened.now drawing.old.draft.made course.now.layout.now.order) stores.old stores.new }
     ensures stay { StayReady stores.old stores.new }
-    ensures made { draft.new.made ≡ draft.old.made }
-    ensures fits { DraftFits (length _layout.now.kinds) (length network.now) draft.new }
-    ensures ticks { steps.new ≤ steps.old + pairs_work network.now _layout.now.order stores.old opened.now draft.old.made pairs.now }
+    ensures made { drawing.new.draft.made ≡ drawing.old.draft.made }
+    ensures pairs { drawing.new.pairs ≡ drawing.old.pairs }
+    ensures fits { DraftFits (length course.now.layout.now.kinds) (length course.now.network.now) drawing.new.draft }
+    ensures ticks { steps.new ≤ steps.old + pairs_work course.now.network.now course.now.layout.now.order stores.old opened.now drawing.old.draft.made drawing.old.pairs }
 {
     take_all(
-        network,
+        course.network,
         stores,
         opened,
-        &draft.made,
-        pairs.as_slice(),
+        &drawing.draft.made,
+        drawing.pairs.as_slice(),
         steps,
     );
+    let draft = &mut drawing.draft;
     link_all(stores, &mut draft.beads, draft.reached.numbers.as_slice());
 }
 

@@ -15,7 +15,7 @@ use Rattle.event_types.proofs.NumberLemmas.{is_other, is_same, other_number, sam
 use Rattle.automaton.proofs.NumberLemmas.{are_same_or_not}
 use Rattle.epoch_draft.proofs.AgendaLemmas.{first_or_other}
 use Rattle.epoch_draft.proofs.Lists.{below_or_last}
-use Rattle.epoch_engine.specs.Batches.{AreFilled, ArePlacesOf, AreReady, HasPlaces, IsOfMade, IsReady, made_for}
+use Rattle.epoch_engine.specs.Batches.{AreFilled, ArePlacesOf, ArePrepared, HasPlaces, IsOfMade, IsPrepared, made_for}
 use Rattle.epoch_engine.specs.Entries.{AreEntriesOf, AreInOrder, lists_of, places_in, tuples_at}
 use Rattle.epoch_engine.specs.declared.batch.Entry.{Entry}
 
@@ -28,23 +28,23 @@ entries_of printed entries in_order =
 -- there are entries for these places, and they are ready
 pub record PreparedFor (outs last : List ℕ) (made : List (List TupleView)) (places : List ℕ) (entries : List Entry) : Type 0 where
   pub places_are : places_in entries ≡ places
-  pub each : All (IsReady outs last made) entries
+  pub each : All (IsPrepared outs last made) entries
 
 -- for no places
 pub prepared_none : (outs last : List ℕ) (made : List (List TupleView)) → PreparedFor outs last made [] []
-prepared_none outs last made = record { places_are = refl; each = All-nil (IsReady outs last made) }
+prepared_none outs last made = record { places_are = refl; each = All-nil (IsPrepared outs last made) }
 
 -- for one place more
-pub prepared_more : (outs last : List ℕ) (made : List (List TupleView)) (places : List ℕ) (i : ℕ) (entries : List Entry) (entry : Entry) → i < length places → entry.place ≡ get_or places i 0 → IsReady outs last made entry
+pub prepared_more : (outs last : List ℕ) (made : List (List TupleView)) (places : List ℕ) (i : ℕ) (entries : List Entry) (entry : Entry) → i < length places → entry.place ≡ get_or places i 0 → IsPrepared outs last made entry
     → PreparedFor outs last made (take i places) entries → PreparedFor outs last made (take (i + 1) places) (entries ++ entry ∷ [])
 prepared_more outs last made places i entries entry lt at ready was = record {
   places_are = map-append (λ (e : Entry). e.place) entries (entry ∷ []) ∙ ap (λ ps. ps ++ entry.place ∷ []) was.places_are ∙ ap (λ p. take i places ++ p ∷ []) at ∙ sym (take_more places i 0 lt);
-  each = All-push (IsReady outs last made) entries entry was.each ready;
+  each = All-push (IsPrepared outs last made) entries entry was.each ready;
 }
 
 -- for the places of the streams that are due
 pub prepared_all : (outs last : List ℕ) (printed : List (List ℕ)) (rows : List (List TupleView)) (due places : List ℕ) (entries : List Entry) → HasPlaces outs (length rows) printed
-    → ((stream : ℕ) → (get_or rows stream [] ≡ []) ⊎ Contains due stream) → ArePlacesOf printed due places → PreparedFor outs last rows places entries → AreReady outs last rows entries
+    → ((stream : ℕ) → (get_or rows stream [] ≡ []) ⊎ Contains due stream) → ArePlacesOf printed due places → PreparedFor outs last rows places entries → ArePrepared outs last rows entries
 prepared_all outs last printed rows due places entries has all_due are prepared = record {
   in_order = record {
     rise = subst IsStrictlyIncreasing (sym prepared.places_are) are.rise;
@@ -64,12 +64,12 @@ pub record FilledSoFar (outs last : List ℕ) (start made : List (List TupleView
   pub long : length entries ≡ length first
   pub as_many : length made ≡ length start
   pub filled : (k : ℕ) (d : Entry) → k < now → k < length entries → (get_or entries k d).tuples ≡ made_for outs start (get_or entries k d).place
-  pub ready : (k : ℕ) (d : Entry) → now ≤ k → k < length entries → IsReady outs last start (get_or entries k d)
+  pub ready : (k : ℕ) (d : Entry) → now ≤ k → k < length entries → IsPrepared outs last start (get_or entries k d)
   pub kept : (stream k : ℕ) (d : Entry) → now ≤ k → k < length entries → (get_or entries k d).place ≡ get_or last stream 0 → get_or made stream [] ≡ get_or start stream []
   pub others : (stream : ℕ) → (get_or made stream [] ≡ get_or start stream []) ⊎ (get_or made stream [] ≡ [])
 
 -- no entry is filled yet
-pub filled_none : (outs last : List ℕ) (made : List (List TupleView)) (entries : List Entry) → AreReady outs last made entries → FilledSoFar outs last made made entries entries 0
+pub filled_none : (outs last : List ℕ) (made : List (List TupleView)) (entries : List Entry) → ArePrepared outs last made entries → FilledSoFar outs last made made entries entries 0
 filled_none outs last made entries ready = record {
   same = refl;
   long = refl;
@@ -84,20 +84,20 @@ module _ (outs last : List ℕ) (start made : List (List TupleView)) (first entr
   abbrev s : ℕ
   s = get_or outs entry.place 0
 
-  ready : IsReady outs last start entry
-  ready = subst (IsReady outs last start) at (was.ready i entry (omega arith) lt)
+  ready : IsPrepared outs last start entry
+  ready = subst (IsPrepared outs last start) at (was.ready i entry (omega arith) lt)
 
   here : (k : ℕ) (d : Entry) → k ≡ i → k < length entries → get_or entries k d ≡ entry
   here k d same inside = ap (λ (n : ℕ). get_or entries n d) same ∙ get_or_default entries i d entry lt ∙ at
 
   -- its place is one of the printed streams
-  pub place_below : AreReady outs last start first → entry.place < length outs
+  pub place_below : ArePrepared outs last start first → entry.place < length outs
   place_below ready =
       subst (λ (place : ℕ). place < length outs) (get_or-map (λ (e : Entry). e.place) entries i entry 0 lt ∙ ap (λ (e : Entry). e.place) at)
       (All-get_or (λ place. place < length outs) (places_in entries) i 0 (omega (arith, lt, length-map entries (λ (e : Entry). e.place))) (subst (All (λ place. place < length outs)) (sym was.same) ready.in_order.below))
 
   -- its stream is one of those that are made
-  pub stream_below : AreReady outs last start first → All (λ stream. stream < length start) outs → s < length start
+  pub stream_below : ArePrepared outs last start first → All (λ stream. stream < length start) outs → s < length start
   stream_below ready below = All-get_or (λ stream. stream < length start) outs entry.place 0 (place_below ready) below
 
   -- an entry that isn't at the last place of its stream
@@ -134,7 +134,7 @@ module _ (outs last : List ℕ) (start made : List (List TupleView)) (first entr
     long = long ∙ was.long;
     as_many = length-set made s none ∙ was.as_many;
     filled = λ k d before inside. filled k d (below_or_last k i before) (omega (arith, inside, long));
-    ready = λ k d from inside. subst (IsReady outs last start) (sym (later k d from)) (was.ready k d (omega arith) (omega (arith, inside, long)));
+    ready = λ k d from inside. subst (IsPrepared outs last start) (sym (later k d from)) (was.ready k d (omega arith) (omega (arith, inside, long)));
     kept = λ t k d from inside its. kept t k d from (omega (arith, inside, long)) (ap (λ (x : Entry). x.place) (sym (later k d from)) ∙ its) (are_same_or_not t s);
     others = λ t. others t (are_same_or_not t s);
   }
@@ -165,7 +165,7 @@ module _ (outs last : List ℕ) (start made : List (List TupleView)) (first entr
       others t (inr other) = subst (λ (xs : List TupleView). (xs ≡ get_or start t []) ⊎ (xs ≡ [])) (sym (get_or-set_other made s t none [] other)) (was.others t)
 
 -- all entries are filled
-pub filled_all : (outs last : List ℕ) (start made : List (List TupleView)) (first entries : List Entry) (now : ℕ) → length entries ≤ now → AreReady outs last start first → FilledSoFar outs last start made first entries now → AreFilled outs start entries
+pub filled_all : (outs last : List ℕ) (start made : List (List TupleView)) (first entries : List Entry) (now : ℕ) → length entries ≤ now → ArePrepared outs last start first → FilledSoFar outs last start made first entries now → AreFilled outs start entries
 filled_all outs last start made first entries now past ready was = record {
   in_order = record { rise = subst IsStrictlyIncreasing (sym was.same) ready.in_order.rise; below = subst (All (λ place. place < length outs)) (sym was.same) ready.in_order.below };
   each = λ k d lt. was.filled k d (omega (arith, lt, past)) lt;

@@ -1,4 +1,4 @@
--- The printed streams of an epoch that have tuples, by their places.
+-- Entries for the printed streams of an epoch, by their places: at least those that have tuples have one.
 use Rattle.std.specs.Prelude.{◌≡◌, ℕ, ◌<◌, ◌==◌, if◌then◌else◌, List, [], ◌∷◌, length, map}
 use Rattle.std.specs.List.{All, range_with_len}
 use Rattle.std.specs.List.Sorted.{IsStrictlyIncreasing}
@@ -23,7 +23,7 @@ pub record AreInOrder (printed : ℕ) (entries : List Entry) : Type 0 where
   pub rise : IsStrictlyIncreasing (places_in entries)
   pub below : All (λ place. place < printed) (places_in entries)
 
--- the entries have the tuples of all printed streams, in the order of their places
+-- the entries have the tuples of all printed streams, in the order of their places; an entry may have none
 pub record AreEntriesOf (lists : List (List TupleView)) (entries : List Entry) : Type 0 where
   pub in_order : AreInOrder (length lists) entries
   pub all : lists ≡ lists_of (length lists) entries

@@ -8,22 +8,24 @@ use Rattle.automaton.specs.Work.{is_in}
 use Rattle.epoch_draft.specs.Agenda.{ArePlaces}
 use Rattle.epoch_draft.specs.Deriving.{AreReadersOfAll, CanDraw}
 use Rattle.epoch_draft.specs.Drafts.{DraftFits}
+use Rattle.epoch_draft.specs.Drawings.{IsStill}
 use Rattle.epoch_draft.specs.Led.{AreLed}
 use Rattle.epoch_draft.specs.Marks.{AreMarks}
 use Rattle.epoch_draft.specs.Purging.{ListsBounded}
+use Rattle.epoch_draft.specs.declared.drawing.Drawing.{Drawing}
 use Rattle.epoch_draft.specs.declared.marks.Marks.{Marks}
 use Rattle.epoch_engine.specs.Batches.{HasPlaces}
-use Rattle.epoch_engine.specs.declared.drawing.Drawing.{Drawing}
 use Rattle.epoch_engine.specs.declared.epoch.Epoch.{Epoch}
 use Rattle.epoch_engine.specs.declared.plan.Plan.{Plan}
 
--- the readers are the network's, each stream has its place in the order of work, the waiting states whose conditions have bounds are listed, all printed streams are derived, and each stream with kinds has its places among them and a last place
+-- the readers are the network's, each stream has its place in the order of work, at least the waiting states whose conditions have bounds that may expire are listed,
+-- all printed streams are derived, and each stream with kinds has at least the places at which it is printed, and one that is taken as the last of them
 pub record IsPlan (plan : Plan) : Type 0 where
   pub readers : AreReadersOfAll plan.merged plan.layout plan.readers
   pub places : ArePlaces plan.layout.order (length plan.layout.kinds) plan.places
   pub bounded : ListsBounded plan.merged (length plan.merged) plan.bounded
   pub printed : All (λ stream. IsTrue (is_in plan.layout.order stream)) plan.layout.outs
-  pub places_printed : HasPlaces plan.layout.outs (length plan.layout.kinds) plan.printed
+  pub places_printed : HasPlaces plan.layout.outs (length plan.layout.kinds) plan.out_places
   pub last : length plan.last ≡ length plan.layout.kinds
 
 -- at least those streams that have tuples are marked, maybe some more
@@ -38,16 +40,13 @@ pub record IsRunning (plan : Plan) (stores : List (Option Store)) (epoch : Epoch
   pub can_draw : CanDraw plan.merged plan.layout stores epoch.tuples
   pub touched : AreTouched epoch.tuples epoch.touched
 
--- between two closings a drawing has room for all streams and states, and nothing in it
-pub record IsStill (streams states : ℕ) (drawing : Drawing) : Type 0 where
-  pub fits : DraftFits streams states drawing.draft
-  pub none_made : (stream : ℕ) → slice_index_or drawing.draft.made stream [] ≡ []
-  pub no_beads : (state : ℕ) → slice_index_or drawing.draft.beads state [] ≡ []
-  pub no_pairs : drawing.pairs ≡ []
-
--- it has them for those of a plan
+-- a drawing is still, and has room for the streams and the states of a plan
 abbrev pub IsStillFor : Plan → Drawing → Type 0
 IsStillFor plan drawing = IsStill (length plan.layout.kinds) (length plan.merged) drawing
+
+-- the draft of a drawing has room for them
+abbrev pub FitsPlan : Plan → Drawing → Type 0
+FitsPlan plan drawing = DraftFits (length plan.layout.kinds) (length plan.merged) drawing.draft
 
 -- the parts of an engine: they fit one another, keys lead to the states where they are ready, and a drawing that is kept is still
 pub record IsEngine (plan : Plan) (keys : KeyTable) (stores : List (Option Store)) (epoch : Epoch) (kept : Option Drawing) : Type 0 where

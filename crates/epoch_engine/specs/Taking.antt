@@ -8,7 +8,7 @@ use Rattle.epoch_draft.specs.EpochWork.{TakesNoMore, draw_work, epoch_work, pair
 use Rattle.epoch_draft.specs.Held.{held}
 use Rattle.epoch_draft.specs.Settling.{AreClosed}
 use Rattle.epoch_engine.specs.Closes.{IsTaken}
-use Rattle.epoch_engine.specs.declared.drawing.Drawing.{Drawing}
+use Rattle.epoch_draft.specs.declared.drawing.Drawing.{Drawing}
 use Rattle.epoch_engine.specs.declared.epoch.Epoch.{Epoch}
 use Rattle.epoch_engine.specs.declared.plan.Plan.{Plan}
 

@@ -1,7 +1,7 @@
 //! The results of an epoch.
 ghost use Rattle.std.specs.Prelude.{◌≡◌, ℕ, ◌<◌, ◌⊎◌, [], false, true, Contains, length, slice_index_or, IfOk};
 ghost use Rattle.std.specs.List.{All};
-ghost use Rattle.epoch_engine.specs.Batches.{AreFilled, ArePlacesOf, AreReady, HasPlaces};
+ghost use Rattle.epoch_engine.specs.Batches.{AreFilled, ArePlacesOf, ArePrepared, HasPlaces};
 ghost use Rattle.epoch_engine.specs.Entries.{AreEntriesOf, AreInOrder, lists_of};
 
 use epoch_draft::Lists;
@@ -9,8 +9,8 @@ use event_types::{Copied, List, Memory, Numbers, Tuples};
 use std::alloc::Global;
 use std::marker::Model;
 
-/// A printed stream that has tuples in an epoch: its place among the printed streams, counted from 0, and its
-/// tuples in their order.
+/// A printed stream of an epoch: its place among the printed streams, counted from 0, and its tuples in their
+/// order, which may be none.
 #[derive(Drop)]
 pub struct Entry {
     pub place: usize,
@@ -20,8 +20,8 @@ pub struct Entry {
 /// Printed streams with their tuples.
 pub(crate) type Entries = List<Entry>;
 
-/// The results of an epoch: for each stream that is printed its tuples in their order. It has entries alone
-/// for the streams for which tuples were made.
+/// The results of an epoch: for each stream that is printed its tuples in their order. It has entries for the
+/// streams alone that were due.
 #[derive(Drop)]
 pub struct Batch {
     printed: usize,
@@ -41,7 +41,7 @@ impl Model for Batch {
 }
 
 impl Batch {
-    /// The batch of so many printed streams, of which these have tuples.
+    /// The batch of so many printed streams, of which only these have tuples.
     pub(crate) fn make(printed: usize, entries: Entries) -> Batch
         requires { AreInOrder printed entries }
         ensures { result ≡ lists_of printed entries }
@@ -49,7 +49,8 @@ impl Batch {
         Batch { printed, entries }
     }
 
-    /// The printed streams that have tuples, by ascending places. Takes no memory.
+    /// Entries by ascending places: each printed stream that has tuples has one, and some may have none. Takes
+    /// no memory.
     pub fn entries(&self) -> &[Entry]
         ensures { AreEntriesOf self.now result.now }
     {
@@ -72,9 +73,9 @@ pub(crate) fn prepare(
     requires last { length last.now ≡ length made.now }
     requires due { All (λ stream. stream < length made.now) due.now }
     requires all_due { (stream : ℕ) → (slice_index_or made.now stream [] ≡ []) ⊎ Contains due.now stream }
-    ensures { IfOk result (AreReady outs.now last.now made.now) }
+    ensures { IfOk result (ArePrepared outs.now last.now made.now) }
 {
-    let places = places_of(alloc, printed, due)?;
+    let places = due_places(alloc, printed, due)?;
     let mut entries = List::with_room(alloc, places.len())?;
     for place in places.as_slice() {
         let stream = *outs.get(*place);
@@ -89,7 +90,7 @@ pub(crate) fn prepare(
 }
 
 // The places at which these streams are printed, in ascending order.
-fn places_of(alloc: Global, printed: &List<Numbers>, due: &[usize]) -> Result<Vec<usize>, Memory>
+fn due_places(alloc: Global, printed: &List<Numbers>, due: &[usize]) -> Result<Vec<usize>, Memory>
     requires { All (λ stream. stream < length printed.now) due.now }
     ensures { IfOk result (λ places. ArePlacesOf printed.now due.now places.items) }
 {
@@ -118,7 +119,7 @@ fn prepared(alloc: Global, tuples: &Tuples, moves: bool) -> Result<Tuples, Memor
 pub(crate) fn fill(entries: &mut Entries, outs: &Numbers, last: &Numbers, made: &mut Lists)
     requires outs { All (λ stream. stream < length made.old) outs.now }
     requires last { length last.now ≡ length made.old }
-    requires ready { AreReady outs.now last.now made.old entries.old }
+    requires ready { ArePrepared outs.now last.now made.old entries.old }
     ensures filled { AreFilled outs.now made.old entries.new }
     ensures as_many { length made.new ≡ length made.old }
     ensures others { (stream : ℕ) → (slice_index_or made.new stream [] ≡ slice_index_or made.old stream []) ⊎ (slice_index_or made.new stream [] ≡ []) }

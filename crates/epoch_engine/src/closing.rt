@@ -1,27 +1,25 @@
 //! The closing of an epoch.
-ghost use Rattle.std.specs.Prelude.{◌+◌, ◌≤◌, IfOk, IsSome, OnErr, OnOk};
+ghost use Rattle.std.specs.Prelude.{◌≡◌, ◌+◌, ◌<◌, ◌≤◌, IfOk, IsSome, OnErr, OnOk, length};
+ghost use Rattle.std.specs.List.{All};
 ghost use Rattle.epoch_draft.specs.Held.{SameStored};
 ghost use Rattle.epoch_draft.specs.Led.{AreLed};
 ghost use Rattle.epoch_draft.specs.Readying.{HaveRoom};
 ghost use Rattle.epoch_draft.specs.Typed.{IsTyped};
-ghost use Rattle.epoch_engine.specs.Batches.{AreReady, IsOfMade};
-ghost use Rattle.epoch_engine.specs.Running.{IsRunning, IsStillFor};
+ghost use Rattle.epoch_engine.specs.Batches.{ArePrepared, IsOfMade};
+ghost use Rattle.epoch_engine.specs.Running.{FitsPlan, IsPlan, IsRunning, IsStillFor};
 ghost use Rattle.epoch_engine.specs.Taking.{IsDrawn, IsSettled, TakesEpoch, TakesWithin, closing_work, drawing_work, settling_work};
 
 use crate::batch::{Batch, Entries, fill, prepare};
-use crate::drawing::Drawing;
 use crate::epoch::Epoch;
 use crate::plan::Plan;
-use epoch_draft::{Stores, draw, make_room, settle};
+use epoch_draft::{Course, Drawing, Machine, Stores, draw, make_room, settle};
 use event_types::Memory;
-use std::alloc::Global;
 use steps::{Ledger, Steps};
 use stream_readers::KeyReaders;
 
 /// Takes the stores over the open epoch, with the keys that lead to them, and gives its results. Want of memory leaves all
 /// instances as they were, and the drawing is then of no more use.
 pub(crate) fn take_epoch<L: Ledger>(
-    alloc: Global,
     plan: &Plan,
     keys: &mut KeyReaders,
     stores: &mut Stores,
@@ -40,14 +38,14 @@ pub(crate) fn take_epoch<L: Ledger>(
     ensures led { AreLed plan.now.merged keys.new stores.new }
     ensures ticks { steps.new ≤ steps.old + closing_work plan.now stores.old epoch.now }
 {
-    let entries = draw_epoch(alloc, plan, keys, stores, epoch, drawing, steps)?;
-    Ok(settle_epoch(plan, keys, stores, epoch, drawing, entries, steps))
+    let entries = draw_epoch(plan, keys, stores, epoch, drawing, steps)?;
+    settle_epoch(plan, keys, stores, epoch, drawing, steps);
+    Ok(results(plan, drawing, entries))
 }
 
 // Makes all that comes of the open tuples, entries that are prepared for it, and room in the stores, of which no
 // instance changes.
 fn draw_epoch<L: Ledger>(
-    alloc: Global,
     plan: &Plan,
     keys: &mut KeyReaders,
     stores: &mut Stores,
@@ -62,29 +60,24 @@ fn draw_epoch<L: Ledger>(
     ensures room { OnOk result (HaveRoom stores.new drawing.new.draft.beads) }
     ensures same { SameStored stores.old stores.new }
     ensures led { AreLed plan.now.merged keys.new stores.new }
-    ensures ready { IfOk result (AreReady plan.now.layout.outs plan.now.last drawing.new.draft.made) }
+    ensures ready { IfOk result (ArePrepared plan.now.layout.outs plan.now.last drawing.new.draft.made) }
     ensures takes { OnOk result (TakesWithin plan.now stores.new epoch.now drawing.new) }
     ensures ticks { steps.new ≤ steps.old + drawing_work plan.now stores.old epoch.now }
 {
-    draw(
-        alloc,
-        plan.merged.network(),
-        &plan.layout,
-        plan.places.as_slice(),
-        &plan.readers,
+    let machine = Machine {
+        network: plan.merged.network(),
+        layout: &plan.layout,
+        readers: &plan.readers,
+        places: plan.places.as_slice(),
         keys,
         stores,
-        &epoch.tuples,
-        epoch.touched.numbers.as_slice(),
-        &mut drawing.found,
-        &mut drawing.draft,
-        &mut drawing.pairs,
-        steps,
-    )?;
+    };
+    let touched = epoch.touched.numbers.as_slice();
+    draw(&machine, &epoch.tuples, touched, drawing, steps)?;
     let entries = prepare(
-        alloc,
+        drawing.draft.alloc,
         &plan.layout.outs,
-        &plan.printed,
+        &plan.out_places,
         &plan.last,
         drawing.draft.due.numbers.as_slice(),
         &drawing.draft.made,
@@ -93,44 +86,48 @@ fn draw_epoch<L: Ledger>(
     Ok(entries)
 }
 
-// Puts what was drawn in place, tidies the keys, and moves the made tuples into the entries of the batch. Takes no memory.
+// Puts what was drawn in place, and tidies the keys. Takes no memory.
 fn settle_epoch<L: Ledger>(
     plan: &Plan,
     keys: &mut KeyReaders,
     stores: &mut Stores,
     epoch: &Epoch,
     drawing: &mut Drawing,
-    mut entries: Entries,
     steps: &mut Steps<L>,
-) -> Batch
+)
     requires running { IsRunning plan.now stores.old epoch.now }
     requires led { AreLed plan.now.merged keys.old stores.old }
     requires opened { IsSome epoch.now.time }
     requires drawn { IsDrawn plan.now stores.old epoch.now drawing.old }
     requires room { HaveRoom stores.old drawing.old.draft.beads }
-    requires ready { AreReady plan.now.layout.outs plan.now.last drawing.old.draft.made entries }
     ensures led { AreLed plan.now.merged keys.new stores.new }
     ensures settled { IsSettled plan.now epoch.now drawing.old stores.old stores.new }
-    ensures batch { IsOfMade plan.now.layout.outs drawing.old.draft.made result }
-    ensures still { IsStillFor plan.now drawing.new }
+    ensures made { drawing.new.draft.made ≡ drawing.old.draft.made }
+    ensures fits { FitsPlan plan.now drawing.new }
     ensures ticks { steps.new ≤ steps.old + settling_work plan.now stores.old epoch.now drawing.old }
 {
     let time = match epoch.time {
         Some(time) => time,
         None => unreachable!(),
     };
-    settle(
-        plan.merged.network(),
-        &plan.layout,
-        plan.bounded.as_slice(),
-        stores,
-        &epoch.tuples,
-        &mut drawing.draft,
-        &drawing.pairs,
-        time,
-        steps,
-    );
+    let course = Course {
+        network: plan.merged.network(),
+        layout: &plan.layout,
+        bounded: plan.bounded.as_slice(),
+    };
+    settle(&course, stores, &epoch.tuples, drawing, time, steps);
     keys.tidy(stores.as_slice());
+}
+
+// Moves the made tuples into the entries of the batch, and forgets all else that was drawn. Takes no memory.
+fn results(plan: &Plan, drawing: &mut Drawing, mut entries: Entries) -> Batch
+    requires plan { IsPlan plan.now }
+    requires order { All (λ stream. stream < length plan.now.layout.kinds) plan.now.layout.order }
+    requires fits { FitsPlan plan.now drawing.old }
+    requires ready { ArePrepared plan.now.layout.outs plan.now.last drawing.old.draft.made entries }
+    ensures batch { IsOfMade plan.now.layout.outs drawing.old.draft.made result }
+    ensures still { IsStillFor plan.now drawing.new }
+{
     fill(
         &mut entries,
         &plan.layout.outs,

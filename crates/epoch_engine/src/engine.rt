@@ -16,12 +16,11 @@ ghost use Rattle.epoch_engine.specs.WorkLaws.{RisesByWork};
 
 use crate::batch::Batch;
 use crate::closing::take_epoch;
-use crate::drawing::Drawing;
 use crate::epoch::Epoch;
 use crate::fault::OfferFault;
 use crate::plan::Plan;
 use automaton::{Layout, Network};
-use epoch_draft::{Stores, empty_stores, purge_all, stored};
+use epoch_draft::{Drawing, Stores, empty_stores, purge_all, stored};
 use event_types::{Memory, StreamId, Tuple};
 use prefix_merge::Merged;
 use std::alloc::Global;
@@ -156,7 +155,6 @@ impl Engine {
             None => drawing_for(alloc, &self.plan)?,
         };
         let batch = take_epoch(
-            alloc,
             &self.plan,
             &mut self.keys,
             &mut self.stores,

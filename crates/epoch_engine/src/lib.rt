@@ -7,7 +7,6 @@
 
 mod batch;
 mod closing;
-mod drawing;
 mod engine;
 mod epoch;
 mod fault;

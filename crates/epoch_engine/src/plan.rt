@@ -14,7 +14,7 @@ use stream_readers::Readers;
 
 /// A merged network and its layout, what reads each stream and its place in the order of work, the numbers of the
 /// waiting states whose conditions have bounds on DUR, and for each stream the places at which it is printed and
-/// the last of them; places are counted from 0. No closing changes it.
+/// the last of them. Places are counted from 0. No closing changes it.
 #[derive(Drop)]
 pub struct Plan {
     pub merged: Merged,
@@ -22,7 +22,7 @@ pub struct Plan {
     pub readers: Readers,
     pub places: Numbers,
     pub bounded: Numbers,
-    pub printed: List<Numbers>,
+    pub out_places: List<Numbers>,
     pub last: Numbers,
 }
 
@@ -37,7 +37,7 @@ impl Plan {
         let readers = Readers::make(alloc, merged.network(), layout.kinds.len())?;
         let places = places_of(alloc, layout.order.as_slice(), layout.kinds.len())?;
         let bounded = bounded_states(alloc, merged.network())?;
-        let printed = printed_places(alloc, &layout.outs, layout.kinds.len())?;
+        let out_places = printed_places(alloc, &layout.outs, layout.kinds.len())?;
         let last = last_places(alloc, &layout.outs, layout.kinds.len())?;
         Ok(Plan {
             merged,
@@ -45,7 +45,7 @@ impl Plan {
             readers,
             places,
             bounded,
-            printed,
+            out_places,
             last,
         })
     }

@@ -17,6 +17,9 @@ use steps::{Ledger, Quiet, Steps};
 // A row: its start, its detection and its numbers.
 type Row<'a> = (u64, u64, &'a [i128]);
 
+// An event of one number: the number, its start and its detection.
+type Parts = (i128, u64, u64);
+
 // What is done with an engine, and what is seen then.
 #[derive(Clone, Copy)]
 enum Deed<'a> {
@@ -36,10 +39,9 @@ fn offer(
     alloc: Global,
     engine: &mut Engine,
     stream: StreamId,
-    number: i128,
-    from: u64,
-    at: u64,
+    parts: Parts,
 ) -> Result<(), OfferFault> {
+    let (number, from, at) = parts;
     let tuple = event(rt, alloc, number, from, at);
     let layout = engine.layout();
     assert!(rt; stream < layout.kinds.len());
@@ -137,7 +139,7 @@ fn closes_with(
 
 // An event of Stock is out of order for what was seen, and comes back.
 fn comes_back(rt: &impl Abort, alloc: Global, engine: &mut Engine, from: u64, at: u64, seen: u64) {
-    match offer(rt, alloc, engine, STOCK, 8, from, at) {
+    match offer(rt, alloc, engine, STOCK, (8, from, at)) {
         Err(
             OfferFault::OutOfOrder {
                 at: offered,
@@ -156,7 +158,7 @@ fn comes_back(rt: &impl Abort, alloc: Global, engine: &mut Engine, from: u64, at
 fn does(rt: &impl Abort, alloc: Global, engine: &mut Engine, deed: Deed<'_>) -> Result<(), Memory> {
     match deed {
         Deed::Offer(stream, number, from, at) => {
-            assert!(rt; offer(rt, alloc, engine, stream, number, from, at).is_ok());
+            assert!(rt; offer(rt, alloc, engine, stream, (number, from, at)).is_ok());
         }
         Deed::Late(from, at, seen) => comes_back(rt, alloc, engine, from, at, seen),
         Deed::Close(place, rows) => closes_with(rt, alloc, engine, place, rows)?,

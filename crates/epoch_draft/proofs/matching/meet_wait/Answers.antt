@@ -86,4 +86,4 @@ returns-in-None-clause-grows g c =
     let none : held stores n ≡ [] = ap instances_in (get_or_from_slice_get stores n c.get.result.now None c.get.ensures ∙ c.in-None.is) in
     let same : [] ≡ met_at net (held stores) t n = ap (λ (is : List Instance). met w is t) (sym none) ∙ ap (λ (o : Option Wait). met_by o (held stores n) t) c.in-Some.ensures in
     subst (λ rows. Grows net (moves_from net n rows) c.args.draft.now c.args.draft.now) same
-    (grows_none net c.args.draft.now c.requires.fits)
+    (grows_none net c.args.draft.now c.requires.draft.fits)

@@ -27,7 +27,7 @@ go_out-requires-clause-below g c =
     let place = c.in-End.place in
     let end = c.get-end.result.now in
     let got : slice_get (ends_at net place.state) place.place ≡ Some end = ap (λ es. slice_get es place.place) (sym c.ends.ensures) ∙ c.get-end.ensures in
-    all_at (λ (e : End). e.out < length c.args.draft.now.made) (ends_at net place.state) place.place end (c.requires.below place.state) got
+    all_at (λ (e : End). e.out < length c.args.draft.now.made) (ends_at net place.state) place.place end (c.requires.draft.below place.state) got
 
 pub go_out-requires-clause-suits : goal.go_out-requires-clause-suits
 go_out-requires-clause-suits g c =
@@ -51,4 +51,4 @@ returns-in-End-clause-grows g c =
     let got : slice_get (ends_at net place.state) place.place ≡ Some end = ap (λ es. slice_get es place.place) (sym c.ends.ensures) ∙ c.get-end.ensures in
     let ways : way_of net c.args.target ≡ Out end ∷ [] = ap (way_of net) c.in-End.is ∙ ap out_by got in
     on_ok c.go_out.result ((any : Net) (first : ℕ) → length old.beads ≡ length any → Grows any (moves_on (Out end ∷ []) (began first x)) old new) (Grows net (moves_on (way_of net c.args.target) (begins x)) old new)
-    (λ grows. subst (λ (ws : List Way). Grows net (moves_on ws (begins x)) old new) (sym ways) (grows net x.at c.requires.fits.beads)) c.go_out.ensures.grows
+    (λ grows. subst (λ (ws : List Way). Grows net (moves_on ws (begins x)) old new) (sym ways) (grows net x.at c.requires.draft.fits.beads)) c.go_out.ensures.grows

@@ -2,9 +2,13 @@ use Rattle.std.proofs.Common.{arith}
 use Rattle.stream_readers.specs.Targets.{way_of}
 use Rattle.stream_readers.specs.declared.target.Target.TheVariants.{Edge}
 use Rattle.epoch_laws.specs.Instances.{begins}
+use Rattle.epoch_draft.proofs.DraftLemmas.{draft_of}
 use Rattle.epoch_draft.proofs.MeetLemmas.{targets_more}
 use Rattle.epoch_draft.proofs.WorkLemmas.{flat_more, flat_part}
 use Rattle.epoch_draft.proofs.meeting.go_all.Goals as goal
+
+pub go-requires-clause-draft : goal.go-requires-clause-draft
+go-requires-clause-draft g c = draft_of c.args.network.now c.args.draft.now c.loop-target.draft c.requires.draft c.loop-target.invariant.grows.fits
 
 -- one target more
 pub loop-target-preserved : goal.loop-target-preserved

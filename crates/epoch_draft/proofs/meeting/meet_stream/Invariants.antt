@@ -1,4 +1,4 @@
-use Rattle.std.proofs.Common.{◌+◌, ◌≤◌, take}
+use Rattle.std.proofs.Common.{◌≡◌, ◌+◌, ◌≤◌, take}
 use Rattle.epoch_draft.specs.Tests.{stream_work}
 use Rattle.epoch_draft.specs.Drafts.{Grows}
 use Rattle.epoch_draft.specs.Held.{held}
@@ -8,7 +8,8 @@ use Rattle.epoch_draft.proofs.meeting.meet_stream.Given as goal
 -- the tuples so far are met and listed
 abbrev pub invariant-loop-place : goal.invariant-loop-place
 invariant-loop-place g l = record {
-  grows : Grows l.network (moves_of_all l.network (held l.stores) l.stream (take l.place l.tuples)) l.initial.draft l.draft;
-  lists : ListsAll l.network (held l.stores) l.stream (take l.place l.tuples) l.initial.pairs l.pairs;
-  ticks : l.steps ≤ l.initial.steps + stream_work l.network (held l.stores) l.stream (take l.place l.tuples);
+  grows : Grows l.machine.network.now (moves_of_all l.machine.network.now (held l.machine.stores.now) l.stream (take l.place l.tuples)) l.initial.drawing.draft l.drawing.draft;
+  lists : ListsAll l.machine.network.now (held l.machine.stores.now) l.stream (take l.place l.tuples) l.initial.drawing.pairs l.drawing.pairs;
+  agenda : l.drawing.agenda.keys ≡ l.initial.drawing.agenda.keys;
+  ticks : l.steps ≤ l.initial.steps + stream_work l.machine.network.now (held l.machine.stores.now) l.stream (take l.place l.tuples);
 }

@@ -7,9 +7,11 @@ use Rattle.epoch_draft.specs.Meeting.{moves_met, pair_of}
 use Rattle.epoch_draft.proofs.meeting.meet_waits.Given as goal
 
 -- the states so far are met and listed
-abbrev pub invariant-loop-state : goal.invariant-loop-state
-invariant-loop-state g l = record {
-  grows : Grows l.network (moves_met l.network (held l.stores) l.tuple (take l.state-index l.states)) l.initial.draft l.draft;
-  pairs : l.pairs ≡ l.initial.pairs ++ map (pair_of l.stream l.place) (take l.state-index l.states);
-  ticks : l.steps ≤ l.initial.steps + sum_by (state_work l.network (held l.stores) l.tuple) (take l.state-index l.states);
+abbrev pub invariant-loop-index : goal.invariant-loop-index
+invariant-loop-index g l = record {
+  grows : Grows l.machine.network.now (moves_met l.machine.network.now (held l.machine.stores.now) l.tuple (take l.index l.initial.drawing.found.waits)) l.initial.drawing.draft l.drawing.draft;
+  pairs : l.drawing.pairs ≡ l.initial.drawing.pairs ++ map (pair_of l.stream l.place) (take l.index l.initial.drawing.found.waits);
+  waits : l.drawing.found.waits ≡ l.initial.drawing.found.waits;
+  agenda : l.drawing.agenda.keys ≡ l.initial.drawing.agenda.keys;
+  ticks : l.steps ≤ l.initial.steps + sum_by (state_work l.machine.network.now (held l.machine.stores.now) l.tuple) (take l.index l.initial.drawing.found.waits);
 }

@@ -1,7 +1,7 @@
 use Rattle.std.proofs.Common.{◌≡◌, ◌∙◌, sym, ap, refl, subst, ℕ, ◌+◌, ◌==◌, ◌≤◌, List, [], length, get_or, take, arith}
 use Rattle.std.proofs.lemmas.Option.{get_or_from_slice_get}
 use Rattle.epoch_draft.proofs.Lists.{taken_all}
-use Rattle.epoch_engine.specs.Batches.{ArePlacesOf, IsReady}
+use Rattle.epoch_engine.specs.Batches.{ArePlacesOf, IsPrepared}
 use Rattle.epoch_engine.specs.declared.batch.Entry.{Entry}
 use Rattle.epoch_engine.proofs.BatchLemmas.{PreparedFor, prepared_all, prepared_more}
 use Rattle.epoch_engine.proofs.batch.prepare.Goals as goal
@@ -21,7 +21,7 @@ loop-place-preserved c =
     let had : get_or made stream [] ≡ c.get-in-loop-place.result.now = get_or_from_slice_get made stream c.get-in-loop-place.result.now [] c.get-in-loop-place.ensures in
     let entry : Entry = record { place = place; tuples = c.in_ok-tuples.tuples } in
     let test = ap (λ (m : ℕ). m == place) (sym known ∙ ap (λ (n : ℕ). get_or last n 0) (sym printed)) in
-    let ready : IsReady outs last made entry = record {
+    let ready : IsPrepared outs last made entry = record {
       moves = λ e. c.in_ok-tuples.ensures.moved (test ∙ e);
       copies = λ e. c.in_ok-tuples.ensures.copied (test ∙ e) ∙ sym had ∙ ap (λ (n : ℕ). get_or made n []) (sym printed);
     } in

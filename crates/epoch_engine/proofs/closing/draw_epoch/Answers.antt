@@ -4,12 +4,14 @@ use Rattle.std.specs.List.{All}
 use Rattle.semantics.specs.Denotation.{streams_of}
 use Rattle.automaton.specs.States.{Net}
 use Rattle.epoch_laws.specs.Closing.{Stores}
-use Rattle.epoch_draft.specs.Deriving.{DrawnUpTo, news_of}
+use Rattle.epoch_draft.specs.Agenda.{ArePlaces}
+use Rattle.epoch_draft.specs.Deriving.{AreReadersOfAll, DrawnUpTo, news_of}
 use Rattle.epoch_draft.specs.Drafts.{DraftFits}
 use Rattle.epoch_draft.proofs.MarkLemmas.{all_below}
 use Rattle.epoch_draft.proofs.StoreLemmas.{drawn_same, held_same, stored_same, typed_has}
 use Rattle.epoch_draft.specs.EpochWork.{draw_work, pairs_work, taking_work}
 use Rattle.epoch_draft.specs.Held.{held}
+use Rattle.epoch_draft.specs.Led.{AreLed}
 use Rattle.epoch_draft.specs.Stores.{HasStores}
 use Rattle.epoch_draft.specs.Takes.{takes_work}
 use Rattle.epoch_engine.specs.Batches.{HasPlaces}
@@ -17,33 +19,43 @@ use Rattle.epoch_engine.proofs.EngineLemmas.{opened_streams, outs_inside}
 use Rattle.epoch_engine.proofs.closing.draw_epoch.Goals as goal
 
 pub draw-requires-clause-touched : goal.draw-requires-clause-touched
-draw-requires-clause-touched g c = opened_streams c.args.epoch.now.tuples c.args.epoch.now.touched c.as_slice-2.result.now c.requires.running.touched c.as_slice-2.ensures
+draw-requires-clause-touched g c = opened_streams c.args.epoch.now.tuples c.args.epoch.now.touched c.as_slice-touched.result.now c.requires.running.touched c.as_slice-touched.ensures
+
+pub draw-requires-clause-can_read : goal.draw-requires-clause-can_read
+draw-requires-clause-can_read g c =
+    let plan = c.args.plan.now in
+    let is = c.requires.running.plan_is in
+    record {
+      readers = subst (λ (net : Net). AreReadersOfAll net plan.layout plan.readers) (sym c.network.ensures.value) is.readers;
+      places = subst (λ (places : List ℕ). ArePlaces plan.layout.order (length plan.layout.kinds) places) (sym c.as_slice.ensures) is.places;
+      led = subst (λ (net : Net). AreLed net c.args.keys.now c.args.stores.now) (sym c.network.ensures.value) c.requires.led;
+    }
 
 pub prepare-requires-clause-outs : goal.prepare-requires-clause-outs
 prepare-requires-clause-outs g c =
-    outs_inside c.args.plan.now c.requires.running.plan_is c.requires.running.can_draw.order (length c.draw.new.draft.made) c.in_ok-draw.ensures.drawn.fits.made c.args.plan.now.layout.outs refl
+    outs_inside c.args.plan.now c.requires.running.plan_is c.requires.running.can_draw.order (length c.draw.new.drawing.draft.made) c.in_ok-draw.ensures.drawn.fits.made c.args.plan.now.layout.outs refl
 
 -- the places are those of the printed streams
 pub prepare-requires-clause-printed : goal.prepare-requires-clause-printed
 prepare-requires-clause-printed g c =
     let plan = c.args.plan.now in
-    subst (λ (m : ℕ). HasPlaces plan.layout.outs m plan.printed) (sym c.in_ok-draw.ensures.drawn.fits.made) c.requires.running.plan_is.places_printed
+    subst (λ (m : ℕ). HasPlaces plan.layout.outs m plan.out_places) (sym c.in_ok-draw.ensures.drawn.fits.made) c.requires.running.plan_is.places_printed
 
 -- the streams that are due are those that are marked
 pub prepare-requires-clause-due : goal.prepare-requires-clause-due
 prepare-requires-clause-due g c =
-    let draft = c.draw.new.draft in
+    let draft = c.draw.new.drawing.draft in
     let fits = c.in_ok-draw.ensures.drawn.fits in
-    let due = c.as_slice-3.result.now in
-    subst (λ (m : ℕ). All (λ stream. stream < m) due) (fits.due_below ∙ sym fits.made) (all_below draft.due fits.due due c.as_slice-3.ensures)
+    let due = c.as_slice-2.result.now in
+    subst (λ (m : ℕ). All (λ stream. stream < m) due) (fits.due_below ∙ sym fits.made) (all_below draft.due fits.due due c.as_slice-2.ensures)
 
 pub prepare-requires-clause-all_due : goal.prepare-requires-clause-all_due
-prepare-requires-clause-all_due g c = λ stream. subst (λ (due : List ℕ). (get_or c.draw.new.draft.made stream [] ≡ []) ⊎ Contains due stream) (sym c.as_slice-3.ensures) (c.in_ok-draw.ensures.drawn.fits.due_all stream)
+prepare-requires-clause-all_due g c = λ stream. subst (λ (due : List ℕ). (get_or c.draw.new.drawing.draft.made stream [] ≡ []) ⊎ Contains due stream) (sym c.as_slice-2.ensures) (c.in_ok-draw.ensures.drawn.fits.due_all stream)
 
 pub make_room-requires-clause-fits : goal.make_room-requires-clause-fits
 make_room-requires-clause-fits g c =
     let fits = c.in_ok-draw.ensures.drawn.fits in
-    let draft = c.draw.new.draft in
+    let draft = c.draw.new.drawing.draft in
     let stores : ℕ = length c.args.stores.now in
     subst (λ (m : ℕ). DraftFits m stores draft) (sym fits.made) (subst (λ (m : ℕ). DraftFits (length c.args.plan.now.layout.kinds) m draft) (ap length c.network.ensures.value ∙ sym c.requires.running.can_draw.typed.as_many) fits)
 
@@ -51,8 +63,8 @@ pub returns-clause-drawn : goal.returns-clause-drawn
 returns-clause-drawn g c =
     let plan = c.args.plan.now in
     let opened = c.args.epoch.now.tuples in
-    let draft = c.draw.new.draft in
-    let pairs = c.draw.new.pairs in
+    let draft = c.draw.new.drawing.draft in
+    let pairs = c.draw.new.drawing.pairs in
     drawn_same plan.merged plan.layout c.args.stores.now c.make_room.new.stores opened plan.layout.order draft pairs c.make_room.ensures.same
     (subst (λ (net : Net). DrawnUpTo net plan.layout c.args.stores.now opened plan.layout.order draft pairs) c.network.ensures.value c.in_ok-draw.ensures.drawn)
 
@@ -64,8 +76,8 @@ pub returns-clause-takes : goal.returns-clause-takes
 returns-clause-takes g c =
     let plan = c.args.plan.now in
     let opened = c.args.epoch.now.tuples in
-    let draft = c.draw.new.draft in
-    let pairs = c.draw.new.pairs in
+    let draft = c.draw.new.drawing.draft in
+    let pairs = c.draw.new.drawing.pairs in
     let order = plan.layout.order in
     subst (λ (st : Stores). takes_work plan.merged (news_of opened draft.made order) st pairs ≤ taking_work plan.merged plan.layout st (streams_of opened)) (held_same c.args.stores.now c.make_room.new.stores c.make_room.ensures.same)
     (subst (λ (net : Net). pairs_work net order c.args.stores.now opened draft.made pairs ≤ taking_work net plan.layout (held c.args.stores.now) (streams_of opened)) c.network.ensures.value c.in_ok-draw.ensures.takes)

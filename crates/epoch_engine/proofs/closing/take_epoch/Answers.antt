@@ -1,10 +1,12 @@
-use Rattle.std.proofs.Common.{sym, subst, ap, arith}
+use Rattle.std.proofs.Common.{sym, subst, ap, List, arith}
 use Rattle.std.proofs.lemmas.Option.{IfSome_then}
 use Rattle.semantics.specs.Denotation.{streams_of}
 use Rattle.epoch_laws.specs.Closing.{Stores}
 use Rattle.epoch_draft.specs.Held.{held}
 use Rattle.epoch_draft.proofs.StoreLemmas.{can_draw_same, held_same}
 use Rattle.epoch_draft.specs.EpochWork.{taking_work}
+use Rattle.event_types.specs.Tuple.{TupleView}
+use Rattle.epoch_engine.specs.Batches.{ArePrepared, IsOfMade}
 use Rattle.epoch_engine.specs.Closes.{IsTaken}
 use Rattle.epoch_engine.proofs.ClosedLemmas.{taken, typed_after}
 use Rattle.epoch_engine.proofs.EngineLemmas.{with_same}
@@ -16,6 +18,11 @@ settle_epoch-requires-clause-running g c =
     with_same c.args.plan.now c.args.stores.now c.draw_epoch.new.stores c.args.epoch.now c.draw_epoch.ensures.same c.requires.running
 
 -- what was drawn and settled is taken
+pub results-requires-clause-ready : goal.results-requires-clause-ready
+results-requires-clause-ready g c =
+    let plan = c.args.plan.now in
+    subst (λ (made : List (List TupleView)). ArePrepared plan.layout.outs plan.last made c.in_ok-entries.entries) (sym c.settle_epoch.ensures.made) c.in_ok-entries.ensures.ready
+
 pub returns-clause-taken : goal.returns-clause-taken
 returns-clause-taken g c =
     let plan = c.args.plan.now in
@@ -23,11 +30,11 @@ returns-clause-taken g c =
     let drawing = c.draw_epoch.new.drawing in
     let mid = c.draw_epoch.new.stores in
     let after = c.settle_epoch.new.stores in
-    let batch = c.settle_epoch.result in
+    let batch = c.results.result in
     IfSome_then epoch.time c.settle_epoch.ensures.settled
     (λ time closed.
     subst (λ (stores : Stores). IsTaken plan.merged plan.layout time stores (streams_of epoch.tuples) (held after) batch) (sym (held_same c.args.stores.now mid c.draw_epoch.ensures.same))
-    (taken plan.merged plan.layout time mid after epoch.tuples batch drawing.draft drawing.pairs c.requires.running.plan_is.printed c.in_ok-entries.ensures.drawn closed c.settle_epoch.ensures.batch))
+    (taken plan.merged plan.layout time mid after epoch.tuples batch drawing.draft drawing.pairs c.requires.running.plan_is.printed c.in_ok-entries.ensures.drawn closed (subst (λ (made : List (List TupleView)). IsOfMade plan.layout.outs made batch) c.settle_epoch.ensures.made c.results.ensures.batch)))
 
 -- and the stores are typed
 pub returns-clause-typed : goal.returns-clause-typed

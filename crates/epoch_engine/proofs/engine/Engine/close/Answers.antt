@@ -6,8 +6,8 @@ use Rattle.epoch_engine.specs.EngineView.{EngineView, stores_in}
 use Rattle.epoch_draft.proofs.Lists.{on_err}
 use Rattle.epoch_draft.specs.EpochWork.{epoch_work}
 use Rattle.epoch_engine.specs.Running.{IsStillFor}
+use Rattle.epoch_draft.specs.declared.drawing.Drawing.{Drawing}
 use Rattle.epoch_engine.specs.WorkLaws.{IsConsistent}
-use Rattle.epoch_engine.specs.declared.drawing.Drawing.{Drawing}
 use Rattle.epoch_engine.proofs.ConsistentLemmas.{consistent}
 use Rattle.epoch_engine.proofs.EngineLemmas.{closes_ticks, closes_view, view_of, view_same, with_same}
 use Rattle.epoch_engine.proofs.WorkLemmas.{rises_by_work}

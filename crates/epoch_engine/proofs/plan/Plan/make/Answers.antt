@@ -35,6 +35,6 @@ returns-clause-is c =
       places = subst (λ (streams : ℕ). ArePlaces c.args.layout.order streams c.in_ok-places.places) c.len-2.ensures (subst (λ (order : List ℕ). ArePlaces order c.len-2.result c.in_ok-places.places) c.as_slice.ensures c.in_ok-places.ensures);
       bounded = subst (λ (net : Net). ListsBounded net (length net) c.in_ok-bounded.bounded) c.network-2.ensures.value c.in_ok-bounded.ensures;
       printed = search rules;
-      places_printed = subst (λ (m : ℕ). HasPlaces c.args.layout.outs m c.in_ok-printed.printed) c.len-3.ensures c.in_ok-printed.ensures;
+      places_printed = subst (λ (m : ℕ). HasPlaces c.args.layout.outs m c.in_ok-out_places.out_places) c.len-3.ensures c.in_ok-out_places.ensures;
       last = c.in_ok-last.ensures ∙ c.len-4.ensures;
     }

@@ -1,5 +1,7 @@
-use Rattle.std.proofs.Common.{◌∙◌, sym, subst, ℕ, ◌+◌, ◌<◌, ◌≤◌, [], length, get_or, arith, ap}
+use Rattle.std.proofs.Common.{◌∙◌, sym, subst, ℕ, ◌+◌, ◌<◌, ◌≤◌, [], List, length, get_or, arith, ap}
+use Rattle.std.specs.Prelude.{Contains}
 use Rattle.std.specs.List.{All}
+use Rattle.std.proofs.lemmas.List.Elements.{All-nil}
 use Rattle.std.proofs.lemmas.Option.{get_or_from_slice_get}
 use Rattle.semantics.specs.Denotation.{Streams}
 use Rattle.epoch_draft.specs.Agenda.{AreFrom, IsPlanned}
@@ -8,81 +10,93 @@ use Rattle.epoch_draft.specs.Held.{held}
 use Rattle.epoch_draft.specs.Suits.{TupleSuits}
 use Rattle.epoch_draft.specs.Tests.{stream_work, tuple_work}
 use Rattle.epoch_draft.proofs.AgendaLemmas.{ended_news, ended_until, first_within, fresh_below, fresh_part, planned_next, popped_left, popped_news, popped_until, rest_within}
-use Rattle.epoch_draft.proofs.DeriveLemmas.{below, derived_rest, derived_step, derived_takes, made_suits, made_within}
+use Rattle.epoch_draft.proofs.DeriveLemmas.{below, derived_rest, derived_step, derived_takes, drawn_of, made_suits, made_within}
 use Rattle.epoch_draft.proofs.MarkLemmas.{all_below}
 use Rattle.epoch_draft.proofs.StoreLemmas.{typed_has}
-use Rattle.epoch_draft.proofs.drawing.derive.Goals as goal
+use Rattle.epoch_draft.proofs.making.derive.Goals as goal
 use Rattle.epoch_draft.specs.Takes.{take_work, takes_work}
 
 pub plan-requires-clause-below : goal.plan-requires-clause-below
 plan-requires-clause-below g c =
     let fits = c.requires.drawn.fits in
-    subst (λ (m : ℕ). All (λ n. n < m) c.as_slice.result.now) (fits.due_below ∙ sym c.requires.places.as_many) (all_below c.args.draft.now.due fits.due c.as_slice.result.now c.as_slice.ensures)
+    subst (λ (m : ℕ). All (λ n. n < m) c.as_slice.result.now) (fits.due_below ∙ sym c.requires.can_read.places.as_many) (all_below c.args.drawing.now.draft.due fits.due c.as_slice.result.now c.as_slice.ensures)
+
+pub plan-requires-clause-within : goal.plan-requires-clause-within
+plan-requires-clause-within g c = subst (AreFrom 0 c.len-end.result) (sym c.requires.none_planned) (All-nil _)
 
 pub get-stream-requires : goal.get-stream-requires
-get-stream-requires g c = (first_within c.loop-place.next (length c.args.layout.now.order) c.in-Some.place c.loop-place.agenda.keys c.pop_first.new.self.keys c.in-Some.ensures.removal c.loop-place.invariant.within).1
+get-stream-requires g c = (first_within c.loop-place.next (length c.args.machine.now.layout.now.order) c.in-Some.place c.loop-place.drawing.agenda.keys c.pop_first.new.self.keys c.in-Some.ensures.removal c.loop-place.invariant.within).1
 
 pub derive_stream-requires-clause-stream : goal.derive_stream-requires-clause-stream
 derive_stream-requires-clause-stream g c =
-    let lt = (first_within c.loop-place.next (length c.args.layout.now.order) c.in-Some.place c.loop-place.agenda.keys c.pop_first.new.self.keys c.in-Some.ensures.removal c.loop-place.invariant.within).1 in
-    let is = get_or_from_slice_get c.args.layout.now.order c.in-Some.place c.get-stream.result.now 0 c.get-stream.ensures in
-    let there = below c.args.network.now c.args.layout.now c.args.stores.now c.args.opened.now c.requires.can_draw c.in-Some.place lt in
+    let lt = (first_within c.loop-place.next (length c.args.machine.now.layout.now.order) c.in-Some.place c.loop-place.drawing.agenda.keys c.pop_first.new.self.keys c.in-Some.ensures.removal c.loop-place.invariant.within).1 in
+    let is = get_or_from_slice_get c.args.machine.now.layout.now.order c.in-Some.place c.get-stream.result.now 0 c.get-stream.ensures in
+    let there = below c.args.machine.now.network.now c.args.machine.now.layout.now c.args.machine.now.stores.now c.args.opened.now c.requires.can_draw c.in-Some.place lt in
     let room = c.loop-place.invariant.until.fits.made in omega (arith, is, there, room)
 
-pub derive_stream-requires-clause-stores : goal.derive_stream-requires-clause-stores
-derive_stream-requires-clause-stores g c = typed_has c.args.network.now c.args.layout.now.kinds c.args.stores.now c.requires.can_draw.typed
+pub derive_stream-requires-clause-machine : goal.derive_stream-requires-clause-machine
+derive_stream-requires-clause-machine g c = record {
+  network = c.requires.can_draw.network;
+  readers = c.requires.can_read.readers.are;
+  stores = typed_has c.args.machine.now.network.now c.args.machine.now.layout.now.kinds c.args.machine.now.stores.now c.requires.can_draw.typed;
+  led = c.requires.can_read.led;
+}
+
+pub derive_stream-requires-clause-draft : goal.derive_stream-requires-clause-draft
+derive_stream-requires-clause-draft g c = drawn_of c.args.machine.now.network.now c.args.machine.now.layout.now c.args.machine.now.stores.now c.args.opened.now c.loop-place.drawing.draft c.requires.can_draw c.loop-place.invariant.until.fits
 
 pub derive_stream-requires-clause-suits : goal.derive_stream-requires-clause-suits
 derive_stream-requires-clause-suits g c =
-    let net = c.args.network.now in
-    let stores = c.args.stores.now in
+    let net = c.args.machine.now.network.now in
+    let stores = c.args.machine.now.stores.now in
     let p = c.in-Some.place in
-    let within = first_within c.loop-place.next (length c.args.layout.now.order) p c.loop-place.agenda.keys c.pop_first.new.self.keys c.in-Some.ensures.removal c.loop-place.invariant.within in
-    let is = get_or_from_slice_get c.args.layout.now.order p c.get-stream.result.now 0 c.get-stream.ensures in
-    subst (λ (s : ℕ). All (TupleSuits net (held stores) s) (get_or c.loop-place.draft.made s [])) is
-    (made_suits net c.args.layout.now stores c.args.opened.now c.requires.can_draw p within.1 c.loop-place.draft c.loop-place.pairs
-    (popped_until net c.args.layout.now stores c.args.opened.now c.requires.can_draw c.loop-place.draft c.loop-place.pairs c.loop-place.next p c.loop-place.agenda.keys c.pop_first.new.self.keys c.loop-place.invariant.planned c.in-Some.ensures.removal
+    let within = first_within c.loop-place.next (length c.args.machine.now.layout.now.order) p c.loop-place.drawing.agenda.keys c.pop_first.new.self.keys c.in-Some.ensures.removal c.loop-place.invariant.within in
+    let is = get_or_from_slice_get c.args.machine.now.layout.now.order p c.get-stream.result.now 0 c.get-stream.ensures in
+    subst (λ (s : ℕ). All (TupleSuits net (held stores) s) (get_or c.loop-place.drawing.draft.made s [])) is
+    (made_suits net c.args.machine.now.layout.now stores c.args.opened.now c.requires.can_draw p within.1 c.loop-place.drawing.draft c.loop-place.drawing.pairs
+    (popped_until net c.args.machine.now.layout.now stores c.args.opened.now c.requires.can_draw c.loop-place.drawing.draft c.loop-place.drawing.pairs c.loop-place.next p c.loop-place.drawing.agenda.keys c.pop_first.new.self.keys c.loop-place.invariant.planned c.in-Some.ensures.removal
     c.in-Some.ensures.all_above within.0 within.1 c.loop-place.invariant.until))
 
 pub overflow_add-next : goal.overflow_add-next
 overflow_add-next g c =
-    let lt = (first_within c.loop-place.next (length c.args.layout.now.order) c.in-Some.place c.loop-place.agenda.keys c.pop_first.new.self.keys c.in-Some.ensures.removal c.loop-place.invariant.within).1 in
+    let lt = (first_within c.loop-place.next (length c.args.machine.now.layout.now.order) c.in-Some.place c.loop-place.drawing.agenda.keys c.pop_first.new.self.keys c.in-Some.ensures.removal c.loop-place.invariant.within).1 in
     let end = c.len-end.ensures in omega (arith, lt, end)
 
 -- the streams that are newly due are of the layout
 pub plan-requires-in-Some-clause-below : goal.plan-requires-in-Some-clause-below
 plan-requires-in-Some-clause-below g c =
-    let old = c.loop-place.draft.due in
-    let new = c.derive_stream.new.draft.due in
+    let old = c.loop-place.drawing.draft.due in
+    let new = c.derive_stream.new.drawing.draft.due in
     let derives = c.in_ok-derive_stream.ensures.derives in
-    let room = derives.fits.due_below ∙ c.loop-place.invariant.until.fits.made ∙ sym c.requires.places.as_many in
-    subst (All (λ n. n < length c.args.places.now)) (sym (fresh_part old new derives.due c.as_slice-in-Some.result.now c.len-known.result c.as_slice-in-Some.ensures c.len-known.ensures)) (fresh_below old new derives.due (length c.args.places.now) room)
+    let room = derives.fits.due_below ∙ c.loop-place.invariant.until.fits.made ∙ sym c.requires.can_read.places.as_many in
+    subst (All (λ n. n < length c.args.machine.now.places.now)) (sym (fresh_part old new derives.due c.as_slice-in-Some.result.now c.len-known.result c.as_slice-in-Some.ensures c.len-known.ensures)) (fresh_below old new derives.due (length c.args.machine.now.places.now) room)
 
 pub plan-requires-in-Some-clause-within : goal.plan-requires-in-Some-clause-within
 plan-requires-in-Some-clause-within g c =
-    subst (λ (end : ℕ). AreFrom (c.in-Some.place + 1) end c.pop_first.new.self.keys) (sym c.len-end.ensures)
-    (rest_within c.loop-place.next (length c.args.layout.now.order) c.in-Some.place c.loop-place.agenda.keys c.pop_first.new.self.keys c.in-Some.ensures.removal c.in-Some.ensures.all_above c.loop-place.invariant.within)
+    subst (AreFrom (c.in-Some.place + 1) c.len-end.result) (sym c.derive_stream.ensures.agenda)
+    (subst (λ (end : ℕ). AreFrom (c.in-Some.place + 1) end c.pop_first.new.self.keys) (sym c.len-end.ensures)
+    (rest_within c.loop-place.next (length c.args.machine.now.layout.now.order) c.in-Some.place c.loop-place.drawing.agenda.keys c.pop_first.new.self.keys c.in-Some.ensures.removal c.in-Some.ensures.all_above c.loop-place.invariant.within))
 
 pub loop-place-smaller : goal.loop-place-smaller
 loop-place-smaller g c =
-    let within = first_within c.loop-place.next (length c.args.layout.now.order) c.in-Some.place c.loop-place.agenda.keys c.pop_first.new.self.keys c.in-Some.ensures.removal c.loop-place.invariant.within in
+    let within = first_within c.loop-place.next (length c.args.machine.now.layout.now.order) c.in-Some.place c.loop-place.drawing.agenda.keys c.pop_first.new.self.keys c.in-Some.ensures.removal c.loop-place.invariant.within in
     let from = within.0 in let lt = within.1 in omega (arith, from, lt)
 
 -- one stream more is derived
 pub loop-place-preserved : goal.loop-place-preserved
 loop-place-preserved g c =
-    let net = c.args.network.now in
-    let layout = c.args.layout.now in
-    let stores = c.args.stores.now in
+    let net = c.args.machine.now.network.now in
+    let layout = c.args.machine.now.layout.now in
+    let stores = c.args.machine.now.stores.now in
     let opened = c.args.opened.now in
     let can = c.requires.can_draw in
     let p = c.in-Some.place in
-    let keys = c.loop-place.agenda.keys in
+    let keys = c.loop-place.drawing.agenda.keys in
     let rest = c.pop_first.new.self.keys in
-    let old = c.loop-place.draft in
-    let new = c.derive_stream.new.draft in
-    let pairs = c.loop-place.pairs in
-    let more = c.derive_stream.new.pairs in
+    let old = c.loop-place.drawing.draft in
+    let new = c.derive_stream.new.drawing.draft in
+    let pairs = c.loop-place.drawing.pairs in
+    let more = c.derive_stream.new.drawing.pairs in
     let now = c.plan-in-Some.new.agenda.keys in
     let removal = c.in-Some.ensures.removal in
     let within = first_within c.loop-place.next (length layout.order) p keys rest removal c.loop-place.invariant.within in
@@ -109,42 +123,42 @@ loop-place-preserved g c =
           let all = derived_rest net layout stores opened can p lt old new pairs more until derives tests in omega (arith, was, left, news, one, all);
       within = subst (λ (end : ℕ). AreFrom (p + 1) end now) c.len-end.ensures c.in_ok-plan-2.ensures.within;
       planned =
-          planned_next layout.order (length layout.kinds) c.args.places.now keys rest now old.due.numbers derives.due.added new.due.numbers c.loop-place.next p c.requires.places c.loop-place.invariant.planned from removal c.in_ok-plan-2.ensures.kept
+          planned_next layout.order (length layout.kinds) c.args.machine.now.places.now keys rest now old.due.numbers derives.due.added new.due.numbers c.loop-place.next p c.requires.can_read.places c.loop-place.invariant.planned from removal (subst (λ (ks : List ℕ). All (Contains now) ks) c.derive_stream.ensures.agenda c.in_ok-plan-2.ensures.kept)
           derives.due.is
-          (subst (λ (end : ℕ). All (λ s. IsPlanned (p + 1) end now (get_or c.args.places.now s 0)) derives.due.added) c.len-end.ensures
-          (subst (All (λ s. IsPlanned (p + 1) c.len-end.result now (get_or c.args.places.now s 0))) (fresh_part old.due new.due derives.due c.as_slice-in-Some.result.now c.len-known.result c.as_slice-in-Some.ensures c.len-known.ensures)
+          (subst (λ (end : ℕ). All (λ s. IsPlanned (p + 1) end now (get_or c.args.machine.now.places.now s 0)) derives.due.added) c.len-end.ensures
+          (subst (All (λ s. IsPlanned (p + 1) c.len-end.result now (get_or c.args.machine.now.places.now s 0))) (fresh_part old.due new.due derives.due c.as_slice-in-Some.result.now c.len-known.result c.as_slice-in-Some.ensures c.len-known.ensures)
           c.in_ok-plan-2.ensures.planned));
     }
 
 pub returns-clause-drawn : goal.returns-clause-drawn
 returns-clause-drawn g c =
-    ended_until c.args.network.now c.args.layout.now c.args.stores.now c.args.opened.now c.requires.can_draw c.loop-place.draft c.loop-place.pairs c.loop-place.next c.loop-place.agenda.keys c.loop-place.invariant.planned
+    ended_until c.args.machine.now.network.now c.args.machine.now.layout.now c.args.machine.now.stores.now c.args.opened.now c.requires.can_draw c.loop-place.drawing.draft c.loop-place.drawing.pairs c.loop-place.next c.loop-place.drawing.agenda.keys c.loop-place.invariant.planned
     (λ some. absurd (let no = c.in_default.ensures.variant.1 some in cc)) c.loop-place.invariant.below c.loop-place.invariant.until
 
 -- what all pairs take out
 pub returns-clause-takes : goal.returns-clause-takes
 returns-clause-takes g c =
-    let net = c.args.network.now in
-    let stores = c.args.stores.now in
+    let net = c.args.machine.now.network.now in
+    let stores = c.args.machine.now.stores.now in
     let was = c.loop-place.invariant.takes in
     let news =
-    ap (λ (seen : Streams). takes_work net seen (held stores) c.loop-place.pairs)
-    (ended_news net c.args.layout.now stores c.args.opened.now c.requires.can_draw c.loop-place.draft c.loop-place.pairs c.loop-place.next c.loop-place.agenda.keys c.loop-place.invariant.planned
+    ap (λ (seen : Streams). takes_work net seen (held stores) c.loop-place.drawing.pairs)
+    (ended_news net c.args.machine.now.layout.now stores c.args.opened.now c.requires.can_draw c.loop-place.drawing.draft c.loop-place.drawing.pairs c.loop-place.next c.loop-place.drawing.agenda.keys c.loop-place.invariant.planned
     (λ some. absurd (let no = c.in_default.ensures.variant.1 some in cc)) c.loop-place.invariant.below c.loop-place.invariant.until) in omega (arith, was, news)
 
 -- want of memory comes after some of the tests
 pub returns-in_err-derive_stream-clause-ticks : goal.returns-in_err-derive_stream-clause-ticks
 returns-in_err-derive_stream-clause-ticks g c =
-    let net = c.args.network.now in
-    let layout = c.args.layout.now in
-    let stores = c.args.stores.now in
+    let net = c.args.machine.now.network.now in
+    let layout = c.args.machine.now.layout.now in
+    let stores = c.args.machine.now.stores.now in
     let opened = c.args.opened.now in
     let can = c.requires.can_draw in
     let p = c.in-Some.place in
-    let keys = c.loop-place.agenda.keys in
+    let keys = c.loop-place.drawing.agenda.keys in
     let rest = c.pop_first.new.self.keys in
-    let old = c.loop-place.draft in
-    let pairs = c.loop-place.pairs in
+    let old = c.loop-place.drawing.draft in
+    let pairs = c.loop-place.drawing.pairs in
     let planned = c.loop-place.invariant.planned in
     let removal = c.in-Some.ensures.removal in
     let above = c.in-Some.ensures.all_above in
@@ -159,16 +173,16 @@ returns-in_err-derive_stream-clause-ticks g c =
 
 pub returns-in_err-plan-2-clause-ticks : goal.returns-in_err-plan-2-clause-ticks
 returns-in_err-plan-2-clause-ticks g c =
-    let net = c.args.network.now in
-    let layout = c.args.layout.now in
-    let stores = c.args.stores.now in
+    let net = c.args.machine.now.network.now in
+    let layout = c.args.machine.now.layout.now in
+    let stores = c.args.machine.now.stores.now in
     let opened = c.args.opened.now in
     let can = c.requires.can_draw in
     let p = c.in-Some.place in
-    let keys = c.loop-place.agenda.keys in
+    let keys = c.loop-place.drawing.agenda.keys in
     let rest = c.pop_first.new.self.keys in
-    let old = c.loop-place.draft in
-    let pairs = c.loop-place.pairs in
+    let old = c.loop-place.drawing.draft in
+    let pairs = c.loop-place.drawing.pairs in
     let planned = c.loop-place.invariant.planned in
     let removal = c.in-Some.ensures.removal in
     let above = c.in-Some.ensures.all_above in

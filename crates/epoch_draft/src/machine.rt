@@ -1,0 +1,16 @@
+//! What the tuples of an epoch meet.
+use crate::stores::Stores;
+use automaton::{Layout, Network};
+use stream_readers::{KeyReaders, Readers};
+
+/// All that the first half of a closing reads besides the open tuples: a network and its layout, what reads each
+/// stream, the place of each stream in the order of work, and the stores with the keys that lead to their states.
+#[derive(Drop)]
+pub struct Machine<'a> {
+    pub network: &'a Network,
+    pub layout: &'a Layout,
+    pub readers: &'a Readers,
+    pub places: &'a [usize],
+    pub keys: &'a KeyReaders,
+    pub stores: &'a Stores,
+}
