@@ -1,13 +1,9 @@
 -- No state stands twice under a key, from one call to the next.
-use Rattle.std.proofs.Common.{◌≡◌, sym, ap, refl, subst, ℕ, ◌≢◌, ◌≤◌, Bool, true, false, drop, filter, length, map, take, get_or, List, [], ◌∷◌, ◌++◌, arith}
-use Rattle.std.specs.Prelude.{AllPairs, None, Some, nat_eq, slice_get}
-use Rattle.std.specs.List.{list_any}
+use Rattle.std.proofs.Common.{◌≡◌, sym, ap, refl, subst, ℕ, ◌≢◌, ◌≤◌, Bool, true, false, drop, filter, length, map, take, List, [], ◌∷◌, ◌++◌, arith}
+use Rattle.std.specs.Prelude.{AllPairs, None, Some, slice_get}
 use Rattle.std.specs.Map.{lookup, values_of}
-use Rattle.std.proofs.lemmas.Bool.{eq-eqb}
 use Rattle.std.proofs.lemmas.List.Elements.{All-nil, All-cons, All-head, All-tail, All-filter, All-push}
-use Rattle.std.proofs.lemmas.List.Folds.{list_any_at}
 use Rattle.std.proofs.lemmas.List.Kept.{AllPairs-filter}
-use Rattle.std.proofs.lemmas.List.Quantifiers.{all_pairs_push}
 use Rattle.event_types.specs.declared.value.Value.{Value}
 use Rattle.event_types.specs.contracts.value.ValuePartialEq.TheImpl as derived
 use Rattle.indexmap.specs.IndexMap.{IndexMap, insert_entry, set_value_at}
@@ -35,12 +31,6 @@ once_at (b ∷ bs) key once = go (once_at bs key (All-tail (λ entry. Apart entr
     go : Apart (items_at bs key) → (t : Bool) → is_key key b.0 ≡ t → Apart (items_at (b ∷ bs) key)
     go rest true e = subst Apart (sym (here b bs key e)) (All-head (λ entry. Apart entry.1) b bs once)
     go rest false e = subst Apart (sym (past b bs key e)) rest
-
--- a state that doesn't stand in the list is added
-pub once_pushed : (states : List ℕ) (state : ℕ) → list_any (λ other. nat_eq other state) states ≡ false → Apart states → Apart (states ++ state ∷ [])
-once_pushed states state absent apart =
-    all_pairs_push (λ x y. x ≢ y) states state apart
-    (λ k d within same. let found = list_any_at (λ other. nat_eq other state) states k d within (eq-eqb (get_or states k d) state same) in cc)
 
 -- the states of one key are written over
 pub once_written : (bs : Entries) (i : ℕ) (key : Value) (v w : List ℕ) → slice_get bs i ≡ Some (key, items_at bs key) → slice_get (values_of bs) i ≡ Some v → (Apart v → Apart w) → StandOnce bs → StandOnce (set_value_at bs i w)

@@ -148,11 +148,6 @@ pub found_if : (bs : List Bucket) (key : Value) (v : List Instance) (r : Option 
 found_if bs key v None some h = cc
 found_if bs key v (Some place) some h = ready_there bs place key v h
 
--- where no place was found, what is known of that case holds
-pub missing_if : {P : Type 0} (r : Option ℕ) → is_some r ≡ false → IfNone r P → P
-missing_if None none h = h
-missing_if (Some place) none h = cc
-
 -- copies of all instances are those that stand key by key, up to order
 pub all_permuted : {E : Type 0} (bs : List Bucket) (r : Result (List Instance) E) → IsDistinct is_key (keys_of bs) → IfOk r (λ copies. copies ≡ flat_map (λ b. b.1) bs) → IfOk r (λ copies. IsPermutation copies (instances_in_order bs))
 all_permuted bs (Ok copies) d h = permuted_from h (in_order_permuted bs d)
