@@ -266,11 +266,11 @@ fn few_digits(text: &[u8]) -> (u64, usize)
     let most = text.len().min(SHORT);
     let mut number: u64 = 0;
     for place in 0..most {
-        let byte = text[place];
-        if byte < b'0' || b'9' < byte {
+        let digit = text[place].wrapping_sub(b'0');
+        if 9 < digit {
             return (number, place);
         }
-        number = number * 10 + (byte - b'0') as u64;
+        number = number * 10 + digit as u64;
     }
     (number, most)
 }
