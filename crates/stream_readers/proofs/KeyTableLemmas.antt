@@ -1,11 +1,11 @@
 -- Tables of keys that are written to.
 use Rattle.std.proofs.Common.{◌≡◌, ◌∙◌, sym, ap, refl, subst, inl, inr, ℕ, zero, suc, ◌+◌, ◌<◌, ◌≤◌, ◌==◌, ◌⊎◌, ◌↔◌, Bool, true, false, length, get_or, set, List, [], ◌∷◌, ◌++◌, arith}
-use Rattle.std.specs.Prelude.{Contains, Option}
+use Rattle.std.specs.Prelude.{Option}
 use Rattle.std.proofs.lemmas.Grind.{get_or-set_at}
 use Rattle.std.proofs.lemmas.List.{get_or-set_other, length-set}
 use Rattle.event_types.proofs.NumberLemmas.{other_number, same_number}
 use Rattle.event_types.specs.declared.value.Value.{Value}
-use Rattle.binding_index.specs.Leads.{Entries, Leads, is_ready_at}
+use Rattle.binding_index.specs.Leads.{Entries, Leads}
 use Rattle.binding_index.specs.declared.store.Store.{Store}
 use Rattle.stream_readers.specs.KeyTables.{AreTidied, IsNoted, IsSwept, KeyTable, LeadSame, entries_at}
 use Rattle.stream_readers.proofs.OnceLemmas.{none_in}

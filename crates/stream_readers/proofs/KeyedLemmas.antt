@@ -1,15 +1,13 @@
 -- What the keys of a tuple find.
-use Rattle.std.proofs.Common.{◌≡◌, ◌≢◌, ◌∙◌, sym, ap, refl, subst, inl, inr, ℕ, zero, suc, ◌+◌, ◌<◌, ◌≤◌, ◌⊎◌, ◌&&◌, not, Bool, true, false, cond, IsTrue, length, get_or, List, [], ◌∷◌, ◌++◌, arith}
-use Rattle.std.specs.Prelude.{All, AllPairs, Contains, Option, Some, None, is_some, min}
+use Rattle.std.proofs.Common.{◌≡◌, ◌≢◌, ◌∙◌, sym, ap, refl, subst, inl, inr, ℕ, zero, suc, ◌+◌, ◌<◌, ◌≤◌, ◌⊎◌, ◌&&◌, Bool, true, false, IsTrue, length, get_or, List, [], ◌∷◌, ◌++◌, arith}
+use Rattle.std.specs.Prelude.{AllPairs, Contains, Option, Some, None, is_some, min}
 use Rattle.std.specs.Option.{option_and_then, option_map}
-use Rattle.std.specs.List.{filter, flat_map, range_with_len}
-use Rattle.std.specs.List.Sorted.{IsPermutation}
+use Rattle.std.specs.List.{flat_map, range_with_len}
 use Rattle.std.proofs.lemmas.Grind.{flat_map-append}
 use Rattle.std.proofs.Math.Nat.{min-eq_left, min-eq_right}
 use Rattle.std.proofs.lemmas.List.{append-nil}
 use Rattle.std.proofs.lemmas.List.Elements.{All-contains_itself, All-weaker, Contains-append_cases, Contains-append_left, Contains-append_right}
 use Rattle.event_types.specs.Tuple.{TupleView}
-use Rattle.event_types.specs.declared.value.Value.{Value}
 use Rattle.event_types.proofs.NumberLemmas.{is_same}
 use Rattle.instances.specs.Keys.{Key}
 use Rattle.semantics.specs.Values.{value_at}
@@ -20,9 +18,9 @@ use Rattle.automaton.proofs.SlotLemmas.{used_below}
 use Rattle.static_index.specs.FixedParts.{all_hold}
 use Rattle.static_index.proofs.LawLemmas.{matched_is_looked_up}
 use Rattle.binding_index.specs.Leads.{Entries, Leads, states_at}
-use Rattle.stream_readers.specs.Finding.{FindsKeyed, IsUnled, is_keyed_on, is_wait_on, keyed_waits_on, led_at, led_by}
+use Rattle.stream_readers.specs.Finding.{FindsKeyed, IsUnled, is_keyed_on, keyed_waits_on, led_at, led_by}
 use Rattle.stream_readers.specs.KeyTables.{IsFoundAt, KeyTable, LeadsFit, entries_at}
-use Rattle.stream_readers.specs.Leading.{is_keyed, lead_key_at, lead_key_in}
+use Rattle.stream_readers.specs.Leading.{lead_key_in}
 use Rattle.stream_readers.specs.Ways.{is_state_looked_up, parts_at}
 use Rattle.stream_readers.proofs.FilingLemmas.{numbers_more}
 use Rattle.stream_readers.proofs.KeyTableLemmas.{below_or_past, default_past}

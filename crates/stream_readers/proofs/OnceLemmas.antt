@@ -1,9 +1,8 @@
 -- Numbers that stand once in a list.
 use Rattle.std.proofs.Common.{◌≡◌, ◌≢◌, ◌∙◌, sym, ap, refl, subst, inl, inr, ℕ, zero, suc, ◌+◌, ◌<◌, ◌≤◌, ◌==◌, ◌⊎◌, not, Bool, true, false, cond, length, get_or, List, [], ◌∷◌, ◌++◌, arith}
-use Rattle.std.specs.Prelude.{⊤, All, AllPairs, Contains}
+use Rattle.std.specs.Prelude.{⊤, AllPairs, Contains}
 use Rattle.std.specs.List.{filter, range_with_len}
 use Rattle.std.specs.List.Sorted.{IsPermutation}
-use Rattle.std.proofs.lemmas.List.{get_or_default}
 use Rattle.std.proofs.lemmas.List.Elements.{Contains-append_cases}
 use Rattle.std.proofs.lemmas.List.Sorted.{IsPermutation-cons, IsPermutation-middle, IsPermutation-refl, IsPermutation-sym, IsPermutation-trans}
 use Rattle.event_types.proofs.NumberLemmas.{is_other, other_number, same_number, self_equal}

@@ -1,5 +1,5 @@
 -- What the look-ups by a tuple of a stream have to find.
-use Rattle.std.specs.Prelude.{◌≡◌, ℕ, ◌<◌, ◌≢◌, ◌&&◌, ◌⊎◌, AllPairs, Bool, not, false, true, List, [], ◌++◌, length, min, Some, None, slice_index_or}
+use Rattle.std.specs.Prelude.{◌≡◌, ℕ, ◌<◌, ◌≢◌, ◌&&◌, ◌⊎◌, AllPairs, Bool, not, false, true, List, [], ◌++◌, length, Some, None, slice_index_or}
 use Rattle.std.specs.Option.{option_map}
 use Rattle.std.specs.List.{All, filter, flat_map, range_with_len}
 use Rattle.std.specs.List.Sorted.{IsPermutation}

@@ -21,13 +21,13 @@ use std::marker::Model;
 pub(crate) type Directories = List<Directory>;
 
 /// For each stream and each attribute of its tuples, the states that wait on the stream and whose stores may
-/// have a binding with a key that a tuple has there. Keys that no binding has any more are forgotten now and
-/// then, so that as many keys stay as bindings, up to a factor.
+/// have a binding with a key that a tuple has there. `tidy` forgets a key once no store to which it leads is
+/// ready for it, though not at once.
 #[derive(Drop)]
 pub struct KeyReaders {
     alloc: Global,
     streams: List<Directories>,
-    // how many pairs of a key and a state came since the last sweep, and how many may
+    // how many pairs of a key and a state came since the last sweep, and how many may before the next one
     came: u64,
     most: u64,
 }
@@ -94,8 +94,8 @@ impl KeyReaders {
         Ok(())
     }
 
-    /// Forgets the keys that are ready in no store to which they lead, if as many came since that was done as
-    /// there were to look at. Takes no memory.
+    /// Lets no key lead to a state whose store isn't ready for it, if more pairs of a key and a state came since
+    /// that was last done than there were pairs and streams then. Takes no memory.
     pub fn tidy(&mut self, stores: &[Option<Store>])
         ensures { AreTidied stores.now self.old self.new }
     {

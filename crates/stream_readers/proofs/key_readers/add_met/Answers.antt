@@ -1,4 +1,4 @@
-use Rattle.std.proofs.Common.{◌≡◌, ◌∙◌, sym, ap, ℕ, ◌++◌, ◌∷◌, [], List, IsTrue, get_or, filter, take, append_assoc, arith}
+use Rattle.std.proofs.Common.{◌∙◌, sym, ap, ℕ, ◌++◌, ◌∷◌, [], List, IsTrue, get_or, filter, take, append_assoc}
 use Rattle.std.proofs.lemmas.List.{take_all, take_more}
 use Rattle.std.proofs.lemmas.List.Elements.{All-get_or, filter-append}
 use Rattle.automaton.specs.States.{is_used}

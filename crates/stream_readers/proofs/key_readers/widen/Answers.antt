@@ -1,4 +1,4 @@
-use Rattle.std.proofs.Common.{◌≡◌, ◌∙◌, sym, ap, refl, [], List, get_or, length, arith, ◌+◌, ◌∷◌, ◌++◌}
+use Rattle.std.proofs.Common.{◌∙◌, ap, refl, [], List, get_or, length, arith, ◌∷◌, ◌++◌}
 use Rattle.std.proofs.lemmas.List.{length-append}
 use Rattle.binding_index.specs.Leads.{Entries}
 use Rattle.stream_readers.proofs.KeyTableLemmas.{default_more}

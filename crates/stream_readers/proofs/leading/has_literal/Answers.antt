@@ -1,7 +1,6 @@
-use Rattle.std.proofs.Common.{◌≡◌, ◌∙◌, sym, ap, ℕ, suc, ◌+◌, ◌||◌, drop, length, List, arith}
+use Rattle.std.proofs.Common.{◌≡◌, ◌∙◌, sym, ap, ℕ, suc, ◌+◌, ◌||◌, drop, arith}
 use Rattle.std.specs.List.{list_any}
 use Rattle.std.proofs.Math.ListN.{drop_of_length-le}
-use Rattle.semantics.specs.Scalars.{Pr}
 use Rattle.scalar_expr.specs.Classes.{class_of, class_of_part}
 use Rattle.stream_readers.specs.Leading.{asks_literal}
 use Rattle.stream_readers.proofs.LeadLemmas.{literal_at}

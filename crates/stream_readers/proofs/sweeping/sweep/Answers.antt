@@ -1,4 +1,4 @@
-use Rattle.std.proofs.Common.{◌∙◌, sym, ap, subst, [], List, arith}
+use Rattle.std.proofs.Common.{sym, subst, [], arith}
 use Rattle.std.proofs.lemmas.Option.{get_or_from_slice_get}
 use Rattle.binding_index.specs.Leads.{Entries}
 use Rattle.stream_readers.specs.KeyTables.{IsSwept}

@@ -1,4 +1,4 @@
-use Rattle.std.proofs.Common.{◌∙◌, sym, ap, subst, ℕ, [], List, get_or, arith}
+use Rattle.std.proofs.Common.{sym, subst, ℕ, [], List, get_or, arith}
 use Rattle.std.specs.Prelude.{Option}
 use Rattle.std.proofs.lemmas.Option.{get_or_from_slice_get}
 use Rattle.binding_index.specs.Leads.{Entries}

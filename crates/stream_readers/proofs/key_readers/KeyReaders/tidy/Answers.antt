@@ -1,6 +1,6 @@
-use Rattle.std.proofs.Common.{sym, subst, ap}
+use Rattle.std.proofs.Common.{subst}
 use Rattle.stream_readers.specs.KeyTables.{AreTidied, KeyTable}
-use Rattle.stream_readers.proofs.KeyTableLemmas.{tidied_same, tidied_swept}
+use Rattle.stream_readers.proofs.KeyTableLemmas.{tidied_swept}
 use Rattle.stream_readers.proofs.key_readers.KeyReaders.tidy.Goals as goal
 
 pub returns-then-self : goal.returns-then-self
