@@ -1,0 +1,4 @@
+pub mod LengthLemmas
+pub mod LineLemmas
+pub mod PieceLemmas
+pub mod QueryLemmas

@@ -1,0 +1,4 @@
+pub mod Draws
+pub mod EventText
+pub mod Laws
+pub mod QueryText
