@@ -1,5 +1,5 @@
 //! Ranges of numbers that are bounded on both sides.
-ghost use Rattle.std.specs.Prelude.{◌≡◌, true, pos, ◌+ℤ◌, ◌≤ℤ◌, IfSome};
+ghost use Rattle.std.specs.Prelude.{◌≡◌, true, pos, ◌+◌, ◌*◌, ◌≤◌, ◌+ℤ◌, ◌-ℤ◌, ◌≤ℤ◌, unsigned_abs, IfSome};
 ghost use Rattle.event_types.specs.Tuple.{TupleView};
 ghost use Rattle.semantics.specs.Values.{value_at};
 ghost use Rattle.static_index.specs.FixedParts.{part_holds};
@@ -55,7 +55,8 @@ fn high_end(part: &FixedPart) -> Option<i128>
 
 // A power of two that is no less than what lies between two numbers, or the greatest of 128 bits.
 fn reach(low: &i128, high: &i128) -> u128
-    ensures { high.now ≤ℤ (low.now +ℤ pos result) }
+    ensures far { high.now ≤ℤ (low.now +ℤ pos result) }
+    ensures near { result ≤ 2 * unsigned_abs (high.now -ℤ low.now) + 1 }
 {
     let width = high.abs_diff(*low);
     let mut reach: u128 = 1;
