@@ -1,5 +1,5 @@
 //! The table of streams by name.
-ghost use Rattle.std.specs.Prelude.{◌≡◌, ◌<◌, ◌↔◌, [], ◌∷◌, ◌++◌, length, slice_get, Some, None, IfOk, OnOk, OnErr, IfSome, Contains, AllPairs, ◌≢◌};
+ghost use Rattle.std.specs.Prelude.{◌≡◌, ◌<◌, ◌≤◌, ◌↔◌, [], ◌∷◌, ◌++◌, length, slice_get, Some, None, IfOk, OnOk, OnErr, IfSome, Contains, AllPairs, ◌≢◌};
 ghost use Rattle.stream_schema.specs.Streams.{declared_of, number_of, schemas_of, stream_names};
 
 use crate::schema::Schema;
@@ -75,6 +75,19 @@ impl Streams {
             return Some(near);
         }
         self.find(name)
+    }
+
+    /// The name of the stream of this number, if there is one. Takes no memory.
+    pub fn named(&self, stream: StreamId) -> Option<&str>
+        ensures number { IfSome result (λ name. number_of name.now self.now ≡ Some stream) }
+        ensures within { IfSome result (λ name. stream < length self.now) }
+        ensures absent { (result ≡ None) ↔ (length self.now ≤ stream) }
+    {
+        if stream < self.table.len() {
+            Some(self.name(stream))
+        } else {
+            None
+        }
     }
 
     /// The schema of the stream of this number, counted from 0. Takes no memory.
