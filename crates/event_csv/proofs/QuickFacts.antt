@@ -1,5 +1,5 @@
 -- Fields at the front of a text, by the bytes that they end before.
-use Rattle.std.proofs.Common.{◌≡◌, ◌∙◌, ℕ, zero, suc, ◌+◌, ◌*◌, ◌-◌, ◌<◌, ◌≤◌, Bool, true, false, List, [], ◌∷◌, ◌++◌, length, take, drop, get_or, refl, sym, ap, arith, add-one, cond, drop-cons, Bor, IfSome, append-nil, append_assoc, length-append, eq-eqb, ◌^◌, Option, Some, None, Ok, option_map, ltb-true}
+use Rattle.std.proofs.Common.{◌≡◌, ◌∙◌, ℕ, zero, suc, ◌+◌, ◌*◌, ◌-◌, ◌<◌, ◌≤◌, Bool, true, false, List, [], ◌∷◌, ◌++◌, length, take, drop, get_or, refl, subst, sym, ap, arith, add-one, cond, drop-cons, Bor, IfSome, append-nil, append_assoc, length-append, eq-eqb, ◌^◌, Option, Some, None, Ok, option_map, ltb-true}
 use Rattle.std.specs.Prelude.{◌==◌, IsUtf8, neg_ℤ, not, nat_le, nat_lt, pos, slice_get}
 use Rattle.std.specs.Char.{digit_value, is_ascii_digit}
 use Rattle.std.specs.List.{list_all}
@@ -17,14 +17,14 @@ use Rattle.csv.specs.Reading.{strip_bom}
 use Rattle.csv.specs.declared.parser.State.TheVariants as st
 use Rattle.event_csv.specs.Fed.{line_feeds_in}
 use Rattle.event_csv.specs.Fields.{comma, is_plain, line_config, line_fields, quote}
-use Rattle.event_csv.specs.Event.{Span, declared_stream, fields_event, span_of, stream_with, values_of}
+use Rattle.event_csv.specs.Event.{Span, declared_stream, fields_event, if_declared, span_of, stream_with, values_of}
 use Rattle.event_csv.specs.Numbers.{are_digits, int_of, number_up_to, time_of}
 use Rattle.event_types.specs.declared.kind.Kind.{Kind}
 use Rattle.event_types.specs.declared.value.Value.{Value}
 use Rattle.event_types.specs.declared.value.Value.TheVariants as value
 use Rattle.stream_schema.specs.Schema.{Attr, kinds_of}
-use Rattle.stream_schema.specs.Streams.{Entry, number_of, schemas_of}
-use Rattle.event_csv.specs.Quick.{HasDigits, IntFirst, IsFirst, IsPlainEnd, IsQuoteAt, IsQuoted, IsText, NumberFirst, SpanFirst, ValueFirst, WriteAll, is_simple, no_quote, read_left}
+use Rattle.stream_schema.specs.Streams.{Entry, declared_of, number_of, schemas_of}
+use Rattle.event_csv.specs.Quick.{HasDigits, IntFirst, IsFirst, IsPlainEnd, IsQuoteAt, IsQuoted, IsText, NumberFirst, SpanFirst, StreamFirst, ValueFirst, WriteAll, is_simple, no_quote, read_left}
 use Rattle.event_csv.proofs.PlainLines.{field_state, step-plain}
 use Rattle.event_csv.proofs.ValueFacts.{onto, onto-ok, read-more, values_of-all}
 use Rattle.event_csv.proofs.DigitFacts.{digit-at, digit_value-is}
@@ -121,6 +121,10 @@ digits-simple (b ∷ s) h =
 -- digits before a comma, or all, end plainly
 pub digits-end : (s : List ℕ) (number i : ℕ) → HasDigits s number i → (i < length s → get_or s i 0 ≡ 44) → IsPlainEnd s i false
 digits-end s number i has there = record { within = has.within; simple = digits-simple (take i s) has.digits; ascii = λ no. cc; ends = there }
+
+-- texts that agree at one more place agree so far
+pub same-more : (s t : List ℕ) (i : ℕ) → i < length s → i < length t → get_or s i 0 ≡ get_or t i 0 → take i s ≡ take i t → take (i + 1) s ≡ take (i + 1) t
+same-more s t i in_s in_t here before = rw (add-one, take-suc s i 0 in_s, take-suc t i 0 in_t, here, before) refl
 
 -- a number of so many digits has one more with a further digit
 pub power-more : (n i d : ℕ) → n < 10 ^ i → d ≤ 9 → n * 10 + d < 10 ^ (i + 1)
@@ -399,3 +403,35 @@ quick-event streams fields name start detection more stream schema span vals e d
     let size = length-map schema (λ a. a.kind) in
     let same : (length (start ∷ detection ∷ more) + 1 == length (kinds_of schema) + 3) ≡ true = eq-eqb _ _ (omega (arith, size, many)) in
     rw (e, found, same, times, values) refl
+
+-- a name of simple bytes before a comma stands first
+pub first-named : (s name : List ℕ) → length name < length s → get_or s (length name) 0 ≡ 44 → take (length name) s ≡ take (length name) name → list_all is_simple (take (length name) s) ≡ true
+    → IsUtf8 name → IsFirst s name (Some (drop (length name + 1) s))
+first-named s name within there same simple text =
+    let is : take (length name) s ≡ name = same ∙ take-length name in
+    let front : IsUtf8 (take (length name) s) = rw is text in
+    let end : IsPlainEnd s (length name) false = record { within = omega (arith, within); simple = simple; ascii = λ no. cc; ends = λ _. there } in
+    subst (λ (field : List ℕ). IsFirst s field (Some (drop (length name + 1) s))) is (first-cut s (length name) false end within front)
+
+-- the kinds of a declared stream, by induction on the streams
+declared-kinds : (streams : List Entry) (i n : ℕ) → slice_get (declared_of streams) i ≡ Some true
+    → if_declared n (slice_get streams i) ≡ option_map (λ (schema : List Attr). (n, kinds_of schema)) (slice_get (schemas_of streams) i)
+declared-kinds [] i n h = cc
+declared-kinds (s ∷ streams) zero n h = let is : s.declared ≡ true = cc in rw is refl
+declared-kinds (s ∷ streams) (suc i) n h = declared-kinds streams i n h
+
+-- a stream that is declared is found by its name
+pub declared-named : (streams : List Entry) (name : List ℕ) (i : ℕ) → number_of name streams ≡ Some i → slice_get (declared_of streams) i ≡ Some true
+    → declared_stream streams (number_of name streams) ≡ stream_with (schemas_of streams) (Some i)
+declared-named streams name i number declared = rw number (declared-kinds streams i i declared)
+
+-- a name that stands first, where it is that of a declared stream
+pub some-stream : (streams : List Entry) (text name : List ℕ) (i : ℕ) (r : Option (Bor (List ℕ))) → number_of name streams ≡ Some i → i < length streams → slice_get (declared_of streams) i ≡ Some true
+    → IfSome r (λ rest. IsFirst text name (Some rest.now)) → IfSome r (λ rest. StreamFirst streams text i rest.now)
+some-stream streams text name i None number within declared first = tt
+some-stream streams text name i (Some rest) number within declared first = record {
+  name = name;
+  first = first;
+  within = within;
+  declared = declared-named streams name i number declared;
+}

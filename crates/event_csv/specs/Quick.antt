@@ -10,7 +10,8 @@ use Rattle.event_types.specs.declared.kind.Kind.TheVariants as kind
 use Rattle.event_types.specs.declared.value.Value.{Value}
 use Rattle.event_types.specs.declared.value.Value.TheVariants as value
 use Rattle.stream_schema.specs.Schema.{Attr, kinds_of}
-use Rattle.event_csv.specs.Event.{Span, span_of, value_of, values_of}
+use Rattle.stream_schema.specs.Streams.{Entry, number_of, schemas_of}
+use Rattle.event_csv.specs.Event.{Span, declared_stream, span_of, stream_with, value_of, values_of}
 use Rattle.event_csv.specs.Fields.{comma, is_plain, line_config, quote}
 use Rattle.event_csv.specs.Numbers.{are_digits}
 
@@ -41,6 +42,13 @@ pub record IsFirst (text field : List ℕ) (left : Option (List ℕ)) : Type 0 w
 pub record IsQuoted (text field : List ℕ) (left : Option (List ℕ)) : Type 0 where
   pub reads : (before : List (List ℕ)) → next_record line_config st.InQuoted before [] text ≡ read_left left (before ++ field ∷ [])
   pub utf8 : IsText left → IsUtf8 text
+
+-- the name of a declared stream stands first, and this is left
+pub record StreamFirst (streams : List Entry) (text : List ℕ) (stream : ℕ) (left : List ℕ) : Type 0 where
+  pub name : List ℕ
+  pub first : IsFirst text name (Some left)
+  pub within : stream < length streams
+  pub declared : declared_stream streams (number_of name streams) ≡ stream_with (schemas_of streams) (Some stream)
 
 -- up to this place each byte is simple, and of ASCII if the flag is true, and there a comma stands or the text ends
 pub record IsPlainEnd (text : List ℕ) (end : ℕ) (is_ascii : Bool) : Type 0 where

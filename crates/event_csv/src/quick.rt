@@ -1,10 +1,10 @@
 //! The quick reading of a line, field by field, in one pass and without the reader of `csv`. Every line that is an event
 //! by fields of few digits, and by texts in which no quote stands, is read so; any other is left, and its fault isn't told.
-ghost use Rattle.std.specs.Prelude.{◌≡◌, neg_ℤ, option_map, pos, true, IfSome, IsUtf8, Ok};
+ghost use Rattle.std.specs.Prelude.{◌≡◌, neg_ℤ, option_map, pos, true, IfSome, IsUtf8, Ok, Some};
 ghost use Rattle.std.specs.Str.{IsAscii};
 ghost use Rattle.event_csv.specs.Event.{event};
 ghost use Rattle.event_csv.specs.Fed.{IsLine};
-ghost use Rattle.event_csv.specs.Quick.{DecFirst, HasDigits, IntFirst, IsFirst, IsPlainEnd, IsQuoteAt, IsQuoted, NumberFirst, SpanFirst, ValueFirst, WriteAll};
+ghost use Rattle.event_csv.specs.Quick.{DecFirst, HasDigits, IntFirst, IsFirst, IsPlainEnd, IsQuoteAt, IsQuoted, NumberFirst, SpanFirst, StreamFirst, ValueFirst, WriteAll};
 
 use crate::decimals::units;
 use crate::event::{Seen, find_declared};
@@ -28,14 +28,70 @@ pub(crate) fn read_quickly(
     if may_have_mark(line) {
         return None;
     }
-    let (name, rest) = take_field(line)?;
-    let stream = find_declared(streams, near, name)?;
-    let ((from, at), rest) = take_span(rest?)?;
+    let (stream, rest) = take_stream(streams, near, line)?;
+    let ((from, at), rest) = take_span(rest)?;
     let vals = take_values(alloc, streams.schema(stream), rest)?;
     match Tuple::make(vals, from, at) {
         Ok(tuple) => Some(Seen { stream, tuple }),
         Err(_) => None,
     }
+}
+
+// The declared stream that the first field names, and the fields behind it.
+#[inline(always)]
+fn take_stream<'a>(
+    streams: &Streams,
+    near: StreamId,
+    line: &'a [u8],
+) -> Option<(StreamId, &'a [u8])>
+    ensures { IfSome result (λ r. StreamFirst streams.now line.now r.0 r.1.now) }
+{
+    if let Some(rest) = behind_near(streams, near, line) {
+        return Some((near, rest));
+    }
+    let (name, rest) = take_field(line)?;
+    let stream = find_declared(streams, near, name)?;
+    let rest = rest?;
+    Some((stream, rest))
+}
+
+// The fields behind the name of the stream `near`, where that is declared and its name begins the line, so that no field
+// is cut before it is compared.
+#[inline(always)]
+fn behind_near<'a>(streams: &Streams, near: StreamId, line: &'a [u8]) -> Option<&'a [u8]>
+    ensures { IfSome result (λ rest. StreamFirst streams.now line.now near rest.now) }
+{
+    let name = streams.named(near)?;
+    if streams.declared(near) {
+        behind_name(name, line)
+    } else {
+        None
+    }
+}
+
+// The fields behind a name that begins the text, where each byte of the name is beyond the comma.
+#[inline(always)]
+fn behind_name<'a>(name: &str, text: &'a [u8]) -> Option<&'a [u8]>
+    ensures { IfSome result (λ rest. IsFirst text.now name.now (Some rest.now)) }
+{
+    let bytes = name.as_bytes();
+    let end = bytes.len();
+    if text.len() <= end {
+        return None;
+    }
+    if text[end] != b',' {
+        return None;
+    }
+    for place in 0..end {
+        let byte = bytes[place];
+        if byte <= b',' {
+            return None;
+        }
+        if text[place] != byte {
+            return None;
+        }
+    }
+    Some(&text[end + 1..])
 }
 
 // The times of the fields at the front, and the fields behind them.

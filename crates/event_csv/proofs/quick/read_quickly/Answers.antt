@@ -1,10 +1,9 @@
-use Rattle.std.proofs.Common.{◌≡◌, ◌∙◌, ◌∷◌, ◌++◌, [], List, ℕ, Bor, Option, Some, ap, option_map, refl, subst, sym}
+use Rattle.std.proofs.Common.{◌≡◌, ◌∙◌, ◌∷◌, ◌++◌, [], List, ℕ, Some, ap, refl}
 use Rattle.std.specs.Prelude.{IsUtf8}
 use Rattle.csv.specs.Machine.{next_record}
 use Rattle.csv.specs.declared.parser.State.TheVariants as st
 use Rattle.event_csv.specs.Event.{event, fields_event, record_event}
 use Rattle.event_csv.specs.Fields.{line_config}
-use Rattle.event_csv.specs.Quick.{IsText, read_left}
 use Rattle.event_csv.proofs.EventFacts.{event-text}
 use Rattle.event_csv.proofs.QuickFacts.{line-fields, quick-event}
 use Rattle.event_csv.proofs.quick.read_quickly.Goals as goal
@@ -13,20 +12,18 @@ pub returns-in-Ok : goal.returns-in-Ok
 returns-in-Ok c =
     let streams = c.args.streams.now in
     let line = c.args.line.now in
-    let name = c.in_ok-name.ensures in
+    let name = c.in_ok-stream.ensures in
     let span = c.in_ok-from.ensures in
     let vals = c.in_ok-vals.ensures in
-    let named : List (List ℕ) = c.in_ok-name.name.now ∷ [] in
-    let left = option_map (λ (s : Bor (List ℕ)). s.now) c.in_ok-from.rest in
-    let rest : option_map (λ (s : Bor (List ℕ)). s.now) c.in_ok-name.rest ≡ Some c.in_ok-rest.field-0.now = rw c.in_ok-rest.was refl in
-    let fields : List (List ℕ) = c.in_ok-name.name.now ∷ span.start ∷ span.detection ∷ vals.fields in
+    let named : List (List ℕ) = name.name ∷ [] in
+    let fields : List (List ℕ) = name.name ∷ span.start ∷ span.detection ∷ vals.fields in
     let reads : next_record line_config st.StartField [] [] line ≡ Some (fields, st.StartRecord, []) =
-    name.reads [] ∙ ap (λ (o : Option (List ℕ)). read_left o named) rest ∙ span.reads named ∙ vals.reads (named ++ span.start ∷ span.detection ∷ []) in
-    let text : IsUtf8 line = name.utf8 (subst IsText (sym rest) (span.utf8 vals.utf8)) in
+    name.first.reads [] ∙ span.reads named ∙ vals.reads (named ++ span.start ∷ span.detection ∷ []) in
+    let text : IsUtf8 line = name.first.utf8 (span.utf8 vals.utf8) in
     let cut : event streams line ≡ fields_event streams fields =
     event-text streams line c.requires.short text
     ∙ ap (record_event streams) (line-fields line fields (c.may_have_mark.ensures c.if-may_have_mark.false) c.requires.nonempty c.requires.no_feed reads) in
     rw c.in-Ok.ensures.value (
-    cut ∙ quick-event streams fields c.in_ok-name.name.now span.start span.detection vals.fields c.in_ok-stream.stream c.schema.result.now
-    (c.in_ok-from.from, c.in_ok-from.at) c.in_ok-vals.vals refl c.in_ok-stream.ensures.value c.schema.ensures span.times vals.values vals.many
+    cut ∙ quick-event streams fields name.name span.start span.detection vals.fields c.in_ok-stream.stream c.schema.result.now
+    (c.in_ok-from.from, c.in_ok-from.at) c.in_ok-vals.vals refl name.declared c.schema.ensures span.times vals.values vals.many
     )
