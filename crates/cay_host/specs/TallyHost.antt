@@ -3,7 +3,7 @@ use Rattle.std.specs.Prelude.{ℕ, false, Some, None}
 use Rattle.cay_host.specs.declared.tally_host.TallyHost.{TallyHost}
 use Rattle.cay_host.specs.Told.{Told}
 
--- what a host without a file or an output tells after so many attach faults, read faults and lines written: the number of lines, and no bytes
+-- what a host that has no file and keeps no bytes tells after so many attach faults, read faults and lines written
 abbrev pub counting : ℕ → ℕ → ℕ → Told
 counting attach_faults read_faults lines = record {
   attach_faults = attach_faults;

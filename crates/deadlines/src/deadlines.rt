@@ -6,7 +6,7 @@ use event_types::Memory;
 use std::alloc::Global;
 use std::marker::Model;
 
-/// A deadline after all times.
+/// A deadline after all times of events, which are below 2^64.
 pub const NEVER: u128 = u128::MAX;
 
 /// A deadline for each of so many places, which are counted from 0.
@@ -16,7 +16,7 @@ pub const NEVER: u128 = u128::MAX;
 #[derive(Drop)]
 pub struct Deadlines {
     nodes: Vec<u128>,
-    // the leaves behind so many are none of the places
+    // how many of the leaves are places, the first ones
     places: usize,
 }
 
@@ -54,7 +54,8 @@ impl Deadlines {
         self.nodes[self.nodes.len() / 2 + place]
     }
 
-    /// Gives a place another deadline, in as many steps as the tree is high. Takes no memory.
+    /// Gives a place another deadline. No more nodes are looked at than the tree is high, which no clause says.
+    /// Takes no memory.
     pub fn set(&mut self, place: usize, deadline: u128)
         requires { place < length self.old }
         ensures { self.new ≡ slice_set self.old place deadline }
@@ -62,8 +63,8 @@ impl Deadlines {
         set_leaf(&mut self.nodes, place, deadline);
     }
 
-    /// The first place whose deadline is at most this time, in one step where there is none. Takes no
-    /// memory.
+    /// The first place whose deadline is at most this time. Where there is none, one comparison tells so, which no
+    /// clause says. Takes no memory.
     pub fn first_until(&self, time: u128) -> Option<usize>
         ensures within { IfSome result (λ place. place < length self.now) }
         ensures found { IfSome result (λ place. slice_index self.now place ≤ time) }

@@ -1,4 +1,4 @@
--- What holds of all that tuples meet.
+-- What holds of what the tuples of an epoch meet, and of a waiting state.
 use Rattle.std.specs.Prelude.{◌≡◌, IsTrue, Some, length}
 use Rattle.automaton.specs.Networks.{IsNetwork}
 use Rattle.automaton.specs.States.{is_used, wait_at}

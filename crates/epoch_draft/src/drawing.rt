@@ -21,7 +21,7 @@ pub struct Drawing {
 }
 
 impl Drawing {
-    /// Nothing is drawn for so many states and streams.
+    /// A drawing with room for so many states and streams, in which nothing is drawn.
     pub fn make(alloc: Global, states: usize, streams: usize) -> Result<Drawing, Memory>
         ensures { IfOk result (IsStill streams states) }
     {

@@ -4,7 +4,7 @@
 //! the beads in and purges, and takes no memory. Here too are the stores of a network: they are made, counted
 //! and purged whole.
 //!
-//! The first half reads a `Machine` and changes a `Drawing` alone; the second half goes by a `Course`.
+//! `draw` reads a `Machine` and changes a `Drawing` alone, and the count of steps; `settle` goes by a `Course`.
 //!
 //! Contracts see each public type as its fields. A `Drawing` is a `Draft`, its pairs, and lists that are used
 //! anew. A `Draft` is the tuples made for each derived stream, the beads made for each state as a list of

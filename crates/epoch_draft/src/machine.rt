@@ -3,7 +3,7 @@ use crate::stores::Stores;
 use automaton::{Layout, Network};
 use stream_readers::{KeyReaders, Readers};
 
-/// All that the first half of a closing reads besides the open tuples: a network and its layout, what reads each
+/// All that `draw` reads besides the open tuples: a network and its layout, what reads each
 /// stream, the place of each stream in the order of work, and the stores with the keys that lead to their states.
 #[derive(Drop)]
 pub struct Machine<'a> {

@@ -71,7 +71,7 @@ fn meet_opened<L: Ledger>(
     Ok(())
 }
 
-// Makes the tuples of the derived streams that are due, in the order of work, and what comes of them.
+// Puts the tuples of each derived stream that is due in order, in the order of work, and makes what comes of them.
 fn derive<L: Ledger>(
     machine: &Machine<'_>,
     opened: &Lists,

@@ -1,4 +1,4 @@
-//! What the tuples of a stream make of an epoch.
+//! What comes of the tuples of a stream in an epoch.
 ghost use Rattle.std.specs.Prelude.{◌≡◌, ◌+◌, ◌<◌, ◌≤◌, ◌++◌, IsTrue, OnOk, length, map, sum_by};
 ghost use Rattle.std.specs.List.{All, flat_map};
 ghost use Rattle.automaton.specs.Networks.{IsNetwork};
@@ -26,8 +26,8 @@ use event_types::{Memory, StreamId, Tuple};
 use steps::{Ledger, Steps};
 use stream_readers::Target;
 
-// What the tuple makes of the instances at each of the states that were found leaves it. The states are listed
-// with the tuple's place.
+// At each state that was found: what the tuple makes of the instances there goes all ways out of the state. Each
+// state is listed with the tuple's stream and place.
 fn meet_waits<L: Ledger>(
     machine: &Machine<'_>,
     drawing: &mut Drawing,

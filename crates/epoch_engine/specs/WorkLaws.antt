@@ -24,7 +24,7 @@ FewerAskForLess =
     → ((prefix : Prefix) (hop : Hop) → Contains states (After prefix hop) → IsWithin (stored (After prefix hop)) (waiting_over lines order (events_before time history) (After prefix hop)))
     → work_with states lines order stored history time ≤ work states lines order history time
 
--- what holds of every engine that was made: its edges are those of its states, and no derived stream has open tuples
+-- what the two laws below ask of an engine: its edges are those of its states, and no derived stream has open tuples. What a closing says of its tests asks it of no caller
 pub record IsConsistent (engine : EngineView) : Type 0 where
   pub network : IsNetwork engine.network
   pub underived : All (λ stream. streams_of engine.opened stream ≡ []) engine.layout.order

@@ -33,7 +33,8 @@ pub fn trimmed_is_counted()
     ensures { TrimmedIsCounted }
 {}
 
-/// With fewer bindings an epoch asks for no more tests.
+/// With bindings that are among those that wait, each as often at most, an epoch asks for no more tests than with all
+/// of these.
 pub fn fewer_ask_for_less()
     ensures { FewerAskForLess }
 {}

@@ -75,7 +75,7 @@ largest_without_places = refl
 past_the_least_without_places : units_of 0 (codes "-170141183460469231731687303715884105729") ≡ None
 past_the_least_without_places = refl
 
--- eighteen places, of which all but the first may be missing
+-- eighteen places; those behind the first may be missing, or all with the point
 last_of_eighteen_places : units_of 18 (codes "-0.000000000000000001") ≡ Some (negsuc 0)
 last_of_eighteen_places = refl
 

@@ -18,15 +18,15 @@ abbrev pub units_up_to : ℕ → ℕ → List ℕ → Option ℕ
 units_up_to most places [] = None
 units_up_to most places (byte ∷ more) = if byte == 46 then None else option_and_then (number_up_to most) (with_all_places places (byte ∷ more))
 
--- the units of a decimal below zero, down to -2^127
+-- the units of a decimal behind a minus, down to -2^127
 abbrev pub units_below : ℕ → List ℕ → Option ℤ
 units_below places bytes = option_map (λ n. neg_ℤ (pos n)) (units_up_to 170141183460469231731687303715884105728 places bytes)
 
--- the units of a decimal from zero on, up to 2^127-1
+-- the units of a decimal without a minus, up to 2^127-1
 abbrev pub units_above : ℕ → List ℕ → Option ℤ
 units_above places bytes = option_map pos (units_up_to 170141183460469231731687303715884105727 places bytes)
 
--- the units of a DEC of so many places: a sign that may be missing, one digit or more, and perhaps a point and more digits
+-- the units of a DEC of so many places: a sign that may be missing, one digit or more, and perhaps a point and one digit up to so many places; missing places are zeros
 abbrev pub units_of : ℕ → List ℕ → Option ℤ
 units_of places [] = None
 units_of places (byte ∷ more) = if byte == 45 then units_below places more else if byte == 43 then units_above places more else units_above places (byte ∷ more)

@@ -15,6 +15,6 @@ TimesAreReadAsTheyAreWritten = (time : ℕ) → time < 2 ^ 64 → time_of (decim
 abbrev pub NumbersAreReadAsTheyAreWritten : Type 0
 NumbersAreReadAsTheyAreWritten = (number : ℤ) → is_in_range number ≡ true → value_of kind.Int (value_text (value.Int number)) ≡ Some (value.Int number)
 
--- the field of a decimal of any scale with such units is read, where so many places are wanted, as that decimal
+-- the field of a decimal with units from -2^127 to 2^127-1 is read, for a DEC of as many places as its scale, as that decimal
 abbrev pub DecimalsAreReadAsTheyAreWritten : Type 0
 DecimalsAreReadAsTheyAreWritten = (scale : ℕ) (units : ℤ) → is_in_range units ≡ true → value_of (kind.Dec scale) (value_text (value.Dec scale units)) ≡ Some (value.Dec scale units)

@@ -6,11 +6,11 @@ use Rattle.std.specs.List.{flat_map, range_with_len}
 abbrev pub dear : ℕ → List ℕ
 dear place = codes "SELECT * FROM FILTER {Price >= " ++ (decimal (7000 + 6 * place) ++ codes "} Stock")
 
--- each event of one name with the next one, within 2,000 units of time
+-- each event of one name with the next one of that name, within 2,000 units of time
 abbrev pub pair : ℕ → List ℕ
 pair place = codes "SELECT Name, Price, Price_2 FROM FILTER {Name = 'S" ++ (decimal place ++ codes "'} Stock NEXT {$2.Name = $1.Name AND DUR <= 2000} Stock")
 
--- falling prices of the name before
+-- falling prices of the name that the query before asks for
 abbrev pub fall : ℕ → List ℕ
 fall place = codes "SELECT Name, Price FROM FILTER {Name = 'S" ++ (decimal (place - 1) ++ codes "'} Stock FOLD {$2.Name = $.Name, $2.Price < $.Price, $2.Price AS Price} Stock")
 
@@ -25,7 +25,7 @@ selection place =
     else (if place % 4 == 1 then pair place
     else (if place % 4 == 2 then fall place else rise place))
 
--- the line of the query at a place from 0, which is published by its place
+-- the line of the query at a place from 0, which is published as Q and its place
 abbrev pub query_line : ℕ → List ℕ
 query_line place = selection place ++ (codes " PUBLISH Q" ++ (decimal place ++ codes ";\n"))
 

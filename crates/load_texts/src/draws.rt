@@ -11,7 +11,8 @@ pub(crate) fn drawn(number: u64) -> u64
     (number * 1103515245 + 12345) % (1 << 31)
 }
 
-/// What a draw gives: the upper bits of the number that it put in place. It is below 32,768.
+/// What a draw gives: the upper bits of the number that it put in place. It is below
+/// 32,768 where that number is below 2^31.
 pub(crate) fn given(number: u64) -> u64
     ensures { result ≡ number / 65536 }
 {

@@ -1,4 +1,5 @@
-//! Texts by hand: the draws of the seed 1 are 16838, 5758, 10113, 17515, 31051, 5627, 23010, 7419, 16212 and so on.
+//! Texts by hand: the draws of the seed 1 are 16838, 5758, 10113, 17515, 31051, 5627, 23010, 7419, 16212,
+//! 4086, 2749, 12767 and so on.
 use crate::{EventText, PIECE, event_text, query_text};
 use std::test::Fail;
 
