@@ -30,4 +30,5 @@ pub mod SumLemmas
 pub mod TakeLemmas
 pub mod TypedLemmas
 pub mod TypingLemmas
+pub mod WatchLemmas
 pub mod WorkLemmas

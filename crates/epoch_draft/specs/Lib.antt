@@ -22,4 +22,5 @@ pub mod Suits
 pub mod Takes
 pub mod Tests
 pub mod Typed
+pub mod Watching
 pub mod Work

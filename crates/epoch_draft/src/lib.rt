@@ -33,6 +33,7 @@ mod readying;
 mod settling;
 mod station;
 mod stores;
+mod watching;
 
 pub use agenda::places_of;
 pub use bounds::bounded_states;
@@ -46,3 +47,4 @@ pub use purging::purge_all;
 pub use readying::make_room;
 pub use settling::{Course, settle};
 pub use stores::{Stores, empty_stores, stored};
+pub use watching::{lower, purge_due};

@@ -1,0 +1,126 @@
+-- Stores that are purged when their deadlines pass.
+use Rattle.std.proofs.Common.{◌≡◌, ◌∙◌, sym, ap, refl, subst, inl, inr, ℕ, ◌+◌, ◌<◌, ◌≤◌, ◌⊎◌, Bool, true, cond, length, get_or, nat_le, nat_lt, set, List, ◌∷◌, ◌++◌, arith}
+use Rattle.std.specs.List.{All, count_by, filter}
+use Rattle.std.specs.List.Sorted.{IsPermutation}
+use Rattle.std.specs.Prelude.{Option, Some, None}
+use Rattle.std.proofs.lemmas.List.Elements.{All-append, All-cons, All-filter, All-same, filter_passes}
+use Rattle.std.proofs.lemmas.List.Sorted.{All-permutation, IsPermutation-sym}
+use Rattle.semantics.specs.Scalars.{Pr}
+use Rattle.semantics.proofs.ReportLemmas.{filter_all}
+use Rattle.instances.specs.Alive.{is_alive}
+use Rattle.instances.specs.Bounds.{AreAliveUntil, alive_instances, started}
+use Rattle.instances.proofs.BoundLemmas.{started_is}
+use Rattle.instances.specs.declared.instance.Instance.{Instance}
+use Rattle.binding_index.specs.Stores.{condition_of, instances_of, key_of}
+use Rattle.std.proofs.lemmas.Bool.{cases_lt, le-leb, lt-leb, lt-ltb}
+use Rattle.std.proofs.lemmas.Grind.{get_or-set_at}
+use Rattle.std.proofs.lemmas.List.{get_or_past, get_or-set_other, length-set}
+use Rattle.std.proofs.lemmas.List.Sums.{sum_by-set}
+use Rattle.binding_index.specs.declared.store.Store.{Store}
+use Rattle.automaton.proofs.NumberLemmas.{are_same_or_not}
+use Rattle.epoch_draft.specs.Held.{SameShapes, Shape, held, instances_in, shape_of}
+use Rattle.epoch_draft.specs.Led.{StayReady, StaysReady}
+use Rattle.epoch_draft.specs.Purging.{alive_in}
+use Rattle.epoch_draft.specs.Watching.{ArePurgedEach, IsWatched, Watches}
+use Rattle.epoch_draft.proofs.Lists.{some_is}
+use Rattle.epoch_draft.proofs.PurgeLemmas.{purged_twice, shapes_same, shapes_set, shapes_trans}
+use Rattle.epoch_draft.proofs.StayLemmas.{stay_same, stay_set}
+
+-- where all instances stay, each is alive
+alive_all : (time : ℕ) (choose : List Pr) (instances : List Instance) → alive_instances time choose instances ≡ instances → All (λ (i : Instance). is_alive time choose i.tuple ≡ true) instances
+alive_all time choose instances all = All-same (λ (i : Instance). is_alive time choose i.tuple ≡ true) _ _ (sym all) (filter_passes (λ (i : Instance). is_alive time choose i.tuple) instances)
+
+-- some stores were purged, and each is watched
+pub record ArePurgedSome (time : ℕ) (deadlines : List ℕ) (old new : List (Option Store)) : Type 0 where
+  pub watches : Watches deadlines new
+  pub same : SameShapes old new
+  pub alike : (n : ℕ) → alive_in time (get_or new n None) ≡ alive_in time (get_or old n None)
+  pub stay : StayReady old new
+
+-- none was yet
+pub some_none : (time : ℕ) (deadlines : List ℕ) (stores : List (Option Store)) → Watches deadlines stores → ArePurgedSome time deadlines stores stores
+some_none time deadlines stores watches = record { watches = watches; same = shapes_same stores; alike = λ n. refl; stay = stay_same stores }
+
+-- one more is
+pub some_more : (time n deadline : ℕ) (deadlines : List ℕ) (first old : List (Option Store)) (slot : Option Store) → n < length deadlines → instances_in slot ≡ alive_in time (get_or old n None) → shape_of slot ≡ shape_of (get_or old n None) → IsWatched deadline slot
+    → StaysReady (get_or old n None) slot → ArePurgedSome time deadlines first old → ArePurgedSome time (set deadlines n deadline) first (set old n slot)
+some_more time n deadline deadlines first old slot below is shape watched stays h = record {
+  watches = record {
+    as_many = length-set deadlines n deadline ∙ h.watches.as_many ∙ sym (length-set old n slot);
+    watched = λ k. go k (are_same_or_not k n);
+  };
+  same = shapes_trans first old (set old n slot) h.same (shapes_set old n slot there shape);
+  alike = λ k. like k (are_same_or_not k n) ∙ h.alike k;
+  stay = stay_set first old n slot there h.stay stays;
+}
+  where
+    there : n < length old
+    there = let e = h.watches.as_many in omega (arith, below, e)
+
+    here : (k : ℕ) → k ≡ n → get_or (set old n slot) k None ≡ slot
+    here k same = get_or-set_at old n k slot None same there
+
+    go : (k : ℕ) → (k ≡ n) ⊎ (k ≡ n → ⊥) → IsWatched (get_or (set deadlines n deadline) k 0) (get_or (set old n slot) k None)
+    go k (inl same) = subst (λ (o : Option Store). IsWatched (get_or (set deadlines n deadline) k 0) o) (sym (here k same)) (subst (λ d. IsWatched d slot) (sym (get_or-set_at deadlines n k deadline 0 same below)) watched)
+    go k (inr other) =
+        subst (λ (o : Option Store). IsWatched (get_or (set deadlines n deadline) k 0) o) (sym (get_or-set_other old n k slot None other))
+        (subst (λ d. IsWatched d (get_or old k None)) (sym (get_or-set_other deadlines n k deadline 0 other)) (h.watches.watched k))
+
+    like : (k : ℕ) → (k ≡ n) ⊎ (k ≡ n → ⊥) → alive_in time (get_or (set old n slot) k None) ≡ alive_in time (get_or old k None)
+    like k (inl same) = ap (alive_in time) (here k same) ∙ purged_twice time (get_or old n None) slot shape is ∙ ap (λ m. alive_in time (get_or old m None)) (sym same)
+    like k (inr other) = ap (alive_in time) (get_or-set_other old n k slot None other)
+
+-- where no deadline passed, all are
+pub some_all : (time : ℕ) (deadlines : List ℕ) (old new : List (Option Store)) → All (λ deadline. time < deadline) deadlines → ArePurgedSome time deadlines old new → ArePurgedEach time old new
+some_all time deadlines old new later h = record {
+  same = h.same;
+  purged = λ n. sym (whole n (cases_lt n (length deadlines))) ∙ h.alike n;
+  stay = h.stay;
+}
+  where
+    whole : (n : ℕ) → (n < length deadlines) ⊎ (length deadlines ≤ n) → alive_in time (get_or new n None) ≡ instances_in (get_or new n None)
+    whole n (inl below) = h.watches.watched n time (later n 0 below)
+    whole n (inr past) = let none = get_or_past new n None (let e = h.watches.as_many in omega (arith, past, e)) in ap (alive_in time) none ∙ sym (ap instances_in none)
+
+-- a deadline that passed is put off
+pub fewer : (time n deadline : ℕ) (deadlines : List ℕ) → n < length deadlines → get_or deadlines n 0 ≤ time → time < deadline → count_by (λ d. nat_le d time) (set deadlines n deadline) < count_by (λ d. nat_le d time) deadlines
+fewer time n deadline deadlines below passed later =
+    let sums = sum_by-set (λ d. cond (nat_le d time) 1 0) deadlines n deadline 0 below in
+    let was = ap {B = ℕ} (λ b. cond b 1 0) (le-leb (get_or deadlines n 0) time passed) in
+    let now = ap {B = ℕ} (λ b. cond b 1 0) (lt-leb deadline time later) in
+    omega (arith, sums, was, now)
+
+-- where some instances are taken out, the others are alive as long
+pub watched_fewer : (deadline : ℕ) (old new : Option Store) (keep : Instance → Bool) → shape_of new ≡ shape_of old → instances_in new ≡ filter keep (instances_in old) → IsWatched deadline old → IsWatched deadline new
+watched_fewer deadline None None keep shape is watched time early = watched time early
+watched_fewer deadline None (Some new) keep shape is watched time early = absurd (cc)
+watched_fewer deadline (Some old) None keep shape is watched time early = absurd (cc)
+watched_fewer deadline (Some old) (Some new) keep same is watched time early =
+    let test : Instance → Bool = λ (i : Instance). is_alive time (condition_of new) i.tuple in
+    filter_all test (instances_of new)
+    (All-same (λ (i : Instance). test i ≡ true) _ _ is
+    (All-filter keep (λ (i : Instance). test i ≡ true) (instances_of old) (alive_all time (condition_of new) (instances_of old) (ap (λ (s : Shape). alive_instances time s.condition (instances_of old)) (some_is (shape new) (shape old) same) ∙ watched time early))))
+  where
+    shape : Store → Shape
+    shape store = record { condition = condition_of store; key = key_of store }
+
+-- where instances come that are alive as long, all are
+pub watched_more : (deadline : ℕ) (old new : Store) (beads : List Instance) → condition_of new ≡ condition_of old → IsPermutation (instances_of new) (instances_of old ++ beads) → AreAliveUntil deadline (condition_of old) beads → IsWatched deadline (Some old) → IsWatched deadline (Some new)
+watched_more deadline old new beads same permuted until watched time early =
+    ap (λ (ps : List Pr). alive_instances time ps (instances_of new)) same
+    ∙ filter_all (λ (i : Instance). is_alive time (condition_of old) i.tuple) (instances_of new)
+    (All-permutation (λ (i : Instance). is_alive time (condition_of old) i.tuple ≡ true) (instances_of old ++ beads) (instances_of new) (IsPermutation-sym _ _ permuted)
+    (All-append (λ (i : Instance). is_alive time (condition_of old) i.tuple ≡ true) (instances_of old) beads (alive_all time (condition_of old) (instances_of old) (watched time early)) (alive_all time (condition_of old) beads (until time early))))
+
+-- a lower deadline is one
+pub watched_lower : (deadline lower : ℕ) (slot : Option Store) → lower ≤ deadline → IsWatched deadline slot → IsWatched lower slot
+watched_lower deadline lower slot le watched time early = watched time (omega (arith, le, early))
+
+-- where one more of a chain is alive as long, it is enough that those behind it are
+pub alive_on : (time from end : ℕ) (choose : List Pr) (first : Instance) (rest look chain : List Instance) → look ≡ first ∷ rest → from ≡ first.tuple.from → is_alive time choose (started from) ≡ nat_lt time end → time < end → (alive_instances time choose look ≡ look → alive_instances time choose chain ≡ chain)
+    → alive_instances time choose rest ≡ rest → alive_instances time choose chain ≡ chain
+alive_on time from end choose first rest look chain is starts told early so all =
+    so (ap (alive_instances time choose) is ∙ filter_all (λ (i : Instance). is_alive time choose i.tuple) (first ∷ rest) (All-cons (λ (i : Instance). is_alive time choose i.tuple ≡ true) first rest alive (alive_all time choose rest all)) ∙ sym is)
+  where
+    alive : is_alive time choose first.tuple ≡ true
+    alive = sym (started_is time choose first.tuple) ∙ ap (λ n. is_alive time choose (started n)) (sym starts) ∙ told ∙ lt-ltb time end early

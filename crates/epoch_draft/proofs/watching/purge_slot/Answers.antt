@@ -1,0 +1,18 @@
+use Rattle.std.proofs.Common.{◌≡◌, ◌∙◌, ◌+◌, sym, ap, refl, subst}
+use Rattle.std.specs.Prelude.{List, None, Option, Some}
+use Rattle.semantics.specs.Scalars.{Pr}
+use Rattle.instances.specs.Bounds.{alive_instances}
+use Rattle.binding_index.specs.Stores.{instances_of}
+use Rattle.binding_index.specs.declared.store.Store.{Store}
+use Rattle.epoch_draft.specs.Led.{StaysReady}
+use Rattle.epoch_draft.proofs.StayLemmas.{purge_stays, stays_same}
+use Rattle.epoch_draft.proofs.watching.purge_slot.Goals as goal
+
+-- the keys of the instances that are left are ready still
+pub returns-in-Some-clause-stays : goal.returns-in-Some-clause-stays
+returns-in-Some-clause-stays c =
+    subst (λ (o : Option Store). StaysReady o (Some c.purge.new.self)) (sym c.in-Some.is) (purge_stays c.in-Some.store c.purge.new.self (c.args.time + 1) c.purge.ensures.alive c.purge.ensures.ready c.purge.ensures.same_key)
+
+-- they are alive until the store's deadline
+pub returns-in-Some-clause-watched : goal.returns-in-Some-clause-watched
+returns-in-Some-clause-watched c time early = ap (λ (ps : List Pr). alive_instances time ps (instances_of c.purge.new.self)) c.purge.ensures.same_condition ∙ c.purge.ensures.until time early
