@@ -1,5 +1,4 @@
 pub mod AgendaLemmas
-pub mod BoundLemmas
 pub mod ClearLemmas
 pub mod Comes
 pub mod Concats

@@ -3,8 +3,8 @@ use Rattle.std.proofs.Common.{◌≡◌, ◌∙◌, sym, ap, refl, subst, inl, i
 use Rattle.std.specs.List.{All}
 use Rattle.std.specs.Prelude.{Any, Contains, Option, Some, None, is_some}
 use Rattle.std.proofs.lemmas.Grind.{get_or-set_at}
-use Rattle.std.proofs.lemmas.List.{get_or-set_other, length-set, take_more}
-use Rattle.std.proofs.lemmas.List.Elements.{All-contains_itself, All-weaker, Contains-append_cases, Contains-append_left, Contains-append_right, Contains-push, Contains-push_cases, filter_passes}
+use Rattle.std.proofs.lemmas.List.{get_or-set_other, length-set}
+use Rattle.std.proofs.lemmas.List.Elements.{All-contains_itself, All-weaker, Contains-append_left, Contains-push, Contains-push_cases, filter_passes}
 use Rattle.semantics.proofs.ReportLemmas.{filter_all}
 use Rattle.semantics.specs.Scalars.{Pr}
 use Rattle.event_types.specs.declared.value.Value.{Value}
@@ -104,13 +104,6 @@ purge_push time numbers n first old slot below is shape used stays h = record {
 pub purged_nowhere : (time : ℕ) (stores : List (Option Store)) → ArePurgedIn [] time stores stores
 purged_nowhere time stores = record { same = shapes_same stores; purged = λ n c. absurd (omega (arith, c)); used = λ n c. absurd (omega (arith, c)); stay = stay_same stores; others = λ n absent. refl }
 
--- one number more of a loop
-pub purge_more : (time : ℕ) (numbers : List ℕ) (i : ℕ) (first old : List (Option Store)) (slot : Option Store) → i < length numbers → get_or numbers i 0 < length first
-    → instances_in slot ≡ alive_in time (get_or old (get_or numbers i 0) None) → shape_of slot ≡ shape_of (get_or old (get_or numbers i 0) None) → AreUsedIn slot
-    → StaysReady (get_or old (get_or numbers i 0) None) slot → ArePurgedIn (take i numbers) time first old → ArePurgedIn (take (i + 1) numbers) time first (set old (get_or numbers i 0) slot)
-purge_more time numbers i first old slot lt below is shape used stays h =
-    subst (λ (ns : List ℕ). ArePurgedIn ns time first (set old (get_or numbers i 0) slot)) (sym (take_more numbers i 0 lt)) (purge_push time (take i numbers) (get_or numbers i 0) first old slot below is shape used stays h)
-
 -- one pair more
 pub purge_pair : (time : ℕ) (pairs : List Pair) (i : ℕ) (d : Pair) (first old : List (Option Store)) (slot : Option Store) → i < length pairs → (get_or pairs i d).state < length first
     → instances_in slot ≡ alive_in time (get_or old (get_or pairs i d).state None) → shape_of slot ≡ shape_of (get_or old (get_or pairs i d).state None) → AreUsedIn slot
@@ -118,27 +111,6 @@ pub purge_pair : (time : ℕ) (pairs : List Pair) (i : ℕ) (d : Pair) (first ol
 purge_pair time pairs i d first old slot lt below is shape used stays h =
     subst (λ (ns : List ℕ). ArePurgedIn ns time first (set old (get_or pairs i d).state slot)) (sym (map_more (λ (pair : Pair). pair.state) pairs i d lt))
     (purge_push time (map (λ (pair : Pair). pair.state) (take i pairs)) (get_or pairs i d).state first old slot below is shape used stays h)
-
--- stores that were purged, and then others
-pub purged_both : (time : ℕ) (one two : List ℕ) (old mid new : List (Option Store)) → ArePurgedIn one time old mid → ArePurgedIn two time mid new → ArePurgedIn (one ++ two) time old new
-purged_both time one two old mid new was after = record {
-  same = shapes_trans old mid new was.same after.same;
-  purged = λ n c. purged n (contains_or_not one n) (contains_or_not two n) (Contains-append_cases one two n c);
-  used = λ n c. used n (contains_or_not two n) (Contains-append_cases one two n c);
-  stay = stay_trans old mid new was.stay after.stay;
-  others = λ n absent. after.others n (λ c. absent (Contains-append_right one two n c)) ∙ was.others n (λ c. absent (Contains-append_left one two n c));
-}
-  where
-    purged : (n : ℕ) → Contains one n ⊎ (Contains one n → ⊥) → Contains two n ⊎ (Contains two n → ⊥) → Contains one n ⊎ Contains two n → held new n ≡ alive_in time (get_or old n None)
-    purged n (inl c) (inl e) either = after.purged n e ∙ purged_twice time (get_or old n None) (get_or mid n None) (was.same.shapes n) (was.purged n c)
-    purged n (inr absent) (inl e) either = after.purged n e ∙ ap (alive_in time) (was.others n absent)
-    purged n first (inr absent) (inl c) = ap instances_in (after.others n absent) ∙ was.purged n c
-    purged n first (inr absent) (inr c) = absurd (absent c)
-
-    used : (n : ℕ) → Contains two n ⊎ (Contains two n → ⊥) → Contains one n ⊎ Contains two n → AreUsedIn (get_or new n None)
-    used n (inl c) either = after.used n c
-    used n (inr absent) (inl c) = subst AreUsedIn (sym (after.others n absent)) (was.used n c)
-    used n (inr absent) (inr c) = absurd (absent c)
 
 -- the store of a waiting state was purged
 pub purged_there : (net : Net) (time n : ℕ) (stores : List (Option Store)) (slot : Option Store) → n < length stores → is_some (wait_at net n) ≡ true → instances_in slot ≡ alive_in time (get_or stores n None) → shape_of slot ≡ shape_of (get_or stores n None) → AreUsedIn slot

@@ -1,13 +1,13 @@
 -- What the second half of a closing does to the stores.
-use Rattle.std.proofs.Common.{◌≡◌, ◌∙◌, sym, ap, refl, subst, inl, inr, ℕ, zero, suc, ◌+◌, ◌<◌, ◌≤◌, ◌==◌, ◌⊎◌, not, ◌&&◌, Bool, true, false, cond, IsTrue, length, get_or, set, take, List, [], ◌∷◌, ◌++◌, map, arith}
-use Rattle.std.specs.Prelude.{Contains, Option, Some, None, is_some, option_to_list, slice_get, sum_by}
+use Rattle.std.proofs.Common.{◌≡◌, ◌∙◌, sym, ap, refl, subst, inl, inr, ℕ, zero, suc, ◌+◌, ◌<◌, ◌≤◌, ◌==◌, ◌⊎◌, not, ◌&&◌, Bool, true, false, cond, IsTrue, length, get_or, set, take, List, [], ◌∷◌, ◌++◌, arith}
+use Rattle.std.specs.Prelude.{Contains, Option, Some, None, option_to_list, slice_get, sum_by}
 use Rattle.std.specs.Option.{option_map}
 use Rattle.std.specs.List.{All, filter, flat_map, range_with_len}
 use Rattle.std.specs.List.Sorted.{IsPermutation}
 use Rattle.std.proofs.lemmas.Bool.Decides.{nat_tests}
 use Rattle.std.proofs.lemmas.Grind.{flat_map-append, get_or-set_at}
 use Rattle.std.proofs.lemmas.List.{append-nil, get_or-set_other, length-set, take_more}
-use Rattle.std.proofs.lemmas.List.Elements.{All-append, All-contains, All-contains_itself, All-cons, All-filter, All-get_or, All-head, All-map, All-nil, All-tail, All-weaker, Contains-append_cases, Contains-append_left, Contains-append_right, Contains-push, Contains-push_cases, filter-append}
+use Rattle.std.proofs.lemmas.List.Elements.{All-contains, All-contains_itself, All-cons, All-filter, All-get_or, All-head, All-nil, All-tail, All-weaker, Contains-append_cases, Contains-append_left, Contains-append_right, Contains-push, Contains-push_cases, filter-append}
 use Rattle.std.proofs.lemmas.List.Sums.{sum_by-cons, sum_by_more}
 use Rattle.std.proofs.lemmas.List.FromFn.{get_or-range_with_len, length-range_with_len}
 use Rattle.std.proofs.lemmas.List.Sorted.{IsPermutation-append_left, IsPermutation-middle, IsPermutation-sym, IsPermutation-trans}
@@ -19,7 +19,7 @@ use Rattle.instances.specs.Bounds.{alive_instances}
 use Rattle.instances.specs.Keys.{candidates_of}
 use Rattle.binding_index.specs.KeyParts.{first_key}
 use Rattle.binding_index.specs.Leads.{ready_in}
-use Rattle.binding_index.specs.Stores.{condition_of, instances_of}
+use Rattle.binding_index.specs.Stores.{instances_of}
 use Rattle.binding_index.specs.declared.store.Store.{Store}
 use Rattle.instances.specs.declared.instance.Instance.{Instance}
 use Rattle.semantics.specs.Denotation.{Streams}
@@ -38,7 +38,7 @@ use Rattle.stream_readers.specs.Finding.{is_wait_on, waits_on}
 use Rattle.epoch_laws.specs.Closing.{Stores, stores_after}
 use Rattle.epoch_laws.specs.Epochs.{is_unmet, unmatched_after}
 use Rattle.epoch_laws.proofs.Bags.{permuted_is}
-use Rattle.epoch_laws.proofs.Lists.{every, filter-filter, filter_alike, filter_false}
+use Rattle.epoch_laws.proofs.Lists.{filter-filter, filter_alike, filter_false}
 use Rattle.std.proofs.lemmas.List.Elements.{filter_agree}
 use Rattle.event_types.proofs.NumberLemmas.{same_number}
 use Rattle.automaton.proofs.NumberLemmas.{are_same_or_not}
@@ -46,24 +46,24 @@ use Rattle.epoch_draft.specs.Deriving.{CanDraw, DrawnUpTo, news_of}
 use Rattle.epoch_draft.specs.Candidates.{candidates_at, candidates_by}
 use Rattle.epoch_draft.specs.Held.{held, instances_in, shape_for, shape_of}
 use Rattle.epoch_draft.specs.Meeting.{MatchesNone, pair_of}
-use Rattle.epoch_draft.specs.Purging.{ArePurgedIn, IsUnbound, ListsBounded, alive_in}
+use Rattle.epoch_draft.specs.Purging.{alive_in}
 use Rattle.epoch_draft.specs.Readying.{HaveRoom, HaveRoomIn}
 use Rattle.epoch_draft.specs.Settling.{AreClosed, AreLinked, AreSettled, AreTaken, IsTakenAt, PairSuits, first_of, listed_tuples, tuples_in}
 use Rattle.epoch_draft.specs.Takes.{tuple_of, takes_work}
 use Rattle.epoch_draft.specs.Suits.{MeetingSuits, TupleSuits, WaitSuits}
 use Rattle.epoch_draft.specs.Typed.{IsTyped}
+use Rattle.epoch_draft.specs.Watching.{ArePurgedEach}
 use Rattle.epoch_draft.specs.declared.draft.Draft.{Draft}
 use Rattle.epoch_draft.specs.declared.draft.Pair.{Pair}
 use Rattle.epoch_draft.proofs.DeriveLemmas.{contains_in, rows_suit}
 use Rattle.epoch_draft.proofs.DrawnLemmas.{drawn_is_after, entry_below}
-use Rattle.epoch_draft.proofs.GoingLemmas.{all_right}
 use Rattle.epoch_draft.proofs.KeyLemmas.{candidates_fewer}
 use Rattle.epoch_draft.proofs.Lists.{contains_more, contains_or_not, contains_this, more_contains, some_is, none_in}
 use Rattle.epoch_draft.proofs.MeetLemmas.{waits_used}
 use Rattle.epoch_draft.proofs.Moves.{is_itself}
 use Rattle.epoch_draft.proofs.PurgeLemmas.{shapes_same, shapes_set, shapes_trans}
 use Rattle.epoch_draft.proofs.StateLemmas.{AtWait, at_wait, wait_entry, wait_typed}
-use Rattle.epoch_draft.proofs.StoreLemmas.{condition_is, typed_has}
+use Rattle.epoch_draft.proofs.StoreLemmas.{condition_is, none_is, typed_has}
 
 other_test : (m n : ℕ) → (m ≡ n → ⊥) → (m == n) ≡ false
 other_test m n ne = grind (arith, nat_tests)
@@ -315,16 +315,16 @@ module _ (net : Net) (layout : Layout) (stores : List (Option Store)) (opened : 
               (All-get_or (TupleSuits net (held stores) p.stream) (news p.stream) p.place t h.1
               (rows_suit net can.network layout.kinds stores can.typed p.stream (below_kinds p h.0 (wait_at net p.state) refl) (news p.stream) (drawn.kinds p.stream)))
 
-  -- the states of the pairs wait
-  pub pairs_wait : All (λ n. IsTrue (is_some (wait_at net n))) (map (λ (p : Pair). p.state) pairs)
-  pairs_wait = All-map (λ n. IsTrue (is_some (wait_at net n))) (λ (p : Pair). p.state) pairs (All-weaker (λ (p : Pair). Contains (waits_on net p.stream) p.state × (p.place < length (news p.stream))) (λ (p : Pair). IsTrue (is_some (wait_at net p.state))) one pairs drawn.paired.sound)
+  -- the states of the pairs are there
+  pub pairs_below : All (λ (p : Pair). p.state < length net) pairs
+  pairs_below = All-weaker (λ (p : Pair). Contains (waits_on net p.stream) p.state × (p.place < length (news p.stream))) (λ (p : Pair). p.state < length net) one pairs drawn.paired.sound
     where
-      one : (p : Pair) → Contains (waits_on net p.stream) p.state × (p.place < length (news p.stream)) → IsTrue (is_some (wait_at net p.state))
-      one p h = go (wait_at net p.state) (contains_passes (is_wait_on net p.stream) (range_with_len 0 (length net)) p.state h.0)
+      one : (p : Pair) → Contains (waits_on net p.stream) p.state × (p.place < length (news p.stream)) → p.state < length net
+      one p h = go (wait_at net p.state) refl (contains_passes (is_wait_on net p.stream) (range_with_len 0 (length net)) p.state h.0)
         where
-          go : (o : Option Wait) → tells p.stream (option_map (λ (w : Wait). w.stream) o) ≡ true → IsTrue (is_some o)
-          go None e = absurd (cc)
-          go (Some w) e = refl
+          go : (o : Option Wait) → wait_at net p.state ≡ o → tells p.stream (option_map (λ (w : Wait). w.stream) o) ≡ true → p.state < length net
+          go None at e = absurd (cc)
+          go (Some w) at e = let found = at_wait net p.state w at in entry_below net p.state (Waiting found.before found.hop) (wait_entry net p.state w found)
 
   -- the pairs' tuples are the epoch's, so the tests are as many
   pub takes_same : takes_work net listed (held stores) pairs ≡ takes_work net news (held stores) pairs
@@ -516,67 +516,22 @@ linked_more numbers i start beads old mid slot new chain rest lt below below_bea
 pub cons_none : (x : Instance) (xs : List Instance) → x ∷ xs ≡ [] → ⊥
 cons_none x xs e = cc
 
--- the states with bounds are there
-pub bounded_below : (net : Net) (bound : ℕ) (list : List ℕ) → ListsBounded net bound list → All (λ n. n < length net) list
-bounded_below net bound list lists = All-weaker (λ n. IsTrue (is_some (wait_at net n))) (λ n. n < length net) below list lists.waits
-  where
-    below : (n : ℕ) → IsTrue (is_some (wait_at net n)) → n < length net
-    below n waits = go (wait_at net n) refl waits
-      where
-        go : (o : Option Wait) → wait_at net n ≡ o → IsTrue (is_some o) → n < length net
-        go None at waits = absurd (cc)
-        go (Some w) at waits = let found = at_wait net n w at in entry_below net n (Waiting found.before found.hop) (wait_entry net n w found)
-
--- with more waiting states the list still has all with bounds
-pub bounded_more : (net : Net) (bound : ℕ) (list more : List ℕ) → ListsBounded net bound list → All (λ n. IsTrue (is_some (wait_at net n))) more → ListsBounded net bound (list ++ more)
-bounded_more net bound list more lists waits = record { waits = All-append (λ n. IsTrue (is_some (wait_at net n))) list more lists.waits waits; has = λ n w lt at. go n w (lists.has n w lt at) }
-  where
-    go : (n : ℕ) (w : Wait) → Contains list n ⊎ IsUnbound w.choose → Contains (list ++ more) n ⊎ IsUnbound w.choose
-    go n w (inl c) = inl (Contains-append_left list more n c)
-    go n w (inr none) = inr none
-
--- what holds of numbers that end with the states of pairs holds of these
-pub all_states : (P : ℕ → Type 0) (numbers : List ℕ) (pairs : List Pair) → All P (numbers ++ map (λ (p : Pair). p.state) pairs) → All (λ (p : Pair). P p.state) pairs
-all_states P numbers pairs all = go pairs (all_right P numbers (map (λ (p : Pair). p.state) pairs) all)
-  where
-    go : (ps : List Pair) → All P (map (λ (p : Pair). p.state) ps) → All (λ (p : Pair). P p.state) ps
-    go [] h = All-nil (λ (p : Pair). P p.state)
-    go (p ∷ ps) h = All-cons (λ (p : Pair). P p.state) p ps (All-head P p.state (map (λ (p : Pair). p.state) ps) h) (go ps (All-tail P p.state (map (λ (p : Pair). p.state) ps) h))
-
 -- what settled and was purged is closed
-pub closed : (time : ℕ) (net : Net) (kinds : List (List Kind)) (old mid new : List (Option Store)) (news : Streams) (bounded : List ℕ) → IsTyped net kinds old → ListsBounded net (length net) bounded → AreSettled net news old mid → ArePurgedIn bounded time mid new
-    → AreClosed time net news old new
-closed time net kinds old mid new news bounded typed lists settled purged = record {
+pub closed : (time : ℕ) (net : Net) (kinds : List (List Kind)) (old mid new : List (Option Store)) (news : Streams) → IsTyped net kinds old → AreSettled net news old mid → ArePurgedEach time mid new → AreClosed time net news old new
+closed time net kinds old mid new news typed settled purged = record {
   same = shapes_trans old mid new settled.same purged.same;
-  purged = λ n w at. waits n w at (contains_or_not bounded n) (get_or mid n None) refl;
-  others = λ n at. ap instances_in (purged.others n (absent n at)) ∙ settled.others n at;
+  purged = λ n w at. waits n w at (get_or mid n None) refl;
+  others = λ n at. let none = none_is (get_or mid n None) (settled.same.shapes n ∙ ap shape_of (typed.others n at)) in purged.purged n ∙ ap (alive_in time) none ∙ sym (ap instances_in none) ∙ settled.others n at;
 }
   where
-    absent : (n : ℕ) → wait_at net n ≡ None → Contains bounded n → ⊥
-    absent n at c = absurd (let waits = All-contains (λ n. IsTrue (is_some (wait_at net n))) bounded n lists.waits c in let no : IsTrue (is_some {T = Wait} None) = subst (λ (o : Option Wait). IsTrue (is_some o)) at waits in cc)
-
     shape : (n : ℕ) (w : Wait) → wait_at net n ≡ Some w → shape_of (get_or mid n None) ≡ Some (shape_for w.choose)
     shape n w at = settled.same.shapes n ∙ (typed_has net kinds old typed).shapes n w at
 
-    condition : (n : ℕ) (w : Wait) → wait_at net n ≡ Some w → (store : Store) → get_or mid n None ≡ Some store → condition_of store ≡ w.choose
-    condition n w at store e = condition_is store w.choose (ap shape_of (sym e) ∙ shape n w at)
-
-    slot : (n : ℕ) (w : Wait) → wait_at net n ≡ Some w → get_or mid n None ≡ None → ⊥
-    slot n w at e = let no : None ≡ Some (shape_for w.choose) = ap shape_of (sym e) ∙ shape n w at in cc
-
-    waits : (n : ℕ) (w : Wait) → wait_at net n ≡ Some w → Contains bounded n ⊎ (Contains bounded n → ⊥) → (o : Option Store) → get_or mid n None ≡ o → IsPermutation (held new n) (alive_instances time w.choose (stores_after net news (held old) n))
-    waits n w at (inl c) None e = absurd (slot n w at e)
-    waits n w at (inl c) (Some store) e =
-        permuted_from (purged.purged n c ∙ ap (alive_in time) e ∙ ap (λ choose. alive_instances time choose (instances_of store)) (condition n w at store e))
+    waits : (n : ℕ) (w : Wait) → wait_at net n ≡ Some w → (o : Option Store) → get_or mid n None ≡ o → IsPermutation (held new n) (alive_instances time w.choose (stores_after net news (held old) n))
+    waits n w at None e = absurd (let no : None ≡ Some (shape_for w.choose) = ap shape_of (sym e) ∙ shape n w at in cc)
+    waits n w at (Some store) e =
+        permuted_from (purged.purged n ∙ ap (alive_in time) e ∙ ap (λ choose. alive_instances time choose (instances_of store)) (condition_is store w.choose (ap shape_of (sym e) ∙ shape n w at)))
         (filter_permuted (λ (i : Instance). is_alive time w.choose i.tuple) (instances_of store) (stores_after net news (held old) n) (permuted_from (ap instances_in (sym e)) (settled.settled n w at)))
-    waits n w at (inr absent) o e = unbound (lists.has n w (let found = at_wait net n w at in entry_below net n (Waiting found.before found.hop) (wait_entry net n w found)) at)
-      where
-        unbound : Contains bounded n ⊎ IsUnbound w.choose → IsPermutation (held new n) (alive_instances time w.choose (stores_after net news (held old) n))
-        unbound (inl c) = absurd (absent c)
-        unbound (inr none) =
-            permuted_from (ap instances_in (purged.others n absent))
-            (permuted_to (settled.settled n w at)
-            (sym (filter_all (λ (i : Instance). is_alive time w.choose i.tuple) (stores_after net news (held old) n) (every (λ (i : Instance). is_alive time w.choose i.tuple ≡ true) (λ i. none time i.tuple) (stores_after net news (held old) n)))))
 
 -- no more candidates are there than before
 pub taken_fewer : (net : Net) (news : Streams) (pairs : List Pair) (old mid : List (Option Store)) → AreTaken net news pairs old mid → (n : ℕ) (t : TupleView) → length (candidates_at net (held mid) t n) ≤ length (candidates_at net (held old) t n)

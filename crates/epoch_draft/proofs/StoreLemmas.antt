@@ -31,12 +31,18 @@ use Rattle.epoch_draft.proofs.Lists.{some_is}
 shape_is : (choose other : List Pr) (key by : Option Key) → choose ≡ other → key ≡ by → (let one : Shape = record { condition = choose; key = key } in one) ≡ (let one : Shape = record { condition = other; key = by } in one)
 shape_is choose other key by e f = λ i. record { condition = e i; key = f i }
 
+-- where no shape is there is no store
+pub none_is : (slot : Option Store) → shape_of slot ≡ None → slot ≡ None
+none_is None e = refl
+none_is (Some store) e = absurd (cc)
+
 -- the stores of a typed network are made for its conditions
 pub typed_has : (net : Net) (kinds : List (List Kind)) (stores : List (Option Store)) → IsTyped net kinds stores → HasStores net stores
 typed_has net kinds stores typed = record {
   as_many = typed.as_many;
   shapes = λ n w at.
       let has = typed.has_stores n w at in ap shape_of has.1 ∙ ap Some (shape_is (condition_of has.0) w.choose (key_of has.0) (first_key w.choose) has.2.condition has.2.key);
+  others = typed.others;
 }
 
 -- where a shape is there is a store of it
@@ -59,7 +65,11 @@ same_key old new same n = key_shape (get_or new n None) (get_or old n None) (sam
 
 -- and are made for the same network
 pub same_has : (net : Net) (old new : List (Option Store)) → SameShapes old new → HasStores net old → HasStores net new
-same_has net old new same has = record { as_many = same.as_many ∙ has.as_many; shapes = λ n w at. same.shapes n ∙ has.shapes n w at }
+same_has net old new same has = record {
+  as_many = same.as_many ∙ has.as_many;
+  shapes = λ n w at. same.shapes n ∙ has.shapes n w at;
+  others = λ n at. none_is (get_or new n None) (same.shapes n ∙ ap shape_of (has.others n at));
+}
 
 -- stores with the same instances hold the same
 pub held_same : (old new : List (Option Store)) → SameStored old new → held old ≡ held new
@@ -78,6 +88,7 @@ shaped_typed net kinds old new typed same have = record {
         now.1,
         record { condition = now.2; key = now.3; instances = subst (λ (o : Option Store). All (λ (i : Instance). HasKinds (typed.kinding.waiting n) i.tuple) (instances_in o)) now.1 (have n w at) },
       );
+  others = λ n at. none_is (get_or new n None) (same.shapes n ∙ ap shape_of (typed.others n at));
 }
 
 -- so are stores with the same instances

@@ -1,8 +1,8 @@
 -- Stores that are purged when their deadlines pass.
-use Rattle.std.proofs.Common.{◌≡◌, ◌∙◌, sym, ap, refl, subst, inl, inr, ℕ, ◌+◌, ◌<◌, ◌≤◌, ◌⊎◌, Bool, true, cond, length, get_or, nat_le, nat_lt, set, List, ◌∷◌, ◌++◌, arith}
+use Rattle.std.proofs.Common.{◌≡◌, ◌∙◌, sym, ap, refl, subst, inl, inr, ℕ, ◌<◌, ◌≤◌, ◌⊎◌, Bool, true, cond, length, get_or, nat_le, nat_lt, set, List, [], ◌∷◌, ◌++◌, arith}
 use Rattle.std.specs.List.{All, count_by, filter}
 use Rattle.std.specs.List.Sorted.{IsPermutation}
-use Rattle.std.specs.Prelude.{Option, Some, None}
+use Rattle.std.specs.Prelude.{Contains, Option, Some, None}
 use Rattle.std.proofs.lemmas.List.Elements.{All-append, All-cons, All-filter, All-same, filter_passes}
 use Rattle.std.proofs.lemmas.List.Sorted.{All-permutation, IsPermutation-sym}
 use Rattle.semantics.specs.Scalars.{Pr}
@@ -17,14 +17,22 @@ use Rattle.std.proofs.lemmas.Grind.{get_or-set_at}
 use Rattle.std.proofs.lemmas.List.{get_or_past, get_or-set_other, length-set}
 use Rattle.std.proofs.lemmas.List.Sums.{sum_by-set}
 use Rattle.binding_index.specs.declared.store.Store.{Store}
+use Rattle.automaton.specs.States.{Net, wait_at}
+use Rattle.automaton.specs.declared.wait.Wait.{Wait}
 use Rattle.automaton.proofs.NumberLemmas.{are_same_or_not}
-use Rattle.epoch_draft.specs.Held.{SameShapes, Shape, held, instances_in, shape_of}
+use Rattle.semantics.specs.Denotation.{Streams}
+use Rattle.epoch_laws.specs.Epochs.{is_unmet}
+use Rattle.epoch_draft.specs.Held.{SameShapes, SameStored, Shape, held, instances_in, shape_of}
 use Rattle.epoch_draft.specs.Led.{StayReady, StaysReady}
-use Rattle.epoch_draft.specs.Purging.{alive_in}
+use Rattle.epoch_draft.specs.Purging.{AreAllPurged, ArePurgedIn, alive_in}
+use Rattle.epoch_draft.specs.Settling.{AreTaken, listed_tuples}
+use Rattle.epoch_draft.specs.Stores.{AreNewStores, HasStores}
+use Rattle.epoch_draft.specs.declared.draft.Pair.{Pair}
 use Rattle.epoch_draft.specs.Watching.{ArePurgedEach, IsWatched, Watches}
-use Rattle.epoch_draft.proofs.Lists.{some_is}
+use Rattle.epoch_draft.proofs.Lists.{contains_or_not, some_is}
 use Rattle.epoch_draft.proofs.PurgeLemmas.{purged_twice, shapes_same, shapes_set, shapes_trans}
-use Rattle.epoch_draft.proofs.StayLemmas.{stay_same, stay_set}
+use Rattle.epoch_draft.proofs.StayLemmas.{stay_same, stay_set, stay_trans}
+use Rattle.epoch_draft.proofs.StoreLemmas.{condition_is}
 
 -- where all instances stay, each is alive
 alive_all : (time : ℕ) (choose : List Pr) (instances : List Instance) → alive_instances time choose instances ≡ instances → All (λ (i : Instance). is_alive time choose i.tuple ≡ true) instances
@@ -41,14 +49,28 @@ pub record ArePurgedSome (time : ℕ) (deadlines : List ℕ) (old new : List (Op
 pub some_none : (time : ℕ) (deadlines : List ℕ) (stores : List (Option Store)) → Watches deadlines stores → ArePurgedSome time deadlines stores stores
 some_none time deadlines stores watches = record { watches = watches; same = shapes_same stores; alike = λ n. refl; stay = stay_same stores }
 
+-- one store was written over, and its deadline
+watches_set : (deadlines : List ℕ) (stores : List (Option Store)) (n deadline : ℕ) (slot : Option Store) → n < length deadlines → IsWatched deadline slot → Watches deadlines stores → Watches (set deadlines n deadline) (set stores n slot)
+watches_set deadlines stores n deadline slot below one watches = record {
+  as_many = length-set deadlines n deadline ∙ watches.as_many ∙ sym (length-set stores n slot);
+  watched = λ k. go k (are_same_or_not k n);
+}
+  where
+    there : n < length stores
+    there = let e = watches.as_many in omega (arith, below, e)
+
+    go : (k : ℕ) → (k ≡ n) ⊎ (k ≡ n → ⊥) → IsWatched (get_or (set deadlines n deadline) k 0) (get_or (set stores n slot) k None)
+    go k (inl same) =
+        subst (λ (o : Option Store). IsWatched (get_or (set deadlines n deadline) k 0) o) (sym (get_or-set_at stores n k slot None same there)) (subst (λ d. IsWatched d slot) (sym (get_or-set_at deadlines n k deadline 0 same below)) one)
+    go k (inr other) =
+        subst (λ (o : Option Store). IsWatched (get_or (set deadlines n deadline) k 0) o) (sym (get_or-set_other stores n k slot None other))
+        (subst (λ d. IsWatched d (get_or stores k None)) (sym (get_or-set_other deadlines n k deadline 0 other)) (watches.watched k))
+
 -- one more is
 pub some_more : (time n deadline : ℕ) (deadlines : List ℕ) (first old : List (Option Store)) (slot : Option Store) → n < length deadlines → instances_in slot ≡ alive_in time (get_or old n None) → shape_of slot ≡ shape_of (get_or old n None) → IsWatched deadline slot
     → StaysReady (get_or old n None) slot → ArePurgedSome time deadlines first old → ArePurgedSome time (set deadlines n deadline) first (set old n slot)
 some_more time n deadline deadlines first old slot below is shape watched stays h = record {
-  watches = record {
-    as_many = length-set deadlines n deadline ∙ h.watches.as_many ∙ sym (length-set old n slot);
-    watched = λ k. go k (are_same_or_not k n);
-  };
+  watches = watches_set deadlines old n deadline slot below watched h.watches;
   same = shapes_trans first old (set old n slot) h.same (shapes_set old n slot there shape);
   alike = λ k. like k (are_same_or_not k n) ∙ h.alike k;
   stay = stay_set first old n slot there h.stay stays;
@@ -57,17 +79,8 @@ some_more time n deadline deadlines first old slot below is shape watched stays 
     there : n < length old
     there = let e = h.watches.as_many in omega (arith, below, e)
 
-    here : (k : ℕ) → k ≡ n → get_or (set old n slot) k None ≡ slot
-    here k same = get_or-set_at old n k slot None same there
-
-    go : (k : ℕ) → (k ≡ n) ⊎ (k ≡ n → ⊥) → IsWatched (get_or (set deadlines n deadline) k 0) (get_or (set old n slot) k None)
-    go k (inl same) = subst (λ (o : Option Store). IsWatched (get_or (set deadlines n deadline) k 0) o) (sym (here k same)) (subst (λ d. IsWatched d slot) (sym (get_or-set_at deadlines n k deadline 0 same below)) watched)
-    go k (inr other) =
-        subst (λ (o : Option Store). IsWatched (get_or (set deadlines n deadline) k 0) o) (sym (get_or-set_other old n k slot None other))
-        (subst (λ d. IsWatched d (get_or old k None)) (sym (get_or-set_other deadlines n k deadline 0 other)) (h.watches.watched k))
-
     like : (k : ℕ) → (k ≡ n) ⊎ (k ≡ n → ⊥) → alive_in time (get_or (set old n slot) k None) ≡ alive_in time (get_or old k None)
-    like k (inl same) = ap (alive_in time) (here k same) ∙ purged_twice time (get_or old n None) slot shape is ∙ ap (λ m. alive_in time (get_or old m None)) (sym same)
+    like k (inl same) = ap (alive_in time) (get_or-set_at old n k slot None same there) ∙ purged_twice time (get_or old n None) slot shape is ∙ ap (λ m. alive_in time (get_or old m None)) (sym same)
     like k (inr other) = ap (alive_in time) (get_or-set_other old n k slot None other)
 
 -- where no deadline passed, all are
@@ -91,7 +104,7 @@ fewer time n deadline deadlines below passed later =
     omega (arith, sums, was, now)
 
 -- where some instances are taken out, the others are alive as long
-pub watched_fewer : (deadline : ℕ) (old new : Option Store) (keep : Instance → Bool) → shape_of new ≡ shape_of old → instances_in new ≡ filter keep (instances_in old) → IsWatched deadline old → IsWatched deadline new
+watched_fewer : (deadline : ℕ) (old new : Option Store) (keep : Instance → Bool) → shape_of new ≡ shape_of old → instances_in new ≡ filter keep (instances_in old) → IsWatched deadline old → IsWatched deadline new
 watched_fewer deadline None None keep shape is watched time early = watched time early
 watched_fewer deadline None (Some new) keep shape is watched time early = absurd (cc)
 watched_fewer deadline (Some old) None keep shape is watched time early = absurd (cc)
@@ -105,7 +118,7 @@ watched_fewer deadline (Some old) (Some new) keep same is watched time early =
     shape store = record { condition = condition_of store; key = key_of store }
 
 -- where instances come that are alive as long, all are
-pub watched_more : (deadline : ℕ) (old new : Store) (beads : List Instance) → condition_of new ≡ condition_of old → IsPermutation (instances_of new) (instances_of old ++ beads) → AreAliveUntil deadline (condition_of old) beads → IsWatched deadline (Some old) → IsWatched deadline (Some new)
+watched_more : (deadline : ℕ) (old new : Store) (beads : List Instance) → condition_of new ≡ condition_of old → IsPermutation (instances_of new) (instances_of old ++ beads) → AreAliveUntil deadline (condition_of old) beads → IsWatched deadline (Some old) → IsWatched deadline (Some new)
 watched_more deadline old new beads same permuted until watched time early =
     ap (λ (ps : List Pr). alive_instances time ps (instances_of new)) same
     ∙ filter_all (λ (i : Instance). is_alive time (condition_of old) i.tuple) (instances_of new)
@@ -113,8 +126,101 @@ watched_more deadline old new beads same permuted until watched time early =
     (All-append (λ (i : Instance). is_alive time (condition_of old) i.tuple ≡ true) (instances_of old) beads (alive_all time (condition_of old) (instances_of old) (watched time early)) (alive_all time (condition_of old) beads (until time early))))
 
 -- a lower deadline is one
-pub watched_lower : (deadline lower : ℕ) (slot : Option Store) → lower ≤ deadline → IsWatched deadline slot → IsWatched lower slot
+watched_lower : (deadline lower : ℕ) (slot : Option Store) → lower ≤ deadline → IsWatched deadline slot → IsWatched lower slot
 watched_lower deadline lower slot le watched time early = watched time (omega (arith, le, early))
+
+-- beads are linked at a state whose deadline was lowered for them
+pub watches_linked : (net : Net) (n : ℕ) (deadlines lowered : List ℕ) (stores : List (Option Store)) (slot new : Option Store) (chain : List Instance) → n < length deadlines → HasStores net stores → get_or stores n None ≡ slot → shape_of new ≡ shape_of slot
+    → ((store : Store) → slot ≡ Some store → IsPermutation (instances_in new) (instances_of store ++ chain)) → lowered ≡ set deadlines n (get_or lowered n 0) → get_or lowered n 0 ≤ get_or deadlines n 0
+    → ((w : Wait) → wait_at net n ≡ Some w → AreAliveUntil (get_or lowered n 0) w.choose chain) → Watches deadlines stores → Watches lowered (set stores n new)
+watches_linked net n deadlines lowered stores slot new chain below has at shape puts is le until watches =
+    subst (λ (ds : List ℕ). Watches ds (set stores n new)) (sym is)
+    (watches_set deadlines stores n (get_or lowered n 0) new below (go slot new at shape puts (subst (IsWatched (get_or deadlines n 0)) at (watches.watched n))) watches)
+  where
+    shape_is : Store → Shape
+    shape_is store = record { condition = condition_of store; key = key_of store }
+
+    alive : (store : Store) → get_or stores n None ≡ Some store → (o : Option Wait) → wait_at net n ≡ o → AreAliveUntil (get_or lowered n 0) (condition_of store) chain
+    alive store at None none = absurd (let no : Some store ≡ None = sym at ∙ has.others n none in cc)
+    alive store at (Some w) waits =
+        subst (λ (ps : List Pr). AreAliveUntil (get_or lowered n 0) ps chain) (sym (condition_is store w.choose (ap shape_of (sym at) ∙ has.shapes n w waits))) (until w waits)
+
+    go : (slot new : Option Store) → get_or stores n None ≡ slot → shape_of new ≡ shape_of slot → ((store : Store) → slot ≡ Some store → IsPermutation (instances_in new) (instances_of store ++ chain))
+        → IsWatched (get_or deadlines n 0) slot → IsWatched (get_or lowered n 0) new
+    go None None at shape puts watched time early = refl
+    go None (Some new) at shape puts watched time early = absurd (cc)
+    go (Some old) None at shape puts watched time early = absurd (cc)
+    go (Some old) (Some new) at same puts watched time early =
+        watched_more (get_or lowered n 0) old new chain (ap (λ (s : Shape). s.condition) (some_is (shape_is new) (shape_is old) same)) (puts old refl) (alive old at (wait_at net n) refl)
+        (watched_lower (get_or deadlines n 0) (get_or lowered n 0) (Some old) le watched) time early
+
+-- a store has some of the instances that it had
+abbrev pub HasFewer : Option Store → Option Store → Type 0
+HasFewer old new = (keep : Instance → Bool) × (instances_in new ≡ filter keep (instances_in old))
+
+-- or all of them
+fewer_same : (old new : Option Store) → instances_in new ≡ instances_in old → HasFewer old new
+fewer_same old new same = ((λ (i : Instance). true), same ∙ sym (filter_all (λ (i : Instance). true) (instances_in old) (λ _ _ _. refl)))
+
+-- or those that are alive
+fewer_alive : (time : ℕ) (old new : Option Store) → instances_in new ≡ alive_in time old → HasFewer old new
+fewer_alive time None new is = ((λ (i : Instance). true), is)
+fewer_alive time (Some store) new is = ((λ (i : Instance). is_alive time (condition_of store) i.tuple), is)
+
+-- where each store does, its deadline is right still
+watches_fewer : (deadlines : List ℕ) (old new : List (Option Store)) → SameShapes old new → ((n : ℕ) → HasFewer (get_or old n None) (get_or new n None)) → Watches deadlines old → Watches deadlines new
+watches_fewer deadlines old new same left watches = record {
+  as_many = watches.as_many ∙ sym same.as_many;
+  watched = λ n. watched_fewer (get_or deadlines n 0) (get_or old n None) (get_or new n None) (left n).0 (same.shapes n) (left n).1 (watches.watched n);
+}
+
+-- so it is where stores have the same instances
+pub watches_same : (deadlines : List ℕ) (old new : List (Option Store)) → SameStored old new → Watches deadlines old → Watches deadlines new
+watches_same deadlines old new same = watches_fewer deadlines old new same.same (λ n. fewer_same (get_or old n None) (get_or new n None) (same.held n))
+
+-- where tuples took instances out
+pub watches_taken : (net : Net) (news : Streams) (pairs : List Pair) (deadlines : List ℕ) (old new : List (Option Store)) → AreTaken net news pairs old new → Watches deadlines old → Watches deadlines new
+watches_taken net news pairs deadlines old new taken = watches_fewer deadlines old new taken.same (λ n. go n (wait_at net n) refl)
+  where
+    go : (n : ℕ) (o : Option Wait) → wait_at net n ≡ o → HasFewer (get_or old n None) (get_or new n None)
+    go n None at = fewer_same (get_or old n None) (get_or new n None) (taken.none n at)
+    go n (Some w) at = ((λ (i : Instance). is_unmet w.choose (listed_tuples news pairs n) i.tuple), taken.taken n w at)
+
+-- where some stores were purged
+pub watches_some : (time : ℕ) (numbers : List ℕ) (deadlines : List ℕ) (old new : List (Option Store)) → ArePurgedIn numbers time old new → Watches deadlines old → Watches deadlines new
+watches_some time numbers deadlines old new purged = watches_fewer deadlines old new purged.same (λ n. go n (contains_or_not numbers n))
+  where
+    go : (n : ℕ) → Contains numbers n ⊎ (Contains numbers n → ⊥) → HasFewer (get_or old n None) (get_or new n None)
+    go n (inl c) = fewer_alive time (get_or old n None) (get_or new n None) (purged.purged n c)
+    go n (inr absent) = fewer_same (get_or old n None) (get_or new n None) (ap instances_in (purged.others n absent))
+
+-- and where all were
+pub watches_all : (time : ℕ) (net : Net) (deadlines : List ℕ) (old new : List (Option Store)) → AreAllPurged net time old new → Watches deadlines old → Watches deadlines new
+watches_all time net deadlines old new purged = watches_fewer deadlines old new purged.same (λ n. go n (wait_at net n) refl)
+  where
+    go : (n : ℕ) (o : Option Wait) → wait_at net n ≡ o → HasFewer (get_or old n None) (get_or new n None)
+    go n None at = fewer_same (get_or old n None) (get_or new n None) (ap instances_in (purged.others n at))
+    go n (Some w) at = fewer_alive time (get_or old n None) (get_or new n None) (purged.purged n w at)
+
+-- new stores have no instance that may expire
+pub watches_new : (net : Net) (deadlines : List ℕ) (stores : List (Option Store)) → AreNewStores net stores → length deadlines ≡ length net → Watches deadlines stores
+watches_new net deadlines stores new as_many = record { as_many = as_many ∙ sym new.has.as_many; watched = λ n. none (get_or stores n None) (new.empty n) }
+  where
+    none : {deadline : ℕ} (slot : Option Store) → instances_in slot ≡ [] → IsWatched deadline slot
+    none None empty time early = refl
+    none (Some store) empty time early = ap (alive_instances time (condition_of store)) empty ∙ sym empty
+
+-- where all stores were purged and then some once more, all are
+pub purged_each : (time : ℕ) (numbers : List ℕ) (old mid new : List (Option Store)) → ArePurgedEach time old mid → ArePurgedIn numbers time mid new → ArePurgedEach time old new
+purged_each time numbers old mid new was after = record {
+  same = shapes_trans old mid new was.same after.same;
+  purged = λ n. go n (contains_or_not numbers n);
+  stay = stay_trans old mid new was.stay after.stay;
+}
+  where
+    go : (n : ℕ) → Contains numbers n ⊎ (Contains numbers n → ⊥) → held new n ≡ alive_in time (get_or old n None)
+    go n (inl c) = after.purged n c ∙ purged_twice time (get_or old n None) (get_or mid n None) (was.same.shapes n) (was.purged n)
+    go n (inr absent) = ap instances_in (after.others n absent) ∙ was.purged n
 
 -- where one more of a chain is alive as long, it is enough that those behind it are
 pub alive_on : (time from end : ℕ) (choose : List Pr) (first : Instance) (rest look chain : List Instance) → look ≡ first ∷ rest → from ≡ first.tuple.from → is_alive time choose (started from) ≡ nat_lt time end → time < end → (alive_instances time choose look ≡ look → alive_instances time choose chain ≡ chain)

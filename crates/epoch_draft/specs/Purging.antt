@@ -1,9 +1,6 @@
 -- What the purge of stores does.
-use Rattle.std.specs.Prelude.{◌≡◌, ℕ, ◌<◌, ◌⊎◌, true, IsTrue, is_some, List, [], Option, Some, None, Any, Contains, slice_index_or}
+use Rattle.std.specs.Prelude.{◌≡◌, ℕ, List, [], Option, Some, None, Any, Contains, slice_index_or}
 use Rattle.std.specs.List.{All}
-use Rattle.event_types.specs.Tuple.{TupleView}
-use Rattle.instances.specs.Alive.{is_alive}
-use Rattle.semantics.specs.Scalars.{Pr}
 use Rattle.automaton.specs.States.{Net, wait_at}
 use Rattle.automaton.specs.declared.wait.Wait.{Wait}
 use Rattle.instances.specs.Bounds.{alive_instances}
@@ -48,12 +45,3 @@ pub record AreAllPurged (net : Net) (time : ℕ) (old new : List (Option Store))
   pub used : (number : ℕ) (wait : Wait) → wait_at net number ≡ Some wait → AreUsedIn (slice_index_or new number None)
   pub stay : StayReady old new
   pub others : (number : ℕ) → wait_at net number ≡ None → slice_index_or new number None ≡ slice_index_or old number None
-
--- no bound of the condition expires
-abbrev pub IsUnbound : List Pr → Type 0
-IsUnbound choose = (time : ℕ) (binding : TupleView) → is_alive time choose binding ≡ true
-
--- at least those waiting states below a number whose conditions have a bound that may expire are listed, maybe some more, and waiting states alone
-pub record ListsBounded (net : Net) (bound : ℕ) (list : List ℕ) : Type 0 where
-  pub waits : All (λ number. IsTrue (is_some (wait_at net number))) list
-  pub has : (number : ℕ) (wait : Wait) → number < bound → wait_at net number ≡ Some wait → Contains list number ⊎ IsUnbound wait.choose

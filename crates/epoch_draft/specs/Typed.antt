@@ -17,12 +17,13 @@ pub record IsStoreOf (wait : Wait) (kinds : List Kind) (store : Store) : Type 0 
   pub key : key_of store ≡ first_key wait.choose
   pub instances : All (λ instance. HasKinds kinds instance.tuple) (instances_of store)
 
--- over streams of these kinds the network is typed, and each waiting state has its store
+-- over streams of these kinds the network is typed, each waiting state has its store, and no other state has one
 pub record IsTyped (net : Net) (kinds : List (List Kind)) (stores : List (Option Store)) : Type 0 where
   pub kinding : Kinding
   pub states : StatesFit kinds net kinding
   pub as_many : length stores ≡ length net
   pub has_stores : (number : ℕ) (wait : Wait) → wait_at net number ≡ Some wait → (store : Store) × (slice_index_or stores number None ≡ Some store) × IsStoreOf wait (kinding.waiting number) store
+  pub others : (number : ℕ) → wait_at net number ≡ None → slice_index_or stores number None ≡ None
 
 -- the tuples of each stream have its kinds
 abbrev pub HaveKinds : List (List Kind) → Streams → Type 0

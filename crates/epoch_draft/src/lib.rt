@@ -17,7 +17,6 @@
 #![tactic(auto)]
 
 mod agenda;
-mod bounds;
 mod draft;
 mod drawing;
 mod filling;
@@ -36,7 +35,6 @@ mod stores;
 mod watching;
 
 pub use agenda::places_of;
-pub use bounds::bounded_states;
 pub use draft::{Draft, Lists, Pair, Pairs};
 pub use drawing::Drawing;
 pub use filling::{clear_lists, empty_lists, filled};
@@ -47,4 +45,3 @@ pub use purging::purge_all;
 pub use readying::make_room;
 pub use settling::{Course, settle};
 pub use stores::{Stores, empty_stores, stored};
-pub use watching::{lower, purge_due};

@@ -5,11 +5,13 @@ ghost use Rattle.automaton.specs.States.{wait_at};
 ghost use Rattle.epoch_draft.specs.Held.{instances_in, shape_of};
 ghost use Rattle.epoch_draft.specs.Led.{StaysReady};
 ghost use Rattle.epoch_draft.specs.Purging.{AreAllPurged, ArePurgedIn, AreUsedIn, IsPurgedAt, alive_in};
+ghost use Rattle.epoch_draft.specs.Watching.{IsWatched};
 
 use crate::draft::Pair;
 use crate::stores::Stores;
 use automaton::Network;
 use binding_index::Store;
+use deadlines::NEVER;
 use instances::Waiting;
 
 /// Takes out of the store of each waiting state the instances that no event after this time can match, as
@@ -34,16 +36,6 @@ fn purge_at(network: &Network, number: usize, stores: &mut Stores, time: u64)
     }
 }
 
-/// The same of the stores with these numbers alone. Takes no memory.
-pub(crate) fn purge_listed(stores: &mut Stores, numbers: &[usize], time: u64)
-    requires { All (λ number. number < length stores.old) numbers.now }
-    ensures { ArePurgedIn numbers.now (time + 1) stores.old stores.new }
-{
-    for number in numbers {
-        purge(stores.get_mut(*number), time);
-    }
-}
-
 /// The same of the stores of the states that these pairs name. Takes no memory.
 pub(crate) fn purge_paired(stores: &mut Stores, pairs: &[Pair], time: u64)
     requires { All (λ pair. pair.state < length stores.old) pairs.now }
@@ -62,14 +54,18 @@ fn is_waiting(network: &Network, number: usize) -> bool
     network.used(number) && network.wait(number).is_some()
 }
 
-// Purges the store of a state, if it has one.
-fn purge(slot: &mut Option<Store>, time: u64)
+// Purges the store of a state, if it has one; gives a deadline of what is left, which is later than the next
+// time.
+pub(crate) fn purge(slot: &mut Option<Store>, time: u64) -> u128
     ensures purged { instances_in slot.new ≡ alive_in (time + 1) slot.old }
     ensures used { AreUsedIn slot.new }
     ensures stays { StaysReady slot.old slot.new }
     ensures shape { shape_of slot.new ≡ shape_of slot.old }
+    ensures watched { IsWatched result slot.new }
+    ensures later { time + 1 < result }
 {
-    if let Some(store) = slot {
-        store.purge(time);
+    match slot {
+        Some(store) => store.purge(time),
+        None => NEVER,
     }
 }

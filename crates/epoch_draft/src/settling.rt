@@ -17,63 +17,68 @@ ghost use Rattle.epoch_draft.specs.Drafts.{DraftFits};
 ghost use Rattle.epoch_draft.specs.EpochWork.{pairs_work};
 ghost use Rattle.epoch_draft.specs.Held.{held, instances_in, key_in, shape_of};
 ghost use Rattle.epoch_draft.specs.Led.{StayReady};
-ghost use Rattle.epoch_draft.specs.Purging.{AreUsedIn, ListsBounded};
+ghost use Rattle.epoch_draft.specs.Purging.{AreUsedIn};
 ghost use Rattle.epoch_draft.specs.Readying.{HasRoom, HaveRoom, HaveRoomIn};
 ghost use Rattle.epoch_draft.specs.Stores.{HasStores};
 ghost use Rattle.epoch_draft.specs.Settling.{AreClosed, AreLinked, AreSettled, AreTaken, IsTakenAt, PairSuits, tuples_in};
 ghost use Rattle.epoch_draft.specs.Takes.{takes_work};
+ghost use Rattle.epoch_draft.specs.Watching.{Watches};
 
 use crate::draft::{Beads, Lists, Pair};
 use crate::drawing::Drawing;
-use crate::purging::{purge_listed, purge_paired};
+use crate::purging::purge_paired;
 use crate::stores::Stores;
+use crate::watching::{lower_at, purge_due};
 use automaton::{Layout, Network};
 use binding_index::Store;
+use deadlines::Deadlines;
 use event_types::{StreamId, Tuple, Tuples};
 use inst_chain::Chain;
 use instances::{Instance, Waiting};
 use scalar_expr::Conj;
 use steps::{Ledger, Steps};
 
-/// What the second half of a closing goes by: a network and its layout, and the numbers of the waiting states
-/// whose conditions have bounds on DUR.
+/// What the second half of a closing goes by: a network and its layout, and the time of the epoch.
 #[derive(Drop)]
 pub struct Course<'a> {
     pub network: &'a Network,
     pub layout: &'a Layout,
-    pub bounded: &'a [usize],
+    pub time: u64,
 }
 
-/// Takes the stores over an epoch of this time that was drawn: what its tuples match is taken out, the new
-/// instances come in, and what no event after that time can match is taken out. Where a tuple was listed, the
-/// keys that no instance has any more are forgotten. Takes no memory.
+/// Takes the stores over an epoch that was drawn: what its tuples match is taken out, the new instances come
+/// in, and what no event after its time can match is taken out, for which those stores alone are looked at whose
+/// deadlines passed. Where a tuple was listed, the keys that no instance has any more are forgotten. Takes no
+/// memory.
 pub fn settle<L: Ledger>(
     course: &Course<'_>,
+    deadlines: &mut Deadlines,
     stores: &mut Stores,
     opened: &Lists,
     drawing: &mut Drawing,
-    time: u64,
     steps: &mut Steps<L>,
 )
     requires can_draw { CanDraw course.now.network.now course.now.layout.now stores.old opened.now }
     requires drawn { DrawnUpTo course.now.network.now course.now.layout.now stores.old opened.now course.now.layout.now.order drawing.old.draft drawing.old.pairs }
     requires room { HaveRoom stores.old drawing.old.draft.beads }
-    requires bounded { ListsBounded course.now.network.now (length course.now.network.now) course.now.bounded.now }
-    ensures closed { AreClosed (time + 1) course.now.network.now (news_of opened.now drawing.old.draft.made course.now.layout.now.order) stores.old stores.new }
+    requires watches { Watches deadlines.old stores.old }
+    ensures closed { AreClosed (course.now.time + 1) course.now.network.now (news_of opened.now drawing.old.draft.made course.now.layout.now.order) stores.old stores.new }
+    ensures watches { Watches deadlines.new stores.new }
     ensures used { All (λ pair. AreUsedIn (slice_index_or stores.new pair.state None)) drawing.old.pairs }
     ensures stay { StayReady stores.old stores.new }
     ensures made { drawing.new.draft.made ≡ drawing.old.draft.made }
     ensures fits { DraftFits (length course.now.layout.now.kinds) (length course.now.network.now) drawing.new.draft }
     ensures ticks { steps.new ≤ steps.old + pairs_work course.now.network.now course.now.layout.now.order stores.old opened.now drawing.old.draft.made drawing.old.pairs }
 {
-    step(course, stores, opened, drawing, steps);
-    purge_listed(stores, course.bounded, time);
-    purge_paired(stores, drawing.pairs.as_slice(), time);
+    step(course, deadlines, stores, opened, drawing, steps);
+    purge_due(stores, deadlines, course.time);
+    purge_paired(stores, drawing.pairs.as_slice(), course.time);
 }
 
 // The same without the purge.
 fn step<L: Ledger>(
     course: &Course<'_>,
+    deadlines: &mut Deadlines,
     stores: &mut Stores,
     opened: &Lists,
     drawing: &mut Drawing,
@@ -82,7 +87,9 @@ fn step<L: Ledger>(
     requires can_draw { CanDraw course.now.network.now course.now.layout.now stores.old opened.now }
     requires drawn { DrawnUpTo course.now.network.now course.now.layout.now stores.old opened.now course.now.layout.now.order drawing.old.draft drawing.old.pairs }
     requires room { HaveRoom stores.old drawing.old.draft.beads }
+    requires watches { Watches deadlines.old stores.old }
     ensures settled { AreSettled course.now.network.now (news_of opened.now drawing.old.draft.made course.now.layout.now.order) stores.old stores.new }
+    ensures watches { Watches deadlines.new stores.new }
     ensures stay { StayReady stores.old stores.new }
     ensures made { drawing.new.draft.made ≡ drawing.old.draft.made }
     ensures pairs { drawing.new.pairs ≡ drawing.old.pairs }
@@ -98,7 +105,13 @@ fn step<L: Ledger>(
         steps,
     );
     let draft = &mut drawing.draft;
-    link_all(stores, &mut draft.beads, draft.reached.numbers.as_slice());
+    link_all(
+        course.network,
+        deadlines,
+        stores,
+        &mut draft.beads,
+        draft.reached.numbers.as_slice(),
+    );
 }
 
 // Takes out the instances that the tuples of these pairs match.
@@ -171,17 +184,27 @@ fn take_in<L: Ledger>(slot: &mut Option<Store>, choose: &Conj, tuple: &Tuple, st
     }
 }
 
-// Puts the beads of these states into their stores.
-fn link_all(stores: &mut Stores, beads: &mut Beads, numbers: &[usize])
-    requires stores { All (λ number. number < length stores.old) numbers.now }
+// Puts the beads of these states into their stores, and lowers the deadlines for them.
+fn link_all(
+    network: &Network,
+    deadlines: &mut Deadlines,
+    stores: &mut Stores,
+    beads: &mut Beads,
+    numbers: &[usize],
+)
+    requires stores { HasStores network.now stores.old }
+    requires watches { Watches deadlines.old stores.old }
+    requires numbers { All (λ number. number < length stores.old) numbers.now }
     requires beads { All (λ number. number < length beads.old) numbers.now }
     requires room { HaveRoom stores.old beads.old }
     requires once { (place : ℕ) → place < length numbers.now → Contains (take place numbers.now) (slice_index_or numbers.now place 0) → ⊥ }
     ensures linked { AreLinked numbers.now beads.old stores.old stores.new }
+    ensures watches { Watches deadlines.new stores.new }
     ensures as_many { length beads.new ≡ length beads.old }
     ensures others { (number : ℕ) → (Contains numbers.now number → ⊥) → slice_index_or beads.new number [] ≡ slice_index_or beads.old number [] }
 {
     for number in numbers {
+        lower_at(network, deadlines, *number, beads.get(*number));
         link_in(stores.get_mut(*number), beads.get_mut(*number));
     }
 }

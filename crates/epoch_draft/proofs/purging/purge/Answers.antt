@@ -1,8 +1,10 @@
-use Rattle.std.proofs.Common.{sym, subst, ◌+◌}
-use Rattle.std.specs.Prelude.{Option, Some}
+use Rattle.std.proofs.Common.{◌∙◌, sym, ap, subst, ◌+◌}
+use Rattle.std.specs.Prelude.{List, Option, Some}
+use Rattle.semantics.specs.Scalars.{Pr}
+use Rattle.instances.specs.Bounds.{alive_instances}
 use Rattle.binding_index.specs.declared.store.Store.{Store}
 use Rattle.epoch_draft.specs.Led.{StaysReady}
-use Rattle.epoch_draft.proofs.StayLemmas.{purge_stays, stays_same}
+use Rattle.epoch_draft.proofs.StayLemmas.{purge_stays}
 use Rattle.binding_index.specs.Stores.{instances_of, key_of, ready_of}
 use Rattle.epoch_draft.proofs.PurgeLemmas.{kept_used}
 use Rattle.epoch_draft.proofs.purging.purge.Goals as goal
@@ -15,5 +17,6 @@ pub returns-in-Some-clause-stays : goal.returns-in-Some-clause-stays
 returns-in-Some-clause-stays c =
     subst (λ (o : Option Store). StaysReady o (Some c.purge.new.self)) (sym c.in-Some.is) (purge_stays c.in-Some.store c.purge.new.self (c.args.time + 1) c.purge.ensures.alive c.purge.ensures.ready c.purge.ensures.same_key)
 
-pub returns-in_default-clause-stays : goal.returns-in_default-clause-stays
-returns-in_default-clause-stays c = stays_same c.args.slot.now
+-- they are alive until the store's deadline
+pub returns-in-Some-clause-watched : goal.returns-in-Some-clause-watched
+returns-in-Some-clause-watched c time early = ap (λ (ps : List Pr). alive_instances time ps (instances_of c.purge.new.self)) c.purge.ensures.same_condition ∙ c.purge.ensures.until time early

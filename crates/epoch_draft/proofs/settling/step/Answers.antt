@@ -9,8 +9,9 @@ use Rattle.epoch_draft.proofs.MarkLemmas.{all_below}
 use Rattle.epoch_draft.proofs.ReadyLemmas.{room_same}
 use Rattle.epoch_draft.proofs.SettleLemmas.{pairs_suit, settled, takes_same}
 use Rattle.epoch_draft.proofs.StayLemmas.{linked_stay, stay_trans, taken_stay}
-use Rattle.epoch_draft.proofs.StoreLemmas.{typed_has}
+use Rattle.epoch_draft.proofs.StoreLemmas.{same_has, typed_has}
 use Rattle.epoch_draft.proofs.DraftLemmas.{linked_fits}
+use Rattle.epoch_draft.proofs.WatchLemmas.{watches_taken}
 use Rattle.epoch_draft.proofs.settling.step.Goals as goal
 
 pub take_all-requires-clause-stores : goal.take_all-requires-clause-stores
@@ -25,6 +26,15 @@ take_all-requires-clause-pairs g c =
 
 pub link_all-requires-clause-stores : goal.link_all-requires-clause-stores
 link_all-requires-clause-stores g c =
+    let net = c.args.course.now.network.now in same_has net c.args.stores.now c.take_all.new.stores c.take_all.ensures.taken.same (typed_has net c.args.course.now.layout.now.kinds c.args.stores.now c.requires.can_draw.typed)
+
+-- what is taken out is watched no more, and the rest as before
+pub link_all-requires-clause-watches : goal.link_all-requires-clause-watches
+link_all-requires-clause-watches g c =
+    watches_taken c.args.course.now.network.now (tuples_in c.args.opened.now c.args.drawing.now.draft.made) c.as_slice.result.now c.args.deadlines.now c.args.stores.now c.take_all.new.stores c.take_all.ensures.taken c.requires.watches
+
+pub link_all-requires-clause-numbers : goal.link_all-requires-clause-numbers
+link_all-requires-clause-numbers g c =
     let fits = c.requires.drawn.fits in
     subst (λ (m : ℕ). All (λ n. n < m) c.as_slice-2.result.now) (fits.reached_below ∙ sym c.requires.can_draw.typed.as_many ∙ sym c.take_all.ensures.taken.same.as_many)
     (all_below c.args.drawing.now.draft.reached fits.reached c.as_slice-2.result.now c.as_slice-2.ensures)

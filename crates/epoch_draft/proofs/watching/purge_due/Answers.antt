@@ -1,4 +1,4 @@
-use Rattle.std.proofs.Common.{◌+◌, ◌∙◌, sym, ap, subst, arith}
+use Rattle.std.proofs.Common.{◌+◌, ◌∙◌, sym, ap, subst}
 use Rattle.std.specs.Prelude.{None, Option}
 use Rattle.std.proofs.lemmas.Option.{get_or_from_slice_get}
 use Rattle.binding_index.specs.declared.store.Store.{Store}
@@ -15,13 +15,13 @@ loop-number-init c = some_none (c.args.time + 1) c.args.deadlines.now c.args.sto
 pub loop-number-preserved : goal.loop-number-preserved
 loop-number-preserved c =
     let slot = sym (get_or_from_slice_get c.loop-number.stores c.in-Some.number c.get_mut.result.now None c.get_mut.ensures.value) in
-    rw c.set.ensures (some_more (c.args.time + 1) c.in-Some.number c.purge_slot-deadline.result c.loop-number.deadlines c.args.stores.now c.loop-number.stores c.purge_slot-deadline.new.slot c.in-Some.ensures.within
-    (c.purge_slot-deadline.ensures.purged ∙ ap (alive_in (c.args.time + 1)) slot) (c.purge_slot-deadline.ensures.shape ∙ ap shape_of slot) c.purge_slot-deadline.ensures.watched
-    (subst (λ (o : Option Store). StaysReady o c.purge_slot-deadline.new.slot) slot c.purge_slot-deadline.ensures.stays) c.loop-number.invariant)
+    rw c.set.ensures (some_more (c.args.time + 1) c.in-Some.number c.purge-deadline.result c.loop-number.deadlines c.args.stores.now c.loop-number.stores c.purge-deadline.new.slot c.in-Some.ensures.within
+    (c.purge-deadline.ensures.purged ∙ ap (alive_in (c.args.time + 1)) slot) (c.purge-deadline.ensures.shape ∙ ap shape_of slot) c.purge-deadline.ensures.watched
+    (subst (λ (o : Option Store). StaysReady o c.purge-deadline.new.slot) slot c.purge-deadline.ensures.stays) c.loop-number.invariant)
 
 -- its deadline is put off
 pub loop-number-smaller : goal.loop-number-smaller
-loop-number-smaller c = rw c.set.ensures (fewer (c.args.time + 1) c.in-Some.number c.purge_slot-deadline.result c.loop-number.deadlines c.in-Some.ensures.within c.in-Some.ensures.found c.purge_slot-deadline.ensures.later)
+loop-number-smaller c = rw c.set.ensures (fewer (c.args.time + 1) c.in-Some.number c.purge-deadline.result c.loop-number.deadlines c.in-Some.ensures.within c.in-Some.ensures.found c.purge-deadline.ensures.later)
 
 -- no deadline has passed
 pub returns-clause-purged : goal.returns-clause-purged
