@@ -158,6 +158,7 @@ made_running plan stores epoch fits network is has as_many none touched =
           states = typed.1;
           as_many = has.has.as_many;
           has_stores = λ n w at. new_typed w (typed.0.waiting n) (get_or stores n None) (has.has.shapes n w at) (has.empty n);
+          others = has.has.others;
         };
         kinds = none_have plan.layout.kinds epoch.tuples none;
         as_many = as_many;

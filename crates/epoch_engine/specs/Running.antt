@@ -3,7 +3,6 @@ use Rattle.std.specs.Prelude.{◌≡◌, ℕ, ◌⊎◌, IfSome, IsTrue, List, [
 use Rattle.std.specs.List.{All}
 use Rattle.event_types.specs.Tuple.{TupleView}
 use Rattle.binding_index.specs.declared.store.Store.{Store}
-use Rattle.stream_readers.specs.KeyTables.{KeyTable}
 use Rattle.automaton.specs.Work.{is_in}
 use Rattle.epoch_draft.specs.Agenda.{ArePlaces}
 use Rattle.epoch_draft.specs.Deriving.{AreReadersOfAll, CanDraw}
@@ -11,19 +10,19 @@ use Rattle.epoch_draft.specs.Drafts.{DraftFits}
 use Rattle.epoch_draft.specs.Drawings.{IsStill}
 use Rattle.epoch_draft.specs.Led.{AreLed}
 use Rattle.epoch_draft.specs.Marks.{AreMarks}
-use Rattle.epoch_draft.specs.Purging.{ListsBounded}
+use Rattle.epoch_draft.specs.Watching.{Watches}
 use Rattle.epoch_draft.specs.declared.drawing.Drawing.{Drawing}
 use Rattle.epoch_draft.specs.declared.marks.Marks.{Marks}
 use Rattle.epoch_engine.specs.Batches.{HasPlaces}
 use Rattle.epoch_engine.specs.declared.epoch.Epoch.{Epoch}
+use Rattle.epoch_engine.specs.declared.holdings.Holdings.{Holdings}
 use Rattle.epoch_engine.specs.declared.plan.Plan.{Plan}
 
--- the readers are the network's, each stream has its place in the order of work, at least the waiting states whose conditions have bounds that may expire are listed,
--- all printed streams are derived, and each stream with kinds has at least the places at which it is printed, and one that is taken as the last of them
+-- the readers are the network's, each stream has its place in the order of work, all printed streams are derived,
+-- and each stream with kinds has at least the places at which it is printed, and one that is taken as the last of them
 pub record IsPlan (plan : Plan) : Type 0 where
   pub readers : AreReadersOfAll plan.merged plan.layout plan.readers
   pub places : ArePlaces plan.layout.order (length plan.layout.kinds) plan.places
-  pub bounded : ListsBounded plan.merged (length plan.merged) plan.bounded
   pub printed : All (λ stream. IsTrue (is_in plan.layout.order stream)) plan.layout.outs
   pub places_printed : HasPlaces plan.layout.outs (length plan.layout.kinds) plan.out_places
   pub last : length plan.last ≡ length plan.layout.kinds
@@ -48,8 +47,9 @@ IsStillFor plan drawing = IsStill (length plan.layout.kinds) (length plan.merged
 abbrev pub FitsPlan : Plan → Drawing → Type 0
 FitsPlan plan drawing = DraftFits (length plan.layout.kinds) (length plan.merged) drawing.draft
 
--- the parts of an engine: they fit one another, keys lead to the states where they are ready, and a drawing that is kept is still
-pub record IsEngine (plan : Plan) (keys : KeyTable) (stores : List (Option Store)) (epoch : Epoch) (kept : Option Drawing) : Type 0 where
-  pub running : IsRunning plan stores epoch
-  pub led : AreLed plan.merged keys stores
+-- the parts of an engine: they fit one another, keys lead to the states where they are ready, no instance expires before its state's deadline, and a drawing that is kept is still
+pub record IsEngine (plan : Plan) (holdings : Holdings) (epoch : Epoch) (kept : Option Drawing) : Type 0 where
+  pub running : IsRunning plan holdings.stores epoch
+  pub led : AreLed plan.merged holdings.keys holdings.stores
+  pub watches : Watches holdings.deadlines holdings.stores
   pub still : IfSome kept (IsStillFor plan)

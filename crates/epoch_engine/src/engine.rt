@@ -18,22 +18,21 @@ use crate::batch::Batch;
 use crate::closing::take_epoch;
 use crate::epoch::Epoch;
 use crate::fault::OfferFault;
+use crate::holdings::Holdings;
 use crate::plan::Plan;
 use automaton::{Layout, Network};
-use epoch_draft::{Drawing, Stores, empty_stores, purge_all, stored};
+use epoch_draft::{Drawing, purge_all, stored};
 use event_types::{Memory, StreamId, Tuple};
 use prefix_merge::Merged;
 use std::alloc::Global;
 use std::marker::Model;
 use steps::{Ledger, Steps};
-use stream_readers::KeyReaders;
 
 /// The bindings that wait at the states of a network, and the tuples of the open epoch.
 #[derive(Drop)]
 pub struct Engine {
     plan: Plan,
-    keys: KeyReaders,
-    stores: Stores,
+    holdings: Holdings,
     epoch: Epoch,
     // None after a closing was refused.
     drawing: Option<Drawing>,
@@ -53,9 +52,9 @@ impl Model for Engine {
     ghost use Rattle.epoch_draft.specs.Held.{instances_in};
     ghost use Rattle.epoch_engine.specs.Running.{IsEngine};
 
-    ghost view = { λ e. record { network = e.plan.merged; layout = e.plan.layout; stores = map instances_in e.stores; opened = e.epoch.tuples; time = e.epoch.time; closed_time = e.closed_time } };
+    ghost view = { λ e. record { network = e.plan.merged; layout = e.plan.layout; stores = map instances_in e.holdings.stores; opened = e.epoch.tuples; time = e.epoch.time; closed_time = e.closed_time } };
 
-    ghost invariant = { λ e. IsEngine e.plan e.keys e.stores e.epoch e.drawing };
+    ghost invariant = { λ e. IsEngine e.plan e.holdings e.epoch e.drawing };
 }
 
 impl Engine {
@@ -66,14 +65,12 @@ impl Engine {
         ensures { IfOk result (λ engine. IsNew merged layout engine) }
     {
         let plan = Plan::make(alloc, merged, layout)?;
-        let stores = empty_stores(alloc, plan.merged.network())?;
-        let keys = KeyReaders::new(alloc);
+        let holdings = Holdings::make(alloc, plan.merged.network())?;
         let epoch = Epoch::make(alloc, plan.layout.kinds.len())?;
         let drawing = drawing_for(alloc, &plan)?;
         Ok(Engine {
             plan,
-            keys,
-            stores,
+            holdings,
             epoch,
             drawing: Some(drawing),
             closed_time: None,
@@ -106,7 +103,7 @@ impl Engine {
     pub fn live(&self) -> u64
         ensures { result ≡ min (stored_in self.now) (2 ^ 64 - 1) }
     {
-        stored(&self.stores)
+        stored(&self.holdings.stores)
     }
 
     /// Takes out each instance that no event after the last closed epoch can match, as far as the bounds on
@@ -115,7 +112,7 @@ impl Engine {
         ensures { Trims self.old self.new }
     {
         if let Some(time) = self.closed_time {
-            purge_all(self.plan.merged.network(), &mut self.stores, time);
+            purge_all(self.plan.merged.network(), &mut self.holdings.stores, time);
         }
     }
 
@@ -156,8 +153,7 @@ impl Engine {
         };
         let batch = take_epoch(
             &self.plan,
-            &mut self.keys,
-            &mut self.stores,
+            &mut self.holdings,
             &self.epoch,
             &mut drawing,
             steps,

@@ -10,6 +10,7 @@ mod closing;
 mod engine;
 mod epoch;
 mod fault;
+mod holdings;
 mod laws;
 mod plan;
 

@@ -6,22 +6,20 @@ ghost use Rattle.epoch_engine.specs.Batches.{HasPlaces};
 ghost use Rattle.epoch_engine.specs.Running.{IsPlan};
 
 use automaton::Layout;
-use epoch_draft::{bounded_states, empty_lists, filled, places_of};
+use epoch_draft::{empty_lists, filled, places_of};
 use event_types::{List, Memory, Numbers};
 use prefix_merge::Merged;
 use std::alloc::Global;
 use stream_readers::Readers;
 
-/// A merged network and its layout, what reads each stream and its place in the order of work, the numbers of the
-/// waiting states whose conditions have bounds on DUR, and for each stream the places at which it is printed and
-/// the last of them. Places are counted from 0. No closing changes it.
+/// A merged network and its layout, what reads each stream and its place in the order of work, and for each stream
+/// the places at which it is printed and the last of them. Places are counted from 0. No closing changes it.
 #[derive(Drop)]
 pub struct Plan {
     pub merged: Merged,
     pub layout: Layout,
     pub readers: Readers,
     pub places: Numbers,
-    pub bounded: Numbers,
     pub out_places: List<Numbers>,
     pub last: Numbers,
 }
@@ -36,7 +34,6 @@ impl Plan {
     {
         let readers = Readers::make(alloc, merged.network(), layout.kinds.len())?;
         let places = places_of(alloc, layout.order.as_slice(), layout.kinds.len())?;
-        let bounded = bounded_states(alloc, merged.network())?;
         let out_places = printed_places(alloc, &layout.outs, layout.kinds.len())?;
         let last = last_places(alloc, &layout.outs, layout.kinds.len())?;
         Ok(Plan {
@@ -44,7 +41,6 @@ impl Plan {
             layout,
             readers,
             places,
-            bounded,
             out_places,
             last,
         })

@@ -14,6 +14,7 @@ use Rattle.epoch_draft.specs.Held.{held}
 use Rattle.epoch_draft.specs.Led.{AreLed}
 use Rattle.epoch_draft.specs.Stores.{HasStores}
 use Rattle.epoch_draft.specs.Takes.{takes_work}
+use Rattle.epoch_draft.proofs.WatchLemmas.{watches_same}
 use Rattle.epoch_engine.specs.Batches.{HasPlaces}
 use Rattle.epoch_engine.proofs.EngineLemmas.{opened_streams, outs_inside}
 use Rattle.epoch_engine.proofs.closing.draw_epoch.Goals as goal
@@ -28,7 +29,7 @@ draw-requires-clause-can_read g c =
     record {
       readers = subst (λ (net : Net). AreReadersOfAll net plan.layout plan.readers) (sym c.network.ensures.value) is.readers;
       places = subst (λ (places : List ℕ). ArePlaces plan.layout.order (length plan.layout.kinds) places) (sym c.as_slice.ensures) is.places;
-      led = subst (λ (net : Net). AreLed net c.args.keys.now c.args.stores.now) (sym c.network.ensures.value) c.requires.led;
+      led = subst (λ (net : Net). AreLed net c.args.holdings.now.keys c.args.holdings.now.stores) (sym c.network.ensures.value) c.requires.led;
     }
 
 pub prepare-requires-clause-outs : goal.prepare-requires-clause-outs
@@ -56,7 +57,7 @@ pub make_room-requires-clause-fits : goal.make_room-requires-clause-fits
 make_room-requires-clause-fits g c =
     let fits = c.in_ok-draw.ensures.drawn.fits in
     let draft = c.draw.new.drawing.draft in
-    let stores : ℕ = length c.args.stores.now in
+    let stores : ℕ = length c.args.holdings.now.stores in
     subst (λ (m : ℕ). DraftFits m stores draft) (sym fits.made) (subst (λ (m : ℕ). DraftFits (length c.args.plan.now.layout.kinds) m draft) (ap length c.network.ensures.value ∙ sym c.requires.running.can_draw.typed.as_many) fits)
 
 pub returns-clause-drawn : goal.returns-clause-drawn
@@ -65,11 +66,11 @@ returns-clause-drawn g c =
     let opened = c.args.epoch.now.tuples in
     let draft = c.draw.new.drawing.draft in
     let pairs = c.draw.new.drawing.pairs in
-    drawn_same plan.merged plan.layout c.args.stores.now c.make_room.new.stores opened plan.layout.order draft pairs c.make_room.ensures.same
-    (subst (λ (net : Net). DrawnUpTo net plan.layout c.args.stores.now opened plan.layout.order draft pairs) c.network.ensures.value c.in_ok-draw.ensures.drawn)
+    drawn_same plan.merged plan.layout c.args.holdings.now.stores c.make_room.new.stores opened plan.layout.order draft pairs c.make_room.ensures.same
+    (subst (λ (net : Net). DrawnUpTo net plan.layout c.args.holdings.now.stores opened plan.layout.order draft pairs) c.network.ensures.value c.in_ok-draw.ensures.drawn)
 
 pub returns-in_err-draw-clause-same : goal.returns-in_err-draw-clause-same
-returns-in_err-draw-clause-same g c = stored_same c.args.stores.now
+returns-in_err-draw-clause-same g c = stored_same c.args.holdings.now.stores
 
 -- what the pairs take out
 pub returns-clause-takes : goal.returns-clause-takes
@@ -79,32 +80,39 @@ returns-clause-takes g c =
     let draft = c.draw.new.drawing.draft in
     let pairs = c.draw.new.drawing.pairs in
     let order = plan.layout.order in
-    subst (λ (st : Stores). takes_work plan.merged (news_of opened draft.made order) st pairs ≤ taking_work plan.merged plan.layout st (streams_of opened)) (held_same c.args.stores.now c.make_room.new.stores c.make_room.ensures.same)
-    (subst (λ (net : Net). pairs_work net order c.args.stores.now opened draft.made pairs ≤ taking_work net plan.layout (held c.args.stores.now) (streams_of opened)) c.network.ensures.value c.in_ok-draw.ensures.takes)
+    subst (λ (st : Stores). takes_work plan.merged (news_of opened draft.made order) st pairs ≤ taking_work plan.merged plan.layout st (streams_of opened)) (held_same c.args.holdings.now.stores c.make_room.new.stores c.make_room.ensures.same)
+    (subst (λ (net : Net). pairs_work net order c.args.holdings.now.stores opened draft.made pairs ≤ taking_work net plan.layout (held c.args.holdings.now.stores) (streams_of opened)) c.network.ensures.value c.in_ok-draw.ensures.takes)
 
 -- all tests are those of the drawing
 pub returns-in_err-draw-clause-ticks : goal.returns-in_err-draw-clause-ticks
 returns-in_err-draw-clause-ticks g c =
     let plan = c.args.plan.now in
-    subst (λ (net : Net). c.draw.new.steps ≤ c.args.steps.now + draw_work net plan.layout (held c.args.stores.now) (streams_of c.args.epoch.now.tuples)) c.network.ensures.value c.draw.ensures.ticks
+    subst (λ (net : Net). c.draw.new.steps ≤ c.args.steps.now + draw_work net plan.layout (held c.args.holdings.now.stores) (streams_of c.args.epoch.now.tuples)) c.network.ensures.value c.draw.ensures.ticks
 
 pub returns-in_err-entries-clause-ticks : goal.returns-in_err-entries-clause-ticks
 returns-in_err-entries-clause-ticks g c =
     let plan = c.args.plan.now in
-    subst (λ (net : Net). c.draw.new.steps ≤ c.args.steps.now + draw_work net plan.layout (held c.args.stores.now) (streams_of c.args.epoch.now.tuples)) c.network.ensures.value c.draw.ensures.ticks
+    subst (λ (net : Net). c.draw.new.steps ≤ c.args.steps.now + draw_work net plan.layout (held c.args.holdings.now.stores) (streams_of c.args.epoch.now.tuples)) c.network.ensures.value c.draw.ensures.ticks
 
 pub returns-in_err-make_room-clause-ticks : goal.returns-in_err-make_room-clause-ticks
 returns-in_err-make_room-clause-ticks g c =
     let plan = c.args.plan.now in
-    subst (λ (net : Net). c.draw.new.steps ≤ c.args.steps.now + draw_work net plan.layout (held c.args.stores.now) (streams_of c.args.epoch.now.tuples)) c.network.ensures.value c.draw.ensures.ticks
+    subst (λ (net : Net). c.draw.new.steps ≤ c.args.steps.now + draw_work net plan.layout (held c.args.holdings.now.stores) (streams_of c.args.epoch.now.tuples)) c.network.ensures.value c.draw.ensures.ticks
 
 pub returns-clause-ticks : goal.returns-clause-ticks
 returns-clause-ticks g c =
     let plan = c.args.plan.now in
-    subst (λ (net : Net). c.draw.new.steps ≤ c.args.steps.now + draw_work net plan.layout (held c.args.stores.now) (streams_of c.args.epoch.now.tuples)) c.network.ensures.value c.draw.ensures.ticks
+    subst (λ (net : Net). c.draw.new.steps ≤ c.args.steps.now + draw_work net plan.layout (held c.args.holdings.now.stores) (streams_of c.args.epoch.now.tuples)) c.network.ensures.value c.draw.ensures.ticks
 
 -- the stores are the network's
 pub make_room-requires-clause-stores : goal.make_room-requires-clause-stores
 make_room-requires-clause-stores g c =
     let plan = c.args.plan.now in
-    subst (λ (net : Net). HasStores net c.args.stores.now) (sym c.network-2.ensures.value) (typed_has plan.merged plan.layout.kinds c.args.stores.now c.requires.running.can_draw.typed)
+    subst (λ (net : Net). HasStores net c.args.holdings.now.stores) (sym c.network-2.ensures.value) (typed_has plan.merged plan.layout.kinds c.args.holdings.now.stores c.requires.running.can_draw.typed)
+
+-- the stores have the same instances
+pub returns-clause-watches : goal.returns-clause-watches
+returns-clause-watches g c = watches_same c.args.holdings.now.deadlines c.args.holdings.now.stores c.make_room.new.stores c.make_room.ensures.same c.requires.watches
+
+pub returns-in_err-make_room-clause-watches : goal.returns-in_err-make_room-clause-watches
+returns-in_err-make_room-clause-watches g c = watches_same c.args.holdings.now.deadlines c.args.holdings.now.stores c.make_room.new.stores c.make_room.ensures.same c.requires.watches

@@ -8,7 +8,7 @@ use Rattle.epoch_engine.proofs.closing.settle_epoch.Goals as goal
 -- keys lead as before where no more are ready
 pub returns-clause-led : goal.returns-clause-led
 returns-clause-led g c =
-    let keys = c.args.keys.now in
+    let keys = c.args.holdings.now.keys in
     let after = c.settle.new.stores in
-    led_stay c.args.plan.now.merged keys c.tidy.new.self c.args.stores.now after c.requires.led c.settle.ensures.stay
-    (subst (λ (slots : List (Option Store)). AreTidied slots keys c.tidy.new.self) c.as_slice-2.ensures c.tidy.ensures)
+    led_stay c.args.plan.now.merged keys c.tidy.new.self c.args.holdings.now.stores after c.requires.led c.settle.ensures.stay
+    (subst (λ (slots : List (Option Store)). AreTidied slots keys c.tidy.new.self) c.as_slice.ensures c.tidy.ensures)

@@ -15,7 +15,7 @@ use Rattle.epoch_engine.proofs.closing.take_epoch.Goals as goal
 -- with room for what comes the engine runs as before
 pub settle_epoch-requires-clause-running : goal.settle_epoch-requires-clause-running
 settle_epoch-requires-clause-running g c =
-    with_same c.args.plan.now c.args.stores.now c.draw_epoch.new.stores c.args.epoch.now c.draw_epoch.ensures.same c.requires.running
+    with_same c.args.plan.now c.args.holdings.now.stores c.draw_epoch.new.holdings.stores c.args.epoch.now c.draw_epoch.ensures.same c.requires.running
 
 -- what was drawn and settled is taken
 pub results-requires-clause-ready : goal.results-requires-clause-ready
@@ -28,12 +28,12 @@ returns-clause-taken g c =
     let plan = c.args.plan.now in
     let epoch = c.args.epoch.now in
     let drawing = c.draw_epoch.new.drawing in
-    let mid = c.draw_epoch.new.stores in
-    let after = c.settle_epoch.new.stores in
+    let mid = c.draw_epoch.new.holdings.stores in
+    let after = c.settle_epoch.new.holdings.stores in
     let batch = c.results.result in
     IfSome_then epoch.time c.settle_epoch.ensures.settled
     (λ time closed.
-    subst (λ (stores : Stores). IsTaken plan.merged plan.layout time stores (streams_of epoch.tuples) (held after) batch) (sym (held_same c.args.stores.now mid c.draw_epoch.ensures.same))
+    subst (λ (stores : Stores). IsTaken plan.merged plan.layout time stores (streams_of epoch.tuples) (held after) batch) (sym (held_same c.args.holdings.now.stores mid c.draw_epoch.ensures.same))
     (taken plan.merged plan.layout time mid after epoch.tuples batch drawing.draft drawing.pairs c.requires.running.plan_is.printed c.in_ok-entries.ensures.drawn closed (subst (λ (made : List (List TupleView)). IsOfMade plan.layout.outs made batch) c.settle_epoch.ensures.made c.results.ensures.batch)))
 
 -- and the stores are typed
@@ -42,9 +42,9 @@ returns-clause-typed g c =
     let plan = c.args.plan.now in
     let epoch = c.args.epoch.now in
     let drawing = c.draw_epoch.new.drawing in
-    let mid = c.draw_epoch.new.stores in
-    typed_after plan.merged plan.layout mid c.settle_epoch.new.stores epoch.tuples drawing.draft drawing.pairs
-    (can_draw_same plan.merged plan.layout c.args.stores.now mid epoch.tuples c.draw_epoch.ensures.same c.requires.running.can_draw) c.in_ok-entries.ensures.drawn epoch.time c.requires.opened c.settle_epoch.ensures.settled
+    let mid = c.draw_epoch.new.holdings.stores in
+    typed_after plan.merged plan.layout mid c.settle_epoch.new.holdings.stores epoch.tuples drawing.draft drawing.pairs
+    (can_draw_same plan.merged plan.layout c.args.holdings.now.stores mid epoch.tuples c.draw_epoch.ensures.same c.requires.running.can_draw) c.in_ok-entries.ensures.drawn epoch.time c.requires.opened c.settle_epoch.ensures.settled
 
 -- want of memory comes in the first half
 pub returns-in_err-entries-clause-ticks : goal.returns-in_err-entries-clause-ticks
@@ -55,7 +55,7 @@ pub returns-clause-ticks : goal.returns-clause-ticks
 returns-clause-ticks g c =
     let plan = c.args.plan.now in
     let same =
-    ap (λ (st : Stores). taking_work plan.merged plan.layout st (streams_of c.args.epoch.now.tuples)) (held_same c.args.stores.now c.draw_epoch.new.stores c.draw_epoch.ensures.same) in
+    ap (λ (st : Stores). taking_work plan.merged plan.layout st (streams_of c.args.epoch.now.tuples)) (held_same c.args.holdings.now.stores c.draw_epoch.new.holdings.stores c.draw_epoch.ensures.same) in
     let one = c.draw_epoch.ensures.ticks in
     let two = c.settle_epoch.ensures.ticks in
     let takes = c.in_ok-entries.ensures.takes in omega (arith, same, one, two, takes)

@@ -17,18 +17,19 @@ use Rattle.epoch_engine.proofs.engine.Engine.close.Goals as goal
 pub returns-clause-closed : goal.returns-clause-closed
 returns-clause-closed g c =
     let e = c.self.inside in
-    let after = c.take_epoch.new.stores in
+    let after = c.take_epoch.new.holdings.stores in
     let epoch = c.close.new.self in
     subst (λ (v : EngineView). Closes v (view_of e.plan after epoch e.epoch.time) c.in_ok-batch.batch) c.self.view_is
-    (closes_view e.plan e.stores after e.epoch epoch e.closed_time c.in_ok-batch.batch c.close.ensures.empty c.close.ensures.as_many c.close.ensures.time e.epoch.time refl
+    (closes_view e.plan e.holdings.stores after e.epoch epoch e.closed_time c.in_ok-batch.batch c.close.ensures.empty c.close.ensures.as_many c.close.ensures.time e.epoch.time refl
     (subst (λ (v : EngineView). IsSome v.time) (sym c.self.view_is) c.requires.opened) c.in_ok-batch.ensures.taken)
 
 -- after want of memory the engine runs on, without a drawing
 pub invariant_of-self-in_err-batch : goal.invariant_of-self-in_err-batch
 invariant_of-self-in_err-batch g c =
     let e = c.self.inside in record {
-      running = with_same e.plan e.stores c.take_epoch.new.stores e.epoch c.in_err-batch.ensures.kept c.self.invariant.running;
+      running = with_same e.plan e.holdings.stores c.take_epoch.new.holdings.stores e.epoch c.in_err-batch.ensures.kept c.self.invariant.running;
       led = c.take_epoch.ensures.led;
+      watches = c.take_epoch.ensures.watches;
       still = subst (λ (kept : Option Drawing). IfSome kept (IsStillFor e.plan)) (sym c.take.ensures.after) tt;
     }
 
@@ -36,33 +37,33 @@ invariant_of-self-in_err-batch g c =
 pub returns-in_err-batch-clause-kept : goal.returns-in_err-batch-clause-kept
 returns-in_err-batch-clause-kept g c =
     let e = c.self.inside in
-    let after = c.take_epoch.new.stores in
-    on_err c.from_residual-in_err-batch.result (view_of e.plan after e.epoch e.closed_time ≡ c.args.self.now) (view_same e.plan e.stores after e.epoch e.closed_time c.in_err-batch.ensures.kept ∙ c.self.view_is)
+    let after = c.take_epoch.new.holdings.stores in
+    on_err c.from_residual-in_err-batch.result (view_of e.plan after e.epoch e.closed_time ≡ c.args.self.now) (view_same e.plan e.holdings.stores after e.epoch e.closed_time c.in_err-batch.ensures.kept ∙ c.self.view_is)
 
 -- no more is tested than the tuples of the epoch ask for
 pub returns-in_err-batch-clause-ticks : goal.returns-in_err-batch-clause-ticks
 returns-in_err-batch-clause-ticks g c =
     let e = c.self.inside in
     subst (λ (v : EngineView). c.take_epoch.new.steps ≤ c.args.steps.now + epoch_work v.network v.layout (stores_in v) (streams_of v.opened)) c.self.view_is
-    (closes_ticks e.plan e.stores e.epoch e.closed_time c.args.steps.now c.take_epoch.new.steps c.take_epoch.ensures.ticks)
+    (closes_ticks e.plan e.holdings.stores e.epoch e.closed_time c.args.steps.now c.take_epoch.new.steps c.take_epoch.ensures.ticks)
 
 pub returns-clause-ticks : goal.returns-clause-ticks
 returns-clause-ticks g c =
     let e = c.self.inside in
     subst (λ (v : EngineView). c.take_epoch.new.steps ≤ c.args.steps.now + epoch_work v.network v.layout (stores_in v) (streams_of v.opened)) c.self.view_is
-    (closes_ticks e.plan e.stores e.epoch e.closed_time c.args.steps.now c.take_epoch.new.steps c.take_epoch.ensures.ticks)
+    (closes_ticks e.plan e.holdings.stores e.epoch e.closed_time c.args.steps.now c.take_epoch.new.steps c.take_epoch.ensures.ticks)
 
 -- whatever the engine stands for, that is no more than the history asks for
 pub returns-in_err-batch-clause-work : goal.returns-in_err-batch-clause-work
 returns-in_err-batch-clause-work g c =
     let e = c.self.inside in
-    rises_by_work c.args.self.now c.args.steps.now c.take_epoch.new.steps (subst IsConsistent c.self.view_is (consistent e.plan e.stores e.epoch e.closed_time c.self.invariant.running))
+    rises_by_work c.args.self.now c.args.steps.now c.take_epoch.new.steps (subst IsConsistent c.self.view_is (consistent e.plan e.holdings.stores e.epoch e.closed_time c.self.invariant.running))
     (subst (λ (v : EngineView). c.take_epoch.new.steps ≤ c.args.steps.now + epoch_work v.network v.layout (stores_in v) (streams_of v.opened)) c.self.view_is
-    (closes_ticks e.plan e.stores e.epoch e.closed_time c.args.steps.now c.take_epoch.new.steps c.take_epoch.ensures.ticks))
+    (closes_ticks e.plan e.holdings.stores e.epoch e.closed_time c.args.steps.now c.take_epoch.new.steps c.take_epoch.ensures.ticks))
 
 pub returns-clause-work : goal.returns-clause-work
 returns-clause-work g c =
     let e = c.self.inside in
-    rises_by_work c.args.self.now c.args.steps.now c.take_epoch.new.steps (subst IsConsistent c.self.view_is (consistent e.plan e.stores e.epoch e.closed_time c.self.invariant.running))
+    rises_by_work c.args.self.now c.args.steps.now c.take_epoch.new.steps (subst IsConsistent c.self.view_is (consistent e.plan e.holdings.stores e.epoch e.closed_time c.self.invariant.running))
     (subst (λ (v : EngineView). c.take_epoch.new.steps ≤ c.args.steps.now + epoch_work v.network v.layout (stores_in v) (streams_of v.opened)) c.self.view_is
-    (closes_ticks e.plan e.stores e.epoch e.closed_time c.args.steps.now c.take_epoch.new.steps c.take_epoch.ensures.ticks))
+    (closes_ticks e.plan e.holdings.stores e.epoch e.closed_time c.args.steps.now c.take_epoch.new.steps c.take_epoch.ensures.ticks))

@@ -23,15 +23,16 @@ invariant_of-self c =
     let e = c.self.inside in
     let known = ap (λ (v : EngineView). slice_get v.layout.kinds c.args.stream) c.self.view_is ∙ c.requires.heard.known in
     let declared = ap (λ (v : EngineView). is_in v.layout.order c.args.stream) c.self.view_is ∙ c.requires.heard.declared in record {
-      running = offered_running e.plan e.stores e.epoch (record c.add.new.self { time = Some c.at-at.result }) c.args.stream c.requires.heard.kinds c.args.tuple c.self.invariant.running known declared c.requires.heard.of_kinds c.in-Ok.ensures.ok c.add.ensures.touched;
+      running = offered_running e.plan e.holdings.stores e.epoch (record c.add.new.self { time = Some c.at-at.result }) c.args.stream c.requires.heard.kinds c.args.tuple c.self.invariant.running known declared c.requires.heard.of_kinds c.in-Ok.ensures.ok c.add.ensures.touched;
       led = c.self.invariant.led;
+      watches = c.self.invariant.watches;
       still = c.self.invariant.still;
     }
 
 -- nothing was changed
 pub invariant_of-self-in-Err : goal.invariant_of-self-in-Err
 invariant_of-self-in-Err c =
-    let e = c.self.inside in record { running = kept_running e.plan e.stores e.epoch c.add.new.self c.self.invariant.running c.in-Err.ensures.kept c.add.ensures.touched; led = c.self.invariant.led; still = c.self.invariant.still }
+    let e = c.self.inside in record { running = kept_running e.plan e.holdings.stores e.epoch c.add.new.self c.self.invariant.running c.in-Err.ensures.kept c.add.ensures.touched; led = c.self.invariant.led; watches = c.self.invariant.watches; still = c.self.invariant.still }
 
 -- the tuple is late
 pub returns-in-Some-clause-answer : goal.returns-in-Some-clause-answer
@@ -53,7 +54,7 @@ returns-in-Ok-clause-answer c = λ seen late.
 pub returns-in-Ok-clause-ok : goal.returns-in-Ok-clause-ok
 returns-in-Ok-clause-ok c =
     let e = c.self.inside in
-    let view : List (List TupleView) → ℕ → EngineView = λ tuples at. record (view_of e.plan e.stores e.epoch e.closed_time) { opened = tuples; time = Some at } in
+    let view : List (List TupleView) → ℕ → EngineView = λ tuples at. record (view_of e.plan e.holdings.stores e.epoch e.closed_time) { opened = tuples; time = Some at } in
     (λ i. view (c.in-Ok.ensures.ok i) (c.at-at.ensures.value i)) ∙ ap (λ (v : EngineView). with_tuple v c.args.stream c.args.tuple) c.self.view_is
 
 pub returns-in-Err-clause-answer : goal.returns-in-Err-clause-answer
@@ -69,5 +70,5 @@ returns-in-Err-clause-answer c = (
 pub returns-in-Err-clause-kept : goal.returns-in-Err-clause-kept
 returns-in-Err-clause-kept c =
     let e = c.self.inside in
-    let view : List (List TupleView) → Option ℕ → EngineView = λ tuples time. record (view_of e.plan e.stores e.epoch e.closed_time) { opened = tuples; time = time } in
+    let view : List (List TupleView) → Option ℕ → EngineView = λ tuples time. record (view_of e.plan e.holdings.stores e.epoch e.closed_time) { opened = tuples; time = time } in
     (λ i. view (c.in-Err.ensures.kept i) (c.add.ensures.time i)) ∙ c.self.view_is

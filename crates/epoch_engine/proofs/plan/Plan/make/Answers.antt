@@ -4,7 +4,6 @@ use Rattle.std.specs.List.{All}
 use Rattle.automaton.specs.States.{Net}
 use Rattle.stream_readers.specs.Readers.{AreReadersOf}
 use Rattle.epoch_draft.specs.Agenda.{ArePlaces}
-use Rattle.epoch_draft.specs.Purging.{ListsBounded}
 use Rattle.epoch_engine.specs.Batches.{HasPlaces}
 use Rattle.epoch_engine.proofs.EngineLemmas.{order_below, order_once, outs_below}
 use Rattle.epoch_engine.proofs.plan.Plan.make.Goals as goal
@@ -27,13 +26,12 @@ pub places_of-requires-clause-once : goal.places_of-requires-clause-once
 places_of-requires-clause-once c =
     subst (λ (order : List ℕ). (place : ℕ) → place < length order → Contains (take place order) (get_or order place 0) → ⊥) (sym c.as_slice.ensures) (order_once c.args.merged c.args.layout c.requires)
 
--- the readers, the bounded states and the last places are those of the plan
+-- the readers and the last places are those of the plan
 pub returns-clause-is : goal.returns-clause-is
 returns-clause-is c =
     record {
       readers = record { are = subst (λ (net : Net). AreReadersOf net c.in_ok-readers.readers) c.network.ensures.value c.in_ok-readers.ensures.made; streams = c.in_ok-readers.ensures.streams ∙ c.len.ensures };
       places = subst (λ (streams : ℕ). ArePlaces c.args.layout.order streams c.in_ok-places.places) c.len-2.ensures (subst (λ (order : List ℕ). ArePlaces order c.len-2.result c.in_ok-places.places) c.as_slice.ensures c.in_ok-places.ensures);
-      bounded = subst (λ (net : Net). ListsBounded net (length net) c.in_ok-bounded.bounded) c.network-2.ensures.value c.in_ok-bounded.ensures;
       printed = search rules;
       places_printed = subst (λ (m : ℕ). HasPlaces c.args.layout.outs m c.in_ok-out_places.out_places) c.len-3.ensures c.in_ok-out_places.ensures;
       last = c.in_ok-last.ensures ∙ c.len-4.ensures;
