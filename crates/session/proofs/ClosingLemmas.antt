@@ -211,7 +211,8 @@ parted_from (event ∷ rest) before now time s low falls =
     parted_more before now time event rest s (All-head (λ other. time ≤ other.tuple.at) event rest low) (All-tail (λ other. time ≤ other.tuple.at) event rest low) falls.0
     (λ b n t stands below. parted_from rest b n t stands below falls.1)
 
-parted : (event : Event) (later : List Event) → NeverFalls (event ∷ later) → Parted (event ∷ later)
+-- each history whose times never fall is so
+pub parted : (event : Event) (later : List Event) → NeverFalls (event ∷ later) → Parted (event ∷ later)
 parted event later falls = parted_from later [] (event ∷ []) event.tuple.at (first_stands event) falls.0 falls.1
 
 -- what is closed of a history and the rows that come after it are what is closed then

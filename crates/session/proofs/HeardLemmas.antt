@@ -22,7 +22,8 @@ module _ (past : List Event) (number : ℕ) (event : Event) (timely : disorder n
       ∙ sym (append_assoc past (event ∷ []) (heard_from (Some event.tuple.at) lines))
       ∙ ap (λ s. (past ++ event ∷ []) ++ heard_from s lines) (sym (last_of past event))
 
-first_none : (o p : Option Refusal) → option_or o p ≡ None → o ≡ None
+-- where neither of two lines is refused, the first isn't
+pub first_none : (o p : Option Refusal) → option_or o p ≡ None → o ≡ None
 first_none None p e = refl
 first_none (Some refusal) p e = cc
 

@@ -11,6 +11,9 @@ pub mod PlanLemmas
 pub mod ReadingLemmas
 pub mod RestLemmas
 pub mod ResultLemmas
+pub mod RunWorkLemmas
 pub mod SessionLemmas
 pub mod StandsLemmas
+pub mod StaysWithinLemmas
+pub mod TestsLemmas
 pub mod WroteFrontLemmas

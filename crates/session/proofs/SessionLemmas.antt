@@ -155,12 +155,15 @@ module _ (session : SessionView) (past : List Event) (text : List ℕ) (stands :
     pub heard_on : heard_after past (readings_in session (text ++ piece) ended) ≡ so_far ++ heard_from session.engine.time later
     heard_on = ap (heard_after past) readings_on ∙ on.heard ∙ ap (λ s. so_far ++ heard_from s later) (sym stands.last_is_open)
 
+    -- the events of its closed epochs are those that are closed of what was heard so far and of the later lines
+    pub closed_longer : closed_after past (readings_in session (text ++ piece) ended) ended ≡ closed_after so_far later ended
+    closed_longer = ap (λ ls. closed_after past ls ended) readings_on ∙ closed_on past before later ended on
+
     -- its report is longer by the rows of the epochs that these close
     pub report_on : report_in session past (text ++ piece) ended ≡ report_in session past text false ++ rows_left (program_in session) ended later session.engine.time so_far
     report_on =
         let program = program_in session in
-        ap (λ ls. report program (closed_after past ls ended)) readings_on
-        ∙ ap (report program) (closed_on past before later ended on)
+        ap (report program) closed_longer
         ∙ sym (rows_left_after program ended later so_far stands.works.engine.stands.never_falls)
         ∙ ap (λ s. report program (before_last so_far) ++ rows_left program ended later s so_far) (sym stands.last_is_open)
 

@@ -5,6 +5,7 @@ ghost use Rattle.session.specs.Feeds.{BlamesWriting};
 ghost use Rattle.session.specs.Heard.{disorder};
 ghost use Rattle.session.specs.EngineStandsWithLastOpen.{HasClosed, IsAtWork, IsReadyForEvent};
 ghost use Rattle.session.specs.ForEachHistory.{EndsAtLast, FailsInClosing, OwesClosing, PutsOpenRows};
+ghost use Rattle.session.specs.TestsLeft.{RisesByClosing, RisesByOpen};
 
 use crate::fault::SessionFault;
 use crate::work::Work;
@@ -25,6 +26,7 @@ fn close_epoch<L: Ledger>(
     requires opened { IsSome work.old.engine.time }
     ensures rows { OnOk result (PutsOpenRows catalogue.now work.old work.new) }
     ensures closed { OnOk result (HasClosed catalogue.now work.old.engine work.new.engine) }
+    ensures tests { RisesByOpen catalogue.now work.old.engine steps.old steps.new }
 {
     let batch = work.engine.close(alloc, steps)?;
     put_batch(catalogue, &batch, &mut work.rows)
@@ -46,6 +48,7 @@ pub fn close_before<H: Host, L: Ledger>(
     ensures fails { IfErr result (FailsInClosing catalogue.now at work.old (H.told host.old) (H.told host.new)) }
     ensures quiet { BlamesWriting result (H.told host.old) (H.told host.new) }
     ensures same { SameButOutput (H.told host.old) (H.told host.new) }
+    ensures tests { RisesByClosing catalogue.now at work.old.engine steps.old steps.new }
 {
     match work.engine.open_time() {
         Some(seen) if seen < at => match close_epoch(alloc, catalogue, work, steps) {
@@ -72,6 +75,7 @@ pub fn close_last<H: Host, L: Ledger>(
     ensures closed { OnOk result (HasClosed catalogue.now work.old.engine work.new.engine) }
     ensures quiet { BlamesWriting result (H.told host.old) (H.told host.new) }
     ensures same { SameButOutput (H.told host.old) (H.told host.new) }
+    ensures tests { RisesByOpen catalogue.now work.old.engine steps.old steps.new }
 {
     if work.engine.open_time().is_some() && close_epoch(alloc, catalogue, work, steps).is_err() {
         return Err(SessionFault::Memory);

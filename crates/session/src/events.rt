@@ -9,6 +9,7 @@ ghost use Rattle.session.specs.Heard.{disorder};
 ghost use Rattle.session.specs.EngineStandsWithLastOpen.{IsAtWork};
 ghost use Rattle.session.specs.ForEachHistory.{StopsAtEvent, TakesEvent};
 ghost use Rattle.session.specs.Owes.{Blames, RefusesBy};
+ghost use Rattle.session.specs.TestsLeft.{RisesByClosing};
 
 use crate::closing::close_before;
 use crate::fault::SessionFault;
@@ -69,6 +70,7 @@ fn close_and_offer<H: Host, L: Ledger>(
     ensures stops { IfErr result (StopsAtEvent catalogue.now number event work.old (H.told host.old) (H.told host.new)) }
     ensures quiet { BlamesWriting result (H.told host.old) (H.told host.new) }
     ensures same { SameButOutput (H.told host.old) (H.told host.new) }
+    ensures tests { RisesByClosing catalogue.now event.tuple.at work.old.engine steps.old steps.new }
 {
     let at = event.tuple.at();
     match close_before(alloc, host, catalogue, work, at, steps) {
@@ -98,6 +100,7 @@ pub fn work_on_event<H: Host, L: Ledger>(
     ensures stops { IfErr result (StopsAtEvent catalogue.now number event work.old (H.told host.old) (H.told host.new)) }
     ensures quiet { BlamesWriting result (H.told host.old) (H.told host.new) }
     ensures same { SameButOutput (H.told host.old) (H.told host.new) }
+    ensures tests { RisesByClosing catalogue.now event.tuple.at work.old.engine steps.old steps.new }
 {
     let at = event.tuple.at();
     match work.engine.open_time() {

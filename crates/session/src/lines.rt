@@ -8,6 +8,7 @@ ghost use Rattle.session.specs.EngineStandsWithLastOpen.{IsAtWork, IsThrough};
 ghost use Rattle.session.specs.HandsOutSomeLines.{HandsOutSomeLines, Progresses};
 ghost use Rattle.session.specs.ForEachHistory.{EndsOver, GoesThrough, HearsLines, HearsRest, StopsOver};
 ghost use Rattle.session.specs.Owes.{Blames};
+ghost use Rattle.session.specs.TestsLeft.{RisesByLines, TestsMoved};
 
 use crate::closing::close_last;
 use crate::events::{refuse, work_on_event};
@@ -40,6 +41,7 @@ pub fn work_on_lines<H: Host, L: Ledger>(
     ensures accepted { IsAccepted catalogue.now }
     ensures quiet { BlamesWriting result (H.told host.old) (H.told host.new) }
     ensures same { SameButOutput (H.told host.old) (H.told host.new) }
+    ensures tests { RisesByLines catalogue.now feed.old false work.old.engine steps.old steps.new }
 {
     match work_through(alloc, host, catalogue, feed, work, steps) {
         Ok(()) => match write_rows(host, &mut work.rows) {
@@ -68,6 +70,7 @@ fn work_through<H: Host, L: Ledger>(
     ensures accepted { IsAccepted catalogue.now }
     ensures quiet { BlamesWriting result (H.told host.old) (H.told host.new) }
     ensures same { SameButOutput (H.told host.old) (H.told host.new) }
+    ensures tests { RisesByLines catalogue.now feed.old false work.old.engine steps.old steps.new }
 {
     'lines: loop {
         match work_on_line(alloc, host, catalogue, feed, work, steps) {
@@ -96,6 +99,8 @@ fn work_on_line<H: Host, L: Ledger>(
     ensures quiet { OnOk result ((H.told host.new).write_faults ≡ (H.told host.old).write_faults) }
     ensures blames { IfErr result (λ fault. Blames fault (H.told host.old) (H.told host.new)) }
     ensures same { SameButOutput (H.told host.old) (H.told host.new) }
+    ensures tests { RisesByLines catalogue.now feed.old false work.old.engine steps.old steps.new }
+    ensures moved { IfOk result (TestsMoved catalogue.now feed.old feed.new work.old.engine work.new.engine steps.old steps.new) }
 {
     match next_reading(alloc, catalogue.streams(), work.near, feed) {
         Err(_) => Err(SessionFault::Memory),
@@ -127,6 +132,7 @@ pub fn work_on_rest<H: Host, L: Ledger>(
     ensures accepted { IsAccepted catalogue.now }
     ensures quiet { BlamesWriting result (H.told host.old) (H.told host.new) }
     ensures same { SameButOutput (H.told host.old) (H.told host.new) }
+    ensures tests { RisesByLines catalogue.now feed.now true work.old.engine steps.old steps.new }
 {
     match last_reading(alloc, catalogue.streams(), work.near, feed) {
         Err(_) => Err(SessionFault::Memory),

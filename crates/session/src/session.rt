@@ -11,6 +11,7 @@ ghost use Rattle.catalogue.specs.Catalogued.{judged_of};
 ghost use Rattle.catalogue.specs.Chained.{kinds_of_each};
 ghost use Rattle.catalogue.specs.Judgement.{program_of};
 ghost use Rattle.session.specs.Feeds.{BlamesWriting, BreaksAtPiece, Feeds, Finishes};
+ghost use Rattle.session.specs.RunWork.{FinishesWithin, FeedsWithin};
 ghost use Rattle.session.specs.SessionView.{CountsWaiting, KeepsQueries, SessionStandsFor, StandsForPast, TrimsEngine, WorksFor, program_in};
 ghost use Rattle.session.specs.EngineStandsWithLastOpen.{IsPlanned, lines_over};
 
@@ -146,6 +147,7 @@ impl Session {
         ensures queries { KeepsQueries self.old self.new }
         ensures quiet { BlamesWriting result (H.told host.old) (H.told host.new) }
         ensures same { SameButOutput (H.told host.old) (H.told host.new) }
+        ensures tests { FeedsWithin self.old piece.now steps.old steps.new }
     {
         self.ended = true;
         let within = front_of(piece, self.limit - self.fed);
@@ -182,6 +184,7 @@ impl Session {
         ensures queries { KeepsQueries self.old self.new }
         ensures quiet { BlamesWriting result (H.told host.old) (H.told host.new) }
         ensures same { SameButOutput (H.told host.old) (H.told host.new) }
+        ensures tests { FinishesWithin self.old steps.old steps.new }
     {
         self.ended = true;
         work_on_rest(

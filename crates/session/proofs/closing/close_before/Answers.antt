@@ -4,6 +4,7 @@ use Rattle.cay_host.specs.Output.{WrotePart}
 use Rattle.session.specs.EngineStandsWithLastOpen.{program_over}
 use Rattle.session.proofs.ClosedLemmas.{closed_rows, owes_closed}
 use Rattle.session.proofs.StandsLemmas.{ready_later, ready_now}
+use Rattle.session.proofs.TestsLemmas.{closing_rises}
 use Rattle.session.proofs.closing.close_before.Goals as goal
 
 -- the rows of the open epoch were put, and written if there were many
@@ -28,3 +29,16 @@ returns-in-Err-write_if_full-clause-fails g c = λ history stands.
 pub returns-in_default-clause-ready : goal.returns-in_default-clause-ready
 returns-in_default-clause-ready g c =
     ready_now c.args.catalogue.now c.args.at c.args.work.now c.requires.at_work c.requires.timely (subst (λ (o : Option ℕ). IsNotAhead o c.args.at) c.in-Some.ensures c.if-seen-at.false)
+
+-- the closing tests no more than the epoch asks for
+pub returns-in-Ok-write_if_full-clause-tests : goal.returns-in-Ok-write_if_full-clause-tests
+returns-in-Ok-write_if_full-clause-tests g c =
+    closing_rises c.args.catalogue.now c.args.work.now.engine c.in-Some.seen c.args.at c.args.steps.now c.close_epoch.new.steps (sym c.in-Some.ensures) c.if-seen-at.true c.close_epoch.ensures.tests
+
+pub returns-in-Err-write_if_full-clause-tests : goal.returns-in-Err-write_if_full-clause-tests
+returns-in-Err-write_if_full-clause-tests g c =
+    closing_rises c.args.catalogue.now c.args.work.now.engine c.in-Some.seen c.args.at c.args.steps.now c.close_epoch.new.steps (sym c.in-Some.ensures) c.if-seen-at.true c.close_epoch.ensures.tests
+
+pub returns-in-Err-clause-tests : goal.returns-in-Err-clause-tests
+returns-in-Err-clause-tests g c =
+    closing_rises c.args.catalogue.now c.args.work.now.engine c.in-Some.seen c.args.at c.args.steps.now c.close_epoch.new.steps (sym c.in-Some.ensures) c.if-seen-at.true c.close_epoch.ensures.tests

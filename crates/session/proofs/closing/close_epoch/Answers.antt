@@ -2,6 +2,7 @@ use Rattle.std.proofs.Common.{◌∙◌, sym}
 use Rattle.std.proofs.lemmas.Result.{on_ok_weaker}
 use Rattle.session.proofs.ClosedLemmas.{rows_closed, still_stands}
 use Rattle.session.proofs.PlanLemmas.{batch_count}
+use Rattle.session.proofs.TestsLemmas.{open_rises}
 use Rattle.session.proofs.closing.close_epoch.Goals as goal
 
 -- the batch has a list for each query
@@ -26,3 +27,10 @@ returns-clause-closed g c =
       now_closed = closes.now_closed ∙ sym closes.was_open;
       stands = λ history stands. still_stands c.args.catalogue.now c.put_batch.ensures.accepted c.args.work.now.engine c.close.new.self c.in_ok-batch.batch c.requires.at_work.planned closes history stands c.in_ok-batch.ensures.plan;
     }) c.put_batch.ensures.put
+
+-- it tests no more than the epoch asks for
+pub returns-in_err-batch-clause-tests : goal.returns-in_err-batch-clause-tests
+returns-in_err-batch-clause-tests g c = open_rises c.args.catalogue.now c.args.work.now.engine c.args.steps.now c.close.new.steps c.requires.at_work.planned c.requires.opened c.close.ensures.work
+
+pub returns-clause-tests : goal.returns-clause-tests
+returns-clause-tests g c = open_rises c.args.catalogue.now c.args.work.now.engine c.args.steps.now c.close.new.steps c.requires.at_work.planned c.requires.opened c.close.ensures.work

@@ -38,3 +38,13 @@ pub returns-in-Ok-offer_event-clause-at_work : goal.returns-in-Ok-offer_event-cl
 returns-in-Ok-offer_event-clause-at_work g c =
     at_work_more c.args.catalogue.now c.requires.accepted c.args.event c.requires.fits c.args.work.now.engine c.close_before.new.work.engine (rw c.at-at.ensures.value at c.in-Ok.ensures.ready) c.requires.at_work.planned
     c.offer_event.new.work c.in-Ok-offer_event.ensures.heard
+
+-- its closing tests no more than the open epoch asks for
+pub returns-in-Err-clause-tests : goal.returns-in-Err-clause-tests
+returns-in-Err-clause-tests g c = rw c.at-at.ensures.value at c.close_before.ensures.tests
+
+pub returns-in-Err-offer_event-clause-tests : goal.returns-in-Err-offer_event-clause-tests
+returns-in-Err-offer_event-clause-tests g c = rw c.at-at.ensures.value at c.close_before.ensures.tests
+
+pub returns-in-Ok-offer_event-clause-tests : goal.returns-in-Ok-offer_event-clause-tests
+returns-in-Ok-offer_event-clause-tests g c = rw c.at-at.ensures.value at c.close_before.ensures.tests

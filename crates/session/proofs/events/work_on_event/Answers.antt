@@ -3,6 +3,7 @@ use Rattle.session.specs.Heard.{disorder}
 use Rattle.session.specs.EngineStandsWithLastOpen.{program_over}
 use Rattle.session.specs.Owes.{line_of}
 use Rattle.session.proofs.OwesLemmas.{late_is, refuses}
+use Rattle.session.proofs.TestsLemmas.{closing_none}
 use Rattle.session.proofs.events.work_on_event.Goals as goal
 
 -- a late event is refused
@@ -12,3 +13,7 @@ returns-in-Some-clause-stops g c =
     ∙ ap (disorder c.args.number (Some c.in-Some.seen)) (sym c.at-at.ensures.value)
     ∙ late_is c.args.number c.at-at.result c.in-Some.seen c.if-at-seen.true in
     λ ended lines history stands. refuses (program_over c.args.catalogue.now) ended lines history (line_of c.args.number c.args.event) c.args.work.now _ _ _ c.refuse.result late c.refuse.ensures.by
+
+-- nothing is tested at a late event
+pub returns-in-Some-clause-tests : goal.returns-in-Some-clause-tests
+returns-in-Some-clause-tests g c = closing_none c.args.catalogue.now c.args.work.now.engine c.args.event.tuple.at c.args.steps.now

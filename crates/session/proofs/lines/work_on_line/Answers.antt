@@ -3,6 +3,7 @@ use Rattle.catalogue.specs.Catalogued.{judged_of}
 use Rattle.session.specs.Readings.{readings_left}
 use Rattle.session.specs.EngineStandsWithLastOpen.{program_over}
 use Rattle.session.proofs.OwesLemmas.{refuses, stops_same, took}
+use Rattle.session.proofs.TestsLemmas.{event_rises, lines_none, took_tests}
 use Rattle.session.proofs.lines.work_on_line.Goals as goal
 
 -- a line with a fault is refused
@@ -31,3 +32,30 @@ returns-in-Err-work_on_event-clause-stops g c =
     let shows = rw (c.in-Ok-Event.field-0-is, c.streams.ensures.value) at c.in-Ok-Event.ensures.shows in
     λ history stands. stops_same (program_over c.args.catalogue.now) false _ _ history c.args.work.now (g.H.Host.told c.args.host.now) (g.H.Host.told c.work_on_event.new.host) c.in-Err-work_on_event.fault (shows false)
     (c.in-Err-work_on_event.ensures.stops false _ history stands)
+
+-- no more is tested than the lines ask for
+pub returns-in-Ok-clause-tests : goal.returns-in-Ok-clause-tests
+returns-in-Ok-clause-tests g c =
+    let shows = rw (c.in-Ok-Event.field-0-is, c.streams.ensures.value) at c.in-Ok-Event.ensures.shows in
+    event_rises c.args.catalogue.now c.args.feed.now false c.in-Ok-Event.line c.in-Ok-Event.event _ c.args.work.now.engine c.args.steps.now c.work_on_event.new.steps (shows false) c.work_on_event.ensures.tests
+
+pub returns-in-Err-work_on_event-clause-tests : goal.returns-in-Err-work_on_event-clause-tests
+returns-in-Err-work_on_event-clause-tests g c =
+    let shows = rw (c.in-Ok-Event.field-0-is, c.streams.ensures.value) at c.in-Ok-Event.ensures.shows in
+    event_rises c.args.catalogue.now c.args.feed.now false c.in-Ok-Event.line c.in-Ok-Event.event _ c.args.work.now.engine c.args.steps.now c.work_on_event.new.steps (shows false) c.work_on_event.ensures.tests
+
+pub returns-in-Ok-clause-moved : goal.returns-in-Ok-clause-moved
+returns-in-Ok-clause-moved g c =
+    let shows = rw (c.in-Ok-Event.field-0-is, c.streams.ensures.value) at c.in-Ok-Event.ensures.shows in
+    λ is history stands. took_tests c.args.catalogue.now c.in-Ok-Event.line c.in-Ok-Event.event _ _ history c.args.work.now c.work_on_event.new.work _ _ c.args.steps.now c.work_on_event.new.steps (shows false) (c.in-Ok.ensures.more history stands) stands
+    c.work_on_event.ensures.tests
+
+-- nothing is tested without an event
+pub returns-in-Err-clause-tests : goal.returns-in-Err-clause-tests
+returns-in-Err-clause-tests g c = lines_none c.args.catalogue.now c.args.feed.now false c.args.work.now.engine c.args.steps.now
+
+pub returns-in-Ok-NotYet-clause-tests : goal.returns-in-Ok-NotYet-clause-tests
+returns-in-Ok-NotYet-clause-tests g c = lines_none c.args.catalogue.now c.args.feed.now false c.args.work.now.engine c.args.steps.now
+
+pub returns-in-Ok-Fault-clause-tests : goal.returns-in-Ok-Fault-clause-tests
+returns-in-Ok-Fault-clause-tests g c = lines_none c.args.catalogue.now c.args.feed.now false c.args.work.now.engine c.args.steps.now

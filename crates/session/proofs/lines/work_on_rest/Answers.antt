@@ -5,6 +5,7 @@ use Rattle.session.specs.EngineStandsWithLastOpen.{program_over}
 use Rattle.session.specs.Owes.{line_of}
 use Rattle.session.proofs.RestLemmas.{none_left, one_left, through_closed}
 use Rattle.session.proofs.OwesLemmas.{advances_ends, ends_same, refuses, stops_same}
+use Rattle.session.proofs.TestsLemmas.{event_rises, last_event_rises, last_rises, lines_none}
 use Rattle.session.proofs.lines.work_on_rest.Goals as goal
 
 -- no line was left, and the open epoch was closed
@@ -59,3 +60,27 @@ returns-in-Ok-Fault-clause-ends g c =
     let program = program_over c.args.catalogue.now in
     λ history stands. stops_same program true _ _ history c.args.work.now before after c.refuse.result shows
     (refuses program true [] history (record { number = c.in-Ok-Fault.number; found = Err c.in-Ok-Fault.why }) c.args.work.now _ before after c.refuse.result refl c.refuse.ensures.by)
+
+-- no more is tested than what is left asks for
+pub returns-in-Ok-NotYet-clause-tests : goal.returns-in-Ok-NotYet-clause-tests
+returns-in-Ok-NotYet-clause-tests g c =
+    let shows = rw (c.in-Ok-NotYet.field-0-is, c.streams.ensures.value) at c.in-Ok-NotYet.ensures.shows in
+    last_rises c.args.catalogue.now c.args.feed.now c.args.work.now.engine c.args.steps.now c.close_last.new.steps shows c.close_last.ensures.tests
+
+pub returns-in-Ok-clause-tests : goal.returns-in-Ok-clause-tests
+returns-in-Ok-clause-tests g c =
+    let shows = rw (c.in-Ok-Event.field-0-is, c.streams.ensures.value) at c.in-Ok-Event.ensures.shows in
+    last_event_rises c.args.catalogue.now c.args.feed.now c.in-Ok-Event.number c.in-Ok-Event.event c.args.work.now c.work_on_event.new.work _ _ c.args.steps.now c.work_on_event.new.steps c.close_last-in-Ok.new.steps shows c.in-Ok.ensures.more
+    c.work_on_event.ensures.tests c.close_last-in-Ok.ensures.tests
+
+pub returns-in-Err-work_on_event-clause-tests : goal.returns-in-Err-work_on_event-clause-tests
+returns-in-Err-work_on_event-clause-tests g c =
+    let shows = rw (c.in-Ok-Event.field-0-is, c.streams.ensures.value) at c.in-Ok-Event.ensures.shows in
+    event_rises c.args.catalogue.now c.args.feed.now true c.in-Ok-Event.number c.in-Ok-Event.event [] c.args.work.now.engine c.args.steps.now c.work_on_event.new.steps shows c.work_on_event.ensures.tests
+
+-- nothing is tested without an event and an end
+pub returns-in-Err-clause-tests : goal.returns-in-Err-clause-tests
+returns-in-Err-clause-tests g c = lines_none c.args.catalogue.now c.args.feed.now true c.args.work.now.engine c.args.steps.now
+
+pub returns-in-Ok-Fault-clause-tests : goal.returns-in-Ok-Fault-clause-tests
+returns-in-Ok-Fault-clause-tests g c = lines_none c.args.catalogue.now c.args.feed.now true c.args.work.now.engine c.args.steps.now

@@ -1,16 +1,18 @@
-use Rattle.std.proofs.Common.{◌∙◌, false}
+use Rattle.std.proofs.Common.{◌∙◌, false, refl}
 use Rattle.cay_host.proofs.OutputLemmas.{SameButOutput-trans}
 use Rattle.catalogue.specs.Catalogued.{judged_of}
 use Rattle.session.specs.Readings.{readings_left}
 use Rattle.session.specs.EngineStandsWithLastOpen.{program_over}
 use Rattle.session.proofs.LinesLemmas.{Gone-trans}
 use Rattle.session.proofs.OwesLemmas.{advances_stops, goes_further}
+use Rattle.session.proofs.TestsLemmas.{moved_rises, moves_further}
 use Rattle.session.proofs.lines.work_through.Goals as goal
 
 -- one more line is done
 pub lines-preserved : goal.lines-preserved
 lines-preserved g c = record {
   goes_on = λ history stands. goes_further (c.lines.invariant.goes_on history stands) (rw c.in-Ok-true.field-0-test at c.in-Ok-true.ensures.progress).0;
+  tests = λ history stands. moves_further (c.lines.invariant.tests history stands) ((rw c.in-Ok-true.field-0-test at c.in-Ok-true.ensures.moved) refl);
   at_work = c.in-Ok-true.ensures.at_work;
   gone = Gone-trans c.lines.invariant.gone c.work_on_line.ensures.gone;
   quiet = c.in-Ok-true.ensures.quiet ∙ c.lines.invariant.quiet;
@@ -30,3 +32,12 @@ returns-in-Err-clause-stops g c =
     advances_stops (program_over c.args.catalogue.now) false (readings_left streams c.args.feed.now false) (readings_left streams c.lines.feed false) history gone.heard
     c.args.work.now c.lines.work (told c.args.host.now) (told c.lines.host) (told c.work_on_line.new.host) c.in-Err.fault
     c.lines.invariant.same.later gone.advances (c.in-Err.ensures.stops gone.heard gone.stands)
+
+-- no more was tested than the lines ask for
+pub returns-in-Ok-false-clause-tests : goal.returns-in-Ok-false-clause-tests
+returns-in-Ok-false-clause-tests g c =
+    moved_rises c.args.catalogue.now c.args.feed.now c.lines.feed c.args.work.now.engine c.lines.work.engine c.args.steps.now c.lines.steps c.work_on_line.new.steps c.lines.invariant.tests c.work_on_line.ensures.tests
+
+pub returns-in-Err-clause-tests : goal.returns-in-Err-clause-tests
+returns-in-Err-clause-tests g c =
+    moved_rises c.args.catalogue.now c.args.feed.now c.lines.feed c.args.work.now.engine c.lines.work.engine c.args.steps.now c.lines.steps c.work_on_line.new.steps c.lines.invariant.tests c.work_on_line.ensures.tests

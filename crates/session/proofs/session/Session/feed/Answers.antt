@@ -1,4 +1,4 @@
-use Rattle.std.proofs.Common.{◌≡◌, ◌∙◌, ◌+◌, false, ℕ, List, ap, sym, refl, subst, length}
+use Rattle.std.proofs.Common.{◌≡◌, ◌∙◌, ◌+◌, false, ℕ, List, ap, sym, refl, subst, length, arith}
 use Rattle.std.proofs.lemmas.Result.{err_from_is_err_and}
 use Rattle.semantics.specs.Histories.{Event}
 use Rattle.session.specs.declared.fault.SessionFault.TheVariants as fault
@@ -7,6 +7,8 @@ use Rattle.session.specs.SessionView.{SessionStandsFor, SessionView}
 use Rattle.session.proofs.FeedsLemmas.{all_within, feeds, fits_within, of_ok, stops_at_piece, too_much}
 use Rattle.session.proofs.WroteFrontLemmas.{front_none}
 use Rattle.session.proofs.SessionLemmas.{engine_stands, so_far}
+use Rattle.session.specs.RunWork.{FeedsWithin}
+use Rattle.session.proofs.StaysWithinLemmas.{feeds_within}
 use Rattle.session.proofs.session.Session.feed.Goals as goal
 
 -- there was no memory for the bytes
@@ -60,3 +62,35 @@ returns-clause-fed g c =
     c.work_on_lines.new.work c.work_on_lines.new.feed (rw pushed at c.in_ok-work_on_lines.ensures.gone) c.in_ok-work_on_lines.ensures.part c.in_ok-work_on_lines.ensures.at_work
     (rw pushed at c.in_ok-work_on_lines.ensures.ends (so_far _ past text stands) accepted)
     (rw pushed at c.in_ok-work_on_lines.ensures.stands (so_far _ past text stands) accepted)))
+
+-- no more was tested than the epochs ask for that the bytes close
+pub returns-then-is_err-clause-tests : goal.returns-then-is_err-clause-tests
+returns-then-is_err-clause-tests g c =
+    subst (λ (s : SessionView). FeedsWithin s c.args.piece.now c.args.steps.now c.args.steps.now) c.self.view_is
+    (λ past text states stands listed.
+    feeds_within _ past text stands states c.args.steps.now c.args.steps.now c.args.piece.now c.front_of-within.result.now c.front_of-within.ensures
+    (omega arith))
+
+pub returns-in_err-work_on_lines-clause-tests : goal.returns-in_err-work_on_lines-clause-tests
+returns-in_err-work_on_lines-clause-tests g c =
+    let pushed = of_ok c.push.result (sym c.is_err.ensures.value ∙ c.if-is_err.false) c.push.ensures.ok in
+    subst (λ (s : SessionView). FeedsWithin s c.args.piece.now c.args.steps.now c.work_on_lines.new.steps) c.self.view_is
+    (λ past text states stands listed.
+    feeds_within _ past text stands states c.args.steps.now c.work_on_lines.new.steps c.args.piece.now c.front_of-within.result.now c.front_of-within.ensures
+    (rw pushed at c.work_on_lines.ensures.tests (so_far _ past text stands) states (engine_stands _ past text stands c.work_on_lines.ensures.accepted) listed))
+
+pub returns-then-within-piece-clause-tests : goal.returns-then-within-piece-clause-tests
+returns-then-within-piece-clause-tests g c =
+    let pushed = of_ok c.push.result (sym c.is_err.ensures.value ∙ c.if-is_err.false) c.push.ensures.ok in
+    subst (λ (s : SessionView). FeedsWithin s c.args.piece.now c.args.steps.now c.work_on_lines.new.steps) c.self.view_is
+    (λ past text states stands listed.
+    feeds_within _ past text stands states c.args.steps.now c.work_on_lines.new.steps c.args.piece.now c.front_of-within.result.now c.front_of-within.ensures
+    (rw pushed at c.work_on_lines.ensures.tests (so_far _ past text stands) states (engine_stands _ past text stands c.work_on_lines.ensures.accepted) listed))
+
+pub returns-clause-tests : goal.returns-clause-tests
+returns-clause-tests g c =
+    let pushed = of_ok c.push.result (sym c.is_err.ensures.value ∙ c.if-is_err.false) c.push.ensures.ok in
+    subst (λ (s : SessionView). FeedsWithin s c.args.piece.now c.args.steps.now c.work_on_lines.new.steps) c.self.view_is
+    (λ past text states stands listed.
+    feeds_within _ past text stands states c.args.steps.now c.work_on_lines.new.steps c.args.piece.now c.front_of-within.result.now c.front_of-within.ensures
+    (rw pushed at c.work_on_lines.ensures.tests (so_far _ past text stands) states (engine_stands _ past text stands c.work_on_lines.ensures.accepted) listed))

@@ -5,6 +5,8 @@ use Rattle.session.specs.SessionView.{SessionStandsFor, SessionView}
 use Rattle.std.proofs.lemmas.Result.{on_ok_weaker}
 use Rattle.session.proofs.FeedsLemmas.{finishes}
 use Rattle.session.proofs.SessionLemmas.{engine_stands, so_far}
+use Rattle.session.specs.RunWork.{FinishesWithin}
+use Rattle.session.proofs.StaysWithinLemmas.{finishes_within}
 use Rattle.session.proofs.session.Session.finish.Goals as goal
 
 -- the rest of the text was worked on
@@ -20,3 +22,11 @@ returns-clause-finished g c =
     finishes _ past text stands e.work refl going.none_owed before after c.work_on_rest.new.work c.work_on_rest.result
     (c.work_on_rest.ensures.ends (so_far _ past text stands) accepted) c.work_on_rest.ensures.through
     (on_ok_weaker c.work_on_rest.result (λ each. each (so_far _ past text stands) accepted) c.work_on_rest.ensures.stands))
+
+-- no more was tested than the epochs ask for that the end closes
+pub returns-clause-tests : goal.returns-clause-tests
+returns-clause-tests g c =
+    subst (λ (s : SessionView). FinishesWithin s c.args.steps.now c.work_on_rest.new.steps) c.self.view_is
+    (λ past text states stands listed.
+    finishes_within _ past text stands states c.args.steps.now c.work_on_rest.new.steps
+    (c.work_on_rest.ensures.tests (so_far _ past text stands) states (engine_stands _ past text stands c.work_on_rest.ensures.accepted) listed))
