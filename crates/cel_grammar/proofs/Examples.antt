@@ -71,7 +71,7 @@ attribute_has_its_mark = scalar.attribute scalar.of_second
 and_binds_tighter : pred.IsPred (the.True ∷ the.Or ∷ the.True ∷ the.And ∷ the.Not ∷ the.True ∷ []) (tree.Or tree.True (tree.And tree.True (tree.Not tree.True))) []
 and_binds_tighter = pred.or (pred.conj (pred.neg (pred.prim pred.true))) (pred.and (pred.neg (pred.prim pred.true)) (pred.not (pred.prim pred.true)))
 
--- A NEXT A
+-- A NEXT B
 next_alone_has_the_condition_true : source.IsSource (the.Name a ∷ the.Next ∷ the.Name (codes "B") ∷ []) (tree.Next tree.True (tree.Name a) (tree.Name (codes "B"))) []
 next_alone_has_the_condition_true = source.next (source.term source.of) source.of
 
@@ -93,10 +93,10 @@ dec_is_also_a_name = statement.declaration (statement.more (statement.dec (omega
 nineteen_places_are_too_many : {k : Kind} {ts rest : List Symbol} → statement.IsKind (the.Name (codes "DEC") ∷ the.Number 19 ∷ ts) k rest → ⊥
 nineteen_places_are_too_many (statement.dec few) = absurd (omega arith)
 
--- a name and a number are all of a kind
+-- after a kind of a name and a number follows what stands after the number
 name_and_number : {a : List ℕ} {n : ℕ} {k : Kind} {ts rest : List Symbol} → statement.IsKind (the.Name a ∷ the.Number n ∷ ts) k rest → ts ≡ rest
 name_and_number (statement.dec few) = refl
 
--- DEC 2.5
+-- DEC 2.5,
 places_are_whole : {k : Kind} {ts rest : List Symbol} → statement.IsKind (the.Name (codes "DEC") ∷ the.Number 2 ∷ the.Dot ∷ the.Number 5 ∷ ts) k (the.Comma ∷ rest) → ⊥
 places_are_whole h = let all = name_and_number h in absurd cc

@@ -31,7 +31,7 @@ abbrev pub with_places : ℕ → ℕ → List ℕ
 with_places zero n = decimal n
 with_places places n = with_point places n
 
--- a decimal: a minus where it is below zero, the whole part without leading zeros, a point, and exactly as many digits as its scale
+-- a decimal: a minus where it is below zero, the whole part without leading zeros, and, where the scale is above 0, a point and as many digits as the scale
 abbrev pub decimal_text : ℕ → ℤ → List ℕ
 decimal_text scale (pos n) = with_places scale n
 decimal_text scale (negsuc n) = 45 ∷ with_places scale (suc n)
