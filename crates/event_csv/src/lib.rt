@@ -9,6 +9,7 @@ mod event;
 mod fault;
 mod feed;
 mod fields;
+mod front;
 mod got;
 mod laws;
 mod numbers;

@@ -5,7 +5,7 @@ use Rattle.std.proofs.lemmas.List.{take_rest}
 use mir.Syntax.{w128}
 use mir.Val.{SFits, to_z}
 use Rattle.event_csv.proofs.QuickFacts.{int-first, minus-first, plus-first}
-use Rattle.event_csv.proofs.quick.take_int.Goals as goal
+use Rattle.event_csv.proofs.front.take_int.Goals as goal
 
 -- few digits write the same as a signed number
 same : (n : ℕ) → n < 18446744073709551616 → to_z w128 n ≡ pos n

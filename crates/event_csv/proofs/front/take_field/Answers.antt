@@ -2,7 +2,7 @@ use Rattle.std.proofs.Common.{◌≡◌, ◌+◌, arith, take}
 use Rattle.std.specs.Prelude.{IsUtf8}
 use Rattle.std.proofs.lemmas.List.{take_rest}
 use Rattle.event_csv.proofs.QuickFacts.{first-all, first-cut, some-quoted}
-use Rattle.event_csv.proofs.quick.take_field.Goals as goal
+use Rattle.event_csv.proofs.front.take_field.Goals as goal
 
 pub returns-then-text-eq34 : goal.returns-then-text-eq34
 returns-then-text-eq34 c =

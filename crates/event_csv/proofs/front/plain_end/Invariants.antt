@@ -2,7 +2,7 @@ use Rattle.std.proofs.Common.{◌≡◌, take, true}
 use Rattle.std.specs.List.{list_all}
 use Rattle.std.specs.Str.{IsAscii}
 use Rattle.event_csv.specs.Quick.{is_simple}
-use Rattle.event_csv.proofs.quick.plain_end.Given as goal
+use Rattle.event_csv.proofs.front.plain_end.Given as goal
 
 abbrev pub invariant-loop-place : goal.invariant-loop-place
 invariant-loop-place l = record {

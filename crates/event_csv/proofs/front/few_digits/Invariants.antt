@@ -1,7 +1,7 @@
 use Rattle.std.proofs.Common.{◌≡◌, ◌<◌, ◌^◌, take, true}
 use Rattle.std.specs.Str.Parse.{digits_value}
 use Rattle.event_csv.specs.Numbers.{are_digits}
-use Rattle.event_csv.proofs.quick.few_digits.Given as goal
+use Rattle.event_csv.proofs.front.few_digits.Given as goal
 
 abbrev pub invariant-loop-place : goal.invariant-loop-place
 invariant-loop-place l = record {

@@ -1,7 +1,7 @@
 use Rattle.std.proofs.Common.{◌+◌, arith}
 use Rattle.std.proofs.lemmas.List.{take_rest}
 use Rattle.event_csv.proofs.QuickFacts.{number-all, number-cut}
-use Rattle.event_csv.proofs.quick.take_number.Goals as goal
+use Rattle.event_csv.proofs.front.take_number.Goals as goal
 
 pub returns-then-end-text : goal.returns-then-end-text
 returns-then-end-text c = number-all c.args.text.now _ _ c.few_digits-number.ensures (λ e. absurd (c.if-end-eq0.false e)) c.if-end-text.true

@@ -1,7 +1,7 @@
 use Rattle.std.proofs.Common.{◌≤◌, ◌<◌, ◌-◌, arith, get_or, length}
 use Rattle.event_csv.proofs.NumberFacts.{room}
 use Rattle.event_csv.proofs.QuickFacts.{digits-more, power-more, value-more}
-use Rattle.event_csv.proofs.quick.few_digits.Goals as goal
+use Rattle.event_csv.proofs.front.few_digits.Goals as goal
 
 pub overflow_mul-number : goal.overflow_mul-number
 overflow_mul-number c =

@@ -2,7 +2,7 @@ use Rattle.std.proofs.Common.{◌≡◌, ◌<◌, ◌-◌, ◌+◌, arith, drop,
 use Rattle.std.specs.Prelude.{IsUtf8}
 use Rattle.std.proofs.lemmas.List.{take_rest}
 use Rattle.event_csv.proofs.QuickFacts.{quoted-cut, quoted-last}
-use Rattle.event_csv.proofs.quick.take_quoted.Goals as goal
+use Rattle.event_csv.proofs.front.take_quoted.Goals as goal
 
 pub returns-then-rest-eq0 : goal.returns-then-rest-eq0
 returns-then-rest-eq0 c =

@@ -1,0 +1,160 @@
+//! The field at the front of those that are left of a line, cut off without the reader of `csv`: a text in which no quote
+//! stands, or a number of few digits.
+ghost use Rattle.std.specs.Prelude.{◌≡◌, neg_ℤ, option_map, pos, true, IfSome, IsUtf8, Some};
+ghost use Rattle.std.specs.Str.{IsAscii};
+ghost use Rattle.event_csv.specs.Quick.{HasDigits, IntFirst, IsFirst, IsPlainEnd, IsQuoteAt, IsQuoted, NumberFirst};
+
+use crate::numbers::SHORT;
+use std::str::{from_utf8, from_utf8_unchecked};
+
+/// The field at the front and those behind it, where that is quickly read.
+#[inline(always)]
+pub(crate) fn take_field(text: &[u8]) -> Option<(&str, Option<&[u8]>)>
+    ensures { IfSome result (λ r. IsFirst text.now r.0.now (option_map (λ s. s.now) r.1)) }
+{
+    if 0 < text.len() && text[0] == b'"' {
+        return take_quoted(&text[1..]);
+    }
+    let (end, is_ascii) = plain_end(text)?;
+    let field = text_of(&text[..end], is_ascii)?;
+    if end < text.len() {
+        Some((field, Some(&text[end + 1..])))
+    } else {
+        Some((field, None))
+    }
+}
+
+/// The INT of the field at the front, where few digits write it, and the fields behind it.
+#[inline(always)]
+pub(crate) fn take_int(text: &[u8]) -> Option<(i128, Option<&[u8]>)>
+    ensures { IfSome result (λ r. IntFirst text.now r.0 (option_map (λ s. s.now) r.1)) }
+{
+    if 0 < text.len() && text[0] == b'-' {
+        let (number, rest) = take_number(&text[1..])?;
+        return Some((below_zero(number), rest));
+    }
+    if 0 < text.len() && text[0] == b'+' {
+        let (number, rest) = take_number(&text[1..])?;
+        return Some((number as i128, rest));
+    }
+    let (number, rest) = take_number(text)?;
+    Some((number as i128, rest))
+}
+
+/// The number of the field at the front, where that is few digits, and the fields behind it.
+#[inline(always)]
+pub(crate) fn take_number(text: &[u8]) -> Option<(u64, Option<&[u8]>)>
+    ensures { IfSome result (λ r. NumberFirst text.now r.0 (option_map (λ s. s.now) r.1)) }
+{
+    let (number, end) = few_digits(text);
+    if end == 0 {
+        return None;
+    }
+    if end == text.len() {
+        return Some((number, None));
+    }
+    if text[end] == b',' {
+        return Some((number, Some(&text[end + 1..])));
+    }
+    None
+}
+
+// The field whose first quote is gone and those behind it, where no quote stands in it.
+#[inline(always)]
+fn take_quoted(text: &[u8]) -> Option<(&str, Option<&[u8]>)>
+    ensures { IfSome result (λ r. IsQuoted text.now r.0.now (option_map (λ s. s.now) r.1)) }
+{
+    let (end, is_ascii) = quote_at(text)?;
+    let field = text_of(&text[..end], is_ascii)?;
+    let rest = &text[end + 1..];
+    if rest.len() == 0 {
+        return Some((field, None));
+    }
+    if rest[0] == b',' {
+        return Some((field, Some(&rest[1..])));
+    }
+    None
+}
+
+// The text of bytes. Those that are known to be ASCII aren't looked at again.
+#[inline(always)]
+fn text_of(bytes: &[u8], is_ascii: bool) -> Option<&str>
+    requires { is_ascii ≡ true → IsAscii bytes.now }
+    ensures { IfSome result (λ text. (text.now ≡ bytes.now) × IsUtf8 bytes.now) }
+{
+    if is_ascii {
+        return Some(unsafe { from_utf8_unchecked(bytes) });
+    }
+    match from_utf8(bytes) {
+        Ok(text) => Some(text),
+        Err(_) => None,
+    }
+}
+
+// The place of the first quote, if there is one, and a flag that is true only if all bytes before it are ASCII.
+#[inline(always)]
+fn quote_at(text: &[u8]) -> Option<(usize, bool)>
+    ensures { IfSome result (λ r. IsQuoteAt text.now r.0 r.1) }
+{
+    let mut is_ascii = true;
+    for (place, byte) in text.iter().enumerate() {
+        if *byte == b'"' {
+            return Some((place, is_ascii));
+        }
+        if 127 < *byte {
+            is_ascii = false;
+        }
+    }
+    None
+}
+
+// A place up to which no quote, comma or line feed stands, and where a comma does or the text ends; and a flag that is
+// true only if all bytes before it are ASCII. It may answer none. All three are small, so one comparison passes most bytes.
+#[inline(always)]
+fn plain_end(text: &[u8]) -> Option<(usize, bool)>
+    ensures { IfSome result (λ r. IsPlainEnd text.now r.0 r.1) }
+{
+    let mut is_ascii = true;
+    for (place, byte) in text.iter().enumerate() {
+        if b',' < *byte && *byte < 128 {
+            continue;
+        }
+        if *byte == b',' {
+            return Some((place, is_ascii));
+        }
+        if *byte == b'"' {
+            return None;
+        }
+        if *byte == b'\n' {
+            return None;
+        }
+        if 127 < *byte {
+            is_ascii = false;
+        }
+    }
+    Some((text.len(), is_ascii))
+}
+
+#[inline(always)]
+fn below_zero(number: u64) -> i128
+    ensures { result ≡ neg_ℤ (pos number) }
+{
+    -(number as i128)
+}
+
+// The number that the digits at the front write, of few at most, and how many they are.
+#[inline(always)]
+fn few_digits(text: &[u8]) -> (u64, usize)
+    ensures { HasDigits text.now result.0 result.1 }
+{
+    let most = text.len().min(SHORT);
+    let mut number: u64 = 0;
+    for place in 0..most {
+        let digit = text[place].wrapping_sub(b'0');
+        if 9 < digit {
+            return (number, place);
+        }
+        number = number * 10 + digit as u64;
+    }
+    (number, most)
+}
