@@ -1,6 +1,6 @@
 -- The instances that a later event may still match, as far as the bounds on DUR tell.
-use Rattle.std.specs.Prelude.{◌≡◌, ℕ, ◌<◌, List, []}
-use Rattle.std.specs.List.{filter}
+use Rattle.std.specs.Prelude.{◌≡◌, ℕ, ◌<◌, ◌≤◌, List, []}
+use Rattle.std.specs.List.{All, filter}
 use Rattle.event_types.specs.Tuple.{TupleView}
 use Rattle.semantics.specs.Scalars.{Pr}
 use Rattle.instances.specs.Alive.{is_alive}
@@ -17,3 +17,8 @@ started from = record { vals = []; from = from; at = from }
 -- each of the instances is alive at every time before a deadline
 abbrev pub AreAliveUntil : ℕ → List Pr → List Instance → Type 0
 AreAliveUntil deadline choose instances = (time : ℕ) → time < deadline → alive_instances time choose instances ≡ instances
+
+-- whichever instances are alive at a time, of which none starts before `oldest`, are alive at every time before a deadline
+abbrev pub LastUntil : ℕ → ℕ → ℕ → List Pr → Type 0
+LastUntil deadline time oldest choose =
+    (instances : List Instance) → All (λ (instance : Instance). oldest ≤ instance.tuple.from) instances → alive_instances time choose instances ≡ instances → AreAliveUntil deadline choose instances

@@ -1,8 +1,7 @@
 //! When instances can be matched no more.
-ghost use Rattle.std.specs.Prelude.{◌≡◌, ◌+◌, ◌-◌, ◌^◌, ◌<◌, ◌≤◌, ℕ, List, All, nat_lt};
+ghost use Rattle.std.specs.Prelude.{◌≡◌, ◌+◌, ◌-◌, ◌^◌, ◌<◌, ℕ, nat_lt};
 ghost use Rattle.instances.specs.Alive.{is_alive, meets_bound};
-ghost use Rattle.instances.specs.Bounds.{AreAliveUntil, alive_instances, started};
-ghost use Rattle.instances.specs.declared.instance.Instance.{Instance};
+ghost use Rattle.instances.specs.Bounds.{LastUntil, started};
 ghost use Rattle.scalar_expr.specs.Classes.{class_of_part};
 
 use scalar_expr::{Conj, Part};
@@ -25,7 +24,7 @@ pub fn expires_at(condition: &Conj, from: u64) -> u128
 /// memory.
 pub fn purged_until(condition: &Conj, oldest: u64, now: u64) -> u128
     ensures later { now + 1 < result }
-    ensures until { (instances : List Instance) → All (λ instance. oldest ≤ instance.tuple.from) instances → alive_instances (now + 1) condition.now instances ≡ instances → AreAliveUntil result condition.now instances }
+    ensures until { LastUntil result (now + 1) oldest condition.now }
 {
     expires_at(condition, oldest).max(now as u128 + 2)
 }
