@@ -1,4 +1,5 @@
 pub mod EachLemmas
+pub mod Examples
 pub mod FewLemmas
 pub mod LawLemmas
 pub mod ListLemmas
