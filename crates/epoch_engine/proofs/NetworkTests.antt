@@ -24,7 +24,8 @@ use Rattle.prefix_merge.specs.Counts.{ListPrefixes}
 use Rattle.prefix_merge.specs.Merging.{IsMerged}
 use Rattle.prefix_merge.proofs.CountLemmas as count
 use Rattle.prefix_merge.proofs.CountLemmas.{numbers_from}
-use Rattle.epoch_engine.proofs.TestSums.{in_range_has, one_of_range, sum_counted, sum_distinct, sum_flat, sum_images, sum_less, sum_nothing, sum_plus, sum_same, sum_turned}
+use Rattle.prefix_merge.proofs.ContainLemmas.{sum_distinct}
+use Rattle.epoch_engine.proofs.TestSums.{in_range_has, one_of_range, sum_counted, sum_flat, sum_images, sum_less, sum_nothing, sum_plus, sum_same, sum_turned}
 
 -- a sum over the numbers that are used, by induction on the network
 used_sum : (f : ℕ → ℕ) (used : ℕ → Bool) (net : Net) (first : ℕ) → ((j : ℕ) → used (first + j) ≡ is_used net j) → sum_by (λ k. cond (used k) (f k) 0) (range_with_len first (length net)) ≡ sum_by f (numbers_from net first)

@@ -26,7 +26,8 @@ use Rattle.epoch_draft.specs.Work.{binding_work, keeps, met_work, pair_work, tur
 use Rattle.epoch_draft.proofs.Pairs.{met_took}
 use Rattle.epoch_draft.proofs.WorkLemmas.{out_work}
 use Rattle.epoch_engine.specs.Work.{keyed_bindings, looking_up, pair_tests}
-use Rattle.epoch_engine.proofs.TestSums.{sum_flat, sum_images, sum_less, sum_ones, sum_passing, sum_plus, sum_same, sum_tested, sum_turned}
+use Rattle.prefix_merge.proofs.ContainLemmas.{sum_ones}
+use Rattle.epoch_engine.proofs.TestSums.{sum_flat, sum_images, sum_less, sum_passing, sum_plus, sum_same, sum_tested, sum_turned}
 
 -- the tests on the ways out of a state for each of these tuples
 abbrev pub out_tests : Net → ℕ → List TupleView → ℕ

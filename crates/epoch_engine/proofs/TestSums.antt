@@ -1,16 +1,13 @@
 -- Sums that are taken apart, put together and compared.
-use Rattle.std.proofs.Common.{◌≡◌, ◌∙◌, sym, ap, refl, ℕ, zero, suc, ◌+◌, ◌<◌, ◌≤◌, ◌==◌, Bool, true, false, cond, get_or, length, List, [], ◌∷◌, ◌++◌, map, arith}
-use Rattle.std.specs.Prelude.{◌≢◌, AllPairs, Contains, count_by, sum_by}
-use Rattle.std.specs.List.{All, filter, flat_map, range_with_len, remove}
-use Rattle.std.proofs.lemmas.Grind.{in_remove}
-use Rattle.std.proofs.lemmas.List.{get_or_default}
+use Rattle.std.proofs.Common.{◌≡◌, ◌∙◌, sym, ap, refl, ℕ, zero, suc, ◌+◌, ◌<◌, ◌≤◌, ◌==◌, Bool, true, false, cond, length, List, [], ◌∷◌, ◌++◌, map, arith}
+use Rattle.std.specs.Prelude.{count_by, sum_by}
+use Rattle.std.specs.List.{All, filter, flat_map, range_with_len}
 use Rattle.std.proofs.lemmas.List.Elements.{All-head, All-tail, filter-append}
 use Rattle.std.proofs.lemmas.List.Sorted.{sum_by-IsPermutation}
 use Rattle.std.proofs.lemmas.List.Sums.{sum_by-append, sum_by-cons}
 use Rattle.event_types.proofs.NumberLemmas.{less_other, other_number, same_number}
 use Rattle.scalar_expr.proofs.Bags.{filter_permuted}
 use Rattle.epoch_laws.specs.Stores.{IsWithin}
-use Rattle.prefix_merge.proofs.ContainLemmas.{first_in, later_in}
 
 module _ {X : Type 0} where
   -- where each has none, all have none
@@ -99,16 +96,6 @@ module _ {X Y : Type 0} where
       ∙ sym (sum_plus (f x) (λ y. sum_by (λ x. f x y) xs) ys)
       ∙ sum_same (λ y. f x y + sum_by (λ x. f x y) xs) (λ y. sum_by (λ x. f x y) (x ∷ xs)) (λ y. sym (sum_by-cons (λ x. f x y) x xs)) ys
 
-module _ {X : Type 0} where
-  -- what stands at a place of a list, and the rest
-  pub sum_remove : (f : X → ℕ) (ys : List X) (k : ℕ) (d : X) → k < length ys → sum_by f ys ≡ f (get_or ys k d) + sum_by f (remove ys k)
-  sum_remove f [] k d lt = absurd (omega (arith, lt))
-  sum_remove f (y ∷ ys) zero d lt = sum_by-cons f y ys
-  sum_remove f (y ∷ ys) (suc k) d lt =
-      let rest = sum_remove f ys k d (omega (arith, lt)) in
-      let one = sum_by-cons f y ys in
-      let two = sum_by-cons f y (remove ys k) in omega (arith, rest, one, two)
-
 -- one of the numbers of a range has no more than its own
 module _ (f : ℕ → ℕ) (r : ℕ) where
   none_later : (a n : ℕ) → r < a → sum_by (λ s. cond (r == s) (f s) 0) (range_with_len a n) ≡ 0
@@ -147,11 +134,6 @@ module _ (f : ℕ → ℕ) (r : ℕ) where
           let more = rest (omega (arith, le, other)) (omega (arith, lt)) in omega (arith, one, more)
 
 module _ {X : Type 0} where
-  -- one for each item
-  pub sum_ones : (xs : List X) → sum_by (λ x. 1) xs ≡ length xs
-  sum_ones [] = refl
-  sum_ones (x ∷ xs) = let one = sum_by-cons (λ x. 1) x xs in let rest = sum_ones xs in omega (arith, one, rest)
-
   -- one test for all items
   pub sum_one_test : (b : Bool) (f : X → ℕ) (xs : List X) → sum_by (λ x. cond b (f x) 0) xs ≡ cond b (sum_by f xs) 0
   sum_one_test true f xs = refl
@@ -162,24 +144,3 @@ module _ {X : Type 0} where
   sum_within p f xs ys within =
       let same = sum_by-IsPermutation f (filter p (xs ++ within.0)) (filter p ys) (filter_permuted p (xs ++ within.0) ys within.1) in
       let parts = ap (sum_by f) (filter-append p xs within.0) ∙ sum_by-append f (filter p xs) (filter p within.0) in omega (arith, same, parts)
-
-  -- items without doubles have no more than a list that contains them
-  pub sum_distinct : (f : X → ℕ) (xs ys : List X) → AllPairs (λ x y. x ≢ y) xs → ((x : X) → Contains xs x → Contains ys x) → sum_by f xs ≤ sum_by f ys
-  sum_distinct f [] ys apart within = omega arith
-  sum_distinct f (x ∷ xs) ys apart within =
-      let k = within x (first_in x xs) in
-      let rest = sum_distinct f xs (remove ys k.0) (λ i j d lt below. apart (suc i) (suc j) d (omega (arith, lt)) (omega (arith, below))) rest_within in
-      let taken = sum_remove f ys k.0 x k.1 in
-      let here : f (get_or ys k.0 x) ≡ f x = ap f k.2 in
-      let one = sum_by-cons f x xs in omega (arith, rest, taken, here, one)
-    where
-      rest_within : (y : X) → Contains xs y → Contains (remove ys (within x (first_in x xs)).0) y
-      rest_within y has =
-          let k = within x (first_in x xs) in
-          let j = within y (later_in x xs y has) in
-          let other : j.0 ≡ k.0 → ⊥ = λ same. (
-          let in_x : get_or ys k.0 y ≡ x = get_or_default ys k.0 y x k.1 ∙ k.2 in
-          let both : x ≡ y = sym in_x ∙ ap (λ n. get_or ys n y) (sym same) ∙ j.2 in
-          let lt = has.1 in apart 0 (suc has.0) y (omega arith) (omega (arith, lt)) (both ∙ sym has.2)
-          ) in
-          (in_remove ys k.0 j.0 y k.1 j.1 (sym j.2) other).1

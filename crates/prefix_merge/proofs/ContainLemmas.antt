@@ -1,13 +1,13 @@
--- Lists that contain an item, and lists without doubles.
+-- Lists that contain an item, and sums over lists without doubles.
 use Rattle.std.proofs.Common.{◌≡◌, ◌≢◌, ◌⊎◌, ◌∙◌, sym, ap, refl, subst, inl, inr, ℕ, zero, suc, ◌+◌, ◌<◌, ◌≤◌, length, get_or, List, [], ◌∷◌, map, arith}
-use Rattle.std.specs.Prelude.{All, AllPairs, Contains}
+use Rattle.std.specs.Prelude.{All, AllPairs, Contains, sum_by}
 use Rattle.std.specs.List.{flat_map, range_with_len, remove}
 use Rattle.std.specs.List.Sorted.{IsPermutation}
 use Rattle.std.proofs.lemmas.Grind.{in_remove}
 use Rattle.std.proofs.lemmas.List.{get_or_default}
-use Rattle.std.proofs.lemmas.List.Edits.{length-remove}
 use Rattle.std.proofs.lemmas.List.Elements.{Contains-append_cases, Contains-append_left, Contains-append_right}
 use Rattle.std.proofs.lemmas.List.Sorted.{All-permutation, IsPermutation-sym}
+use Rattle.std.proofs.lemmas.List.Sums.{sum_by-cons}
 
 module _ {X : Type 0} where
   -- the first item and the others
@@ -36,14 +36,24 @@ module _ {X : Type 0} where
       let each : All (Contains ys) xs = All-permutation (Contains ys) ys xs (IsPermutation-sym xs ys same) (λ k d lt. (k, lt, get_or_default ys k (get_or ys k d) d lt)) in
       subst (Contains ys) has.2 (each has.0 x has.1)
 
-  -- a list without doubles isn't longer than one that contains its items
-  pub no_longer : (xs ys : List X) → AllPairs (λ x y. x ≢ y) xs → ((x : X) → Contains xs x → Contains ys x) → length xs ≤ length ys
-  no_longer [] ys apart within = omega arith
-  no_longer (x ∷ xs) ys apart within =
+  -- what stands at a place of a list, and the rest
+  pub sum_remove : (f : X → ℕ) (ys : List X) (k : ℕ) (d : X) → k < length ys → sum_by f ys ≡ f (get_or ys k d) + sum_by f (remove ys k)
+  sum_remove f [] k d lt = absurd (omega (arith, lt))
+  sum_remove f (y ∷ ys) zero d lt = sum_by-cons f y ys
+  sum_remove f (y ∷ ys) (suc k) d lt =
+      let rest = sum_remove f ys k d (omega (arith, lt)) in
+      let one = sum_by-cons f y ys in
+      let two = sum_by-cons f y (remove ys k) in omega (arith, rest, one, two)
+
+  -- items without doubles have no more than a list that contains them
+  pub sum_distinct : (f : X → ℕ) (xs ys : List X) → AllPairs (λ x y. x ≢ y) xs → ((x : X) → Contains xs x → Contains ys x) → sum_by f xs ≤ sum_by f ys
+  sum_distinct f [] ys apart within = omega arith
+  sum_distinct f (x ∷ xs) ys apart within =
       let k = within x (first_in x xs) in
-      let shorter = length-remove ys k.0 k.1 in
-      let rest = no_longer xs (remove ys k.0) (λ i j d lt below. apart (suc i) (suc j) d (omega (arith, lt)) (omega (arith, below))) rest_within in
-      omega (arith, shorter, rest)
+      let rest = sum_distinct f xs (remove ys k.0) (λ i j d lt below. apart (suc i) (suc j) d (omega (arith, lt)) (omega (arith, below))) rest_within in
+      let taken = sum_remove f ys k.0 x k.1 in
+      let here : f (get_or ys k.0 x) ≡ f x = ap f k.2 in
+      let one = sum_by-cons f x xs in omega (arith, rest, taken, here, one)
     where
       rest_within : (y : X) → Contains xs y → Contains (remove ys (within x (first_in x xs)).0) y
       rest_within y has =
@@ -55,6 +65,18 @@ module _ {X : Type 0} where
           let lt = has.1 in apart 0 (suc has.0) y (omega arith) (omega (arith, lt)) (both ∙ sym has.2)
           ) in
           (in_remove ys k.0 j.0 y k.1 j.1 (sym j.2) other).1
+
+  -- one for each item
+  pub sum_ones : (xs : List X) → sum_by (λ x. 1) xs ≡ length xs
+  sum_ones [] = refl
+  sum_ones (x ∷ xs) = let one = sum_by-cons (λ x. 1) x xs in let rest = sum_ones xs in omega (arith, one, rest)
+
+  -- a list without doubles isn't longer than one that contains its items
+  pub no_longer : (xs ys : List X) → AllPairs (λ x y. x ≢ y) xs → ((x : X) → Contains xs x → Contains ys x) → length xs ≤ length ys
+  no_longer xs ys apart within =
+      let less = sum_distinct (λ x. 1) xs ys apart within in
+      let few = sum_ones xs in
+      let many = sum_ones ys in omega (arith, less, few, many)
 
 module _ {X Y : Type 0} (f : X → List Y) where
   -- what one of the lists contains
