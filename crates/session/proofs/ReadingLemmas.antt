@@ -27,9 +27,9 @@ reading_is streams number bytes found e = ap (λ f. record { number = number; fo
 
 -- a line that is taken comes next
 pub shows_line : (streams : List Entry) (old new : Fed) (number : ℕ) (bytes : List ℕ) (n : Next) → TakesLine (record { number = number; bytes = bytes }) old new → IsReading streams number bytes n → Shows streams old new n
-shows_line streams old new number bytes (next.Event m seen) takes reading = λ ended.
+shows_line streams old new number bytes (next.Event line) takes reading = λ ended.
     ap (map (reading_of streams)) (gives_now (record { number = number; bytes = bytes } ∷ []) old new ended takes.given)
-    ∙ ap (λ r. r ∷ readings_left streams new ended) (reading_is streams number bytes (Ok seen) reading.1 ∙ ap (λ k. record { number = k; found = Ok (heard_of seen) }) (sym reading.0))
+    ∙ ap (λ r. r ∷ readings_left streams new ended) (reading_is streams number bytes (Ok line.event) reading.1 ∙ ap (λ k. record { number = k; found = Ok (heard_of line.event) }) (sym reading.0))
 shows_line streams old new number bytes (next.Fault m why) takes reading = λ ended. (
   readings_left streams new ended,
   ap (map (reading_of streams)) (gives_now (record { number = number; bytes = bytes } ∷ []) old new ended takes.given)
@@ -61,8 +61,8 @@ shows_none streams old new gives part = (
 
 -- the last line is the one that is left
 pub shows_last : (streams : List Entry) (fed : Fed) (number : ℕ) (bytes : List ℕ) (n : Next) → unread_lines fed true ≡ record { number = number; bytes = bytes } ∷ [] → IsReading streams number bytes n → ShowsLast streams fed n
-shows_last streams fed number bytes (next.Event m seen) left reading =
-    ap (map (reading_of streams)) left ∙ ap (λ r. r ∷ []) (reading_is streams number bytes (Ok seen) reading.1 ∙ ap (λ k. record { number = k; found = Ok (heard_of seen) }) (sym reading.0))
+shows_last streams fed number bytes (next.Event line) left reading =
+    ap (map (reading_of streams)) left ∙ ap (λ r. r ∷ []) (reading_is streams number bytes (Ok line.event) reading.1 ∙ ap (λ k. record { number = k; found = Ok (heard_of line.event) }) (sym reading.0))
 shows_last streams fed number bytes (next.Fault m why) left reading =
     ap (map (reading_of streams)) left ∙ ap (λ r. r ∷ []) (reading_is streams number bytes (Err why) reading.1 ∙ ap (λ k. record { number = k; found = Err why }) (sym reading.0))
 shows_last streams fed number bytes next.NotYet left reading = absurd reading

@@ -16,6 +16,6 @@ pub record Fits (streams : List Entry) (seen : Seen) : Type 0 where
 
 -- the same of an event that comes next
 abbrev pub FitsNext : List Entry → Next → Type 0
-FitsNext streams (next.Event number seen) = Fits streams seen
+FitsNext streams (next.Event line) = Fits streams line.event
 FitsNext streams (next.Fault number why) = ⊤
 FitsNext streams next.NotYet = ⊤

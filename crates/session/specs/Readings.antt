@@ -34,18 +34,18 @@ readings_left streams feed ended = map (reading_of streams) (unread_lines feed e
 
 -- what comes next of the lines that are left: a line, which is then gone; or a fault; or no line that has its end
 abbrev pub Shows : List Entry → Fed → Fed → Next → Type 0
-Shows streams old new (next.Event number seen) = (ended : Bool) → readings_left streams old ended ≡ record { number = number; found = Ok (heard_of seen) } ∷ readings_left streams new ended
+Shows streams old new (next.Event line) = (ended : Bool) → readings_left streams old ended ≡ record { number = line.number; found = Ok (heard_of line.event) } ∷ readings_left streams new ended
 Shows streams old new (next.Fault number why) = (ended : Bool) → (rest : List Reading) × (readings_left streams old ended ≡ record { number = number; found = Err why } ∷ rest)
 Shows streams old new next.NotYet = IsPart new × ((ended : Bool) → readings_left streams old ended ≡ readings_left streams new ended)
 
 -- what is left where the text ends here: one line, or none
 abbrev pub ShowsLast : List Entry → Fed → Next → Type 0
-ShowsLast streams feed (next.Event number seen) = readings_left streams feed true ≡ record { number = number; found = Ok (heard_of seen) } ∷ []
+ShowsLast streams feed (next.Event line) = readings_left streams feed true ≡ record { number = line.number; found = Ok (heard_of line.event) } ∷ []
 ShowsLast streams feed (next.Fault number why) = readings_left streams feed true ≡ record { number = number; found = Err why } ∷ []
 ShowsLast streams feed next.NotYet = readings_left streams feed true ≡ []
 
 -- the line of this number and these bytes as it is read
 abbrev pub IsReading : List Entry → ℕ → List ℕ → Next → Type 0
-IsReading streams number bytes (next.Event n seen) = (n ≡ number) × (event streams bytes ≡ Ok seen)
+IsReading streams number bytes (next.Event line) = (line.number ≡ number) × (event streams bytes ≡ Ok line.event)
 IsReading streams number bytes (next.Fault n why) = (n ≡ number) × (event streams bytes ≡ Err why)
 IsReading streams number bytes next.NotYet = ⊥

@@ -13,6 +13,7 @@ ghost use Rattle.session.specs.TestsLeft.{RisesByClosing};
 
 use crate::closing::close_before;
 use crate::fault::SessionFault;
+use crate::reading::EventLine;
 use crate::refusal::Refusal;
 use crate::work::Work;
 use crate::writing::write_rows;
@@ -57,24 +58,23 @@ fn close_and_offer<H: Host, L: Ledger>(
     host: &mut H,
     catalogue: &Catalogue,
     work: &mut Work,
-    number: u64,
-    event: Seen,
+    line: EventLine,
     steps: &mut Steps<L>,
 ) -> Result<(), SessionFault>
     requires at_work { IsAtWork catalogue.now work.old }
     requires accepted { IsAccepted catalogue.now }
-    requires fits { Fits (judged_of catalogue.now).streams event }
-    requires timely { (number : ℕ) → disorder number work.old.engine.time event.tuple.at ≡ None }
-    ensures more { OnOk result (TakesEvent catalogue.now number event work.old work.new (H.told host.old) (H.told host.new)) }
+    requires fits { Fits (judged_of catalogue.now).streams line.event }
+    requires timely { (number : ℕ) → disorder number work.old.engine.time line.event.tuple.at ≡ None }
+    ensures more { OnOk result (TakesEvent catalogue.now line.number line.event work.old work.new (H.told host.old) (H.told host.new)) }
     ensures at_work { OnOk result (IsAtWork catalogue.now work.new) }
-    ensures stops { IfErr result (StopsAtEvent catalogue.now number event work.old (H.told host.old) (H.told host.new)) }
+    ensures stops { IfErr result (StopsAtEvent catalogue.now line.number line.event work.old (H.told host.old) (H.told host.new)) }
     ensures quiet { BlamesWriting result (H.told host.old) (H.told host.new) }
     ensures same { SameButOutput (H.told host.old) (H.told host.new) }
-    ensures tests { RisesByClosing catalogue.now event.tuple.at work.old.engine steps.old steps.new }
+    ensures tests { RisesByClosing catalogue.now line.event.tuple.at work.old.engine steps.old steps.new }
 {
-    let at = event.tuple.at();
+    let at = line.event.tuple.at();
     match close_before(alloc, host, catalogue, work, at, steps) {
-        Ok(()) => match offer_event(work, event) {
+        Ok(()) => match offer_event(work, line.event) {
             Ok(()) => Ok(()),
             Err(_) => Err(SessionFault::Memory),
         },
@@ -82,37 +82,36 @@ fn close_and_offer<H: Host, L: Ledger>(
     }
 }
 
-/// Works on an event, or refuses it.
+/// Works on an event, or refuses its line.
 pub fn work_on_event<H: Host, L: Ledger>(
     alloc: Global,
     host: &mut H,
     catalogue: &Catalogue,
     work: &mut Work,
-    number: u64,
-    event: Seen,
+    line: EventLine,
     steps: &mut Steps<L>,
 ) -> Result<(), SessionFault>
     requires at_work { IsAtWork catalogue.now work.old }
     requires accepted { IsAccepted catalogue.now }
-    requires fits { Fits (judged_of catalogue.now).streams event }
-    ensures more { OnOk result (TakesEvent catalogue.now number event work.old work.new (H.told host.old) (H.told host.new)) }
+    requires fits { Fits (judged_of catalogue.now).streams line.event }
+    ensures more { OnOk result (TakesEvent catalogue.now line.number line.event work.old work.new (H.told host.old) (H.told host.new)) }
     ensures at_work { OnOk result (IsAtWork catalogue.now work.new) }
-    ensures stops { IfErr result (StopsAtEvent catalogue.now number event work.old (H.told host.old) (H.told host.new)) }
+    ensures stops { IfErr result (StopsAtEvent catalogue.now line.number line.event work.old (H.told host.old) (H.told host.new)) }
     ensures quiet { BlamesWriting result (H.told host.old) (H.told host.new) }
     ensures same { SameButOutput (H.told host.old) (H.told host.new) }
-    ensures tests { RisesByClosing catalogue.now event.tuple.at work.old.engine steps.old steps.new }
+    ensures tests { RisesByClosing catalogue.now line.event.tuple.at work.old.engine steps.old steps.new }
 {
-    let at = event.tuple.at();
+    let at = line.event.tuple.at();
     match work.engine.open_time() {
         Some(seen) if at < seen => Err(refuse(
             host,
             work,
             Refusal::IsOutOfOrder {
-                line: number,
+                line: line.number,
                 at,
                 seen,
             },
         )),
-        _ => close_and_offer(alloc, host, catalogue, work, number, event, steps),
+        _ => close_and_offer(alloc, host, catalogue, work, line, steps),
     }
 }

@@ -106,12 +106,10 @@ fn work_on_line<H: Host, L: Ledger>(
         Err(_) => Err(SessionFault::Memory),
         Ok(Next::NotYet) => Ok(false),
         Ok(Next::Fault(line, why)) => Err(refuse(host, work, Refusal::HasFault { line, why })),
-        Ok(Next::Event(line, event)) => {
-            match work_on_event(alloc, host, catalogue, work, line, event, steps) {
-                Ok(()) => Ok(true),
-                Err(fault) => Err(fault),
-            }
-        }
+        Ok(Next::Event(line)) => match work_on_event(alloc, host, catalogue, work, line, steps) {
+            Ok(()) => Ok(true),
+            Err(fault) => Err(fault),
+        },
     }
 }
 
@@ -142,11 +140,9 @@ pub fn work_on_rest<H: Host, L: Ledger>(
             work,
             Refusal::HasFault { line: number, why },
         )),
-        Ok(Next::Event(number, event)) => {
-            match work_on_event(alloc, host, catalogue, work, number, event, steps) {
-                Ok(()) => close_last(alloc, host, catalogue, work, steps),
-                Err(fault) => Err(fault),
-            }
-        }
+        Ok(Next::Event(line)) => match work_on_event(alloc, host, catalogue, work, line, steps) {
+            Ok(()) => close_last(alloc, host, catalogue, work, steps),
+            Err(fault) => Err(fault),
+        },
     }
 }

@@ -10,11 +10,18 @@ use event_types::{Memory, StreamId};
 use std::alloc::Global;
 use stream_schema::Streams;
 
+/// A line that is an event: its number, and the event.
+#[derive(Drop)]
+pub struct EventLine {
+    pub number: u64,
+    pub event: Seen,
+}
+
 /// What comes next of an event text.
 #[derive(Drop)]
 pub enum Next {
-    /// An event, and the number of its line.
-    Event(u64, Seen),
+    /// An event.
+    Event(EventLine),
     /// A line with a fault, and its number.
     Fault(u64, LineFault),
     /// No line that has its end.
@@ -70,7 +77,7 @@ fn read_line(
     ensures fits { IfOk result (FitsNext streams.now) }
 {
     match read_event_near(alloc, streams, near, bytes) {
-        Ok(seen) => Ok(Next::Event(number, seen)),
+        Ok(event) => Ok(Next::Event(EventLine { number, event })),
         Err(ReadFail::Bad(why)) => Ok(Next::Fault(number, why)),
         Err(ReadFail::Memory) => Err(Memory),
     }

@@ -8,17 +8,17 @@ use Rattle.session.proofs.events.close_and_offer.Goals as goal
 -- the engine may be offered the event
 pub offer_event-requires-clause-heard : goal.offer_event-requires-clause-heard
 offer_event-requires-clause-heard g c =
-    may_offer c.args.catalogue.now c.requires.accepted c.args.event c.requires.fits c.args.work.now.engine c.close_before.new.work.engine (rw c.at-at.ensures.value at c.in-Ok.ensures.ready) c.requires.at_work.planned
+    may_offer c.args.catalogue.now c.requires.accepted c.args.line.event c.requires.fits c.args.work.now.engine c.close_before.new.work.engine (rw c.at-at.ensures.value at c.in-Ok.ensures.ready) c.requires.at_work.planned
 
 -- the open epoch was closed, and then there was no memory for the event
 pub returns-in-Err-offer_event-clause-stops : goal.returns-in-Err-offer_event-clause-stops
 returns-in-Err-offer_event-clause-stops g c = λ ended lines history stands.
-    no_memory (program_over c.args.catalogue.now) ended lines history c.args.number c.args.event c.args.work.now _ _ _ (c.requires.timely c.args.number) (rw c.at-at.ensures.value at c.in-Ok.ensures.owes history stands)
+    no_memory (program_over c.args.catalogue.now) ended lines history c.args.line.number c.args.line.event c.args.work.now _ _ _ (c.requires.timely c.args.line.number) (rw c.at-at.ensures.value at c.in-Ok.ensures.owes history stands)
 
 -- the rows of the open epoch couldn't be made or written
 pub returns-in-Err-clause-stops : goal.returns-in-Err-clause-stops
 returns-in-Err-clause-stops g c = λ ended lines history stands.
-    fails (program_over c.args.catalogue.now) ended lines history c.args.number c.args.event c.args.work.now _ _ c.in-Err.fault (c.requires.timely c.args.number) (rw c.at-at.ensures.value at c.in-Err.ensures.fails history stands)
+    fails (program_over c.args.catalogue.now) ended lines history c.args.line.number c.args.line.event c.args.work.now _ _ c.in-Err.fault (c.requires.timely c.args.line.number) (rw c.at-at.ensures.value at c.in-Err.ensures.fails history stands)
 
 -- the open epoch was closed, and the event heard
 pub returns-in-Ok-offer_event-clause-more : goal.returns-in-Ok-offer_event-clause-more
@@ -28,15 +28,15 @@ returns-in-Ok-offer_event-clause-more g c = λ history stands.
     let ready = rw c.at-at.ensures.value at c.in-Ok.ensures.ready in
     let owes = rw c.at-at.ensures.value at c.in-Ok.ensures.owes history stands in
     record {
-      stands = stands_more c.args.catalogue.now c.requires.accepted c.args.event c.requires.fits old.engine mid.engine ready c.requires.at_work.planned c.offer_event.new.work c.in-Ok-offer_event.ensures.heard history c.at-at.ensures.in_order stands;
-      advances = λ ended lines. goes_on (program_over c.args.catalogue.now) ended lines history c.args.number c.args.event old c.offer_event.new.work mid.rows _ _ (c.requires.timely c.args.number) owes
+      stands = stands_more c.args.catalogue.now c.requires.accepted c.args.line.event c.requires.fits old.engine mid.engine ready c.requires.at_work.planned c.offer_event.new.work c.in-Ok-offer_event.ensures.heard history c.at-at.ensures.in_order stands;
+      advances = λ ended lines. goes_on (program_over c.args.catalogue.now) ended lines history c.args.line.number c.args.line.event old c.offer_event.new.work mid.rows _ _ (c.requires.timely c.args.line.number) owes
           c.in-Ok-offer_event.ensures.rows (ap (λ (now : engine.EngineView). now.time) c.in-Ok-offer_event.ensures.heard);
     }
 
 -- the work may go on
 pub returns-in-Ok-offer_event-clause-at_work : goal.returns-in-Ok-offer_event-clause-at_work
 returns-in-Ok-offer_event-clause-at_work g c =
-    at_work_more c.args.catalogue.now c.requires.accepted c.args.event c.requires.fits c.args.work.now.engine c.close_before.new.work.engine (rw c.at-at.ensures.value at c.in-Ok.ensures.ready) c.requires.at_work.planned
+    at_work_more c.args.catalogue.now c.requires.accepted c.args.line.event c.requires.fits c.args.work.now.engine c.close_before.new.work.engine (rw c.at-at.ensures.value at c.in-Ok.ensures.ready) c.requires.at_work.planned
     c.offer_event.new.work c.in-Ok-offer_event.ensures.heard
 
 -- its closing tests no more than the open epoch asks for

@@ -37,17 +37,17 @@ returns-in-Err-work_on_event-clause-stops g c =
 pub returns-in-Ok-clause-tests : goal.returns-in-Ok-clause-tests
 returns-in-Ok-clause-tests g c =
     let shows = rw (c.in-Ok-Event.field-0-is, c.streams.ensures.value) at c.in-Ok-Event.ensures.shows in
-    event_rises c.args.catalogue.now c.args.feed.now false c.in-Ok-Event.line c.in-Ok-Event.event _ c.args.work.now.engine c.args.steps.now c.work_on_event.new.steps (shows false) c.work_on_event.ensures.tests
+    event_rises c.args.catalogue.now c.args.feed.now false c.in-Ok-Event.line.number c.in-Ok-Event.line.event _ c.args.work.now.engine c.args.steps.now c.work_on_event.new.steps (shows false) c.work_on_event.ensures.tests
 
 pub returns-in-Err-work_on_event-clause-tests : goal.returns-in-Err-work_on_event-clause-tests
 returns-in-Err-work_on_event-clause-tests g c =
     let shows = rw (c.in-Ok-Event.field-0-is, c.streams.ensures.value) at c.in-Ok-Event.ensures.shows in
-    event_rises c.args.catalogue.now c.args.feed.now false c.in-Ok-Event.line c.in-Ok-Event.event _ c.args.work.now.engine c.args.steps.now c.work_on_event.new.steps (shows false) c.work_on_event.ensures.tests
+    event_rises c.args.catalogue.now c.args.feed.now false c.in-Ok-Event.line.number c.in-Ok-Event.line.event _ c.args.work.now.engine c.args.steps.now c.work_on_event.new.steps (shows false) c.work_on_event.ensures.tests
 
 pub returns-in-Ok-clause-moved : goal.returns-in-Ok-clause-moved
 returns-in-Ok-clause-moved g c =
     let shows = rw (c.in-Ok-Event.field-0-is, c.streams.ensures.value) at c.in-Ok-Event.ensures.shows in
-    λ is history stands. took_tests c.args.catalogue.now c.in-Ok-Event.line c.in-Ok-Event.event _ _ history c.args.work.now c.work_on_event.new.work _ _ c.args.steps.now c.work_on_event.new.steps (shows false) (c.in-Ok.ensures.more history stands) stands
+    λ is history stands. took_tests c.args.catalogue.now c.in-Ok-Event.line.number c.in-Ok-Event.line.event _ _ history c.args.work.now c.work_on_event.new.work _ _ c.args.steps.now c.work_on_event.new.steps (shows false) (c.in-Ok.ensures.more history stands) stands
     c.work_on_event.ensures.tests
 
 -- nothing is tested without an event

@@ -25,7 +25,7 @@ returns-in-Ok-clause-stands g c =
     let last = c.close_last-in-Ok in
     on_ok_weaker last.result
     (λ closed history stands. let takes = c.in-Ok.ensures.more history stands in
-    one_left c.args.catalogue.now history _ c.args.work.now last.new.work.engine (line_of c.in-Ok-Event.number c.in-Ok-Event.event) c.work_on_event.new.work _ _ shows takes (closed.stands _ takes.stands)) last.ensures.closed
+    one_left c.args.catalogue.now history _ c.args.work.now last.new.work.engine (line_of c.in-Ok-Event.line.number c.in-Ok-Event.line.event) c.work_on_event.new.work _ _ shows takes (closed.stands _ takes.stands)) last.ensures.closed
 
 pub returns-in-Ok-clause-through : goal.returns-in-Ok-clause-through
 returns-in-Ok-clause-through g c =
@@ -41,7 +41,7 @@ returns-in-Ok-clause-ends g c =
     let program = program_over c.args.catalogue.now in
     λ history stands. let takes = c.in-Ok.ensures.more history stands in
     ends_same program true _ _ history c.args.work.now before after c.close_last-in-Ok.result shows
-    (advances_ends program true _ [] history (history ++ heard_of c.in-Ok-Event.event ∷ []) c.args.work.now c.work_on_event.new.work before mid after c.close_last-in-Ok.result c.work_on_event.ensures.same.later
+    (advances_ends program true _ [] history (history ++ heard_of c.in-Ok-Event.line.event ∷ []) c.args.work.now c.work_on_event.new.work before mid after c.close_last-in-Ok.result c.work_on_event.ensures.same.later
     (takes.advances true []) (c.close_last-in-Ok.ensures.ends _ takes.stands))
 
 -- the last event wasn't taken
@@ -70,13 +70,13 @@ returns-in-Ok-NotYet-clause-tests g c =
 pub returns-in-Ok-clause-tests : goal.returns-in-Ok-clause-tests
 returns-in-Ok-clause-tests g c =
     let shows = rw (c.in-Ok-Event.field-0-is, c.streams.ensures.value) at c.in-Ok-Event.ensures.shows in
-    last_event_rises c.args.catalogue.now c.args.feed.now c.in-Ok-Event.number c.in-Ok-Event.event c.args.work.now c.work_on_event.new.work _ _ c.args.steps.now c.work_on_event.new.steps c.close_last-in-Ok.new.steps shows c.in-Ok.ensures.more
+    last_event_rises c.args.catalogue.now c.args.feed.now c.in-Ok-Event.line.number c.in-Ok-Event.line.event c.args.work.now c.work_on_event.new.work _ _ c.args.steps.now c.work_on_event.new.steps c.close_last-in-Ok.new.steps shows c.in-Ok.ensures.more
     c.work_on_event.ensures.tests c.close_last-in-Ok.ensures.tests
 
 pub returns-in-Err-work_on_event-clause-tests : goal.returns-in-Err-work_on_event-clause-tests
 returns-in-Err-work_on_event-clause-tests g c =
     let shows = rw (c.in-Ok-Event.field-0-is, c.streams.ensures.value) at c.in-Ok-Event.ensures.shows in
-    event_rises c.args.catalogue.now c.args.feed.now true c.in-Ok-Event.number c.in-Ok-Event.event [] c.args.work.now.engine c.args.steps.now c.work_on_event.new.steps shows c.work_on_event.ensures.tests
+    event_rises c.args.catalogue.now c.args.feed.now true c.in-Ok-Event.line.number c.in-Ok-Event.line.event [] c.args.work.now.engine c.args.steps.now c.work_on_event.new.steps shows c.work_on_event.ensures.tests
 
 -- nothing is tested without an event and an end
 pub returns-in-Err-clause-tests : goal.returns-in-Err-clause-tests
