@@ -1,5 +1,4 @@
 pub mod FoldLemmas
 pub mod ProgramLemmas
 pub mod SoundLemmas
-pub mod SpanLemmas
 pub mod TypingLemmas

@@ -11,6 +11,3 @@ mod matching;
 pub use evaluation::{Env, evaluate};
 pub use expressions::Expr;
 pub use laws::{sound_streams_give_sound_tuples, typed_programs_suit, typed_suits};
-
-#[cfg(test)]
-mod tests;

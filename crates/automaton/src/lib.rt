@@ -22,6 +22,3 @@ pub use line::{Hop, Hops, Line, Lines};
 pub use network::{End, Ends, Entrance, Network, State};
 pub use step::{Stage, Step};
 pub use wait::{Turn, Wait};
-
-#[cfg(test)]
-mod tests;

@@ -17,6 +17,3 @@ pub use directory::Directory;
 pub use key::{KeyPart, first_key};
 pub use keyed_store::KeyedStore;
 pub use store::Store;
-
-#[cfg(test)]
-mod tests;

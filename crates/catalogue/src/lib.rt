@@ -26,6 +26,3 @@ pub use laws::{
     work_is_in_order,
 };
 pub use loading::load;
-
-#[cfg(test)]
-mod tests;

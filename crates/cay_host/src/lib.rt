@@ -20,6 +20,3 @@ pub use side::Side;
 pub use steps::{Ledger, Quiet, Steps};
 pub use tally_host::TallyHost;
 pub use writing::write_whole;
-
-#[cfg(test)]
-mod tests;

@@ -21,6 +21,3 @@ pub use laws::{refused_lines_stay, reports_grow, texts_ask_for_one_status};
 pub use session::{Refusal, Session, SessionFault};
 pub use status::Status;
 pub use top::{cayuga, cayuga_within};
-
-#[cfg(test)]
-mod tests;

@@ -19,6 +19,3 @@ pub use fault::LexFault;
 pub use scanner::lex;
 pub use token::{Token, What};
 pub use tokens::Tokens;
-
-#[cfg(test)]
-mod tests;

@@ -31,6 +31,3 @@ pub use file::File;
 pub use grammar_laws::{one_reading, parentheses_tell, sentences_are_a_file};
 pub use laws::one_answer;
 pub use parsing::parse;
-
-#[cfg(test)]
-mod tests;

@@ -13,6 +13,3 @@ mod statements;
 
 pub use laws::{canonical_is_best, canonical_is_read};
 pub use printer::{print, print_one};
-
-#[cfg(test)]
-mod tests;

@@ -24,6 +24,3 @@ pub use laws::{
 };
 pub use reading::names_read;
 pub use source_laws::{queries_are_typed, query_has_one_type};
-
-#[cfg(test)]
-mod tests;

@@ -11,6 +11,3 @@ mod table;
 pub use job::Job;
 pub use laws::plain_words_are_jobs;
 pub use table::job_of;
-
-#[cfg(test)]
-mod tests;

@@ -7,6 +7,3 @@ mod deadlines;
 mod tournament;
 
 pub use deadlines::{Deadlines, NEVER};
-
-#[cfg(test)]
-mod tests;

@@ -9,7 +9,6 @@ pub mod Offers
 pub mod Running
 pub mod Starts
 pub mod Taking
-pub mod TestNetwork
 pub mod Trims
 pub mod ViewCode
 pub mod Work

@@ -21,6 +21,3 @@ pub use laws::{
     batch_is_streams, closed_stands, fewer_ask_for_less, new_stands, offered_stands,
     stored_ask_for_all, trimmed_is_counted, trimmed_stands, waiting_ask_for_all,
 };
-
-#[cfg(test)]
-mod tests;

@@ -24,6 +24,3 @@ pub use laws::{
     lines_have_their_first_fault, lines_stay, numbers_are_read_as_they_are_written,
     pieces_give_the_lines_of_the_text,
 };
-
-#[cfg(test)]
-mod tests;

@@ -19,6 +19,3 @@ pub use memory::Memory;
 pub use text::{Names, Text};
 pub use tuple::{BadSpan, StreamId, Tuple, Tuples, put_in_order};
 pub use value::{Vals, Value, ValueRef};
-
-#[cfg(test)]
-mod tests;

@@ -47,6 +47,3 @@ pub use bead::Bead;
 pub use chain::Chain;
 pub use look::Look;
 pub use walk::{Passed, Walk, WalkOn, Walked};
-
-#[cfg(test)]
-mod tests;

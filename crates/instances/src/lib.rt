@@ -20,6 +20,3 @@ pub use expiry::{expires_at, purged_until};
 pub use instance::{Instance, Instances};
 pub use plain_store::PlainStore;
 pub use waiting::Waiting;
-
-#[cfg(test)]
-mod tests;

@@ -13,6 +13,3 @@ mod text;
 pub use laws::event_texts_are_short;
 pub use queries::{query_count, query_text};
 pub use text::{EventText, PIECE, event_text};
-
-#[cfg(test)]
-mod tests;

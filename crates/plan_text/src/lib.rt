@@ -6,6 +6,3 @@ mod planning;
 mod reads;
 
 pub use planning::plan;
-
-#[cfg(test)]
-mod tests;

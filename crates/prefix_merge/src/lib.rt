@@ -14,6 +14,3 @@ pub use laws::{
     states_are_prefixes,
 };
 pub use merged::Merged;
-
-#[cfg(test)]
-mod tests;

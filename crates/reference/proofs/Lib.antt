@@ -2,4 +2,3 @@ pub mod HearingLemmas
 pub mod NumberLemmas
 pub mod PublishingLemmas
 pub mod StreamLemmas
-pub mod TwoQueries

@@ -13,6 +13,3 @@ pub use evaluator::Evaluator;
 pub use laws::typed_queries_suit;
 pub use publishing::Batch;
 pub use query::Query;
-
-#[cfg(test)]
-mod tests;

@@ -14,6 +14,3 @@ mod walking;
 pub use fault::OrderFault;
 pub use laws::{one_outcome, some_outcome};
 pub use ordering::{Reads, order};
-
-#[cfg(test)]
-mod tests;

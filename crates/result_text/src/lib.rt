@@ -8,6 +8,3 @@ mod fields;
 mod rows;
 
 pub use rows::{Rows, row};
-
-#[cfg(test)]
-mod tests;

@@ -35,6 +35,3 @@ pub use projection::{Map, apply};
 pub use scalar::{Scalar, Scalars};
 pub use truth::{compares, holds};
 pub use valuation::value_of;
-
-#[cfg(test)]
-mod tests;

@@ -20,6 +20,3 @@ pub use fault::SessionFault;
 pub use laws::closing_gives_results;
 pub use refusal::Refusal;
 pub use session::Session;
-
-#[cfg(test)]
-mod tests;

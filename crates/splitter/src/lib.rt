@@ -23,6 +23,3 @@ pub use program_laws::{
     chains_are_in_order, chains_mean_their_program, plain_networks_fit, queries_are_derived,
 };
 pub use splitting::split;
-
-#[cfg(test)]
-mod tests;

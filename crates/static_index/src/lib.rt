@@ -28,6 +28,3 @@ pub use condition::fixed_hold;
 pub use fixed_part::{FixedPart, FixedParts};
 pub use index::StaticIndex;
 pub use laws::{holding_conditions_are_matched, matched_conditions_are_looked_up};
-
-#[cfg(test)]
-mod tests;

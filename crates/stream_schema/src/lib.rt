@@ -16,6 +16,3 @@ pub use fault::SchemaFault;
 pub use joining::join;
 pub use schema::Schema;
 pub use streams::Streams;
-
-#[cfg(test)]
-mod tests;

@@ -1,4 +1,0 @@
-use Rattle.algebra.proofs.tests.each_earliest_match_goes_on_while_its_span_is_short.Given as goal
-
-abbrev pub ghosts-evaluated : goal.ghosts-evaluated
-ghosts-evaluated g a = record { name = a.blank.name; parts = a.blank.parts }

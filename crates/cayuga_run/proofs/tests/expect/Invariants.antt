@@ -1,4 +1,0 @@
-use Rattle.cayuga_run.proofs.tests.expect.Given as goal
-
-abbrev pub ghosts-status_of : goal.ghosts-status_of
-ghosts-status_of g a = record { name = a.blank.name; parts = a.blank.parts }

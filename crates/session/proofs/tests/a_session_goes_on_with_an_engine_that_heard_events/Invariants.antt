@@ -1,4 +1,0 @@
-use Rattle.session.proofs.tests.a_session_goes_on_with_an_engine_that_heard_events.Given as goal
-
-abbrev pub ghosts-go_on : goal.ghosts-go_on
-ghosts-go_on g a = record { name = a.blank.name; parts = a.blank.parts }

@@ -1,4 +1,0 @@
-use Rattle.steps.proofs.tests.steps_hold_no_bytes.Given as goal
-
-abbrev pub ghosts-size_after_two_ticks : goal.ghosts-size_after_two_ticks
-ghosts-size_after_two_ticks g a = record { name = a.blank.name; parts = a.blank.parts }
