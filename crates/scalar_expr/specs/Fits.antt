@@ -24,3 +24,11 @@ PredFits (Not p) event binding = PredFits p event binding
 -- the same of each part of a conjunction
 abbrev pub AllFit : List Pr → TupleView → Option TupleView → Type 0
 AllFit parts event binding = All (λ p. PredFits p event binding) parts
+
+-- the value is computed, and stands nowhere: it is a span or the result of an operation
+abbrev pub IsComputed : Sc → Type 0
+IsComputed (Lit v) = ⊥
+IsComputed (Event place) = ⊥
+IsComputed (Binding place) = ⊥
+IsComputed Dur = ⊤
+IsComputed (Two op x y) = ⊤

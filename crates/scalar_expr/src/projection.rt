@@ -8,8 +8,8 @@ ghost use Rattle.scalar_expr.specs.Views.{sc_of};
 
 use crate::copying::copy_scalar;
 use crate::scalar::{Scalar, Scalars};
-use crate::valuation::value_of;
-use event_types::{List, Memory, Tuple, Vals};
+use crate::valuation::{computed, value_in_place};
+use event_types::{Copied, List, Memory, Tuple, Vals, Value};
 use std::alloc::Global;
 use std::marker::Model;
 
@@ -101,10 +101,25 @@ fn values_of(
 {
     let mut vals = List::with_room(alloc, scalars.len())?;
     'scalars: for scalar in scalars {
-        let value = value_of(scalar, event, binding).to_value(alloc)?;
-        vals.add(value)?;
+        vals.add(new_value(alloc, scalar, event, binding)?)?;
     }
     Ok(vals)
+}
+
+// The value of a scalar, to be held on its own: a copy of what stands somewhere.
+fn new_value(
+    alloc: Global,
+    scalar: &Scalar,
+    event: &Tuple,
+    binding: Option<&Tuple>,
+) -> Result<Value, Memory>
+    requires { Fits (sc_of scalar.now) event.now (option_copied binding) }
+    ensures { IfOk result (λ value. value ≡ val (sc_of scalar.now) event.now (option_copied binding.entry)) }
+{
+    match value_in_place(scalar, event, binding) {
+        Some(value) => value.copied(alloc),
+        None => computed(scalar, event, binding).to_value(alloc),
+    }
 }
 
 // The tuple of these values and times, which are in order.

@@ -4,14 +4,16 @@ ghost use Rattle.std.specs.List.{All, list_all};
 ghost use Rattle.std.specs.Option.{option_copied};
 ghost use Rattle.event_types.specs.ValueOfRef.{value_of_ref};
 ghost use Rattle.event_types.specs.declared.value.Value.TheVariants as value;
-ghost use Rattle.semantics.specs.Truth.{truth, all_true, order_of, is_met};
-ghost use Rattle.scalar_expr.specs.Fits.{PredFits, AllFit};
-ghost use Rattle.scalar_expr.specs.Views.{pr_of};
+ghost use Rattle.semantics.specs.Scalars.{Test};
+ghost use Rattle.semantics.specs.Truth.{all_true, is_accepted as accepted, is_met, order_of, truth};
+ghost use Rattle.scalar_expr.specs.Fits.{Fits, PredFits, AllFit};
+ghost use Rattle.scalar_expr.specs.Views.{pr_of, sc_of};
 
 use crate::conjunction::Conj;
 use crate::predicate::Pred;
-use crate::valuation::value_of;
-use event_types::{Cmp, Tuple, ValueRef};
+use crate::scalar::Scalar;
+use crate::valuation::{span, value_in_place, value_of};
+use event_types::{Cmp, Tuple, Value, ValueRef};
 use std::cmp::Ordering;
 use steps::{Ledger, Steps};
 
@@ -47,16 +49,61 @@ fn is_true(predicate: &Pred, event: &Tuple, binding: Option<&Tuple>) -> bool
 {
     match predicate {
         Pred::True => true,
-        Pred::Test(x, cmp, y) => {
-            compares(
-                *cmp,
-                value_of(x, event, binding),
-                value_of(y, event, binding),
-            )
-        }
+        Pred::Test(x, cmp, y) => test_is_true(x, *cmp, y, event, binding),
         Pred::And(left, right) => is_true(left, event, binding) && is_true(right, event, binding),
         Pred::Or(left, right) => is_true(left, event, binding) || is_true(right, event, binding),
         Pred::Not(denied) => !is_true(denied, event, binding),
+    }
+}
+
+// Whether the values of two scalars compare so. Those that stand somewhere are compared in place.
+fn test_is_true(x: &Scalar, cmp: Cmp, y: &Scalar, event: &Tuple, binding: Option<&Tuple>) -> bool
+    requires left { Fits (sc_of x.now) event.now (option_copied binding) }
+    requires right { Fits (sc_of y.now) event.now (option_copied binding) }
+    ensures { result ≡ truth (Test (sc_of x.now) cmp (sc_of y.now)) event.now (option_copied binding.entry) }
+{
+    match (
+        value_in_place(x, event, binding),
+        value_in_place(y, event, binding),
+    ) {
+        (Some(x), Some(y)) => compares_in_place(cmp, x, y),
+        _ => computed_test_is_true(x, cmp, y, event, binding),
+    }
+}
+
+// Whether the values of two scalars compare so, a bound on DUR without more ado.
+#[inline(never)]
+fn computed_test_is_true(
+    x: &Scalar,
+    cmp: Cmp,
+    y: &Scalar,
+    event: &Tuple,
+    binding: Option<&Tuple>,
+) -> bool
+    requires left { Fits (sc_of x.now) event.now (option_copied binding) }
+    requires right { Fits (sc_of y.now) event.now (option_copied binding) }
+    ensures { result ≡ truth (Test (sc_of x.now) cmp (sc_of y.now)) event.now (option_copied binding.entry) }
+{
+    match (x, y) {
+        (Scalar::Dur, Scalar::Lit(Value::Int(most))) => {
+            is_accepted(cmp, span(event, binding).cmp(most))
+        }
+        _ => compares(
+            cmp,
+            value_of(x, event, binding),
+            value_of(y, event, binding),
+        ),
+    }
+}
+
+// Whether two values compare so, whole numbers and texts where they stand.
+fn compares_in_place(cmp: Cmp, x: &Value, y: &Value) -> bool
+    ensures { result ≡ is_met cmp (order_of x.now y.now) }
+{
+    match (x, y) {
+        (Value::Int(x), Value::Int(y)) => is_accepted(cmp, x.cmp(y)),
+        (Value::Text(x), Value::Text(y)) => texts_compare(cmp, x.as_str(), y.as_str()),
+        _ => compares(cmp, x.look(), y.look()),
     }
 }
 
@@ -67,43 +114,43 @@ fn is_true(predicate: &Pred, event: &Tuple, binding: Option<&Tuple>) -> bool
 pub fn compares(cmp: Cmp, x: ValueRef<'_>, y: ValueRef<'_>) -> bool
     ensures { result ≡ is_met cmp (order_of (value_of_ref x.entry) (value_of_ref y.entry)) }
 {
-    is_accepted(cmp, order(x, y))
-}
-
-// The order of two values that have one.
-fn order(x: ValueRef<'_>, y: ValueRef<'_>) -> Option<Ordering>
-    ensures { result ≡ order_of (value_of_ref x.entry) (value_of_ref y.entry) }
-{
     match (x, y) {
-        (ValueRef::Int(x), ValueRef::Int(y)) => Some(x.cmp(&y)),
-        (ValueRef::Text(x), ValueRef::Text(y)) => Some(x.cmp(&y)),
+        (ValueRef::Int(x), ValueRef::Int(y)) => is_accepted(cmp, x.cmp(&y)),
+        (ValueRef::Text(x), ValueRef::Text(y)) => texts_compare(cmp, x, y),
         (ValueRef::Dec { scale: s, units: x }, ValueRef::Dec { scale: t, units: y }) => {
-            decimal_order(s, x, t, y)
+            decimals_compare(cmp, s, x, t, y)
         }
-        _ => None,
+        _ => false,
     }
 }
 
-// The order of two decimals of one scale, by units.
-fn decimal_order(s: u8, x: i128, t: u8, y: i128) -> Option<Ordering>
-    ensures { result ≡ order_of (value.Dec s x) (value.Dec t y) }
+// Whether two texts compare so. Whether they are equal is told without their order.
+fn texts_compare(cmp: Cmp, x: &str, y: &str) -> bool
+    ensures { result ≡ is_met cmp (order_of (value.Text x.now) (value.Text y.now)) }
 {
-    if s == t { Some(x.cmp(&y)) } else { None }
+    match cmp {
+        Cmp::Eq => x == y,
+        _ => is_accepted(cmp, x.cmp(&y)),
+    }
+}
+
+// Whether two decimals compare so: those of one scale by units.
+fn decimals_compare(cmp: Cmp, s: u8, x: i128, t: u8, y: i128) -> bool
+    ensures { result ≡ is_met cmp (order_of (value.Dec s x) (value.Dec t y)) }
+{
+    s == t && is_accepted(cmp, x.cmp(&y))
 }
 
 // Whether a comparison accepts the order of its operands.
-fn is_accepted(cmp: Cmp, order: Option<Ordering>) -> bool
-    ensures { result ≡ is_met cmp order }
+fn is_accepted(cmp: Cmp, order: Ordering) -> bool
+    ensures { result ≡ accepted cmp order }
 {
-    match order {
-        None => false,
-        Some(order) => match cmp {
-            Cmp::Eq => order.is_eq(),
-            Cmp::Ne => order.is_ne(),
-            Cmp::Lt => order.is_lt(),
-            Cmp::Le => order.is_le(),
-            Cmp::Gt => order.is_gt(),
-            Cmp::Ge => order.is_ge(),
-        },
+    match cmp {
+        Cmp::Eq => order.is_eq(),
+        Cmp::Ne => order.is_ne(),
+        Cmp::Lt => order.is_lt(),
+        Cmp::Le => order.is_le(),
+        Cmp::Gt => order.is_gt(),
+        Cmp::Ge => order.is_ge(),
     }
 }
