@@ -9,7 +9,6 @@ join-values : (first : List ℕ) (vals : List Value) → join_with_byte 44 (firs
 join-values first [] = sym (append-nil first)
 join-values first (value ∷ vals) = rw (join-values (value_text value) vals) refl
 
--- the name, the times and the values, and then the LF
-pub line-fields : (name from at : List ℕ) (vals : List Value)
-    → name ++ 44 ∷ from ++ 44 ∷ at ++ flat_map (λ value. 44 ∷ value_text value) vals ++ 10 ∷ [] ≡ join_with_byte 44 (name ∷ from ∷ at ∷ map value_text vals) ++ 10 ∷ []
-line-fields name from at vals = rw (join-values at vals) (simp append_assoc)
+-- the times and the values, and then the LF
+pub join-fields : (from at : List ℕ) (vals : List Value) → from ++ 44 ∷ at ++ flat_map (λ value. 44 ∷ value_text value) vals ++ 10 ∷ [] ≡ join_with_byte 44 (from ∷ at ∷ map value_text vals) ++ 10 ∷ []
+join-fields from at vals = rw (join-values at vals) (simp append_assoc)

@@ -25,6 +25,17 @@ pub(crate) fn start(writer: &mut Writer<Vec<u8>>, field: &[u8]) -> Result<(), Me
     }
 }
 
+/// Writes a time as the first field.
+pub(crate) fn start_time(writer: &mut Writer<Vec<u8>>, time: u64) -> Result<(), Memory>
+    requires setup { writer_setup writer.old ≡ any_width }
+    requires between { fields_written writer.old ≡ 0 }
+    ensures bytes { OnOk result (bytes_of writer.new ≡ bytes_of writer.old ++ decimal time) }
+    ensures setup { OnOk result (writer_setup writer.new ≡ any_width) }
+    ensures begun { OnOk result (0 < fields_written writer.new) }
+{
+    start(writer, Buffer::new().format(time).as_bytes())
+}
+
 /// Writes a further field of a line, behind a comma.
 pub(crate) fn add(writer: &mut Writer<Vec<u8>>, field: &[u8]) -> Result<(), Memory>
     requires setup { writer_setup writer.old ≡ any_width }

@@ -1,10 +1,14 @@
 //! Result lines: the text of a query's results.
 //!
-//! Contracts see `Rows` as the bytes of its lines.
+//! Contracts see `Rows` as the bytes of its lines, and `Tails` as the bytes of its tails.
 #![tactic(auto)]
 
 mod decimals;
 mod fields;
+mod lately;
 mod rows;
+mod tails;
 
+pub use lately::Lately;
 pub use rows::{Rows, row};
+pub use tails::Tails;

@@ -29,7 +29,7 @@ fn close_epoch<L: Ledger>(
     ensures tests { RisesByOpen catalogue.now work.old.engine steps.old steps.new }
 {
     let batch = work.engine.close(alloc, steps)?;
-    put_batch(catalogue, &batch, &mut work.rows)
+    put_batch(catalogue, &batch, &mut work.rows, &mut work.tails)
 }
 
 /// Closes the open epoch where an event of this time comes later.

@@ -25,7 +25,7 @@ use epoch_engine::Engine;
 use event_csv::Feed;
 use event_types::Memory;
 use prefix_merge::Merged;
-use result_text::Rows;
+use result_text::{Rows, Tails};
 use std::alloc::Global;
 use std::marker::Model;
 
@@ -86,6 +86,7 @@ impl Session {
             work: Work {
                 engine,
                 rows: Rows::new(alloc),
+                tails: Tails::new(alloc),
                 near: 0,
             },
             limit,

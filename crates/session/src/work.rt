@@ -1,13 +1,14 @@
 //! The work on the events.
 use epoch_engine::Engine;
 use event_types::StreamId;
-use result_text::Rows;
+use result_text::{Rows, Tails};
 
-/// What was heard, the rows of closed epochs that aren't written yet, and the stream of the event that was
-/// taken last, where the next line's name is looked for first. Before any event, that is stream 0.
+/// What was heard, the rows of closed epochs that aren't written yet, the tails of rows, and the stream of the event
+/// that was taken last, where the next line's name is looked for first. Before any event, that is stream 0.
 #[derive(Drop)]
 pub struct Work {
     pub engine: Engine,
     pub rows: Rows,
+    pub tails: Tails,
     pub near: StreamId,
 }

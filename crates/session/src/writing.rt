@@ -11,21 +11,28 @@ use catalogue::Catalogue;
 use cay_host::{Failed, Host, write_whole};
 use epoch_engine::Batch;
 use event_types::Memory;
-use result_text::Rows;
+use result_text::{Lately, Rows, Tails};
 
 /// Rows are written once there are so many bytes of them.
 const FULL: usize = 65536;
 
 /// Appends the result lines of each query's tuples.
-pub fn put_batch(catalogue: &Catalogue, batch: &Batch, rows: &mut Rows) -> Result<(), Memory>
+pub fn put_batch(
+    catalogue: &Catalogue,
+    batch: &Batch,
+    rows: &mut Rows,
+    tails: &mut Tails,
+) -> Result<(), Memory>
     requires { length batch.now ≡ length catalogue.now.order }
     ensures put { OnOk result (rows.new ≡ rows.old ++ batch_lines (program_over catalogue.now).queries batch.now) }
     ensures accepted { IsAccepted catalogue.now }
 {
     let streams = catalogue.streams();
+    tails.clear_if_full();
+    let mut lately = Lately::none();
     for entry in batch.entries() {
         let name = streams.name(catalogue.stream_of(entry.place));
-        rows.append(name, entry.tuples.as_slice())?;
+        rows.append(name, entry.tuples.as_slice(), tails, &mut lately)?;
     }
     Ok(())
 }

@@ -14,7 +14,7 @@ stream_of-requires c =
     let entry = c.entry-item.result in
     subst (λ n. entry.place < n) c.requires (place_below (length c.args.batch.now) entries i entry (omega arith) (sym c.entry-item.is) c.entries-entry-items.ensures.in_order.below)
 
--- the lines of one entry more were put
+-- the lines of one entry more were put, and its last tuples may be shown again
 pub loop-entry-preserved : goal.loop-entry-preserved
 loop-entry-preserved c =
     let now = c.args.catalogue.now in
@@ -24,8 +24,11 @@ loop-entry-preserved c =
     let less : entry.place < length now.order = subst (λ n. entry.place < n) c.requires (place_below (length c.args.batch.now) entries i entry (omega arith) (sym c.entry-item.is) c.entries-entry-items.ensures.in_order.below) in
     let name = name_is now c.streams-streams.ensures.is_accepted entry.place c.stream_of.result c.name-name.result.now less c.stream_of.ensures.value (rw c.streams-streams.ensures.value at c.name-name.ensures) in
     let lt : i < length entries = omega arith in
-    entry_more now entries i entry c.args.rows.now c.loop-entry.rows c.append.new.self c.name-name.result.now lt (sym c.entry-item.is) name
-    (c.in_ok-append.ensures.appended ∙ ap (λ tuples. c.loop-entry.rows ++ flat_map (line c.name-name.result.now) tuples) c.as_slice.ensures) c.loop-entry.invariant
+    record {
+      put = entry_more now entries i entry c.args.rows.now c.loop-entry.rows c.append.new.self c.name-name.result.now lt (sym c.entry-item.is) name
+          (c.in_ok-append.ensures.appended ∙ ap (λ tuples. c.loop-entry.rows ++ flat_map (line c.name-name.result.now) tuples) c.as_slice.ensures) c.loop-entry.invariant.put;
+      lately = c.in_ok-append.ensures.lately;
+    }
 
 -- the lines of all entries were put
 pub returns-clause-put : goal.returns-clause-put
@@ -33,5 +36,5 @@ returns-clause-put c =
     let now = c.args.catalogue.now in
     let entries = c.entries-entry-items.result.now in
     let past : length entries ≤ c.loop-entry.entry-index = omega arith in
-    c.loop-entry.invariant ∙ ap (λ (es : List Entry). c.args.rows.now ++ flat_map (entry_lines now) es) (take_all c.loop-entry.entry-index entries past)
+    c.loop-entry.invariant.put ∙ ap (λ (es : List Entry). c.args.rows.now ++ flat_map (entry_lines now) es) (take_all c.loop-entry.entry-index entries past)
     ∙ ap (λ rows. c.args.rows.now ++ rows) (sym (lines_by_entries now c.args.batch.now entries c.requires c.entries-entry-items.ensures))
