@@ -1,10 +1,12 @@
 -- Batches that are made of the tuples of streams. No public clause cites this module.
-use Rattle.std.specs.Prelude.{◌≡◌, ℕ, ◌<◌, ◌⊎◌, ◌==◌, false, true, List, [], Contains, length, map, slice_index_or}
+use Rattle.std.specs.Prelude.{◌≡◌, ℕ, ◌<◌, ◌⊎◌, List, [], Contains, length, map, slice_index_or}
 use Rattle.std.specs.List.{All}
 use Rattle.std.specs.List.Sorted.{IsStrictlyIncreasing}
 use Rattle.event_types.specs.Tuple.{TupleView}
-use Rattle.epoch_engine.specs.Entries.{AreInOrder, places_in}
-use Rattle.epoch_engine.specs.declared.batch.Entry.{Entry}
+use Rattle.epoch_draft.specs.Drafts.{DraftFits}
+use Rattle.epoch_engine.specs.Entries.{AreInOrder, AreWithin, places_in}
+use Rattle.epoch_engine.specs.declared.entry.Entry.{Entry}
+use Rattle.epoch_engine.specs.declared.room.Room.{Room}
 
 -- for each of so many streams at least the places at which it is printed, maybe more of those below the number of printed ones
 pub record HasPlaces (outs : List ℕ) (streams : ℕ) (printed : List (List ℕ)) : Type 0 where
@@ -22,27 +24,23 @@ pub record ArePlacesOf (printed : List (List ℕ)) (due places : List ℕ) : Typ
 abbrev pub made_for : List ℕ → List (List TupleView) → ℕ → List TupleView
 made_for outs made place = slice_index_or made (slice_index_or outs place 0) []
 
--- an entry has no tuples yet at the last place of a stream, and before it those of the stream
-pub record IsPrepared (outs last : List ℕ) (made : List (List TupleView)) (entry : Entry) : Type 0 where
-  pub moves : (slice_index_or last (slice_index_or outs entry.place 0) 0 == entry.place) ≡ true → entry.tuples ≡ []
-  pub copies : (slice_index_or last (slice_index_or outs entry.place 0) 0 == entry.place) ≡ false → entry.tuples ≡ made_for outs made entry.place
+-- entries are for these places, with the streams that are printed there
+pub record AreListed (outs places : List ℕ) (entries : List Entry) : Type 0 where
+  pub places_are : places_in entries ≡ places
+  pub streams : All (λ entry. entry.stream ≡ slice_index_or outs entry.place 0) entries
 
--- at each place without an entry there are no tuples
-abbrev pub HaveAll : List ℕ → List (List TupleView) → List Entry → Type 0
-HaveAll outs made entries = (place : ℕ) → place < length outs → (made_for outs made place ≡ []) ⊎ Contains (places_in entries) place
-
--- entries are prepared for the tuples that were made
-pub record ArePrepared (outs last : List ℕ) (made : List (List TupleView)) (entries : List Entry) : Type 0 where
+-- entries are for printed streams in their order, and each that has tuples has one
+pub record ArePrinted (outs : List ℕ) (made : List (List TupleView)) (entries : List Entry) : Type 0 where
   pub in_order : AreInOrder (length outs) entries
-  pub each : All (IsPrepared outs last made) entries
-  pub all : HaveAll outs made entries
-
--- entries have the tuples that were made
-pub record AreFilled (outs : List ℕ) (made : List (List TupleView)) (entries : List Entry) : Type 0 where
-  pub in_order : AreInOrder (length outs) entries
-  pub each : All (λ entry. entry.tuples ≡ made_for outs made entry.place) entries
-  pub all : HaveAll outs made entries
+  pub streams : All (λ entry. entry.stream ≡ slice_index_or outs entry.place 0) entries
+  pub all : (place : ℕ) → place < length outs → (made_for outs made place ≡ []) ⊎ Contains (places_in entries) place
 
 -- a batch has for each of these streams the tuples that were made for it
 abbrev pub IsOfMade : List ℕ → List (List TupleView) → List (List TupleView) → Type 0
 IsOfMade outs made batch = batch ≡ map (λ stream. slice_index_or made stream []) outs
+
+-- the entries in a room are those of so many printed streams, each of a stream that the draft has, and the draft fits its own lists
+pub record IsBatch (printed : ℕ) (room : Room) : Type 0 where
+  pub in_order : AreInOrder printed room.entries
+  pub within : AreWithin room.drawing.draft.made room.entries
+  pub fits : DraftFits (length room.drawing.draft.made) (length room.drawing.draft.beads) room.drawing.draft

@@ -17,15 +17,15 @@ use Rattle.epoch_engine.specs.Batches.{HasPlaces}
 use Rattle.epoch_engine.specs.declared.epoch.Epoch.{Epoch}
 use Rattle.epoch_engine.specs.declared.holdings.Holdings.{Holdings}
 use Rattle.epoch_engine.specs.declared.plan.Plan.{Plan}
+use Rattle.epoch_engine.specs.declared.room.Room.{Room}
 
 -- the readers are the network's, each stream has its place in the order of work, all printed streams are derived,
--- and each stream with kinds has at least the places at which it is printed, and one that is taken as the last of them
+-- and each stream with kinds has at least the places at which it is printed
 pub record IsPlan (plan : Plan) : Type 0 where
   pub readers : AreReadersOfAll plan.merged plan.layout plan.readers
   pub places : ArePlaces plan.layout.order (length plan.layout.kinds) plan.places
   pub printed : All (λ stream. IsTrue (is_in plan.layout.order stream)) plan.layout.outs
   pub places_printed : HasPlaces plan.layout.outs (length plan.layout.kinds) plan.out_places
-  pub last : length plan.last ≡ length plan.layout.kinds
 
 -- at least those streams that have tuples are marked, maybe some more
 pub record AreTouched (tuples : List (List TupleView)) (touched : Marks) : Type 0 where
@@ -47,9 +47,9 @@ IsStillFor plan drawing = IsStill (length plan.layout.kinds) (length plan.merged
 abbrev pub FitsPlan : Plan → Drawing → Type 0
 FitsPlan plan drawing = DraftFits (length plan.layout.kinds) (length plan.merged) drawing.draft
 
--- the parts of an engine: they fit one another, keys lead to the states where they are ready, no instance expires before its state's deadline, and a drawing that is kept is still
-pub record IsEngine (plan : Plan) (holdings : Holdings) (epoch : Epoch) (kept : Option Drawing) : Type 0 where
+-- the parts of an engine: they fit one another, keys lead to the states where they are ready, no instance expires before its state's deadline, and in a room that is kept nothing is drawn
+pub record IsEngine (plan : Plan) (holdings : Holdings) (epoch : Epoch) (kept : Option Room) : Type 0 where
   pub running : IsRunning plan holdings.stores epoch
   pub led : AreLed plan.merged holdings.keys holdings.stores
   pub watches : Watches holdings.deadlines holdings.stores
-  pub still : IfSome kept (IsStillFor plan)
+  pub still : IfSome kept (λ room. IsStillFor plan room.drawing)

@@ -1,5 +1,5 @@
 -- What the two halves of a closing do with the parts of an engine. No public clause cites this module.
-use Rattle.std.specs.Prelude.{ℕ, ◌+◌, List, IfSome, Option}
+use Rattle.std.specs.Prelude.{ℕ, ◌+◌, List, length, IfSome, Option}
 use Rattle.event_types.specs.Tuple.{TupleView}
 use Rattle.binding_index.specs.declared.store.Store.{Store}
 use Rattle.semantics.specs.Denotation.{streams_of}
@@ -8,9 +8,11 @@ use Rattle.epoch_draft.specs.EpochWork.{TakesNoMore, draw_work, epoch_work, pair
 use Rattle.epoch_draft.specs.Held.{held}
 use Rattle.epoch_draft.specs.Settling.{AreClosed}
 use Rattle.epoch_engine.specs.Closes.{IsTaken}
+use Rattle.epoch_engine.specs.Entries.{lists_of}
 use Rattle.epoch_draft.specs.declared.drawing.Drawing.{Drawing}
 use Rattle.epoch_engine.specs.declared.epoch.Epoch.{Epoch}
 use Rattle.epoch_engine.specs.declared.plan.Plan.{Plan}
+use Rattle.epoch_engine.specs.declared.room.Room.{Room}
 
 -- all that comes of the open tuples over these stores is drawn
 abbrev pub IsDrawn : Plan → List (Option Store) → Epoch → Drawing → Type 0
@@ -19,6 +21,10 @@ IsDrawn plan stores epoch drawing = DrawnUpTo plan.merged plan.layout stores epo
 -- the stores are taken over an epoch that was drawn, and purged for the time after it
 abbrev pub IsSettled : Plan → Epoch → Drawing → List (Option Store) → List (Option Store) → Type 0
 IsSettled plan epoch drawing old new = IfSome epoch.time (λ time. AreClosed (time + 1) plan.merged (news_of epoch.tuples drawing.draft.made plan.layout.order) old new)
+
+-- the results that stand in a room
+abbrev pub results_in : Plan → Room → List (List TupleView)
+results_in plan room = lists_of (length plan.layout.outs) room.drawing.draft.made room.entries
 
 -- so that the epoch is taken, with this batch
 abbrev pub TakesEpoch : Plan → Epoch → List (Option Store) → List (Option Store) → List (List TupleView) → Type 0

@@ -1,7 +1,6 @@
 //! The engine.
 ghost use Rattle.std.specs.Prelude.{◌≡◌, ◌+◌, ◌-◌, ◌^◌, ◌≤◌, ℕ, min, IfNone, IfOk, IfSome, IsSome, OnErr, OnOk};
 ghost use Rattle.automaton.specs.NetworkLines.{NetworkFits};
-ghost use Rattle.automaton.specs.Networks.{IsNetwork};
 ghost use Rattle.prefix_merge.specs.Merging.{IsMerged};
 ghost use Rattle.semantics.specs.Denotation.{streams_of};
 ghost use Rattle.epoch_draft.specs.EpochWork.{epoch_work};
@@ -9,7 +8,6 @@ ghost use Rattle.epoch_engine.specs.Closes.{Closes, KeepsPlan};
 ghost use Rattle.epoch_engine.specs.Counts.{stored_in};
 ghost use Rattle.epoch_engine.specs.EngineView.{stores_in};
 ghost use Rattle.epoch_engine.specs.Offers.{IsAnswer, IsHeard, IsLate, IsNotAhead, with_tuple};
-ghost use Rattle.epoch_engine.specs.Running.{IsStillFor};
 ghost use Rattle.epoch_engine.specs.Starts.{IsNew};
 ghost use Rattle.epoch_engine.specs.Trims.{Trims};
 ghost use Rattle.epoch_engine.specs.WorkLaws.{RisesByWork};
@@ -20,8 +18,9 @@ use crate::epoch::Epoch;
 use crate::fault::OfferFault;
 use crate::holdings::Holdings;
 use crate::plan::Plan;
+use crate::room::Room;
 use automaton::{Layout, Network};
-use epoch_draft::{Drawing, purge_all, stored};
+use epoch_draft::{purge_all, stored};
 use event_types::{Memory, StreamId, Tuple};
 use prefix_merge::Merged;
 use std::alloc::Global;
@@ -34,8 +33,8 @@ pub struct Engine {
     plan: Plan,
     holdings: Holdings,
     epoch: Epoch,
-    // None after a closing was refused.
-    drawing: Option<Drawing>,
+    // None while a batch is lent, and after a closing was refused.
+    room: Option<Room>,
     closed_time: Option<u64>,
 }
 
@@ -54,7 +53,7 @@ impl Model for Engine {
 
     ghost view = { λ e. record { network = e.plan.merged; layout = e.plan.layout; stores = map instances_in e.holdings.stores; opened = e.epoch.tuples; time = e.epoch.time; closed_time = e.closed_time } };
 
-    ghost invariant = { λ e. IsEngine e.plan e.holdings e.epoch e.drawing };
+    ghost invariant = { λ e. IsEngine e.plan e.holdings e.epoch e.room };
 }
 
 impl Engine {
@@ -67,12 +66,12 @@ impl Engine {
         let plan = Plan::make(alloc, merged, layout)?;
         let holdings = Holdings::make(alloc, plan.merged.network())?;
         let epoch = Epoch::make(alloc, plan.layout.kinds.len())?;
-        let drawing = drawing_for(alloc, &plan)?;
+        let room = Room::make(alloc, &plan)?;
         Ok(Engine {
             plan,
             holdings,
             epoch,
-            drawing: Some(drawing),
+            room: Some(room),
             closed_time: None,
         })
     }
@@ -147,31 +146,29 @@ impl Engine {
         ensures ticks { steps.new ≤ steps.old + epoch_work self.old.network self.old.layout (stores_in self.old) (streams_of self.old.opened) }
         ensures work { RisesByWork self.old steps.old steps.new }
     {
-        let mut drawing = match self.drawing.take() {
-            Some(drawing) => drawing,
-            None => drawing_for(alloc, &self.plan)?,
+        let mut room = match self.room.take() {
+            Some(room) => room,
+            None => Room::make(alloc, &self.plan)?,
         };
-        let batch = take_epoch(
+        take_epoch(
             &self.plan,
             &mut self.holdings,
             &self.epoch,
-            &mut drawing,
+            &mut room,
             steps,
         )?;
-        self.drawing = Some(drawing);
         self.closed_time = self.epoch.time;
         self.epoch.close();
-        Ok(batch)
+        Ok(Batch::make(self.plan.layout.outs.len(), room))
     }
-}
 
-// A drawing of a plan's network, in which nothing is drawn.
-fn drawing_for(alloc: Global, plan: &Plan) -> Result<Drawing, Memory>
-    ensures still { IfOk result (IsStillFor plan.now) }
-    ensures network { IsNetwork plan.now.merged }
-{
-    let states = plan.merged.network().places();
-    Drawing::make(alloc, states, plan.layout.kinds.len())
+    /// Takes a batch back whose results were read, so that the next closing needs no new room. A batch of another
+    /// network is dropped. Takes no memory.
+    pub fn take_back(&mut self, batch: Batch)
+        ensures { self.new ≡ self.old }
+    {
+        self.room = batch.into_room().emptied(&self.plan);
+    }
 }
 
 // The open epoch or the last closed time, where a detection time is late for it.

@@ -2,20 +2,23 @@
 //!
 //! Contracts see an `Engine` as its network and layout, the instances of each state, the open tuples of
 //! each stream, the open epoch and the last closed time (`EngineView`), and a `Batch` as the list of the tuples of
-//! each printed stream. An `Entry` is seen as its fields.
+//! each printed stream. An `Entry` and `Printed` are seen as their fields.
 #![tactic(auto)]
 
 mod batch;
 mod closing;
 mod engine;
+mod entry;
 mod epoch;
 mod fault;
 mod holdings;
 mod laws;
 mod plan;
+mod room;
 
-pub use batch::{Batch, Entry};
+pub use batch::{Batch, Printed};
 pub use engine::Engine;
+pub use entry::Entry;
 pub use fault::OfferFault;
 pub use laws::{
     batch_is_streams, closed_stands, fewer_ask_for_less, new_stands, offered_stands,

@@ -6,14 +6,14 @@ ghost use Rattle.epoch_engine.specs.Batches.{HasPlaces};
 ghost use Rattle.epoch_engine.specs.Running.{IsPlan};
 
 use automaton::Layout;
-use epoch_draft::{empty_lists, filled, places_of};
+use epoch_draft::{empty_lists, places_of};
 use event_types::{List, Memory, Numbers};
 use prefix_merge::Merged;
 use std::alloc::Global;
 use stream_readers::Readers;
 
 /// A merged network and its layout, what reads each stream and its place in the order of work, and for each stream
-/// the places at which it is printed and the last of them. Places are counted from 0. No closing changes it.
+/// the places at which it is printed. Places are counted from 0. No closing changes it.
 #[derive(Drop)]
 pub struct Plan {
     pub merged: Merged,
@@ -21,7 +21,6 @@ pub struct Plan {
     pub readers: Readers,
     pub places: Numbers,
     pub out_places: List<Numbers>,
-    pub last: Numbers,
 }
 
 impl Plan {
@@ -35,14 +34,12 @@ impl Plan {
         let readers = Readers::make(alloc, merged.network(), layout.kinds.len())?;
         let places = places_of(alloc, layout.order.as_slice(), layout.kinds.len())?;
         let out_places = printed_places(alloc, &layout.outs, layout.kinds.len())?;
-        let last = last_places(alloc, &layout.outs, layout.kinds.len())?;
         Ok(Plan {
             merged,
             layout,
             readers,
             places,
             out_places,
-            last,
         })
     }
 }
@@ -57,16 +54,4 @@ fn printed_places(alloc: Global, outs: &Numbers, streams: usize) -> Result<List<
         printed.get_mut(*stream).add(place)?;
     }
     Ok(printed)
-}
-
-// For each of so many streams the last place at which it stands, or 0.
-fn last_places(alloc: Global, outs: &Numbers, streams: usize) -> Result<Numbers, Memory>
-    requires { All (λ stream. stream < streams) outs.now }
-    ensures { IfOk result (λ last. length last ≡ streams) }
-{
-    let mut last = filled(alloc, streams, 0)?;
-    for (place, stream) in outs.as_slice().iter().enumerate() {
-        *last.get_mut(*stream) = place;
-    }
-    Ok(last)
 }

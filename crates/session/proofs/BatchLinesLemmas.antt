@@ -19,8 +19,8 @@ use Rattle.stream_schema.specs.Streams.{stream_names}
 use Rattle.catalogue.specs.Catalogued.{Catalogued, IsAccepted, judged_of}
 use Rattle.catalogue.specs.Judgement.{query_at}
 use Rattle.catalogue.proofs.ProgramLemmas.{streams_have_their_names}
-use Rattle.epoch_engine.specs.Entries.{AreEntriesOf, places_in, tuples_at}
-use Rattle.epoch_engine.specs.declared.batch.Entry.{Entry}
+use Rattle.epoch_engine.specs.Entries.{AreEntriesOf, places_in, tuples_at, tuples_in}
+use Rattle.epoch_engine.specs.declared.entry.Entry.{Entry}
 use Rattle.session.specs.BatchLines.{batch_lines}
 use Rattle.session.specs.EngineStandsWithLastOpen.{program_over}
 
@@ -58,21 +58,21 @@ rise_from start (entry ∷ entries) above pairs = (
 )
 
 -- before the first place there are no tuples
-none_before : (start place : ℕ) (entries : List Entry) → place < start → RiseFrom start entries → tuples_at entries place ≡ []
-none_before start place [] less rise = refl
-none_before start place (entry ∷ entries) less rise =
-    ap (λ b. cond b entry.tuples (tuples_at entries place)) (other_tests entry.place place (λ same. absurd (omega (arith, same, less, rise.0))))
-    ∙ none_before (entry.place + 1) place entries (omega (arith, less, rise.0)) rise.1
+none_before : (made : List (List TupleView)) (start place : ℕ) (entries : List Entry) → place < start → RiseFrom start entries → tuples_at made entries place ≡ []
+none_before made start place [] less rise = refl
+none_before made start place (entry ∷ entries) less rise =
+    ap (λ b. cond b (tuples_in made entry) (tuples_at made entries place)) (other_tests entry.place place (λ same. absurd (omega (arith, same, less, rise.0))))
+    ∙ none_before made (entry.place + 1) place entries (omega (arith, less, rise.0)) rise.1
 
 -- behind the first place its entry has no part in the tuples
-others_behind : (entry : Entry) (entries : List Entry) (start many : ℕ) → entry.place < start → map (tuples_at (entry ∷ entries)) (range_with_len start many) ≡ map (tuples_at entries) (range_with_len start many)
-others_behind entry entries start zero less = refl
-others_behind entry entries start (suc many) less = λ i.
-    ap (λ b. cond b entry.tuples (tuples_at entries start)) (other_tests entry.place start (λ same. absurd (omega (arith, same, less)))) i ∷ others_behind entry entries (start + 1) many (omega (arith, less)) i
+others_behind : (made : List (List TupleView)) (entry : Entry) (entries : List Entry) (start many : ℕ) → entry.place < start → map (tuples_at made (entry ∷ entries)) (range_with_len start many) ≡ map (tuples_at made entries) (range_with_len start many)
+others_behind made entry entries start zero less = refl
+others_behind made entry entries start (suc many) less = λ i.
+    ap (λ b. cond b (tuples_in made entry) (tuples_at made entries start)) (other_tests entry.place start (λ same. absurd (omega (arith, same, less)))) i ∷ others_behind made entry entries (start + 1) many (omega (arith, less)) i
 
 -- the lines of an entry of a query with a name
-abbrev pub lines_by : (ℕ → List ℕ) → Entry → List ℕ
-lines_by names entry = flat_map (line (names entry.place)) entry.tuples
+abbrev pub lines_by : List (List TupleView) → (ℕ → List ℕ) → Entry → List ℕ
+lines_by made names entry = flat_map (line (names entry.place)) (tuples_in made entry)
 
 module _ (names : ℕ → List ℕ) where
   -- the queries have these names, from a place on
@@ -88,30 +88,30 @@ module _ (names : ℕ → List ℕ) where
   )
 
   -- by induction on the queries from a place on: the lines of the entries are those of the lists
-  lines_from : (queries : List Query) (start end : ℕ) (entries : List Entry) → start + length queries ≡ end → AreNames start queries → RiseFrom start entries → All (λ place. place < end) (places_in entries)
-      → batch_lines queries (map (tuples_at entries) (range_with_len start (length queries))) ≡ flat_map (lines_by names) entries
-  lines_from [] start end [] e named rise below = refl
-  lines_from [] start end (entry ∷ entries) e named rise below = absurd (let less = All-head (λ place. place < end) entry.place (places_in entries) below in omega (arith, e, less, rise.0))
-  lines_from (query ∷ queries) start end [] e named rise below = lines_from queries (start + 1) end [] (omega (arith, e)) named.1 tt below
-  lines_from (query ∷ queries) start end (entry ∷ entries) e named rise below =
+  lines_from : (made : List (List TupleView)) (queries : List Query) (start end : ℕ) (entries : List Entry) → start + length queries ≡ end → AreNames start queries → RiseFrom start entries → All (λ place. place < end) (places_in entries)
+      → batch_lines queries (map (tuples_at made entries) (range_with_len start (length queries))) ≡ flat_map (lines_by made names) entries
+  lines_from made [] start end [] e named rise below = refl
+  lines_from made [] start end (entry ∷ entries) e named rise below = absurd (let less = All-head (λ place. place < end) entry.place (places_in entries) below in omega (arith, e, less, rise.0))
+  lines_from made (query ∷ queries) start end [] e named rise below = lines_from made queries (start + 1) end [] (omega (arith, e)) named.1 tt below
+  lines_from made (query ∷ queries) start end (entry ∷ entries) e named rise below =
       go (entry.place == start) refl
-      (λ same. lines_from queries (start + 1) end entries (omega (arith, e)) named.1 (subst (λ n. RiseFrom (n + 1) entries) same rise.1) (All-tail (λ place. place < end) entry.place (places_in entries) below))
-      (λ above. lines_from queries (start + 1) end (entry ∷ entries) (omega (arith, e)) named.1 (above, rise.1) below)
+      (λ same. lines_from made queries (start + 1) end entries (omega (arith, e)) named.1 (subst (λ n. RiseFrom (n + 1) entries) same rise.1) (All-tail (λ place. place < end) entry.place (places_in entries) below))
+      (λ above. lines_from made queries (start + 1) end (entry ∷ entries) (omega (arith, e)) named.1 (above, rise.1) below)
     where
       rest : List Entry → List (List TupleView)
-      rest es = map (tuples_at es) (range_with_len (start + 1) (length queries))
+      rest es = map (tuples_at made es) (range_with_len (start + 1) (length queries))
 
-      go : (b : Bool) → (entry.place == start) ≡ b → (entry.place ≡ start → batch_lines queries (rest entries) ≡ flat_map (lines_by names) entries)
-          → (start + 1 ≤ entry.place → batch_lines queries (rest (entry ∷ entries)) ≡ flat_map (lines_by names) (entry ∷ entries))
-          → flat_map (line query.name) (cond b entry.tuples (tuples_at entries start)) ++ batch_lines queries (rest (entry ∷ entries)) ≡ flat_map (line (names entry.place)) entry.tuples ++ flat_map (lines_by names) entries
+      go : (b : Bool) → (entry.place == start) ≡ b → (entry.place ≡ start → batch_lines queries (rest entries) ≡ flat_map (lines_by made names) entries)
+          → (start + 1 ≤ entry.place → batch_lines queries (rest (entry ∷ entries)) ≡ flat_map (lines_by made names) (entry ∷ entries))
+          → flat_map (line query.name) (cond b (tuples_in made entry) (tuples_at made entries start)) ++ batch_lines queries (rest (entry ∷ entries)) ≡ flat_map (line (names entry.place)) (tuples_in made entry) ++ flat_map (lines_by made names) entries
       go true t here later =
           let same = same_number entry.place start t in
-          ap (λ name. flat_map (line name) entry.tuples ++ batch_lines queries (rest (entry ∷ entries))) (sym named.0 ∙ ap names (sym same))
-          ∙ ap (λ lists. flat_map (line (names entry.place)) entry.tuples ++ batch_lines queries lists) (others_behind entry entries (start + 1) (length queries) (omega (arith, same)))
-          ∙ ap (λ lines. flat_map (line (names entry.place)) entry.tuples ++ lines) (here same)
+          ap (λ name. flat_map (line name) (tuples_in made entry) ++ batch_lines queries (rest (entry ∷ entries))) (sym named.0 ∙ ap names (sym same))
+          ∙ ap (λ lists. flat_map (line (names entry.place)) (tuples_in made entry) ++ batch_lines queries lists) (others_behind made entry entries (start + 1) (length queries) (omega (arith, same)))
+          ∙ ap (λ lines. flat_map (line (names entry.place)) (tuples_in made entry) ++ lines) (here same)
       go false t here later =
           let other = other_number entry.place start t in
-          ap (λ tuples. flat_map (line query.name) tuples ++ batch_lines queries (rest (entry ∷ entries))) (none_before (entry.place + 1) start entries (omega (arith, rise.0)) rise.1)
+          ap (λ tuples. flat_map (line query.name) tuples ++ batch_lines queries (rest (entry ∷ entries))) (none_before made (entry.place + 1) start entries (omega (arith, rise.0)) rise.1)
           ∙ later (omega (arith, rise.0, other))
 
 -- the place of an entry is one of theirs
@@ -144,17 +144,17 @@ module _ (c : Catalogued) where
       some_is e = cc
 
   -- the result lines of an entry
-  abbrev pub entry_lines : Entry → List ℕ
-  entry_lines = lines_by (λ place. (query_at (judged_of c) place).name)
+  abbrev pub entry_lines : List (List TupleView) → Entry → List ℕ
+  entry_lines made = lines_by made (λ place. (query_at (judged_of c) place).name)
 
   -- the lines of the queries are those of the entries
-  pub lines_by_entries : (lists : List (List TupleView)) (entries : List Entry) → length lists ≡ length c.order → AreEntriesOf lists entries → batch_lines (program_over c).queries lists ≡ flat_map entry_lines entries
-  lines_by_entries lists entries many are =
+  pub lines_by_entries : (lists made : List (List TupleView)) (entries : List Entry) → length lists ≡ length c.order → AreEntriesOf lists made entries → batch_lines (program_over c).queries lists ≡ flat_map (entry_lines made) entries
+  lines_by_entries lists made entries many are =
       let queries = (program_over c).queries in
       let names : ℕ → List ℕ = λ place. (query_at (judged_of c) place).name in
       let same : length lists ≡ length queries = many ∙ sym as_many in
-      ap (batch_lines queries) (are.all ∙ ap (λ n. map (tuples_at entries) (range_with_len 0 n)) same)
-      ∙ lines_from names queries 0 (length queries) entries (zero-add (length queries)) (are_names names 0 queries named)
+      ap (batch_lines queries) (are.all ∙ ap (λ n. map (tuples_at made entries) (range_with_len 0 n)) same)
+      ∙ lines_from names made queries 0 (length queries) entries (zero-add (length queries)) (are_names names 0 queries named)
       (rise_from 0 entries (λ k d lt. omega arith) (AllPairs-from_increasing (places_in entries) are.in_order.rise)) (subst (λ n. All (λ place. place < n) (places_in entries)) same are.in_order.below)
     where
       named : (place : ℕ) (query : Query) → slice_get (program_over c).queries place ≡ Some query → (query_at (judged_of c) (0 + place)).name ≡ query.name
@@ -166,10 +166,10 @@ module _ (c : Catalogued) where
           some_is e = cc
 
   -- the lines of one entry more
-  pub entry_more : (entries : List Entry) (i : ℕ) (entry : Entry) (old now new name : List ℕ) → i < length entries → get_or entries i entry ≡ entry → (query_at (judged_of c) entry.place).name ≡ name
-      → new ≡ now ++ flat_map (line name) entry.tuples → now ≡ old ++ flat_map entry_lines (take i entries) → new ≡ old ++ flat_map entry_lines (take (i + 1) entries)
-  entry_more entries i entry old now new name lt at named e was =
-      let before = flat_map entry_lines (take i entries) in
-      e ∙ ap (λ rows. rows ++ flat_map (line name) entry.tuples) was ∙ append_assoc old before (flat_map (line name) entry.tuples)
-      ∙ ap (λ n. old ++ (before ++ flat_map (line n) entry.tuples)) (sym named) ∙ ap (λ rows. old ++ (before ++ rows)) (sym (append-nil (entry_lines entry)))
-      ∙ ap (λ rows. old ++ rows) (sym (flat_map-append entry_lines (take i entries) (entry ∷ [])) ∙ ap (flat_map entry_lines) (ap (λ x. take i entries ++ x ∷ []) (sym at) ∙ sym (take_more entries i entry lt)))
+  pub entry_more : (made : List (List TupleView)) (entries : List Entry) (i : ℕ) (entry : Entry) (old now new name : List ℕ) → i < length entries → get_or entries i entry ≡ entry → (query_at (judged_of c) entry.place).name ≡ name
+      → new ≡ now ++ flat_map (line name) (tuples_in made entry) → now ≡ old ++ flat_map (entry_lines made) (take i entries) → new ≡ old ++ flat_map (entry_lines made) (take (i + 1) entries)
+  entry_more made entries i entry old now new name lt at named e was =
+      let before = flat_map (entry_lines made) (take i entries) in
+      e ∙ ap (λ rows. rows ++ flat_map (line name) (tuples_in made entry)) was ∙ append_assoc old before (flat_map (line name) (tuples_in made entry))
+      ∙ ap (λ n. old ++ (before ++ flat_map (line n) (tuples_in made entry))) (sym named) ∙ ap (λ rows. old ++ (before ++ rows)) (sym (append-nil (entry_lines made entry)))
+      ∙ ap (λ rows. old ++ rows) (sym (flat_map-append (entry_lines made) (take i entries) (entry ∷ [])) ∙ ap (flat_map (entry_lines made)) (ap (λ x. take i entries ++ x ∷ []) (sym at) ∙ sym (take_more entries i entry lt)))

@@ -29,7 +29,9 @@ fn close_epoch<L: Ledger>(
     ensures tests { RisesByOpen catalogue.now work.old.engine steps.old steps.new }
 {
     let batch = work.engine.close(alloc, steps)?;
-    put_batch(catalogue, &batch, &mut work.rows, &mut work.tails)
+    put_batch(catalogue, &batch, &mut work.rows, &mut work.tails)?;
+    work.engine.take_back(batch);
+    Ok(())
 }
 
 /// Closes the open epoch where an event of this time comes later.

@@ -30,9 +30,11 @@ pub fn put_batch(
     let streams = catalogue.streams();
     tails.clear_if_full();
     let mut lately = Lately::none();
-    for entry in batch.entries() {
+    let printed = batch.printed();
+    for entry in printed.entries {
         let name = streams.name(catalogue.stream_of(entry.place));
-        rows.append(name, entry.tuples.as_slice(), tails, &mut lately)?;
+        let tuples = printed.made.get(entry.stream).as_slice();
+        rows.append(name, tuples, tails, &mut lately)?;
     }
     Ok(())
 }

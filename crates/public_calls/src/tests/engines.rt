@@ -52,11 +52,13 @@ fn close<L: Ledger>(
 
 // These are the rows of a printed stream, and no other has some.
 fn is_printed(rt: &impl Abort, batch: &Batch, place: usize, rows: &[Row<'_>]) {
-    match batch.entries() {
+    let printed = batch.printed();
+    match printed.entries {
         [] => assert_eq!(rt; rows.len(), 0),
         [entry] => {
             assert_eq!(rt; entry.place, place);
-            are(rt, &entry.tuples, rows);
+            assert!(rt; entry.stream < printed.made.len());
+            are(rt, printed.made.get(entry.stream), rows);
         }
         _ => panic!(rt; "several streams have rows"),
     }
@@ -90,6 +92,7 @@ fn closes_with(
 ) -> Result<(), Memory> {
     let batch = close::<Quiet>(rt, alloc, engine, Blank::new(1))?;
     is_printed(rt, &batch, place, rows);
+    engine.take_back(batch);
     Ok(())
 }
 

@@ -7,6 +7,7 @@ use Rattle.epoch_laws.specs.Closing.{Stores}
 use Rattle.epoch_draft.specs.Agenda.{ArePlaces}
 use Rattle.epoch_draft.specs.Deriving.{AreReadersOfAll, DrawnUpTo, news_of}
 use Rattle.epoch_draft.specs.Drafts.{DraftFits}
+use Rattle.epoch_draft.specs.declared.drawing.Drawing.{Drawing}
 use Rattle.epoch_draft.proofs.MarkLemmas.{all_below}
 use Rattle.epoch_draft.proofs.StoreLemmas.{drawn_same, held_same, stored_same, typed_has}
 use Rattle.epoch_draft.specs.EpochWork.{draw_work, pairs_work, taking_work}
@@ -15,7 +16,7 @@ use Rattle.epoch_draft.specs.Led.{AreLed}
 use Rattle.epoch_draft.specs.Stores.{HasStores}
 use Rattle.epoch_draft.specs.Takes.{takes_work}
 use Rattle.epoch_draft.proofs.WatchLemmas.{watches_same}
-use Rattle.epoch_engine.specs.Batches.{HasPlaces}
+use Rattle.epoch_engine.specs.Batches.{ArePrinted}
 use Rattle.epoch_engine.proofs.EngineLemmas.{opened_streams, outs_inside}
 use Rattle.epoch_engine.proofs.closing.draw_epoch.Goals as goal
 
@@ -32,33 +33,13 @@ draw-requires-clause-can_read g c =
       led = subst (λ (net : Net). AreLed net c.args.holdings.now.keys c.args.holdings.now.stores) (sym c.network.ensures.value) c.requires.led;
     }
 
-pub prepare-requires-clause-outs : goal.prepare-requires-clause-outs
-prepare-requires-clause-outs g c =
-    outs_inside c.args.plan.now c.requires.running.plan_is c.requires.running.can_draw.order (length c.draw.new.drawing.draft.made) c.in_ok-draw.ensures.drawn.fits.made c.args.plan.now.layout.outs refl
-
--- the places are those of the printed streams
-pub prepare-requires-clause-printed : goal.prepare-requires-clause-printed
-prepare-requires-clause-printed g c =
-    let plan = c.args.plan.now in
-    subst (λ (m : ℕ). HasPlaces plan.layout.outs m plan.out_places) (sym c.in_ok-draw.ensures.drawn.fits.made) c.requires.running.plan_is.places_printed
-
--- the streams that are due are those that are marked
-pub prepare-requires-clause-due : goal.prepare-requires-clause-due
-prepare-requires-clause-due g c =
-    let draft = c.draw.new.drawing.draft in
-    let fits = c.in_ok-draw.ensures.drawn.fits in
-    let due = c.as_slice-2.result.now in
-    subst (λ (m : ℕ). All (λ stream. stream < m) due) (fits.due_below ∙ sym fits.made) (all_below draft.due fits.due due c.as_slice-2.ensures)
-
-pub prepare-requires-clause-all_due : goal.prepare-requires-clause-all_due
-prepare-requires-clause-all_due g c = λ stream. subst (λ (due : List ℕ). (get_or c.draw.new.drawing.draft.made stream [] ≡ []) ⊎ Contains due stream) (sym c.as_slice-2.ensures) (c.in_ok-draw.ensures.drawn.fits.due_all stream)
-
 pub make_room-requires-clause-fits : goal.make_room-requires-clause-fits
 make_room-requires-clause-fits g c =
     let fits = c.in_ok-draw.ensures.drawn.fits in
     let draft = c.draw.new.drawing.draft in
     let stores : ℕ = length c.args.holdings.now.stores in
-    subst (λ (m : ℕ). DraftFits m stores draft) (sym fits.made) (subst (λ (m : ℕ). DraftFits (length c.args.plan.now.layout.kinds) m draft) (ap length c.network.ensures.value ∙ sym c.requires.running.can_draw.typed.as_many) fits)
+    subst (λ (d : Drawing). DraftFits (length d.draft.made) stores d.draft) (sym c.list.ensures.same)
+    (subst (λ (m : ℕ). DraftFits m stores draft) (sym fits.made) (subst (λ (m : ℕ). DraftFits (length c.args.plan.now.layout.kinds) m draft) (ap length c.network.ensures.value ∙ sym c.requires.running.can_draw.typed.as_many) fits))
 
 pub returns-clause-drawn : goal.returns-clause-drawn
 returns-clause-drawn g c =
@@ -66,8 +47,15 @@ returns-clause-drawn g c =
     let opened = c.args.epoch.now.tuples in
     let draft = c.draw.new.drawing.draft in
     let pairs = c.draw.new.drawing.pairs in
-    drawn_same plan.merged plan.layout c.args.holdings.now.stores c.make_room.new.stores opened plan.layout.order draft pairs c.make_room.ensures.same
-    (subst (λ (net : Net). DrawnUpTo net plan.layout c.args.holdings.now.stores opened plan.layout.order draft pairs) c.network.ensures.value c.in_ok-draw.ensures.drawn)
+    subst (λ (d : Drawing). DrawnUpTo plan.merged plan.layout c.make_room.new.stores opened plan.layout.order d.draft d.pairs) (sym c.list.ensures.same)
+    (drawn_same plan.merged plan.layout c.args.holdings.now.stores c.make_room.new.stores opened plan.layout.order draft pairs c.make_room.ensures.same
+    (subst (λ (net : Net). DrawnUpTo net plan.layout c.args.holdings.now.stores opened plan.layout.order draft pairs) c.network.ensures.value c.in_ok-draw.ensures.drawn))
+
+-- the entries are those of what was drawn
+pub returns-clause-listed : goal.returns-clause-listed
+returns-clause-listed g c =
+    let outs = c.args.plan.now.layout.outs in
+    let entries = c.list.new.self.entries in subst (λ (d : Drawing). ArePrinted outs d.draft.made entries) (sym c.list.ensures.same) c.in_ok-list.ensures.listed
 
 pub returns-in_err-draw-clause-same : goal.returns-in_err-draw-clause-same
 returns-in_err-draw-clause-same g c = stored_same c.args.holdings.now.stores
@@ -80,8 +68,10 @@ returns-clause-takes g c =
     let draft = c.draw.new.drawing.draft in
     let pairs = c.draw.new.drawing.pairs in
     let order = plan.layout.order in
-    subst (λ (st : Stores). takes_work plan.merged (news_of opened draft.made order) st pairs ≤ taking_work plan.merged plan.layout st (streams_of opened)) (held_same c.args.holdings.now.stores c.make_room.new.stores c.make_room.ensures.same)
-    (subst (λ (net : Net). pairs_work net order c.args.holdings.now.stores opened draft.made pairs ≤ taking_work net plan.layout (held c.args.holdings.now.stores) (streams_of opened)) c.network.ensures.value c.in_ok-draw.ensures.takes)
+    let after = held c.make_room.new.stores in
+    subst (λ (d : Drawing). takes_work plan.merged (news_of opened d.draft.made order) after d.pairs ≤ taking_work plan.merged plan.layout after (streams_of opened)) (sym c.list.ensures.same)
+    (subst (λ (st : Stores). takes_work plan.merged (news_of opened draft.made order) st pairs ≤ taking_work plan.merged plan.layout st (streams_of opened)) (held_same c.args.holdings.now.stores c.make_room.new.stores c.make_room.ensures.same)
+    (subst (λ (net : Net). pairs_work net order c.args.holdings.now.stores opened draft.made pairs ≤ taking_work net plan.layout (held c.args.holdings.now.stores) (streams_of opened)) c.network.ensures.value c.in_ok-draw.ensures.takes))
 
 -- all tests are those of the drawing
 pub returns-in_err-draw-clause-ticks : goal.returns-in_err-draw-clause-ticks
@@ -89,8 +79,8 @@ returns-in_err-draw-clause-ticks g c =
     let plan = c.args.plan.now in
     subst (λ (net : Net). c.draw.new.steps ≤ c.args.steps.now + draw_work net plan.layout (held c.args.holdings.now.stores) (streams_of c.args.epoch.now.tuples)) c.network.ensures.value c.draw.ensures.ticks
 
-pub returns-in_err-entries-clause-ticks : goal.returns-in_err-entries-clause-ticks
-returns-in_err-entries-clause-ticks g c =
+pub returns-in_err-list-clause-ticks : goal.returns-in_err-list-clause-ticks
+returns-in_err-list-clause-ticks g c =
     let plan = c.args.plan.now in
     subst (λ (net : Net). c.draw.new.steps ≤ c.args.steps.now + draw_work net plan.layout (held c.args.holdings.now.stores) (streams_of c.args.epoch.now.tuples)) c.network.ensures.value c.draw.ensures.ticks
 

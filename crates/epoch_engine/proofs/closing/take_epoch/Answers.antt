@@ -1,4 +1,4 @@
-use Rattle.std.proofs.Common.{sym, subst, ap, List, arith}
+use Rattle.std.proofs.Common.{sym, subst, ap, refl, List, length, arith}
 use Rattle.std.proofs.lemmas.Option.{IfSome_then}
 use Rattle.semantics.specs.Denotation.{streams_of}
 use Rattle.epoch_laws.specs.Closing.{Stores}
@@ -6,10 +6,12 @@ use Rattle.epoch_draft.specs.Held.{held}
 use Rattle.epoch_draft.proofs.StoreLemmas.{can_draw_same, held_same}
 use Rattle.epoch_draft.specs.EpochWork.{taking_work}
 use Rattle.event_types.specs.Tuple.{TupleView}
-use Rattle.epoch_engine.specs.Batches.{ArePrepared, IsOfMade}
+use Rattle.epoch_engine.specs.Batches.{ArePrinted, IsOfMade}
 use Rattle.epoch_engine.specs.Closes.{IsTaken}
+use Rattle.epoch_engine.specs.Entries.{lists_of}
+use Rattle.epoch_engine.proofs.BatchLemmas.{batch_is, entries_within, fits_itself}
 use Rattle.epoch_engine.proofs.ClosedLemmas.{taken, typed_after}
-use Rattle.epoch_engine.proofs.EngineLemmas.{with_same}
+use Rattle.epoch_engine.proofs.EngineLemmas.{outs_inside, with_same}
 use Rattle.epoch_engine.proofs.closing.take_epoch.Goals as goal
 
 -- with room for what comes the engine runs as before
@@ -18,37 +20,50 @@ settle_epoch-requires-clause-running g c =
     with_same c.args.plan.now c.args.holdings.now.stores c.draw_epoch.new.holdings.stores c.args.epoch.now c.draw_epoch.ensures.same c.requires.running
 
 -- what was drawn and settled is taken
-pub results-requires-clause-ready : goal.results-requires-clause-ready
-results-requires-clause-ready g c =
-    let plan = c.args.plan.now in
-    subst (λ (made : List (List TupleView)). ArePrepared plan.layout.outs plan.last made c.in_ok-entries.entries) (sym c.settle_epoch.ensures.made) c.in_ok-entries.ensures.ready
-
 pub returns-clause-taken : goal.returns-clause-taken
 returns-clause-taken g c =
     let plan = c.args.plan.now in
     let epoch = c.args.epoch.now in
-    let drawing = c.draw_epoch.new.drawing in
+    let drawing = c.draw_epoch.new.room.drawing in
+    let entries = c.draw_epoch.new.room.entries in
+    let outs = plan.layout.outs in
     let mid = c.draw_epoch.new.holdings.stores in
     let after = c.settle_epoch.new.holdings.stores in
-    let batch = c.results.result in
+    let made = c.settle_epoch.new.drawing.draft.made in
+    let batch = lists_of (length outs) made entries in
     IfSome_then epoch.time c.settle_epoch.ensures.settled
     (λ time closed.
     subst (λ (stores : Stores). IsTaken plan.merged plan.layout time stores (streams_of epoch.tuples) (held after) batch) (sym (held_same c.args.holdings.now.stores mid c.draw_epoch.ensures.same))
-    (taken plan.merged plan.layout time mid after epoch.tuples batch drawing.draft drawing.pairs c.requires.running.plan_is.printed c.in_ok-entries.ensures.drawn closed (subst (λ (made : List (List TupleView)). IsOfMade plan.layout.outs made batch) c.settle_epoch.ensures.made c.results.ensures.batch)))
+    (taken plan.merged plan.layout time mid after epoch.tuples batch drawing.draft drawing.pairs c.requires.running.plan_is.printed c.in_ok-draw_epoch.ensures.drawn closed
+    (subst (λ (lists : List (List TupleView)). IsOfMade outs drawing.draft.made (lists_of (length outs) lists entries)) (sym c.settle_epoch.ensures.made) (batch_is outs drawing.draft.made entries c.in_ok-draw_epoch.ensures.listed))))
+
+-- and stands in the room
+pub returns-clause-batch : goal.returns-clause-batch
+returns-clause-batch g c =
+    let plan = c.args.plan.now in
+    let entries = c.draw_epoch.new.room.entries in
+    let draft = c.settle_epoch.new.drawing.draft in
+    let outs = plan.layout.outs in
+    let listed = subst (λ (made : List (List TupleView)). ArePrinted outs made entries) (sym c.settle_epoch.ensures.made) c.in_ok-draw_epoch.ensures.listed in
+    let fits = c.settle_epoch.ensures.fits in record {
+      in_order = listed.in_order;
+      within = entries_within outs draft.made entries (outs_inside plan c.requires.running.plan_is c.requires.running.can_draw.order (length draft.made) fits.made outs refl) listed;
+      fits = fits_itself (length plan.layout.kinds) (length plan.merged) draft fits;
+    }
 
 -- and the stores are typed
 pub returns-clause-typed : goal.returns-clause-typed
 returns-clause-typed g c =
     let plan = c.args.plan.now in
     let epoch = c.args.epoch.now in
-    let drawing = c.draw_epoch.new.drawing in
+    let drawing = c.draw_epoch.new.room.drawing in
     let mid = c.draw_epoch.new.holdings.stores in
     typed_after plan.merged plan.layout mid c.settle_epoch.new.holdings.stores epoch.tuples drawing.draft drawing.pairs
-    (can_draw_same plan.merged plan.layout c.args.holdings.now.stores mid epoch.tuples c.draw_epoch.ensures.same c.requires.running.can_draw) c.in_ok-entries.ensures.drawn epoch.time c.requires.opened c.settle_epoch.ensures.settled
+    (can_draw_same plan.merged plan.layout c.args.holdings.now.stores mid epoch.tuples c.draw_epoch.ensures.same c.requires.running.can_draw) c.in_ok-draw_epoch.ensures.drawn epoch.time c.requires.opened c.settle_epoch.ensures.settled
 
 -- want of memory comes in the first half
-pub returns-in_err-entries-clause-ticks : goal.returns-in_err-entries-clause-ticks
-returns-in_err-entries-clause-ticks g c = let one = c.draw_epoch.ensures.ticks in omega (arith, one)
+pub returns-in_err-draw_epoch-clause-ticks : goal.returns-in_err-draw_epoch-clause-ticks
+returns-in_err-draw_epoch-clause-ticks g c = let one = c.draw_epoch.ensures.ticks in omega (arith, one)
 
 -- both halves together
 pub returns-clause-ticks : goal.returns-clause-ticks
@@ -58,4 +73,4 @@ returns-clause-ticks g c =
     ap (λ (st : Stores). taking_work plan.merged plan.layout st (streams_of c.args.epoch.now.tuples)) (held_same c.args.holdings.now.stores c.draw_epoch.new.holdings.stores c.draw_epoch.ensures.same) in
     let one = c.draw_epoch.ensures.ticks in
     let two = c.settle_epoch.ensures.ticks in
-    let takes = c.in_ok-entries.ensures.takes in omega (arith, same, one, two, takes)
+    let takes = c.in_ok-draw_epoch.ensures.takes in omega (arith, same, one, two, takes)

@@ -1,5 +1,5 @@
-use Rattle.std.proofs.Common.{◌∙◌, sym}
-use Rattle.std.proofs.lemmas.Result.{on_ok_weaker}
+use Rattle.std.proofs.Common.{◌∙◌, sym, subst}
+use Rattle.session.specs.EngineStandsWithLastOpen.{HasClosed}
 use Rattle.session.proofs.ClosedLemmas.{rows_closed, still_stands}
 use Rattle.session.proofs.PlanLemmas.{batch_count}
 use Rattle.session.proofs.TestsLemmas.{open_rises}
@@ -11,26 +11,27 @@ put_batch-requires g c = batch_count c.args.catalogue.now c.args.work.now.engine
 
 -- the rows of the epoch were put
 pub returns-clause-rows : goal.returns-clause-rows
-returns-clause-rows g c =
-    on_ok_weaker c.put_batch.result
-    (λ put history stands. rows_closed c.args.catalogue.now c.put_batch.ensures.accepted c.args.work.now.engine c.close.new.self c.in_ok-batch.batch c.requires.at_work.planned c.in_ok-batch.ensures.closed history stands
-    c.args.work.now.rows c.put_batch.new.rows put) c.put_batch.ensures.put
+returns-clause-rows g c = λ history stands.
+    rows_closed c.args.catalogue.now c.put_batch.ensures.accepted c.args.work.now.engine c.close.new.self c.in_ok-batch.batch c.requires.at_work.planned c.in_ok-batch.ensures.closed history stands
+    c.args.work.now.rows c.put_batch.new.rows c.in_ok-put_batch.ensures.put
 
 -- the epoch is closed
 pub returns-clause-closed : goal.returns-clause-closed
 returns-clause-closed g c =
     let closes = c.in_ok-batch.ensures.closed in
-    on_ok_weaker c.put_batch.result
-    (λ put. record {
+    subst (HasClosed c.args.catalogue.now c.args.work.now.engine) (sym c.take_back.ensures) (record {
       plan = c.in_ok-batch.ensures.plan;
       none_open = closes.none_open;
       now_closed = closes.now_closed ∙ sym closes.was_open;
       stands = λ history stands. still_stands c.args.catalogue.now c.put_batch.ensures.accepted c.args.work.now.engine c.close.new.self c.in_ok-batch.batch c.requires.at_work.planned closes history stands c.in_ok-batch.ensures.plan;
-    }) c.put_batch.ensures.put
+    })
 
 -- it tests no more than the epoch asks for
 pub returns-in_err-batch-clause-tests : goal.returns-in_err-batch-clause-tests
 returns-in_err-batch-clause-tests g c = open_rises c.args.catalogue.now c.args.work.now.engine c.args.steps.now c.close.new.steps c.requires.at_work.planned c.requires.opened c.close.ensures.work
+
+pub returns-in_err-put_batch-clause-tests : goal.returns-in_err-put_batch-clause-tests
+returns-in_err-put_batch-clause-tests g c = open_rises c.args.catalogue.now c.args.work.now.engine c.args.steps.now c.close.new.steps c.requires.at_work.planned c.requires.opened c.close.ensures.work
 
 pub returns-clause-tests : goal.returns-clause-tests
 returns-clause-tests g c = open_rises c.args.catalogue.now c.args.work.now.engine c.args.steps.now c.close.new.steps c.requires.at_work.planned c.requires.opened c.close.ensures.work

@@ -7,6 +7,6 @@ use Rattle.session.proofs.writing.put_batch.Given as goal
 -- the lines of the entries so far were put, and the tails of the last tuples stand among the tails
 abbrev pub invariant-loop-entry : goal.invariant-loop-entry
 invariant-loop-entry l = record {
-  put : l.rows ≡ l.initial.rows ++ flat_map (entry_lines l.catalogue) (take l.entry-index l.entry-items);
+  put : l.rows ≡ l.initial.rows ++ flat_map (entry_lines l.catalogue l.printed.made.now) (take l.entry-index l.entry-items);
   lately : AreIn l.tails l.lately;
 }

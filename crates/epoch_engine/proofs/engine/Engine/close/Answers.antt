@@ -1,17 +1,24 @@
-use Rattle.std.proofs.Common.{◌≡◌, ◌∙◌, sym, refl, subst, ◌+◌, ◌≤◌}
+use Rattle.std.proofs.Common.{◌≡◌, ◌∙◌, sym, ap, refl, subst, ℕ, ◌+◌, ◌≤◌}
 use Rattle.std.specs.Prelude.{IfSome, IsSome, Option}
 use Rattle.semantics.specs.Denotation.{streams_of}
 use Rattle.epoch_engine.specs.Closes.{Closes}
 use Rattle.epoch_engine.specs.EngineView.{EngineView, stores_in}
 use Rattle.epoch_draft.proofs.Lists.{on_err}
 use Rattle.epoch_draft.specs.EpochWork.{epoch_work}
+use Rattle.epoch_engine.specs.Batches.{IsBatch}
+use Rattle.epoch_engine.specs.Entries.{lists_of}
 use Rattle.epoch_engine.specs.Running.{IsStillFor}
-use Rattle.epoch_draft.specs.declared.drawing.Drawing.{Drawing}
+use Rattle.epoch_engine.specs.Taking.{TakesEpoch, results_in}
+use Rattle.epoch_engine.specs.declared.room.Room.{Room}
 use Rattle.epoch_engine.specs.WorkLaws.{IsConsistent}
 use Rattle.epoch_engine.proofs.ConsistentLemmas.{consistent}
 use Rattle.epoch_engine.proofs.EngineLemmas.{closes_ticks, closes_view, view_of, view_same, with_same}
 use Rattle.epoch_engine.proofs.WorkLemmas.{rises_by_work}
 use Rattle.epoch_engine.proofs.engine.Engine.close.Goals as goal
+
+-- the results stand in the room
+pub make-requires-2 : goal.make-requires-2
+make-requires-2 g c = subst (λ (n : ℕ). IsBatch n c.take_epoch.new.room) (sym c.len.ensures) c.in_ok-take_epoch.ensures.batch
 
 -- the open epoch was taken
 pub returns-clause-closed : goal.returns-clause-closed
@@ -19,30 +26,33 @@ returns-clause-closed g c =
     let e = c.self.inside in
     let after = c.take_epoch.new.holdings.stores in
     let epoch = c.close.new.self in
-    subst (λ (v : EngineView). Closes v (view_of e.plan after epoch e.epoch.time) c.in_ok-batch.batch) c.self.view_is
-    (closes_view e.plan e.holdings.stores after e.epoch epoch e.closed_time c.in_ok-batch.batch c.close.ensures.empty c.close.ensures.as_many c.close.ensures.time e.epoch.time refl
-    (subst (λ (v : EngineView). IsSome v.time) (sym c.self.view_is) c.requires.opened) c.in_ok-batch.ensures.taken)
+    let room = c.take_epoch.new.room in
+    let batch = c.make-2.result in
+    let is : batch ≡ results_in e.plan room = c.make-2.ensures ∙ ap (λ (n : ℕ). lists_of n room.drawing.draft.made room.entries) c.len.ensures in
+    subst (λ (v : EngineView). Closes v (view_of e.plan after epoch e.epoch.time) batch) c.self.view_is
+    (closes_view e.plan e.holdings.stores after e.epoch epoch e.closed_time batch c.close.ensures.empty c.close.ensures.as_many c.close.ensures.time e.epoch.time refl
+    (subst (λ (v : EngineView). IsSome v.time) (sym c.self.view_is) c.requires.opened) (subst (TakesEpoch e.plan e.epoch e.holdings.stores after) (sym is) c.in_ok-take_epoch.ensures.taken))
 
--- after want of memory the engine runs on, without a drawing
-pub invariant_of-self-in_err-batch : goal.invariant_of-self-in_err-batch
-invariant_of-self-in_err-batch g c =
+-- after want of memory the engine runs on, without room
+pub invariant_of-self-in_err-take_epoch : goal.invariant_of-self-in_err-take_epoch
+invariant_of-self-in_err-take_epoch g c =
     let e = c.self.inside in record {
-      running = with_same e.plan e.holdings.stores c.take_epoch.new.holdings.stores e.epoch c.in_err-batch.ensures.kept c.self.invariant.running;
+      running = with_same e.plan e.holdings.stores c.take_epoch.new.holdings.stores e.epoch c.in_err-take_epoch.ensures.kept c.self.invariant.running;
       led = c.take_epoch.ensures.led;
       watches = c.take_epoch.ensures.watches;
-      still = subst (λ (kept : Option Drawing). IfSome kept (IsStillFor e.plan)) (sym c.take.ensures.after) tt;
+      still = subst (λ (kept : Option Room). IfSome kept (λ room. IsStillFor e.plan room.drawing)) (sym c.take.ensures.after) tt;
     }
 
 -- and contracts see what they saw
-pub returns-in_err-batch-clause-kept : goal.returns-in_err-batch-clause-kept
-returns-in_err-batch-clause-kept g c =
+pub returns-in_err-take_epoch-clause-kept : goal.returns-in_err-take_epoch-clause-kept
+returns-in_err-take_epoch-clause-kept g c =
     let e = c.self.inside in
     let after = c.take_epoch.new.holdings.stores in
-    on_err c.from_residual-in_err-batch.result (view_of e.plan after e.epoch e.closed_time ≡ c.args.self.now) (view_same e.plan e.holdings.stores after e.epoch e.closed_time c.in_err-batch.ensures.kept ∙ c.self.view_is)
+    on_err c.from_residual-in_err-take_epoch.result (view_of e.plan after e.epoch e.closed_time ≡ c.args.self.now) (view_same e.plan e.holdings.stores after e.epoch e.closed_time c.in_err-take_epoch.ensures.kept ∙ c.self.view_is)
 
 -- no more is tested than the tuples of the epoch ask for
-pub returns-in_err-batch-clause-ticks : goal.returns-in_err-batch-clause-ticks
-returns-in_err-batch-clause-ticks g c =
+pub returns-in_err-take_epoch-clause-ticks : goal.returns-in_err-take_epoch-clause-ticks
+returns-in_err-take_epoch-clause-ticks g c =
     let e = c.self.inside in
     subst (λ (v : EngineView). c.take_epoch.new.steps ≤ c.args.steps.now + epoch_work v.network v.layout (stores_in v) (streams_of v.opened)) c.self.view_is
     (closes_ticks e.plan e.holdings.stores e.epoch e.closed_time c.args.steps.now c.take_epoch.new.steps c.take_epoch.ensures.ticks)
@@ -54,8 +64,8 @@ returns-clause-ticks g c =
     (closes_ticks e.plan e.holdings.stores e.epoch e.closed_time c.args.steps.now c.take_epoch.new.steps c.take_epoch.ensures.ticks)
 
 -- whatever the engine stands for, that is no more than the history asks for
-pub returns-in_err-batch-clause-work : goal.returns-in_err-batch-clause-work
-returns-in_err-batch-clause-work g c =
+pub returns-in_err-take_epoch-clause-work : goal.returns-in_err-take_epoch-clause-work
+returns-in_err-take_epoch-clause-work g c =
     let e = c.self.inside in
     rises_by_work c.args.self.now c.args.steps.now c.take_epoch.new.steps (subst IsConsistent c.self.view_is (consistent e.plan e.holdings.stores e.epoch e.closed_time c.self.invariant.running))
     (subst (λ (v : EngineView). c.take_epoch.new.steps ≤ c.args.steps.now + epoch_work v.network v.layout (stores_in v) (streams_of v.opened)) c.self.view_is

@@ -9,9 +9,6 @@ use Rattle.epoch_engine.proofs.EngineLemmas.{order_below, order_once, outs_below
 use Rattle.epoch_engine.proofs.plan.Plan.make.Goals as goal
 
 -- printed streams have kinds
-pub last_places-requires : goal.last_places-requires
-last_places-requires c = subst (λ (m : ℕ). All (λ s. s < m) c.args.layout.outs) (sym c.len-4.ensures) (outs_below c.args.merged c.args.layout c.requires)
-
 pub printed_places-requires : goal.printed_places-requires
 printed_places-requires c = subst (λ (m : ℕ). All (λ s. s < m) c.args.layout.outs) (sym c.len-3.ensures) (outs_below c.args.merged c.args.layout c.requires)
 
@@ -26,7 +23,7 @@ pub places_of-requires-clause-once : goal.places_of-requires-clause-once
 places_of-requires-clause-once c =
     subst (λ (order : List ℕ). (place : ℕ) → place < length order → Contains (take place order) (get_or order place 0) → ⊥) (sym c.as_slice.ensures) (order_once c.args.merged c.args.layout c.requires)
 
--- the readers and the last places are those of the plan
+-- the readers are those of the plan
 pub returns-clause-is : goal.returns-clause-is
 returns-clause-is c =
     record {
@@ -34,5 +31,4 @@ returns-clause-is c =
       places = subst (λ (streams : ℕ). ArePlaces c.args.layout.order streams c.in_ok-places.places) c.len-2.ensures (subst (λ (order : List ℕ). ArePlaces order c.len-2.result c.in_ok-places.places) c.as_slice.ensures c.in_ok-places.ensures);
       printed = search rules;
       places_printed = subst (λ (m : ℕ). HasPlaces c.args.layout.outs m c.in_ok-out_places.out_places) c.len-3.ensures c.in_ok-out_places.ensures;
-      last = c.in_ok-last.ensures ∙ c.len-4.ensures;
     }

@@ -1,6 +1,6 @@
 use Rattle.std.proofs.Common.{◌≡◌, take}
 use Rattle.epoch_engine.proofs.PrintedLemmas.{all_places}
-use Rattle.epoch_engine.proofs.batch.due_places.Given as goal
+use Rattle.epoch_engine.proofs.room.list_places.Given as goal
 
 -- the places of the streams so far
 abbrev pub invariant-loop-stream : goal.invariant-loop-stream

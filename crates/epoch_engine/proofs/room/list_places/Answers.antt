@@ -4,7 +4,7 @@ use Rattle.std.proofs.lemmas.List.Filters.{dedup_is}
 use Rattle.std.proofs.lemmas.Option.{get_or_from_slice_get}
 use Rattle.epoch_draft.proofs.Lists.{taken_all}
 use Rattle.epoch_engine.proofs.PrintedLemmas.{all_places, all_places_more, places_are}
-use Rattle.epoch_engine.proofs.batch.due_places.Goals as goal
+use Rattle.epoch_engine.proofs.room.list_places.Goals as goal
 
 -- the places of one stream more
 pub loop-stream-preserved : goal.loop-stream-preserved
