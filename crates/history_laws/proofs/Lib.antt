@@ -1,0 +1,9 @@
+pub mod BagLemmas
+pub mod EpochLemmas
+pub mod Examples
+pub mod KeyLemmas
+pub mod LateLemmas
+pub mod RestartLemmas
+pub mod SiftLemmas
+pub mod SortLemmas
+pub mod StreamLemmas

@@ -1,0 +1,3 @@
+pub mod Epochs
+pub mod Keys
+pub mod LateStarts

@@ -1,0 +1,6 @@
+pub mod Examples
+pub mod OrderLemmas
+pub mod QueryPartLemmas
+pub mod SoundLemmas
+pub mod SplitLemmas
+pub mod TextLemmas

@@ -1,0 +1,36 @@
+-- The part of an event text that has some keys.
+use Rattle.std.specs.Prelude.{◌≡◌, ℕ, Bool, true, List, Result, Ok, Err}
+use Rattle.std.specs.List.{All, filter, flat_map}
+use Rattle.event_types.specs.declared.value.Value.{Value}
+use Rattle.semantics.specs.Report.{line, lines_at}
+use Rattle.semantics.specs.Results.{results}
+use Rattle.semantics.specs.Values.{value_at}
+use Rattle.stream_schema.specs.Streams.{Entry}
+use Rattle.catalogue.specs.Judgement.{Judged, program_of}
+use Rattle.event_csv.specs.declared.event.Seen.{Seen}
+use Rattle.event_csv.specs.declared.fault.LineFault.{LineFault}
+use Rattle.event_csv.specs.Event.{event}
+use Rattle.history_laws.specs.Keys.{AreKeyed, with_keys}
+use Rattle.text_laws.specs.Wholes.{IsHeardWhole, events_of, line_texts}
+
+-- whether the event of a line has one of our keys
+abbrev pub is_ours_in : (Value → Bool) → (ℕ → ℕ) → Result Seen LineFault → Bool
+is_ours_in is_ours keys (Ok seen) = is_ours (value_at seen.tuple (keys seen.stream))
+is_ours_in is_ours keys (Err why) = true
+
+-- the lines of the event text whose events have one of our keys, in their order
+abbrev pub lines_with_keys : (Value → Bool) → (ℕ → ℕ) → List Entry → List (List ℕ) → List (List ℕ)
+lines_with_keys is_ours keys streams texts = filter (λ text. is_ours_in is_ours keys (event streams text)) texts
+
+-- no line of the part is refused, and at each time each query has its results of our keys, in their order, and no others
+pub record ReportsItsKeys (judged : Judged) (keys : ℕ → ℕ) (is_ours : Value → Bool) (events part : List ℕ) : Type 0 where
+  pub none_refused : IsHeardWhole judged part
+  pub results_are : (stream time : ℕ) → results (program_of judged) (events_of judged part) stream time ≡ with_keys is_ours (keys stream) (results (program_of judged) (events_of judged events) stream time)
+  pub lines_are :
+      All (λ query. (time : ℕ) → lines_at (program_of judged) (events_of judged part) time query ≡ flat_map (line query.name) (with_keys is_ours (keys query.stream) (results (program_of judged) (events_of judged events) query.stream time))) (program_of judged).queries
+
+-- where each query keeps the key, a part of an event text by its values reports the results of these keys
+abbrev pub PartsByAKeyReportTheirKeys : Type 0
+PartsByAKeyReportTheirKeys =
+    (judged : Judged) (keys : ℕ → ℕ) (is_ours : Value → Bool) (events part : List ℕ) → AreKeyed keys (program_of judged) → IsHeardWhole judged events
+    → line_texts part ≡ lines_with_keys is_ours keys judged.streams (line_texts events) → ReportsItsKeys judged keys is_ours events part

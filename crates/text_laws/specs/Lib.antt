@@ -1,0 +1,5 @@
+pub mod KeyParts
+pub mod LineOrder
+pub mod QueryParts
+pub mod Restarts
+pub mod Wholes
