@@ -1,6 +1,7 @@
 -- The streams that are due are made in the order of work.
-use Rattle.std.proofs.Common.{◌≡◌, ◌∙◌, sym, ap, refl, subst, inl, inr, ℕ, zero, suc, ◌+◌, ◌-◌, ◌<◌, ◌≤◌, ◌⊎◌, length, get_or, set, take, drop, List, [], ◌∷◌, ◌++◌, arith}
-use Rattle.std.specs.Prelude.{Contains, Option}
+use Rattle.std.proofs.Common.{◌≡◌, ◌∙◌, sym, ap, refl, subst, inl, inr, ℕ, Bool, true, false, zero, suc, ◌+◌, ◌-◌, ◌<◌, ◌≤◌, ◌⊎◌, length, get_or, set, take, drop, List, [], ◌∷◌, ◌++◌, arith}
+use Rattle.std.specs.Prelude.{Contains, Option, Some, None}
+use Rattle.std.specs.Option.{option_map}
 use Rattle.std.specs.List.{All}
 use Rattle.std.specs.Ordering.{nat_cmp, match_ordering, MatchOrdering}
 use Rattle.std.specs.declared.cmp.Ordering.{Ordering}
@@ -12,23 +13,29 @@ use Rattle.std.proofs.Math.Seq.{drop-append_seam}
 use Rattle.std.proofs.lemmas.Grind.{get_or-set_at}
 use Rattle.std.proofs.lemmas.List.{get_or-set_other, length-drop, length-set, take_more}
 use Rattle.std.proofs.lemmas.List.Elements.{All-contains, All-contains_itself, All-head, All-push, All-tail, All-weaker, Contains-append_cases, Contains-append_left, Contains-append_right, Contains-push, Contains-push_cases}
+use Rattle.std.proofs.lemmas.Bool.{true≢false}
+use Rattle.event_types.specs.Order.{sorted}
 use Rattle.event_types.specs.Tuple.{TupleView}
 use Rattle.binding_index.specs.declared.store.Store.{Store}
-use Rattle.automaton.specs.States.{Net}
+use Rattle.automaton.specs.States.{Net, entrance_at}
+use Rattle.automaton.specs.declared.network.Entrance.{Entrance}
 use Rattle.automaton.specs.declared.layout.Layout.{Layout}
 use Rattle.automaton.proofs.NumberLemmas.{are_same_or_not}
-use Rattle.epoch_draft.specs.Agenda.{AreFrom, ArePlaces, IsPlanned}
-use Rattle.epoch_draft.specs.Deriving.{CanDraw, DrawnUpTo, news_of}
+use Rattle.epoch_draft.specs.Agenda.{AreFrom, ArePlaces, AreRead, IsPlanned, IsUnread, read_at, read_by}
+use Rattle.epoch_draft.specs.Deriving.{CanDraw, news_of}
+use Rattle.epoch_draft.specs.Drafts.{DraftFits}
 use Rattle.epoch_draft.specs.Marks.{MarksMore}
 use Rattle.epoch_draft.specs.Held.{held}
-use Rattle.epoch_draft.specs.EpochWork.{derived_tests}
+use Rattle.epoch_draft.specs.EpochWork.{derived_tests, pairs_work}
 use Rattle.epoch_draft.specs.declared.draft.Draft.{Draft}
 use Rattle.epoch_draft.specs.declared.draft.Pair.{Pair}
 use Rattle.epoch_draft.specs.declared.marks.Marks.{Marks}
-use Rattle.epoch_draft.proofs.DeriveLemmas.{idle_news, idle_rest, idle_step, unmarked_none}
+use Rattle.epoch_draft.proofs.DeriveLemmas.{AreReadInOrder, MadeUpTo, derived_rest, derived_step, derived_takes, order_stays}
+use Rattle.epoch_draft.proofs.DrawnLemmas.{entry_below}
+use Rattle.epoch_draft.proofs.UnreadLemmas.{skipped_meets}
 use Rattle.epoch_draft.proofs.GoingLemmas.{all_right}
 use Rattle.epoch_draft.proofs.MarkLemmas.{all_below}
-use Rattle.epoch_draft.proofs.Lists.{below_or_last, contains_more, contains_this, taken_all}
+use Rattle.epoch_draft.proofs.Lists.{below_or_last, contains_more, contains_this, some_is, taken_all}
 use Rattle.epoch_draft.specs.Tests.{tuple_work}
 use Rattle.epoch_draft.specs.Takes.{take_work}
 
@@ -95,110 +102,40 @@ planned_later keys rest p k is later c = go (first_or_other p rest k (subst (λ 
     go (inl same) = omega (arith, same)
     go (inr c) = let less = less_is p k (All-contains (IsLtBy nat_cmp p) rest k later c) in omega (arith, less)
 
--- each due stream of the order from a place on has its place on the agenda
-abbrev pub AllPlanned : List ℕ → List ℕ → ℕ → List ℕ → Type 0
-AllPlanned order due next keys = (k : ℕ) → next ≤ k → k < length order → Contains due (get_or order k 0) → Contains keys k
+-- each due stream of the order from a place on has its place on the agenda, or no state reads it
+abbrev pub AllPlanned : Net → List ℕ → List ℕ → ℕ → List ℕ → Type 0
+AllPlanned net order due next keys = (k : ℕ) → next ≤ k → k < length order → Contains due (get_or order k 0) → Contains keys k ⊎ IsUnread net (get_or order k 0)
 
 -- the streams that are looked at are planned
-pub planned_first : (order : List ℕ) (streams : ℕ) (places due keys : List ℕ) (next : ℕ) → ArePlaces order streams places → All (λ s. IsPlanned next (length order) keys (get_or places s 0)) due → AllPlanned order due next keys
-planned_first order streams places due keys next are planned k from lt c =
-    let at = are.each k lt in
-    subst (Contains keys) at (All-contains (λ s. IsPlanned next (length order) keys (get_or places s 0)) due (get_or order k 0) planned c (subst (λ (n : ℕ). next ≤ n) (sym at) from) (subst (λ (n : ℕ). n < length order) (sym at) lt))
+pub planned_first : (net : Net) (order : List ℕ) (streams : ℕ) (places due keys : List ℕ) (next : ℕ) → ArePlaces net order streams places → All (λ s. IsPlanned next (length order) keys (get_or places s 0)) due → AllPlanned net order due next keys
+planned_first net order streams places due keys next are planned k from lt c = go (are.each k lt)
+  where
+    go : (get_or places (get_or order k 0) 0 ≡ k) ⊎ IsUnread net (get_or order k 0) → Contains keys k ⊎ IsUnread net (get_or order k 0)
+    go (inl at) = inl
+        (subst (Contains keys) at (All-contains (λ s. IsPlanned next (length order) keys (get_or places s 0)) due (get_or order k 0) planned c (subst (λ (n : ℕ). next ≤ n) (sym at) from) (subst (λ (n : ℕ). n < length order) (sym at) lt)))
+    go (inr unread) = inr unread
 
 -- and so are those that were planned before, but for the first
-pub planned_next : (order : List ℕ) (streams : ℕ) (places keys rest now due fresh more : List ℕ) (next p : ℕ) → ArePlaces order streams places → AllPlanned order due next keys → next ≤ p → keys ≡ p ∷ rest → All (Contains now) rest
-    → more ≡ due ++ fresh → All (λ s. IsPlanned (p + 1) (length order) now (get_or places s 0)) fresh → AllPlanned order more (p + 1) now
-planned_next order streams places keys rest now due fresh more next p are was from is kept grown planned k after lt c =
+pub planned_next : (net : Net) (order : List ℕ) (streams : ℕ) (places keys rest now due fresh more : List ℕ) (next p : ℕ) → ArePlaces net order streams places → AllPlanned net order due next keys → next ≤ p → keys ≡ p ∷ rest → All (Contains now) rest
+    → more ≡ due ++ fresh → All (λ s. IsPlanned (p + 1) (length order) now (get_or places s 0)) fresh → AllPlanned net order more (p + 1) now
+planned_next net order streams places keys rest now due fresh more next p are was from is kept grown planned k after lt c =
     go (Contains-append_cases due fresh (get_or order k 0) (subst (λ (ns : List ℕ). Contains ns (get_or order k 0)) grown c))
   where
     old : (k ≡ p) ⊎ Contains rest k → Contains now k
     old (inl same) = absurd (omega (arith, same, after))
     old (inr c) = All-contains (Contains now) rest k kept c
 
-    go : Contains due (get_or order k 0) ⊎ Contains fresh (get_or order k 0) → Contains now k
-    go (inl c) = old (first_or_other p rest k (subst (λ (ks : List ℕ). Contains ks k) is (was k (omega (arith, from, after)) lt c)))
-    go (inr c) = planned_first order streams places fresh now (p + 1) are planned k after lt c
+    stays : Contains keys k ⊎ IsUnread net (get_or order k 0) → Contains now k ⊎ IsUnread net (get_or order k 0)
+    stays (inl c) = inl (old (first_or_other p rest k (subst (λ (ks : List ℕ). Contains ks k) is c)))
+    stays (inr unread) = inr unread
+
+    go : Contains due (get_or order k 0) ⊎ Contains fresh (get_or order k 0) → Contains now k ⊎ IsUnread net (get_or order k 0)
+    go (inl c) = stays (was k (omega (arith, from, after)) lt c)
+    go (inr c) = planned_first net order streams places fresh now (p + 1) are planned k after lt c
 
 -- what is behind the marked numbers are the newly marked ones
 pub fresh_is : (old new : Marks) → (more : MarksMore old new) → drop (length old.numbers) new.numbers ≡ more.added
 fresh_is old new more = ap (drop (length old.numbers)) more.is ∙ drop-append_seam old.numbers more.added
-
--- streams of the order that aren't due have no tuples
-pub undue_none : (order : List ℕ) (draft : Draft) (k : ℕ) → ((s : ℕ) → (get_or draft.made s [] ≡ []) ⊎ Contains draft.due.numbers s) → (Contains draft.due.numbers (get_or order k 0) → ⊥) → get_or draft.made (get_or order k 0) [] ≡ []
-undue_none order draft k due absent = unmarked_none (get_or draft.made (get_or order k 0) []) draft.due.numbers (get_or order k 0) (due (get_or order k 0)) absent
-
-module _ (net : Net) (layout : Layout) (stores : List (Option Store)) (opened : List (List TupleView)) (can : CanDraw net layout stores opened) (draft : Draft) (pairs : List Pair) where
-  -- the streams from one place to another have no tuples
-  abbrev pub AreIdle : ℕ → ℕ → Type 0
-  AreIdle i p = (k : ℕ) → i ≤ k → k < p → get_or draft.made (get_or layout.order k 0) [] ≡ []
-
-  -- they are drawn as they are, by induction on how many they are
-  idle_many : (n i p : ℕ) → i + n ≡ p → p ≤ length layout.order → AreIdle i p → DrawnUpTo net layout stores opened (take i layout.order) draft pairs → DrawnUpTo net layout stores opened (take p layout.order) draft pairs
-  idle_many zero i p is below idle was = subst (λ (m : ℕ). DrawnUpTo net layout stores opened (take m layout.order) draft pairs) (let same : i ≡ p = omega (arith, is) in same) was
-  idle_many (suc n) i p is below idle was =
-      idle_many n (i + 1) p (omega (arith, is)) below (λ k from lt. idle k (omega (arith, from)) lt)
-      (idle_step net layout stores opened can i (omega (arith, is, below)) draft pairs (idle i (omega arith) (omega (arith, is))) was)
-
-  -- idle streams are drawn as they are
-  pub idle_to : (i p : ℕ) → i ≤ p → p ≤ length layout.order → AreIdle i p → DrawnUpTo net layout stores opened (take i layout.order) draft pairs → DrawnUpTo net layout stores opened (take p layout.order) draft pairs
-  idle_to i p from below idle was = idle_many (p - i) i p (omega (arith, from)) below idle was
-
-  -- the tests that are left before the streams from a place on
-  abbrev pub tests_left : (ℕ → TupleView → ℕ) → ℕ → ℕ
-  tests_left tests i = derived_tests tests net (drop i layout.order) (held stores) (news_of opened draft.made (take i layout.order))
-
-  -- idle streams leave them as they are, by induction on how many they are
-  left_many : (tests : ℕ → TupleView → ℕ) (n i p : ℕ) → i + n ≡ p → p ≤ length layout.order → AreIdle i p → DrawnUpTo net layout stores opened (take i layout.order) draft pairs → tests_left tests i ≡ tests_left tests p
-  left_many tests zero i p is below idle was = ap (tests_left tests) (let same : i ≡ p = omega (arith, is) in same)
-  left_many tests (suc n) i p is below idle was =
-      let none = idle i (omega arith) (omega (arith, is)) in
-      let lt : i < length layout.order = omega (arith, is, below) in
-      idle_rest net layout stores opened can i lt tests draft pairs none was
-      ∙ left_many tests n (i + 1) p (omega (arith, is)) below (λ k from lt. idle k (omega (arith, from)) lt) (idle_step net layout stores opened can i lt draft pairs none was)
-
-  -- before the first place that is planned nothing is due
-  idle_before : (next p : ℕ) (keys rest : List ℕ) → AllPlanned layout.order draft.due.numbers next keys → keys ≡ p ∷ rest → All (IsLtBy nat_cmp p) rest → p ≤ length layout.order → ((s : ℕ) → (get_or draft.made s [] ≡ []) ⊎ Contains draft.due.numbers s)
-      → AreIdle next p
-  idle_before next p keys rest planned is later below due k from lt =
-      undue_none layout.order draft k due (λ c. absurd (let after = planned_later keys rest p k is later (planned k from (omega (arith, lt, below)) c) in omega (arith, after, lt)))
-
-  -- the streams before the first place that is planned are drawn
-  pub popped_until : (next p : ℕ) (keys rest : List ℕ) → AllPlanned layout.order draft.due.numbers next keys → keys ≡ p ∷ rest → All (IsLtBy nat_cmp p) rest → next ≤ p → p < length layout.order
-      → DrawnUpTo net layout stores opened (take next layout.order) draft pairs → DrawnUpTo net layout stores opened (take p layout.order) draft pairs
-  popped_until next p keys rest planned is later from lt was =
-      idle_to next p from (omega (arith, lt)) (idle_before next p keys rest planned is later (omega (arith, lt)) was.fits.due_all) was
-
-  -- and they leave the tests as they are
-  pub popped_left : (tests : ℕ → TupleView → ℕ) (next p : ℕ) (keys rest : List ℕ) → AllPlanned layout.order draft.due.numbers next keys → keys ≡ p ∷ rest → All (IsLtBy nat_cmp p) rest → next ≤ p → p < length layout.order
-      → DrawnUpTo net layout stores opened (take next layout.order) draft pairs → tests_left tests next ≡ tests_left tests p
-  popped_left tests next p keys rest planned is later from lt was =
-      left_many tests (p - next) next p (omega (arith, from)) (omega (arith, lt)) (idle_before next p keys rest planned is later (omega (arith, lt)) was.fits.due_all) was
-
-  -- idle streams leave the tuples as they are, by induction on how many they are
-  news_many : (n i p : ℕ) → i + n ≡ p → p ≤ length layout.order → AreIdle i p → news_of opened draft.made (take i layout.order) ≡ news_of opened draft.made (take p layout.order)
-  news_many zero i p is below idle = ap (λ (m : ℕ). news_of opened draft.made (take m layout.order)) (let same : i ≡ p = omega (arith, is) in same)
-  news_many (suc n) i p is below idle =
-      idle_news net layout stores opened can i (omega (arith, is, below)) draft (idle i (omega arith) (omega (arith, is))) ∙ news_many n (i + 1) p (omega (arith, is)) below (λ k from lt. idle k (omega (arith, from)) lt)
-
-  -- so do the streams before the first place that is planned
-  pub popped_news : (next p : ℕ) (keys rest : List ℕ) → AllPlanned layout.order draft.due.numbers next keys → keys ≡ p ∷ rest → All (IsLtBy nat_cmp p) rest → next ≤ p → p < length layout.order
-      → DrawnUpTo net layout stores opened (take next layout.order) draft pairs → news_of opened draft.made (take next layout.order) ≡ news_of opened draft.made (take p layout.order)
-  popped_news next p keys rest planned is later from lt was = news_many (p - next) next p (omega (arith, from)) (omega (arith, lt)) (idle_before next p keys rest planned is later (omega (arith, lt)) was.fits.due_all)
-
-  -- and all that are left, once nothing is planned
-  pub ended_news : (next : ℕ) (keys : List ℕ) → AllPlanned layout.order draft.due.numbers next keys → (0 < length keys → ⊥) → next ≤ length layout.order
-      → DrawnUpTo net layout stores opened (take next layout.order) draft pairs → news_of opened draft.made (take next layout.order) ≡ news_of opened draft.made layout.order
-  ended_news next keys planned none from was =
-      news_many (length layout.order - next) next (length layout.order) (omega (arith, from)) (omega arith) (λ k after lt. undue_none layout.order draft k was.fits.due_all (λ c. none (filled_list keys k (planned k after lt c))))
-      ∙ ap (news_of opened draft.made) (taken_all layout.order (length layout.order) (omega arith))
-
-  -- once nothing is planned all streams are drawn
-  pub ended_until : (next : ℕ) (keys : List ℕ) → AllPlanned layout.order draft.due.numbers next keys → (0 < length keys → ⊥) → next ≤ length layout.order
-      → DrawnUpTo net layout stores opened (take next layout.order) draft pairs → DrawnUpTo net layout stores opened layout.order draft pairs
-  ended_until next keys planned none from was =
-      subst (λ (done : List ℕ). DrawnUpTo net layout stores opened done draft pairs) (taken_all layout.order (length layout.order) (omega arith))
-      (idle_to next (length layout.order) from (omega arith)
-      (λ k after lt. undue_none layout.order draft k was.fits.due_all (λ c. none (filled_list keys k (planned k after lt c)))) was)
 
 -- the tests by which the derived streams from a place on are still to be met
 abbrev pub work_left : Net → Layout → List (Option Store) → List (List TupleView) → Draft → ℕ → ℕ
@@ -208,10 +145,82 @@ work_left net layout stores opened draft next = derived_tests (tuple_work net (h
 abbrev pub takes_left : Net → Layout → List (Option Store) → List (List TupleView) → Draft → ℕ → ℕ
 takes_left net layout stores opened draft next = derived_tests (take_work net (held stores)) net (drop next layout.order) (held stores) (news_of opened draft.made (take next layout.order))
 
--- the streams so far have their places, and the others the order's length
-pub record ArePlacesUpTo (order : List ℕ) (streams : ℕ) (i : ℕ) (places : List ℕ) : Type 0 where
+-- the streams so far are made, and in order where some state reads them; their tests with those that are left are within bounds
+pub record MadeBelow (net : Net) (layout : Layout) (stores : List (Option Store)) (opened : List (List TupleView)) (draft : Draft) (pairs : List Pair) (i steps most taken : ℕ) : Type 0 where
+  pub until : MadeUpTo net layout stores opened (take i layout.order) draft pairs
+  pub in_order : AreReadInOrder net draft.made (take i layout.order)
+  pub ticks : steps + work_left net layout stores opened draft i ≤ most
+  pub takes : pairs_work net (take i layout.order) stores opened draft.made pairs + takes_left net layout stores opened draft i ≤ taken
+
+module _ (net : Net) (layout : Layout) (stores : List (Option Store)) (opened : List (List TupleView)) (can : CanDraw net layout stores opened) (draft : Draft) (pairs : List Pair) (steps most taken : ℕ) where
+  -- the streams so far are made
+  abbrev IsMade : ℕ → Type 0
+  IsMade i = MadeBelow net layout stores opened draft pairs i steps most taken
+
+  -- nothing comes of the stream at a place: it has no tuples, or no state reads it
+  abbrev pub IsIdle : ℕ → Type 0
+  IsIdle k = (get_or draft.made (get_or layout.order k 0) [] ≡ []) ⊎ IsUnread net (get_or layout.order k 0)
+
+  -- a stream of which nothing comes is made as it is
+  idle_step : (i : ℕ) → i < length layout.order → IsIdle i → IsMade i → IsMade (i + 1)
+  idle_step i lt idle was =
+      let stream = get_or layout.order i 0 in
+      let fits = was.until.fits in
+      let skipped = skipped_meets net (held stores) stream draft pairs (subst (λ (m : ℕ). DraftFits m (length net) draft) (sym fits.made) fits) idle in
+      let meets = skipped.0 in record {
+        until = derived_step net layout stores opened can i lt draft draft pairs pairs was.until meets;
+        in_order = order_stays net layout stores opened can i lt draft draft pairs pairs was.until meets was.in_order (orderly meets.tuples skipped.1 idle);
+        ticks =
+            let rest = derived_rest net layout stores opened can i lt draft draft pairs pairs was.until meets (tuple_work net (held stores)) in
+            let old = was.ticks in omega (arith, rest, old);
+        takes =
+            let rest = derived_rest net layout stores opened can i lt draft draft pairs pairs was.until meets (take_work net (held stores)) in
+            let one = derived_takes net layout stores opened can i lt draft draft pairs pairs was.until meets in
+            let old = was.takes in omega (arith, rest, one, old);
+      }
+    where
+      orderly : (rows : List TupleView) → rows ≡ get_or draft.made (get_or layout.order i 0) [] → IsIdle i → IsUnread net (get_or layout.order i 0) ⊎ (sorted rows ≡ rows)
+      orderly rows is (inl none) = inr (ap sorted (is ∙ none) ∙ sym (is ∙ none))
+      orderly rows is (inr unread) = inl unread
+
+  -- and so are several, by induction on how many they are
+  idle_many : (n i p : ℕ) → i + n ≡ p → p ≤ length layout.order → ((k : ℕ) → i ≤ k → k < p → IsIdle k) → IsMade i → IsMade p
+  idle_many zero i p is below idle was = subst (λ (m : ℕ). IsMade m) (let same : i ≡ p = omega (arith, is) in same) was
+  idle_many (suc n) i p is below idle was =
+      idle_many n (i + 1) p (omega (arith, is)) below (λ k from lt. idle k (omega (arith, from)) lt)
+      (idle_step i (omega (arith, is, below)) (idle i (omega arith) (omega (arith, is))) was)
+
+  -- a stream that isn't planned is idle
+  unplanned_idle : (k : ℕ) → ((s : ℕ) → (get_or draft.made s [] ≡ []) ⊎ Contains draft.due.numbers s) → (Contains draft.due.numbers (get_or layout.order k 0) → IsUnread net (get_or layout.order k 0)) → IsIdle k
+  unplanned_idle k due undue = go (due (get_or layout.order k 0))
+    where
+      go : (get_or draft.made (get_or layout.order k 0) [] ≡ []) ⊎ Contains draft.due.numbers (get_or layout.order k 0) → IsIdle k
+      go (inl none) = inl none
+      go (inr c) = inr (undue c)
+
+  -- the streams before the first place that is planned are made
+  pub popped_until : (next p : ℕ) (keys rest : List ℕ) → AllPlanned net layout.order draft.due.numbers next keys → keys ≡ p ∷ rest → All (IsLtBy nat_cmp p) rest → next ≤ p → p < length layout.order → IsMade next → IsMade p
+  popped_until next p keys rest planned is later from lt was =
+      idle_many (p - next) next p (omega (arith, from)) (omega (arith, lt)) (λ k after less. unplanned_idle k was.until.fits.due_all (λ c. early k less (planned k after (omega (arith, less, lt)) c))) was
+    where
+      early : (k : ℕ) → k < p → Contains keys k ⊎ IsUnread net (get_or layout.order k 0) → IsUnread net (get_or layout.order k 0)
+      early k less (inl c) = absurd (let after = planned_later keys rest p k is later c in omega (arith, after, less))
+      early k less (inr unread) = unread
+
+  -- once nothing is planned all streams are made
+  pub ended_until : (next : ℕ) (keys : List ℕ) → AllPlanned net layout.order draft.due.numbers next keys → (0 < length keys → ⊥) → next ≤ length layout.order → IsMade next → IsMade (length layout.order)
+  ended_until next keys planned none from was =
+      idle_many (length layout.order - next) next (length layout.order) (omega (arith, from)) (omega arith)
+      (λ k after less. unplanned_idle k was.until.fits.due_all (λ c. late k (planned k after less c))) was
+    where
+      late : (k : ℕ) → Contains keys k ⊎ IsUnread net (get_or layout.order k 0) → IsUnread net (get_or layout.order k 0)
+      late k (inl c) = absurd (none (filled_list keys k c))
+      late k (inr unread) = unread
+
+-- the streams so far have their places, or no state reads them, and the others the order's length
+pub record ArePlacesUpTo (net : Net) (order : List ℕ) (streams : ℕ) (i : ℕ) (places : List ℕ) : Type 0 where
   pub as_many : length places ≡ streams
-  pub each : (k : ℕ) → k < i → get_or places (get_or order k 0) 0 ≡ k
+  pub each : (k : ℕ) → k < i → (get_or places (get_or order k 0) 0 ≡ k) ⊎ IsUnread net (get_or order k 0)
   pub others : (s : ℕ) → s < streams → (get_or places s 0 ≡ length order) ⊎ Contains (take i order) s
 
 contains_taken : (order : List ℕ) (i k : ℕ) → k < i → i ≤ length order → Contains (take i order) (get_or order k 0)
@@ -226,8 +235,9 @@ contains_taken order (suc i) k lt below = go (are_same_or_not k i) (contains_tak
     go (inr other) rest = subst (λ (m : ℕ). Contains (take m order) (get_or order k 0)) next (contains_more order i 0 (get_or order k 0) (omega (arith, below)) (rest (omega (arith, lt, other)) (omega (arith, below))))
 
 -- one stream more has its place
-pub places_more : (order : List ℕ) (streams i : ℕ) (places : List ℕ) → i < length order → get_or order i 0 < streams → (Contains (take i order) (get_or order i 0) → ⊥) → ArePlacesUpTo order streams i places → ArePlacesUpTo order streams (i + 1) (set places (get_or order i 0) i)
-places_more order streams i places lt below once was = record {
+pub places_more : (net : Net) (order : List ℕ) (streams i : ℕ) (places : List ℕ) → i < length order → get_or order i 0 < streams → (Contains (take i order) (get_or order i 0) → ⊥) → ArePlacesUpTo net order streams i places
+    → ArePlacesUpTo net order streams (i + 1) (set places (get_or order i 0) i)
+places_more net order streams i places lt below once was = record {
   as_many = length-set places s i ∙ was.as_many;
   each = λ k less. each k (below_or_last k i less);
   others = λ t there. others t (are_same_or_not t s) (was.others t there);
@@ -239,19 +249,38 @@ places_more order streams i places lt below once was = record {
     there : s < length places
     there = omega (arith, below, was.as_many)
 
-    each : (k : ℕ) → (k < i) ⊎ (k ≡ i) → get_or (set places s i) (get_or order k 0) 0 ≡ k
-    each k (inl less) =
-        get_or-set_other places s (get_or order k 0) i 0 (λ same. once (subst (Contains (take i order)) same (contains_taken order i k less (omega (arith, lt))))) ∙ was.each k less
-    each k (inr last) = get_or-set_at places s (get_or order k 0) i 0 (ap (λ (m : ℕ). get_or order m 0) last) there ∙ sym last
+    earlier : (k : ℕ) → k < i → (get_or places (get_or order k 0) 0 ≡ k) ⊎ IsUnread net (get_or order k 0) → (get_or (set places s i) (get_or order k 0) 0 ≡ k) ⊎ IsUnread net (get_or order k 0)
+    earlier k less (inl at) = inl (get_or-set_other places s (get_or order k 0) i 0 (λ same. once (subst (Contains (take i order)) same (contains_taken order i k less (omega (arith, lt))))) ∙ at)
+    earlier k less (inr unread) = inr unread
+
+    each : (k : ℕ) → (k < i) ⊎ (k ≡ i) → (get_or (set places s i) (get_or order k 0) 0 ≡ k) ⊎ IsUnread net (get_or order k 0)
+    each k (inl less) = earlier k less (was.each k less)
+    each k (inr last) = inl (get_or-set_at places s (get_or order k 0) i 0 (ap (λ (m : ℕ). get_or order m 0) last) there ∙ sym last)
 
     others : (t : ℕ) → (t ≡ s) ⊎ (t ≡ s → ⊥) → (get_or places t 0 ≡ length order) ⊎ Contains (take i order) t → (get_or (set places s i) t 0 ≡ length order) ⊎ Contains (take (i + 1) order) t
     others t (inl same) h = inr (subst (Contains (take (i + 1) order)) (sym same) (contains_this order i 0 lt))
     others t (inr other) (inl none) = inl (get_or-set_other places s t i 0 other ∙ none)
     others t (inr other) (inr c) = inr (contains_more order i 0 t lt c)
 
+-- or no state reads it
+pub places_skip : (net : Net) (order : List ℕ) (streams i : ℕ) (places : List ℕ) → i < length order → IsUnread net (get_or order i 0) → ArePlacesUpTo net order streams i places → ArePlacesUpTo net order streams (i + 1) places
+places_skip net order streams i places lt unread was = record {
+  as_many = was.as_many;
+  each = λ k less. each k (below_or_last k i less);
+  others = λ t there. others t (was.others t there);
+}
+  where
+    each : (k : ℕ) → (k < i) ⊎ (k ≡ i) → (get_or places (get_or order k 0) 0 ≡ k) ⊎ IsUnread net (get_or order k 0)
+    each k (inl less) = was.each k less
+    each k (inr last) = inr (subst (λ (m : ℕ). IsUnread net (get_or order m 0)) (sym last) unread)
+
+    others : (t : ℕ) → (get_or places t 0 ≡ length order) ⊎ Contains (take i order) t → (get_or places t 0 ≡ length order) ⊎ Contains (take (i + 1) order) t
+    others t (inl none) = inl none
+    others t (inr c) = inr (contains_more order i 0 t lt c)
+
 -- all streams have their places
-pub places_all : (order : List ℕ) (streams i : ℕ) (places : List ℕ) → length order ≤ i → ArePlacesUpTo order streams i places → ArePlaces order streams places
-places_all order streams i places all was = record {
+pub places_all : (net : Net) (order : List ℕ) (streams i : ℕ) (places : List ℕ) → length order ≤ i → ArePlacesUpTo net order streams i places → ArePlaces net order streams places
+places_all net order streams i places all was = record {
   as_many = was.as_many;
   each = λ k lt. was.each k (omega (arith, lt, all));
   others = λ s lt. others s (was.others s lt);
@@ -260,6 +289,46 @@ places_all order streams i places all was = record {
     others : (s : ℕ) → (get_or places s 0 ≡ length order) ⊎ Contains (take i order) s → (get_or places s 0 ≡ length order) ⊎ Contains order s
     others s (inl none) = inl none
     others s (inr c) = inr (subst (λ (ns : List ℕ). Contains ns s) (taken_all order i all) c)
+
+-- the states so far are told
+pub record AreReadBelow (net : Net) (streams i : ℕ) (read : List Bool) : Type 0 where
+  pub as_many : length read ≡ streams
+  pub told : (n s : ℕ) → n < i → s < streams → read_at net n ≡ Some s → get_or read s false ≡ true
+
+-- one state more reads a stream
+pub read_more : (net : Net) (streams i s : ℕ) (read : List Bool) → read_at net i ≡ Some s → AreReadBelow net streams i read → AreReadBelow net streams (i + 1) (set read s true)
+read_more net streams i s read reads was = record {
+  as_many = length-set read s true ∙ was.as_many;
+  told = λ n t less below e. told n t (below_or_last n i less) (are_same_or_not t s) below e;
+}
+  where
+    told : (n t : ℕ) → (n < i) ⊎ (n ≡ i) → (t ≡ s) ⊎ (t ≡ s → ⊥) → t < streams → read_at net n ≡ Some t → get_or (set read s true) t false ≡ true
+    told n t at (inl same) below e = get_or-set_at read s t true false same (omega (arith, same, below, was.as_many))
+    told n t (inl less) (inr other) below e = get_or-set_other read s t true false other ∙ was.told n t less below e
+    told n t (inr last) (inr other) below e = absurd (other (some_is t s (sym e ∙ ap (read_at net) last ∙ reads)))
+
+-- or reads none
+pub read_none : (net : Net) (streams i : ℕ) (read : List Bool) → read_at net i ≡ None → AreReadBelow net streams i read → AreReadBelow net streams (i + 1) read
+read_none net streams i read none was = record { as_many = was.as_many; told = λ n s less below e. told n s (below_or_last n i less) below e }
+  where
+    told : (n s : ℕ) → (n < i) ⊎ (n ≡ i) → s < streams → read_at net n ≡ Some s → get_or read s false ≡ true
+    told n s (inl less) below e = was.told n s less below e
+    told n s (inr last) below e = absurd (let no = sym none ∙ sym (ap (read_at net) last) ∙ e in cc)
+
+-- there is no state past the last
+read_below : (net : Net) (n s : ℕ) → read_at net n ≡ Some s → n < length net
+read_below net n s e = go (entrance_at net n) refl e
+  where
+    go : (o : Option Entrance) → entrance_at net n ≡ o → option_map read_by o ≡ Some s → n < length net
+    go None is e = absurd (cc)
+    go (Some entrance) is e = entry_below net n entrance is
+
+-- all states are told
+pub read_all : (net : Net) (streams i : ℕ) (read : List Bool) → length net ≤ i → AreReadBelow net streams i read → AreRead net streams read
+read_all net streams i read past was = record {
+  as_many = was.as_many;
+  unread = λ s lt down n e. absurd (true≢false (sym (was.told n s (let below = read_below net n s e in omega (arith, below, past)) lt e) ∙ down));
+}
 
 -- one stream more is looked at: its place is planned, or not from the one place on and below the other
 pub planned_more : (places due keys : List ℕ) (i start end : ℕ) → i < length due → IsPlanned start end keys (get_or places (get_or due i 0) 0) → All (λ s. IsPlanned start end keys (get_or places s 0)) (take i due) → All (λ s. IsPlanned start end keys (get_or places s 0)) (take (i + 1) due)

@@ -35,7 +35,8 @@ use Rattle.epoch_laws.specs.StoresStandFor.{Serves}
 use Rattle.epoch_laws.proofs.Bags.{no_length}
 use Rattle.epoch_laws.proofs.Grows.{epoch_grows, epoch_starts}
 use Rattle.epoch_laws.proofs.Lists.{All_last}
-use Rattle.epoch_draft.specs.Deriving.{AreOpened, AreOrdered, CanDraw, Derives, DrawnUpTo, news_of, opened_of}
+use Rattle.epoch_draft.specs.Agenda.{IsUnread}
+use Rattle.epoch_draft.specs.Deriving.{AreOpened, CanDraw, DrawnUpTo, Meets, news_of, opened_of}
 use Rattle.epoch_draft.specs.Drafts.{Adds, DraftFits, EndsBelow, Grows, IsDraftOf}
 use Rattle.epoch_draft.specs.Drawn.{Drawn, Paired}
 use Rattle.epoch_draft.specs.Held.{held}
@@ -48,7 +49,7 @@ use Rattle.epoch_draft.specs.Tests.{stream_work, tuple_work}
 use Rattle.epoch_draft.specs.Typed.{HaveKinds, IsTyped}
 use Rattle.epoch_draft.specs.declared.draft.Draft.{Draft}
 use Rattle.epoch_draft.specs.declared.draft.Pair.{Pair}
-use Rattle.epoch_draft.proofs.DrawnLemmas.{bound_grows, drawn_comes, made_grows, moves_seen, paired_comes, stream_comes, unbound_grows, with_none}
+use Rattle.epoch_draft.proofs.DrawnLemmas.{bound_grows, drawn_comes, made_grows, moves_seen, paired_comes, stream_comes, unbound_grows}
 use Rattle.epoch_draft.proofs.GoingLemmas.{all_left}
 use Rattle.epoch_draft.proofs.Moves.{is_itself}
 use Rattle.epoch_draft.proofs.SuitLemmas.{published_kinds, tuple_suits}
@@ -58,6 +59,22 @@ use Rattle.automaton.proofs.NumberLemmas.{are_same_or_not}
 use Rattle.epoch_draft.proofs.Lists.{none_in}
 use Rattle.epoch_draft.proofs.EpochLemmas.{derived_first}
 use Rattle.epoch_draft.proofs.TakeLemmas.{takes_agree, takes_grow}
+
+-- the open tuples are met, and the derived streams that are done, which may have theirs in any order
+pub record MadeUpTo (net : Net) (layout : Layout) (stores : List (Option Store)) (opened : List (List TupleView)) (done : List ℕ) (draft : Draft) (pairs : List Pair) : Type 0 where
+  pub fits : DraftFits (length layout.kinds) (length net) draft
+  pub drawn : Drawn net (held stores) (news_of opened draft.made done) draft
+  pub paired : Paired net (held stores) (news_of opened draft.made done) pairs
+  pub epoch : IsEpoch net done (held stores) (streams_of opened) (news_of opened draft.made done)
+  pub kinds : HaveKinds layout.kinds (news_of opened draft.made done)
+
+-- what is drawn is made
+pub drawn_made : (net : Net) (layout : Layout) (stores : List (Option Store)) (opened : List (List TupleView)) (done : List ℕ) (draft : Draft) (pairs : List Pair) → DrawnUpTo net layout stores opened done draft pairs → MadeUpTo net layout stores opened done draft pairs
+drawn_made net layout stores opened done draft pairs was = record { fits = was.fits; drawn = was.drawn; paired = was.paired; epoch = was.epoch; kinds = was.kinds }
+
+-- those of these streams that some state reads have their tuples in order
+abbrev pub AreReadInOrder : Net → List (List TupleView) → List ℕ → Type 0
+AreReadInOrder net made streams = All (λ s. IsUnread net s ⊎ (sorted (get_or made s []) ≡ get_or made s [])) streams
 
 or-true : (a : Bool) → (a || true) ≡ true
 or-true true = refl
@@ -274,53 +291,15 @@ module _ (net : Net) (layout : Layout) (stores : List (Option Store)) (opened : 
   unseen made = ap (λ b. cond b (get_or made s []) (get_or opened s [])) apart ∙ underived
 
   -- what is made for it suits
-  pub made_suits : (draft : Draft) (pairs : List Pair) → DrawnUpTo net layout stores opened done draft pairs → All (TupleSuits net (held stores) s) (get_or draft.made s [])
+  pub made_suits : (draft : Draft) (pairs : List Pair) → MadeUpTo net layout stores opened done draft pairs → All (TupleSuits net (held stores) s) (get_or draft.made s [])
   made_suits draft pairs was =
       rows_suit net can.network layout.kinds stores can.typed s below (get_or draft.made s [])
       (λ known is.
       All-permutation (HasKinds known) (given_by_ends net (news_of opened draft.made done) (held stores) s) (get_or draft.made s []) (IsPermutation-sym _ _ (was.drawn.made s))
       (published_kinds net can.network layout.kinds stores can.typed (news_of opened draft.made done) was.kinds s known is))
 
-  -- a stream that isn't due
-  pub idle_step : (draft : Draft) (pairs : List Pair) → get_or draft.made s [] ≡ [] → DrawnUpTo net layout stores opened done draft pairs → DrawnUpTo net layout stores opened (take (i + 1) order) draft pairs
-  idle_step draft pairs idle was =
-      subst (λ (d : List ℕ). DrawnUpTo net layout stores opened d draft pairs) (sym (take_more order i 0 lt)) (record {
-        fits = was.fits;
-        drawn = subst (λ (seen : Streams). Drawn net (held stores) seen draft) same was.drawn;
-        paired = subst (λ (seen : Streams). Paired net (held stores) seen pairs) same was.paired;
-        epoch =
-            subst (IsEpoch net (done ++ s ∷ []) (held stores) (streams_of opened)) step
-            (epoch_grows net can.lines done s (drop (i + 1) order) (held stores) (streams_of opened) (news_of opened draft.made done) [] serves was.epoch (permuted_from (sym idle) (was.drawn.made s)));
-        kinds = subst (HaveKinds layout.kinds) same was.kinds;
-        ordered = All-push (λ t. sorted (get_or draft.made t []) ≡ get_or draft.made t []) done s was.ordered (ap sorted idle ∙ sym idle);
-      })
-    where
-      step : with_stream (news_of opened draft.made done) s [] ≡ news_of opened draft.made (done ++ s ∷ [])
-      step = news_step opened draft.made draft.made done s [] idle (λ t e f. refl)
-
-      same : news_of opened draft.made done ≡ news_of opened draft.made (done ++ s ∷ [])
-      same =
-          sym (with_none net (held stores) s (news_of opened draft.made done)) ∙ ap (λ (rows : List TupleView). with_stream (news_of opened draft.made done) s (rows ++ [])) (unseen draft.made) ∙ step
-
-  -- it leaves the tuples as they are
-  pub idle_news : (draft : Draft) → get_or draft.made s [] ≡ [] → news_of opened draft.made done ≡ news_of opened draft.made (take (i + 1) order)
-  idle_news draft idle =
-      let seen = news_of opened draft.made done in
-      sym (with_none net (held stores) s seen) ∙ ap (λ (rows : List TupleView). with_stream seen s (rows ++ [])) (unseen draft.made) ∙ news_step opened draft.made draft.made done s [] idle (λ t e f. refl)
-      ∙ ap (news_of opened draft.made) (sym (take_more order i 0 lt))
-
-  -- and the tests
-  pub idle_rest : (tests : ℕ → TupleView → ℕ) (draft : Draft) (pairs : List Pair) → get_or draft.made s [] ≡ [] → DrawnUpTo net layout stores opened done draft pairs
-      → derived_tests tests net (drop i order) (held stores) (news_of opened draft.made done) ≡ derived_tests tests net (drop (i + 1) order) (held stores) (news_of opened draft.made (take (i + 1) order))
-  idle_rest tests draft pairs idle was =
-      let seen = news_of opened draft.made done in
-      let none : sum_by (tests s) [] ≡ 0 = refl in
-      let first = derived_first tests net (held stores) s (drop (i + 1) order) seen [] (permuted_from (sym idle) (was.drawn.made s)) in
-      ap (λ (ns : List ℕ). derived_tests tests net ns (held stores) seen) next_first ∙ (let bare : derived_tests tests net (s ∷ drop (i + 1) order) (held stores) seen ≡ derived_tests tests net (drop (i + 1) order) (held stores) (with_stream seen s []) = omega (arith, first, none) in bare)
-      ∙ ap (derived_tests tests net (drop (i + 1) order) (held stores)) (news_step opened draft.made draft.made done s [] idle (λ t e f. refl) ∙ ap (news_of opened draft.made) (sym (take_more order i 0 lt)))
-
   -- the tests of what is made for the stream are among those that are left
-  pub made_within : (tests : ℕ → TupleView → ℕ) (draft : Draft) (pairs : List Pair) → DrawnUpTo net layout stores opened done draft pairs
+  pub made_within : (tests : ℕ → TupleView → ℕ) (draft : Draft) (pairs : List Pair) → MadeUpTo net layout stores opened done draft pairs
       → sum_by (tests s) (get_or draft.made s []) ≤ derived_tests tests net (drop i order) (held stores) (news_of opened draft.made done)
   made_within tests draft pairs was =
       let seen = news_of opened draft.made done in
@@ -328,12 +307,12 @@ module _ (net : Net) (layout : Layout) (stores : List (Option Store)) (opened : 
       let all = ap (λ (ns : List ℕ). derived_tests tests net ns (held stores) seen) next_first in omega (arith, first, all)
 
   -- one that is
-  module _ (old new : Draft) (pairs more : List Pair) (was : DrawnUpTo net layout stores opened done old pairs) (derives : Derives net (held stores) s old new pairs more) where
+  module _ (old new : Draft) (pairs more : List Pair) (was : MadeUpTo net layout stores opened done old pairs) (meets : Meets net (held stores) s old new pairs more) where
     abbrev seen : Streams
     seen = news_of opened old.made done
 
     abbrev rows : List TupleView
-    rows = derives.tuples
+    rows = meets.tuples
 
     abbrev later : Streams
     later = with_stream seen s rows
@@ -342,7 +321,7 @@ module _ (net : Net) (layout : Layout) (stores : List (Option Store)) (opened : 
     moves = moves_of_all net (held stores) s rows
 
     published_rows : IsPermutation rows (given_by_ends net seen (held stores) s)
-    published_rows = IsPermutation-trans _ _ _ derives.same (was.drawn.made s)
+    published_rows = IsPermutation-trans _ _ _ meets.same (was.drawn.made s)
 
     grown : IsEpoch net (done ++ s ∷ []) (held stores) (streams_of opened) later
     grown = epoch_grows net can.lines done s (drop (i + 1) order) (held stores) (streams_of opened) seen rows serves was.epoch published_rows
@@ -350,18 +329,18 @@ module _ (net : Net) (layout : Layout) (stores : List (Option Store)) (opened : 
     comes : IsPermutation (moves_seen net (held stores) later) (moves_seen net (held stores) seen ++ moves)
     comes = subst (λ (ts : List TupleView). IsPermutation (moves_seen net (held stores) (with_stream seen s (ts ++ rows))) (moves_seen net (held stores) seen ++ moves)) (unseen old.made) (stream_comes net (held stores) s rows seen)
 
-    there : s < length derives.met.made
-    there = let e = derives.grows.fits.made in let f = length-set old.made s [] in omega (arith, e, f, was.fits.made, below)
+    there : s < length meets.met.made
+    there = let e = meets.grows.fits.made in let f = length-set old.made s [] in omega (arith, e, f, was.fits.made, below)
 
     own : get_or new.made s [] ≡ rows
-    own = ap (λ (l : List (List TupleView)). get_or l s []) derives.made ∙ get_or-set_at derives.met.made s s rows [] refl there
+    own = ap (λ (l : List (List TupleView)). get_or l s []) meets.made ∙ get_or-set_at meets.met.made s s rows [] refl there
 
     others : (t : ℕ) → (t ≡ s → ⊥) → Adds (made_of t moves) (get_or old.made t []) (get_or new.made t [])
     others t other =
-        let adds = derives.grows.made t in record {
+        let adds = meets.grows.made t in record {
           added = adds.added;
           is =
-              ap (λ (l : List (List TupleView)). get_or l t []) derives.made ∙ get_or-set_other derives.met.made s t rows [] other ∙ adds.is ∙ ap (λ xs. xs ++ adds.added) (get_or-set_other old.made s t [] [] other);
+              ap (λ (l : List (List TupleView)). get_or l t []) meets.made ∙ get_or-set_other meets.met.made s t rows [] other ∙ adds.is ∙ ap (λ xs. xs ++ adds.added) (get_or-set_other old.made s t [] [] other);
           same = adds.same;
         }
 
@@ -379,10 +358,10 @@ module _ (net : Net) (layout : Layout) (stores : List (Option Store)) (opened : 
       made = λ t. made_at t (are_same_or_not t s);
       bound = λ n b hop at.
           bound_grows net can.network (held stores) seen later moves n b hop at (get_or old.beads n []) (get_or new.beads n []) comes (was.drawn.bound n b hop at)
-          (permuted_from (ap (λ (l : List (List Instance)). get_or l n []) derives.beads) (derives.grows.bound n));
+          (permuted_from (ap (λ (l : List (List Instance)). get_or l n []) meets.beads) (meets.grows.bound n));
       unbound = λ n none.
           unbound_grows net can.network (held stores) s rows n (get_or old.beads n []) (get_or new.beads n []) none
-          (permuted_from (ap (λ (l : List (List Instance)). get_or l n []) derives.beads) (derives.grows.bound n)) (was.drawn.unbound n none);
+          (permuted_from (ap (λ (l : List (List Instance)). get_or l n []) meets.beads) (meets.grows.bound n)) (was.drawn.unbound n none);
     }
 
     -- a stream that was done has no more
@@ -417,38 +396,46 @@ module _ (net : Net) (layout : Layout) (stores : List (Option Store)) (opened : 
         go true e = absurd (let no = sym f ∙ ap (is_in done) (same_number t s e) ∙ apart in cc)
         go false e = refl
 
-    -- those that were done have their tuples in order, and so has this one
-    ordered : AreOrdered new.made (done ++ s ∷ [])
-    ordered =
-        All-push (λ t. sorted (get_or new.made t []) ≡ get_or new.made t []) done s
-        (All-weaker (Contains done) (λ t. sorted (get_or new.made t []) ≡ get_or new.made t []) each done (All-contains_itself done))
-        (ap sorted own ∙ derives.ordered ∙ sym own)
+    -- those that were done stay in order
+    pub order_stays : AreReadInOrder net old.made done → IsUnread net s ⊎ (sorted rows ≡ rows) → AreReadInOrder net new.made (take (i + 1) order)
+    order_stays was this =
+        subst (AreReadInOrder net new.made) (sym (take_more order i 0 lt))
+        (All-push IsInOrder done s (All-weaker (Contains done) IsInOrder each done (All-contains_itself done)) (mine this))
       where
-        each : (t : ℕ) → Contains done t → sorted (get_or new.made t []) ≡ get_or new.made t []
-        each t c =
-            let f = in_contains done t c in
-            let same = kept t (apart_from t f) f in
-            ap sorted same ∙ All-contains (λ u. sorted (get_or old.made u []) ≡ get_or old.made u []) done t was.ordered c ∙ sym same
+        IsInOrder : ℕ → Type 0
+        IsInOrder t = IsUnread net t ⊎ (sorted (get_or new.made t []) ≡ get_or new.made t [])
 
-    -- with this stream, one more is drawn
-    pub derived_step : DrawnUpTo net layout stores opened (take (i + 1) order) new more
+        mine : IsUnread net s ⊎ (sorted rows ≡ rows) → IsInOrder s
+        mine (inl unread) = inl unread
+        mine (inr ordered) = inr (ap sorted own ∙ ordered ∙ sym own)
+
+        each : (t : ℕ) → Contains done t → IsInOrder t
+        each t c = go (All-contains (λ u. IsUnread net u ⊎ (sorted (get_or old.made u []) ≡ get_or old.made u [])) done t was c)
+          where
+            go : IsUnread net t ⊎ (sorted (get_or old.made t []) ≡ get_or old.made t []) → IsInOrder t
+            go (inl unread) = inl unread
+            go (inr ordered) =
+                let f = in_contains done t c in
+                let same = kept t (apart_from t f) f in inr (ap sorted same ∙ ordered ∙ sym same)
+
+    -- with this stream, one more is made
+    pub derived_step : MadeUpTo net layout stores opened (take (i + 1) order) new more
     derived_step =
-        subst (λ (d : List ℕ). DrawnUpTo net layout stores opened d new more) (sym (take_more order i 0 lt)) (record {
-          fits = subst (λ (m : ℕ). DraftFits m (length net) new) was.fits.made derives.fits;
+        subst (λ (d : List ℕ). MadeUpTo net layout stores opened d new more) (sym (take_more order i 0 lt)) (record {
+          fits = subst (λ (m : ℕ). DraftFits m (length net) new) was.fits.made meets.fits;
           drawn = subst (λ (seen : Streams). Drawn net (held stores) seen new) step drawn;
-          paired = subst (λ (seen : Streams). Paired net (held stores) seen more) step (paired_comes net (held stores) seen s rows pairs more (unseen old.made) was.paired derives.lists);
+          paired = subst (λ (seen : Streams). Paired net (held stores) seen more) step (paired_comes net (held stores) seen s rows pairs more (unseen old.made) was.paired meets.lists);
           epoch = subst (IsEpoch net (done ++ s ∷ []) (held stores) (streams_of opened)) step grown;
           kinds = subst (HaveKinds layout.kinds) step kinds;
-          ordered = ordered;
         })
 
     -- its pairs take out by no more tests than its tuples have
     pub derived_takes : pairs_work net (take (i + 1) order) stores opened new.made more ≤ pairs_work net done stores opened old.made pairs + sum_by (take_work net (held stores) s) (get_or old.made s [])
     derived_takes =
         let news = ap (λ (now : Streams). takes_work net now (held stores) more) (step ∙ ap (news_of opened new.made) (sym (take_more order i 0 lt))) in
-        let grown = takes_grow net (held stores) later s rows pairs more (ap (λ b. cond b rows (seen s)) (is_itself s)) derives.lists in
+        let grown = takes_grow net (held stores) later s rows pairs more (ap (λ b. cond b rows (seen s)) (is_itself s)) meets.lists in
         let before = takes_agree net (held stores) later seen pairs (All-weaker IsSound (λ p. tuple_of later p ≡ tuple_of seen p) each pairs was.paired.sound) in
-        let mine = sum_by-IsPermutation (take_work net (held stores) s) rows (get_or old.made s []) derives.same in omega (arith, news, grown, before, mine)
+        let mine = sum_by-IsPermutation (take_work net (held stores) s) rows (get_or old.made s []) meets.same in omega (arith, news, grown, before, mine)
       where
         IsSound : Pair → Type 0
         IsSound p = Contains (waits_on net p.stream) p.state × (p.place < length (seen p.stream))
@@ -464,11 +451,6 @@ module _ (net : Net) (layout : Layout) (stores : List (Option Store)) (opened : 
     pub derived_rest : (tests : ℕ → TupleView → ℕ) → derived_tests tests net (drop i order) (held stores) (news_of opened old.made done)
         ≡ sum_by (tests s) (get_or old.made s []) + derived_tests tests net (drop (i + 1) order) (held stores) (news_of opened new.made (take (i + 1) order))
     derived_rest tests =
-        let mine = sym (sum_by-IsPermutation (tests s) rows (get_or old.made s []) derives.same) in
+        let mine = sym (sum_by-IsPermutation (tests s) rows (get_or old.made s []) meets.same) in
         let rest = ap (derived_tests tests net (drop (i + 1) order) (held stores)) (step ∙ ap (news_of opened new.made) (sym (take_more order i 0 lt))) in
         ap (λ (ns : List ℕ). derived_tests tests net ns (held stores) seen) next_first ∙ derived_first tests net (held stores) s (drop (i + 1) order) seen rows published_rows ∙ (λ k. mine k + rest k)
-
--- a stream that is not marked has no tuples
-pub unmarked_none : (ts : List TupleView) (marked : List ℕ) (s : ℕ) → (ts ≡ []) ⊎ Contains marked s → (Contains marked s → ⊥) → ts ≡ []
-unmarked_none ts marked s (inl none) absent = none
-unmarked_none ts marked s (inr there) absent = absurd (absent there)

@@ -16,6 +16,7 @@ pub mod Lists
 pub mod MarkLemmas
 pub mod MeetLemmas
 pub mod Moves
+pub mod OrderLemmas
 pub mod PairLemmas
 pub mod Pairs
 pub mod PurgeLemmas
@@ -29,5 +30,6 @@ pub mod SumLemmas
 pub mod TakeLemmas
 pub mod TypedLemmas
 pub mod TypingLemmas
+pub mod UnreadLemmas
 pub mod WatchLemmas
 pub mod WorkLemmas

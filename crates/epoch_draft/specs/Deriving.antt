@@ -24,11 +24,10 @@ use Rattle.epoch_draft.specs.Typed.{HaveKinds, IsTyped}
 use Rattle.epoch_draft.specs.declared.draft.Draft.{Draft}
 use Rattle.epoch_draft.specs.declared.draft.Pair.{Pair}
 
--- the tuples of a derived stream were put in order and met, and are its tuples; the streams that were due still are, in front of those that now are
-pub record Derives (net : Net) (stores : Stores) (stream : ℕ) (old new : Draft) (pairs more : List Pair) : Type 0 where
+-- the tuples of a derived stream were met in some order, and are its tuples in this order; the streams that were due still are, in front of those that now are
+pub record Meets (net : Net) (stores : Stores) (stream : ℕ) (old new : Draft) (pairs more : List Pair) : Type 0 where
   pub tuples : List TupleView
   pub same : IsPermutation tuples (slice_index_or old.made stream [])
-  pub ordered : sorted tuples ≡ tuples
   pub met : Draft
   pub grows : Grows net (moves_of_all net stores stream tuples) (without old stream) met
   pub made : new.made ≡ slice_set met.made stream tuples
@@ -36,6 +35,11 @@ pub record Derives (net : Net) (stores : Stores) (stream : ℕ) (old new : Draft
   pub fits : DraftFits (length old.made) (length net) new
   pub due : MarksMore old.due new.due
   pub lists : ListsAll net stores stream tuples pairs more
+
+-- the tuples of a derived stream were put in order and met
+pub record Derives (net : Net) (stores : Stores) (stream : ℕ) (old new : Draft) (pairs more : List Pair) : Type 0 where
+  pub meets : Meets net stores stream old new pairs more
+  pub ordered : sorted meets.tuples ≡ meets.tuples
 
 -- the tuples of an epoch as far as they are made: those of the streams that are done, and the open ones of the others
 abbrev pub news_of : List (List TupleView) → List (List TupleView) → List ℕ → Streams

@@ -20,7 +20,7 @@ pub record IsMachine (machine : Machine) : Type 0 where
 -- each stream has its reader and its place in the order of work, and keys lead to the states where they are ready
 pub record CanRead (machine : Machine) : Type 0 where
   pub readers : AreReadersOfAll machine.network.now machine.layout.now machine.readers.now
-  pub places : ArePlaces machine.layout.now.order (length machine.layout.now.kinds) machine.places.now
+  pub places : ArePlaces machine.network.now machine.layout.now.order (length machine.layout.now.kinds) machine.places.now
   pub led : AreLed machine.network.now machine.keys.now machine.stores.now
 
 -- a waiting state of a network

@@ -1,12 +1,13 @@
 //! The places of streams in the order of work, and those that are to come.
-ghost use Rattle.std.specs.Prelude.{◌≡◌, ◌<◌, ℕ, Contains, IfOk, OnOk, length, slice_index_or, take};
+ghost use Rattle.std.specs.Prelude.{◌≡◌, ◌<◌, ℕ, true, Contains, IfOk, OnOk, length, slice_index_or, slice_set, take};
 ghost use Rattle.std.specs.List.{All};
 ghost use Rattle.std.specs.Ordering.{nat_cmp};
 ghost use Rattle.std.specs.BTreeSet.{insert_key};
-ghost use Rattle.epoch_draft.specs.Agenda.{AreFrom, ArePlaces, IsPlanned};
+ghost use Rattle.epoch_draft.specs.Agenda.{AreFrom, ArePlaces, AreRead, IsPlanned, read_at};
 
 use crate::filling::filled;
-use event_types::{Memory, Numbers, StreamId};
+use automaton::Network;
+use event_types::{List, Memory, Numbers, StreamId};
 use std::alloc::Global;
 use std::collections::BTreeSet;
 
@@ -14,17 +15,65 @@ use std::collections::BTreeSet;
 pub(crate) type Agenda = BTreeSet<usize>;
 
 /// The place of each of so many streams in an order of work, by the stream's number, counted from 0. A
-/// stream that isn't of the order has the order's length.
-pub fn places_of(alloc: Global, order: &[StreamId], streams: usize) -> Result<Numbers, Memory>
+/// stream that isn't of the order, or that no state reads, has the order's length.
+pub fn places_of(
+    alloc: Global,
+    network: &Network,
+    order: &[StreamId],
+    streams: usize,
+) -> Result<Numbers, Memory>
     requires below { All (λ stream. stream < streams) order.now }
     requires once { (place : ℕ) → place < length order.now → Contains (take place order.now) (slice_index_or order.now place 0) → ⊥ }
-    ensures { IfOk result (ArePlaces order.now streams) }
+    ensures { IfOk result (ArePlaces network.now order.now streams) }
 {
+    let read = read_streams(alloc, network, streams)?;
     let mut places = filled(alloc, streams, order.len())?;
     for (place, stream) in order.iter().enumerate() {
-        *places.get_mut(*stream) = place;
+        if *read.get(*stream) {
+            *places.get_mut(*stream) = place;
+        }
     }
     Ok(places)
+}
+
+// For each of so many streams whether a state reads it, or maybe so.
+fn read_streams(alloc: Global, network: &Network, streams: usize) -> Result<List<bool>, Memory>
+    ensures { IfOk result (AreRead network.now streams) }
+{
+    let mut read = filled(alloc, streams, false)?;
+    for number in 0..network.places() {
+        match stream_of(network, number) {
+            Some(stream) => tell(&mut read, stream),
+            None => {}
+        }
+    }
+    Ok(read)
+}
+
+// Tells that a stream is read, if it is one of those that are told of.
+fn tell(read: &mut List<bool>, stream: StreamId)
+    ensures { read.new ≡ slice_set read.old stream true }
+{
+    if stream < read.len() {
+        *read.get_mut(stream) = true;
+    }
+}
+
+// The stream that a state reads.
+fn stream_of(network: &Network, number: usize) -> Option<StreamId>
+    requires { number < length network.now }
+    ensures { result ≡ read_at network.now number }
+{
+    if !network.used(number) {
+        return None;
+    }
+    match network.root(number) {
+        Some(stream) => Some(stream),
+        None => match network.wait(number) {
+            Some(wait) => Some(wait.stream),
+            None => None,
+        },
+    }
 }
 
 /// Puts the places of these streams on the agenda, as far as they are from `start` on and below `end`.

@@ -1,12 +1,13 @@
 //! What an epoch brings, as far as it is made.
 ghost use Rattle.std.specs.Prelude.{◌≡◌, ◌<◌, ◌⊎◌, ◌++◌, ◌∷◌, [], Contains, IfOk, OnOk, ℕ, length, slice_index_or, slice_set};
 ghost use Rattle.std.specs.List.{All};
+ghost use Rattle.event_types.specs.Order.{sorted};
 ghost use Rattle.epoch_draft.specs.Drafts.{DraftFits, without};
 ghost use Rattle.epoch_draft.specs.Marks.{MarksMore};
 
 use crate::filling::{add, clear_lists, empty_lists};
 use crate::marks::Marks;
-use event_types::{List, Memory, StreamId, Tuple, Tuples};
+use event_types::{List, Memory, StreamId, Tuple, Tuples, put_in_order};
 use inst_chain::{Bead, Chain};
 use instances::Instance;
 use std::alloc::Global;
@@ -115,6 +116,16 @@ impl Draft {
         Ok(())
     }
 
+    /// Puts the tuples of each stream in order. Takes no memory.
+    pub(crate) fn put_in_order(&mut self)
+        requires { DraftFits (length self.old.made) (length self.old.beads) self.old }
+        ensures made { (stream : ℕ) → slice_index_or self.new.made stream [] ≡ sorted (slice_index_or self.old.made stream []) }
+        ensures beads { self.new.beads ≡ self.old.beads }
+        ensures fits { DraftFits (length self.old.made) (length self.old.beads) self.new }
+    {
+        put_all_in_order(&mut self.made, self.due.numbers.as_slice());
+    }
+
     /// Makes a bead of an instance for a state. After want of memory the draft is of no more use.
     pub(crate) fn add_bead(&mut self, state: usize, instance: Instance) -> Result<(), Memory>
         requires fits { DraftFits (length self.old.made) (length self.old.beads) self.old }
@@ -143,6 +154,18 @@ fn put_first(chain: &mut Chain<Instance>, bead: Bead<Instance>)
     whole.link(bead);
     whole.append(chain);
     std::mem::swap(chain, &mut whole);
+}
+
+// Puts the tuples of the lists at these places in order.
+fn put_all_in_order(lists: &mut Lists, numbers: &[usize])
+    requires numbers { All (λ number. number < length lists.old) numbers.now }
+    requires others { (place : ℕ) → (slice_index_or lists.old place [] ≡ []) ⊎ Contains numbers.now place }
+    ensures as_many { length lists.new ≡ length lists.old }
+    ensures ordered { (place : ℕ) → slice_index_or lists.new place [] ≡ sorted (slice_index_or lists.old place []) }
+{
+    for number in numbers {
+        put_in_order(lists.get_mut(*number));
+    }
 }
 
 // So many empty chains.

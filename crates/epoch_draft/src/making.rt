@@ -71,7 +71,8 @@ fn meet_opened<L: Ledger>(
     Ok(())
 }
 
-// Puts the tuples of each derived stream that is due in order, in the order of work, and makes what comes of them.
+// Puts the tuples of each derived stream that is due and read in order, in the order of work, and makes what comes of
+// them; then those of the others too.
 fn derive<L: Ledger>(
     machine: &Machine<'_>,
     opened: &Lists,
@@ -104,6 +105,7 @@ fn derive<L: Ledger>(
         let fresh = &drawing.draft.due.numbers.as_slice()[known..];
         plan(&mut drawing.agenda, machine.places, fresh, next, end)?;
     }
+    drawing.draft.put_in_order();
     Ok(())
 }
 

@@ -23,7 +23,7 @@ use Rattle.epoch_engine.specs.declared.room.Room.{Room}
 -- and each stream with kinds has at least the places at which it is printed
 pub record IsPlan (plan : Plan) : Type 0 where
   pub readers : AreReadersOfAll plan.merged plan.layout plan.readers
-  pub places : ArePlaces plan.layout.order (length plan.layout.kinds) plan.places
+  pub places : ArePlaces plan.merged plan.layout.order (length plan.layout.kinds) plan.places
   pub printed : All (λ stream. IsTrue (is_in plan.layout.order stream)) plan.layout.outs
   pub places_printed : HasPlaces plan.layout.outs (length plan.layout.kinds) plan.out_places
 

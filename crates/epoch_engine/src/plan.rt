@@ -32,7 +32,12 @@ impl Plan {
         ensures is { IfOk result IsPlan }
     {
         let readers = Readers::make(alloc, merged.network(), layout.kinds.len())?;
-        let places = places_of(alloc, layout.order.as_slice(), layout.kinds.len())?;
+        let places = places_of(
+            alloc,
+            merged.network(),
+            layout.order.as_slice(),
+            layout.kinds.len(),
+        )?;
         let out_places = printed_places(alloc, &layout.outs, layout.kinds.len())?;
         Ok(Plan {
             merged,

@@ -1,10 +1,23 @@
-use Rattle.std.proofs.Common.{◌<◌}
+use Rattle.std.proofs.Common.{◌≡◌, ◌∙◌, sym, subst, ℕ, ◌+◌, ◌<◌, false, get_or, List}
 use Rattle.std.proofs.lemmas.List.Elements.{All-get_or}
-use Rattle.epoch_draft.proofs.AgendaLemmas.{places_more}
+use Rattle.std.proofs.lemmas.Option.{get_or_from_slice_get}
+use Rattle.epoch_draft.proofs.AgendaLemmas.{ArePlacesUpTo, places_more, places_skip}
+use Rattle.epoch_draft.proofs.agenda.places_of.Goals.{then-get, else-get}
 use Rattle.epoch_draft.proofs.agenda.places_of.Goals as goal
 
--- one stream more has its place
+-- one stream more has its place, or no state reads it
 pub loop-place-preserved : goal.loop-place-preserved
 loop-place-preserved c =
-    places_more c.args.order.now c.args.streams c.loop-place.place c.loop-place.places c.loop-place-test.true (All-get_or (λ s. s < c.args.streams) c.args.order.now c.loop-place.place 0 c.loop-place-test.true c.requires.below)
-    (c.requires.once c.loop-place.place c.loop-place-test.true) c.loop-place.invariant
+    let net = c.args.network.now in
+    let order = c.args.order.now in
+    let streams = c.args.streams in
+    let i = c.loop-place.place in
+    let s = get_or order i 0 in
+    let lt = c.loop-place-test.true in
+    let below = All-get_or (λ s. s < streams) order i 0 lt c.requires.below in
+    elim c.if-get.branch [
+      | then-get w ↦ subst (ArePlacesUpTo net order streams (i + 1)) (sym w.places-is) (places_more net order streams i c.loop-place.places lt below (c.requires.once i lt) c.loop-place.invariant)
+      | else-get w ↦
+          subst (ArePlacesUpTo net order streams (i + 1)) (sym w.places-is)
+          (places_skip net order streams i c.loop-place.places lt (c.in_ok-read.ensures.unread s below (get_or_from_slice_get c.in_ok-read.read s c.get.result.now false c.get.ensures ∙ w.if-get.false)) c.loop-place.invariant)
+    ]

@@ -1,20 +1,25 @@
-use Rattle.std.proofs.Common.{◌∙◌, sym, subst, ℕ, ◌+◌, ◌<◌, ◌≤◌, [], List, length, get_or, arith, ap}
+use Rattle.std.proofs.Common.{◌≡◌, ◌∙◌, sym, refl, subst, inr, ℕ, ◌+◌, ◌<◌, ◌≤◌, [], List, length, get_or, arith, ap}
 use Rattle.std.specs.Prelude.{Contains}
 use Rattle.std.specs.List.{All}
 use Rattle.std.proofs.lemmas.List.Elements.{All-nil}
 use Rattle.std.proofs.lemmas.Option.{get_or_from_slice_get}
-use Rattle.semantics.specs.Denotation.{Streams}
+use Rattle.semantics.specs.Denotation.{streams_of}
 use Rattle.epoch_draft.specs.Agenda.{AreFrom, IsPlanned}
 use Rattle.epoch_draft.specs.Deriving.{Derives}
+use Rattle.epoch_draft.specs.Drafts.{DraftFits}
+use Rattle.epoch_draft.specs.EpochWork.{derived_tests, derived_work, pairs_work}
 use Rattle.epoch_draft.specs.Held.{held}
 use Rattle.epoch_draft.specs.Suits.{TupleSuits}
+use Rattle.epoch_draft.specs.Takes.{take_work}
 use Rattle.epoch_draft.specs.Tests.{stream_work, tuple_work}
-use Rattle.epoch_draft.proofs.AgendaLemmas.{ended_news, ended_until, first_within, fresh_below, fresh_part, planned_next, popped_left, popped_news, popped_until, rest_within}
-use Rattle.epoch_draft.proofs.DeriveLemmas.{below, derived_rest, derived_step, derived_takes, drawn_of, made_suits, made_within}
+use Rattle.epoch_draft.proofs.AgendaLemmas.{ended_until, first_within, fresh_below, fresh_part, planned_first, planned_next, popped_until, rest_within, takes_left, work_left}
+use Rattle.epoch_draft.proofs.DeriveLemmas.{below, derived_rest, derived_step, derived_takes, drawn_of, made_suits, made_within, order_stays}
+use Rattle.epoch_draft.proofs.Lists.{taken_all}
 use Rattle.epoch_draft.proofs.MarkLemmas.{all_below}
+use Rattle.epoch_draft.proofs.DeriveLemmas.{AreReadInOrder, MadeUpTo, drawn_made}
+use Rattle.epoch_draft.proofs.OrderLemmas.{drawn_in_order, takes_in_order}
 use Rattle.epoch_draft.proofs.StoreLemmas.{typed_has}
 use Rattle.epoch_draft.proofs.making.derive.Goals as goal
-use Rattle.epoch_draft.specs.Takes.{take_work, takes_work}
 
 pub plan-requires-clause-below : goal.plan-requires-clause-below
 plan-requires-clause-below g c =
@@ -32,7 +37,7 @@ derive_stream-requires-clause-stream g c =
     let lt = (first_within c.loop-place.next (length c.args.machine.now.layout.now.order) c.in-Some.place c.loop-place.drawing.agenda.keys c.pop_first.new.self.keys c.in-Some.ensures.removal c.loop-place.invariant.within).1 in
     let is = get_or_from_slice_get c.args.machine.now.layout.now.order c.in-Some.place c.get-stream.result.now 0 c.get-stream.ensures in
     let there = below c.args.machine.now.network.now c.args.machine.now.layout.now c.args.machine.now.stores.now c.args.opened.now c.requires.can_draw c.in-Some.place lt in
-    let room = c.loop-place.invariant.until.fits.made in omega (arith, is, there, room)
+    let room = c.loop-place.invariant.made.until.fits.made in omega (arith, is, there, room)
 
 pub derive_stream-requires-clause-machine : goal.derive_stream-requires-clause-machine
 derive_stream-requires-clause-machine g c = record {
@@ -43,7 +48,7 @@ derive_stream-requires-clause-machine g c = record {
 }
 
 pub derive_stream-requires-clause-draft : goal.derive_stream-requires-clause-draft
-derive_stream-requires-clause-draft g c = drawn_of c.args.machine.now.network.now c.args.machine.now.layout.now c.args.machine.now.stores.now c.args.opened.now c.loop-place.drawing.draft c.requires.can_draw c.loop-place.invariant.until.fits
+derive_stream-requires-clause-draft g c = drawn_of c.args.machine.now.network.now c.args.machine.now.layout.now c.args.machine.now.stores.now c.args.opened.now c.loop-place.drawing.draft c.requires.can_draw c.loop-place.invariant.made.until.fits
 
 pub derive_stream-requires-clause-suits : goal.derive_stream-requires-clause-suits
 derive_stream-requires-clause-suits g c =
@@ -54,8 +59,8 @@ derive_stream-requires-clause-suits g c =
     let is = get_or_from_slice_get c.args.machine.now.layout.now.order p c.get-stream.result.now 0 c.get-stream.ensures in
     subst (λ (s : ℕ). All (TupleSuits net (held stores) s) (get_or c.loop-place.drawing.draft.made s [])) is
     (made_suits net c.args.machine.now.layout.now stores c.args.opened.now c.requires.can_draw p within.1 c.loop-place.drawing.draft c.loop-place.drawing.pairs
-    (popped_until net c.args.machine.now.layout.now stores c.args.opened.now c.requires.can_draw c.loop-place.drawing.draft c.loop-place.drawing.pairs c.loop-place.next p c.loop-place.drawing.agenda.keys c.pop_first.new.self.keys c.loop-place.invariant.planned c.in-Some.ensures.removal
-    c.in-Some.ensures.all_above within.0 within.1 c.loop-place.invariant.until))
+    (popped_until net c.args.machine.now.layout.now stores c.args.opened.now c.requires.can_draw c.loop-place.drawing.draft c.loop-place.drawing.pairs _ _ _ c.loop-place.next p c.loop-place.drawing.agenda.keys c.pop_first.new.self.keys c.loop-place.invariant.planned c.in-Some.ensures.removal
+    c.in-Some.ensures.all_above within.0 within.1 c.loop-place.invariant.made).until)
 
 pub overflow_add-next : goal.overflow_add-next
 overflow_add-next g c =
@@ -68,8 +73,8 @@ plan-requires-in-Some-clause-below g c =
     let old = c.loop-place.drawing.draft.due in
     let new = c.derive_stream.new.drawing.draft.due in
     let derives = c.in_ok-derive_stream.ensures.derives in
-    let room = derives.fits.due_below ∙ c.loop-place.invariant.until.fits.made ∙ sym c.requires.can_read.places.as_many in
-    subst (All (λ n. n < length c.args.machine.now.places.now)) (sym (fresh_part old new derives.due c.as_slice-in-Some.result.now c.len-known.result c.as_slice-in-Some.ensures c.len-known.ensures)) (fresh_below old new derives.due (length c.args.machine.now.places.now) room)
+    let room = derives.meets.fits.due_below ∙ c.loop-place.invariant.made.until.fits.made ∙ sym c.requires.can_read.places.as_many in
+    subst (All (λ n. n < length c.args.machine.now.places.now)) (sym (fresh_part old new derives.meets.due c.as_slice-in-Some.result.now c.len-known.result c.as_slice-in-Some.ensures c.len-known.ensures)) (fresh_below old new derives.meets.due (length c.args.machine.now.places.now) room)
 
 pub plan-requires-in-Some-clause-within : goal.plan-requires-in-Some-clause-within
 plan-requires-in-Some-clause-within g c =
@@ -94,57 +99,78 @@ loop-place-preserved g c =
     let keys = c.loop-place.drawing.agenda.keys in
     let rest = c.pop_first.new.self.keys in
     let old = c.loop-place.drawing.draft in
-    let new = c.derive_stream.new.drawing.draft in
     let pairs = c.loop-place.drawing.pairs in
-    let more = c.derive_stream.new.drawing.pairs in
-    let now = c.plan-in-Some.new.agenda.keys in
     let removal = c.in-Some.ensures.removal in
     let within = first_within c.loop-place.next (length layout.order) p keys rest removal c.loop-place.invariant.within in
-    let from = within.0 in
     let lt = within.1 in
     let is = get_or_from_slice_get layout.order p c.get-stream.result.now 0 c.get-stream.ensures in
+    let made = popped_until net layout stores opened can old pairs _ _ _ c.loop-place.next p keys rest c.loop-place.invariant.planned removal c.in-Some.ensures.all_above within.0 lt c.loop-place.invariant.made in
+    let new = c.derive_stream.new.drawing.draft in
+    let more = c.derive_stream.new.drawing.pairs in
+    let now = c.plan-in-Some.new.agenda.keys in
     let derives = subst (λ (s : ℕ). Derives net (held stores) s old new pairs more) (sym is) c.in_ok-derive_stream.ensures.derives in
-    let until = popped_until net layout stores opened can old pairs c.loop-place.next p keys rest c.loop-place.invariant.planned removal c.in-Some.ensures.all_above from lt c.loop-place.invariant.until in
+    let meets = derives.meets in
     record {
       below = omega (arith, lt);
-      until = derived_step net layout stores opened can p lt old new pairs more until derives;
-      ticks =
-          let was = c.loop-place.invariant.ticks in
-          let tests = tuple_work net (held stores) in
-          let left = popped_left net layout stores opened can old pairs tests c.loop-place.next p keys rest c.loop-place.invariant.planned removal c.in-Some.ensures.all_above from lt c.loop-place.invariant.until in
-          let one = subst (λ (s : ℕ). c.derive_stream.new.steps ≤ c.loop-place.steps + stream_work net (held stores) s (get_or old.made s [])) (sym is) c.derive_stream.ensures.ticks in
-          let all = derived_rest net layout stores opened can p lt old new pairs more until derives tests in omega (arith, was, left, one, all);
-      takes =
-          let was = c.loop-place.invariant.takes in
-          let tests = take_work net (held stores) in
-          let left = popped_left net layout stores opened can old pairs tests c.loop-place.next p keys rest c.loop-place.invariant.planned removal c.in-Some.ensures.all_above from lt c.loop-place.invariant.until in
-          let news = ap (λ (seen : Streams). takes_work net seen (held stores) pairs) (popped_news net layout stores opened can old pairs c.loop-place.next p keys rest c.loop-place.invariant.planned removal c.in-Some.ensures.all_above from lt c.loop-place.invariant.until) in
-          let one = derived_takes net layout stores opened can p lt old new pairs more until derives in
-          let all = derived_rest net layout stores opened can p lt old new pairs more until derives tests in omega (arith, was, left, news, one, all);
+      made = record {
+        until = derived_step net layout stores opened can p lt old new pairs more made.until meets;
+        in_order = order_stays net layout stores opened can p lt old new pairs more made.until meets made.in_order (inr derives.ordered);
+        ticks =
+            let was = made.ticks in
+            let one = subst (λ (s : ℕ). c.derive_stream.new.steps ≤ c.loop-place.steps + stream_work net (held stores) s (get_or old.made s [])) (sym is) c.derive_stream.ensures.ticks in
+            let all = derived_rest net layout stores opened can p lt old new pairs more made.until meets (tuple_work net (held stores)) in omega (arith, was, one, all);
+        takes =
+            let was = made.takes in
+            let one = derived_takes net layout stores opened can p lt old new pairs more made.until meets in
+            let all = derived_rest net layout stores opened can p lt old new pairs more made.until meets (take_work net (held stores)) in omega (arith, was, one, all);
+      };
       within = subst (λ (end : ℕ). AreFrom (p + 1) end now) c.len-end.ensures c.in_ok-plan-2.ensures.within;
       planned =
-          planned_next layout.order (length layout.kinds) c.args.machine.now.places.now keys rest now old.due.numbers derives.due.added new.due.numbers c.loop-place.next p c.requires.can_read.places c.loop-place.invariant.planned from removal (subst (λ (ks : List ℕ). All (Contains now) ks) c.derive_stream.ensures.agenda c.in_ok-plan-2.ensures.kept)
-          derives.due.is
-          (subst (λ (end : ℕ). All (λ s. IsPlanned (p + 1) end now (get_or c.args.machine.now.places.now s 0)) derives.due.added) c.len-end.ensures
-          (subst (All (λ s. IsPlanned (p + 1) c.len-end.result now (get_or c.args.machine.now.places.now s 0))) (fresh_part old.due new.due derives.due c.as_slice-in-Some.result.now c.len-known.result c.as_slice-in-Some.ensures c.len-known.ensures)
+          planned_next net layout.order (length layout.kinds) c.args.machine.now.places.now keys rest now old.due.numbers meets.due.added new.due.numbers c.loop-place.next p c.requires.can_read.places c.loop-place.invariant.planned within.0 removal
+          (subst (λ (ks : List ℕ). All (Contains now) ks) c.derive_stream.ensures.agenda c.in_ok-plan-2.ensures.kept) meets.due.is
+          (subst (λ (end : ℕ). All (λ s. IsPlanned (p + 1) end now (get_or c.args.machine.now.places.now s 0)) meets.due.added) c.len-end.ensures
+          (subst (All (λ s. IsPlanned (p + 1) c.len-end.result now (get_or c.args.machine.now.places.now s 0))) (fresh_part old.due new.due meets.due c.as_slice-in-Some.result.now c.len-known.result c.as_slice-in-Some.ensures c.len-known.ensures)
           c.in_ok-plan-2.ensures.planned));
     }
 
+-- the draft has room for what is put in order
+pub put_in_order-requires : goal.put_in_order-requires
+put_in_order-requires g c =
+    let fits = c.loop-place.invariant.made.until.fits in
+    let draft = c.loop-place.drawing.draft in
+    subst (λ (m : ℕ). DraftFits m (length draft.beads) draft) (sym fits.made) (subst (λ (m : ℕ). DraftFits (length c.args.machine.now.layout.now.kinds) m draft) (sym fits.beads) fits)
+
+-- all is drawn once the others are in order too
 pub returns-clause-drawn : goal.returns-clause-drawn
 returns-clause-drawn g c =
-    ended_until c.args.machine.now.network.now c.args.machine.now.layout.now c.args.machine.now.stores.now c.args.opened.now c.requires.can_draw c.loop-place.drawing.draft c.loop-place.drawing.pairs c.loop-place.next c.loop-place.drawing.agenda.keys c.loop-place.invariant.planned
-    (λ some. absurd (let no = c.in_default.ensures.variant.1 some in cc)) c.loop-place.invariant.below c.loop-place.invariant.until
+    let net = c.args.machine.now.network.now in
+    let layout = c.args.machine.now.layout.now in
+    let stores = c.args.machine.now.stores.now in
+    let opened = c.args.opened.now in
+    let old = c.loop-place.drawing.draft in
+    let pairs = c.loop-place.drawing.pairs in
+    let made = ended_until net layout stores opened c.requires.can_draw old pairs _ _ _ c.loop-place.next c.loop-place.drawing.agenda.keys c.loop-place.invariant.planned (λ some. absurd (let no = c.in_default.ensures.variant.1 some in cc)) c.loop-place.invariant.below c.loop-place.invariant.made in
+    let all = taken_all layout.order (length layout.order) (omega arith) in
+    let until = subst (λ (done : List ℕ). MadeUpTo net layout stores opened done old pairs) all made.until in
+    let in_order = subst (AreReadInOrder net old.made) all made.in_order in
+    drawn_in_order net layout stores opened old c.put_in_order.new.self pairs until in_order c.put_in_order.ensures.made c.put_in_order.ensures.beads c.put_in_order.ensures.fits
 
 -- what all pairs take out
 pub returns-clause-takes : goal.returns-clause-takes
 returns-clause-takes g c =
     let net = c.args.machine.now.network.now in
+    let layout = c.args.machine.now.layout.now in
     let stores = c.args.machine.now.stores.now in
-    let was = c.loop-place.invariant.takes in
-    let news =
-    ap (λ (seen : Streams). takes_work net seen (held stores) c.loop-place.drawing.pairs)
-    (ended_news net c.args.machine.now.layout.now stores c.args.opened.now c.requires.can_draw c.loop-place.drawing.draft c.loop-place.drawing.pairs c.loop-place.next c.loop-place.drawing.agenda.keys c.loop-place.invariant.planned
-    (λ some. absurd (let no = c.in_default.ensures.variant.1 some in cc)) c.loop-place.invariant.below c.loop-place.invariant.until) in omega (arith, was, news)
+    let opened = c.args.opened.now in
+    let old = c.loop-place.drawing.draft in
+    let pairs = c.loop-place.drawing.pairs in
+    let made = ended_until net layout stores opened c.requires.can_draw old pairs _ _ _ c.loop-place.next c.loop-place.drawing.agenda.keys c.loop-place.invariant.planned (λ some. absurd (let no = c.in_default.ensures.variant.1 some in cc)) c.loop-place.invariant.below c.loop-place.invariant.made in
+    let all = taken_all layout.order (length layout.order) (omega arith) in
+    let until = subst (λ (done : List ℕ). MadeUpTo net layout stores opened done old pairs) all made.until in
+    let in_order = subst (AreReadInOrder net old.made) all made.in_order in
+    let was = made.takes in
+    let before = ap (λ (done : List ℕ). pairs_work net done stores opened old.made pairs) all in
+    let same = takes_in_order net layout stores opened old c.put_in_order.new.self pairs until in_order c.put_in_order.ensures.made in omega (arith, was, before, same)
 
 -- want of memory comes after some of the tests
 pub returns-in_err-derive_stream-clause-ticks : goal.returns-in_err-derive_stream-clause-ticks
@@ -159,17 +185,14 @@ returns-in_err-derive_stream-clause-ticks g c =
     let rest = c.pop_first.new.self.keys in
     let old = c.loop-place.drawing.draft in
     let pairs = c.loop-place.drawing.pairs in
-    let planned = c.loop-place.invariant.planned in
     let removal = c.in-Some.ensures.removal in
-    let above = c.in-Some.ensures.all_above in
     let within = first_within c.loop-place.next (length layout.order) p keys rest removal c.loop-place.invariant.within in
+    let lt = within.1 in
     let is = get_or_from_slice_get layout.order p c.get-stream.result.now 0 c.get-stream.ensures in
-    let until = popped_until net layout stores opened can old pairs c.loop-place.next p keys rest planned removal above within.0 within.1 c.loop-place.invariant.until in
-    let tests = tuple_work net (held stores) in
-    let was = c.loop-place.invariant.ticks in
-    let left = popped_left net layout stores opened can old pairs tests c.loop-place.next p keys rest planned removal above within.0 within.1 c.loop-place.invariant.until in
+    let made = popped_until net layout stores opened can old pairs _ _ _ c.loop-place.next p keys rest c.loop-place.invariant.planned removal c.in-Some.ensures.all_above within.0 lt c.loop-place.invariant.made in
+    let was = made.ticks in
     let one = subst (λ (s : ℕ). c.derive_stream.new.steps ≤ c.loop-place.steps + stream_work net (held stores) s (get_or old.made s [])) (sym is) c.derive_stream.ensures.ticks in
-    let made = made_within net layout stores opened can p within.1 tests old pairs until in omega (arith, was, left, one, made)
+    let all = made_within net layout stores opened can p lt (tuple_work net (held stores)) old pairs made.until in omega (arith, was, one, all)
 
 pub returns-in_err-plan-2-clause-ticks : goal.returns-in_err-plan-2-clause-ticks
 returns-in_err-plan-2-clause-ticks g c =
@@ -183,14 +206,39 @@ returns-in_err-plan-2-clause-ticks g c =
     let rest = c.pop_first.new.self.keys in
     let old = c.loop-place.drawing.draft in
     let pairs = c.loop-place.drawing.pairs in
-    let planned = c.loop-place.invariant.planned in
     let removal = c.in-Some.ensures.removal in
-    let above = c.in-Some.ensures.all_above in
     let within = first_within c.loop-place.next (length layout.order) p keys rest removal c.loop-place.invariant.within in
+    let lt = within.1 in
     let is = get_or_from_slice_get layout.order p c.get-stream.result.now 0 c.get-stream.ensures in
-    let until = popped_until net layout stores opened can old pairs c.loop-place.next p keys rest planned removal above within.0 within.1 c.loop-place.invariant.until in
-    let tests = tuple_work net (held stores) in
-    let was = c.loop-place.invariant.ticks in
-    let left = popped_left net layout stores opened can old pairs tests c.loop-place.next p keys rest planned removal above within.0 within.1 c.loop-place.invariant.until in
+    let made = popped_until net layout stores opened can old pairs _ _ _ c.loop-place.next p keys rest c.loop-place.invariant.planned removal c.in-Some.ensures.all_above within.0 lt c.loop-place.invariant.made in
+    let was = made.ticks in
     let one = subst (λ (s : ℕ). c.derive_stream.new.steps ≤ c.loop-place.steps + stream_work net (held stores) s (get_or old.made s [])) (sym is) c.derive_stream.ensures.ticks in
-    let made = made_within net layout stores opened can p within.1 tests old pairs until in omega (arith, was, left, one, made)
+    let all = made_within net layout stores opened can p lt (tuple_work net (held stores)) old pairs made.until in omega (arith, was, one, all)
+
+-- no stream is derived yet
+pub loop-place-init : goal.loop-place-init
+loop-place-init g c =
+    let net = c.args.machine.now.network.now in
+    let layout = c.args.machine.now.layout.now in
+    let stores = c.args.machine.now.stores.now in
+    let opened = c.args.opened.now in
+    let draft = c.args.drawing.now.draft in
+    let pairs = c.args.drawing.now.pairs in
+    let places = c.args.machine.now.places.now in
+    let keys = c.plan.new.agenda.keys in
+    record {
+      below = omega arith;
+      made = record {
+        until = drawn_made net layout stores opened [] draft pairs c.requires.drawn;
+        in_order = All-nil _;
+        ticks =
+            let same : work_left net layout stores opened draft 0 ≡ derived_work net layout.order (held stores) (streams_of opened) = refl in omega (arith, same);
+        takes =
+            let same : takes_left net layout stores opened draft 0 ≡ derived_tests (take_work net (held stores)) net layout.order (held stores) (streams_of opened) = refl in
+            let was = c.requires.takes in omega (arith, same, was);
+      };
+      within = subst (λ (end : ℕ). AreFrom 0 end keys) c.len-end.ensures c.in_ok-plan.ensures.within;
+      planned =
+          planned_first net layout.order (length layout.kinds) places draft.due.numbers keys 0 c.requires.can_read.places
+          (subst (λ (end : ℕ). All (λ s. IsPlanned 0 end keys (get_or places s 0)) draft.due.numbers) c.len-end.ensures (subst (All (λ s. IsPlanned 0 c.len-end.result keys (get_or places s 0))) c.as_slice.ensures c.in_ok-plan.ensures.planned));
+    }

@@ -48,16 +48,18 @@ returns-clause-derives g c =
     on_ok_four c.put_made.result (new.made ≡ set met.made s tuples) (new.beads ≡ met.beads) (MarksMore met.due new.due) (DraftFits (length met.made) (length met.beads) new)
     (Derives net stores s old new c.args.drawing.now.pairs c.meet_stream.new.drawing.pairs)
     (λ made beads due fits. record {
-      tuples = tuples;
-      same = permuted_from is (sort_permutes rows);
+      meets = record {
+        tuples = tuples;
+        same = permuted_from is (sort_permutes rows);
+        met = met;
+        grows = grows;
+        made = made;
+        beads = beads;
+        fits = subst (λ (m : ℕ). DraftFits m (length net) new) (grows.fits.made ∙ length-set old.made s []) (subst (λ (m : ℕ). DraftFits (length met.made) m new) grows.fits.beads fits);
+        due = marks_trans old.due met.due new.due grows.due due;
+        lists = subst (λ (ts : List TupleView). ListsAll net stores s ts c.args.drawing.now.pairs c.meet_stream.new.drawing.pairs) c.as_slice.ensures c.in_ok-meet_stream.ensures.lists;
+      };
       ordered = ap sorted is ∙ sort_twice rows ∙ sym is;
-      met = met;
-      grows = grows;
-      made = made;
-      beads = beads;
-      fits = subst (λ (m : ℕ). DraftFits m (length net) new) (grows.fits.made ∙ length-set old.made s []) (subst (λ (m : ℕ). DraftFits (length met.made) m new) grows.fits.beads fits);
-      due = marks_trans old.due met.due new.due grows.due due;
-      lists = subst (λ (ts : List TupleView). ListsAll net stores s ts c.args.drawing.now.pairs c.meet_stream.new.drawing.pairs) c.as_slice.ensures c.in_ok-meet_stream.ensures.lists;
     }) c.put_made.ensures.made c.put_made.ensures.beads c.put_made.ensures.due c.put_made.ensures.fits
 
 -- the order of the tuples is nothing to their tests

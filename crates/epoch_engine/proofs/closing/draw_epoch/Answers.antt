@@ -29,7 +29,9 @@ draw-requires-clause-can_read g c =
     let is = c.requires.running.plan_is in
     record {
       readers = subst (λ (net : Net). AreReadersOfAll net plan.layout plan.readers) (sym c.network.ensures.value) is.readers;
-      places = subst (λ (places : List ℕ). ArePlaces plan.layout.order (length plan.layout.kinds) places) (sym c.as_slice.ensures) is.places;
+      places =
+          subst (λ (net : Net). ArePlaces net plan.layout.order (length plan.layout.kinds) c.as_slice.result.now) (sym c.network.ensures.value)
+          (subst (λ (places : List ℕ). ArePlaces plan.merged plan.layout.order (length plan.layout.kinds) places) (sym c.as_slice.ensures) is.places);
       led = subst (λ (net : Net). AreLed net c.args.holdings.now.keys c.args.holdings.now.stores) (sym c.network.ensures.value) c.requires.led;
     }
 

@@ -28,7 +28,10 @@ pub returns-clause-is : goal.returns-clause-is
 returns-clause-is c =
     record {
       readers = record { are = subst (λ (net : Net). AreReadersOf net c.in_ok-readers.readers) c.network.ensures.value c.in_ok-readers.ensures.made; streams = c.in_ok-readers.ensures.streams ∙ c.len.ensures };
-      places = subst (λ (streams : ℕ). ArePlaces c.args.layout.order streams c.in_ok-places.places) c.len-2.ensures (subst (λ (order : List ℕ). ArePlaces order c.len-2.result c.in_ok-places.places) c.as_slice.ensures c.in_ok-places.ensures);
+      places =
+          subst (λ (net : Net). ArePlaces net c.args.layout.order (length c.args.layout.kinds) c.in_ok-places.places) c.network-2.ensures.value
+          (subst (λ (streams : ℕ). ArePlaces c.network-2.result.now c.args.layout.order streams c.in_ok-places.places) c.len-2.ensures
+          (subst (λ (order : List ℕ). ArePlaces c.network-2.result.now order c.len-2.result c.in_ok-places.places) c.as_slice.ensures c.in_ok-places.ensures));
       printed = search rules;
       places_printed = subst (λ (m : ℕ). HasPlaces c.args.layout.outs m c.in_ok-out_places.out_places) c.len-3.ensures c.in_ok-out_places.ensures;
     }
