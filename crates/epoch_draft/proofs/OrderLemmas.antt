@@ -44,7 +44,7 @@ use Rattle.epoch_draft.proofs.TakeLemmas.{takes_agree}
 use Rattle.epoch_draft.proofs.UnreadLemmas.{AreReadAlike, given_same, leaving_same, read_same, waits_read}
 
 module _ (net : Net) (layout : Layout) (stores : List (Option Store)) (opened : List (List TupleView)) (old new : Draft) (pairs : List Pair) (was : MadeUpTo net layout stores opened layout.order old pairs) (in_order : AreReadInOrder net old.made layout.order)
-  (made : (s : ℕ) → get_or new.made s [] ≡ sorted (get_or old.made s [])) where
+    (made : (s : ℕ) → get_or new.made s [] ≡ sorted (get_or old.made s [])) where
   abbrev seen : Streams
   seen = news_of opened old.made layout.order
 

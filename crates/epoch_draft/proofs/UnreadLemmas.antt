@@ -79,23 +79,26 @@ set_same (rows ∷ lists) (suc s) = ap (λ ls. rows ∷ ls) (set_same lists s)
 -- a stream of which nothing comes is met as it is
 pub skipped_meets : (net : Net) (stores : Stores) (s : ℕ) (draft : Draft) (pairs : List Pair) → DraftFits (length draft.made) (length net) draft → (get_or draft.made s [] ≡ []) ⊎ IsUnread net s
     → (meets : Meets net stores s draft draft pairs pairs) × (meets.tuples ≡ get_or draft.made s [])
-skipped_meets net stores s draft pairs fits skips = (record {
-  tuples = rows;
-  same = IsPermutation-refl rows;
-  met = without draft s;
-  grows = subst (λ (moves : List Move). Grows net moves (without draft s) (without draft s)) (sym (silent skips)) (grows_none net (without draft s) bare);
-  made = sym (set_same draft.made s);
-  beads = refl;
-  fits = fits;
-  due = marks_same draft.due fits.due;
-  lists = record {
-    added = [];
-    are = sym (append-nil pairs);
-    sound = All-nil (IsPairOf net s rows);
-    listed = λ k t at n c. absurd (none_waits skips k t at n c);
-    takes = omega arith;
-  };
-}, refl)
+skipped_meets net stores s draft pairs fits skips = (
+  record {
+    tuples = rows;
+    same = IsPermutation-refl rows;
+    met = without draft s;
+    grows = subst (λ (moves : List Move). Grows net moves (without draft s) (without draft s)) (sym (silent skips)) (grows_none net (without draft s) bare);
+    made = sym (set_same draft.made s);
+    beads = refl;
+    fits = fits;
+    due = marks_same draft.due fits.due;
+    lists = record {
+      added = [];
+      are = sym (append-nil pairs);
+      sound = All-nil (IsPairOf net s rows);
+      listed = λ k t at n c. absurd (none_waits skips k t at n c);
+      takes = omega arith;
+    };
+  },
+  refl,
+)
   where
     rows : List TupleView
     rows = get_or draft.made s []
