@@ -7,6 +7,7 @@ use Rattle.cayuga_run.specs.declared.status.Status.TheVariants.{Done, Usage, Bad
 use Rattle.cayuga_run.specs.Answers.{Answers}
 use Rattle.cayuga_run.specs.Blaming.{BlamesHost}
 use Rattle.cayuga_run.specs.Outcome.{DidNothing, Outcome}
+use Rattle.cayuga_run.specs.Reading.{Reads}
 use Rattle.cayuga_run.specs.RunOutcome.{RunOutcome}
 use Rattle.cayuga_run.specs.Works.{Work, Nothing, Reports, Writes, has_side}
 use Rattle.cayuga_run.specs.WritingOutcome.{WritingOutcome}
@@ -14,8 +15,8 @@ use Rattle.cayuga_run.proofs.RunAnswers.{complete_by, decided, refused_by}
 use Rattle.cayuga_run.proofs.WritingAnswers.{writing_complete_by, writing_decided, writing_refused_by}
 
 -- words that ask for nothing
-without_work : (limit : ℕ) (old new : Told) (status : Status) → DidNothing old new status → BlamesHost old new status → ((side : Side) → new.attached side ≡ false) → Answers Nothing limit old new status
-without_work limit old new Usage same blames sides = record {
+without_work : (limit : ℕ) (old new : Told) (status : Status) → DidNothing old new status → BlamesHost old new status → new.left ≡ old.left → ((side : Side) → new.attached side ≡ false) → Answers Nothing limit old new status
+without_work limit old new Usage same blames reads sides = record {
   usage = λ other. (λ e. refl, λ e. refl);
   usage_does = λ e. same;
   done = λ e. cc;
@@ -29,12 +30,13 @@ without_work limit old new Usage same blames sides = record {
   write_fault = λ e. cc;
   memory = λ e. cc;
   blames = blames;
+  reads = reads;
   sides = λ side e. sides side;
   refused = tt;
   determined = tt;
   complete = tt;
 }
-without_work limit old new Memory same blames sides = record {
+without_work limit old new Memory same blames reads sides = record {
   usage = λ other. absurd (other refl);
   usage_does = λ e. cc;
   done = λ e. cc;
@@ -48,25 +50,26 @@ without_work limit old new Memory same blames sides = record {
   write_fault = λ e. cc;
   memory = λ e. same;
   blames = blames;
+  reads = reads;
   sides = λ side e. sides side;
   refused = tt;
   determined = tt;
   complete = tt;
 }
-without_work limit old new Done same blames sides = absurd same
-without_work limit old new (BadQuery line why) same blames sides = absurd same
-without_work limit old new (Cycle names) same blames sides = absurd same
-without_work limit old new (BadEvent line why) same blames sides = absurd same
-without_work limit old new (OutOfOrder line at seen) same blames sides = absurd same
-without_work limit old new (AttachFault side) same blames sides = absurd same
-without_work limit old new (ReadFault side) same blames sides = absurd same
-without_work limit old new WriteFault same blames sides = absurd same
-without_work limit old new (TooMuch most) same blames sides = absurd same
+without_work limit old new Done same blames reads sides = absurd same
+without_work limit old new (BadQuery line why) same blames reads sides = absurd same
+without_work limit old new (Cycle names) same blames reads sides = absurd same
+without_work limit old new (BadEvent line why) same blames reads sides = absurd same
+without_work limit old new (OutOfOrder line at seen) same blames reads sides = absurd same
+without_work limit old new (AttachFault side) same blames reads sides = absurd same
+without_work limit old new (ReadFault side) same blames reads sides = absurd same
+without_work limit old new WriteFault same blames reads sides = absurd same
+without_work limit old new (TooMuch most) same blames reads sides = absurd same
 
 -- the answers, by what is asked for
-pub answers : (work : Work) (limit : ℕ) (old new : Told) (status : Status) → Outcome work limit old new status → BlamesHost old new status → ((side : Side) → has_side work side ≡ false → new.attached side ≡ false) → Answers work limit old new status
-answers Nothing limit old new status o blames sides = without_work limit old new status o blames (λ side. sides side refl)
-answers (Reports run) limit old new status o blames sides = record {
+pub answers : (work : Work) (limit : ℕ) (old new : Told) (status : Status) → Outcome work limit old new status → BlamesHost old new status → Reads work limit old new → ((side : Side) → has_side work side ≡ false → new.attached side ≡ false) → Answers work limit old new status
+answers Nothing limit old new status o blames reads sides = without_work limit old new status o blames reads (λ side. sides side refl)
+answers (Reports run) limit old new status o blames reads sides = record {
   usage = λ other. (λ e. absurd (subst (RunOutcome run limit old new) e o), λ e. cc);
   usage_does = λ e. absurd (subst (RunOutcome run limit old new) e o);
   done = λ e. subst (RunOutcome run limit old new) e o;
@@ -80,12 +83,13 @@ answers (Reports run) limit old new status o blames sides = record {
   write_fault = λ e. subst (RunOutcome run limit old new) e o;
   memory = λ e. subst (RunOutcome run limit old new) e o;
   blames = blames;
+  reads = reads;
   sides = sides;
   refused = refused_by run limit old new status o;
   determined = decided run limit old new status o;
   complete = complete_by run limit old new status o;
 }
-answers (Writes writing) limit old new status o blames sides = record {
+answers (Writes writing) limit old new status o blames reads sides = record {
   usage = λ other. (λ e. absurd (subst (WritingOutcome writing old new) e o), λ e. cc);
   usage_does = λ e. absurd (subst (WritingOutcome writing old new) e o);
   done = λ e. subst (WritingOutcome writing old new) e o;
@@ -99,6 +103,7 @@ answers (Writes writing) limit old new status o blames sides = record {
   write_fault = λ e. subst (WritingOutcome writing old new) e o;
   memory = λ e. subst (WritingOutcome writing old new) e o;
   blames = blames;
+  reads = reads;
   sides = sides;
   refused = writing_refused_by writing old new status o;
   determined = writing_decided writing old new status o;

@@ -5,6 +5,7 @@ pub mod GrowingLemmas
 pub mod HearingLemmas
 pub mod JudgementLemmas
 pub mod OutcomeLemmas
+pub mod ReadingLemmas
 pub mod RefusedLemmas
 pub mod RunAnswers
 pub mod RunLemmas

@@ -13,6 +13,7 @@ use Rattle.cayuga_run.specs.declared.status.Status.{Status}
 use Rattle.cayuga_run.specs.declared.status.Status.TheVariants.{Done, Usage, BadQuery, Cycle, BadEvent, OutOfOrder, AttachFault, ReadFault, WriteFault, TooMuch, Memory}
 use Rattle.cayuga_run.specs.Blaming.{BlamesHost}
 use Rattle.cayuga_run.specs.Expected.{AnswersRefused, IsExpected, IsExpectedOrFault, IsExpectedOrMemory, IsExpectedWriting, IsSteady}
+use Rattle.cayuga_run.specs.Reading.{Reads}
 use Rattle.cayuga_run.specs.Refusing.{AreNotAttached, AreNotRead, IsBadQuery, AnswersCycle, OfQueries}
 use Rattle.cayuga_run.specs.RunOutcome.{AreThere, IsAttachFault, IsDone, IsMemory, IsReadFault, AnswersRefusal, IsTooMuch, IsWriteFault, OfFiles}
 use Rattle.cayuga_run.specs.Works.{Work, Nothing, ByWork, ForQueries, ForRun, IfQueries, has_side}
@@ -36,6 +37,8 @@ pub record Answers (work : Work) (limit : ℕ) (old new : Told) (status : Status
   pub memory : status ≡ Memory → ByWork work (new ≡ old) (λ run. IsMemory run limit old new) (λ writing. KeepsOutput old new)
   -- a fault of the host is the answer
   pub blames : BlamesHost old new status
+  -- how much of its files was read
+  pub reads : Reads work limit old new
   -- no side is attached that the work doesn't have
   pub sides : (side : Side) → has_side work side ≡ false → new.attached side ≡ false
   -- a refused query text decides the answer whatever the events, unless the queries couldn't be attached or read or there was no memory

@@ -6,6 +6,7 @@ use Rattle.cay_host.specs.Output.{KeepsOutput}
 use Rattle.cay_host.specs.Told.{Told}
 use Rattle.catalogue.specs.Judgement.{Accepts, Judged}
 use Rattle.cayuga_run.specs.declared.status.Status.{Status}
+use Rattle.cayuga_run.specs.Reading.{ReadsBoth, ReadsQueries}
 use Rattle.cayuga_run.specs.Refusing.{OfQueries}
 use Rattle.cayuga_run.specs.RunOutcome.{RunOutcome}
 
@@ -33,3 +34,9 @@ abbrev pub EndsRun : Judged → List ℕ → Bool → ℕ → Told → Told → 
 EndsRun judged events stats limit before after status =
     (queries : List ℕ) (first : Told) → HasAccepted queries judged first before
     → RunOutcome (record { queries = queries; events = events; stats = stats }) limit first after status
+
+-- how much of both files is then read
+abbrev pub EndsReading : Judged → List ℕ → ℕ → Told → Told → Type 0
+EndsReading judged events limit before after =
+    (queries : List ℕ) (first : Told) → HasAccepted queries judged first before → ReadsQueries queries first before
+    → ReadsBoth queries events limit first after

@@ -8,6 +8,7 @@ pub mod Laws
 pub mod Number
 pub mod Outcome
 pub mod QueryFailing
+pub mod Reading
 pub mod Refusing
 pub mod Reports
 pub mod RunOutcome

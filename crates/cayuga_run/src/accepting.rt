@@ -7,6 +7,7 @@ ghost use Rattle.catalogue.specs.Judgement.{Accepts};
 ghost use Rattle.cayuga_run.specs.Begun.{HasAccepted, HasRead};
 ghost use Rattle.cayuga_run.specs.Blaming.{BlamesHost};
 ghost use Rattle.cayuga_run.specs.QueryFailing.{QueriesFail, TextFails};
+ghost use Rattle.cayuga_run.specs.Reading.{ReadsNoEvents, TakesAtMost};
 ghost use Rattle.cayuga_run.specs.Refusing.{AreNotAccepted};
 
 use crate::sides::{ReadEnd, read_side};
@@ -25,6 +26,7 @@ pub fn accept<H: Host>(alloc: Global, host: &mut H, queries: &str) -> Result<Cat
     ensures accepted { IfOk result (λ catalogue. HasAccepted queries.now (judged_of catalogue) (H.told host.old) (H.told host.new)) }
     ensures fails { IfErr result (AreNotAccepted queries.now (H.told host.old) (H.told host.new)) }
     ensures blames { IfErr result (BlamesHost (H.told host.old) (H.told host.new)) }
+    ensures reads { ReadsNoEvents queries.now (H.told host.old) (H.told host.new) }
     ensures events { (H.told host.new).attached Events ≡ false }
 {
     if host.attach(Side::Queries, queries).is_err() {
@@ -39,6 +41,7 @@ fn read_queries<H: Host>(alloc: Global, host: &mut H) -> Result<Catalogue, Statu
     ensures accepted { IfOk result (λ catalogue. HasRead (judged_of catalogue) (H.told host.old) (H.told host.new)) }
     ensures fails { IfErr result (QueriesFail (H.told host.old) (H.told host.new)) }
     ensures blames { IfErr result (BlamesHost (H.told host.old) (H.told host.new)) }
+    ensures taken { TakesAtMost 1048577 ((H.told host.old).left Queries) ((H.told host.new).left Queries) }
     ensures same { SameButRead Queries (H.told host.old) (H.told host.new) }
 {
     match read_side(alloc, host, Side::Queries, MOST_QUERY_BYTES) {

@@ -5,6 +5,7 @@ ghost use Rattle.catalogue.specs.Catalogued.{judged_of};
 ghost use Rattle.session.specs.SessionView.{SessionStandsFor};
 ghost use Rattle.cayuga_run.specs.Blaming.{BlamesHost};
 ghost use Rattle.cayuga_run.specs.HearingOutcome.{Hears, HearsAlone, status_of};
+ghost use Rattle.cayuga_run.specs.Reading.{StopsInPiece};
 
 use crate::pieces::{PIECE, piece_size};
 use crate::status::Status;
@@ -26,6 +27,7 @@ pub fn read_events<H: Host, L: Ledger>(
     requires limit { session.old.limit ≡ limit }
     ensures hears { Hears (judged_of session.old.catalogue) limit session.new (H.told host.old) (H.told host.new) result }
     ensures blames { BlamesHost (H.told host.old) (H.told host.new) result }
+    ensures stops { StopsInPiece (judged_of session.old.catalogue) limit ((H.told host.old).left Events) ((H.told host.new).left Events) }
     ensures alone { HearsAlone (H.told host.old) (H.told host.new) }
 {
     let mut piece = [0u8; PIECE];

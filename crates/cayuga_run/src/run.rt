@@ -3,8 +3,9 @@ ghost use Rattle.std.specs.Prelude.{◌≡◌, [], false};
 ghost use Rattle.cay_host.specs.declared.side.Side.TheVariants.{Queries, Events};
 ghost use Rattle.catalogue.specs.Catalogued.{judged_of};
 ghost use Rattle.session.specs.SessionView.{SessionStandsFor};
-ghost use Rattle.cayuga_run.specs.Begun.{EndsRun};
+ghost use Rattle.cayuga_run.specs.Begun.{EndsReading, EndsRun};
 ghost use Rattle.cayuga_run.specs.Blaming.{BlamesHost};
+ghost use Rattle.cayuga_run.specs.Reading.{ReadsBoth};
 ghost use Rattle.cayuga_run.specs.RunOutcome.{RunOutcome};
 
 use crate::accepting::accept;
@@ -31,6 +32,7 @@ pub fn run<H: Host, L: Ledger>(
     requires events { (H.told host.old).attached Events ≡ false }
     ensures outcome { RunOutcome (record { queries = queries.now; events = events.now; stats = stats }) limit (H.told host.old) (H.told host.new) result }
     ensures blames { BlamesHost (H.told host.old) (H.told host.new) result }
+    ensures reads { ReadsBoth queries.now events.now limit (H.told host.old) (H.told host.new) }
 {
     let catalogue = match accept(alloc, host, queries) {
         Ok(catalogue) => catalogue,
@@ -57,6 +59,7 @@ fn attach_and_read<H: Host, L: Ledger>(
     requires limit { session.old.limit ≡ limit }
     ensures outcome { EndsRun (judged_of session.old.catalogue) events.now stats limit (H.told host.old) (H.told host.new) result }
     ensures blames { BlamesHost (H.told host.old) (H.told host.new) result }
+    ensures reads { EndsReading (judged_of session.old.catalogue) events.now limit (H.told host.old) (H.told host.new) }
 {
     if host.attach(Side::Events, events).is_err() {
         return Status::AttachFault(Side::Events);

@@ -1,7 +1,8 @@
 //! Reading a side whole.
-ghost use Rattle.std.specs.Prelude.{◌≡◌, true, IfOk, MatchResult};
+ghost use Rattle.std.specs.Prelude.{◌≡◌, ◌+◌, true, IfOk, MatchResult};
 ghost use Rattle.std.specs.Io.KnownBytes.{prepend_known};
 ghost use Rattle.cay_host.specs.Input.{SameButRead};
+ghost use Rattle.cayuga_run.specs.Reading.{TakesAtMost};
 ghost use Rattle.cayuga_run.specs.Taking.{BlamesReading, EndsAs};
 
 use crate::pieces::{PIECE, piece_size};
@@ -37,6 +38,7 @@ pub fn read_side<H: Host>(
     requires { (H.told host.old).attached side ≡ true }
     ensures front { IfOk result (λ t. (H.told host.old).left side ≡ prepend_known t.bytes.items ((H.told host.new).left side)) }
     ensures end { IfOk result (λ t. EndsAs t.end limit t.bytes.items side (H.told host.old) (H.told host.new)) }
+    ensures taken { TakesAtMost (limit + 1) ((H.told host.old).left side) ((H.told host.new).left side) }
     ensures quiet { MatchResult result (λ t. BlamesReading t.end (H.told host.old) (H.told host.new)) (λ none. (H.told host.new).read_faults ≡ (H.told host.old).read_faults) }
     ensures same { SameButRead side (H.told host.old) (H.told host.new) }
 {

@@ -6,6 +6,7 @@ ghost use Rattle.command_line.specs.Table.{job, texts_of};
 ghost use Rattle.cayuga_run.specs.Answers.{Answers};
 ghost use Rattle.cayuga_run.specs.Blaming.{BlamesHost};
 ghost use Rattle.cayuga_run.specs.Outcome.{Outcome};
+ghost use Rattle.cayuga_run.specs.Reading.{Reads};
 ghost use Rattle.cayuga_run.specs.Works.{has_side, work_of};
 
 use crate::run::run;
@@ -59,6 +60,7 @@ fn do_words<H: Host, L: Ledger>(
     requires { IsFree (H.told host.old) }
     ensures outcome { Outcome (work_of (job (texts_of words.now))) limit (H.told host.old) (H.told host.new) result }
     ensures blames { BlamesHost (H.told host.old) (H.told host.new) result }
+    ensures reads { Reads (work_of (job (texts_of words.now))) limit (H.told host.old) (H.told host.new) }
     ensures sides { (side : Side) → has_side (work_of (job (texts_of words.now))) side ≡ false → (H.told host.new).attached side ≡ false }
 {
     match job_of(alloc, words) {
@@ -79,6 +81,7 @@ fn do_job<H: Host, L: Ledger>(
     requires { IsFree (H.told host.old) }
     ensures outcome { Outcome (work_of (Some job.now)) limit (H.told host.old) (H.told host.new) result }
     ensures blames { BlamesHost (H.told host.old) (H.told host.new) result }
+    ensures reads { Reads (work_of (Some job.now)) limit (H.told host.old) (H.told host.new) }
     ensures sides { (side : Side) → has_side (work_of (Some job.now)) side ≡ false → (H.told host.new).attached side ≡ false }
 {
     match job {

@@ -3,6 +3,7 @@ ghost use Rattle.std.specs.Prelude.{◌≡◌, false};
 ghost use Rattle.cay_host.specs.declared.side.Side.TheVariants.{Queries, Events};
 ghost use Rattle.cay_host.specs.Output.{SameButOutput};
 ghost use Rattle.cayuga_run.specs.Blaming.{BlamesHost};
+ghost use Rattle.cayuga_run.specs.Reading.{ReadsNoEvents};
 ghost use Rattle.cayuga_run.specs.WritingText.{WritesText};
 ghost use Rattle.cayuga_run.specs.Works.{canonical_of};
 ghost use Rattle.cayuga_run.specs.WritingOutcome.{WritingOutcome};
@@ -20,6 +21,7 @@ pub fn check<H: Host>(alloc: Global, host: &mut H, queries: &str) -> Status
     requires events { (H.told host.old).attached Events ≡ false }
     ensures outcome { WritingOutcome (record { queries = queries.now; text_of = canonical_of }) (H.told host.old) (H.told host.new) result }
     ensures blames { BlamesHost (H.told host.old) (H.told host.new) result }
+    ensures reads { ReadsNoEvents queries.now (H.told host.old) (H.told host.new) }
     ensures events { (H.told host.new).attached Events ≡ false }
 {
     match accept(alloc, host, queries) {
@@ -37,6 +39,7 @@ pub fn plan<H: Host>(alloc: Global, host: &mut H, queries: &str) -> Status
     requires events { (H.told host.old).attached Events ≡ false }
     ensures outcome { WritingOutcome (record { queries = queries.now; text_of = plan_of }) (H.told host.old) (H.told host.new) result }
     ensures blames { BlamesHost (H.told host.old) (H.told host.new) result }
+    ensures reads { ReadsNoEvents queries.now (H.told host.old) (H.told host.new) }
     ensures events { (H.told host.new).attached Events ≡ false }
 {
     match accept(alloc, host, queries) {

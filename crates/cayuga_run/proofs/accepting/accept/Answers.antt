@@ -5,6 +5,7 @@ use Rattle.catalogue.specs.Catalogued.{judged_of}
 use Rattle.cayuga_run.specs.Begun.{HasAccepted, HasRead}
 use Rattle.cayuga_run.specs.QueryFailing.{QueriesFail}
 use Rattle.cayuga_run.specs.Refusing.{AreNotAccepted}
+use Rattle.cayuga_run.proofs.ReadingLemmas.{reads_nothing, reads_queries}
 use Rattle.cayuga_run.proofs.RunLemmas.{HasQueries, queries_accepted, queries_fail}
 use Rattle.cayuga_run.proofs.accepting.accept.Goals as goal
 
@@ -59,3 +60,27 @@ returns-then-is_err-clause-blames g c = record {
   read = λ other. c.attach.ensures.same.read_faults;
   write = λ other. c.attach.ensures.same.write_faults;
 }
+
+pub returns-then-is_err-clause-reads : goal.returns-then-is_err-clause-reads
+returns-then-is_err-clause-reads g c = reads_nothing _ _ _ (search rules) (search rules)
+
+-- the queries are attached, and were read
+pub returns-clause-reads : goal.returns-clause-reads
+returns-clause-reads g c =
+    let told = g.H.Host.told in
+    let queries = c.args.queries.now in
+    let old = told c.args.host.now in
+    let mid = told c.attach.new.self in
+    let has : HasQueries queries old mid = record {
+      there = search rules;
+      text = search rules;
+      attached = search rules;
+      events = search rules;
+      unread = search rules;
+      attach_faults = search rules;
+      read_faults = search rules;
+      write_faults = search rules;
+      files = search rules;
+      silent = record { written = search rules; lines = search rules };
+    } in
+    reads_queries queries old mid (told c.read_queries.new.host) has c.read_queries.ensures.same c.read_queries.ensures.taken

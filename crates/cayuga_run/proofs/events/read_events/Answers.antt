@@ -1,8 +1,10 @@
-use Rattle.std.proofs.Common.{◌≤◌, [], ◌++◌, length, length-take, take, drop, refl, subst, sym, ap, arith}
+use Rattle.std.proofs.Common.{◌+◌, ◌-◌, ◌≤◌, [], ◌++◌, length, length-take, take, drop, refl, subst, sym, ap, arith}
 use Rattle.std.proofs.Math.Facts.{Fits-of_lt}
+use Rattle.cay_host.specs.declared.side.Side.TheVariants.{Events}
 use Rattle.catalogue.specs.Catalogued.{judged_of}
 use Rattle.cayuga_run.specs.HearingOutcome.{Hears}
 use Rattle.cayuga_run.proofs.HearingLemmas.{blames_read, heard_more, heard_none, heard_within, hears_all, piece_is, read_failed, stops_at_end, stops_at_piece, taken_more}
+use Rattle.cayuga_run.proofs.ReadingLemmas.{stops_at_read, stops_in_piece, stops_then_writes}
 use Rattle.cayuga_run.proofs.events.read_events.Goals as goal
 
 -- nothing is read before the first piece
@@ -92,3 +94,38 @@ returns-in-Err-feed-clause-hears g c =
     let t = taken_more c.pieces.invariant c.in-Ok.count buffer rest room c.in-Ok.ensures.took c.read.ensures.same c.in-Ok.ensures.quiet in
     subst (Hears (judged_of c.args.session.now.catalogue) c.args.limit c.feed.new.self (g.H.Host.told c.args.host.now) (g.H.Host.told c.feed.new.host)) (sym c.status_of-in-Err-feed.ensures)
     (stops_at_piece t c.feed.ensures.same c.feed.new.self c.in-Err-feed.fault (c.in-Err-feed.ensures.broken [] c.pieces.invariant.bytes c.pieces.invariant.stands))
+
+-- what was read, where a read failed
+pub returns-in-Err-clause-stops : goal.returns-in-Err-clause-stops
+returns-in-Err-clause-stops g c = stops_at_read c.pieces.invariant (ap (λ f. f Events) c.in-Err.ensures.kept)
+
+-- and where the session ended
+pub returns-in-Ok-finish-clause-stops : goal.returns-in-Ok-finish-clause-stops
+returns-in-Ok-finish-clause-stops g c =
+    let buffer = c.read.new.buf in
+    let slice = length-take c.piece_size-want.result c.pieces.piece in
+    let want = c.piece_size-want.ensures in
+    let small : length buffer ≤ 65536 = omega (arith, slice) in
+    let room : length buffer ≤ c.args.limit - c.pieces.taken + 1 = omega (arith, slice, want) in
+    let stops = stops_in_piece c.pieces.invariant c.in-Ok.count buffer small room c.in-Ok.ensures.took in
+    stops_then_writes stops c.finish.ensures.same
+
+pub returns-in-Err-finish-clause-stops : goal.returns-in-Err-finish-clause-stops
+returns-in-Err-finish-clause-stops g c =
+    let buffer = c.read.new.buf in
+    let slice = length-take c.piece_size-want.result c.pieces.piece in
+    let want = c.piece_size-want.ensures in
+    let small : length buffer ≤ 65536 = omega (arith, slice) in
+    let room : length buffer ≤ c.args.limit - c.pieces.taken + 1 = omega (arith, slice, want) in
+    let stops = stops_in_piece c.pieces.invariant c.in-Ok.count buffer small room c.in-Ok.ensures.took in
+    stops_then_writes stops c.finish.ensures.same
+
+pub returns-in-Err-feed-clause-stops : goal.returns-in-Err-feed-clause-stops
+returns-in-Err-feed-clause-stops g c =
+    let buffer = c.read.new.buf in
+    let slice = length-take c.piece_size-want.result c.pieces.piece in
+    let want = c.piece_size-want.ensures in
+    let small : length buffer ≤ 65536 = omega (arith, slice) in
+    let room : length buffer ≤ c.args.limit - c.pieces.taken + 1 = omega (arith, slice, want) in
+    let stops = stops_in_piece c.pieces.invariant c.in-Ok.count buffer small room c.in-Ok.ensures.took in
+    stops_then_writes stops c.feed.ensures.same

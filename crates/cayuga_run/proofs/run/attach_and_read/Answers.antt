@@ -1,4 +1,4 @@
-use Rattle.std.proofs.Common.{◌≡◌, refl, subst, false, Result, Ok, Err}
+use Rattle.std.proofs.Common.{◌≡◌, refl, rules, subst, false, Result, Ok, Err}
 use Rattle.std.specs.Result.{OnOk, is_err}
 use Rattle.cay_host.specs.declared.side.Side.TheVariants.{Events}
 use Rattle.catalogue.specs.Catalogued.{judged_of}
@@ -10,6 +10,7 @@ use Rattle.cayuga_run.specs.Works.{Run}
 use Rattle.cayuga_run.proofs.BlamingLemmas.{blames_after, none_blamed}
 use Rattle.cayuga_run.proofs.EndLemmas.{run_hears, run_tells}
 use Rattle.cayuga_run.proofs.OutcomeLemmas.{ready}
+use Rattle.cayuga_run.proofs.ReadingLemmas.{alone_then_writes, reads_before_events, reads_events, stops_then_writes}
 use Rattle.cayuga_run.proofs.run.attach_and_read.Goals as goal
 
 -- what a call promises of its Ok, where it is no Err
@@ -63,4 +64,19 @@ returns-in_default g c =
         read = c.attach.ensures.same.read_faults;
         write = c.attach.ensures.same.write_faults;
       }) c.read_events.ensures.blames;
+      reads = λ queries first accepted before.
+          reads_events c.args.events.now c.args.limit accepted before (from_ok c.attach.result c.if-is_err.ensures.value c.attach.ensures.ok) c.read_events.ensures.alone c.read_events.ensures.stops;
     }
+
+-- what was read of the events, and of the queries before
+pub returns-then-is_err-clause-reads : goal.returns-then-is_err-clause-reads
+returns-then-is_err-clause-reads g c = λ queries first accepted before. reads_before_events c.args.events.now c.args.limit accepted before (search rules) c.requires.free
+
+pub returns-then-stats-clause-reads : goal.returns-then-stats-clause-reads
+returns-then-stats-clause-reads g c = λ queries first accepted before.
+    reads_events c.args.events.now c.args.limit accepted before (from_ok c.attach.result c.if-is_err.ensures.value c.attach.ensures.ok)
+    (alone_then_writes c.read_events.ensures.alone c.write_stats.ensures.same) (stops_then_writes c.read_events.ensures.stops c.write_stats.ensures.same)
+
+pub returns-else-stats-clause-reads : goal.returns-else-stats-clause-reads
+returns-else-stats-clause-reads g c = λ queries first accepted before.
+    reads_events c.args.events.now c.args.limit accepted before (from_ok c.attach.result c.if-is_err.ensures.value c.attach.ensures.ok) c.read_events.ensures.alone c.read_events.ensures.stops

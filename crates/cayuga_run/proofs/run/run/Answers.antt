@@ -4,6 +4,7 @@ use Rattle.cayuga_run.specs.declared.status.Status.TheVariants.{Memory}
 use Rattle.cayuga_run.specs.Begun.{HasAccepted}
 use Rattle.cayuga_run.specs.Works.{Run}
 use Rattle.cayuga_run.proofs.BlamingLemmas.{blames_after, blames_none}
+use Rattle.cayuga_run.proofs.ReadingLemmas.{reads_no_events}
 use Rattle.cayuga_run.proofs.RunLemmas.{memory_silent, run_fails}
 use Rattle.cayuga_run.proofs.run.run.Goals as goal
 
@@ -34,3 +35,18 @@ pub returns-clause-blames : goal.returns-clause-blames
 returns-clause-blames g c =
     let accepted = c.in-Ok.ensures.accepted in
     blames_after c.attach_and_read.result (record { attach = accepted.attach_faults; read = accepted.read_faults; write = accepted.write_faults }) c.attach_and_read.ensures.blames
+
+-- what was read of the queries before
+pub returns-in-Err-clause-reads : goal.returns-in-Err-clause-reads
+returns-in-Err-clause-reads g c = reads_no_events c.args.events.now c.args.limit c.accept.ensures.reads c.accept.ensures.events
+
+pub returns-in_default-clause-reads : goal.returns-in_default-clause-reads
+returns-in_default-clause-reads g c = reads_no_events c.args.events.now c.args.limit c.accept.ensures.reads c.accept.ensures.events
+
+-- and of both
+pub returns-clause-reads : goal.returns-clause-reads
+returns-clause-reads g c =
+    let told = g.H.Host.told in
+    c.attach_and_read.ensures.reads c.args.queries.now (told c.args.host.now)
+    (subst (λ (k : Catalogued). HasAccepted c.args.queries.now (judged_of k) (told c.args.host.now) (told c.accept.new.host)) (sym c.in-Ok-make.ensures.queries) c.in-Ok.ensures.accepted)
+    c.accept.ensures.reads.of_queries

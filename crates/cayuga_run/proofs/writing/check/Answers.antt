@@ -4,6 +4,7 @@ use Rattle.cel_parser.specs.Filed.{Filed}
 use Rattle.cel_print.specs.Spelled.{canon}
 use Rattle.catalogue.specs.Catalogued.{judged_of}
 use Rattle.cayuga_run.specs.Works.{Writing, canonical_of}
+use Rattle.cayuga_run.proofs.ReadingLemmas.{reads_then_writes}
 use Rattle.cayuga_run.proofs.WritingLemmas.{writing_ends, writing_fails}
 use Rattle.cayuga_run.proofs.writing.check.Goals as goal
 
@@ -21,3 +22,6 @@ returns-in-Ok-print-clause-outcome g c =
     let writing : Writing = record { queries = c.args.queries.now; text_of = canonical_of } in
     writing_ends writing (judged_of c.in-Ok.catalogue) _ (told c.args.host.now) (told c.accept.new.host) (told c.write_text.new.host) c.write_text.result
     c.in-Ok.ensures.accepted (c.as_str.ensures ∙ c.in-Ok-print.ensures.text ∙ ap (λ (file : Filed). canon (map statement_of file.statements)) c.file.ensures.value) c.write_text.ensures.writes c.write_text.ensures.same
+
+pub returns-in-Ok-print-clause-reads : goal.returns-in-Ok-print-clause-reads
+returns-in-Ok-print-clause-reads g c = reads_then_writes c.accept.ensures.reads c.write_text.ensures.same

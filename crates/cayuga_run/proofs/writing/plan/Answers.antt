@@ -2,6 +2,7 @@ use Rattle.std.proofs.Common.{◌∙◌}
 use Rattle.catalogue.specs.Catalogued.{judged_of}
 use Rattle.cayuga_run.specs.Works.{Writing}
 use Rattle.plan_text.specs.Plan.{plan_of}
+use Rattle.cayuga_run.proofs.ReadingLemmas.{reads_then_writes}
 use Rattle.cayuga_run.proofs.WritingLemmas.{writing_ends, writing_fails}
 use Rattle.cayuga_run.proofs.writing.plan.Goals as goal
 
@@ -19,3 +20,6 @@ returns-in-Ok-plan-clause-outcome g c =
     let writing : Writing = record { queries = c.args.queries.now; text_of = plan_of } in
     writing_ends writing (judged_of c.in-Ok.catalogue) _ (told c.args.host.now) (told c.accept.new.host) (told c.write_text.new.host) c.write_text.result
     c.in-Ok.ensures.accepted (c.as_str.ensures ∙ c.in-Ok-plan.ensures) c.write_text.ensures.writes c.write_text.ensures.same
+
+pub returns-in-Ok-plan-clause-reads : goal.returns-in-Ok-plan-clause-reads
+returns-in-Ok-plan-clause-reads g c = reads_then_writes c.accept.ensures.reads c.write_text.ensures.same
