@@ -6,4 +6,5 @@ pub mod LateLemmas
 pub mod RestartLemmas
 pub mod SiftLemmas
 pub mod SortLemmas
+pub mod SpanLemmas
 pub mod StreamLemmas

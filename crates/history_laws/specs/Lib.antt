@@ -1,3 +1,4 @@
 pub mod Epochs
 pub mod Keys
 pub mod LateStarts
+pub mod Spans

@@ -7,6 +7,7 @@
 ghost use Rattle.history_laws.specs.Epochs.{OrderChangesNoResult, OrderWithinEpochsChangesNoReport};
 ghost use Rattle.history_laws.specs.LateStarts.{LateStartsDependOnLateEvents, ReportStandsAfterARestart, ResultsStandAfterARestart};
 ghost use Rattle.history_laws.specs.Keys.{PartsByAKeyHaveTheirResults, PartsByAKeyHaveTheirStreams};
+ghost use Rattle.history_laws.specs.Spans.{LimitsBoundSpans};
 
 /// The results at a time don't depend on the order of the events.
 pub fn order_changes_no_result()
@@ -23,7 +24,8 @@ pub fn late_starts_depend_on_late_events()
     ensures { LateStartsDependOnLateEvents }
 {}
 
-/// So the results of a span are those of a whole history, once events of that span were heard.
+/// So where results span at most so much, they are the same in both histories once that much time has
+/// passed.
 pub fn results_stand_after_a_restart()
     ensures { ResultsStandAfterARestart }
 {}
@@ -41,4 +43,9 @@ pub fn parts_by_a_key_have_their_streams()
 /// So it has the results of these keys, in their order.
 pub fn parts_by_a_key_have_their_results()
     ensures { PartsByAKeyHaveTheirResults }
+{}
+
+/// Results span at most so much where conditions limit DUR to it, or what is read spans no more.
+pub fn limits_bound_spans()
+    ensures { LimitsBoundSpans }
 {}
