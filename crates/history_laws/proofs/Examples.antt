@@ -35,6 +35,10 @@ same_key = Test (term.Event 0) cmp.Eq (Binding 0)
 abbrev joins : Program
 joins = asking (Next (same_key ∷ []) (Read 0) (Read 0))
 
+-- the same with T on the right
+abbrev joins_other : Program
+joins_other = asking (Next (same_key ∷ []) (Read 0) (Read 1))
+
 -- where a detection time falls, the epochs come in another order
 times_in_order : times (one 0 7 1 1 ∷ one 0 7 2 2 ∷ []) ≡ 1 ∷ 2 ∷ []
 times_in_order = refl
@@ -50,10 +54,15 @@ early_start_is_there = refl
 early_start_is_lost : results joins (one 0 7 9 9 ∷ []) 2 9 ≡ []
 early_start_is_lost = refl
 
--- a binding that started after its detection would meet an event that starts before 5
-abbrev joins_other : Program
-joins_other = asking (Next (same_key ∷ []) (Read 0) (Read 1))
+-- where the event of T of 1 is heard before that of S of 0, it is the first to follow, and no result is at 9
+next_is_there : results joins_other (one 1 7 1 1 ∷ one 0 7 0 0 ∷ one 1 7 9 9 ∷ []) 2 9 ≡ []
+next_is_there = refl
 
+-- a monitor that missed it has one, which spans 9: so that its own results span no more is asked as well
+next_is_missing : results joins_other (one 0 7 0 0 ∷ one 1 7 9 9 ∷ []) 2 9 ≡ pair 7 7 0 9 ∷ []
+next_is_missing = refl
+
+-- a binding that started after its detection would meet an event that starts before 5
 unsound_start_meets_an_early_event : late 5 (results joins_other (one 0 7 5 1 ∷ one 1 7 3 9 ∷ []) 2 9) ≡ pair 7 7 5 9 ∷ []
 unsound_start_meets_an_early_event = refl
 
@@ -97,15 +106,25 @@ counts_up = asking (Fold (same_key ∷ []) [] (record { width = 1; parts = Two A
 key_assigned : (of_part counts_up sevens 3 ≡ tuple 8 1 3 ∷ []) × (of_whole counts_up sevens 3 ≡ [])
 key_assigned = (refl, refl)
 
--- the key of S is its first attribute, and that of T its second: their union has it at no one place
+-- in the second condition of FOLD alone it joins none: in the whole 8 is the first to follow, and it ends the run
+abbrev goes_on_by_key : Program
+goes_on_by_key = asking (Fold [] (same_key ∷ []) (record { width = 1; parts = Binding 0 ∷ [] }) (Read 0) (Read 0))
+
+key_in_second : (of_part goes_on_by_key sevens 3 ≡ tuple 7 1 3 ∷ []) × (of_whole goes_on_by_key sevens 3 ≡ [])
+key_in_second = (refl, refl)
+
+-- the key of S is its first attribute, and that of T its second: their union has it neither at the first place nor at the second
 abbrev by_stream : ℕ → ℕ
 by_stream stream = stream
 
 abbrev both : Program
 both = asking (Union (Read 0) (Read 1))
 
-key_of_two_places : (results both (events_with_keys is_seven by_stream (two 1 5 7 1 ∷ [])) 2 1 ≡ pair 5 7 1 1 ∷ []) × (with_keys is_seven 0 (results both (two 1 5 7 1 ∷ []) 2 1) ≡ [])
-key_of_two_places = (refl, refl)
+key_at_first : (results both (events_with_keys is_seven by_stream (two 1 5 7 1 ∷ [])) 2 1 ≡ pair 5 7 1 1 ∷ []) × (with_keys is_seven 0 (results both (two 1 5 7 1 ∷ []) 2 1) ≡ [])
+key_at_first = (refl, refl)
+
+key_at_second : (results both (events_with_keys is_seven by_stream (two 0 7 5 1 ∷ [])) 2 1 ≡ pair 7 5 1 1 ∷ []) × (with_keys is_seven 1 (results both (two 0 7 5 1 ∷ []) 2 1) ≡ [])
+key_at_second = (refl, refl)
 
 -- an event that started after its detection would follow itself, once more for each event of another key
 abbrev follows_itself : Program

@@ -7,7 +7,7 @@ use Rattle.semantics.specs.Programs.{Program}
 use Rattle.semantics.specs.Report.{report}
 use Rattle.semantics.specs.Results.{results}
 
--- the same events, in neither history one before an earlier detected one; so only events of one detection time change places
+-- the same events, where in neither history one stands before an event that is detected earlier; so only events of one detection time change places
 pub record AreReorderedWithinEpochs (history others : List Event) : Type 0 where
   pub same_events : IsPermutation history others
   pub in_order : NeverFalls history

@@ -17,11 +17,11 @@ use Rattle.history_laws.specs.LateStarts.{AreSound}
 abbrev pub JoinsByKey : List Pr → ℕ → ℕ → Type 0
 JoinsByKey condition place bound = Contains condition (Test (term.Event place) cmp.Eq (Binding bound))
 
--- the scalar at this place is that attribute
+-- the projection has this scalar at this place
 abbrev pub Gives : List Sc → ℕ → Sc → Type 0
 Gives parts place scalar = slice_get parts place ≡ Some scalar
 
--- each tuple of the expression has at this place the key of what it is made of, where each stream has its key at a place
+-- the expression keeps the key at this place: a stream at its own, FILTER and UNION where their sides do, SELECT where it gives that attribute; NEXT and FOLD join by it, and FOLD's new binding has it there again
 abbrev pub IsKeyed : (ℕ → ℕ) → Ex → ℕ → Type 0
 IsKeyed keys (Read stream) place = keys stream ≡ place
 IsKeyed keys (Filter p e) place = IsKeyed keys e place
@@ -43,13 +43,13 @@ with_keys is_ours place tuples = filter (λ tuple. is_ours (value_at tuple place
 abbrev pub events_with_keys : (Value → Bool) → (ℕ → ℕ) → List Event → List Event
 events_with_keys is_ours keys history = filter (λ event. is_ours (value_at event.tuple (keys event.stream))) history
 
--- over the events of our keys each stream has its tuples of our keys, in their order
+-- where each query keeps the key and no event starts after its detection, over the events of our keys each stream has its tuples of our keys, in their order
 abbrev pub PartsByAKeyHaveTheirStreams : Type 0
 PartsByAKeyHaveTheirStreams =
     (program : Program) (history : List Event) (keys : ℕ → ℕ) (is_ours : Value → Bool) → AreSound history → AreKeyed keys program
     → (stream : ℕ) → env program (events_with_keys is_ours keys history) stream ≡ with_keys is_ours (keys stream) (env program history stream)
 
--- so each query has its results of our keys, in their order
+-- where each query keeps the key and no event starts after its detection, over the events of our keys each query has its results of our keys, in their order
 abbrev pub PartsByAKeyHaveTheirResults : Type 0
 PartsByAKeyHaveTheirResults =
     (program : Program) (history : List Event) (keys : ℕ → ℕ) (is_ours : Value → Bool) → AreSound history → AreKeyed keys program

@@ -19,7 +19,7 @@ late start tuples = filter (is_late start) tuples
 abbrev pub AreSound : List Event → Type 0
 AreSound history = All (λ event. IsSound event.tuple) history
 
--- on each declared stream both histories have the same tuples of those that start at the time or later
+-- on each declared stream both histories have the same tuples of those that start at the time or later, in the same order
 abbrev pub HearTheSameFrom : ℕ → ℕ → List Event → List Event → Type 0
 HearTheSameFrom start declared history others = (stream : ℕ) → stream < declared → late start (heard_on history stream) ≡ late start (heard_on others stream)
 
@@ -33,7 +33,7 @@ LateStartsDependOnLateEvents =
 abbrev pub SpansAtMost : ℕ → TupleView → Type 0
 SpansAtMost span tuple = tuple.at ≤ tuple.from + span
 
--- where results span at most so much, and that much time has passed, they are those of a history with the same late events
+-- where two histories have the same late events, and in both the results at a time span at most so much, and that much time has passed, they are the same
 abbrev pub ResultsStandAfterARestart : Type 0
 ResultsStandAfterARestart =
     (program : Program) (history others : List Event) (start span : ℕ) → AreSound history → AreSound others → HearTheSameFrom start program.declared history others
@@ -48,7 +48,7 @@ ResultsSpanAtMost span program history from = All (λ query. (time : ℕ) → fr
 abbrev pub report_from : ℕ → Program → List Event → List ℕ
 report_from from program history = flat_map (epoch program history) (filter (λ time. nat_le from time) (times history))
 
--- a program that hears only the events after those detected before the time reports what it would have reported, once the span has passed
+-- a program that hears only the events after those detected before the time reports what it would have reported, once the span has passed, where with and without the past all results from then on span at most so much
 abbrev pub ReportStandsAfterARestart : Type 0
 ReportStandsAfterARestart =
     (program : Program) (past history : List Event) (start span : ℕ) → AreSound (past ++ history) → All (λ event. event.tuple.at < start) past

@@ -21,6 +21,13 @@ fault_at_the_end = refl
 fault_between : times (closed (detected 1 1 ∷ faulty 2 ∷ detected 3 2 ∷ []) true) ≡ []
 fault_between = refl
 
+-- where the event of 5 has another key, the line of 3 behind it is refused in the whole, which has closed 1 alone; a part that lacks that event hears it, and closes 1 and 3
+refused_in_whole : times (closed (detected 1 1 ∷ detected 2 5 ∷ detected 3 3 ∷ []) true) ≡ 1 ∷ []
+refused_in_whole = refl
+
+heard_in_part : times (closed (detected 1 1 ∷ detected 2 3 ∷ []) true) ≡ 1 ∷ 3 ∷ []
+heard_in_part = refl
+
 -- a declared stream without attributes
 abbrev stream : List ℕ → Entry
 stream name = record { name = name; schema = []; declared = true }

@@ -131,6 +131,7 @@ module _ (text : List ℕ) (whole : Judged) (accepts : Accepts text whole) (even
       record {
         refused_are = All-weaker (IsPartOf whole) (λ part. refused (readings part.streams events ended) ≡ refused (readings whole.streams events ended)) (λ part of. (alike part of).refused_is) parts all;
         epochs_are = All-weaker (IsPartOf whole) (λ part. times (closed_by events ended part) ≡ times (closed_by events ended whole)) (λ part of. (alike part of).epochs_are) parts all;
+        lines_are = All-weaker (IsPartOf whole) (λ part. All (HasTwin part whole (closed_by events ended part) (closed_by events ended whole)) (program_of part).queries) (λ part of. (alike part of).lines_are) parts all;
         report_is = flat_map_each (epoch (program_of whole) (closed_by events ended whole)) (λ time. flat_map (λ name. lines_in_parts events ended time name parts) (names_of whole)) one (times (closed_by events ended whole));
       }
     where

@@ -13,12 +13,12 @@ use Rattle.event_csv.specs.Event.{event}
 use Rattle.history_laws.specs.Keys.{AreKeyed, with_keys}
 use Rattle.text_laws.specs.Wholes.{IsHeardWhole, events_of, line_texts}
 
--- whether the event of a line has one of our keys
+-- whether the event of a line has one of our keys; a line with a fault counts as ours
 abbrev pub is_ours_in : (Value → Bool) → (ℕ → ℕ) → Result Seen LineFault → Bool
 is_ours_in is_ours keys (Ok seen) = is_ours (value_at seen.tuple (keys seen.stream))
 is_ours_in is_ours keys (Err why) = true
 
--- the lines of the event text whose events have one of our keys, in their order
+-- the lines of the event text whose events have one of our keys, and those with a fault, in their order
 abbrev pub lines_with_keys : (Value → Bool) → (ℕ → ℕ) → List Entry → List (List ℕ) → List (List ℕ)
 lines_with_keys is_ours keys streams texts = filter (λ text. is_ours_in is_ours keys (event streams text)) texts
 
@@ -29,7 +29,7 @@ pub record ReportsItsKeys (judged : Judged) (keys : ℕ → ℕ) (is_ours : Valu
   pub lines_are :
       All (λ query. (time : ℕ) → lines_at (program_of judged) (events_of judged part) time query ≡ flat_map (line query.name) (with_keys is_ours (keys query.stream) (results (program_of judged) (events_of judged events) query.stream time))) (program_of judged).queries
 
--- where each query keeps the key, a part of an event text by its values reports the results of these keys
+-- where each query keeps the key and no line is refused, a part of an event text by its values reports the results of these keys
 abbrev pub PartsByAKeyReportTheirKeys : Type 0
 PartsByAKeyReportTheirKeys =
     (judged : Judged) (keys : ℕ → ℕ) (is_ours : Value → Bool) (events part : List ℕ) → AreKeyed keys (program_of judged) → IsHeardWhole judged events

@@ -9,6 +9,7 @@ use Rattle.catalogue.specs.Judgement.{Accepts, Judged, program_of}
 use Rattle.session.specs.Heard.{closed, refused}
 use Rattle.session.specs.Readings.{readings}
 use Rattle.independence.specs.Enlarging.{AddQueries}
+use Rattle.independence.specs.Independence.{HasTwin}
 
 -- the part is an accepted text of statements of the whole, with each of its declarations
 pub record IsPartOf (whole part : Judged) : Type 0 where
@@ -28,25 +29,26 @@ HaveEachQuery whole parts = All (Contains (flat_map names_of parts)) (names_of w
 abbrev pub closed_by : List ℕ → Bool → Judged → List Event
 closed_by events ended judged = closed (readings judged.streams events ended) ended
 
--- the query of a name
+-- the first query of the name, if one has it
 abbrev pub named_in : List ℕ → List Query → Option Query
 named_in name [] = None
 named_in name (query ∷ queries) = if bytes_eq query.name name then Some query else named_in name queries
 
--- the lines of a query that a part may have, and else others
+-- the lines at a time of the query that the part has, and these others where it has none
 abbrev pub lines_or : Judged → List Event → ℕ → Option Query → List ℕ → List ℕ
 lines_or part history time None others = others
 lines_or part history time (Some query) others = lines_at (program_of part) history time query
 
--- the lines at a time of the query of a name in the first of the parts that has it
+-- the lines at a time of the query of a name in the first of the parts that has it, and nothing where none has it
 abbrev pub lines_in_parts : List ℕ → Bool → ℕ → List ℕ → List Judged → List ℕ
 lines_in_parts events ended time name [] = []
 lines_in_parts events ended time name (part ∷ parts) = lines_or part (closed_by events ended part) time (named_in name (program_of part).queries) (lines_in_parts events ended time name parts)
 
--- over an event text each part refuses the line that the whole does and closes the same epochs, and the report of the whole is, epoch by epoch and query by query, the lines of the query in its part
+-- over an event text each part refuses the line that the whole does and closes the same epochs, each of its queries has the lines of the whole's query of its name, and the report of the whole is, epoch by epoch and query by query, the lines of the query in the first part that has it
 pub record ReportInParts (whole : Judged) (parts : List Judged) (events : List ℕ) (ended : Bool) : Type 0 where
   pub refused_are : All (λ part. refused (readings part.streams events ended) ≡ refused (readings whole.streams events ended)) parts
   pub epochs_are : All (λ part. times (closed_by events ended part) ≡ times (closed_by events ended whole)) parts
+  pub lines_are : All (λ part. All (HasTwin part whole (closed_by events ended part) (closed_by events ended whole)) (program_of part).queries) parts
   pub report_is :
       report (program_of whole) (closed_by events ended whole)
       ≡ flat_map (λ time. flat_map (λ name. lines_in_parts events ended time name parts) (names_of whole)) (times (closed_by events ended whole))

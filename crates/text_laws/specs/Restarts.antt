@@ -10,14 +10,14 @@ use Rattle.event_csv.specs.Event.{event}
 use Rattle.history_laws.specs.LateStarts.{HearTheSameFrom, ResultsSpanAtMost, late, report_from}
 use Rattle.text_laws.specs.Wholes.{IsHeardWhole, events_of, line_texts}
 
--- results that start at a time or later depend on no event that starts before it
+-- results that start at a time or later depend on no event that starts before it, where no line of either text is refused
 abbrev pub LateResultsDependOnLateLines : Type 0
 LateResultsDependOnLateLines =
     (judged : Judged) (events others : List ℕ) (start : ℕ) → IsHeardWhole judged events → IsHeardWhole judged others
     → HearTheSameFrom start (program_of judged).declared (events_of judged events) (events_of judged others)
     → (stream time : ℕ) → late start (results (program_of judged) (events_of judged events) stream time) ≡ late start (results (program_of judged) (events_of judged others) stream time)
 
--- what is read of a line is detected before the time
+-- the line is an event that is detected before the time
 abbrev pub IsBefore : ℕ → Result Seen LineFault → Type 0
 IsBefore start (Ok seen) = seen.tuple.at < start
 IsBefore start (Err why) = ⊥
@@ -28,7 +28,7 @@ pub record BeginsAt (streams : List Entry) (start : ℕ) (events others : List �
   pub lines_are : line_texts events ≡ past ++ line_texts others
   pub past_is_early : All (λ line. IsBefore start (event streams line)) past
 
--- no line of it is refused, and from the time on, once the span of all results has passed, both report the same, byte by byte
+-- where no line of the first text is refused, and in both all results from the time on, once the span has passed, span at most so much, no line of the second is refused, and from then on both report the same, byte by byte
 abbrev pub RestartReportsTheSame : Type 0
 RestartReportsTheSame =
     (judged : Judged) (events others : List ℕ) (start span : ℕ) → IsHeardWhole judged events → BeginsAt judged.streams start events others

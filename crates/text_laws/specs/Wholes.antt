@@ -7,7 +7,7 @@ use Rattle.event_csv.specs.Lines.{Line, lines}
 use Rattle.session.specs.Heard.{closed, refused}
 use Rattle.session.specs.Readings.{readings}
 
--- the bytes of the lines of an event text
+-- the bytes of the lines of an event text, without its header and empty lines
 abbrev pub line_texts : List ℕ → List (List ℕ)
 line_texts events = map (λ (line : Line). line.bytes) (lines events true)
 
@@ -15,7 +15,7 @@ line_texts events = map (λ (line : Line). line.bytes) (lines events true)
 abbrev pub IsHeardWhole : Judged → List ℕ → Type 0
 IsHeardWhole judged events = refused (readings judged.streams events true) ≡ None
 
--- the events of an event text
+-- the events of the epochs that an event text closes by its end: all, where no line is refused
 abbrev pub events_of : Judged → List ℕ → List Event
 events_of judged events = closed (readings judged.streams events true) true
 

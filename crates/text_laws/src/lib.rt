@@ -1,7 +1,7 @@
 //! What a report depends on where query texts and event texts are split, cut or reordered.
 //!
 //! The functions are laws: they do nothing, and their contracts say what follows from the definitions.
-//! They let whoever runs several processes know that these together write what one would.
+//! They are for whoever splits the work over several processes.
 #![tactic(auto)]
 
 ghost use Rattle.text_laws.specs.LineOrder.{LineOrderWithinEpochsChangesNoReport};
@@ -9,7 +9,7 @@ ghost use Rattle.text_laws.specs.KeyParts.{PartsByAKeyReportTheirKeys};
 ghost use Rattle.text_laws.specs.QueryParts.{PartsInTurnReportTheWhole, QueryPartsReportTheWhole};
 ghost use Rattle.text_laws.specs.Restarts.{LateResultsDependOnLateLines, RestartReportsTheSame};
 
-/// Lines of one detection time may come in any order.
+/// Lines of one detection time may come in any order, where none is refused.
 pub fn line_order_within_epochs_changes_no_report()
     ensures { LineOrderWithinEpochsChangesNoReport }
 {}
@@ -31,13 +31,14 @@ pub fn late_results_depend_on_late_lines()
     ensures { LateResultsDependOnLateLines }
 {}
 
-/// A run that begins in the middle of an event text reports what it would have, once the span of its
-/// results has passed.
+/// A run that begins in the middle of an event text reports what it would have, once the span of all
+/// results, of both runs, has passed.
 pub fn restart_reports_the_same()
     ensures { RestartReportsTheSame }
 {}
 
-/// The events of a keyed query text may be split by the key.
+/// A part by the key of a keyed query text's events reports the results of its keys, where no line is
+/// refused.
 pub fn parts_by_a_key_report_their_keys()
     ensures { PartsByAKeyReportTheirKeys }
 {}
