@@ -27,7 +27,7 @@ late_follows : (start : ℕ) (p : List Pr) (b r : TupleView) → IsSound b → i
 late_follows start p b r sound late_too e = let later = eligible_later p b r e in grind (arith, nat_tests)
 
 -- the late tuples that an expression denotes are those over the late tuples, by induction on it
-late_denoted : (start : ℕ) (e : Ex) (streams : Streams) → AllSound streams → late start (denote e streams) ≡ denote e (λ stream. late start (streams stream))
+pub late_denoted : (start : ℕ) (e : Ex) (streams : Streams) → AllSound streams → late start (denote e streams) ≡ denote e (λ stream. late start (streams stream))
 late_denoted start (Read stream) streams all = refl
 late_denoted start (Filter p e) streams all =
     filter_swap (is_late start) (λ (t : TupleView). all_true p t None) (denote e streams) ∙ ap (filter (λ (t : TupleView). all_true p t None)) (late_denoted start e streams all)
@@ -42,7 +42,7 @@ late_denoted start (Fold p q m e f) streams all =
     runs_sifted (is_late start) (is_late start) p (late_follows start p) q m.parts (λ b r is. refl) (denote e streams) (denote f streams) (denote_sound streams all e) (denote_sound streams all f)
     ∙ (λ i. flat_map (runs p q m.parts (late_denoted start f streams all i)) (late_denoted start e streams all i))
 
-below : (stream declared : ℕ) → nat_lt stream declared ≡ true → stream < declared
+pub below : (stream declared : ℕ) → nat_lt stream declared ≡ true → stream < declared
 below stream declared is = grind (arith, nat_tests)
 
 -- results that start late depend on events that start late

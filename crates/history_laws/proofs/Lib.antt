@@ -3,6 +3,7 @@ pub mod EpochLemmas
 pub mod Examples
 pub mod KeyLemmas
 pub mod LateLemmas
+pub mod MissedLemmas
 pub mod RestartLemmas
 pub mod SiftLemmas
 pub mod SortLemmas

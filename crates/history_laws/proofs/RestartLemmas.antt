@@ -19,7 +19,7 @@ early_is_not_late : (start from at : ℕ) → from ≤ at → at < start → nat
 early_is_not_late start from at sound early = grind (arith, nat_tests)
 
 -- what was heard before the time isn't late
-past_hears : (start declared : ℕ) (past history : List Event) → AreSound past → All (λ event. event.tuple.at < start) past → HearTheSameFrom start declared (past ++ history) history
+pub past_hears : (start declared : ℕ) (past history : List Event) → AreSound past → All (λ event. event.tuple.at < start) past → HearTheSameFrom start declared (past ++ history) history
 past_hears start declared past history sound early stream lt =
     ap (λ (events : List Event). late start (map (λ event. event.tuple) events)) (filter-append on past history)
     ∙ ap (late start) (map-append (λ (event : Event). event.tuple) (filter on past) (filter on history))

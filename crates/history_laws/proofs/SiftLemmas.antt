@@ -56,7 +56,7 @@ pub eligible_later : (p : List Pr) (b r : TupleView) → is_eligible p b r ≡ t
 eligible_later p b r e = let later : nat_lt b.at r.from ≡ true = first_true _ _ e in grind (arith, nat_tests)
 
 -- where each eligible tuple is kept, the nexts are those among the kept ones
-nexts_kept : (keep : TupleView → Bool) (p : List Pr) (b : TupleView) → ((r : TupleView) → is_eligible p b r ≡ true → keep r ≡ true) → (rs : List TupleView) → nexts p b rs ≡ nexts p b (filter keep rs)
+pub nexts_kept : (keep : TupleView → Bool) (p : List Pr) (b : TupleView) → ((r : TupleView) → is_eligible p b r ≡ true → keep r ≡ true) → (rs : List TupleView) → nexts p b rs ≡ nexts p b (filter keep rs)
 nexts_kept keep p b kept rs =
     ap earliest (filter_agree (is_eligible p b) (λ r. keep r && is_eligible p b r) (λ r. absorbed (is_eligible p b r) (keep r) (kept r)) rs ∙ sym (filter-filter (is_eligible p b) keep rs))
 
@@ -79,7 +79,7 @@ module _ (test keep : TupleView → Bool) (p : List Pr) (kept : (b r : TupleView
       one : (b : TupleView) → IsSound b → test b ≡ true → matches p rs b ≡ matches p (filter keep rs) b
       one b b_sound passes = ap (map (joined b)) (nexts_kept keep p b (λ r e. kept b r b_sound passes e) rs)
 
-  module _ (q : List Pr) (m : List Sc) (tells : (b r : TupleView) → is_eligible p b r ≡ true → test (rebound m b r) ≡ test b) where
+  module _ (q : List Pr) (m : List Sc) where
     -- a new binding, and the runs from it of at most n events
     abbrev branch : ℕ → List TupleView → TupleView → TupleView → List TupleView
     branch n rs b r = rebound m b r ∷ runs_within n p q m rs (rebound m b r)
@@ -87,44 +87,47 @@ module _ (test keep : TupleView → Bool) (p : List Pr) (kept : (b r : TupleView
     goers_eligible : (b : TupleView) (rs : List TupleView) → All (λ r. is_eligible p b r ≡ true) (goers p q rs b)
     goers_eligible b rs = All-filter (λ r. all_true q r (Some b)) (λ r. is_eligible p b r ≡ true) (nexts p b rs) (nexts_eligible p b rs)
 
-    -- each run passes where its binding does, by induction on its length
-    runs_tell : (n : ℕ) (rs : List TupleView) (b : TupleView) → All (λ t. test t ≡ test b) (runs_within n p q m rs b)
-    runs_tell zero rs b = All-nil (λ t. test t ≡ test b)
-    runs_tell (suc n) rs b = go (λ c. runs_tell n rs c)
-      where
-        go : ((c : TupleView) → All (λ t. test t ≡ test c) (runs_within n p q m rs c)) → All (λ t. test t ≡ test b) (runs_within (suc n) p q m rs b)
-        go more =
-            All-flat_map (λ t. test t ≡ test b) (branch n rs b) (goers p q rs b)
-            (All-weaker (λ r. is_eligible p b r ≡ true) (λ r. All (λ t. test t ≡ test b) (branch n rs b r)) one (goers p q rs b) (goers_eligible b rs))
-          where
-            one : (r : TupleView) → is_eligible p b r ≡ true → All (λ t. test t ≡ test b) (branch n rs b r)
-            one r e =
-                All-cons (λ t. test t ≡ test b) (rebound m b r) (runs_within n p q m rs (rebound m b r)) (tells b r e)
-                (All-weaker (λ t. test t ≡ test (rebound m b r)) (λ t. test t ≡ test b) (λ t h. h ∙ tells b r e) (runs_within n p q m rs (rebound m b r)) (more (rebound m b r)))
+    module _ (stays : (b r : TupleView) → IsSound r → test b ≡ true → is_eligible p b r ≡ true → test (rebound m b r) ≡ true) where
+      -- the runs of a binding that passes are those among the kept tuples, by induction on their length
+      runs_kept : (rs : List TupleView) → All IsSound rs → (n : ℕ) (b : TupleView) → IsSound b → test b ≡ true → runs_within n p q m rs b ≡ runs_within n p q m (filter keep rs) b
+      runs_kept rs all zero b sound passes = refl
+      runs_kept rs all (suc n) b sound passes = go (λ c c_sound c_passes. runs_kept rs all n c c_sound c_passes)
+        where
+          go : ((c : TupleView) → IsSound c → test c ≡ true → runs_within n p q m rs c ≡ runs_within n p q m (filter keep rs) c) → runs_within (suc n) p q m rs b ≡ runs_within (suc n) p q m (filter keep rs) b
+          go more =
+              flat_map_same (branch n rs b) (branch n (filter keep rs) b) (goers p q rs b)
+              (λ k d lt. one (get_or (goers p q rs b) k d) (goers_eligible b rs k d lt) (All-filter (λ r. all_true q r (Some b)) IsSound (nexts p b rs) (nexts_keep IsSound p b rs all) k d lt))
+              ∙ ap (λ found. flat_map (branch n (filter keep rs) b) (filter (λ r. all_true q r (Some b)) found)) (nexts_kept keep p b (λ r e. kept b r sound passes e) rs)
+            where
+              one : (r : TupleView) → is_eligible p b r ≡ true → IsSound r → branch n rs b r ≡ branch n (filter keep rs) b r
+              one r e r_sound =
+                  let later = eligible_later p b r e in
+                  let new_sound : b.from ≤ r.at = omega (arith, later, sound, r_sound) in ap (λ ts. rebound m b r ∷ ts) (more (rebound m b r) new_sound (stays b r r_sound passes e))
 
-    -- the runs of a binding that passes are those among the kept tuples, by induction on their length
-    runs_kept : (rs : List TupleView) → All IsSound rs → (n : ℕ) (b : TupleView) → IsSound b → test b ≡ true → runs_within n p q m rs b ≡ runs_within n p q m (filter keep rs) b
-    runs_kept rs all zero b sound passes = refl
-    runs_kept rs all (suc n) b sound passes = go (λ c c_sound c_passes. runs_kept rs all n c c_sound c_passes)
-      where
-        go : ((c : TupleView) → IsSound c → test c ≡ true → runs_within n p q m rs c ≡ runs_within n p q m (filter keep rs) c) → runs_within (suc n) p q m rs b ≡ runs_within (suc n) p q m (filter keep rs) b
-        go more =
-            flat_map_same (branch n rs b) (branch n (filter keep rs) b) (goers p q rs b)
-            (λ k d lt. one (get_or (goers p q rs b) k d) (goers_eligible b rs k d lt) (All-filter (λ r. all_true q r (Some b)) IsSound (nexts p b rs) (nexts_keep IsSound p b rs all) k d lt))
-            ∙ ap (λ found. flat_map (branch n (filter keep rs) b) (filter (λ r. all_true q r (Some b)) found)) (nexts_kept keep p b (λ r e. kept b r sound passes e) rs)
-          where
-            one : (r : TupleView) → is_eligible p b r ≡ true → IsSound r → branch n rs b r ≡ branch n (filter keep rs) b r
-            one r e r_sound =
-                let later = eligible_later p b r e in
-                let new_sound : b.from ≤ r.at = omega (arith, later, sound, r_sound) in ap (λ ts. rebound m b r ∷ ts) (more (rebound m b r) new_sound (tells b r e ∙ passes))
+      -- so are they with as many events as the list has tuples
+      pub runs_same : (rs : List TupleView) → All IsSound rs → (b : TupleView) → IsSound b → test b ≡ true → runs p q m rs b ≡ runs p q m (filter keep rs) b
+      runs_same rs all b sound passes =
+          runs_kept rs all (length rs) b sound passes ∙ runs_end p q m (filter keep rs) (All-filter keep IsSound rs all) (length rs) b (filter_shorter keep rs)
 
-    -- the runs of the bindings that pass are those among the kept tuples
-    pub runs_sifted : (bs rs : List TupleView) → All IsSound bs → All IsSound rs → filter test (flat_map (runs p q m rs) bs) ≡ flat_map (runs p q m (filter keep rs)) (filter test bs)
-    runs_sifted bs rs sound all =
-        filter-given test test (runs p q m rs) bs (λ k d lt. runs_tell (length rs) rs (get_or bs k d))
-        ∙ flat_map_same (runs p q m rs) (runs p q m (filter keep rs)) (filter test bs)
-        (λ k d lt. one (get_or (filter test bs) k d) (All-filter test IsSound bs sound k d lt) (filter_passes test bs k d lt))
-      where
-        one : (b : TupleView) → IsSound b → test b ≡ true → runs p q m rs b ≡ runs p q m (filter keep rs) b
-        one b b_sound passes =
-            runs_kept rs all (length rs) b b_sound passes ∙ runs_end p q m (filter keep rs) (All-filter keep IsSound rs all) (length rs) b (filter_shorter keep rs)
+    module _ (tells : (b r : TupleView) → is_eligible p b r ≡ true → test (rebound m b r) ≡ test b) where
+      -- each run passes where its binding does, by induction on its length
+      runs_tell : (n : ℕ) (rs : List TupleView) (b : TupleView) → All (λ t. test t ≡ test b) (runs_within n p q m rs b)
+      runs_tell zero rs b = All-nil (λ t. test t ≡ test b)
+      runs_tell (suc n) rs b = go (λ c. runs_tell n rs c)
+        where
+          go : ((c : TupleView) → All (λ t. test t ≡ test c) (runs_within n p q m rs c)) → All (λ t. test t ≡ test b) (runs_within (suc n) p q m rs b)
+          go more =
+              All-flat_map (λ t. test t ≡ test b) (branch n rs b) (goers p q rs b)
+              (All-weaker (λ r. is_eligible p b r ≡ true) (λ r. All (λ t. test t ≡ test b) (branch n rs b r)) one (goers p q rs b) (goers_eligible b rs))
+            where
+              one : (r : TupleView) → is_eligible p b r ≡ true → All (λ t. test t ≡ test b) (branch n rs b r)
+              one r e =
+                  All-cons (λ t. test t ≡ test b) (rebound m b r) (runs_within n p q m rs (rebound m b r)) (tells b r e)
+                  (All-weaker (λ t. test t ≡ test (rebound m b r)) (λ t. test t ≡ test b) (λ t h. h ∙ tells b r e) (runs_within n p q m rs (rebound m b r)) (more (rebound m b r)))
+
+      -- the runs of the bindings that pass are those among the kept tuples
+      pub runs_sifted : (bs rs : List TupleView) → All IsSound bs → All IsSound rs → filter test (flat_map (runs p q m rs) bs) ≡ flat_map (runs p q m (filter keep rs)) (filter test bs)
+      runs_sifted bs rs sound all =
+          filter-given test test (runs p q m rs) bs (λ k d lt. runs_tell (length rs) rs (get_or bs k d))
+          ∙ flat_map_same (runs p q m rs) (runs p q m (filter keep rs)) (filter test bs)
+          (λ k d lt. runs_same (λ b r r_sound passes e. tells b r e ∙ passes) rs all (get_or (filter test bs) k d) (All-filter test IsSound bs sound k d lt) (filter_passes test bs k d lt))

@@ -27,6 +27,7 @@ use Rattle.history_laws.specs.LateStarts.{AreSound, ResultsSpanAtMost, report_fr
 use Rattle.history_laws.proofs.EpochLemmas.{report_permuted}
 use Rattle.history_laws.proofs.KeyLemmas.{results_of_part}
 use Rattle.history_laws.proofs.LateLemmas.{late_results}
+use Rattle.history_laws.proofs.MissedLemmas.{spans_stay}
 use Rattle.history_laws.proofs.RestartLemmas.{report_stands}
 use Rattle.text_laws.specs.KeyParts.{PartsByAKeyReportTheirKeys, is_ours_in}
 use Rattle.text_laws.specs.LineOrder.{LineOrderWithinEpochsChangesNoReport}
@@ -68,11 +69,11 @@ early_event start (Err why) early = absurd early
 
 -- a run that begins in the middle
 pub restart_stands : RestartReportsTheSame
-restart_stands judged events others start span whole begins spans others_span = (
+restart_stands judged events others start span whole begins spans = (
   others_whole,
   ap (report_from (start + span) (program_of judged)) parts
       ∙ report_stands (program_of judged) (events_on judged.streams begins.past) (events_of judged others) start span (subst AreSound parts (whole_sound judged events whole)) early
-      (subst (λ (history : List Event). ResultsSpanAtMost span (program_of judged) history (start + span)) parts spans) others_span,
+      all_span (spans_stay span (program_of judged) (events_on judged.streams begins.past) (events_of judged others) (start + span) (subst AreSound parts (whole_sound judged events whole)) (subst NeverFalls parts (whole_never_falls judged events whole)) all_span),
 )
   where
     order : InOrder None (founds_on judged.streams begins.past ++ founds_on judged.streams (line_texts others))
@@ -87,6 +88,9 @@ restart_stands judged events others start span whole begins spans others_span = 
         ∙ ap (events_on judged.streams) begins.lines_are
         ∙ flat_map-append (λ text. events_in (found_on judged.streams text)) begins.past (line_texts others)
         ∙ ap (λ events. events_on judged.streams begins.past ++ events) (sym (events_are judged others others_whole))
+
+    all_span : ResultsSpanAtMost span (program_of judged) (events_on judged.streams begins.past ++ events_of judged others) (start + span)
+    all_span = subst (λ (history : List Event). ResultsSpanAtMost span (program_of judged) history (start + span)) parts spans
 
     early : All (λ (event : Event). event.tuple.at < start) (events_on judged.streams begins.past)
     early =

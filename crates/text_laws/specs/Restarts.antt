@@ -28,9 +28,9 @@ pub record BeginsAt (streams : List Entry) (start : ℕ) (events others : List �
   pub lines_are : line_texts events ≡ past ++ line_texts others
   pub past_is_early : All (λ line. IsBefore start (event streams line)) past
 
--- where no line of the first text is refused, and in both all results from the time on, once the span has passed, span at most so much, no line of the second is refused, and from then on both report the same, byte by byte
+-- where no line of the first text is refused, and all its results from the time on, once the span has passed, span at most so much, no line of the second is refused, and from then on both report the same, byte by byte
 abbrev pub RestartReportsTheSame : Type 0
 RestartReportsTheSame =
     (judged : Judged) (events others : List ℕ) (start span : ℕ) → IsHeardWhole judged events → BeginsAt judged.streams start events others
-    → ResultsSpanAtMost span (program_of judged) (events_of judged events) (start + span) → ResultsSpanAtMost span (program_of judged) (events_of judged others) (start + span)
+    → ResultsSpanAtMost span (program_of judged) (events_of judged events) (start + span)
     → IsHeardWhole judged others × (report_from (start + span) (program_of judged) (events_of judged events) ≡ report_from (start + span) (program_of judged) (events_of judged others))

@@ -32,7 +32,7 @@ pub fn late_results_depend_on_late_lines()
 {}
 
 /// A run that begins in the middle of an event text reports what it would have, once the span of all
-/// results, of both runs, has passed.
+/// results of the whole text has passed.
 pub fn restart_reports_the_same()
     ensures { RestartReportsTheSame }
 {}
