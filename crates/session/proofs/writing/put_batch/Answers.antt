@@ -9,26 +9,26 @@ use Rattle.session.proofs.writing.put_batch.Goals as goal
 -- the place of an entry is the number of a query
 pub stream_of-requires : goal.stream_of-requires
 stream_of-requires c =
-    let entries = c.printed.result.entries.now in
-    let made = c.printed.result.made.now in
+    let entries = c.printed-printed.result.entries.now in
+    let made = c.printed-printed.result.made.now in
     let i = c.loop-entry.entry-index in
     let entry = c.entry-item.result in
-    subst (λ n. entry.place < n) c.requires (place_below (length c.args.batch.now) entries i entry (omega arith) (sym c.entry-item.is) c.printed.ensures.in_order.below)
+    subst (λ n. entry.place < n) c.requires (place_below (length c.args.batch.now) entries i entry (omega arith) (sym c.entry-item.is) c.printed-printed.ensures.in_order.below)
 
 -- the lines of one entry more were put, and its last tuples may be shown again
 pub loop-entry-preserved : goal.loop-entry-preserved
 loop-entry-preserved c =
     let now = c.args.catalogue.now in
-    let entries = c.printed.result.entries.now in
-    let made = c.printed.result.made.now in
+    let entries = c.printed-printed.result.entries.now in
+    let made = c.printed-printed.result.made.now in
     let i = c.loop-entry.entry-index in
     let entry = c.entry-item.result in
-    let less : entry.place < length now.order = subst (λ n. entry.place < n) c.requires (place_below (length c.args.batch.now) entries i entry (omega arith) (sym c.entry-item.is) c.printed.ensures.in_order.below) in
+    let less : entry.place < length now.order = subst (λ n. entry.place < n) c.requires (place_below (length c.args.batch.now) entries i entry (omega arith) (sym c.entry-item.is) c.printed-printed.ensures.in_order.below) in
     let name = name_is now c.streams-streams.ensures.is_accepted entry.place c.stream_of.result c.name-name.result.now less c.stream_of.ensures.value (rw c.streams-streams.ensures.value at c.name-name.ensures) in
     let lt : i < length entries = omega arith in
     record {
       put = entry_more now made entries i entry c.args.rows.now c.loop-entry.rows c.append.new.self c.name-name.result.now lt (sym c.entry-item.is) name
-          (c.in_ok-append.ensures.appended ∙ ap (λ tuples. c.loop-entry.rows ++ flat_map (line c.name-name.result.now) tuples) c.as_slice.ensures) c.loop-entry.invariant.put;
+          (c.in_ok-append.ensures.appended ∙ ap (λ tuples. c.loop-entry.rows ++ flat_map (line c.name-name.result.now) tuples) c.as_slice-tuples.ensures) c.loop-entry.invariant.put;
       lately = c.in_ok-append.ensures.lately;
     }
 
@@ -36,8 +36,8 @@ loop-entry-preserved c =
 pub returns-clause-put : goal.returns-clause-put
 returns-clause-put c =
     let now = c.args.catalogue.now in
-    let entries = c.printed.result.entries.now in
-    let made = c.printed.result.made.now in
+    let entries = c.printed-printed.result.entries.now in
+    let made = c.printed-printed.result.made.now in
     let past : length entries ≤ c.loop-entry.entry-index = omega arith in
     c.loop-entry.invariant.put ∙ ap (λ (es : List Entry). c.args.rows.now ++ flat_map (entry_lines now made) es) (take_all c.loop-entry.entry-index entries past)
-    ∙ ap (λ rows. c.args.rows.now ++ rows) (sym (lines_by_entries now c.args.batch.now made entries c.requires c.printed.ensures))
+    ∙ ap (λ rows. c.args.rows.now ++ rows) (sym (lines_by_entries now c.args.batch.now made entries c.requires c.printed-printed.ensures))

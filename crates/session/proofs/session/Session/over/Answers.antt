@@ -9,10 +9,10 @@ invariant_of-result c = λ going. record {
   at_work = record { planned = record { lines = c.requires.lines; layout = c.requires.layout }; opened = c.requires.opened };
   none_owed = c.new.ensures;
   within = omega arith;
-  counted = subst (λ (feed : Fed). line_feeds_so_far feed ≤ 0) (sym c.new-2.ensures) (omega arith);
-  part = subst IsPart (sym c.new-2.ensures) unfed_part;
+  counted = subst (λ (feed : Fed). line_feeds_so_far feed ≤ 0) (sym c.new-3.ensures) (omega arith);
+  part = subst IsPart (sym c.new-3.ensures) unfed_part;
 }
 
 -- it stands for what its engine stands for
 pub returns-clause-stands : goal.returns-clause-stands
-returns-clause-stands c = λ past declared stands. begins _ past refl refl c.new-2.ensures declared c.requires.layout c.requires.opened stands
+returns-clause-stands c = λ past declared stands. begins _ past refl refl c.new-3.ensures declared c.requires.layout c.requires.opened stands
