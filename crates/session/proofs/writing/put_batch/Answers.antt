@@ -1,6 +1,7 @@
-use Rattle.std.proofs.Common.{◌∙◌, ◌++◌, ◌<◌, ◌≤◌, List, length, ap, subst, sym, arith}
+use Rattle.std.proofs.Common.{◌∙◌, ◌++◌, ◌<◌, ◌≤◌, List, length, ap, subst, sym, arith, ◌≡◌, slice_index_or, []}
 use Rattle.std.specs.List.{flat_map}
-use Rattle.std.proofs.lemmas.List.{take_all}
+use Rattle.std.proofs.lemmas.List.{get_or_default, take_all}
+use Rattle.std.proofs.lemmas.Option.{get_or_from_slice_get}
 use Rattle.semantics.specs.Report.{line}
 use Rattle.epoch_engine.specs.declared.entry.Entry.{Entry}
 use Rattle.session.proofs.BatchLinesLemmas.{entry_lines, entry_more, lines_by_entries, name_is, place_below}
@@ -12,8 +13,10 @@ stream_of-requires c =
     let entries = c.printed-printed.result.entries.now in
     let made = c.printed-printed.result.made.now in
     let i = c.loop-entry.entry-index in
-    let entry = c.entry-item.result in
-    subst (λ n. entry.place < n) c.requires (place_below (length c.args.batch.now) entries i entry (omega arith) (sym c.entry-item.is) c.printed-printed.ensures.in_order.below)
+    let none : Entry = record { place = 0; stream = 0 } in
+    let entry : Entry = slice_index_or entries i none in
+    let at : slice_index_or entries i entry ≡ entry = get_or_default entries i entry none (omega arith) in
+    subst (λ n. entry.place < n) c.requires (place_below (length c.args.batch.now) entries i entry (omega arith) at c.printed-printed.ensures.in_order.below)
 
 -- the lines of one entry more were put, and its last tuples may be shown again
 pub loop-entry-preserved : goal.loop-entry-preserved
@@ -22,13 +25,16 @@ loop-entry-preserved c =
     let entries = c.printed-printed.result.entries.now in
     let made = c.printed-printed.result.made.now in
     let i = c.loop-entry.entry-index in
-    let entry = c.entry-item.result in
-    let less : entry.place < length now.order = subst (λ n. entry.place < n) c.requires (place_below (length c.args.batch.now) entries i entry (omega arith) (sym c.entry-item.is) c.printed-printed.ensures.in_order.below) in
+    let none : Entry = record { place = 0; stream = 0 } in
+    let entry : Entry = slice_index_or entries i none in
+    let at : slice_index_or entries i entry ≡ entry = get_or_default entries i entry none (omega arith) in
+    let less : entry.place < length now.order = subst (λ n. entry.place < n) c.requires (place_below (length c.args.batch.now) entries i entry (omega arith) at c.printed-printed.ensures.in_order.below) in
     let name = name_is now c.streams-streams.ensures.is_accepted entry.place c.stream_of.result c.name-name.result.now less c.stream_of.ensures.value (rw c.streams-streams.ensures.value at c.name-name.ensures) in
     let lt : i < length entries = omega arith in
+    let shown : c.get.result.now ≡ slice_index_or made entry.stream [] = sym (get_or_from_slice_get made entry.stream c.get.result.now [] c.get.ensures) in
     record {
-      put = entry_more now made entries i entry c.args.rows.now c.loop-entry.rows c.append.new.self c.name-name.result.now lt (sym c.entry-item.is) name
-          (c.in_ok-append.ensures.appended ∙ ap (λ tuples. c.loop-entry.rows ++ flat_map (line c.name-name.result.now) tuples) c.as_slice-tuples.ensures) c.loop-entry.invariant.put;
+      put = entry_more now made entries i entry c.args.rows.now c.loop-entry.rows c.append.new.self c.name-name.result.now lt at name
+          (c.in_ok-append.ensures.appended ∙ ap (λ tuples. c.loop-entry.rows ++ flat_map (line c.name-name.result.now) tuples) (c.as_slice-tuples.ensures ∙ shown)) c.loop-entry.invariant.put;
       lately = c.in_ok-append.ensures.lately;
     }
 
