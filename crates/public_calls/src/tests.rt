@@ -2,16 +2,11 @@
 mod chains;
 mod closings;
 mod counts;
-mod engines;
 mod evaluation;
 mod generated;
 mod hosts;
 mod indexes;
 mod merging;
-mod networks;
-mod offering;
 mod runs;
-mod sessions;
-mod texts;
 mod times;
 mod values;
