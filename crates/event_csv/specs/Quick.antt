@@ -96,6 +96,12 @@ pub record ValueFirst (kind : Kind) (text : List ℕ) (value : Value) (left : Op
   pub first : IsFirst text field left
   pub writes : value_of kind field ≡ Some value
 
+-- a field stands first that writes a value of the kind, which was put behind the others
+pub record PutsValue (kind : Kind) (text : List ℕ) (vals more : List Value) (left : Option (List ℕ)) : Type 0 where
+  pub value : Value
+  pub first : ValueFirst kind text value left
+  pub put : more ≡ vals ++ value ∷ []
+
 -- a field stands first that writes the INT
 abbrev pub IntFirst : List ℕ → ℤ → Option (List ℕ) → Type 0
 IntFirst text number left = ValueFirst kind.Int text (value.Int number) left

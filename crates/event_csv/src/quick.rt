@@ -3,7 +3,7 @@
 ghost use Rattle.std.specs.Prelude.{◌≡◌, option_map, IfSome, Ok, Some};
 ghost use Rattle.event_csv.specs.Event.{event};
 ghost use Rattle.event_csv.specs.Fed.{IsLine};
-ghost use Rattle.event_csv.specs.Quick.{DecFirst, IsFirst, SpanFirst, StreamFirst, ValueFirst, WriteAll};
+ghost use Rattle.event_csv.specs.Quick.{DecFirst, IsFirst, PutsValue, SpanFirst, StreamFirst, WriteAll};
 
 use crate::decimals::units;
 use crate::event::{Seen, find_declared};
@@ -123,11 +123,8 @@ fn take_values(alloc: Global, schema: &Schema, rest: Option<&[u8]>) -> Option<Va
         if schema.size() <= place {
             return None;
         }
-        let (value, left) = take_value(alloc, schema.kind(place), text)?;
-        match vals.push(value) {
-            Err(_) => return None,
-            Ok(()) => {}
-        }
+        let (more, left) = put_value(alloc, schema.kind(place), text, vals)?;
+        vals = more;
         rest = left;
     }
     if vals.len() == schema.size() {
@@ -137,32 +134,40 @@ fn take_values(alloc: Global, schema: &Schema, rest: Option<&[u8]>) -> Option<Va
     }
 }
 
-// The value of the field at the front, and the fields behind it.
+// Puts the value of the field at the front behind others, and gives the fields behind it. Each kind of value is put where
+// it is made, so that none is moved.
 #[inline(always)]
-fn take_value(alloc: Global, kind: Kind, text: &[u8]) -> Option<(Value, Option<&[u8]>)>
-    ensures { IfSome result (λ r. ValueFirst kind text.now r.0 (option_map (λ s. s.now) r.1)) }
+fn put_value(alloc: Global, kind: Kind, text: &[u8], vals: Vals) -> Option<(Vals, Option<&[u8]>)>
+    ensures { IfSome result (λ r. PutsValue kind text.now vals r.0 (option_map (λ s. s.now) r.1)) }
 {
+    let mut vals = vals;
     match kind {
         Kind::Int => {
             let (number, rest) = take_int(text)?;
-            Some((Value::Int(number), rest))
+            match vals.push(Value::Int(number)) {
+                Err(_) => None,
+                Ok(()) => Some((vals, rest)),
+            }
         }
         Kind::Text => {
             let (field, rest) = take_field(text)?;
-            match Text::make(alloc, field) {
-                Ok(made) => Some((Value::Text(made), rest)),
+            let Ok(made) = Text::make(alloc, field) else {
+                return None;
+            };
+            match vals.push(Value::Text(made)) {
                 Err(_) => None,
+                Ok(()) => Some((vals, rest)),
             }
         }
         Kind::Dec(places) => {
             let (units, rest) = take_decimal(places, text)?;
-            Some((
-                Value::Dec {
-                    scale: places,
-                    units,
-                },
-                rest,
-            ))
+            match vals.push(Value::Dec {
+                scale: places,
+                units,
+            }) {
+                Err(_) => None,
+                Ok(()) => Some((vals, rest)),
+            }
         }
     }
 }
