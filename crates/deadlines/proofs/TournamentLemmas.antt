@@ -1,5 +1,5 @@
 -- Tournament trees: what is under a node, and the way down to a leaf.
-use Rattle.std.proofs.Common.{◌≡◌, ◌∙◌, sym, ap, refl, subst, ℕ, zero, suc, ◌+◌, ◌*◌, ◌/◌, ◌-◌, ◌^◌, ◌<◌, ◌≤◌, ◌⊎◌, inl, inr, get_or, length, min, take, List, length-take, arith}
+use Rattle.std.proofs.Common.{◌≡◌, ◌∙◌, sym, ap, refl, subst, ℕ, zero, suc, ◌+◌, ◌*◌, ◌/◌, ◌-◌, ◌^◌, ◌<◌, ◌≤◌, ◌⊎◌, inl, inr, get_or, length, min, replicate, set, take, List, [], ◌∷◌, ◌++◌, length-take, arith}
 use Rattle.std.proofs.Math.Nat.{mul-le-mul_left, pow-suc}
 use Rattle.std.proofs.lemmas.Bool.{cases_lt}
 use Rattle.std.proofs.lemmas.Grind.{get_or_default_zero}
@@ -52,14 +52,14 @@ from_root nodes most tree found = record {
 }
 
 -- no leaf has less than the root
-pub root_least : (nodes : List ℕ) (most root leaf : ℕ) → IsTournament nodes → root ≡ get_or nodes 1 root → most < root → leaf < length (leaves_of nodes) → most < get_or (leaves_of nodes) leaf 0
-root_least nodes most root leaf tree is more within =
+pub root_least : (nodes : List ℕ) (root leaf : ℕ) → IsTournament nodes → root ≡ get_or nodes 1 root → leaf < length (leaves_of nodes) → root ≤ get_or (leaves_of nodes) leaf 0
+root_least nodes root leaf tree is within =
     let size = tree.size in
     let some = pow_pos tree.height in
     let same = get_or_default_zero nodes 1 root (omega (arith, size, some)) in
     let long = length-drop (length nodes / 2) nodes in
     let least = least_under nodes tree.lesser tree.height 1 (length nodes / 2 + leaf) (omega arith) (omega (arith, size)) (omega (arith, size, long, within)) (omega (arith, size)) in
-    rw get_or-drop (omega (arith, more, least, same, is))
+    rw get_or-drop (omega (arith, least, same, is))
 
 -- the step to a child: the left one where it has at most that number, else the right one
 module _ (nodes : List ℕ) (most node : ℕ) (tree : IsTournament nodes) (inner : node < length nodes / 2) (here : LeadsTo nodes most node) where
@@ -128,7 +128,13 @@ module _ (nodes : List ℕ) (most node : ℕ) (outer : length nodes / 2 ≤ node
   leaf_first leaf early = let wide = mul-le-mul_left node some in rw get_or-drop (here.before (length nodes / 2 + leaf) (omega arith) (omega (arith, early, wide, outer)))
 
 -- what holds of the first leaves, so many as there are places, holds of all deadlines
-pub all_later : (deadlines nodes : List ℕ) (time places : ℕ) → take places (leaves_of nodes) ≡ deadlines → places ≤ length (leaves_of nodes) → ((leaf : ℕ) → leaf < places → time < get_or (leaves_of nodes) leaf 0) → All (λ (deadline : ℕ). time < deadline) deadlines
-all_later deadlines nodes time places same within later =
-    All-same (λ (deadline : ℕ). time < deadline) _ _ (sym same)
-    (All-from_get_or (λ (deadline : ℕ). time < deadline) (take places (leaves_of nodes)) 0 (λ leaf lt. let long = length-take places (leaves_of nodes) in let early : leaf < places = omega (arith, lt, long, within) in rw get_or-take (later leaf early)))
+pub all_of : (P : ℕ → Type 0) (deadlines nodes : List ℕ) (places : ℕ) → take places (leaves_of nodes) ≡ deadlines → places ≤ length (leaves_of nodes) → ((leaf : ℕ) → leaf < places → P (get_or (leaves_of nodes) leaf 0)) → All P deadlines
+all_of P deadlines nodes places same within each =
+    All-same P _ _ (sym same)
+    (All-from_get_or P (take places (leaves_of nodes)) 0 (λ leaf lt. let long = length-take places (leaves_of nodes) in let early : leaf < places = omega (arith, lt, long, within) in rw get_or-take (each leaf early)))
+
+-- a number is written behind those that were written, in the place of the first that was not
+pub next_written : (xs : List ℕ) (place rest d n v : ℕ) → place < length xs → v ≡ get_or xs place d → set (take place xs ++ replicate (suc rest) n) place v ≡ take (suc place) xs ++ replicate rest n
+next_written [] place rest d n v lt is = absurd (omega arith)
+next_written (x ∷ xs) zero rest d n v lt is = ap (λ y. y ∷ replicate rest n) is
+next_written (x ∷ xs) (suc place) rest d n v lt is = ap (λ ys. x ∷ ys) (next_written xs place rest d n v (omega (arith, lt)) is)

@@ -1,5 +1,6 @@
 //! Deadlines by place.
-ghost use Rattle.std.specs.Prelude.{◌≡◌, ◌<◌, ◌≤◌, ℕ, All, IfNone, IfOk, IfSome, length, replicate, slice_index, slice_set};
+ghost use Rattle.std.specs.Prelude.{◌≡◌, ◌<◌, ◌≤◌, ◌++◌, ℕ, All, IfNone, IfOk, IfSome, OnErr, OnOk, length, replicate, slice_index, slice_set};
+ghost use Rattle.std.specs.List.{swap};
 
 use crate::tournament::{first_leaf, set_leaf};
 use event_types::Memory;
@@ -46,6 +47,20 @@ impl Deadlines {
         Ok(Deadlines { nodes, places })
     }
 
+    /// The number of places. Takes no memory.
+    pub fn len(&self) -> usize
+        ensures { result ≡ length self.now }
+    {
+        self.places
+    }
+
+    /// A time before which there is no deadline: the earliest, as far as one is. Takes no memory.
+    pub fn earliest(&self) -> u128
+        ensures { All (λ deadline. result ≤ deadline) self.now }
+    {
+        self.nodes[1]
+    }
+
     /// The deadline of a place. Takes no memory.
     pub fn get(&self, place: usize) -> u128
         requires { place < length self.now }
@@ -61,6 +76,34 @@ impl Deadlines {
         ensures { self.new ≡ slice_set self.old place deadline }
     {
         set_leaf(&mut self.nodes, place, deadline);
+    }
+
+    /// Exchanges the deadlines of two places. Takes no memory.
+    pub fn swap(&mut self, place: usize, other: usize)
+        requires place { place < length self.old }
+        requires other { other < length self.old }
+        ensures { self.new ≡ swap self.old place other }
+    {
+        let deadline = self.get(place);
+        let others = self.get(other);
+        self.set(place, others);
+        self.set(other, deadline);
+    }
+
+    /// Adds so many places without a deadline, behind the others.
+    pub fn grow(&mut self, alloc: Global, more: usize) -> Result<(), Memory>
+        ensures ok { OnOk result (self.new ≡ self.old ++ replicate more NEVER) }
+        ensures kept { OnErr result (self.new ≡ self.old) }
+    {
+        let Some(places) = self.places.checked_add(more) else {
+            return Err(Memory);
+        };
+        let mut grown = Deadlines::make(alloc, places)?;
+        for place in 0..self.places {
+            grown.set(place, self.get(place));
+        }
+        *self = grown;
+        Ok(())
     }
 
     /// The first place whose deadline is at most this time. Where there is none, one comparison tells so, which no
