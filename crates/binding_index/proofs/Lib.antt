@@ -10,6 +10,7 @@ pub mod OrderLemmas
 pub mod PairLemmas
 pub mod PurgeLemmas
 pub mod SplitLemmas
+pub mod StartLemmas
 pub mod StoreLemmas
 pub mod TakeLemmas
 pub mod WriteLemmas

@@ -2,7 +2,7 @@
 use Rattle.std.proofs.Common.{◌≡◌, ◌∙◌, sym, ap, refl, subst, ℕ, zero, suc, ◌<◌, ◌≤◌, ◌↔◌, Bool, true, length, get_or, take, List, [], ◌∷◌, Any, Contains, arith}
 use Rattle.std.specs.List.{All, IsDistinct, filter, flat_map}
 use Rattle.std.specs.Map.{keys_of}
-use Rattle.std.proofs.lemmas.List.{length-take-le}
+use Rattle.std.proofs.lemmas.List.{get_or-take, length-take-le}
 use Rattle.std.proofs.lemmas.List.Elements.{All-nil, All-append, All-contains, All-contains_itself, All-filter, All-head, All-map, All-same, All-tail, Contains-append_left, Contains-append_right, filter_passes}
 use Rattle.std.proofs.lemmas.List.Sorted.{All-permutation, Contains-permutation}
 use Rattle.std.proofs.lemmas.Map.Keys.{IsDistinct-IsPermutation}
@@ -12,13 +12,9 @@ use Rattle.event_types.specs.OrderLaws.{value_exact, value_total}
 use Rattle.event_types.specs.declared.value.Value.{Value}
 use Rattle.event_types.proofs.SortLemmas.{sort_permuted}
 use Rattle.scalar_expr.proofs.Bags.{filter-flat_map, flat_map_each}
-use Rattle.semantics.specs.Scalars.{Pr}
 use Rattle.semantics.specs.Values.{value_at}
-use Rattle.instances.proofs.BoundLemmas.{all_alive}
-use Rattle.instances.specs.Alive.{is_alive}
-use Rattle.instances.specs.Bounds.{alive_instances, started}
 use Rattle.instances.specs.declared.instance.Instance.{Instance}
-use Rattle.binding_index.specs.Buckets.{AreBuckets, AreKeyed, Bucket, IsKeyed, IsPurged, IsSplit, StartFrom, StartsFrom, instances_in_order, instances_at, keys_in_order}
+use Rattle.binding_index.specs.Buckets.{AreBuckets, AreKeyed, AreStarts, Bucket, IsKeyed, IsPurged, IsSplit, StartFrom, StartsFrom, instances_in_order, instances_at, keys_in_order}
 use Rattle.binding_index.specs.Among.{is_key}
 use Rattle.binding_index.specs.Entries.{has_any, is_filled}
 use Rattle.binding_index.proofs.BucketLemmas.{found_own, in_order_permuted, kept_in_order, keyed_at}
@@ -101,26 +97,24 @@ module _ (place : ℕ) (bs : List Bucket) (keyed : AreKeyed place bs) (distinct 
       at : Contains (keys_of left) key → Contains (keys_of bs) key × Held key
       at h = All-contains (λ k. Contains (keys_of bs) k × Held k) (keys_of left) key (All-map (λ k. Contains (keys_of bs) k × Held k) (λ b. b.0) left left_held) h
 
-  -- they are the buckets of a store
-  pub left_buckets : (oldest : ℕ) → StartFrom oldest bs → AreBuckets place (length left) oldest left
-  left_buckets oldest start = record {
-    distinct = left_distinct;
-    keyed = left_keyed;
-    start = All-filter is_filled (StartsFrom oldest) bs start;
-    within = omega arith;
-    split = all_filled bs;
-  }
-
--- where nothing expired, the buckets without instances are cut off
-module _ (place filled oldest : ℕ) (bs cs : List Bucket) (h : AreBuckets place filled oldest bs) (cut : cs ≡ take filled bs) where
+-- where the buckets without instances are cut off
+module _ (place filled : ℕ) (starts : List ℕ) (bs cs : List Bucket) (h : AreBuckets place filled starts bs) (cut : cs ≡ take filled bs) where
   same : left place bs h.keyed h.distinct ≡ cs
   same = sym (cut ∙ first_filled filled bs h.split)
 
+  long : length cs ≡ filled
+  long = ap length cut ∙ length-take-le filled bs h.within
+
   -- what is left are the buckets of a store
-  pub cut_buckets : AreBuckets place filled oldest cs
-  cut_buckets =
-      let long : length cs ≡ filled = ap length cut ∙ length-take-le filled bs h.within in
-      subst (λ n. AreBuckets place n oldest cs) long (subst (λ (xs : List Bucket). AreBuckets place (length xs) oldest xs) same (left_buckets place bs h.keyed h.distinct oldest h.start))
+  pub cut_buckets : AreBuckets place filled starts cs
+  cut_buckets = record {
+    distinct = subst (λ (xs : List Bucket). IsDistinct is_key (keys_of xs)) same (left_distinct place bs h.keyed h.distinct);
+    keyed = subst (AreKeyed place) same (left_keyed place bs h.keyed h.distinct);
+    start = λ n d lt. subst (StartsFrom (get_or starts n 0)) (sym (ap (λ (xs : List Bucket). get_or xs n d) cut ∙ get_or-take filled bs n d (omega (arith, lt, long)))) (h.start n d (let within = h.within in omega (arith, lt, long, within)));
+    room = let within = h.within in let room = h.room in omega (arith, long, within, room);
+    within = omega (arith, long);
+    split = subst (λ n. IsSplit n cs) long (subst (λ (xs : List Bucket). IsSplit (length xs) xs) same (all_filled bs));
+  }
 
   -- no instance goes with those that are cut off
   pub cut_in_order : instances_in_order cs ≡ instances_in_order bs
@@ -131,23 +125,20 @@ module _ (place filled oldest : ℕ) (bs cs : List Bucket) (h : AreBuckets place
   cut_ready key =
       subst (λ (xs : List Bucket). Contains (keys_in_order xs) key ↔ (Contains (keys_in_order bs) key × Any (λ instance. value_at instance.tuple place ≡ key) (instances_in_order xs))) same (left_ready place bs h.keyed h.distinct key)
 
-  -- and all instances are still alive
-  pub cut_alive : (time : ℕ) (choose : List Pr) → is_alive time choose (started oldest) ≡ true → instances_in_order cs ≡ alive_instances time choose (instances_in_order bs)
-  cut_alive time choose met = cut_in_order ∙ sym (all_alive time oldest choose (instances_in_order bs) (start_in_order oldest bs h.distinct h.start) met)
-
 -- where instances expired, they were taken out
-module _ (place filled before : ℕ) (test : Instance → Bool) (bs ds : List Bucket) (h : AreBuckets place filled before bs) (purged : IsPurged test bs ds) where
+module _ (place filled : ℕ) (before : List ℕ) (test : Instance → Bool) (bs ds : List Bucket) (h : AreBuckets place filled before bs) (purged : IsPurged test bs ds) where
   purged_distinct : IsDistinct is_key (keys_of ds)
   purged_distinct = IsDistinct-IsPermutation is_key key_flips (keys_of bs) (keys_of ds) purged.same_keys h.distinct
 
   -- what is left are the buckets of a store
-  pub purged_buckets : (n oldest : ℕ) → StartFrom oldest ds → n ≤ length ds → IsSplit n ds → AreBuckets place n oldest ds
-  purged_buckets n oldest start within split = record {
+  pub purged_buckets : (n : ℕ) (starts : List ℕ) → AreStarts starts ds → length ds ≤ length starts → n ≤ length ds → IsSplit n ds → AreBuckets place n starts ds
+  purged_buckets n starts start room within split = record {
     distinct = purged_distinct;
     keyed = λ k d lt.
         All-same (λ instance. value_at instance.tuple place ≡ (get_or ds k d).0) _ _ (sym (found_own ds purged_distinct k d lt) ∙ purged.each (get_or ds k d).0)
         (All-filter test (λ instance. value_at instance.tuple place ≡ (get_or ds k d).0) _ (keyed_at place bs h.keyed (get_or ds k d).0));
     start = start;
+    room = room;
     within = within;
     split = split;
   }
@@ -163,20 +154,20 @@ module _ (place filled before : ℕ) (test : Instance → Bool) (bs ds : List Bu
       ∙ ap (flat_map (λ key. filter test (instances_at bs key))) purged_keys ∙ sym (filter-flat_map test (instances_at bs) (keys_in_order bs))
 
 -- what is left of it, where the buckets without instances are then cut off
-module _ (place filled before : ℕ) (test : Instance → Bool) (bs ds cs : List Bucket) (h : AreBuckets place filled before bs) (purged : IsPurged test bs ds) (n oldest : ℕ) (start : StartFrom oldest ds) (within : n ≤ length ds) (split : IsSplit n ds) (cut : cs ≡ take n ds) where
-  are : AreBuckets place n oldest ds
-  are = purged_buckets place filled before test bs ds h purged n oldest start within split
+module _ (place filled : ℕ) (before : List ℕ) (test : Instance → Bool) (bs ds cs : List Bucket) (h : AreBuckets place filled before bs) (purged : IsPurged test bs ds) (n : ℕ) (starts : List ℕ) (start : AreStarts starts ds) (room : length ds ≤ length starts) (within : n ≤ length ds) (split : IsSplit n ds) (cut : cs ≡ take n ds) where
+  are : AreBuckets place n starts ds
+  are = purged_buckets place filled before test bs ds h purged n starts start room within split
 
   -- it is the buckets of a store
-  pub left_over : AreBuckets place n oldest cs
-  left_over = cut_buckets place n oldest ds cs are cut
+  pub left_over : AreBuckets place n starts cs
+  left_over = cut_buckets place n starts ds cs are cut
 
   -- its instances are those that pass the test
   pub left_in_order : instances_in_order cs ≡ filter test (instances_in_order bs)
-  left_in_order = cut_in_order place n oldest ds cs are cut ∙ purged_in_order place filled before test bs ds h purged
+  left_in_order = cut_in_order place n starts ds cs are cut ∙ purged_in_order place filled before test bs ds h purged
 
   -- the keys that stay are those that were ready and that an instance has which stays
   pub left_over_ready : (key : Value) → Contains (keys_in_order cs) key ↔ (Contains (keys_in_order bs) key × Any (λ instance. value_at instance.tuple place ≡ key) (instances_in_order cs))
   left_over_ready key =
       subst (λ (ks : List Value). Contains (keys_in_order cs) key ↔ (Contains ks key × Any (λ instance. value_at instance.tuple place ≡ key) (instances_in_order cs))) (purged_keys place filled before test bs ds h purged)
-      (cut_ready place n oldest ds cs are cut key)
+      (cut_ready place n starts ds cs are cut key)

@@ -5,7 +5,7 @@ use Rattle.std.proofs.lemmas.Bool.{cases_eq, le-ltb, lt-ltb}
 use Rattle.std.proofs.lemmas.Bool.Decides.{nat_tests}
 use Rattle.std.proofs.lemmas.List.Edits.{swapped_from_swap}
 use Rattle.std.proofs.lemmas.List.Elements.{filter_passes}
-use Rattle.binding_index.specs.Buckets.{Bucket, IsSplit, IsSplitBut, StayBefore}
+use Rattle.binding_index.specs.Buckets.{Bucket, IsSplit, IsSplitBut}
 use Rattle.binding_index.specs.Entries.{is_filled}
 
 -- a bucket that was emptied changes places with the last one that has instances
@@ -24,18 +24,6 @@ set_aside filled place bs cs within lt long split gone e n d low = go (cases_eq 
       where
         near : nat_lt n filled ≡ nat_lt n (filled - 1)
         near = grind (arith, nat_tests)
-
--- no bucket that stood before it came to its place or behind it
-pub stay_before : (filled place : ℕ) (bs cs : List Bucket) → filled ≤ length bs → place < filled → length cs ≡ length bs → cs ≡ swap bs place (filled - 1) → StayBefore place bs cs
-stay_before filled place bs cs within lt long e n d le low = go (cases_eq n place) (cases_eq n (filled - 1))
-  where
-    moved : (get_or cs place d ≡ get_or bs (filled - 1) d) × (get_or cs (filled - 1) d ≡ get_or bs place d) × ((m : ℕ) → (m ≡ place → ⊥) → (m ≡ filled - 1 → ⊥) → get_or cs m d ≡ get_or bs m d)
-    moved = swapped_from_swap bs cs place (filled - 1) d (omega arith) (omega arith) e
-
-    go : (n ≡ place) ⊎ (n ≡ place → ⊥) → (n ≡ filled - 1) ⊎ (n ≡ filled - 1 → ⊥) → (from : ℕ) × (place ≤ from) × (from < length bs) × (get_or cs n d ≡ get_or bs from d)
-    go (inl here) _ = (filled - 1, omega arith, omega arith, ap (λ m. get_or cs m d) here ∙ moved.0)
-    go (inr apart) (inl last) = (place, omega arith, omega arith, ap (λ m. get_or cs m d) last ∙ moved.1)
-    go (inr apart) (inr other) = (n, le, omega (arith, low, long), moved.2 n apart other)
 
 -- a bucket that got an instance changes places with the first one that has none
 pub set_forward : (filled place : ℕ) (bs cs : List Bucket) → place < length bs → filled ≤ place → length cs ≡ length bs → IsSplitBut place filled bs

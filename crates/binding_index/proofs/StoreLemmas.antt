@@ -1,16 +1,16 @@
 -- The buckets of a store, from one call to the next.
-use Rattle.std.proofs.Common.{◌≡◌, ◌∙◌, sym, ap, refl, subst, ℕ, zero, suc, ◌+◌, ◌<◌, ◌≤◌, ◌⊎◌, inl, inr, true, false, length, length-append, get_or, nat_lt, is_some, List, [], ◌∷◌, ◌++◌, Contains, arith}
+use Rattle.std.proofs.Common.{◌≡◌, ◌∙◌, sym, ap, refl, subst, ℕ, Bool, zero, suc, ◌+◌, ◌<◌, ◌≤◌, ◌⊎◌, inl, inr, true, false, length, length-append, get_or, nat_lt, is_some, set, List, [], ◌∷◌, ◌++◌, Contains, arith}
 use Rattle.std.specs.Prelude.{IfNone, IfOk, IfSome, OnErr, OnOk, Option, Result, Ok, Err, Some, None, min, slice_get}
 use Rattle.std.specs.List.Sorted.{IsPermutation}
-use Rattle.std.specs.List.{All, IsDistinct, flat_map, list_any}
+use Rattle.std.specs.List.{All, IsDistinct, filter, flat_map, list_any}
 use Rattle.std.specs.Map.{keys_of, lookup, values_of}
 use Rattle.std.proofs.lemmas.Bool.{cases_eq, le-ltb}
 use Rattle.std.proofs.lemmas.List.{map-append}
-use Rattle.std.proofs.lemmas.List.Elements.{All-nil, All-cons, All-contains_itself, All-push, All-same, All-weaker, Contains-append_cases, Contains-append_left, Contains-append_right, Contains-push}
+use Rattle.std.proofs.lemmas.List.Elements.{All-nil, All-cons, All-contains_itself, All-filter, All-push, All-same, All-weaker, Contains-append_cases, Contains-append_left, Contains-append_right, Contains-push}
 use Rattle.std.proofs.lemmas.List.Folds.{list_any-from_Any}
 use Rattle.std.proofs.lemmas.List.Sorted.{All-permutation, Contains-permutation, IsPermutation-sym, list_any-IsPermutation}
 use Rattle.std.proofs.lemmas.Map.Made.{is_some-lookup}
-use Rattle.std.proofs.lemmas.Option.{get_or_from_slice_get}
+use Rattle.std.proofs.lemmas.Option.{get_or_from_slice_get, slice_get_within}
 use Rattle.event_types.specs.Order.{value_cmp}
 use Rattle.event_types.specs.OrderLaws.{value_total}
 use Rattle.event_types.specs.Tuple.{TupleView}
@@ -21,37 +21,40 @@ use Rattle.indexmap.specs.IndexMap.{set_value_at}
 use Rattle.semantics.specs.Values.{value_at}
 use Rattle.instances.specs.declared.instance.Instance.{Instance}
 use Rattle.binding_index.specs.Among.{is_among}
-use Rattle.binding_index.specs.Buckets.{AreBuckets, AreKeyed, AreSame, Bucket, IsKeyed, IsSplit, StartFrom, StartsFrom, instances_in_order, keys_in_order}
+use Rattle.binding_index.specs.Buckets.{AreBuckets, AreKeyed, AreSame, AreStarts, Bucket, IsKeyed, IsSplit, StartsFrom, instances_in_order, keys_in_order}
 use Rattle.binding_index.specs.Among.{is_key}
 use Rattle.binding_index.specs.Entries.{is_filled}
 use Rattle.inst_chain.specs.Heads.{head}
 use Rattle.scalar_expr.proofs.Bags.{permuted_from}
 use Rattle.binding_index.proofs.BucketLemmas.{in_order_permuted, same_distinct, same_in_order}
 use Rattle.binding_index.proofs.EqualityLemmas.{key_itself}
+use Rattle.binding_index.proofs.StartLemmas.{other_time, own_time, starts_earlier, starts_written}
 use Rattle.binding_index.proofs.WriteLemmas.{all_at, all_written, keys_written, none_more, one_more}
 
 -- no bucket
-none : (place oldest : ℕ) → AreBuckets place 0 oldest []
+none : (place : ℕ) (starts : List ℕ) → AreBuckets place 0 starts []
 unfolding IsDistinct
-none place oldest = record {
+none place starts = record {
   distinct = tt;
   keyed = λ k d lt. absurd (omega arith);
   start = λ k d lt. absurd (omega arith);
+  room = omega arith;
   within = omega arith;
   split = λ k d lt. absurd (omega arith);
 }
 
 -- an empty list of buckets is that of a store
-pub no_buckets : (place oldest : ℕ) (bs : List Bucket) → bs ≡ [] → AreBuckets place 0 oldest bs
-no_buckets place oldest bs e = subst (AreBuckets place 0 oldest) (sym e) (none place oldest)
+pub no_buckets : (place : ℕ) (starts : List ℕ) (bs : List Bucket) → bs ≡ [] → AreBuckets place 0 starts bs
+no_buckets place starts bs e = subst (AreBuckets place 0 starts) (sym e) (none place starts)
 
 -- one bucket was written, and then stands where it should
-pub arranged : (place oldest filled : ℕ) (bs : List Bucket) (i : ℕ) (key : Value) (v w : List Instance) (cs : List Bucket) → IsDistinct is_key (keys_of bs) → AreKeyed place bs → StartFrom oldest bs → slice_get bs i ≡ Some (key, v)
-    → IsKeyed place (key, w) → StartsFrom oldest (key, w) → AreSame (set_value_at bs i w) cs → filled ≤ length cs → IsSplit filled cs → AreBuckets place filled oldest cs
-arranged place oldest filled bs i key v w cs d keyed start at of_key later same within split = record {
+pub arranged : (place filled : ℕ) (starts : List ℕ) (bs : List Bucket) (i : ℕ) (key : Value) (v w : List Instance) (cs : List Bucket) → IsDistinct is_key (keys_of bs) → AreKeyed place bs → slice_get bs i ≡ Some (key, v)
+    → IsKeyed place (key, w) → AreSame (set_value_at bs i w) cs → AreStarts starts cs → length cs ≤ length starts → filled ≤ length cs → IsSplit filled cs → AreBuckets place filled starts cs
+arranged place filled starts bs i key v w cs d keyed at of_key same start room within split = record {
   distinct = same_distinct (set_value_at bs i w) cs same (subst (λ (ks : List Value). IsDistinct is_key ks) (sym (keys_written bs i w)) d);
   keyed = All-permutation (IsKeyed place) (set_value_at bs i w) cs same.permuted (all_written (IsKeyed place) bs i key v w at of_key keyed);
-  start = All-permutation (StartsFrom oldest) (set_value_at bs i w) cs same.permuted (all_written (StartsFrom oldest) bs i key v w at later start);
+  start = start;
+  room = room;
   within = within;
   split = split;
 }
@@ -96,19 +99,17 @@ not_missing bs key ready missing =
     contradiction e = cc
 
 -- an empty bucket of a new key, behind all others
-module _ (place filled oldest : ℕ) (bs : List Bucket) (key : Value) (h : AreBuckets place filled oldest bs) where
+module _ (place filled : ℕ) (starts : List ℕ) (bs : List Bucket) (key : Value) (h : AreBuckets place filled starts bs) where
   abbrev new : Bucket
   new = (key, [])
 
-  -- with it, the buckets are those of a store, where no key comes twice
-  pub added : IsDistinct is_key (keys_of (bs ++ new ∷ [])) → AreBuckets place filled oldest (bs ++ new ∷ [])
-  added d = record {
-    distinct = d;
-    keyed = All-push (IsKeyed place) bs new h.keyed (All-nil _);
-    start = All-push (StartsFrom oldest) bs new h.start (All-nil _);
-    within = let long = length-append bs (new ∷ []) in let few = h.within in omega (arith, long, few);
-    split = λ n e lt. go n e (cases_eq n (length bs)) (let long = length-append bs (new ∷ []) in omega (arith, long, lt));
-  }
+  -- with it, each instance of each bucket has the bucket's key
+  added_keyed : AreKeyed place (bs ++ new ∷ [])
+  added_keyed = All-push (IsKeyed place) bs new h.keyed (All-nil _)
+
+  -- and the buckets with instances come first
+  added_split : IsSplit filled (bs ++ new ∷ [])
+  added_split n e lt = go n e (cases_eq n (length bs)) (let long = length-append bs (new ∷ []) in omega (arith, long, lt))
     where
       front : (cs : List Bucket) (n : ℕ) (e : Bucket) → n < length cs → get_or (cs ++ new ∷ []) n e ≡ get_or cs n e
       front [] n e lt = absurd (omega arith)
@@ -158,14 +159,30 @@ pub the_bead : (new link look : List Instance) (bead x : Instance) → new ≡ [
 the_bead new link look bead x empty linked seen first = let one : Some x ≡ Some bead = first ∙ ap head (seen ∙ linked ∙ ap (λ is. is ++ bead ∷ []) empty) in cc
 
 -- where an instance was put before those of its key, the buckets are those of a store
-pub linked : (place oldest least from before filled : ℕ) (bs : List Bucket) (i : ℕ) (key : Value) (had w : List Instance) (bead : Instance) (cs : List Bucket) → AreBuckets place before oldest bs → slice_get bs i ≡ Some (key, had) → w ≡ bead ∷ had
-    → value_at bead.tuple place ≡ key → least ≡ min oldest from → from ≡ bead.tuple.from → AreSame (set_value_at bs i w) cs → filled ≤ length cs → IsSplit filled cs → AreBuckets place filled least cs
-linked place oldest least from before filled bs i key had w bead cs h at is of_key e f same within split =
-    arranged place least filled bs i key had w cs h.distinct h.keyed (All-weaker (StartsFrom oldest) (StartsFrom least) (λ b all. All-weaker (λ (n : Instance). oldest ≤ n.tuple.from) (λ (n : Instance). least ≤ n.tuple.from) (λ n le. omega arith) b.1 all) bs h.start) at
-    (All-same (λ (n : Instance). value_at n.tuple place ≡ key) w (bead ∷ had) is (All-cons (λ (n : Instance). value_at n.tuple place ≡ key) bead had of_key (all_at (IsKeyed place) bs i (key, had) at h.keyed)))
-    (All-same (λ (n : Instance). least ≤ n.tuple.from) w (bead ∷ had) is
-    (All-cons (λ (n : Instance). least ≤ n.tuple.from) bead had (omega arith) (All-weaker (λ (n : Instance). oldest ≤ n.tuple.from) (λ (n : Instance). least ≤ n.tuple.from) (λ n le. omega arith) had (all_at (StartsFrom oldest) bs i (key, had) at h.start)))) same within
-    split
+pub linked : (place before filled : ℕ) (starts times : List ℕ) (bs : List Bucket) (i : ℕ) (key : Value) (had w : List Instance) (bead : Instance) (cs : List Bucket) → AreBuckets place before times bs → slice_get bs i ≡ Some (key, had) → w ≡ bead ∷ had
+    → value_at bead.tuple place ≡ key → AreSame (set_value_at bs i w) cs → AreStarts starts cs → length cs ≤ length starts → filled ≤ length cs → IsSplit filled cs → AreBuckets place filled starts cs
+linked place before filled starts times bs i key had w bead cs h at is of_key same start room within split =
+    arranged place filled starts bs i key had w cs h.distinct h.keyed at
+    (All-same (λ (n : Instance). value_at n.tuple place ≡ key) w (bead ∷ had) is (All-cons (λ (n : Instance). value_at n.tuple place ≡ key) bead had of_key (all_at (IsKeyed place) bs i (key, had) at h.keyed))) same start room within split
+
+-- its bucket then has the earlier of its own start and the time that the place had
+pub linked_starts : (starts : List ℕ) (time from : ℕ) (bs : List Bucket) (i : ℕ) (key : Value) (had w : List Instance) (bead : Instance) → slice_get bs i ≡ Some (key, had) → w ≡ bead ∷ had → length bs ≤ length starts → AreStarts starts bs
+    → time ≡ min (get_or starts i 0) from → from ≡ bead.tuple.from → AreStarts (set starts i time) (set_value_at bs i w)
+linked_starts starts time from bs i key had w bead at is room start e f =
+    let low = slice_get_within bs i (key, had) at in
+    let there : StartsFrom (get_or starts i 0) (key, had) = subst (StartsFrom (get_or starts i 0)) (get_or_from_slice_get bs i (key, had) (key, had) at) (start i (key, had) low) in
+    starts_written starts (set starts i time) bs i key had w at start
+    (subst (λ (t : ℕ). StartsFrom t (key, w)) (sym (own_time starts i time (omega (arith, low, room))))
+    (All-same (λ (n : Instance). time ≤ n.tuple.from) w (bead ∷ had) is
+    (All-cons (λ (n : Instance). time ≤ n.tuple.from) bead had (omega (arith, e, f)) (starts_earlier time (get_or starts i 0) (key, had) (omega (arith, e)) there))))
+    (other_time starts i time)
+
+-- a bucket of which some were taken out starts no earlier
+pub taken_starts : (test : Instance → Bool) (starts : List ℕ) (bs : List Bucket) (i : ℕ) (key : Value) (had w : List Instance) → slice_get bs i ≡ Some (key, had) → w ≡ filter test had → AreStarts starts bs → AreStarts starts (set_value_at bs i w)
+taken_starts test starts bs i key had w at is start =
+    let there : StartsFrom (get_or starts i 0) (key, had) = subst (StartsFrom (get_or starts i 0)) (get_or_from_slice_get bs i (key, had) (key, had) at) (start i (key, had) (slice_get_within bs i (key, had) at)) in
+    starts_written starts starts bs i key had w at start
+    (All-same (λ (n : Instance). get_or starts i 0 ≤ n.tuple.from) w (filter test had) is (All-filter test (λ (n : Instance). get_or starts i 0 ≤ n.tuple.from) had there)) (λ n other. refl)
 
 -- the instances are then one more, key by key
 pub linked_in_order : (bs : List Bucket) (i : ℕ) (key : Value) (had w : List Instance) (bead : Instance) (cs : List Bucket) → IsDistinct is_key (keys_of bs) → slice_get bs i ≡ Some (key, had) → w ≡ bead ∷ had → AreSame (set_value_at bs i w) cs
@@ -174,24 +191,39 @@ linked_in_order bs i key had w bead cs d at is same =
     permuted_from (same_in_order (set_value_at bs i w) cs same ∙ ap (λ x. instances_in_order (set_value_at bs i x)) is) (one_more bs i key bead had d at)
 
 -- where there was memory, an empty bucket of a new key was added, and else none
-module _ {X E : Type 0} (place filled oldest : ℕ) (bs cs : List Bucket) (key : Value) (h : AreBuckets place filled oldest bs) (r : Result X E) (ok : OnOk r (cs ≡ bs ++ (key, []) ∷ [])) (kept : OnErr r (cs ≡ bs)) (d : IsDistinct is_key (keys_of cs)) where
+module _ {X E : Type 0} (place filled : ℕ) (starts : List ℕ) (bs cs : List Bucket) (key : Value) (h : AreBuckets place filled starts bs) (r : Result X E) (ok : OnOk r (cs ≡ bs ++ (key, []) ∷ [])) (kept : OnErr r (cs ≡ bs)) (d : IsDistinct is_key (keys_of cs)) where
   grown : (cs ≡ bs ++ (key, []) ∷ []) ⊎ (cs ≡ bs)
   grown = elim r as (λ (s : Result X E). OnOk s (cs ≡ bs ++ (key, []) ∷ []) → OnErr s (cs ≡ bs) → (cs ≡ bs ++ (key, []) ∷ []) ⊎ (cs ≡ bs)) [ Ok x ↦ λ o k. inl o | Err e ↦ λ o k. inr k ] ok kept
 
-  -- the buckets are those of a store either way
-  pub grown_buckets : AreBuckets place filled oldest cs
-  grown_buckets = go grown
+  -- the buckets are those of a store either way, with the times that their places then have
+  pub grown_buckets : (times : List ℕ) → AreStarts times cs → length cs ≤ length times → AreBuckets place filled times cs
+  grown_buckets times start room = record {
+    distinct = d;
+    keyed = keyed grown;
+    start = start;
+    room = room;
+    within = within grown;
+    split = split grown;
+  }
     where
-      go : (cs ≡ bs ++ (key, []) ∷ []) ⊎ (cs ≡ bs) → AreBuckets place filled oldest cs
-      go (inl e) = subst (AreBuckets place filled oldest) (sym e) (added place filled oldest bs key h (subst (λ (xs : List Bucket). IsDistinct is_key (keys_of xs)) e d))
-      go (inr e) = subst (AreBuckets place filled oldest) (sym e) h
+      keyed : (cs ≡ bs ++ (key, []) ∷ []) ⊎ (cs ≡ bs) → AreKeyed place cs
+      keyed (inl e) = subst (AreKeyed place) (sym e) (added_keyed place filled starts bs key h)
+      keyed (inr e) = subst (AreKeyed place) (sym e) h.keyed
+
+      within : (cs ≡ bs ++ (key, []) ∷ []) ⊎ (cs ≡ bs) → filled ≤ length cs
+      within (inl e) = let long = ap length e in let more = length-append bs ((key, []) ∷ []) in let few = h.within in omega (arith, long, more, few)
+      within (inr e) = let long = ap length e in let few = h.within in omega (arith, long, few)
+
+      split : (cs ≡ bs ++ (key, []) ∷ []) ⊎ (cs ≡ bs) → IsSplit filled cs
+      split (inl e) = subst (IsSplit filled) (sym e) (added_split place filled starts bs key h)
+      split (inr e) = subst (IsSplit filled) (sym e) h.split
 
   -- the keys that were ready are so still
   pub grown_keys : All (Contains (keys_in_order cs)) (keys_in_order bs)
   grown_keys = go grown
     where
       go : (cs ≡ bs ++ (key, []) ∷ []) ⊎ (cs ≡ bs) → All (Contains (keys_in_order cs)) (keys_in_order bs)
-      go (inl e) = subst (λ (xs : List Bucket). All (Contains (keys_in_order xs)) (keys_in_order bs)) (sym e) (more_keys place filled oldest bs key h)
+      go (inl e) = subst (λ (xs : List Bucket). All (Contains (keys_in_order xs)) (keys_in_order bs)) (sym e) (more_keys place filled starts bs key h)
       go (inr e) = subst (λ (xs : List Bucket). All (Contains (keys_in_order xs)) (keys_in_order bs)) (sym e) (All-contains_itself (keys_in_order bs))
 
   -- no other key became ready
@@ -199,7 +231,7 @@ module _ {X E : Type 0} (place filled oldest : ℕ) (bs cs : List Bucket) (key :
   grown_only k became = go grown
     where
       go : (cs ≡ bs ++ (key, []) ∷ []) ⊎ (cs ≡ bs) → Contains (keys_in_order bs) k ⊎ (key ≡ k)
-      go (inl e) = no_other_key place filled oldest bs key h k (subst (λ (xs : List Bucket). Contains (keys_in_order xs) k) e became)
+      go (inl e) = no_other_key place filled starts bs key h k (subst (λ (xs : List Bucket). Contains (keys_in_order xs) k) e became)
       go (inr e) = inl (subst (λ (xs : List Bucket). Contains (keys_in_order xs) k) e became)
 
   -- the instances are the same
@@ -214,7 +246,7 @@ module _ {X E : Type 0} (place filled oldest : ℕ) (bs cs : List Bucket) (key :
   pub grown_key : OnOk r (Contains (keys_in_order cs) key)
   grown_key =
       elim r as (λ (s : Result X E). OnOk s (cs ≡ bs ++ (key, []) ∷ []) → OnOk s (Contains (keys_in_order cs) key)) [
-        | Ok x ↦ λ o. subst (λ (xs : List Bucket). Contains (keys_in_order xs) key) (sym o) (new_key place filled oldest bs key h)
+        | Ok x ↦ λ o. subst (λ (xs : List Bucket). Contains (keys_in_order xs) key) (sym o) (new_key place filled starts bs key h)
         | Err e ↦ λ o. o
       ] ok
 

@@ -56,11 +56,16 @@ StartsFrom oldest bucket = All (λ instance. oldest ≤ instance.tuple.from) buc
 abbrev pub StartFrom : ℕ → List Bucket → Type 0
 StartFrom oldest buckets = All (StartsFrom oldest) buckets
 
--- what holds of the buckets of a store: no key comes twice, each instance stands under its key and starts no earlier than a time, and the buckets with instances come first
-pub record AreBuckets (place filled oldest : ℕ) (buckets : List Bucket) : Type 0 where
+-- no instance of a bucket starts before the time that has the bucket's place
+abbrev pub AreStarts : List ℕ → List Bucket → Type 0
+AreStarts starts buckets = (place : ℕ) (d : Bucket) → place < length buckets → StartsFrom (slice_index_or starts place 0) (slice_index_or buckets place d)
+
+-- what holds of the buckets of a store: no key comes twice, each instance stands under its key and starts no earlier than the time of its bucket's place, each place has one, and the buckets with instances come first
+pub record AreBuckets (place filled : ℕ) (starts : List ℕ) (buckets : List Bucket) : Type 0 where
   pub distinct : IsDistinct is_key (keys_of buckets)
   pub keyed : AreKeyed place buckets
-  pub start : StartFrom oldest buckets
+  pub start : AreStarts starts buckets
+  pub room : length buckets ≤ length starts
   pub within : filled ≤ length buckets
   pub split : IsSplit filled buckets
 
@@ -78,12 +83,12 @@ pub record AreSame (old new : List Bucket) : Type 0 where
   pub permuted : IsPermutation old new
   pub same : (key : Value) → instances_at new key ≡ instances_at old key
 
--- no bucket that stood before a place stands at it or behind it
-abbrev pub StayBefore : ℕ → List Bucket → List Bucket → Type 0
-StayBefore place old new = (number : ℕ) (d : Bucket) → place ≤ number → number < length new
-    → (from : ℕ) × (place ≤ from) × (from < length old) × (slice_index_or new number d ≡ slice_index_or old from d)
-
 -- each key has those of its instances that pass the test
 pub record IsPurged (test : Instance → Bool) (old new : List Bucket) : Type 0 where
   pub same_keys : IsPermutation (keys_of old) (keys_of new)
   pub each : (key : Value) → instances_at new key ≡ filter test (instances_at old key)
+
+-- the keys are the same, and none of them lost an instance that passes the test
+pub record KeepsAlive (test : Instance → Bool) (old new : List Bucket) : Type 0 where
+  pub same_keys : IsPermutation (keys_of old) (keys_of new)
+  pub alike : (key : Value) → filter test (instances_at new key) ≡ filter test (instances_at old key)

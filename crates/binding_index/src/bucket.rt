@@ -17,19 +17,15 @@ use steps::{Ledger, Steps};
 #[derive(Drop)]
 pub(crate) struct Bucket {
     chain: Chain<Instance>,
-    // no instance starts before this time
-    oldest: u64,
 }
 
 impl Model for Bucket {
-    ghost use Rattle.std.specs.Prelude.{◌≤◌, List, All};
+    ghost use Rattle.std.specs.Prelude.{List};
     ghost use Rattle.instances.specs.declared.instance.Instance.{Instance};
 
     ghost Value = { List Instance };
 
     ghost view = { λ b. b.chain };
-
-    ghost invariant = { λ b. All (λ instance. b.oldest ≤ instance.tuple.from) b.chain };
 }
 
 impl Bucket {
@@ -38,7 +34,6 @@ impl Bucket {
     {
         Bucket {
             chain: Chain::new(),
-            oldest: u64::MAX,
         }
     }
 
@@ -52,13 +47,6 @@ impl Bucket {
         ensures { result ≡ has_any self.now }
     {
         self.chain.look().next().is_some()
-    }
-
-    /// A time before which no instance starts.
-    pub(crate) fn oldest(&self) -> u64
-        ensures { All (λ instance. result ≤ instance.tuple.from) self.now }
-    {
-        self.oldest
     }
 
     /// The number of instances, or 2^64-1 where there are more.
@@ -83,20 +71,20 @@ impl Bucket {
         take_eligible(&mut self.chain, event, choose, steps);
     }
 
-    /// Puts the beads of a chain, of which none starts before `from`, before the others, at once.
-    pub(crate) fn put(&mut self, chain: &mut Chain<Instance>, from: u64)
-        requires { All (λ instance. from ≤ instance.tuple.from) chain.old }
+    /// Puts the beads of a chain before the others, at once.
+    pub(crate) fn put(&mut self, chain: &mut Chain<Instance>)
         ensures { self.new ≡ chain.old ++ self.old }
     {
-        self.oldest = self.oldest.min(from);
         chain.append(&mut self.chain);
         std::mem::swap(&mut self.chain, chain);
     }
 
-    /// Takes out the instances that no event after `now` can match, as the bounds on DUR tell.
-    pub(crate) fn keep_alive(&mut self, condition: &Conj, now: u64)
-        ensures { self.new ≡ alive_instances (now + 1) condition.now self.old }
+    /// Takes out the instances that no event after `now` can match, as the bounds on DUR tell. It gives a time
+    /// before which none of the others starts.
+    pub(crate) fn keep_alive(&mut self, condition: &Conj, now: u64) -> u64
+        ensures alive { self.new ≡ alive_instances (now + 1) condition.now self.old }
+        ensures oldest { All (λ instance. result ≤ instance.tuple.from) self.new }
     {
-        self.oldest = keep_alive(&mut self.chain, condition, now);
+        keep_alive(&mut self.chain, condition, now)
     }
 }

@@ -5,15 +5,16 @@ ghost use Rattle.instances.specs.Keys.{KeepsUsedKeys};
 ghost use Rattle.binding_index.specs.Among.{is_among};
 ghost use Rattle.binding_index.specs.KeyParts.{first_key as first_key_of, key_of_part};
 
-use crate::buckets::{
-    Buckets, add_bucket, arrange, candidate_place, copy_all, count_all, keep_all_alive, oldest_of,
-};
+use crate::arranging::arrange;
+use crate::buckets::{Buckets, add_bucket, candidate_place, copy_all, count_all};
 use crate::entries::place_of;
+use crate::expiring::keep_all_alive;
 use crate::key::{KeyPart, first_key};
+use deadlines::Deadlines;
 use event_types::{Copied, Memory, Tuple, Value};
 use indexmap::IndexMap;
 use inst_chain::{Bead, Chain, Look};
-use instances::{Instance, Instances, Waiting, earliest_alive, purged_until};
+use instances::{Instance, Instances, Waiting, purged_until};
 use scalar_expr::Conj;
 use std::alloc::Global;
 use std::marker::Model;
@@ -28,8 +29,8 @@ pub struct KeyedStore {
     buckets: Buckets,
     // how many buckets have instances; they come first
     filled: usize,
-    // no instance starts before this time
-    oldest: u64,
+    // by place, a time before which no instance of the bucket there starts
+    starts: Deadlines,
 }
 
 impl Model for KeyedStore {
@@ -45,7 +46,7 @@ impl Model for KeyedStore {
 
     ghost view = { λ s. record { condition = s.condition; key = key_of_part s.key; ready = keys_in_order s.buckets.entries; instances = instances_in_order s.buckets.entries } };
 
-    ghost invariant = { λ s. AreBuckets s.key.binding s.filled s.oldest s.buckets.entries };
+    ghost invariant = { λ s. AreBuckets s.key.binding s.filled s.starts s.buckets.entries };
 }
 
 impl KeyedStore {
@@ -59,12 +60,13 @@ impl KeyedStore {
     {
         let key = first_key(choose).unwrap();
         let condition = choose.copy(alloc)?;
+        let starts = Deadlines::make(alloc, 0)?;
         Ok(KeyedStore {
             condition,
             key,
             buckets: IndexMap::new(alloc),
             filled: 0,
-            oldest: u64::MAX,
+            starts,
         })
     }
 
@@ -84,15 +86,15 @@ impl KeyedStore {
         ensures same_condition { self.new.condition ≡ self.old.condition }
         ensures same_key { self.new.key ≡ self.old.key }
     {
-        if earliest_alive(&self.condition, now) <= self.oldest as u128 {
-            self.buckets.truncate(self.filled);
-            self.oldest
-        } else {
-            self.filled = keep_all_alive(&mut self.buckets, self.filled, &self.condition, now);
-            self.oldest = oldest_of(&self.buckets);
-            self.buckets.truncate(self.filled);
-            self.oldest
-        }
+        self.filled = keep_all_alive(
+            &mut self.buckets,
+            &mut self.starts,
+            self.filled,
+            &self.condition,
+            now,
+        );
+        self.buckets.truncate(self.filled);
+        self.starts.earliest().min(u64::MAX as u128) as u64
     }
 }
 
@@ -116,7 +118,7 @@ impl Waiting for KeyedStore {
     fn take<L: Ledger>(&mut self, event: &Tuple, choose: &Conj, steps: &mut Steps<L>) {
         if let Some(place) = candidate_place(&self.buckets, event.vals().get(self.key.event)) {
             self.buckets[place].take(event, choose, steps);
-            self.filled = arrange(&mut self.buckets, self.filled, place);
+            self.filled = arrange(&mut self.buckets, &mut self.starts, self.filled, place);
         }
     }
 
@@ -130,7 +132,7 @@ impl Waiting for KeyedStore {
             return Ok(());
         }
         let key = key.copied(*self.buckets.allocator())?;
-        add_bucket(&mut self.buckets, key)
+        add_bucket(&mut self.buckets, &mut self.starts, key)
     }
 
     /// Puts the instance in front of those with its key, at once however many there are.
@@ -138,12 +140,12 @@ impl Waiting for KeyedStore {
         let mut chain = Chain::new();
         chain.link(bead);
         if let Some(instance) = chain.look().next() {
-            let from = instance.tuple.from();
-            self.oldest = self.oldest.min(from);
+            let from = instance.tuple.from() as u128;
             let key = instance.tuple.vals().get(self.key.binding);
             if let Some(place) = place_of(&self.buckets, key) {
-                self.buckets[place].put(&mut chain, from);
-                self.filled = arrange(&mut self.buckets, self.filled, place);
+                self.buckets[place].put(&mut chain);
+                self.starts.set(place, self.starts.get(place).min(from));
+                self.filled = arrange(&mut self.buckets, &mut self.starts, self.filled, place);
             }
         }
     }

@@ -5,10 +5,12 @@
 //! keys, each with the numbers of the states to which it leads.
 #![tactic(auto)]
 
+mod arranging;
 mod bucket;
 mod buckets;
 mod directory;
 mod entries;
+mod expiring;
 mod key;
 mod keyed_store;
 mod store;

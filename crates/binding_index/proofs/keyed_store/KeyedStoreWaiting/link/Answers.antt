@@ -1,26 +1,20 @@
-use Rattle.std.proofs.Common.{◌≡◌, ◌∙◌, sym, ap, subst, ◌≤◌, Contains, List, [], ◌∷◌, ◌++◌, arith}
-use Rattle.std.proofs.lemmas.List.Elements.{All-cons, All-nil, All-same}
+use Rattle.std.proofs.Common.{◌≡◌, ◌∙◌, sym, ap, subst, ℕ, length, min, Contains, List, [], ◌∷◌, ◌++◌, arith}
+use Rattle.std.proofs.lemmas.List.{length-set}
 use Rattle.std.proofs.lemmas.Option.{slice_get_within}
 use Rattle.event_types.specs.Order.{sort_by, value_cmp}
+use Rattle.indexmap.specs.IndexMap.{set_value_at}
 use Rattle.instances.specs.declared.instance.Instance.{Instance}
 use Rattle.semantics.specs.Values.{value_at}
 use Rattle.binding_index.specs.Keyed.{Keyed}
-use Rattle.binding_index.specs.Buckets.{instances_at, keys_in_order}
+use Rattle.binding_index.specs.Buckets.{AreStarts, instances_at, keys_in_order}
 use Rattle.binding_index.proofs.BucketLemmas.{same_keys}
 use Rattle.binding_index.proofs.MapLemmas.{items_stand}
-use Rattle.binding_index.proofs.StoreLemmas.{linked, linked_in_order, not_missing, the_bead, value_is, value_there}
+use Rattle.binding_index.proofs.StoreLemmas.{linked, linked_in_order, linked_starts, not_missing, the_bead, value_is, value_there}
 use Rattle.binding_index.proofs.WriteLemmas.{keys_written, length_written, split_written}
 use Rattle.binding_index.proofs.keyed_store.KeyedStoreWaiting.link.Goals as goal
 
 pub index_mut-requires : goal.index_mut-requires
 index_mut-requires c = slice_get_within c.self.inside.buckets.entries c.in-Some-place_of.place (c.get-key.result.now, instances_at c.self.inside.buckets.entries c.get-key.result.now) (items_stand c.self.inside.buckets.entries c.get-key.result.now c.in-Some-place_of.place c.in-Some-place_of.ensures.found)
-
-pub put-requires : goal.put-requires
-put-requires c =
-    let bead : c.in-Some.instance.now ≡ c.args.bead = the_bead c.new-chain.result c.link.new.self c.look.result c.args.bead c.in-Some.instance.now c.new-chain.ensures c.link.ensures c.look.ensures c.in-Some.ensures.first in
-    let front : c.link.new.self ≡ c.args.bead ∷ [] = c.link.ensures ∙ ap (λ (xs : List Instance). xs ++ c.args.bead ∷ []) c.new-chain.ensures in
-    let from : c.from-from.result ≡ c.args.bead.tuple.from = c.from-from.ensures.value ∙ ap (λ (n : Instance). n.tuple.from) bead in
-    All-same (λ (n : Instance). c.from-from.result ≤ n.tuple.from) c.link.new.self (c.args.bead ∷ []) front (All-cons (λ (n : Instance). c.from-from.result ≤ n.tuple.from) c.args.bead [] (omega (arith, from)) (All-nil _))
 
 pub arrange-self-inside-requires-clause-within : goal.arrange-self-inside-requires-clause-within
 arrange-self-inside-requires-clause-within c = let long = length_written c.self.inside.buckets.entries c.in-Some-place_of.place c.put.new.self in omega (arith, long, c.self.invariant.within)
@@ -34,6 +28,27 @@ arrange-self-inside-requires-clause-there c =
 pub arrange-self-inside-requires-clause-others : goal.arrange-self-inside-requires-clause-others
 arrange-self-inside-requires-clause-others c = split_written c.self.inside.filled c.self.inside.buckets.entries c.in-Some-place_of.place c.put.new.self c.self.invariant.split
 
+pub arrange-self-inside-requires-clause-room : goal.arrange-self-inside-requires-clause-room
+arrange-self-inside-requires-clause-room c =
+    let long = length_written c.self.inside.buckets.entries c.in-Some-place_of.place c.put.new.self in
+    let written = ap length c.set.ensures in
+    let same = length-set c.self.inside.starts c.in-Some-place_of.place c.min.result in
+    omega (arith, long, written, same, c.self.invariant.room)
+
+pub arrange-self-inside-requires-clause-starts : goal.arrange-self-inside-requires-clause-starts
+arrange-self-inside-requires-clause-starts c =
+    let bs = c.self.inside.buckets.entries in
+    let key = c.get-key.result.now in
+    let had = instances_at bs key in
+    let at = items_stand bs key c.in-Some-place_of.place c.in-Some-place_of.ensures.found in
+    let bead : c.in-Some.instance.now ≡ c.args.bead = the_bead c.new-chain.result c.link.new.self c.look.result c.args.bead c.in-Some.instance.now c.new-chain.ensures c.link.ensures c.look.ensures c.in-Some.ensures.first in
+    let is = value_there bs c.in-Some-place_of.place key had c.index_mut.result.now at c.index_mut.ensures.value in
+    let front : c.link.new.self ≡ c.args.bead ∷ [] = c.link.ensures ∙ ap (λ (xs : List Instance). xs ++ c.args.bead ∷ []) c.new-chain.ensures in
+    let now : c.put.new.self ≡ c.args.bead ∷ had = c.put.ensures ∙ (λ i. front i ++ is i) in
+    subst (λ (times : List ℕ). AreStarts times (set_value_at bs c.in-Some-place_of.place c.put.new.self)) (sym c.set.ensures)
+    (linked_starts c.self.inside.starts c.min.result c.from-from.result bs c.in-Some-place_of.place key had c.put.new.self c.args.bead at now c.self.invariant.room c.self.invariant.start
+    (c.min.ensures ∙ ap (λ n. min n c.from-from.result) c.get.ensures) (c.from-from.ensures.value ∙ ap (λ (n : Instance). n.tuple.from) bead))
+
 pub invariant_of-self : goal.invariant_of-self
 invariant_of-self c =
     let bs = c.self.inside.buckets.entries in
@@ -43,10 +58,10 @@ invariant_of-self c =
     let is = value_there bs c.in-Some-place_of.place key had c.index_mut.result.now (items_stand c.self.inside.buckets.entries c.get-key.result.now c.in-Some-place_of.place c.in-Some-place_of.ensures.found) c.index_mut.ensures.value in
     let front : c.link.new.self ≡ c.args.bead ∷ [] = c.link.ensures ∙ ap (λ (xs : List Instance). xs ++ c.args.bead ∷ []) c.new-chain.ensures in
     let now : c.put.new.self ≡ c.args.bead ∷ had = c.put.ensures ∙ (λ i. front i ++ is i) in
-    linked c.self.inside.key.binding c.self.inside.oldest c.min-self-inside.result c.from-from.result c.self.inside.filled c.arrange-self-inside.result bs c.in-Some-place_of.place key had c.put.new.self c.args.bead c.arrange-self-inside.new.buckets.entries c.self.invariant
+    linked c.self.inside.key.binding c.self.inside.filled c.arrange-self-inside.result c.arrange-self-inside.new.starts c.self.inside.starts bs c.in-Some-place_of.place key had c.put.new.self c.args.bead c.arrange-self-inside.new.buckets.entries c.self.invariant
     (items_stand c.self.inside.buckets.entries c.get-key.result.now c.in-Some-place_of.place c.in-Some-place_of.ensures.found) now
     (ap (λ (n : Instance). value_at n.tuple c.self.inside.key.binding) (sym bead) ∙ value_is c.in-Some.instance.now.tuple c.vals.result.now c.self.inside.key.binding key c.vals.ensures c.get-key.ensures)
-    c.min-self-inside.ensures (c.from-from.ensures.value ∙ ap (λ (n : Instance). n.tuple.from) bead) c.arrange-self-inside.ensures.same c.arrange-self-inside.ensures.within c.arrange-self-inside.ensures.split
+    c.arrange-self-inside.ensures.same c.arrange-self-inside.ensures.starts c.arrange-self-inside.ensures.room c.arrange-self-inside.ensures.within c.arrange-self-inside.ensures.split
 
 pub returns-in-Some-place_of-clause-linked : goal.returns-in-Some-place_of-clause-linked
 returns-in-Some-place_of-clause-linked c =

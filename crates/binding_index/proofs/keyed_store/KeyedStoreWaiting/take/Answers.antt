@@ -9,11 +9,11 @@ use Rattle.instances.specs.declared.instance.Instance.{Instance}
 use Rattle.semantics.specs.Nexts.{is_eligible}
 use Rattle.semantics.specs.Values.{value_at}
 use Rattle.scalar_expr.specs.Fits.{AllFit}
-use Rattle.binding_index.specs.Buckets.{IsKeyed, StartsFrom, instances_in_order, instances_at}
+use Rattle.binding_index.specs.Buckets.{IsKeyed, instances_in_order, instances_at}
 use Rattle.binding_index.specs.Keyed.{Keyed}
 use Rattle.binding_index.specs.KeyParts.{key_of_part}
 use Rattle.binding_index.proofs.BucketLemmas.{same_keys}
-use Rattle.binding_index.proofs.StoreLemmas.{arranged, value_is, value_there}
+use Rattle.binding_index.proofs.StoreLemmas.{arranged, taken_starts, value_is, value_there}
 use Rattle.binding_index.proofs.TakeLemmas.{found_are, found_go, none_go}
 use Rattle.binding_index.proofs.WriteLemmas.{all_at, keys_written, length_written, split_written}
 use Rattle.binding_index.proofs.keyed_store.KeyedStoreWaiting.take.Goals as goal
@@ -43,6 +43,18 @@ arrange-self-inside-requires-clause-there g c =
 pub arrange-self-inside-requires-clause-others : goal.arrange-self-inside-requires-clause-others
 arrange-self-inside-requires-clause-others g c = split_written c.self.inside.filled c.self.inside.buckets.entries c.in-Some.place c.take.new.self c.self.invariant.split
 
+pub arrange-self-inside-requires-clause-room : goal.arrange-self-inside-requires-clause-room
+arrange-self-inside-requires-clause-room g c = let long = length_written c.self.inside.buckets.entries c.in-Some.place c.take.new.self in omega (arith, long, c.self.invariant.room)
+
+pub arrange-self-inside-requires-clause-starts : goal.arrange-self-inside-requires-clause-starts
+arrange-self-inside-requires-clause-starts g c =
+    let bs = c.self.inside.buckets.entries in
+    let key = c.get.result.now in
+    let had = instances_at bs key in
+    let is = value_there bs c.in-Some.place key had c.index_mut.result.now c.in-Some.ensures.found.at c.index_mut.ensures.value in
+    taken_starts (λ (n : Instance). not (is_eligible c.args.choose.now n.tuple c.args.event.now)) c.self.inside.starts bs c.in-Some.place key had c.take.new.self c.in-Some.ensures.found.at
+    (c.take.ensures.others ∙ ap (filter (λ (n : Instance). not (is_eligible c.args.choose.now n.tuple c.args.event.now))) is) c.self.invariant.start
+
 pub invariant_of-self : goal.invariant_of-self
 invariant_of-self g c =
     let bs = c.self.inside.buckets.entries in
@@ -50,11 +62,10 @@ invariant_of-self g c =
     let had = instances_at bs key in
     let is = value_there bs c.in-Some.place key had c.index_mut.result.now c.in-Some.ensures.found.at c.index_mut.ensures.value in
     let left : c.take.new.self ≡ filter (λ (n : Instance). not (is_eligible c.args.choose.now n.tuple c.args.event.now)) had = c.take.ensures.others ∙ ap (filter (λ (n : Instance). not (is_eligible c.args.choose.now n.tuple c.args.event.now))) is in
-    arranged c.self.inside.key.binding c.self.inside.oldest c.arrange-self-inside.result bs c.in-Some.place key had c.take.new.self c.arrange-self-inside.new.buckets.entries c.self.invariant.distinct c.self.invariant.keyed c.self.invariant.start
+    arranged c.self.inside.key.binding c.arrange-self-inside.result c.arrange-self-inside.new.starts bs c.in-Some.place key had c.take.new.self c.arrange-self-inside.new.buckets.entries c.self.invariant.distinct c.self.invariant.keyed
     c.in-Some.ensures.found.at
     (All-same (λ (n : Instance). value_at n.tuple c.self.inside.key.binding ≡ key) _ _ left (All-filter (λ (n : Instance). not (is_eligible c.args.choose.now n.tuple c.args.event.now)) (λ (n : Instance). value_at n.tuple c.self.inside.key.binding ≡ key) had (all_at (IsKeyed c.self.inside.key.binding) bs c.in-Some.place (key, had) c.in-Some.ensures.found.at c.self.invariant.keyed)))
-    (All-same (λ (n : Instance). c.self.inside.oldest ≤ n.tuple.from) _ _ left (All-filter (λ (n : Instance). not (is_eligible c.args.choose.now n.tuple c.args.event.now)) (λ (n : Instance). c.self.inside.oldest ≤ n.tuple.from) had (all_at (StartsFrom c.self.inside.oldest) bs c.in-Some.place (key, had) c.in-Some.ensures.found.at c.self.invariant.start)))
-    c.arrange-self-inside.ensures.same c.arrange-self-inside.ensures.within c.arrange-self-inside.ensures.split
+    c.arrange-self-inside.ensures.same c.arrange-self-inside.ensures.starts c.arrange-self-inside.ensures.room c.arrange-self-inside.ensures.within c.arrange-self-inside.ensures.split
 
 pub returns-in-Some-clause-others : goal.returns-in-Some-clause-others
 returns-in-Some-clause-others g c =

@@ -1,0 +1,59 @@
+//! The order of the buckets: those with instances come first, each with the time of its place.
+ghost use Rattle.std.specs.Prelude.{◌≡◌, ◌<◌, ◌≤◌, length, OnOk};
+ghost use Rattle.std.specs.List.Sorted.{IsPermutation};
+ghost use Rattle.binding_index.specs.Buckets.{AreSame, AreStarts, IsSplit, IsSplitBut};
+
+use crate::buckets::Buckets;
+use deadlines::Deadlines;
+use event_types::Memory;
+
+/// Makes room for the time of one more bucket.
+pub(crate) fn make_room(buckets: &Buckets, starts: &mut Deadlines) -> Result<(), Memory>
+    requires room { length buckets.now.entries ≤ length starts.old }
+    requires starts { AreStarts starts.old buckets.now.entries }
+    ensures ok { OnOk result (length buckets.now.entries < length starts.new) }
+    ensures room { length buckets.now.entries ≤ length starts.new }
+    ensures starts { AreStarts starts.new buckets.now.entries }
+{
+    if buckets.len() < starts.len() {
+        return Ok(());
+    }
+    starts.grow(*buckets.allocator(), starts.len().max(1))
+}
+
+/// The place after the last bucket with instances, once the bucket at `place` stands among them or behind
+/// them, as it has some. The others did, where `filled` was the place after the last of them. A bucket that is
+/// moved takes its time along. Takes no memory.
+pub(crate) fn arrange(
+    buckets: &mut Buckets,
+    starts: &mut Deadlines,
+    filled: usize,
+    place: usize,
+) -> usize
+    requires within { filled ≤ length buckets.old.entries }
+    requires there { place < length buckets.old.entries }
+    requires room { length buckets.old.entries ≤ length starts.old }
+    requires others { IsSplitBut place filled buckets.old.entries }
+    requires starts { AreStarts starts.old buckets.old.entries }
+    ensures same { AreSame buckets.old.entries buckets.new.entries }
+    ensures within { result ≤ length buckets.new.entries }
+    ensures room { length buckets.new.entries ≤ length starts.new }
+    ensures split { IsSplit result buckets.new.entries }
+    ensures starts { AreStarts starts.new buckets.new.entries }
+    ensures same_starts { IsPermutation starts.old starts.new }
+{
+    // `len` is called for its clause that the number of buckets is below 2^63
+    let _len = buckets.len();
+    let has_some = buckets[place].has_some();
+    if place < filled && !has_some {
+        buckets.swap_indices(place, filled - 1);
+        starts.swap(place, filled - 1);
+        return filled - 1;
+    }
+    if filled <= place && has_some {
+        buckets.swap_indices(place, filled);
+        starts.swap(place, filled);
+        return filled + 1;
+    }
+    filled
+}
