@@ -7,7 +7,7 @@ ghost use Rattle.scalar_expr.specs.Fits.{Fits};
 ghost use Rattle.algebra.specs.Suits.{FitsEach, Suits};
 ghost use Rattle.expressions.specs.Views.{ex_of};
 
-use crate::iteration::add_all_runs;
+use crate::iteration::{Fold, add_all_runs};
 use crate::matching::add_all_matches;
 use event_types::{List, Memory, Tuple, Tuples};
 use expressions::Expr;
@@ -75,16 +75,13 @@ fn add_results<L: Ledger>(
         Expr::Fold(choose, on, projection, left, right) => {
             let bindings = evaluate(alloc, left, env, steps)?;
             let tuples = evaluate(alloc, right, env, steps)?;
-            add_all_runs(
-                alloc,
-                out,
+            let fold = Fold {
                 choose,
                 on,
                 projection,
-                bindings.as_slice(),
-                tuples.as_slice(),
-                steps,
-            )
+                tuples: tuples.as_slice(),
+            };
+            add_all_runs(alloc, out, &fold, bindings.as_slice(), steps)
         }
     }
 }

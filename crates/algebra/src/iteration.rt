@@ -11,32 +11,29 @@ use scalar_expr::{Conj, Map, holds, rebind};
 use std::alloc::Global;
 use steps::{Ledger, Steps};
 
-// Adds the runs from each binding.
+/// A FOLD over tuples: the condition that a next event meets, the one under which the iteration goes on with
+/// it, and what the new binding has.
+#[derive(Clone, Copy)]
+pub(crate) struct Fold<'a> {
+    pub choose: &'a Conj,
+    pub on: &'a Conj,
+    pub projection: &'a Map,
+    pub tuples: &'a [Tuple],
+}
+
+/// Adds the runs from each binding.
 pub(crate) fn add_all_runs<L: Ledger>(
     alloc: Global,
     out: &mut Tuples,
-    choose: &Conj,
-    on: &Conj,
-    projection: &Map,
+    fold: &Fold<'_>,
     bindings: &[Tuple],
-    tuples: &[Tuple],
     steps: &mut Steps<L>,
 ) -> Result<(), Memory>
-    requires { All (λ binding. SuitsRuns (length tuples.now) choose.now on.now projection.now.parts tuples.now binding) bindings.now }
-    ensures { OnOk result (out.new ≡ out.old ++ flat_map (runs choose.now on.now projection.now.parts tuples.now) bindings.now) }
+    requires { All (λ binding. SuitsRuns (length fold.now.tuples.now) fold.now.choose.now fold.now.on.now fold.now.projection.now.parts fold.now.tuples.now binding) bindings.now }
+    ensures { OnOk result (out.new ≡ out.old ++ flat_map (runs fold.now.choose.now fold.now.on.now fold.now.projection.now.parts fold.now.tuples.now) bindings.now) }
 {
     for binding in bindings {
-        add_runs(
-            alloc,
-            out,
-            choose,
-            on,
-            projection,
-            binding,
-            tuples,
-            tuples.len(),
-            steps,
-        )?;
+        add_runs(alloc, out, fold, binding, fold.tuples.len(), steps)?;
     }
     Ok(())
 }
@@ -45,35 +42,22 @@ pub(crate) fn add_all_runs<L: Ledger>(
 fn add_runs<L: Ledger>(
     alloc: Global,
     out: &mut Tuples,
-    choose: &Conj,
-    on: &Conj,
-    projection: &Map,
+    fold: &Fold<'_>,
     binding: &Tuple,
-    tuples: &[Tuple],
     most: usize,
     steps: &mut Steps<L>,
 ) -> Result<(), Memory>
-    requires { SuitsRuns most choose.now on.now projection.now.parts tuples.now binding.now }
-    ensures { OnOk result (out.new ≡ out.old ++ runs_within most choose.now on.now projection.now.parts tuples.now binding.now) }
+    requires { SuitsRuns most fold.now.choose.now fold.now.on.now fold.now.projection.now.parts fold.now.tuples.now binding.now }
+    ensures { OnOk result (out.new ≡ out.old ++ runs_within most fold.now.choose.now fold.now.on.now fold.now.projection.now.parts fold.now.tuples.now binding.now) }
 {
     if most == 0 {
         return Ok(());
     }
-    let found = goers_of(alloc, choose, on, binding, tuples, steps)?;
+    let found = goers_of(alloc, fold, binding, steps)?;
     for event in found.as_slice() {
-        let new_binding = rebind(alloc, projection, binding, event)?;
+        let new_binding = rebind(alloc, fold.projection, binding, event)?;
         out.add(new_binding.copy(alloc)?)?;
-        add_runs(
-            alloc,
-            out,
-            choose,
-            on,
-            projection,
-            &new_binding,
-            tuples,
-            most - 1,
-            steps,
-        )?;
+        add_runs(alloc, out, fold, &new_binding, most - 1, steps)?;
     }
     Ok(())
 }
@@ -81,18 +65,16 @@ fn add_runs<L: Ledger>(
 // The nexts of a binding with which the iteration goes on.
 fn goers_of<L: Ledger>(
     alloc: Global,
-    choose: &Conj,
-    on: &Conj,
+    fold: &Fold<'_>,
     binding: &Tuple,
-    tuples: &[Tuple],
     steps: &mut Steps<L>,
 ) -> Result<Tuples, Memory>
-    requires choose { FitsPairs choose.now tuples.now binding.now }
-    requires on { FitsPairs on.now tuples.now binding.now }
-    ensures { IfOk result (λ found. found ≡ goers choose.now on.now tuples.now binding.now) }
+    requires choose { FitsPairs fold.now.choose.now fold.now.tuples.now binding.now }
+    requires on { FitsPairs fold.now.on.now fold.now.tuples.now binding.now }
+    ensures { IfOk result (λ found. found ≡ goers fold.now.choose.now fold.now.on.now fold.now.tuples.now binding.now) }
 {
-    let found = nexts_of(alloc, choose, binding, tuples, steps)?;
-    passing(alloc, on, binding, found.as_slice(), steps)
+    let found = nexts_of(alloc, fold.choose, binding, fold.tuples, steps)?;
+    passing(alloc, fold.on, binding, found.as_slice(), steps)
 }
 
 // The tuples for which the condition holds with the binding.

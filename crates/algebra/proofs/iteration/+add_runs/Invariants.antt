@@ -9,4 +9,4 @@ decreases-add_runs g l = l.most
 
 -- the branches of the events so far were added
 abbrev pub invariant-loop-event : goal.invariant-loop-event
-invariant-loop-event g l = l.out ≡ l.initial.out ++ flat_map (branch (l.most - 1) l.choose l.on l.projection.parts l.tuples l.binding) (take l.event-index l.event-items)
+invariant-loop-event g l = l.out ≡ l.initial.out ++ flat_map (branch (l.most - 1) l.fold.choose.now l.fold.on.now l.fold.projection.now.parts l.fold.tuples.now l.binding) (take l.event-index l.event-items)

@@ -9,5 +9,5 @@ use Rattle.algebra.proofs.iteration.goers_of.Goals as goal
 -- what fits each tuple fits each of the nexts
 pub passing-requires : goal.passing-requires
 passing-requires g c =
-    let P = λ (r : TupleView). AllFit c.args.on.now r (Some c.args.binding.now) in
-    All-same P _ _ (c.as_slice.ensures ∙ c.in_ok-found.ensures) (nexts_keep P c.args.choose.now c.args.binding.now c.args.tuples.now c.requires.on)
+    let P = λ (r : TupleView). AllFit c.args.fold.now.on.now r (Some c.args.binding.now) in
+    All-same P _ _ (c.as_slice.ensures ∙ c.in_ok-found.ensures) (nexts_keep P c.args.fold.now.choose.now c.args.binding.now c.args.fold.now.tuples.now c.requires.on)
