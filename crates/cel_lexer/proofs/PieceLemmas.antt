@@ -1,6 +1,7 @@
 -- What is known of the piece at the front of a text.
-use Rattle.std.proofs.Common.{◌≡◌, ◌∙◌, ℕ, zero, suc, Bool, true, false, List, [], ◌∷◌, length, take, drop, ◌+◌, ◌-◌, ◌<◌, ◌≤◌, refl, sym, ap, arith, add-zero, zero-add, get_or, drop-cons, sub-one, inl, inr, Option, Some, None, pos, nat_lt, nat_le, ◌^◌}
-use Rattle.std.specs.Prelude.{take_while, if◌then◌else◌, ◌==◌, ◌&&◌}
+use Rattle.std.proofs.Common.{◌≡◌, ◌∙◌, ℕ, zero, suc, Bool, true, false, List, [], ◌∷◌, ◌++◌, length, take, drop, ◌+◌, ◌-◌, ◌<◌, ◌≤◌, refl, sym, ap, arith, add-zero, zero-add, get_or, drop-cons, sub-one, inl, inr, Option, Some, None, pos, nat_lt, nat_le, ◌^◌}
+use Rattle.std.specs.Prelude.{take_while, if◌then◌else◌, ◌==◌, ◌&&◌, ◌||◌}
+use Rattle.std.specs.List.{list_all}
 use Rattle.std.specs.Char.{is_ascii_digit}
 use Rattle.std.proofs.lemmas.Bool.{cases_Bool, eqb-true, and_parts}
 use Rattle.std.proofs.lemmas.Bool.Decides.{nat_tests}
@@ -10,7 +11,7 @@ use Rattle.cel_lexer.proofs.LiteralLemmas.{literal-closes}
 use Rattle.cel_lexer.specs.Bytes.{is_blank, is_comment_byte, is_first, is_letter, is_line_feed, is_word_byte}
 use Rattle.std.specs.Str.Parse.{digits_value}
 use Rattle.cel_lexer.specs.Words.{is_keyword, word_piece}
-use Rattle.cel_lexer.specs.Numbers.{number_piece}
+use Rattle.cel_lexer.specs.Numbers.{behind_point, decimal_of, decimal_piece, in_range, number_of, number_or_decimal, number_piece, numeral_piece}
 use Rattle.cel_lexer.specs.Literals.{literal_piece, literal_rest}
 use Rattle.cel_lexer.specs.Signs.{is_long_sign, is_side, is_sign, mark_piece, sign_piece}
 use Rattle.cel_lexer.specs.Pieces.{piece_of}
@@ -150,13 +151,108 @@ word_fits b rest letter =
     (λ _. run_fits (if is_keyword (take_while is_word_byte (b ∷ rest)) then what.Keyword else what.Name) is_word_byte b rest (rw letter refl) refl word_ascii)
     (λ _. tt)
 
+-- a byte of a decimal
+is_point_or_digit : ℕ → Bool
+is_point_or_digit c = (c == 46) || is_ascii_digit c
+
+point_or_digit_ascii : (c : ℕ) → is_point_or_digit c ≡ true → c < 128
+unfolding is_point_or_digit
+point_or_digit_ascii c h = grind (arith, nat_tests)
+
+point_or_digit_first : (c : ℕ) → is_ascii_digit c ≡ true → is_point_or_digit c ≡ true
+unfolding is_point_or_digit
+point_or_digit_first c h = grind (arith, nat_tests)
+
+-- the first byte and the last one of a front whose bytes pass a test pass it, and it has no line feed where none passes
+module _ (p : ℕ → Bool) (ends : p 10 ≡ false) where
+  front_lines : (n : ℕ) (s : List ℕ) → list_all p (take n s) ≡ true → lines_in (take n s) ≡ 0
+  front_lines zero s all = refl
+  front_lines (suc n) [] all = refl
+  front_lines (suc n) (b ∷ s) all =
+      let parts = and_parts (p b) (list_all p (take n s)) all in
+      rw (not_line p b parts.0 ends) (zero-add _ ∙ front_lines n s parts.1)
+
+  front_first : (n : ℕ) (s : List ℕ) → 0 < n → n ≤ length s → list_all p (take n s) ≡ true → p (get_or s 0 0) ≡ true
+  front_first zero s some le all = absurd (omega arith)
+  front_first (suc n) [] some le all = absurd (omega arith)
+  front_first (suc n) (b ∷ s) some le all = (and_parts (p b) (list_all p (take n s)) all).0
+
+  front_last : (n : ℕ) (s : List ℕ) → suc n ≤ length s → list_all p (take (suc n) s) ≡ true → p (get_or s n 0) ≡ true
+  front_last zero [] le all = absurd (omega arith)
+  front_last zero (b ∷ s) le all = (and_parts (p b) true all).0
+  front_last (suc n) [] le all = absurd (omega arith)
+  front_last (suc n) (b ∷ s) le all = front_last n s (omega arith) (and_parts (p b) (list_all p (take (suc n) s)) all).1
+
+  front_fits : (w : What) (n : ℕ) (s : List ℕ) → suc n ≤ length s → list_all p (take (suc n) s) ≡ true → ((c : ℕ) → p c ≡ true → c < 128) → PieceFits (piece.Lexeme w (suc n)) s
+  front_fits w n s le all ascii =
+      (omega arith, le, front_lines (suc n) s all, ascii (get_or s 0 0) (front_first (suc n) s (omega arith) le all), rw sub-one (ascii (get_or s n 0) (front_last n s le all)))
+
+-- the bytes of a run of digits are bytes of a decimal
+digits_pass : (s : List ℕ) → list_all is_point_or_digit (take (run is_ascii_digit s) s) ≡ true
+digits_pass [] = refl
+digits_pass (b ∷ s) = elim (cases_Bool (is_ascii_digit b)) [
+  | inl here ↦ rw (run_yes is_ascii_digit b s here, point_or_digit_first b here) (digits_pass s)
+  | inr past ↦ rw (run_no is_ascii_digit b s past) refl
+]
+
+-- so are those of digits, a point and digits, and the text has them
+pointed_pass : (s behind : List ℕ) → drop (run is_ascii_digit s) s ≡ 46 ∷ behind
+    → (run is_ascii_digit s + suc (run is_ascii_digit behind) ≤ length s) × (list_all is_point_or_digit (take (run is_ascii_digit s + suc (run is_ascii_digit behind)) s) ≡ true)
+unfolding is_point_or_digit
+pointed_pass [] behind e = absurd cc
+pointed_pass (b ∷ s) behind e = elim (cases_Bool (is_ascii_digit b)) [
+  | inl here ↦
+      let count = run_yes is_ascii_digit b s here in
+      let later = pointed_pass s behind (rw count at e) in
+      let more : suc (run is_ascii_digit s) + suc (run is_ascii_digit behind) ≡ suc (run is_ascii_digit s + suc (run is_ascii_digit behind)) = omega arith in
+      rw (count, more) (omega (arith, later.0), rw (point_or_digit_first b here) later.1)
+  | inr past ↦
+      let count = run_no is_ascii_digit b s past in
+      let same : b ∷ s ≡ 46 ∷ behind = rw count at e in
+      let first : b ≡ 46 = cc in
+      let rest : s ≡ behind = cc in
+      rw (count, zero-add, first, rest) (omega (arith, run_le is_ascii_digit behind), digits_pass behind)
+]
+
+-- a point stands before what stands behind it
+pointed : (s : List ℕ) → 0 < run is_ascii_digit (behind_point s) → s ≡ 46 ∷ behind_point s
+pointed [] some = absurd (omega arith)
+pointed (b ∷ s) some = elim (cases_Bool (b == 46)) [
+  | inl point ↦ rw point (ap (λ (c : ℕ). c ∷ s) (eqb-true b 46 point))
+  | inr other ↦ absurd (let none = rw other at some in omega (arith, none))
+]
+
 number_fits : (b : ℕ) (rest : List ℕ) → is_ascii_digit b ≡ true → PieceFits (number_piece (take_while is_ascii_digit (b ∷ rest))) (b ∷ rest)
-number_fits b rest digit =
-    let value : ℕ = digits_value 10 (take_while is_ascii_digit (b ∷ rest)) in
-    if-both (λ p. PieceFits p (b ∷ rest)) (nat_lt value (2 ^ 127))
-    (piece.Lexeme (what.Number (pos value)) (run is_ascii_digit (b ∷ rest))) piece.NumberPast128
-    (λ _. run_fits (what.Number (pos value)) is_ascii_digit b rest digit refl digit_ascii)
+number_fits b rest digit = by_value (in_range (digits_value 10 (take_while is_ascii_digit (b ∷ rest))))
+  where
+    by_value : (o : Option ℕ) → PieceFits (number_of o (run is_ascii_digit (b ∷ rest))) (b ∷ rest)
+    by_value None = tt
+    by_value (Some n) = run_fits (what.Number (pos n)) is_ascii_digit b rest digit refl digit_ascii
+
+decimal_fits : (s : List ℕ) → 0 < run is_ascii_digit (behind_point (drop (run is_ascii_digit s) s)) → PieceFits (decimal_piece (take_while is_ascii_digit s) (take_while is_ascii_digit (behind_point (drop (run is_ascii_digit s) s)))) s
+unfolding is_point_or_digit
+decimal_fits s some =
+    let whole = take_while is_ascii_digit s in
+    let behind = behind_point (drop (run is_ascii_digit s) s) in
+    let places = take_while is_ascii_digit behind in
+    let passed = pointed_pass s behind (pointed (drop (run is_ascii_digit s) s) some) in
+    let size : length whole + 1 + length places ≡ suc (length whole + length places) = omega arith in
+    let same : length whole + suc (length places) ≡ suc (length whole + length places) = omega arith in
+    if-both (λ p. PieceFits p s) (nat_le (length places) 18) _ piece.BadToken
+    (λ _. rw size (by_value s (length places) (length whole + length places) (in_range (digits_value 10 (whole ++ places))) (rw same at passed.0) (rw same at passed.1)))
     (λ _. tt)
+  where
+    by_value : (s : List ℕ) (scale n : ℕ) (o : Option ℕ) → suc n ≤ length s → list_all is_point_or_digit (take (suc n) s) ≡ true → PieceFits (decimal_of o scale (suc n)) s
+    by_value s scale n None le all = tt
+    by_value s scale n (Some units) le all = front_fits is_point_or_digit refl (what.Decimal scale (pos units)) n s le all point_or_digit_ascii
+
+numeral_fits : (b : ℕ) (rest : List ℕ) → is_ascii_digit b ≡ true → PieceFits (numeral_piece (b ∷ rest)) (b ∷ rest)
+unfolding numeral_piece
+numeral_fits b rest digit = by_places (take_while is_ascii_digit (behind_point (drop (run is_ascii_digit (b ∷ rest)) (b ∷ rest)))) refl
+  where
+    by_places : (places : List ℕ) → take_while is_ascii_digit (behind_point (drop (run is_ascii_digit (b ∷ rest)) (b ∷ rest))) ≡ places → PieceFits (number_or_decimal (take_while is_ascii_digit (b ∷ rest)) places) (b ∷ rest)
+    by_places [] e = number_fits b rest digit
+    by_places (c ∷ places) e = let size = ap length e in rw e at (decimal_fits (b ∷ rest) (omega (arith, size)))
 
 -- the piece at the front of a text fits it
 pub piece-fits : (b : ℕ) (rest : List ℕ) → PieceFits (piece_of (b ∷ rest)) (b ∷ rest)
@@ -164,7 +260,7 @@ piece-fits b rest =
     if-both P (is_blank b) _ _ (λ blank. (omega arith, omega arith, add-zero _)) (λ _.
     if-both P ((b == 45) && is_first (λ next. next == 45) rest) _ _ (λ dashes. dash_fits b rest (eqb-true b 45 (and_parts (b == 45) (is_first (λ next. next == 45) rest) dashes).0)) (λ _.
     if-both P (is_letter b) _ _ (word_fits b rest) (λ _.
-    if-both P (is_ascii_digit b) _ _ (number_fits b rest) (λ _.
+    if-both P (is_ascii_digit b) _ _ (numeral_fits b rest) (λ _.
     if-both P (b == 39) _ _ (λ quote. literal_fits b rest (eqb-true b 39 quote)) (λ _.
     if-both P (b == 36) _ _ (λ dollar. mark_fits b rest (eqb-true b 36 dollar)) (λ _. sign_fits b rest))))))
   where

@@ -5,7 +5,7 @@ ghost use Rattle.cel_lexer.specs.Pieces.{piece_of};
 
 use crate::bytes::{begins_with, is_blank, is_letter};
 use crate::literals::literal_before;
-use crate::numbers::number_at;
+use crate::numbers::numeral_at;
 use crate::signs::{mark_before, sign_before};
 use crate::token::What;
 use crate::words::word_at;
@@ -19,7 +19,7 @@ pub(crate) enum Piece {
     Lexeme(What, usize),
     /// No token.
     BadToken,
-    /// A number above 2^127-1.
+    /// A number above 2^127-1, or a decimal with more units.
     NumberPast128,
 }
 
@@ -37,7 +37,7 @@ pub(crate) fn piece_at(text: &[u8]) -> Piece
             } else if is_letter(*b) {
                 word_at(text)
             } else if b.is_ascii_digit() {
-                number_at(text)
+                numeral_at(text)
             } else if *b == b'\'' {
                 literal_before(rest)
             } else if *b == b'$' {

@@ -15,6 +15,9 @@ pub enum What {
     Mark,
     /// A sign, as `(` or `<=`.
     Sign,
+    /// A decimal with 1 to 18 digits behind its point, as `10.50`, which is 1050 units of scale 2. It has at most
+    /// 2^127-1 units, and its scale is its number of digits behind the point.
+    Decimal { scale: u8, units: i128 },
 }
 
 /// A token, with its line, counted from 1, and its bytes in the source: from `begin`, counted from
