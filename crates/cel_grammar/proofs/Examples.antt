@@ -63,6 +63,17 @@ minus_makes_a_negative_literal = scalar.less
 minus_zero_is_zero : scalar.IsFactor (the.Minus ∷ the.Number 0 ∷ []) (number 0) []
 minus_zero_is_zero = scalar.less
 
+-- -10.50 and -0.00
+decimal_keeps_its_places : scalar.IsFactor (the.Minus ∷ the.Decimal 2 1050 ∷ []) (tree.Decimal 2 (negsuc 1049)) []
+decimal_keeps_its_places = scalar.less_decimal
+
+minus_no_units_is_no_units : scalar.IsFactor (the.Minus ∷ the.Decimal 2 0 ∷ []) (tree.Decimal 2 (pos 0)) []
+minus_no_units_is_no_units = scalar.less_decimal
+
+-- DEC 2.5, which has one token behind DEC
+decimal_is_no_count_of_places : {k : Kind} {ts rest : List Symbol} → statement.IsKind (the.Name (codes "DEC") ∷ the.Decimal 1 25 ∷ ts) k rest → ⊥
+decimal_is_no_count_of_places h = elim h [ ]
+
 -- $2.A
 attribute_has_its_mark : scalar.IsFactor (the.Dollar2 ∷ the.Dot ∷ the.Name a ∷ []) (tree.Attr mark.Second a) []
 attribute_has_its_mark = scalar.attribute scalar.of_second

@@ -4,9 +4,9 @@ use Rattle.std.specs.Prelude.{ℕ, ℤ, pos, ◌-ℤ◌, List, ◌∷◌}
 use Rattle.cel_grammar.specs.declared.mark.Mark.TheVariants as mark
 use Rattle.cel_grammar.specs.Symbols.{Symbol}
 use Rattle.cel_grammar.specs.Symbols as the
-use Rattle.cel_grammar.specs.Trees.{Add, Sub, Mul, Min, Max, Scalar, Number, Quoted, Attr, Dur, Two}
+use Rattle.cel_grammar.specs.Trees.{Add, Sub, Mul, Min, Max, Scalar, Number, Quoted, Attr, Dur, Two, Decimal}
 
--- a number behind a minus
+-- a number, or the units of a decimal, behind a minus
 abbrev pub negative : ℕ → ℤ
 negative n = pos 0 -ℤ pos n
 
@@ -29,10 +29,12 @@ mutual
     factor : {ts rest : List Symbol} {x : Scalar} → IsFactor ts x rest → IsProduct ts x rest
     times : {ts us rest : List Symbol} {x y : Scalar} → IsProduct ts x (the.Star ∷ us) → IsFactor us y rest → IsProduct ts (Two Mul x y) rest
 
-  -- number; or - number; or text; or attribute; or DUR; or MIN or MAX of two scalars; or ( scalar )
+  -- number; or - number; or decimal; or - decimal; or text; or attribute; or DUR; or MIN or MAX of two scalars; or ( scalar )
   pub data IsFactor : List Symbol → Scalar → List Symbol → Type 0 where
     number : {n : ℕ} {rest : List Symbol} → IsFactor (the.Number n ∷ rest) (Number (pos n)) rest
     less : {n : ℕ} {rest : List Symbol} → IsFactor (the.Minus ∷ the.Number n ∷ rest) (Number (negative n)) rest
+    decimal : {scale n : ℕ} {rest : List Symbol} → IsFactor (the.Decimal scale n ∷ rest) (Decimal scale (pos n)) rest
+    less_decimal : {scale n : ℕ} {rest : List Symbol} → IsFactor (the.Minus ∷ the.Decimal scale n ∷ rest) (Decimal scale (negative n)) rest
     text : {t : List ℕ} {rest : List Symbol} → IsFactor (the.Quoted t ∷ rest) (Quoted t) rest
     attribute : {ts rest : List Symbol} {x : Scalar} → IsAttribute ts x rest → IsFactor ts x rest
     dur : {rest : List Symbol} → IsFactor (the.Dur ∷ rest) Dur rest

@@ -60,11 +60,17 @@ abbrev pub number_symbol : ℤ → Symbol
 number_symbol (pos n) = the.Number n
 number_symbol z = the.Number 0
 
+-- a decimal, whose units no token has below 0
+abbrev pub decimal_symbol : ℕ → ℤ → Symbol
+decimal_symbol scale (pos n) = the.Decimal scale n
+decimal_symbol scale z = the.Decimal scale 0
+
 -- the symbol of a token of this kind and spelling
 abbrev pub symbol_of : What → List ℕ → Symbol
 symbol_of what.Keyword word = looked_up keyword_entries the.Max word
 symbol_of what.Name word = the.Name word
 symbol_of (what.Number z) word = number_symbol z
+symbol_of (what.Decimal scale z) word = decimal_symbol scale z
 symbol_of what.Quoted word = the.Quoted (undoubled (inside word))
 symbol_of what.Mark word = looked_up mark_entries the.Dollar word
 symbol_of what.Sign word = looked_up sign_entries (the.Compare cmp.Ge) word

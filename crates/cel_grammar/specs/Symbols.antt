@@ -1,8 +1,8 @@
--- Tokens without their places: keywords, names, numbers, texts, marks and signs.
+-- Tokens without their places: keywords, names, numbers, decimals, texts, marks and signs.
 use Rattle.std.specs.Prelude.{ℕ, List}
 use Rattle.event_types.specs.declared.comparison.Cmp.{Cmp}
 
--- a name and a text have their bytes, a number its value; End is the semicolon, Dollar1, Dollar2 and Dollar are the marks
+-- a name and a text have their bytes, a number its value, a decimal its scale and its units; End is the semicolon, Dollar1, Dollar2 and Dollar are the marks
 pub data Symbol : Type 0 where
   Stream : Symbol
   Int : Symbol
@@ -39,3 +39,4 @@ pub data Symbol : Type 0 where
   Plus : Symbol
   Minus : Symbol
   Compare : Cmp → Symbol
+  Decimal : ℕ → ℕ → Symbol

@@ -12,13 +12,14 @@ pub data Op : Type 0 where
   Min : Op
   Max : Op
 
--- a scalar: a number, a text, an attribute with its mark and name, DUR, or an operation
+-- a scalar: a number, a text, an attribute with its mark and name, DUR, an operation, or a decimal with its scale and its units
 pub data Scalar : Type 0 where
   Number : ℤ → Scalar
   Quoted : List ℕ → Scalar
   Attr : Mark → List ℕ → Scalar
   Dur : Scalar
   Two : Op → Scalar → Scalar → Scalar
+  Decimal : ℕ → ℤ → Scalar
 
 -- a predicate: TRUE, a comparison of two scalars, AND, OR or NOT
 pub data Pred : Type 0 where

@@ -20,6 +20,7 @@ scalar_of (raw.Number n) = tree.Number n
 scalar_of (raw.Quoted t) = tree.Quoted t
 scalar_of (raw.Attr m a) = tree.Attr m a
 scalar_of raw.Dur = tree.Dur
+scalar_of (raw.Decimal scale units) = tree.Decimal scale units
 scalar_of (raw.Add' p x q y) = tree.Two tree.Add (scalar_of x) (scalar_of y)
 scalar_of (raw.Sub' p x q y) = tree.Two tree.Sub (scalar_of x) (scalar_of y)
 scalar_of (raw.Mul' p x q y) = tree.Two tree.Mul (scalar_of x) (scalar_of y)

@@ -16,4 +16,6 @@ pub enum Raw {
     Mul(Box<Raw>, Box<Raw>),
     Min(Box<Raw>, Box<Raw>),
     Max(Box<Raw>, Box<Raw>),
+    /// `10.50` has the scale 2 and 1050 units, which lie between -(2^127-1) and 2^127-1. The scale is from 1 to 18.
+    Decimal { scale: u8, units: i128 },
 }
