@@ -7,7 +7,7 @@ use Rattle.std.proofs.lemmas.Option.{get_or_from_slice_get, slice_get_within}
 use Rattle.cel_lexer.specs.Listing.{Listing, spelling}
 use Rattle.cel_lexer.specs.declared.token.Token.{Token}
 use Rattle.cel_grammar.specs.Sentences.{Placed, Sentence, placed_of, with_symbol}
-use Rattle.cel_grammar.specs.Spellings.{number_symbol, symbol_of}
+use Rattle.cel_grammar.specs.Spellings.{decimal_symbol, number_symbol, symbol_of}
 use Rattle.cel_grammar.specs.Symbols as the
 use Rattle.cel_parser.specs.Cutting.{ended_on, left_at}
 use Rattle.cel_parser.specs.GrammarSymbols.{grammar_symbol_of}
@@ -78,10 +78,16 @@ number-other : (z : ℤ) → number_symbol z ≡ the.End → ⊥
 number-other (pos n) e = cc
 number-other z e = cc
 
+-- nor is a decimal
+decimal-other : (scale : ℕ) (z : ℤ) → decimal_symbol scale z ≡ the.End → ⊥
+decimal-other scale (pos n) e = cc
+decimal-other scale z e = cc
+
 -- the code's semicolon is the grammar's
 seen-end : (s : Symbol) → grammar_symbol_of s ≡ the.End → s ≡ symbol.End
 seen-end symbol.End e = refl
 seen-end (symbol.Number z) e = absurd (number-other z e)
+seen-end (symbol.Decimal scale z) e = absurd (decimal-other scale z e)
 seen-end s e = absurd cc
 
 module _ (listing : Listing) (at end line : ℕ) (symbols : List Symbol)

@@ -98,6 +98,8 @@ mutual
   factor_front : {ts rest : List Symbol} {x : Scalar} → IsFactor ts x rest → Front (λ vs ws. IsFactor vs x ws) ts rest
   factor_front (scalar.number {n = n}) = these (the.Number n ∷ []) (tt, tt) (λ _. scalar.number)
   factor_front (scalar.less {n = n}) = these (the.Minus ∷ the.Number n ∷ []) (tt, (tt, tt)) (λ _. scalar.less)
+  factor_front (scalar.decimal {scale = k} {n = n}) = these (the.Decimal k n ∷ []) (tt, tt) (λ _. scalar.decimal)
+  factor_front (scalar.less_decimal {scale = k} {n = n}) = these (the.Minus ∷ the.Decimal k n ∷ []) (tt, (tt, tt)) (λ _. scalar.less_decimal)
   factor_front (scalar.text {t = t}) = these (the.Quoted t ∷ []) (tt, tt) (λ _. scalar.text)
   factor_front (scalar.attribute h) = so (attribute_front h) (λ _ _ h. scalar.attribute h)
   factor_front scalar.dur = these (the.Dur ∷ []) (tt, tt) (λ _. scalar.dur)

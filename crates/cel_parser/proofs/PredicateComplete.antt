@@ -6,7 +6,7 @@ use Rattle.event_types.specs.declared.comparison.Cmp.{Cmp}
 use Rattle.cel_grammar.specs.Symbols.{Symbol}
 use Rattle.cel_grammar.specs.Symbols as the
 use Rattle.cel_grammar.specs.Trees.{Scalar}
-use Rattle.cel_grammar.specs.Scalars.{IsAttribute, bare, of_first, of_second, of_so, IsScalar, product, sum, difference, IsProduct, factor, times, IsFactor, number, less, text, attribute, dur, least, greatest}
+use Rattle.cel_grammar.specs.Scalars.{IsAttribute, bare, of_first, of_second, of_so, IsScalar, product, sum, difference, IsProduct, factor, times, IsFactor, number, less, decimal, less_decimal, text, attribute, dur, least, greatest}
 use Rattle.cel_grammar.specs.Scalars as scalar
 use Rattle.cel_parser.specs.ScalarReader.{scalar_at}
 use Rattle.cel_parser.proofs.ScalarComplete.{NotOperator, operator_star, scalar_complete, scalar_shorter, scalar_stays}
@@ -62,6 +62,8 @@ mutual
   factor_plain : {ts rest : List Symbol} {x : Scalar} → IsFactor ts x rest → (d : ℕ) → holds_test d ts ≡ holds_test d rest
   factor_plain number d = refl
   factor_plain less d = refl
+  factor_plain decimal d = refl
+  factor_plain less_decimal d = refl
   factor_plain text d = refl
   factor_plain (attribute a) d = attribute_plain a d
   factor_plain dur d = refl
@@ -115,6 +117,8 @@ mutual
   factor_begins : {ts rest : List Symbol} {x : Scalar} → IsFactor ts x rest → Begins ts
   factor_begins number = tt
   factor_begins less = tt
+  factor_begins decimal = tt
+  factor_begins less_decimal = tt
   factor_begins text = tt
   factor_begins (attribute bare) = tt
   factor_begins (attribute of_first) = tt

@@ -21,6 +21,8 @@ unfolding neg_at
 neg_same n (symbol.Not ∷ ts) = refl
 neg_same n (symbol.Number (pos k) ∷ ts) = refl
 neg_same n (symbol.Number (negsuc k) ∷ ts) = refl
+neg_same n (symbol.Decimal scale (pos k) ∷ ts) = refl
+neg_same n (symbol.Decimal scale (negsuc k) ∷ ts) = refl
 neg_same n ts = refl
 
 -- one step
@@ -41,6 +43,8 @@ prim_same n (symbol.True ∷ ts) = refl
 prim_same n (symbol.Open ∷ ts) = refl
 prim_same n (symbol.Number (pos k) ∷ ts) = refl
 prim_same n (symbol.Number (negsuc k) ∷ ts) = refl
+prim_same n (symbol.Decimal scale (pos k) ∷ ts) = refl
+prim_same n (symbol.Decimal scale (negsuc k) ∷ ts) = refl
 prim_same n ts = refl
 
 -- one step
@@ -72,4 +76,6 @@ holds_next d symbol.And ts = refl
 holds_next d symbol.Or ts = refl
 holds_next d (symbol.Number (pos k)) ts = refl
 holds_next d (symbol.Number (negsuc k)) ts = refl
+holds_next d (symbol.Decimal scale (pos k)) ts = refl
+holds_next d (symbol.Decimal scale (negsuc k)) ts = refl
 holds_next d t ts = refl

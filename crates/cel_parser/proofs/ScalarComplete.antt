@@ -4,7 +4,7 @@ use Rattle.std.specs.Prelude.{Some}
 use Rattle.cel_grammar.specs.Symbols.{Symbol}
 use Rattle.cel_grammar.specs.Symbols as the
 use Rattle.cel_grammar.specs.Trees.{Op, Add, Sub, Mul, Min, Max, Scalar, Two}
-use Rattle.cel_grammar.specs.Scalars.{IsAttribute, bare, of_first, of_second, of_so, IsScalar, product, sum, difference, IsProduct, factor, times, IsFactor, number, less, text, attribute, dur, least, greatest, group}
+use Rattle.cel_grammar.specs.Scalars.{IsAttribute, bare, of_first, of_second, of_so, IsScalar, product, sum, difference, IsProduct, factor, times, IsFactor, number, less, decimal, less_decimal, text, attribute, dur, least, greatest, group}
 use Rattle.cel_parser.specs.ScalarReader.{scalar_at, scalar_more, product_at, product_more, factor_at, both_at}
 use Rattle.cel_parser.proofs.ScalarKeeps.{scalar_more_keeps, product_more_keeps}
 
@@ -62,6 +62,8 @@ mutual
   pub factor_shorter : {ts rest : List Symbol} {x : Scalar} → IsFactor ts x rest → length rest < length ts
   factor_shorter number = omega arith
   factor_shorter less = omega arith
+  factor_shorter decimal = omega arith
+  factor_shorter less_decimal = omega arith
   factor_shorter text = omega arith
   factor_shorter (attribute a) = attribute_shorter a
   factor_shorter dur = omega arith
@@ -109,6 +111,8 @@ mutual
   factor_complete h zero le = absurd (omega (arith, factor_shorter h))
   factor_complete number (suc m) le = refl
   factor_complete less (suc m) le = refl
+  factor_complete decimal (suc m) le = refl
+  factor_complete less_decimal (suc m) le = refl
   factor_complete text (suc m) le = refl
   factor_complete (attribute bare) (suc m) le = refl
   factor_complete (attribute of_first) (suc m) le = refl

@@ -5,7 +5,7 @@ use Rattle.cel_grammar.specs.Symbols.{Symbol}
 use Rattle.cel_grammar.specs.Symbols as the
 use Rattle.cel_grammar.specs.declared.mark.Mark.TheVariants as mark
 use Rattle.cel_grammar.specs.Trees.{Op, Add, Sub, Mul, Min, Max, Scalar, Two}
-use Rattle.cel_grammar.specs.Scalars.{IsAttribute, bare, of_first, of_second, of_so, IsScalar, product, sum, difference, IsProduct, factor, times, IsFactor, number, less, text, attribute, dur, least, greatest, group}
+use Rattle.cel_grammar.specs.Scalars.{IsAttribute, bare, of_first, of_second, of_so, IsScalar, product, sum, difference, IsProduct, factor, times, IsFactor, number, less, decimal, less_decimal, text, attribute, dur, least, greatest, group}
 use Rattle.cel_parser.specs.ScalarReader.{◌>>=◌, open_at, comma_at, close_at, number_at, name_at, done, scalar_at, scalar_more, product_at, product_more, factor_at, both_at}
 
 -- both parts were read
@@ -40,6 +40,7 @@ close_is ts us e = absurd cc
 -- what is read is in the grammar
 number_sound : (ts : List Symbol) (x : Scalar) (rest : List Symbol) → number_at ts ≡ Some (x, rest) → IsFactor (the.Minus ∷ ts) x rest
 number_sound (the.Number n ∷ ts) x rest e = same (IsFactor (the.Minus ∷ the.Number n ∷ ts)) _ ts x rest e less
+number_sound (the.Decimal scale n ∷ ts) x rest e = same (IsFactor (the.Minus ∷ the.Decimal scale n ∷ ts)) _ ts x rest e less_decimal
 number_sound ts x rest e = absurd cc
 
 -- what is read is in the grammar
@@ -144,6 +145,7 @@ mutual
   factor_sound zero ts x rest e = absurd cc
   factor_sound (suc n) (the.Number k ∷ ts) x rest e = same (IsFactor (the.Number k ∷ ts)) _ ts x rest e number
   factor_sound (suc n) (the.Minus ∷ ts) x rest e = number_sound ts x rest e
+  factor_sound (suc n) (the.Decimal scale k ∷ ts) x rest e = same (IsFactor (the.Decimal scale k ∷ ts)) _ ts x rest e decimal
   factor_sound (suc n) (the.Quoted t ∷ ts) x rest e = same (IsFactor (the.Quoted t ∷ ts)) _ ts x rest e text
   factor_sound (suc n) (the.Name a ∷ ts) x rest e = same (IsFactor (the.Name a ∷ ts)) _ ts x rest e (attribute bare)
   factor_sound (suc n) (the.Dollar1 ∷ ts) x rest e = attribute (first_sound ts x rest e)

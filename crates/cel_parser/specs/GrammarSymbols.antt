@@ -1,6 +1,6 @@
 -- Symbols of the program as symbols of the grammar. No public clause cites this module.
 use Rattle.cel_grammar.specs.Symbols as the
-use Rattle.cel_grammar.specs.Spellings.{inside, number_symbol, undoubled}
+use Rattle.cel_grammar.specs.Spellings.{decimal_symbol, inside, number_symbol, undoubled}
 use Rattle.cel_parser.specs.declared.symbol.Symbol.{Symbol}
 use Rattle.cel_parser.specs.declared.symbol.Symbol.TheVariants as symbol
 
@@ -41,3 +41,4 @@ grammar_symbol_of symbol.Star = the.Star
 grammar_symbol_of symbol.Plus = the.Plus
 grammar_symbol_of symbol.Minus = the.Minus
 grammar_symbol_of (symbol.Compare c) = the.Compare c
+grammar_symbol_of (symbol.Decimal scale units) = decimal_symbol scale units

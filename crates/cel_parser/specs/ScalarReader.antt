@@ -6,7 +6,7 @@ use Rattle.cel_grammar.specs.declared.mark.Mark.TheVariants as mark
 use Rattle.cel_grammar.specs.Symbols.{Symbol}
 use Rattle.cel_grammar.specs.Symbols as the
 use Rattle.cel_grammar.specs.Scalars.{negative}
-use Rattle.cel_grammar.specs.Trees.{Op, Add, Sub, Mul, Min, Max, Scalar, Number, Quoted, Attr, Dur, Two}
+use Rattle.cel_grammar.specs.Trees.{Op, Add, Sub, Mul, Min, Max, Scalar, Number, Quoted, Attr, Dur, Two, Decimal}
 
 infixl 10 ◌>>=◌
 -- what was read, and then what follows it
@@ -37,9 +37,10 @@ abbrev pub close_at : List Symbol → Option (List Symbol)
 close_at (the.Close ∷ rest) = Some rest
 close_at ts = None
 
--- a number behind a minus
+-- a number or a decimal behind a minus
 abbrev pub number_at : List Symbol → Read Scalar
 number_at (the.Number n ∷ rest) = Some (Number (negative n), rest)
+number_at (the.Decimal scale n ∷ rest) = Some (Decimal scale (negative n), rest)
 number_at ts = None
 
 -- a point and a name behind a mark
@@ -76,6 +77,7 @@ unfoldable mutual
   factor_at zero ts = None
   factor_at (suc n) (the.Number k ∷ ts) = Some (Number (pos k), ts)
   factor_at (suc n) (the.Minus ∷ ts) = number_at ts
+  factor_at (suc n) (the.Decimal scale k ∷ ts) = Some (Decimal scale (pos k), ts)
   factor_at (suc n) (the.Quoted t ∷ ts) = Some (Quoted t, ts)
   factor_at (suc n) (the.Name a ∷ ts) = Some (Attr mark.Bare a, ts)
   factor_at (suc n) (the.Dollar1 ∷ ts) = name_at mark.First ts

@@ -1,6 +1,6 @@
 //! Scalars from symbols.
 ghost use Rattle.std.specs.Prelude.{◌≡◌, ◌<◌, IfOk, IfErr, map};
-ghost use Rattle.cel_grammar.specs.Trees.{Two};
+ghost use Rattle.cel_grammar.specs.Trees.{Decimal, Two};
 ghost use Rattle.cel_grammar.specs.Views.{scalar_of};
 ghost use Rattle.cel_parser.specs.ReturnsReading.{ReturnsReading};
 ghost use Rattle.cel_parser.specs.Operations.{op_of};
@@ -97,6 +97,9 @@ fn read_factor<'a>(alloc: Global, fuel: usize, symbols: Symbols<'a>) -> Reading<
     match symbols {
         [Symbol::Number(n), rest @ ..] => Ok((Raw::Number(plain(*n)), rest)),
         [Symbol::Minus, rest @ ..] => read_negative(rest),
+        [Symbol::Decimal { scale, units }, rest @ ..] => {
+            Ok((decimal(*scale, plain(*units)), rest))
+        }
         [Symbol::Quoted(literal), rest @ ..] => Ok((
             Raw::Quoted(literal_text(alloc, literal)?),
             rest,
@@ -167,12 +170,21 @@ fn joined(alloc: Global, operation: Operation, x: Raw, y: Raw) -> Result<Raw, Un
     })
 }
 
-// A number behind a minus.
+fn decimal(scale: u8, units: i128) -> Raw
+    ensures { scalar_of result ≡ Decimal scale units }
+{
+    Raw::Decimal { scale, units }
+}
+
+// A number or a decimal behind a minus.
 fn read_negative<'a>(symbols: Symbols<'a>) -> Reading<'a, Raw>
     ensures { ReturnsReading (λ p. (scalar_of p.0, map grammar_symbol_of p.1.now)) result (number_at (map grammar_symbol_of symbols.now)) }
 {
     match symbols {
         [Symbol::Number(n), rest @ ..] => Ok((Raw::Number(0 - plain(*n)), rest)),
+        [Symbol::Decimal { scale, units }, rest @ ..] => {
+            Ok((decimal(*scale, 0 - plain(*units)), rest))
+        }
         _ => Err(Unread::Bad),
     }
 }

@@ -1,7 +1,7 @@
 //! Symbols: what the grammar sees of tokens.
 use event_types::Cmp;
 
-/// A token by its keyword, mark or sign, by its name or number, or by its literal.
+/// A token by its keyword, mark or sign, by its name, number or decimal, or by its literal.
 #[derive(Clone, Copy)]
 pub enum Symbol<'a> {
     Stream,
@@ -41,4 +41,6 @@ pub enum Symbol<'a> {
     Plus,
     Minus,
     Compare(Cmp),
+    /// The units are not below 0.
+    Decimal { scale: u8, units: i128 },
 }

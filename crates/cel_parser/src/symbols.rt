@@ -20,6 +20,7 @@ pub(crate) fn symbol_of(what: What, word: &str) -> Symbol<'_>
         What::Quoted => Symbol::Quoted(word),
         What::Mark => mark(word),
         What::Sign => sign(word),
+        What::Decimal { scale, units } => Symbol::Decimal { scale, units },
     }
 }
 
