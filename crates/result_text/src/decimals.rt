@@ -6,7 +6,7 @@ use event_types::Memory;
 use itoa::Buffer;
 
 /// Puts a decimal behind a text, as `-0.05` for -5 units of scale 2.
-pub(crate) fn append_decimal(text: &mut Vec<u8>, scale: u8, units: i128) -> Result<(), Memory>
+pub fn append_decimal(text: &mut Vec<u8>, scale: u8, units: i128) -> Result<(), Memory>
     ensures { OnOk result (text.new.items ≡ text.old.items ++ decimal_text scale units) }
 {
     if units < 0 {

@@ -9,6 +9,7 @@ mod lately;
 mod rows;
 mod tails;
 
+pub use decimals::append_decimal;
 pub use lately::Lately;
 pub use rows::{Rows, row};
 pub use tails::Tails;
