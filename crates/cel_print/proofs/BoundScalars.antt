@@ -3,10 +3,10 @@ use Rattle.std.proofs.Common.{ℕ, zero, suc, List, ◌∷◌, arith, refl}
 use Rattle.cel_grammar.specs.Symbols.{Symbol}
 use Rattle.cel_grammar.specs.Symbols as the
 use Rattle.cel_grammar.specs.Trees.{Scalar, Two, Min, Max}
-use Rattle.cel_grammar.specs.Scalars.{negative, IsAttribute, bare, of_first, of_second, of_so, IsScalar, product, sum, difference, IsProduct, factor, times, IsFactor, number, less, text, attribute, dur, least, greatest, group}
+use Rattle.cel_grammar.specs.Scalars.{negative, IsAttribute, bare, of_first, of_second, of_so, IsScalar, product, sum, difference, IsProduct, factor, times, IsFactor, number, less, decimal, less_decimal, text, attribute, dur, least, greatest, group}
 use Rattle.cel_print.specs.declared.places.ScalarPlace.TheVariants as scalar_place
 use Rattle.cel_print.specs.Words.{Of}
-use Rattle.cel_print.specs.ScalarWords.{number_words, scalar_words}
+use Rattle.cel_print.specs.ScalarWords.{number_words, decimal_words, scalar_words}
 use Rattle.cel_print.proofs.ReadScalars.{negative_suc}
 use Rattle.cel_print.proofs.Bounds.{Bound, Plain, idle, leaf, loosened, joined, prefixed, wrapped, unwrapped, enclosed, parens}
 
@@ -24,6 +24,11 @@ same x ts rest a b c = record { scalar = a; product = b; factor = c }
 negative_bound : (n : ℕ) (rest : List Symbol) → Bound 0 (number_words (negative n)) (the.Minus ∷ the.Number n ∷ rest) rest
 negative_bound zero rest = record { few = λ r. omega arith; shallow = λ d e r h. omega arith; after = λ d. omega arith }
 negative_bound (suc n) rest = rw (negative_suc n) (record { few = λ r. omega arith; shallow = λ d e r h. omega arith; after = λ d. omega arith })
+
+-- a decimal behind a minus, which it loses if it has no units
+negative_decimal_bound : (scale n : ℕ) (rest : List Symbol) → Bound 0 (decimal_words scale (negative n)) (the.Minus ∷ the.Decimal scale n ∷ rest) rest
+negative_decimal_bound scale zero rest = record { few = λ r. omega arith; shallow = λ d e r h. omega arith; after = λ d. omega arith }
+negative_decimal_bound scale (suc n) rest = rw (negative_suc n) (record { few = λ r. omega arith; shallow = λ d e r h. omega arith; after = λ d. omega arith })
 
 -- an attribute
 attribute_bound : {ts rest : List Symbol} {x : Scalar} → IsAttribute ts x rest → Bounds 0 0 x ts rest
@@ -60,6 +65,8 @@ mutual
   pub factor_bound : {ts rest : List Symbol} {x : Scalar} → IsFactor ts x rest → Bounds 0 0 x ts rest
   factor_bound {rest = rest} (number {n = n}) = let it = leaf (the.Number n) rest (λ d ts. refl) in same _ _ rest it it it
   factor_bound {rest = rest} (less {n = n}) = let it = negative_bound n rest in same _ _ rest it it it
+  factor_bound {rest = rest} (decimal {scale = scale} {n = n}) = let it = leaf (the.Decimal scale n) rest (λ d ts. refl) in same _ _ rest it it it
+  factor_bound {rest = rest} (less_decimal {scale = scale} {n = n}) = let it = negative_decimal_bound scale n rest in same _ _ rest it it it
   factor_bound {rest = rest} (text {t = t}) = let it = leaf (the.Quoted t) rest (λ d ts. refl) in same _ _ rest it it it
   factor_bound (attribute h) = attribute_bound h
   factor_bound {rest = rest} dur = let it = leaf the.Dur rest (λ d ts. refl) in same _ _ rest it it it

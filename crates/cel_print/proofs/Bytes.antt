@@ -1,5 +1,5 @@
 -- Bytes at the front of a text. No public clause cites it.
-use Rattle.std.proofs.Common.{◌≡◌, ◌∙◌, ℕ, Bool, true, false, List, [], ◌∷◌, ◌++◌, refl, ap, arith}
+use Rattle.std.proofs.Common.{◌≡◌, ◌∙◌, ℕ, Bool, true, false, List, [], ◌∷◌, ◌++◌, length, drop, refl, ap, arith}
 use Rattle.std.specs.Prelude.{◌==◌, ◌&&◌, ◌||◌, take_while, cond}
 use Rattle.std.specs.Char.{is_ascii_digit}
 use Rattle.std.proofs.lemmas.Bool.Decides.{nat_tests}
@@ -100,3 +100,8 @@ digit_comment b h = grind (arith, nat_tests)
 pub passes_more : (p q : ℕ → Bool) → ((b : ℕ) → p b ≡ true → q b ≡ true) → (u : List ℕ) → passes p u ≡ true → passes q u ≡ true
 passes_more p q wider [] h = refl
 passes_more p q wider (b ∷ u) h = let parts = both_true (p b) (passes p u) h in rw (wider b parts.0) (passes_more p q wider u parts.1)
+
+-- what stands behind the front of a source
+pub drop_front : (front s : List ℕ) → drop (length front) (front ++ s) ≡ s
+drop_front [] s = refl
+drop_front (b ∷ front) s = drop_front front s

@@ -10,7 +10,7 @@ use Rattle.cel_lexer.specs.declared.token.Token.{Token}
 use Rattle.cel_grammar.specs.Symbols.{Symbol}
 use Rattle.cel_grammar.specs.Sentences.{Placed}
 use Rattle.cel_grammar.specs.Spellings.{symbol_of}
-use Rattle.cel_print.proofs.Bytes.{passes, both_true}
+use Rattle.cel_print.proofs.Bytes.{drop_front, passes, both_true}
 use Rattle.cel_print.proofs.Pieces.{IsCut}
 
 -- a token as a symbol with its line
@@ -36,11 +36,6 @@ skip (b ∷ u) tail line at h =
     let place : at + 1 + length u ≡ at + suc (length u) = omega arith in
     ap (λ (k : ℕ). tokens_from (length u) k (at + 1) (u ++ tail)) (same_line b line parts.0)
     ∙ skip u tail line (at + 1) parts.1 ∙ ap (λ (k : ℕ). tokens_from 0 line k tail) place
-
--- what stands behind the front of a source
-pub drop_front : (front s : List ℕ) → drop (length front) (front ++ s) ≡ s
-drop_front [] s = refl
-drop_front (b ∷ front) s = drop_front front s
 
 -- a slice behind the front
 pub slice_is : (source front s : List ℕ) (n : ℕ) → source ≡ front ++ s → slice_range source (length front) (length front + n) ≡ take n s

@@ -1,6 +1,7 @@
 -- Texts that are UTF-8, cut and put together at ASCII bytes. No public clause cites it.
 use Rattle.std.proofs.Common.{◌≡◌, ◌∙◌, ℕ, zero, suc, ◌+◌, ◌-◌, ◌<◌, ◌≤◌, ◌^◌, Bool, true, false, List, [], ◌∷◌, ◌++◌, length, take, drop, get_or, refl, sym, ap, subst, arith, append_assoc, length-append, nat_lt}
 use Rattle.std.specs.Prelude.{◌==◌, ◌&&◌, ◌||◌, Some, codes, decimal, if◌then◌else◌}
+use Rattle.std.specs.Char.{is_ascii_digit}
 use Rattle.std.specs.Str.{IsAscii, IsCharBoundary, IsUtf8}
 use Rattle.std.proofs.Math.Seq.{get_or-append_seam, take-append_seam}
 use Rattle.std.proofs.lemmas.Bool.{eqb-true}
@@ -11,16 +12,17 @@ use Rattle.event_types.specs.declared.comparison.Cmp.TheVariants as cmp
 use Rattle.cel_lexer.specs.Bytes.{is_word_byte}
 use Rattle.cel_lexer.specs.Literals.{literal_rest}
 use Rattle.cel_lexer.proofs.LiteralLemmas.{literal-closes}
+use Rattle.semantics.specs.Report.{with_places}
 use Rattle.cel_grammar.specs.Spellings.{undoubled}
 use Rattle.cel_grammar.specs.Symbols.{Symbol}
 use Rattle.cel_grammar.specs.Symbols as the
 use Rattle.cel_grammar.specs.Trees.{Statement}
 use Rattle.cel_print.specs.Laws.{canonical_symbols}
-use Rattle.cel_print.specs.Spelled.{canon, doubled, is_call, joins_left, joins_right, line_of, space, spelling, text_behind, text_of, word_spelling}
+use Rattle.cel_print.specs.Spelled.{canon, doubled, is_tight, joins_left, joins_right, line_of, space, spelling, text_behind, text_of, word_spelling}
 use Rattle.cel_print.specs.StatementWords.{statement_words}
-use Rattle.cel_print.specs.Words.{Word, Of, Negative, symbols}
-use Rattle.cel_print.proofs.Bytes.{both_true, passes, passes_more}
-use Rattle.cel_print.proofs.Cutting.{drop_front}
+use Rattle.cel_print.specs.Words.{Word, Of, Negative, NegativeDecimal, symbols}
+use Rattle.cel_print.proofs.Bytes.{both_true, drop_front, passes, passes_append, passes_more}
+use Rattle.cel_print.proofs.Decimals.{pointed}
 use Rattle.cel_print.proofs.Good.{AllGood, Good}
 use Rattle.cel_print.proofs.Lines.{EachGood, first_text, later_good}
 
@@ -115,6 +117,15 @@ word_low b h = grind (arith, nat_tests)
 number_utf8 : (n : ℕ) → n < 2 ^ 127 → IsUtf8 (decimal n)
 number_utf8 n low = IsUtf8-from_ascii (decimal n) (IsAscii-decimal_wide n (omega (arith, low)))
 
+digit_low : (b : ℕ) → is_ascii_digit b ≡ true → is_low b ≡ true
+digit_low b h = grind (arith, nat_tests)
+
+decimal_utf8 : (scale n : ℕ) → Good (the.Decimal scale n) → IsUtf8 (with_places scale n)
+decimal_utf8 zero n good = absurd (omega (arith, good.0))
+decimal_utf8 (suc scale) n good =
+    let it = pointed (suc scale) n good.2 in
+    subst IsUtf8 (sym it.is) (low_utf8 (it.front ++ (46 ∷ it.places)) (passes_append is_low it.front (46 ∷ it.places) (passes_more is_ascii_digit is_low digit_low it.front it.front_pass) (passes_more is_ascii_digit is_low digit_low it.places it.places_pass)))
+
 -- the spelling of a symbol
 symbol_utf8 : (s : Symbol) → Good s → IsUtf8 (spelling s)
 symbol_utf8 the.Stream good = low_utf8 _ refl
@@ -137,6 +148,7 @@ symbol_utf8 the.Min good = low_utf8 _ refl
 symbol_utf8 the.Max good = low_utf8 _ refl
 symbol_utf8 (the.Name a) good = low_utf8 a (passes_more is_word_byte is_low word_low a good.bytes)
 symbol_utf8 (the.Number n) good = number_utf8 n good
+symbol_utf8 (the.Decimal scale n) good = decimal_utf8 scale n good
 symbol_utf8 (the.Quoted t) good = IsUtf8-append (39 ∷ []) (doubled t ++ codes "'") (low_utf8 _ refl) (IsUtf8-append (doubled t) (codes "'") (doubled_utf8 [] t good.1) (low_utf8 _ refl))
 symbol_utf8 the.Dollar1 good = low_utf8 _ refl
 symbol_utf8 the.Dollar2 good = low_utf8 _ refl
@@ -161,6 +173,7 @@ symbol_utf8 (the.Compare cmp.Ge) good = low_utf8 _ refl
 -- that of a word before others
 word_utf8 : (word : Word) (words : List Word) → AllGood (symbols (word ∷ words)) → IsUtf8 (word_spelling word)
 word_utf8 (Of s) words good = symbol_utf8 s good.0
+word_utf8 (NegativeDecimal scale n) words good = IsUtf8-append (45 ∷ []) (with_places scale n) (low_utf8 (45 ∷ []) refl) (decimal_utf8 scale n good.1.0)
 word_utf8 (Negative n) words good = IsUtf8-append (45 ∷ []) (decimal n) (low_utf8 (45 ∷ []) refl) (number_utf8 n good.1.0)
 
 space_utf8 : (c : Bool) → IsUtf8 (if c then [] else codes " ")
@@ -171,7 +184,7 @@ space_utf8 false = low_utf8 (codes " ") refl
 words_utf8 : (left : Word) (words : List Word) → AllGood (symbols words) → IsUtf8 (text_behind left words)
 words_utf8 left [] good = IsUtf8-nil
 words_utf8 left (word ∷ words) good =
-    IsUtf8-append (space left word) (word_spelling word ++ text_behind word words) (space_utf8 (joins_right left || joins_left word || is_call left word))
+    IsUtf8-append (space left word) (word_spelling word ++ text_behind word words) (space_utf8 (joins_right left || joins_left word || is_tight left word))
     (IsUtf8-append (word_spelling word) (text_behind word words) (word_utf8 word words good) (words_utf8 word words (later_good word words good)))
 
 -- the line of a statement

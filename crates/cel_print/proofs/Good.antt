@@ -19,6 +19,7 @@ pub record IsName (a : List ℕ) : Type 0 where
 abbrev pub Good : Symbol → Type 0
 Good (the.Name a) = IsName a
 Good (the.Number n) = n < 2 ^ 127
+Good (the.Decimal scale n) = (0 < scale) × (scale ≤ 18) × (n < 2 ^ 127)
 Good (the.Quoted t) = (passes is_comment_byte t ≡ true) × IsUtf8 t
 Good the.End = ⊥
 Good t = Unit {0}

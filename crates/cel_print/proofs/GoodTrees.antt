@@ -7,7 +7,7 @@ use Rattle.cel_grammar.specs.Symbols.{Symbol}
 use Rattle.cel_grammar.specs.Symbols as the
 use Rattle.cel_grammar.specs.Trees.{Add, Sub, Mul, Min, Max, Scalar, Number, Quoted, Attr, Dur, Two}
 use Rattle.cel_grammar.specs.Trees as tree
-use Rattle.cel_grammar.specs.Scalars.{negative, IsAttribute, bare, of_first, of_second, of_so, IsScalar, product, sum, difference, IsProduct, factor, times, IsFactor, number, less, text, attribute, dur, least, greatest, group}
+use Rattle.cel_grammar.specs.Scalars.{negative, IsAttribute, bare, of_first, of_second, of_so, IsScalar, product, sum, difference, IsProduct, factor, times, IsFactor, number, less, decimal, less_decimal, text, attribute, dur, least, greatest, group}
 use Rattle.cel_grammar.specs.Predicates as pred
 use Rattle.cel_grammar.specs.Sources as source
 use Rattle.cel_grammar.specs.Statements as statement
@@ -15,12 +15,12 @@ use Rattle.cel_print.specs.declared.places.ScalarPlace.TheVariants as scalar_pla
 use Rattle.cel_print.specs.declared.places.PredPlace.TheVariants as pred_place
 use Rattle.cel_print.specs.declared.places.SourcePlace.TheVariants as source_place
 use Rattle.cel_print.specs.Words.{Word, Of}
-use Rattle.cel_print.specs.ScalarWords.{takes_sum, takes_product, number_words, scalar_words}
+use Rattle.cel_print.specs.ScalarWords.{takes_sum, takes_product, number_words, decimal_words, scalar_words}
 use Rattle.cel_print.specs.PredicateWords.{takes_or, takes_and, pred_words}
 use Rattle.cel_print.specs.SourceWords.{is_own_name, named_words, item_words, items_words, aggs_words, condition_words, takes_link, source_words}
 use Rattle.cel_print.specs.StatementWords.{kind_words, columns_words, statement_words}
 use Rattle.cel_print.proofs.ReadScalars.{negative_suc}
-use Rattle.cel_print.proofs.Good.{IsName, AllGood, Keeps, within_good}
+use Rattle.cel_print.proofs.Good.{IsName, Good, AllGood, Keeps, within_good}
 
 -- what follows is good, and so are the words at each place
 pub record Kept {Place : Type 0} (f : Place → List Word → List Word) (us : List Symbol) : Type 0 where
@@ -31,6 +31,11 @@ pub record Kept {Place : Type 0} (f : Place → List Word → List Word) (us : L
 negative_good : (n : ℕ) → n < 2 ^ 127 → Keeps (number_words (negative n))
 negative_good zero h = λ r good. (h, good)
 negative_good (suc n) h = rw (negative_suc n) (λ r good. (tt, (h, good)))
+
+-- a decimal behind a minus
+negative_decimal_good : (scale n : ℕ) → Good (the.Decimal scale n) → Keeps (decimal_words scale (negative n))
+negative_decimal_good scale zero h = λ r good. (h, good)
+negative_decimal_good scale (suc n) h = rw (negative_suc n) (λ r good. (tt, (h, good)))
 
 -- an attribute
 attribute_good : {ts rest : List Symbol} {x : Scalar} → IsAttribute ts x rest → AllGood ts → Kept (λ place. scalar_words place x) rest
@@ -61,6 +66,8 @@ mutual
   pub factor_good : {ts rest : List Symbol} {x : Scalar} → IsFactor ts x rest → AllGood ts → Kept (λ place. scalar_words place x) rest
   factor_good number good = record { left = good.1; words = λ place r end. (good.0, end) }
   factor_good (less {n = n}) good = record { left = good.1.1; words = λ place. negative_good n good.1.0 }
+  factor_good decimal good = record { left = good.1; words = λ place r end. (good.0, end) }
+  factor_good (less_decimal {scale = scale} {n = n}) good = record { left = good.1.1; words = λ place. negative_decimal_good scale n good.1.0 }
   factor_good text good = record { left = good.1; words = λ place r end. (good.0, end) }
   factor_good (attribute h) good = attribute_good h good
   factor_good dur good = record { left = good.1; words = λ place r end. (tt, end) }

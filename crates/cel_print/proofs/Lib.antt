@@ -20,6 +20,7 @@ pub mod GoodTrees
 pub mod Literals
 pub mod Pieces
 pub mod Cutting
+pub mod Decimals
 pub mod Lines
 pub mod Encoded
 pub mod Sounds

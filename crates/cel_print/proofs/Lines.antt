@@ -1,18 +1,20 @@
 -- The lines of a canonical text are cut into their symbols. No public clause cites it.
 use Rattle.std.proofs.Common.{◌≡◌, ◌∙◌, ℕ, ◌+◌, Bool, true, false, List, [], ◌∷◌, ◌++◌, length, map, refl, sym, ap, subst, append_assoc, length-append}
 use Rattle.std.specs.Prelude.{◌||◌, codes, decimal, if◌then◌else◌}
+use Rattle.semantics.specs.Report.{with_places}
 use Rattle.cel_lexer.specs.Tokens.{tokens_from}
 use Rattle.cel_grammar.specs.Symbols.{Symbol}
 use Rattle.cel_grammar.specs.Symbols as the
 use Rattle.cel_grammar.specs.Sentences.{Placed}
 use Rattle.cel_grammar.specs.Trees.{Statement}
-use Rattle.cel_print.specs.Words.{Word, Of, Negative, symbols}
+use Rattle.cel_print.specs.Words.{Word, Of, Negative, NegativeDecimal, symbols}
 use Rattle.cel_print.specs.StatementWords.{statement_words}
-use Rattle.cel_print.specs.Spelled.{joins_left, joins_right, is_call, space, text_behind, text_of, word_spelling, line_of, canon}
+use Rattle.cel_print.specs.Spelled.{joins_left, joins_right, is_tight, space, text_behind, text_of, word_spelling, line_of, canon}
 use Rattle.cel_print.specs.Laws.{canonical_symbols}
 use Rattle.cel_print.proofs.Bytes.{IsStop}
 use Rattle.cel_print.proofs.Good.{AllGood}
-use Rattle.cel_print.proofs.Pieces.{IsCut, cut_of, end, minus, number, number_no_dash}
+use Rattle.cel_print.proofs.Decimals.{NoPoint}
+use Rattle.cel_print.proofs.Pieces.{IsCut, MayFollow, cut_of, decimal_cut, decimal_no_dash, end, minus, number, number_no_dash}
 use Rattle.cel_print.proofs.Cutting.{Cut, token_first, blank_first, feed_first}
 
 -- what joins the word before it stops that word
@@ -20,16 +22,21 @@ joined_stops : (word : Word) (s : List ℕ) → joins_left word ≡ true → IsS
 joined_stops (Of the.Comma) s e = refl
 joined_stops (Of the.Close) s e = refl
 joined_stops (Of the.BraceClose) s e = refl
-joined_stops (Of the.Dot) s e = refl
 joined_stops word s e = absurd cc
 
--- so does the parenthesis of a call
-call_stops : (left word : Word) (s : List ℕ) → is_call left word ≡ true → IsStop (word_spelling word ++ s)
-call_stops (Of the.Min) (Of the.Open) s e = refl
-call_stops (Of the.Max) (Of the.Open) s e = refl
-call_stops (Of the.Min) word s e = absurd cc
-call_stops (Of the.Max) word s e = absurd cc
-call_stops left word s e = absurd cc
+-- so does the parenthesis of a call, and the point of a mark
+tight_stops : (left word : Word) (s : List ℕ) → is_tight left word ≡ true → IsStop (word_spelling word ++ s)
+tight_stops (Of the.Min) (Of the.Open) s e = refl
+tight_stops (Of the.Max) (Of the.Open) s e = refl
+tight_stops (Of the.Min) word s e = absurd cc
+tight_stops (Of the.Max) word s e = absurd cc
+tight_stops (Of the.Dollar1) (Of the.Dot) s e = refl
+tight_stops (Of the.Dollar2) (Of the.Dot) s e = refl
+tight_stops (Of the.Dollar) (Of the.Dot) s e = refl
+tight_stops (Of the.Dollar1) word s e = absurd cc
+tight_stops (Of the.Dollar2) word s e = absurd cc
+tight_stops (Of the.Dollar) word s e = absurd cc
+tight_stops left word s e = absurd cc
 
 -- a space, or a word that joins the one before it
 space_stops : (a b : Bool) (u s : List ℕ) → (a ≡ true → IsStop (u ++ s)) → (b ≡ true → IsStop (u ++ s)) → IsStop (((if false || a || b then [] else codes " ") ++ u) ++ s)
@@ -41,11 +48,28 @@ space_stops false false u s h k = refl
 behind_stops : (word : Word) (words : List Word) (tail : List ℕ) → joins_right word ≡ false → IsStop tail → IsStop (text_behind word words ++ tail)
 behind_stops word [] tail free stop = stop
 behind_stops word (next ∷ words) tail free stop =
-    rw free (subst IsStop (regroup (if false || joins_left next || is_call word next then [] else codes " ") (word_spelling next) (text_behind next words) tail)
-    (space_stops (joins_left next) (is_call word next) (word_spelling next) (text_behind next words ++ tail) (joined_stops next _) (call_stops word next _)))
+    rw free (subst IsStop (regroup (if false || joins_left next || is_tight word next then [] else codes " ") (word_spelling next) (text_behind next words) tail)
+    (space_stops (joins_left next) (is_tight word next) (word_spelling next) (text_behind next words ++ tail) (joined_stops next _) (tight_stops word next _)))
   where
     regroup : (a b c d : List ℕ) → (a ++ b) ++ (c ++ d) ≡ (a ++ (b ++ c)) ++ d
     regroup a b c d = simp append_assoc
+
+-- nothing behind a word begins with a point but behind a mark
+point_behind : (word : Word) → joins_right word ≡ false → ((right : Word) → is_tight word right ≡ false) → (words : List Word) (tail : List ℕ) → NoPoint tail → NoPoint (text_behind word words ++ tail)
+point_behind word free loose [] tail h = h
+point_behind word free loose (next ∷ words) tail h = rw (free, loose next) (by_next next)
+  where
+    by_next : (next : Word) → NoPoint (((if false || joins_left next || false then [] else codes " ") ++ (word_spelling next ++ text_behind next words)) ++ tail)
+    by_next (Of the.Comma) = refl
+    by_next (Of the.Close) = refl
+    by_next (Of the.BraceClose) = refl
+    by_next next = refl
+
+-- what stands behind a word may follow it
+behind_follows : (word : Word) (words : List Word) (tail : List ℕ) → NoPoint tail → MayFollow word (text_behind word words ++ tail)
+behind_follows (Of (the.Number n)) words tail h = point_behind (Of (the.Number n)) refl (λ right. refl) words tail h
+behind_follows (Negative n) words tail h = point_behind (Negative n) refl (λ right. refl) words tail h
+behind_follows word words tail h = tt
 
 -- symbols on a line
 abbrev pub on_line : ℕ → List Symbol → List Placed
@@ -83,25 +107,29 @@ space_cut true source line tail words cut = cut
 space_cut false source line tail words cut = blank_cut source line tail words cut
 
 -- a word, its space, and what follows it
-word_cut : (source : List ℕ) (line : ℕ) (word : Word) (words : List Word) (tail : List ℕ) (later : List Placed) → AllGood (symbols (word ∷ words)) → (joins_right word ≡ false → IsStop tail) → CutFrom source line tail (on_line line (symbols words) ++ later) → CutFrom source line (word_spelling word ++ tail) (on_line line (symbols (word ∷ words)) ++ later)
-word_cut source line (Of s) words tail later good stop cut = token_cut source line s (word_spelling (Of s)) tail _ (cut_of s tail good.0 stop) cut
-word_cut source line (Negative n) words tail later good stop cut =
+word_cut : (source : List ℕ) (line : ℕ) (word : Word) (words : List Word) (tail : List ℕ) (later : List Placed) → AllGood (symbols (word ∷ words)) → (joins_right word ≡ false → IsStop tail) → MayFollow word tail → CutFrom source line tail (on_line line (symbols words) ++ later) → CutFrom source line (word_spelling word ++ tail) (on_line line (symbols (word ∷ words)) ++ later)
+word_cut source line (Of s) words tail later good stop point cut = token_cut source line s (word_spelling (Of s)) tail _ (cut_of s tail good.0 stop point) cut
+word_cut source line (NegativeDecimal scale n) words tail later good stop point cut =
+    token_cut source line the.Minus (45 ∷ []) (with_places scale n ++ tail) _ (minus (with_places scale n ++ tail) (decimal_no_dash scale n tail good.1.0))
+    (token_cut source line (the.Decimal scale n) (with_places scale n) tail _ (decimal_cut scale n tail good.1.0 (stop refl)) cut)
+word_cut source line (Negative n) words tail later good stop point cut =
     token_cut source line the.Minus (45 ∷ []) (decimal n ++ tail) _ (minus (decimal n ++ tail) (number_no_dash n tail good.1.0))
-    (token_cut source line (the.Number n) (decimal n) tail _ (number n tail good.1.0 (stop refl)) cut)
+    (token_cut source line (the.Number n) (decimal n) tail _ (number n tail good.1.0 (stop refl) point) cut)
 
 -- the symbols behind a word are good
 pub later_good : (word : Word) (words : List Word) → AllGood (symbols (word ∷ words)) → AllGood (symbols words)
 later_good (Of s) words good = good.1
 later_good (Negative n) words good = good.1.1
+later_good (NegativeDecimal scale n) words good = good.1.1
 
 -- the words behind a word
-words_cut : (source : List ℕ) (line : ℕ) (left : Word) (words : List Word) (tail : List ℕ) (later : List Placed) → AllGood (symbols words) → IsStop tail → CutFrom source line tail later → CutFrom source line (text_behind left words ++ tail) (on_line line (symbols words) ++ later)
-words_cut source line left [] tail later good stop cut = cut
-words_cut source line left (word ∷ words) tail later good stop cut =
+words_cut : (source : List ℕ) (line : ℕ) (left : Word) (words : List Word) (tail : List ℕ) (later : List Placed) → AllGood (symbols words) → IsStop tail → NoPoint tail → CutFrom source line tail later → CutFrom source line (text_behind left words ++ tail) (on_line line (symbols words) ++ later)
+words_cut source line left [] tail later good stop point cut = cut
+words_cut source line left (word ∷ words) tail later good stop point cut =
     retexted source line _ _ _ (regroup (space left word) (word_spelling word) (text_behind word words) tail)
-    (space_cut (joins_right left || joins_left word || is_call left word) source line _ _
-    (word_cut source line word words (text_behind word words ++ tail) later good (λ free. behind_stops word words tail free stop)
-    (words_cut source line word words tail later (later_good word words good) stop cut)))
+    (space_cut (joins_right left || joins_left word || is_tight left word) source line _ _
+    (word_cut source line word words (text_behind word words ++ tail) later good (λ free. behind_stops word words tail free stop) (behind_follows word words tail point)
+    (words_cut source line word words tail later (later_good word words good) stop point cut)))
   where
     regroup : (a b c d : List ℕ) → a ++ (b ++ (c ++ d)) ≡ (a ++ (b ++ c)) ++ d
     regroup a b c d = simp append_assoc
@@ -119,7 +147,7 @@ end_on line = record { line = line; symbol = the.End }
 line_cut : (source : List ℕ) (line : ℕ) (s : Statement) (tail : List ℕ) (later : List Placed) → AllGood (canonical_symbols s) → CutFrom source (line + 1) tail later → CutFrom source line (line_of s ++ tail) (on_line line (canonical_symbols s) ++ (end_on line ∷ later))
 line_cut source line s tail later good cut =
     retexted source line _ _ _ (ap (λ (t : List ℕ). t ++ (59 ∷ 10 ∷ tail)) (first_text (statement_words s [])) ∙ sym (append_assoc (text_of (statement_words s [])) (codes ";\n") tail))
-    (words_cut source line (Of the.Open) (statement_words s []) (59 ∷ 10 ∷ tail) _ good refl
+    (words_cut source line (Of the.Open) (statement_words s []) (59 ∷ 10 ∷ tail) _ good refl refl
     (token_cut source line the.End (59 ∷ []) (10 ∷ tail) later (end (10 ∷ tail)) (feed_cut source line tail later cut)))
 
 -- the symbols of statements, each on its line

@@ -1,17 +1,15 @@
 -- The spelling of a symbol is cut off as it. No public clause cites it.
-use Rattle.std.proofs.Common.{◌≡◌, ◌∙◌, ℕ, suc, ◌+◌, ◌-◌, ◌<◌, ◌^◌, pos, Bool, true, false, List, [], ◌∷◌, ◌++◌, length, take, refl, ap, arith, length-append, nat_lt}
+use Rattle.std.proofs.Common.{◌≡◌, ◌∙◌, ℕ, zero, suc, sym, subst, append_assoc, ◌+◌, ◌-◌, ◌<◌, ◌^◌, pos, Bool, true, false, List, [], ◌∷◌, ◌++◌, length, take, refl, ap, arith, length-append, nat_lt}
 use Rattle.std.specs.Prelude.{◌==◌, ◌&&◌, codes, decimal, nat_le, if◌then◌else◌}
 use Rattle.std.specs.Char.{is_ascii_digit}
-use Rattle.std.specs.Str.Parse.{AllDigits, digits_value}
-use Rattle.std.specs.Char.{digit_value}
-use Rattle.std.proofs.lemmas.Str.Parse.{digit_from_value}
+use Rattle.std.specs.Str.Parse.{digits_value}
 use Rattle.std.proofs.Math.Seq.{take-append_seam}
 use Rattle.std.proofs.lemmas.Fmt.{decimal_is_IsNumeral_wide}
 use Rattle.std.proofs.lemmas.Bool.Decides.{nat_tests}
 use Rattle.event_types.specs.declared.comparison.Cmp.TheVariants as cmp
 use Rattle.cel_lexer.specs.Bytes.{is_blank, is_comment_byte, is_first, is_letter, is_word_byte}
 use Rattle.cel_lexer.specs.Words.{is_keyword, word_piece}
-use Rattle.cel_lexer.specs.Numbers.{number_piece}
+use Rattle.cel_lexer.specs.Numbers.{decimal_piece, number_piece, numeral_piece}
 use Rattle.cel_lexer.specs.Literals.{literal_piece}
 use Rattle.cel_lexer.specs.Signs.{is_long_sign, is_side, is_sign}
 use Rattle.cel_lexer.specs.Pieces.{piece_of}
@@ -21,9 +19,11 @@ use Rattle.cel_lexer.specs.Tokens.{Lexed, before, with_piece}
 use Rattle.cel_grammar.specs.Symbols.{Symbol}
 use Rattle.cel_grammar.specs.Symbols as the
 use Rattle.cel_grammar.specs.Spellings.{symbol_of, undoubled}
-use Rattle.cel_print.specs.Words.{Of}
+use Rattle.cel_print.specs.Words.{Word, Of, Negative}
 use Rattle.cel_print.specs.Spelled.{doubled, joins_right, spelling}
 use Rattle.cel_print.proofs.Bytes.{passes, passes_append, both_true, run_is, IsStop, stops, no_word, no_digit, no_side, no_dash, no_quote, no_less, no_more, letter_is, digit_is, word_comment, digit_comment, passes_more}
+use Rattle.semantics.specs.Report.{with_places}
+use Rattle.cel_print.proofs.Decimals.{NoPoint, digits_pass, numeral_pointed, numeral_whole, pointed}
 use Rattle.cel_print.proofs.Good.{IsName, Good}
 use Rattle.cel_print.proofs.Literals.{literal_is, undoubled_is, doubled_passes}
 
@@ -84,38 +84,69 @@ name (b ∷ u) rest is stop =
 number_lexes : (n : ℕ) (u : List ℕ) → digits_value 10 u ≡ n → nat_lt n (2 ^ 127) ≡ true → (line at : ℕ) (follows : ℕ → Lexed) → with_piece (number_piece u) line at follows ≡ before (record { what = what.Number (pos n); line = line; begin = at; end = at + length u }) (follows (length u - 1))
 number_lexes n u value fits line at follows = rw value (rw fits refl)
 
+-- a text that begins with a digit is cut off as what begins with digits
+numeral_of : (b : ℕ) (u rest : List ℕ) → is_ascii_digit b ≡ true → piece_of ((b ∷ u) ++ rest) ≡ numeral_piece ((b ∷ u) ++ rest)
+numeral_of b u rest digit =
+    let plain = digit_is b digit in
+    fourth (is_blank b) _ (is_letter b) (is_ascii_digit b) _ _ _ _ _ plain.0 (no_comment b _ plain.1) plain.2 digit
+
 -- digits before what is no digit
-digits_cut : (n : ℕ) (u rest : List ℕ) → n < 2 ^ 127 → passes is_ascii_digit u ≡ true → 0 < length u → digits_value 10 u ≡ n → IsStop rest → IsCut (the.Number n) u rest
-digits_cut n [] rest low all some value stop = absurd (omega arith)
-digits_cut n (b ∷ u) rest low all some value stop =
+digits_cut : (n : ℕ) (u rest : List ℕ) → n < 2 ^ 127 → passes is_ascii_digit u ≡ true → 0 < length u → digits_value 10 u ≡ n → IsStop rest → NoPoint rest → IsCut (the.Number n) u rest
+digits_cut n [] rest low all some value stop point = absurd (omega arith)
+digits_cut n (b ∷ u) rest low all some value stop point =
     let parts = both_true (is_ascii_digit b) (passes is_ascii_digit u) all in
-    let plain = digit_is b parts.0 in
     let fits : nat_lt n (2 ^ 127) ≡ true = grind (arith, nat_tests, low) in
     record {
       kind = what.Number (pos n);
       piece = λ line at follows.
-          ap (λ p. with_piece p line at follows) (fourth (is_blank b) _ (is_letter b) (is_ascii_digit b) _ _ _ _ _ plain.0 (no_comment b _ plain.1) plain.2 parts.0)
-          ∙ ap (λ (s : List ℕ). with_piece (number_piece s) line at follows) (run_is is_ascii_digit (b ∷ u) rest all (stops is_ascii_digit rest no_digit stop))
+          ap (λ p. with_piece p line at follows) (numeral_of b u rest parts.0 ∙ numeral_whole (b ∷ u) rest all (stops is_ascii_digit rest no_digit stop) point)
           ∙ number_lexes n (b ∷ u) value fits line at follows;
       stands = refl;
       line = passes_more is_ascii_digit is_comment_byte digit_comment (b ∷ u) all;
       some = omega arith;
     }
 
--- a digit's byte
-digit_byte : (c : ℕ) → digit_value c < 10 → is_ascii_digit c ≡ true
-digit_byte c h = let range = digit_from_value c h in grind (arith, nat_tests, range.0, range.1)
-
--- decimal digits are digits
-digits_pass : (u : List ℕ) → AllDigits 10 u → passes is_ascii_digit u ≡ true
-digits_pass [] h = refl
-digits_pass (c ∷ u) h = rw (digit_byte c h.0) (digits_pass u h.1)
-
 -- a number
-pub number : (n : ℕ) (rest : List ℕ) → n < 2 ^ 127 → IsStop rest → IsCut (the.Number n) (decimal n) rest
-number n rest low stop =
+pub number : (n : ℕ) (rest : List ℕ) → n < 2 ^ 127 → IsStop rest → NoPoint rest → IsCut (the.Number n) (decimal n) rest
+number n rest low stop point =
     let numeral = decimal_is_IsNumeral_wide n (omega (arith, low)) in
-    digits_cut n (decimal n) rest low (digits_pass (decimal n) numeral.0.1) numeral.0.0 numeral.1 stop
+    digits_cut n (decimal n) rest low (digits_pass (decimal n) numeral.0.1) numeral.0.0 numeral.1 stop point
+
+-- digits, a point and few digits whose units are not too many are a token
+decimal_lexes : (n size : ℕ) (front places : List ℕ) → digits_value 10 (front ++ places) ≡ n → nat_lt n (2 ^ 127) ≡ true → nat_le (length places) 18 ≡ true → length front + 1 + length places ≡ size → (line at : ℕ) (follows : ℕ → Lexed)
+    → with_piece (decimal_piece front places) line at follows ≡ before (record { what = what.Decimal (length places) (pos n); line = line; begin = at; end = at + size }) (follows (size - 1))
+decimal_lexes n size front places value fits few long line at follows = rw few (rw value (rw fits (rw long refl)))
+
+-- digits, a point and digits before what is no digit
+pointed_cut : (scale n : ℕ) (front places rest : List ℕ) → Good (the.Decimal scale n) → passes is_ascii_digit front ≡ true → 0 < length front → passes is_ascii_digit places ≡ true → length places ≡ scale → digits_value 10 (front ++ places) ≡ n → IsStop rest → IsCut (the.Decimal scale n) (front ++ (46 ∷ places)) rest
+pointed_cut scale n [] places rest good all some more size value stop = absurd (omega arith)
+pointed_cut scale n (b ∷ front) places rest good all some more size value stop =
+    let parts = both_true (is_ascii_digit b) (passes is_ascii_digit front) all in
+    let fits : nat_lt n (2 ^ 127) ≡ true = grind (arith, nat_tests, good.2) in
+    let few : nat_le (length places) 18 ≡ true = grind (arith, nat_tests, size, good.1) in
+    let long : length (b ∷ front) + 1 + length places ≡ length ((b ∷ front) ++ (46 ∷ places)) = omega (arith, length-append (b ∷ front) (46 ∷ places)) in
+    record {
+      kind = what.Decimal (length places) (pos n);
+      piece = λ line at follows.
+          ap (λ p. with_piece p line at follows) (numeral_of b (front ++ (46 ∷ places)) rest parts.0 ∙ numeral_pointed (b ∷ front) places rest all more (omega (arith, size, good.0)) (stops is_ascii_digit rest no_digit stop))
+          ∙ decimal_lexes n (length ((b ∷ front) ++ (46 ∷ places))) (b ∷ front) places value fits few long line at follows;
+      stands = ap (λ (s : ℕ). the.Decimal s n) size;
+      line = passes_append is_comment_byte (b ∷ front) (46 ∷ places) (passes_more is_ascii_digit is_comment_byte digit_comment (b ∷ front) all) (passes_more is_ascii_digit is_comment_byte digit_comment places more);
+      some = omega arith;
+    }
+
+-- a decimal
+pub decimal_cut : (scale n : ℕ) (rest : List ℕ) → Good (the.Decimal scale n) → IsStop rest → IsCut (the.Decimal scale n) (with_places scale n) rest
+decimal_cut zero n rest good stop = absurd (omega (arith, good.0))
+decimal_cut (suc scale) n rest good stop =
+    let it = pointed (suc scale) n good.2 in
+    subst (λ (u : List ℕ). IsCut (the.Decimal (suc scale) n) u rest) (sym it.is) (pointed_cut (suc scale) n it.front it.places rest good it.front_pass it.some it.places_pass it.size it.value stop)
+
+-- what stands behind a number begins with no point
+abbrev pub MayFollow : Word → List ℕ → Type 0
+MayFollow (Of (the.Number n)) rest = NoPoint rest
+MayFollow (Negative n) rest = NoPoint rest
+MayFollow word rest = Unit {0}
 
 -- sizes of a literal
 whole : (k n : ℕ) → n ≡ k + 1 → k + 1 + 1 ≡ suc n
@@ -158,48 +189,49 @@ unfolding is_sign
 minus rest stop = sign what.Sign the.Minus (45 ∷ []) rest (λ line at follows. rw stop (rw (no_longer 45 rest (λ c. refl)) refl)) refl refl (omega arith)
 
 -- a symbol before what stops it, where it is not cut off in any case
-pub cut_of : (s : Symbol) (rest : List ℕ) → Good s → (joins_right (Of s) ≡ false → IsStop rest) → IsCut s (spelling s) rest
+pub cut_of : (s : Symbol) (rest : List ℕ) → Good s → (joins_right (Of s) ≡ false → IsStop rest) → MayFollow (Of s) rest → IsCut s (spelling s) rest
 unfolding is_keyword is_sign
-cut_of the.Stream rest good stop = keyword the.Stream _ _ rest refl refl refl refl refl (stop refl)
-cut_of the.Int rest good stop = keyword the.Int _ _ rest refl refl refl refl refl (stop refl)
-cut_of the.Text rest good stop = keyword the.Text _ _ rest refl refl refl refl refl (stop refl)
-cut_of the.Select rest good stop = keyword the.Select _ _ rest refl refl refl refl refl (stop refl)
-cut_of the.As rest good stop = keyword the.As _ _ rest refl refl refl refl refl (stop refl)
-cut_of the.From rest good stop = keyword the.From _ _ rest refl refl refl refl refl (stop refl)
-cut_of the.Publish rest good stop = keyword the.Publish _ _ rest refl refl refl refl refl (stop refl)
-cut_of the.Filter rest good stop = keyword the.Filter _ _ rest refl refl refl refl refl (stop refl)
-cut_of the.Next rest good stop = keyword the.Next _ _ rest refl refl refl refl refl (stop refl)
-cut_of the.Fold rest good stop = keyword the.Fold _ _ rest refl refl refl refl refl (stop refl)
-cut_of the.Union rest good stop = keyword the.Union _ _ rest refl refl refl refl refl (stop refl)
-cut_of the.And rest good stop = keyword the.And _ _ rest refl refl refl refl refl (stop refl)
-cut_of the.Or rest good stop = keyword the.Or _ _ rest refl refl refl refl refl (stop refl)
-cut_of the.Not rest good stop = keyword the.Not _ _ rest refl refl refl refl refl (stop refl)
-cut_of the.True rest good stop = keyword the.True _ _ rest refl refl refl refl refl (stop refl)
-cut_of the.Dur rest good stop = keyword the.Dur _ _ rest refl refl refl refl refl (stop refl)
-cut_of the.Min rest good stop = keyword the.Min _ _ rest refl refl refl refl refl (stop refl)
-cut_of the.Max rest good stop = keyword the.Max _ _ rest refl refl refl refl refl (stop refl)
-cut_of (the.Name a) rest good stop = name a rest good (stop refl)
-cut_of (the.Number n) rest good stop = number n rest good (stop refl)
-cut_of (the.Quoted t) rest good stop = text t rest good.0 (stop refl)
-cut_of the.Dollar1 rest good stop = sign what.Mark the.Dollar1 _ rest (λ line at follows. refl) refl refl (omega arith)
-cut_of the.Dollar2 rest good stop = sign what.Mark the.Dollar2 _ rest (λ line at follows. refl) refl refl (omega arith)
-cut_of the.Dollar rest good stop = sign what.Mark the.Dollar _ rest (λ line at follows. rw (stops is_side rest no_side (stop refl)) refl) refl refl (omega arith)
-cut_of the.End rest good stop = absurd good
-cut_of the.Minus rest good stop = minus rest (stops (λ c. c == 45) rest no_dash (stop refl))
-cut_of (the.Compare cmp.Lt) rest good stop = short_sign (the.Compare cmp.Lt) 60 rest refl refl refl refl refl refl refl (stops (is_long_sign 60) rest no_less (stop refl)) refl refl
-cut_of (the.Compare cmp.Gt) rest good stop = short_sign (the.Compare cmp.Gt) 62 rest refl refl refl refl refl refl refl (stops (is_long_sign 62) rest no_more (stop refl)) refl refl
-cut_of the.Open rest good stop = short_sign the.Open 40 rest refl refl refl refl refl refl refl (no_longer 40 rest (λ c. refl)) refl refl
-cut_of the.Close rest good stop = short_sign the.Close 41 rest refl refl refl refl refl refl refl (no_longer 41 rest (λ c. refl)) refl refl
-cut_of the.BraceOpen rest good stop = short_sign the.BraceOpen 123 rest refl refl refl refl refl refl refl (no_longer 123 rest (λ c. refl)) refl refl
-cut_of the.BraceClose rest good stop = short_sign the.BraceClose 125 rest refl refl refl refl refl refl refl (no_longer 125 rest (λ c. refl)) refl refl
-cut_of the.Comma rest good stop = short_sign the.Comma 44 rest refl refl refl refl refl refl refl (no_longer 44 rest (λ c. refl)) refl refl
-cut_of the.Dot rest good stop = short_sign the.Dot 46 rest refl refl refl refl refl refl refl (no_longer 46 rest (λ c. refl)) refl refl
-cut_of the.Star rest good stop = short_sign the.Star 42 rest refl refl refl refl refl refl refl (no_longer 42 rest (λ c. refl)) refl refl
-cut_of the.Plus rest good stop = short_sign the.Plus 43 rest refl refl refl refl refl refl refl (no_longer 43 rest (λ c. refl)) refl refl
-cut_of (the.Compare cmp.Eq) rest good stop = short_sign (the.Compare cmp.Eq) 61 rest refl refl refl refl refl refl refl (no_longer 61 rest (λ c. refl)) refl refl
-cut_of (the.Compare cmp.Ne) rest good stop = sign what.Sign (the.Compare cmp.Ne) _ rest (λ line at follows. refl) refl refl (omega arith)
-cut_of (the.Compare cmp.Le) rest good stop = sign what.Sign (the.Compare cmp.Le) _ rest (λ line at follows. refl) refl refl (omega arith)
-cut_of (the.Compare cmp.Ge) rest good stop = sign what.Sign (the.Compare cmp.Ge) _ rest (λ line at follows. refl) refl refl (omega arith)
+cut_of the.Stream rest good stop point = keyword the.Stream _ _ rest refl refl refl refl refl (stop refl)
+cut_of the.Int rest good stop point = keyword the.Int _ _ rest refl refl refl refl refl (stop refl)
+cut_of the.Text rest good stop point = keyword the.Text _ _ rest refl refl refl refl refl (stop refl)
+cut_of the.Select rest good stop point = keyword the.Select _ _ rest refl refl refl refl refl (stop refl)
+cut_of the.As rest good stop point = keyword the.As _ _ rest refl refl refl refl refl (stop refl)
+cut_of the.From rest good stop point = keyword the.From _ _ rest refl refl refl refl refl (stop refl)
+cut_of the.Publish rest good stop point = keyword the.Publish _ _ rest refl refl refl refl refl (stop refl)
+cut_of the.Filter rest good stop point = keyword the.Filter _ _ rest refl refl refl refl refl (stop refl)
+cut_of the.Next rest good stop point = keyword the.Next _ _ rest refl refl refl refl refl (stop refl)
+cut_of the.Fold rest good stop point = keyword the.Fold _ _ rest refl refl refl refl refl (stop refl)
+cut_of the.Union rest good stop point = keyword the.Union _ _ rest refl refl refl refl refl (stop refl)
+cut_of the.And rest good stop point = keyword the.And _ _ rest refl refl refl refl refl (stop refl)
+cut_of the.Or rest good stop point = keyword the.Or _ _ rest refl refl refl refl refl (stop refl)
+cut_of the.Not rest good stop point = keyword the.Not _ _ rest refl refl refl refl refl (stop refl)
+cut_of the.True rest good stop point = keyword the.True _ _ rest refl refl refl refl refl (stop refl)
+cut_of the.Dur rest good stop point = keyword the.Dur _ _ rest refl refl refl refl refl (stop refl)
+cut_of the.Min rest good stop point = keyword the.Min _ _ rest refl refl refl refl refl (stop refl)
+cut_of the.Max rest good stop point = keyword the.Max _ _ rest refl refl refl refl refl (stop refl)
+cut_of (the.Name a) rest good stop point = name a rest good (stop refl)
+cut_of (the.Number n) rest good stop point = number n rest good (stop refl) point
+cut_of (the.Decimal scale n) rest good stop point = decimal_cut scale n rest good (stop refl)
+cut_of (the.Quoted t) rest good stop point = text t rest good.0 (stop refl)
+cut_of the.Dollar1 rest good stop point = sign what.Mark the.Dollar1 _ rest (λ line at follows. refl) refl refl (omega arith)
+cut_of the.Dollar2 rest good stop point = sign what.Mark the.Dollar2 _ rest (λ line at follows. refl) refl refl (omega arith)
+cut_of the.Dollar rest good stop point = sign what.Mark the.Dollar _ rest (λ line at follows. rw (stops is_side rest no_side (stop refl)) refl) refl refl (omega arith)
+cut_of the.End rest good stop point = absurd good
+cut_of the.Minus rest good stop point = minus rest (stops (λ c. c == 45) rest no_dash (stop refl))
+cut_of (the.Compare cmp.Lt) rest good stop point = short_sign (the.Compare cmp.Lt) 60 rest refl refl refl refl refl refl refl (stops (is_long_sign 60) rest no_less (stop refl)) refl refl
+cut_of (the.Compare cmp.Gt) rest good stop point = short_sign (the.Compare cmp.Gt) 62 rest refl refl refl refl refl refl refl (stops (is_long_sign 62) rest no_more (stop refl)) refl refl
+cut_of the.Open rest good stop point = short_sign the.Open 40 rest refl refl refl refl refl refl refl (no_longer 40 rest (λ c. refl)) refl refl
+cut_of the.Close rest good stop point = short_sign the.Close 41 rest refl refl refl refl refl refl refl (no_longer 41 rest (λ c. refl)) refl refl
+cut_of the.BraceOpen rest good stop point = short_sign the.BraceOpen 123 rest refl refl refl refl refl refl refl (no_longer 123 rest (λ c. refl)) refl refl
+cut_of the.BraceClose rest good stop point = short_sign the.BraceClose 125 rest refl refl refl refl refl refl refl (no_longer 125 rest (λ c. refl)) refl refl
+cut_of the.Comma rest good stop point = short_sign the.Comma 44 rest refl refl refl refl refl refl refl (no_longer 44 rest (λ c. refl)) refl refl
+cut_of the.Dot rest good stop point = short_sign the.Dot 46 rest refl refl refl refl refl refl refl (no_longer 46 rest (λ c. refl)) refl refl
+cut_of the.Star rest good stop point = short_sign the.Star 42 rest refl refl refl refl refl refl refl (no_longer 42 rest (λ c. refl)) refl refl
+cut_of the.Plus rest good stop point = short_sign the.Plus 43 rest refl refl refl refl refl refl refl (no_longer 43 rest (λ c. refl)) refl refl
+cut_of (the.Compare cmp.Eq) rest good stop point = short_sign (the.Compare cmp.Eq) 61 rest refl refl refl refl refl refl refl (no_longer 61 rest (λ c. refl)) refl refl
+cut_of (the.Compare cmp.Ne) rest good stop point = sign what.Sign (the.Compare cmp.Ne) _ rest (λ line at follows. refl) refl refl (omega arith)
+cut_of (the.Compare cmp.Le) rest good stop point = sign what.Sign (the.Compare cmp.Le) _ rest (λ line at follows. refl) refl refl (omega arith)
+cut_of (the.Compare cmp.Ge) rest good stop point = sign what.Sign (the.Compare cmp.Ge) _ rest (λ line at follows. refl) refl refl (omega arith)
 
 -- a semicolon
 pub end : (rest : List ℕ) → IsCut the.End (59 ∷ []) rest
@@ -216,3 +248,10 @@ pub number_no_dash : (n : ℕ) (rest : List ℕ) → n < 2 ^ 127 → is_first (�
 number_no_dash n rest low =
     let numeral = decimal_is_IsNumeral_wide n (omega (arith, low)) in
     digits_no_dash (decimal n) rest (digits_pass (decimal n) numeral.0.1) numeral.0.0
+
+-- nor does a decimal
+pub decimal_no_dash : (scale n : ℕ) (rest : List ℕ) → Good (the.Decimal scale n) → is_first (λ c. c == 45) (with_places scale n ++ rest) ≡ false
+decimal_no_dash zero n rest good = absurd (omega (arith, good.0))
+decimal_no_dash (suc scale) n rest good =
+    let it = pointed (suc scale) n good.2 in
+    rw it.is (rw (append_assoc it.front (46 ∷ it.places) rest) (digits_no_dash it.front (46 ∷ (it.places ++ rest)) it.front_pass it.some))

@@ -4,11 +4,11 @@ use Rattle.std.proofs.lemmas.Int.{ints}
 use Rattle.cel_grammar.specs.declared.mark.Mark.{Mark}
 use Rattle.cel_grammar.specs.declared.mark.Mark.TheVariants as mark
 use Rattle.cel_grammar.specs.Symbols as the
-use Rattle.cel_grammar.specs.Trees.{Add, Sub, Mul, Min, Max, Scalar, Number, Quoted, Attr, Dur, Two}
-use Rattle.cel_grammar.specs.Scalars.{negative, bare, of_first, of_second, of_so, IsScalar, product, sum, difference, IsProduct, factor, times, IsFactor, number, less, text, attribute, dur, least, greatest, group}
+use Rattle.cel_grammar.specs.Trees.{Add, Sub, Mul, Min, Max, Scalar, Number, Quoted, Attr, Dur, Two, Decimal}
+use Rattle.cel_grammar.specs.Scalars.{negative, bare, of_first, of_second, of_so, IsScalar, product, sum, difference, IsProduct, factor, times, IsFactor, number, less, decimal, less_decimal, text, attribute, dur, least, greatest, group}
 use Rattle.cel_print.specs.declared.places.ScalarPlace.TheVariants as scalar_place
 use Rattle.cel_print.specs.Words.{Word, Of, symbols}
-use Rattle.cel_print.specs.ScalarWords.{number_words, attribute_words, scalar_words}
+use Rattle.cel_print.specs.ScalarWords.{number_words, decimal_words, attribute_words, scalar_words}
 
 -- the words at each place are what the rule wants there
 pub record Reads (x : Scalar) (rest : List Word) : Type 0 where
@@ -25,6 +25,11 @@ number_reads : (n : ℤ) (rest : List Word) → IsFactor (symbols (number_words 
 number_reads (pos n) rest = number
 number_reads (negsuc n) rest = rw (← negative_suc n) less
 
+-- a decimal is read
+decimal_reads : (scale : ℕ) (units : ℤ) (rest : List Word) → IsFactor (symbols (decimal_words scale units rest)) (Decimal scale units) (symbols rest)
+decimal_reads scale (pos n) rest = decimal
+decimal_reads scale (negsuc n) rest = rw (← negative_suc n) less_decimal
+
 -- an attribute is read
 attribute_reads : (m : Mark) (a : List ℕ) (rest : List Word) → IsFactor (symbols (attribute_words m a rest)) (Attr m a) (symbols rest)
 attribute_reads mark.Bare a rest = attribute bare
@@ -39,6 +44,7 @@ as_factor x rest a b c = record { scalar = product (factor a); product = factor 
 -- by induction on the scalar
 pub reads : (x : Scalar) (rest : List Word) → Reads x rest
 reads (Number n) rest = let it = number_reads n rest in as_factor (Number n) rest it it it
+reads (Decimal scale units) rest = let it = decimal_reads scale units rest in as_factor (Decimal scale units) rest it it it
 reads (Quoted t) rest = as_factor (Quoted t) rest text text text
 reads (Attr m a) rest = let it = attribute_reads m a rest in as_factor (Attr m a) rest it it it
 reads Dur rest = as_factor Dur rest dur dur dur

@@ -1,5 +1,5 @@
 -- The symbols of a text's tokens. No public clause cites it.
-use Rattle.std.proofs.Common.{◌≡◌, ◌∙◌, ℕ, zero, suc, ◌+◌, ◌-◌, ◌<◌, ◌^◌, pos, Bool, true, false, List, [], ◌∷◌, ◌++◌, length, take, refl, sym, ap, subst, arith, append_assoc, length-append, add-one, nat_lt}
+use Rattle.std.proofs.Common.{◌≡◌, ◌∙◌, ℕ, zero, suc, ◌+◌, ◌-◌, ◌<◌, ◌^◌, pos, Bool, true, false, List, [], ◌∷◌, ◌++◌, length, take, drop, refl, sym, ap, subst, arith, append_assoc, length-append, add-one, nat_lt}
 use Rattle.std.specs.Prelude.{cond, Ok, Err, Option, Some, None, ◌==◌, ◌&&◌, nat_le, take_while, if◌then◌else◌}
 use Rattle.std.specs.Char.{is_ascii_digit}
 use Rattle.std.specs.Str.{IsUtf8, bytes_eq}
@@ -11,6 +11,7 @@ use Rattle.event_types.specs.declared.comparison.Cmp.TheVariants as cmp
 use Rattle.cel_lexer.specs.Bytes.{is_blank, is_comment_byte, is_first, is_letter, is_word_byte}
 use Rattle.cel_lexer.specs.Listing.{spelling}
 use Rattle.cel_lexer.specs.Literals.{literal_piece, literal_rest}
+use Rattle.cel_lexer.specs.Numbers.{behind_point, decimal_of, in_range, number_of, number_or_decimal, numeral_piece}
 use Rattle.cel_lexer.specs.Pieces.{piece_of}
 use Rattle.cel_lexer.specs.Signs.{is_sign, is_long_sign, is_side}
 use Rattle.cel_lexer.specs.Tokens.{Lexed, before, line_after, tokens_from, with_piece}
@@ -20,6 +21,7 @@ use Rattle.cel_lexer.specs.declared.token.What.{What}
 use Rattle.cel_lexer.specs.declared.token.What.TheVariants as what
 use Rattle.cel_lexer.proofs.LiteralLemmas.{literal-closes}
 use Rattle.cel_lexer.proofs.Lines.{lines_in}
+use Rattle.cel_lexer.proofs.NumberLemmas.{in_range-some}
 use Rattle.cel_lexer.proofs.PieceLemmas.{take_run}
 use Rattle.cel_grammar.specs.Symbols.{Symbol}
 use Rattle.cel_grammar.specs.Symbols as the
@@ -134,6 +136,7 @@ AtFront source front s = source ≡ front ++ s
 -- the pieces of a text, by what its first bytes are
 pub piece_sound : (source front : List ℕ) (b : ℕ) (rest : List ℕ) (line : ℕ) (follows : ℕ → Lexed) (tokens : List Token) → IsUtf8 source → source ≡ front ++ (b ∷ rest) → ((n : ℕ) (ts : List Token) → follows n ≡ Ok ts → AllSound source ts)
     → with_piece (piece_of (b ∷ rest)) line (length front) follows ≡ Ok tokens → AllSound source tokens
+unfolding numeral_piece
 piece_sound source front b rest line follows tokens utf8 whole later =
     choose (λ p. with_piece p line at follows ≡ Ok tokens → AllSound source tokens) (is_blank b) _ _ (λ _ e. later 0 tokens e) (λ _.
     choose (λ p. with_piece p line at follows ≡ Ok tokens → AllSound source tokens) ((b == 45) && is_first (λ next. next == 45) rest) _ _ (λ _ e. later _ tokens e) (λ _.
@@ -141,10 +144,7 @@ piece_sound source front b rest line follows tokens utf8 whole later =
     choose (λ p. with_piece p line at follows ≡ Ok tokens → AllSound source tokens) (nat_le (length word) 64) _ _
     (λ short e. lexed (if is_keyword word then what.Keyword else what.Name) (length word) word (run_bytes is_word_byte (b ∷ rest)) (word_sound b rest letter short) e)
     (λ _ e. absurd cc)) (λ _.
-    choose (λ p. with_piece p line at follows ≡ Ok tokens → AllSound source tokens) (is_ascii_digit b) _ _ (λ digit.
-    choose (λ p. with_piece p line at follows ≡ Ok tokens → AllSound source tokens) (nat_lt (digits_value 10 digits) (2 ^ 127)) _ _
-    (λ low e. lexed (what.Number (pos (digits_value 10 digits))) (length digits) digits (run_bytes is_ascii_digit (b ∷ rest)) (below (digits_value 10 digits) low) e)
-    (λ _ e. absurd cc)) (λ _.
+    choose (λ p. with_piece p line at follows ≡ Ok tokens → AllSound source tokens) (is_ascii_digit b) _ _ (λ digit. numeral (take_while is_ascii_digit (behind_point (drop (length digits) (b ∷ rest))))) (λ _.
     choose (λ p. with_piece p line at follows ≡ Ok tokens → AllSound source tokens) (b == 39) _ _ (λ quote. literal (literal_rest rest) refl quote) (λ _.
     choose (λ p. with_piece p line at follows ≡ Ok tokens → AllSound source tokens) (b == 36) _ _
     (λ _ e. lexed what.Mark (if is_first is_side rest then 2 else 1) (take (if is_first is_side rest then 2 else 1) (b ∷ rest)) refl (mark_sound (take (if is_first is_side rest then 2 else 1) (b ∷ rest))) e) (λ _.
@@ -161,13 +161,29 @@ piece_sound source front b rest line follows tokens utf8 whole later =
     digits : List ℕ
     digits = take_while is_ascii_digit (b ∷ rest)
 
-    below : (n : ℕ) → nat_lt n (2 ^ 127) ≡ true → n < 2 ^ 127
-    below n h = grind (arith, nat_tests, h)
-
     lexed : (kind : What) (n : ℕ) (bytes : List ℕ) → take n (b ∷ rest) ≡ bytes → Sound (symbol_of kind bytes) → before (record { what = kind; line = line; begin = length front; end = length front + n }) (follows (n - 1)) ≡ Ok tokens → AllSound source tokens
     lexed kind n bytes is sound e =
         before_sound source (record { what = kind; line = line; begin = length front; end = length front + n }) (follows (n - 1)) tokens (λ ts k. later (n - 1) ts k)
         (rw (slice_is source front (b ∷ rest) n whole ∙ is) sound) e
+
+    -- a whole number
+    whole_number : (o : Option ℕ) → in_range (digits_value 10 digits) ≡ o → with_piece (number_of o (length digits)) line (length front) follows ≡ Ok tokens → AllSound source tokens
+    whole_number (Some n) is e = lexed (what.Number (pos n)) (length digits) digits (run_bytes is_ascii_digit (b ∷ rest)) (in_range-some (digits_value 10 digits) n (sym is)).1 e
+    whole_number None is e = absurd cc
+
+    -- a decimal
+    decimal : (places : List ℕ) → 0 < length places → nat_le (length places) 18 ≡ true → (o : Option ℕ) → in_range (digits_value 10 (digits ++ places)) ≡ o → with_piece (decimal_of o (length places) (length digits + 1 + length places)) line (length front) follows ≡ Ok tokens → AllSound source tokens
+    decimal places some few (Some n) is e =
+        lexed (what.Decimal (length places) (pos n)) (length digits + 1 + length places) (take (length digits + 1 + length places) (b ∷ rest)) refl
+        (some, grind (arith, nat_tests, few), (in_range-some (digits_value 10 (digits ++ places)) n (sym is)).1) e
+    decimal places some few None is e = absurd cc
+
+    -- by the digits behind the point
+    numeral : (places : List ℕ) → with_piece (number_or_decimal digits places) line (length front) follows ≡ Ok tokens → AllSound source tokens
+    numeral [] = whole_number (in_range (digits_value 10 digits)) refl
+    numeral (c ∷ places) =
+        choose (λ p. with_piece p line (length front) follows ≡ Ok tokens → AllSound source tokens) (nat_le (length (c ∷ places)) 18) _ _
+        (λ few. decimal (c ∷ places) (omega arith) few (in_range (digits_value 10 (digits ++ (c ∷ places)))) refl) (λ _ e. absurd cc)
 
     -- what stands behind the quote
     behind : (b == 39) ≡ true → IsUtf8 rest

@@ -5,7 +5,7 @@ use Rattle.std.proofs.lemmas.List.{append-nil}
 use Rattle.cel_grammar.specs.Symbols.{Symbol}
 use Rattle.cel_grammar.specs.Symbols as the
 use Rattle.cel_print.specs.Words.{Word, Of, within}
-use Rattle.cel_print.specs.Spelled.{word_spelling, opening, closing, joins_left, joins_right, is_call, space, text_behind, text_of}
+use Rattle.cel_print.specs.Spelled.{word_spelling, opening, closing, joins_left, joins_right, is_tight, space, text_behind, text_of}
 
 -- what stands between a word and one that does not join it
 abbrev pub gap : Word → List ℕ
@@ -21,26 +21,26 @@ after [] = []
 after (word ∷ words) = lead word ++ (word_spelling word ++ text_behind word words)
 
 -- no call begins with the word
-abbrev pub NoCall : Word → Type 0
-NoCall left = (right : Word) → is_call left right ≡ false
+abbrev pub IsLoose : Word → Type 0
+IsLoose left = (right : Word) → is_tight left right ≡ false
 
 -- the word joins nothing behind it
 pub record Ends (word : Word) : Type 0 where
   pub free : joins_right word ≡ false
-  pub no_call : NoCall word
+  pub loose : IsLoose word
 
 -- behind a word that joins nothing stands what stands behind any such word
 pub behind : (word : Word) (words : List Word) → Ends word → text_behind word words ≡ after words
 behind word [] ends = refl
-behind word (next ∷ words) ends = rw (ends.free, ends.no_call next) (by_case (joins_left next))
+behind word (next ∷ words) ends = rw (ends.free, ends.loose next) (by_case (joins_left next))
   where
     by_case : (b : Bool) → (if b || false then [] else codes " ") ++ (word_spelling next ++ text_behind next words) ≡ (if b then [] else codes " ") ++ (word_spelling next ++ text_behind next words)
     by_case true = refl
     by_case false = refl
 
 -- before a word that joins nothing before it stands what its left word tells
-pub before : (left word : Word) → joins_left word ≡ false → NoCall left → space left word ≡ gap left
-before left word free no_call = rw (free, no_call word) (by_case (joins_right left))
+pub before : (left word : Word) → joins_left word ≡ false → IsLoose left → space left word ≡ gap left
+before left word free loose = rw (free, loose word) (by_case (joins_right left))
   where
     by_case : (b : Bool) → (if b || false || false then [] else codes " ") ≡ (if b then [] else codes " ")
     by_case true = refl
@@ -49,7 +49,7 @@ before left word free no_call = rw (free, no_call word) (by_case (joins_right le
 -- the words put this text before what follows them, with no space before it but what the word before them tells
 pub record Front (words : List Word → List Word) (text : List ℕ) : Type 0 where
   pub ends : (r : List Word) → text_of (words r) ≡ text ++ after r
-  pub begins : (left : Word) (r : List Word) → NoCall left → text_behind left (words r) ≡ gap left ++ text_of (words r)
+  pub begins : (left : Word) (r : List Word) → IsLoose left → text_behind left (words r) ≡ gap left ++ text_of (words r)
 
 -- the words put this text, its space included, before what follows them
 abbrev pub Tail : (List Word → List Word) → List ℕ → Type 0
@@ -65,13 +65,13 @@ own f a front = rw (whole f a front) front
 
 -- behind a word that joins nothing
 after_is : (words : List Word) → after words ≡ text_behind (Of the.Plus) words
-after_is words = sym (behind (Of the.Plus) words (record { free = refl; no_call = λ right. refl }))
+after_is words = sym (behind (Of the.Plus) words (record { free = refl; loose = λ right. refl }))
 
 -- a word that joins nothing
 pub leaf : (word : Word) → joins_left word ≡ false → Ends word → Front (λ r. word ∷ r) (word_spelling word)
 leaf word free ends = record {
   ends = λ r. ap (λ (s : List ℕ). word_spelling word ++ s) (behind word r ends);
-  begins = λ left r no_call. ap (λ (s : List ℕ). s ++ (word_spelling word ++ text_behind word r)) (before left word free no_call);
+  begins = λ left r loose. ap (λ (s : List ℕ). s ++ (word_spelling word ++ text_behind word r)) (before left word free loose);
 }
 
 -- what begins behind a word that joins nothing has a space before it
@@ -89,7 +89,7 @@ linked word g b ends tail r = ap (λ (s : List ℕ). lead word ++ (word_spelling
 pub followed : (f g : List Word → List Word) (a b : List ℕ) → Front f a → Tail g b → Front (λ r. f (g r)) (a ++ b)
 followed f g a b front tail = record {
   ends = λ r. front.ends (g r) ∙ (ap (λ (s : List ℕ). a ++ s) (tail r) ∙ sym (append_assoc a b (after r)));
-  begins = λ l r no_call. front.begins l (g r) no_call;
+  begins = λ l r loose. front.begins l (g r) loose;
 }
 
 -- the same of what stands behind others
@@ -100,14 +100,14 @@ chained f g a b front tail r = front (g r) ∙ (ap (λ (s : List ℕ). a ++ s) (
 pub prefixed : (word : Word) (f : List Word → List Word) (a : List ℕ) → joins_left word ≡ false → Ends word → Tail f a → Front (λ r. word ∷ f r) (word_spelling word ++ a)
 prefixed word f a free ends tail = record {
   ends = λ r. ap (λ (s : List ℕ). word_spelling word ++ s) (behind word (f r) ends ∙ tail r) ∙ sym (append_assoc (word_spelling word) a (after r));
-  begins = λ l r no_call. ap (λ (s : List ℕ). s ++ (word_spelling word ++ text_behind word (f r))) (before l word free no_call);
+  begins = λ l r loose. ap (λ (s : List ℕ). s ++ (word_spelling word ++ text_behind word (f r))) (before l word free loose);
 }
 
 -- words behind an opening parenthesis
 pub opened : (f : List Word → List Word) (a : List ℕ) → Front f a → Front (λ r. Of the.Open ∷ f r) (codes "(" ++ a)
 opened f a front = record {
   ends = λ r. ap (λ (s : List ℕ). codes "(" ++ s) (front.begins (Of the.Open) r (λ right. refl) ∙ front.ends r);
-  begins = λ l r no_call. ap (λ (s : List ℕ). s ++ (codes "(" ++ text_behind (Of the.Open) (f r))) (before l (Of the.Open) refl no_call);
+  begins = λ l r loose. ap (λ (s : List ℕ). s ++ (codes "(" ++ text_behind (Of the.Open) (f r))) (before l (Of the.Open) refl loose);
 }
 
 -- words behind an opening brace
@@ -121,4 +121,4 @@ idle r = refl
 -- words in parentheses or in nothing
 pub wrapped : (bare : Bool) (f : List Word → List Word) (a : List ℕ) → Front f a → Front (within bare f) (opening bare ++ (a ++ closing bare))
 wrapped true f a front = rw append-nil front
-wrapped false f a front = opened (λ r. f (Of the.Close ∷ r)) (a ++ codes ")") (followed f (λ r. Of the.Close ∷ r) a (codes ")") front (linked (Of the.Close) (λ r. r) [] (record { free = refl; no_call = λ right. refl }) idle))
+wrapped false f a front = opened (λ r. f (Of the.Close ∷ r)) (a ++ codes ")") (followed f (λ r. Of the.Close ∷ r) a (codes ")") front (linked (Of the.Close) (λ r. r) [] (record { free = refl; loose = λ right. refl }) idle))

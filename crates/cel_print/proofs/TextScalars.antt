@@ -2,15 +2,16 @@
 use Rattle.std.proofs.Common.{◌≡◌, ◌∙◌, ℕ, suc, ℤ, pos, negsuc, Bool, false, List, [], ◌∷◌, ◌++◌, refl, sym, ap, append_assoc}
 use Rattle.std.specs.Prelude.{codes}
 use Rattle.std.specs.Fmt.{signed_decimal}
+use Rattle.semantics.specs.Report.{decimal_text}
 use Rattle.cel_grammar.specs.declared.mark.Mark.{Mark}
 use Rattle.cel_grammar.specs.declared.mark.Mark.TheVariants as mark
 use Rattle.cel_grammar.specs.Symbols.{Symbol}
 use Rattle.cel_grammar.specs.Symbols as the
-use Rattle.cel_grammar.specs.Trees.{Add, Sub, Mul, Min, Max, Scalar, Number, Quoted, Attr, Dur, Two}
+use Rattle.cel_grammar.specs.Trees.{Add, Sub, Mul, Min, Max, Scalar, Number, Quoted, Attr, Dur, Two, Decimal}
 use Rattle.cel_print.specs.declared.places.ScalarPlace.{ScalarPlace}
 use Rattle.cel_print.specs.declared.places.ScalarPlace.TheVariants as scalar_place
-use Rattle.cel_print.specs.Words.{Word, Of, Negative, within}
-use Rattle.cel_print.specs.ScalarWords.{takes_sum, takes_product, number_words, attribute_words, scalar_words}
+use Rattle.cel_print.specs.Words.{Word, Of, Negative, NegativeDecimal, within}
+use Rattle.cel_print.specs.ScalarWords.{takes_sum, takes_product, number_words, decimal_words, attribute_words, scalar_words}
 use Rattle.cel_print.specs.Spelled.{spelling, opening, closing, space, text_behind, joins_left}
 use Rattle.cel_print.specs.Parts.{scalar_text}
 use Rattle.cel_print.proofs.Spacing.{Ends, Front, after, before, behind, lead, prefixed, own, whole, leaf, spaced, linked, followed, wrapped, opened, idle}
@@ -21,14 +22,35 @@ joined t f g a b ends left right = followed f (λ r. Of t ∷ g r) a _ left (lin
 
 -- a number is one word
 number_front : (n : ℤ) → Front (number_words n) (signed_decimal n)
-number_front (pos n) = leaf (Of (the.Number n)) refl (record { free = refl; no_call = λ right. refl })
-number_front (negsuc n) = leaf (Negative (suc n)) refl (record { free = refl; no_call = λ right. refl })
+number_front (pos n) = leaf (Of (the.Number n)) refl (record { free = refl; loose = λ right. refl })
+number_front (negsuc n) = leaf (Negative (suc n)) refl (record { free = refl; loose = λ right. refl })
+
+-- a decimal is one word
+decimal_front : (scale : ℕ) (units : ℤ) → Front (decimal_words scale units) (decimal_text scale units)
+decimal_front scale (pos n) = leaf (Of (the.Decimal scale n)) refl (record { free = refl; loose = λ right. refl })
+decimal_front scale (negsuc n) = leaf (NegativeDecimal scale (suc n)) refl (record { free = refl; loose = λ right. refl })
+
+-- MIN or MAX has its parenthesis right behind it, and a mark its point
+called : (t o : Symbol) (f : List Word → List Word) (a : List ℕ) → joins_left (Of t) ≡ false → space (Of t) (Of o) ≡ [] → Front (λ r. Of o ∷ f r) a → Front (λ r. Of t ∷ Of o ∷ f r) (spelling t ++ a)
+called t o f a free tight front = record {
+  ends = λ r.
+      ap (λ (s : List ℕ). spelling t ++ (s ++ (spelling o ++ text_behind (Of o) (f r)))) tight
+      ∙ ap (λ (s : List ℕ). spelling t ++ s) (front.ends r) ∙ sym (append_assoc (spelling t) a (after r));
+  begins = λ l r loose. ap (λ (s : List ℕ). s ++ (spelling t ++ text_behind (Of t) (Of o ∷ f r))) (before l (Of t) free loose);
+}
+
+-- a point has its name right behind it
+pointed : (a : List ℕ) → Front (λ r. Of the.Dot ∷ Of (the.Name a) ∷ r) (codes "." ++ a)
+pointed a =
+    let name : Front (λ r. Of (the.Name a) ∷ r) a = leaf (Of (the.Name a)) refl (record { free = refl; loose = λ right. refl }) in
+    record {
+      ends = λ r. ap (λ (s : List ℕ). codes "." ++ s) (name.begins (Of the.Dot) r (λ right. refl) ∙ name.ends r);
+      begins = λ l r loose. ap (λ (s : List ℕ). s ++ (codes "." ++ text_behind (Of the.Dot) (Of (the.Name a) ∷ r))) (before l (Of the.Dot) refl loose);
+    }
 
 -- a mark has its point and its name right behind it
-marked : (t : Symbol) (a : List ℕ) → joins_left (Of t) ≡ false → Ends (Of t) → Front (λ r. Of t ∷ Of the.Dot ∷ Of (the.Name a) ∷ r) (spelling t ++ (codes "." ++ a))
-marked t a free ends =
-    prefixed (Of t) (λ r. Of the.Dot ∷ Of (the.Name a) ∷ r) (codes "." ++ a) free ends
-    (λ r. ap (λ (s : List ℕ). codes "." ++ (a ++ s)) (behind (Of (the.Name a)) r (record { free = refl; no_call = λ right. refl })))
+marked : (t : Symbol) (a : List ℕ) → joins_left (Of t) ≡ false → space (Of t) (Of the.Dot) ≡ [] → Front (λ r. Of t ∷ Of the.Dot ∷ Of (the.Name a) ∷ r) (spelling t ++ (codes "." ++ a))
+marked t a free tight = called t the.Dot (λ r. Of (the.Name a) ∷ r) (codes "." ++ a) free tight (pointed a)
 
 -- the mark and its point
 abbrev pub mark_text : Mark → List ℕ
@@ -39,10 +61,10 @@ mark_text mark.So = codes "$."
 
 -- an attribute
 attribute_front : (m : Mark) (a : List ℕ) → Front (attribute_words m a) (mark_text m ++ a)
-attribute_front mark.Bare a = leaf (Of (the.Name a)) refl (record { free = refl; no_call = λ right. refl })
-attribute_front mark.First a = marked the.Dollar1 a refl (record { free = refl; no_call = λ right. refl })
-attribute_front mark.Second a = marked the.Dollar2 a refl (record { free = refl; no_call = λ right. refl })
-attribute_front mark.So a = marked the.Dollar a refl (record { free = refl; no_call = λ right. refl })
+attribute_front mark.Bare a = leaf (Of (the.Name a)) refl (record { free = refl; loose = λ right. refl })
+attribute_front mark.First a = marked the.Dollar1 a refl refl
+attribute_front mark.Second a = marked the.Dollar2 a refl refl
+attribute_front mark.So a = marked the.Dollar a refl refl
 
 -- two scalars with a sign between them, in parentheses or not
 pub operation : (bare : Bool) (t : Symbol) (f g : List Word → List Word) (a b : List ℕ) → Ends (Of t) → Front f a → Front g b → Front (within bare (λ r. f (Of t ∷ g r))) (opening bare ++ ((a ++ (lead (Of t) ++ (spelling t ++ (codes " " ++ b)))) ++ closing bare))
@@ -52,16 +74,7 @@ operation bare t f g a b ends left right = wrapped bare (λ r. f (Of t ∷ g r))
 both : (f g : List Word → List Word) (a b : List ℕ) → Front f a → Front g b → Front (λ r. Of the.Open ∷ f (Of the.Comma ∷ g (Of the.Close ∷ r))) (codes "(" ++ ((a ++ (codes ", " ++ b)) ++ codes ")"))
 both f g a b left right =
     opened (λ r. f (Of the.Comma ∷ g (Of the.Close ∷ r))) _
-    (followed (λ r. f (Of the.Comma ∷ g r)) (λ r. Of the.Close ∷ r) _ _ (joined the.Comma f g a b (record { free = refl; no_call = λ right. refl }) left right) (linked (Of the.Close) (λ r. r) [] (record { free = refl; no_call = λ right. refl }) idle))
-
--- MIN or MAX has its parenthesis right behind it
-called : (t : Symbol) (f : List Word → List Word) (a : List ℕ) → joins_left (Of t) ≡ false → space (Of t) (Of the.Open) ≡ [] → Front (λ r. Of the.Open ∷ f r) a → Front (λ r. Of t ∷ Of the.Open ∷ f r) (spelling t ++ a)
-called t f a free call front = record {
-  ends = λ r.
-      ap (λ (s : List ℕ). spelling t ++ (s ++ (codes "(" ++ text_behind (Of the.Open) (f r)))) call
-      ∙ ap (λ (s : List ℕ). spelling t ++ s) (front.ends r) ∙ sym (append_assoc (spelling t) a (after r));
-  begins = λ l r no_call. ap (λ (s : List ℕ). s ++ (spelling t ++ text_behind (Of t) (Of the.Open ∷ f r))) (before l (Of t) free no_call);
-}
+    (followed (λ r. f (Of the.Comma ∷ g r)) (λ r. Of the.Close ∷ r) _ _ (joined the.Comma f g a b (record { free = refl; loose = λ right. refl }) left right) (linked (Of the.Close) (λ r. r) [] (record { free = refl; loose = λ right. refl }) idle))
 
 -- the text of a sum, a difference or a product
 abbrev pub operation_text : Bool → List ℕ → List ℕ → List ℕ → List ℕ
@@ -77,30 +90,31 @@ FrontAt place x = Front (scalar_words place x) (scalar_text place x)
 
 -- a sum
 sum_front : (place : ScalarPlace) (x y : Scalar) → FrontAt scalar_place.Scalar x → FrontAt scalar_place.Product y → Front (scalar_words place (Two Add x y)) (operation_text (takes_sum place) (scalar_text scalar_place.Scalar x) (codes " + ") (scalar_text scalar_place.Product y))
-sum_front place x y a b = operation (takes_sum place) the.Plus (scalar_words scalar_place.Scalar x) (scalar_words scalar_place.Product y) _ _ (record { free = refl; no_call = λ right. refl }) a b
+sum_front place x y a b = operation (takes_sum place) the.Plus (scalar_words scalar_place.Scalar x) (scalar_words scalar_place.Product y) _ _ (record { free = refl; loose = λ right. refl }) a b
 
 -- a difference
 difference_front : (place : ScalarPlace) (x y : Scalar) → FrontAt scalar_place.Scalar x → FrontAt scalar_place.Product y → Front (scalar_words place (Two Sub x y)) (operation_text (takes_sum place) (scalar_text scalar_place.Scalar x) (codes " - ") (scalar_text scalar_place.Product y))
-difference_front place x y a b = operation (takes_sum place) the.Minus (scalar_words scalar_place.Scalar x) (scalar_words scalar_place.Product y) _ _ (record { free = refl; no_call = λ right. refl }) a b
+difference_front place x y a b = operation (takes_sum place) the.Minus (scalar_words scalar_place.Scalar x) (scalar_words scalar_place.Product y) _ _ (record { free = refl; loose = λ right. refl }) a b
 
 -- a product
 product_front : (place : ScalarPlace) (x y : Scalar) → FrontAt scalar_place.Product x → FrontAt scalar_place.Factor y → Front (scalar_words place (Two Mul x y)) (operation_text (takes_product place) (scalar_text scalar_place.Product x) (codes " * ") (scalar_text scalar_place.Factor y))
-product_front place x y a b = operation (takes_product place) the.Star (scalar_words scalar_place.Product x) (scalar_words scalar_place.Factor y) _ _ (record { free = refl; no_call = λ right. refl }) a b
+product_front place x y a b = operation (takes_product place) the.Star (scalar_words scalar_place.Product x) (scalar_words scalar_place.Factor y) _ _ (record { free = refl; loose = λ right. refl }) a b
 
 -- the lesser of two
 least_front : (place : ScalarPlace) (x y : Scalar) → FrontAt scalar_place.Scalar x → FrontAt scalar_place.Scalar y → Front (scalar_words place (Two Min x y)) (call_text (codes "MIN(") (scalar_text scalar_place.Scalar x) (scalar_text scalar_place.Scalar y))
-least_front place x y a b = called the.Min (λ r. scalar_words scalar_place.Scalar x (Of the.Comma ∷ scalar_words scalar_place.Scalar y (Of the.Close ∷ r))) _ refl refl (both _ _ _ _ a b)
+least_front place x y a b = called the.Min the.Open (λ r. scalar_words scalar_place.Scalar x (Of the.Comma ∷ scalar_words scalar_place.Scalar y (Of the.Close ∷ r))) _ refl refl (both _ _ _ _ a b)
 
 -- the greater of two
 greatest_front : (place : ScalarPlace) (x y : Scalar) → FrontAt scalar_place.Scalar x → FrontAt scalar_place.Scalar y → Front (scalar_words place (Two Max x y)) (call_text (codes "MAX(") (scalar_text scalar_place.Scalar x) (scalar_text scalar_place.Scalar y))
-greatest_front place x y a b = called the.Max (λ r. scalar_words scalar_place.Scalar x (Of the.Comma ∷ scalar_words scalar_place.Scalar y (Of the.Close ∷ r))) _ refl refl (both _ _ _ _ a b)
+greatest_front place x y a b = called the.Max the.Open (λ r. scalar_words scalar_place.Scalar x (Of the.Comma ∷ scalar_words scalar_place.Scalar y (Of the.Close ∷ r))) _ refl refl (both _ _ _ _ a b)
 
 -- by induction on the scalar
 pub scalar_front : (place : ScalarPlace) (x : Scalar) → FrontAt place x
 scalar_front place (Number n) = own (number_words n) _ (number_front n)
-scalar_front place (Quoted t) = own (λ r. Of (the.Quoted t) ∷ r) _ (leaf (Of (the.Quoted t)) refl (record { free = refl; no_call = λ right. refl }))
+scalar_front place (Quoted t) = own (λ r. Of (the.Quoted t) ∷ r) _ (leaf (Of (the.Quoted t)) refl (record { free = refl; loose = λ right. refl }))
+scalar_front place (Decimal scale units) = own (decimal_words scale units) _ (decimal_front scale units)
 scalar_front place (Attr m a) = own (attribute_words m a) _ (attribute_front m a)
-scalar_front place Dur = own (λ r. Of the.Dur ∷ r) _ (leaf (Of the.Dur) refl (record { free = refl; no_call = λ right. refl }))
+scalar_front place Dur = own (λ r. Of the.Dur ∷ r) _ (leaf (Of the.Dur) refl (record { free = refl; loose = λ right. refl }))
 scalar_front place (Two Add x y) = own (scalar_words place (Two Add x y)) _ (sum_front place x y (scalar_front scalar_place.Scalar x) (scalar_front scalar_place.Product y))
 scalar_front place (Two Sub x y) = own (scalar_words place (Two Sub x y)) _ (difference_front place x y (scalar_front scalar_place.Scalar x) (scalar_front scalar_place.Product y))
 scalar_front place (Two Mul x y) = own (scalar_words place (Two Mul x y)) _ (product_front place x y (scalar_front scalar_place.Product x) (scalar_front scalar_place.Factor y))
@@ -110,6 +124,10 @@ scalar_front place (Two Max x y) = own (scalar_words place (Two Max x y)) _ (gre
 -- a number
 pub number_text : (place : ScalarPlace) (n : ℤ) → scalar_text place (Number n) ≡ signed_decimal n
 number_text place n = whole (number_words n) (signed_decimal n) (number_front n)
+
+-- a decimal
+pub decimal_text_is : (place : ScalarPlace) (scale : ℕ) (units : ℤ) → scalar_text place (Decimal scale units) ≡ decimal_text scale units
+decimal_text_is place scale units = whole (decimal_words scale units) (decimal_text scale units) (decimal_front scale units)
 
 -- an attribute
 pub attribute_text : (place : ScalarPlace) (m : Mark) (a : List ℕ) → scalar_text place (Attr m a) ≡ mark_text m ++ a

@@ -21,7 +21,7 @@ use Rattle.cel_print.proofs.TextPredicates.{pred_front}
 
 -- a scalar under a name
 named_front : (x : Scalar) (a : List ℕ) → Front (named_words x a) (scalar_text scalar_place.Scalar x ++ (codes " AS " ++ a))
-named_front x a = joined the.As (scalar_words scalar_place.Scalar x) (λ r. Of (the.Name a) ∷ r) _ _ (record { free = refl; no_call = λ right. refl }) (scalar_front scalar_place.Scalar x) (leaf (Of (the.Name a)) refl (record { free = refl; no_call = λ right. refl }))
+named_front x a = joined the.As (scalar_words scalar_place.Scalar x) (λ r. Of (the.Name a) ∷ r) _ _ (record { free = refl; loose = λ right. refl }) (scalar_front scalar_place.Scalar x) (leaf (Of (the.Name a)) refl (record { free = refl; loose = λ right. refl }))
 
 -- a scalar under a name
 pub named_is : (x : Scalar) (a : List ℕ) → named_text x a ≡ scalar_text scalar_place.Scalar x ++ (codes " AS " ++ a)
@@ -29,18 +29,18 @@ named_is x a = whole (named_words x a) _ (named_front x a)
 
 -- an item
 item_front : (i : Item) → Front (item_words i) (item_text i)
-item_front All = own (λ r. Of the.Star ∷ r) _ (leaf (Of the.Star) refl (record { free = refl; no_call = λ right. refl }))
+item_front All = own (λ r. Of the.Star ∷ r) _ (leaf (Of the.Star) refl (record { free = refl; loose = λ right. refl }))
 item_front (Named x a) =
     let P : Bool → Type 0 = λ b. Front (λ r. if b then Of (the.Name a) ∷ r else named_words x a r) (text_of (if b then Of (the.Name a) ∷ [] else named_words x a [])) in
     elim (is_own_name x a) as P [
-      | true ↦ own (λ r. Of (the.Name a) ∷ r) _ (leaf (Of (the.Name a)) refl (record { free = refl; no_call = λ right. refl }))
+      | true ↦ own (λ r. Of (the.Name a) ∷ r) _ (leaf (Of (the.Name a)) refl (record { free = refl; loose = λ right. refl }))
       | false ↦ own (named_words x a) _ (named_front x a)
     ]
 
 -- items of which there is one at least
 some_items : (i : Item) (items : List Item) → Front (items_words (i ∷ items)) (item_text i ++ flat_map (λ j. codes ", " ++ item_text j) items)
 some_items i [] = rw append-nil (item_front i)
-some_items i (j ∷ items) = joined the.Comma (item_words i) (items_words (j ∷ items)) _ _ (record { free = refl; no_call = λ right. refl }) (item_front i) (some_items j items)
+some_items i (j ∷ items) = joined the.Comma (item_words i) (items_words (j ∷ items)) _ _ (record { free = refl; loose = λ right. refl }) (item_front i) (some_items j items)
 
 -- items behind SELECT
 pub items_tail : (items : List Item) → Tail (items_words items) (items_text items)
@@ -51,12 +51,12 @@ items_tail (i ∷ items) = spaced (items_words (i ∷ items)) _ (some_items i it
 aggs_tail : (aggs : List Agg) → Tail (aggs_words aggs) (flat_map agg_text aggs)
 aggs_tail [] = λ r. refl
 aggs_tail (Set x a ∷ aggs) =
-    linked (Of the.Comma) (λ r. named_words x a (aggs_words aggs r)) (codes " " ++ (named_text x a ++ flat_map agg_text aggs)) (record { free = refl; no_call = λ right. refl })
+    linked (Of the.Comma) (λ r. named_words x a (aggs_words aggs r)) (codes " " ++ (named_text x a ++ flat_map agg_text aggs)) (record { free = refl; loose = λ right. refl })
     (spaced (λ r. named_words x a (aggs_words aggs r)) _ (followed (named_words x a) (aggs_words aggs) _ _ (own (named_words x a) _ (named_front x a)) (aggs_tail aggs)))
 
 -- what stands behind a closing brace
 closed : (f g : List Word → List Word) (a b : List ℕ) → Front f a → Front g b → Front (λ r. f (Of the.BraceClose ∷ g r)) (a ++ (codes "} " ++ b))
-closed f g a b left right = followed f (λ r. Of the.BraceClose ∷ g r) a _ left (linked (Of the.BraceClose) g (codes " " ++ b) (record { free = refl; no_call = λ right. refl }) (spaced g b right))
+closed f g a b left right = followed f (λ r. Of the.BraceClose ∷ g r) a _ left (linked (Of the.BraceClose) g (codes " " ++ b) (record { free = refl; loose = λ right. refl }) (spaced g b right))
 
 -- the same text otherwise grouped
 retexted : (f : List Word → List Word) (a b : List ℕ) → a ≡ b → Tail f a → Tail f b
@@ -85,7 +85,7 @@ iteration_regrouped p q s b = simp append_assoc
 iteration_front : (p q : Pred) (aggs : List Agg) (g : List Word → List Word) (b : List ℕ) → Front g b → Tail (λ r. Of the.BraceOpen ∷ pred_words pred_place.Pred p (Of the.Comma ∷ pred_words pred_place.Pred q (aggs_words aggs (Of the.BraceClose ∷ g r)))) (codes " " ++ (iteration_text p q aggs ++ b))
 iteration_front p q aggs g b front =
     let both : Front (λ r. pred_words pred_place.Pred p (Of the.Comma ∷ pred_words pred_place.Pred q (aggs_words aggs r))) (pred_text pred_place.Pred p ++ (codes ", " ++ (pred_text pred_place.Pred q ++ flat_map agg_text aggs))) =
-    joined the.Comma (pred_words pred_place.Pred p) (λ r. pred_words pred_place.Pred q (aggs_words aggs r)) _ _ (record { free = refl; no_call = λ right. refl }) (pred_front pred_place.Pred p)
+    joined the.Comma (pred_words pred_place.Pred p) (λ r. pred_words pred_place.Pred q (aggs_words aggs r)) _ _ (record { free = refl; loose = λ right. refl }) (pred_front pred_place.Pred p)
     (followed (pred_words pred_place.Pred q) (aggs_words aggs) _ _ (pred_front pred_place.Pred q) (aggs_tail aggs)) in
     retexted (λ r. Of the.BraceOpen ∷ pred_words pred_place.Pred p (Of the.Comma ∷ pred_words pred_place.Pred q (aggs_words aggs (Of the.BraceClose ∷ g r)))) _ _ (iteration_regrouped (pred_text pred_place.Pred p) (pred_text pred_place.Pred q) (flat_map agg_text aggs) b)
     (braced (λ r. pred_words pred_place.Pred p (Of the.Comma ∷ pred_words pred_place.Pred q (aggs_words aggs (Of the.BraceClose ∷ g r)))) _
@@ -98,30 +98,30 @@ FrontAt place e = Front (source_words place e) (source_text place e)
 -- FILTER
 filter_front : (place : SourcePlace) (p : Pred) (e : Source) → FrontAt source_place.Term e → Front (source_words place (Filter p e)) (codes "FILTER {" ++ (pred_text pred_place.Pred p ++ (codes "} " ++ source_text source_place.Term e)))
 filter_front place p e a =
-    prefixed (Of the.Filter) (λ r. Of the.BraceOpen ∷ pred_words pred_place.Pred p (Of the.BraceClose ∷ source_words source_place.Term e r)) _ refl (record { free = refl; no_call = λ right. refl })
+    prefixed (Of the.Filter) (λ r. Of the.BraceOpen ∷ pred_words pred_place.Pred p (Of the.BraceClose ∷ source_words source_place.Term e r)) _ refl (record { free = refl; loose = λ right. refl })
     (braced (λ r. pred_words pred_place.Pred p (Of the.BraceClose ∷ source_words source_place.Term e r)) _ (closed (pred_words pred_place.Pred p) (source_words source_place.Term e) _ _ (pred_front pred_place.Pred p) a))
 
 -- an inner SELECT
 select_front : (place : SourcePlace) (items : List Item) (e : Source) → FrontAt source_place.Source e → Front (source_words place (Select items e)) (codes "(SELECT" ++ (items_text items ++ (codes " FROM " ++ (source_text source_place.Source e ++ codes ")"))))
 select_front place items e a =
-    let close : Tail (λ r. Of the.Close ∷ r) (codes ")") = linked (Of the.Close) (λ r. r) [] (record { free = refl; no_call = λ right. refl }) idle in
+    let close : Tail (λ r. Of the.Close ∷ r) (codes ")") = linked (Of the.Close) (λ r. r) [] (record { free = refl; loose = λ right. refl }) idle in
     let from : Tail (λ r. Of the.From ∷ source_words source_place.Source e (Of the.Close ∷ r)) (codes " FROM " ++ (source_text source_place.Source e ++ codes ")")) =
-    linked (Of the.From) (λ r. source_words source_place.Source e (Of the.Close ∷ r)) (codes " " ++ (source_text source_place.Source e ++ codes ")")) (record { free = refl; no_call = λ right. refl })
+    linked (Of the.From) (λ r. source_words source_place.Source e (Of the.Close ∷ r)) (codes " " ++ (source_text source_place.Source e ++ codes ")")) (record { free = refl; loose = λ right. refl })
     (spaced (λ r. source_words source_place.Source e (Of the.Close ∷ r)) _ (followed (source_words source_place.Source e) (λ r. Of the.Close ∷ r) _ _ a close)) in
     opened (λ r. Of the.Select ∷ items_words items (Of the.From ∷ source_words source_place.Source e (Of the.Close ∷ r))) _
-    (prefixed (Of the.Select) (λ r. items_words items (Of the.From ∷ source_words source_place.Source e (Of the.Close ∷ r))) (items_text items ++ (codes " FROM " ++ (source_text source_place.Source e ++ codes ")"))) refl (record { free = refl; no_call = λ right. refl })
+    (prefixed (Of the.Select) (λ r. items_words items (Of the.From ∷ source_words source_place.Source e (Of the.Close ∷ r))) (items_text items ++ (codes " FROM " ++ (source_text source_place.Source e ++ codes ")"))) refl (record { free = refl; loose = λ right. refl })
     (chained (items_words items) (λ r. Of the.From ∷ source_words source_place.Source e (Of the.Close ∷ r)) _ _ (items_tail items) from))
 
 -- UNION
 union_front : (place : SourcePlace) (e f : Source) → FrontAt source_place.Source e → FrontAt source_place.Term f → Front (source_words place (Union e f)) (operation_text (takes_link place) (source_text source_place.Source e) (codes " UNION ") (source_text source_place.Term f))
-union_front place e f a b = operation (takes_link place) the.Union (source_words source_place.Source e) (source_words source_place.Term f) _ _ (record { free = refl; no_call = λ right. refl }) a b
+union_front place e f a b = operation (takes_link place) the.Union (source_words source_place.Source e) (source_words source_place.Term f) _ _ (record { free = refl; loose = λ right. refl }) a b
 
 -- NEXT
 next_front : (place : SourcePlace) (p : Pred) (e f : Source) → FrontAt source_place.Source e → FrontAt source_place.Term f → Front (source_words place (Next p e f)) (operation_text (takes_link place) (source_text source_place.Source e) (codes " NEXT ") (condition_text p ++ source_text source_place.Term f))
 next_front place p e f a b =
     wrapped (takes_link place) (λ r. source_words source_place.Source e (Of the.Next ∷ condition_words p (source_words source_place.Term f r))) _
     (followed (source_words source_place.Source e) (λ r. Of the.Next ∷ condition_words p (source_words source_place.Term f r)) _ (codes " NEXT " ++ (condition_text p ++ source_text source_place.Term f)) a
-    (linked (Of the.Next) (λ r. condition_words p (source_words source_place.Term f r)) (codes " " ++ (condition_text p ++ source_text source_place.Term f)) (record { free = refl; no_call = λ right. refl }) (condition_front p (source_words source_place.Term f) _ b)))
+    (linked (Of the.Next) (λ r. condition_words p (source_words source_place.Term f r)) (codes " " ++ (condition_text p ++ source_text source_place.Term f)) (record { free = refl; loose = λ right. refl }) (condition_front p (source_words source_place.Term f) _ b)))
 
 -- FOLD
 fold_front : (place : SourcePlace) (p q : Pred) (aggs : List Agg) (e f : Source) → FrontAt source_place.Source e → FrontAt source_place.Term f → Front (source_words place (Fold p q aggs e f)) (operation_text (takes_link place) (source_text source_place.Source e) (codes " FOLD ") (iteration_text p q aggs ++ source_text source_place.Term f))
@@ -129,11 +129,11 @@ fold_front place p q aggs e f a b =
     let inside : List Word → List Word = λ r. Of the.BraceOpen ∷ pred_words pred_place.Pred p (Of the.Comma ∷ pred_words pred_place.Pred q (aggs_words aggs (Of the.BraceClose ∷ source_words source_place.Term f r))) in
     wrapped (takes_link place) (λ r. source_words source_place.Source e (Of the.Fold ∷ inside r)) _
     (followed (source_words source_place.Source e) (λ r. Of the.Fold ∷ inside r) _ (codes " FOLD " ++ (iteration_text p q aggs ++ source_text source_place.Term f)) a
-    (linked (Of the.Fold) inside (codes " " ++ (iteration_text p q aggs ++ source_text source_place.Term f)) (record { free = refl; no_call = λ right. refl }) (iteration_front p q aggs (source_words source_place.Term f) _ b)))
+    (linked (Of the.Fold) inside (codes " " ++ (iteration_text p q aggs ++ source_text source_place.Term f)) (record { free = refl; loose = λ right. refl }) (iteration_front p q aggs (source_words source_place.Term f) _ b)))
 
 -- by induction on the source
 pub source_front : (place : SourcePlace) (e : Source) → FrontAt place e
-source_front place (Name a) = own (λ r. Of (the.Name a) ∷ r) _ (leaf (Of (the.Name a)) refl (record { free = refl; no_call = λ right. refl }))
+source_front place (Name a) = own (λ r. Of (the.Name a) ∷ r) _ (leaf (Of (the.Name a)) refl (record { free = refl; loose = λ right. refl }))
 source_front place (Filter p e) = own (source_words place (Filter p e)) _ (filter_front place p e (source_front source_place.Term e))
 source_front place (Select items e) = own (source_words place (Select items e)) _ (select_front place items e (source_front source_place.Source e))
 source_front place (Union e f) = own (source_words place (Union e f)) _ (union_front place e f (source_front source_place.Source e) (source_front source_place.Term f))

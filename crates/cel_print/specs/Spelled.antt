@@ -2,17 +2,18 @@
 use Rattle.std.specs.Prelude.{ℕ, Bool, true, false, ◌||◌, ◌==◌, List, [], ◌∷◌, ◌++◌, codes, decimal, if◌then◌else◌}
 use Rattle.std.specs.List.{flat_map}
 use Rattle.event_types.specs.declared.comparison.Cmp.TheVariants as cmp
+use Rattle.semantics.specs.Report.{with_places}
 use Rattle.cel_grammar.specs.Symbols.{Symbol}
 use Rattle.cel_grammar.specs.Symbols as the
 use Rattle.cel_grammar.specs.Trees.{Statement}
-use Rattle.cel_print.specs.Words.{Word, Of, Negative}
+use Rattle.cel_print.specs.Words.{Word, Of, Negative, NegativeDecimal}
 use Rattle.cel_print.specs.StatementWords.{statement_words}
 
 -- a text in which each quote stands twice
 abbrev pub doubled : List ℕ → List ℕ
 doubled text = flat_map (λ b. if b == 39 then 39 ∷ 39 ∷ [] else b ∷ []) text
 
--- how a symbol is spelled: a number without leading zeros, a text between quotes
+-- how a symbol is spelled: a number without leading zeros, a decimal with all its places, a text between quotes
 abbrev pub spelling : Symbol → List ℕ
 spelling the.Stream = codes "STREAM"
 spelling the.Int = codes "INT"
@@ -54,11 +55,13 @@ spelling (the.Compare cmp.Lt) = codes "<"
 spelling (the.Compare cmp.Le) = codes "<="
 spelling (the.Compare cmp.Gt) = codes ">"
 spelling (the.Compare cmp.Ge) = codes ">="
+spelling (the.Decimal scale n) = with_places scale n
 
--- how a word is spelled: no space stands behind the minus of a negative number
+-- how a word is spelled: no space stands behind the minus of a negative number or decimal
 abbrev pub word_spelling : Word → List ℕ
 word_spelling (Of symbol) = spelling symbol
 word_spelling (Negative n) = 45 ∷ decimal n
+word_spelling (NegativeDecimal scale n) = 45 ∷ with_places scale n
 
 -- the opening parenthesis of what may not stand as it is, and nothing before what may
 abbrev pub opening : Bool → List ℕ
@@ -68,12 +71,11 @@ opening bare = if bare then [] else codes "("
 abbrev pub closing : Bool → List ℕ
 closing bare = if bare then [] else codes ")"
 
--- no space stands before , ) } .
+-- no space stands before , ) }
 abbrev pub joins_left : Word → Bool
 joins_left (Of the.Comma) = true
 joins_left (Of the.Close) = true
 joins_left (Of the.BraceClose) = true
-joins_left (Of the.Dot) = true
 joins_left word = false
 
 -- no space stands behind ( { .
@@ -83,15 +85,18 @@ joins_right (Of the.BraceOpen) = true
 joins_right (Of the.Dot) = true
 joins_right word = false
 
--- no space stands between MIN or MAX and its (
-abbrev pub is_call : Word → Word → Bool
-is_call (Of the.Min) (Of the.Open) = true
-is_call (Of the.Max) (Of the.Open) = true
-is_call left right = false
+-- no space stands between MIN or MAX and its (, nor between a mark and its point
+abbrev pub is_tight : Word → Word → Bool
+is_tight (Of the.Min) (Of the.Open) = true
+is_tight (Of the.Max) (Of the.Open) = true
+is_tight (Of the.Dollar1) (Of the.Dot) = true
+is_tight (Of the.Dollar2) (Of the.Dot) = true
+is_tight (Of the.Dollar) (Of the.Dot) = true
+is_tight left right = false
 
 -- what stands between two words: one space, or nothing
 abbrev pub space : Word → Word → List ℕ
-space left right = if joins_right left || joins_left right || is_call left right then [] else codes " "
+space left right = if joins_right left || joins_left right || is_tight left right then [] else codes " "
 
 -- the text of some words behind a word
 abbrev pub text_behind : Word → List Word → List ℕ

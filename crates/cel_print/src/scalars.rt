@@ -12,6 +12,7 @@ use crate::places::{ScalarPlace, takes_product, takes_sum};
 use cel_grammar::{Mark, Raw};
 use event_types::Memory;
 use itoa::Buffer;
+use result_text::append_decimal;
 
 /// Puts a scalar behind a text, in parentheses where it may not stand at this place as it is.
 pub(crate) fn append_scalar(
@@ -26,6 +27,7 @@ pub(crate) fn append_scalar(
         Raw::Quoted(quoted) => append_quoted(text, quoted.as_str().as_bytes()),
         Raw::Attr(mark, name) => append_attribute(text, *mark, name.as_str().as_bytes()),
         Raw::Dur => append(text, b"DUR"),
+        Raw::Decimal { scale, units } => append_decimal(text, *scale, *units),
         Raw::Add(x, y) => {
             open_unless(text, takes_sum(place))?;
             append_scalar(text, ScalarPlace::Scalar, x)?;
