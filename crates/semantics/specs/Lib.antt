@@ -5,6 +5,7 @@ pub mod Histories
 pub mod Kinds
 pub mod Laws
 pub mod Nexts
+pub mod OpKinds
 pub mod Programs
 pub mod Reading
 pub mod Report

@@ -6,15 +6,16 @@ use Rattle.event_types.specs.declared.kind.Kind.TheVariants as kind
 use Rattle.semantics.specs.Scalars.{Sc, Lit, Event, Binding, Dur, Two, Pr, True, Test, And, Or, Not}
 use Rattle.semantics.specs.Expressions.{Ex, Read, Filter, Select, Union, Next, Fold}
 use Rattle.semantics.specs.Kinds.{value_kind}
+use Rattle.semantics.specs.OpKinds.{op_kind}
 
--- the scalar is of this kind over an event and a binding of those kinds: its attributes are there, and it operates on numbers
+-- the scalar is of this kind over an event and a binding of those kinds: its attributes are there, and its operations have kinds
 abbrev pub IsOfKind : Sc → List Kind → Option (List Kind) → Kind → Type 0
 IsOfKind (Lit v) event binding k = value_kind v ≡ k
 IsOfKind (Event place) event binding k = slice_get event place ≡ Some k
 IsOfKind (Binding place) event None k = ⊥
 IsOfKind (Binding place) event (Some binding) k = slice_get binding place ≡ Some k
 IsOfKind Dur event binding k = kind.Int ≡ k
-IsOfKind (Two op x y) event binding k = IsOfKind x event binding kind.Int × IsOfKind y event binding kind.Int × (kind.Int ≡ k)
+IsOfKind (Two op x y) event binding k = (left : Kind) × (right : Kind) × IsOfKind x event binding left × IsOfKind y event binding right × (op_kind op left right ≡ Some k)
 
 -- the scalars are of these kinds, one by one
 abbrev pub AreOfKinds : List Sc → List Kind → Option (List Kind) → List Kind → Type 0
