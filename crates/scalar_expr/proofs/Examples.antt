@@ -5,7 +5,8 @@ use Rattle.std.specs.declared.cmp.Ordering.TheVariants.{Less, Greater}
 use Rattle.event_types.specs.declared.comparison.Cmp.TheVariants as cmp
 use Rattle.event_types.specs.declared.kind.Kind.TheVariants as kind
 use Rattle.event_types.specs.declared.value.Value.TheVariants as value
-use Rattle.semantics.specs.Scalars.{Sc, Lit, Event, Binding, Dur, True, Test, And, Or, Not}
+use Rattle.semantics.specs.OpKinds.{op_kind}
+use Rattle.semantics.specs.Scalars.{Add, Mul, Min, Sc, Lit, Event, Binding, Dur, Two, True, Test, And, Or, Not}
 use Rattle.scalar_expr.specs.Canonical.{canonical}
 use Rattle.scalar_expr.specs.Kinds.{sc_kind}
 use Rattle.scalar_expr.specs.TermOrder.{sc_cmp}
@@ -58,3 +59,25 @@ attribute_of_the_binding = refl
 
 span_is_a_whole_number : sc_kind Dur (kind.Text ∷ []) None ≡ kind.Int
 span_is_a_whole_number = refl
+
+-- 10.50 * 0.5 has three places, 10.50 * 3 and 10.50 + 0.05 have two; 10.50 + 0.5, and 10 and 9 places in a product, are refused
+product_has_the_places_of_both : sc_kind (Two Mul (Lit (value.Dec 2 (pos 1050))) (Lit (value.Dec 1 (pos 5)))) [] None ≡ kind.Dec 3
+product_has_the_places_of_both = refl
+
+whole_number_has_no_places : sc_kind (Two Mul (Event 0) (Lit (value.Int (pos 3)))) (kind.Dec 2 ∷ []) None ≡ kind.Dec 2
+whole_number_has_no_places = refl
+
+sum_is_of_one_scale : op_kind Add (kind.Dec 2) (kind.Dec 2) ≡ Some (kind.Dec 2)
+sum_is_of_one_scale = refl
+
+sum_of_two_scales_has_no_kind : op_kind Add (kind.Dec 2) (kind.Dec 1) ≡ None
+sum_of_two_scales_has_no_kind = refl
+
+least_of_two_scales_has_no_kind : op_kind Min (kind.Dec 1) (kind.Dec 2) ≡ None
+least_of_two_scales_has_no_kind = refl
+
+eighteen_places_are_few : op_kind Mul (kind.Dec 9) (kind.Dec 9) ≡ Some (kind.Dec 18)
+eighteen_places_are_few = refl
+
+nineteen_places_are_too_many : op_kind Mul (kind.Dec 10) (kind.Dec 9) ≡ None
+nineteen_places_are_too_many = refl

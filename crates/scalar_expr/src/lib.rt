@@ -24,7 +24,7 @@ pub use canonical::normal;
 pub use conjunction::Conj;
 pub use event_types::Cmp;
 pub use following::{can_follow, join, rebind};
-pub use kinding::kind_of;
+pub use kinding::{alike_kind, kind_of, product_kind};
 pub use laws::{
     canonical_form_keeps_truth, nexts_of_a_bag, nexts_start_later, parts_keep_truth, runs_end,
     same_parts_have_one_form, typed_has_its_kind,
