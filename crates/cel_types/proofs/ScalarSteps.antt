@@ -1,15 +1,18 @@
 -- The rules of the scalars' types as the program comes to them.
-use Rattle.std.proofs.Common.{◌≡◌, sym, subst, ℕ, List}
+use Rattle.std.proofs.Common.{◌≡◌, ◌≢◌, sym, subst, ℕ, List}
 use Rattle.std.specs.Prelude.{Some, None}
+use Rattle.event_types.specs.declared.kind.Kind.{Kind}
 use Rattle.event_types.specs.declared.kind.Kind.TheVariants as kind
+use Rattle.semantics.specs.OpKinds.{alike_kind, op_kind, product_kind}
 use Rattle.semantics.specs.Scalars.{Sc}
+use Rattle.semantics.specs.Scalars as term
 use Rattle.cel_grammar.specs.declared.mark.Mark.{Mark}
-use Rattle.cel_grammar.specs.Trees.{Op, Scalar, Attr, Two}
+use Rattle.cel_grammar.specs.Trees.{Op, Add, Sub, Mul, Min, Max, Scalar, Attr, Two}
 use Rattle.cel_types.specs.declared.fault.TypeFault.{TypeFault}
-use Rattle.cel_types.specs.declared.fault.TypeFault.TheVariants.{UnknownAttr}
+use Rattle.cel_types.specs.declared.fault.TypeFault.TheVariants.{UnknownAttr, KindMismatch}
 use Rattle.cel_types.specs.Scopes.{Scope, Typed, attribute, written}
-use Rattle.cel_types.specs.Scalars.{IsOf, HasFault, attr, unknown, left, left_kind, right, right_kind}
-use Rattle.cel_types.specs.Operands.{FailsAsOperand, own, not_int}
+use Rattle.cel_types.specs.Scalars.{IsOf, HasFault, kinds_fault, op_of, product_fault, attr, two, unknown, left, left_text, kinds}
+use Rattle.cel_types.specs.Operands.{FailsAsOperand, own, a_text}
 
 module _ {scope : Scope} {m : Mark} {a : List ℕ} where
   -- an attribute that is found is of the kind that is found
@@ -24,9 +27,44 @@ module _ {scope : Scope} where
   -- a fault of the left operand is one of the operation
   pub left_fails : {o : Op} {x y : Scalar} {f : TypeFault} → FailsAsOperand scope x f → HasFault scope (Two o x y) f
   left_fails (own h) = left h
-  left_fails (not_int i n) = left_kind i n
+  left_fails (a_text i) = left_text i
 
-  -- a fault of the right operand is one of the operation where the left one is INT
-  pub right_fails : {o : Op} {x y : Scalar} {f : TypeFault} {s : Sc} → IsOf scope x s kind.Int → FailsAsOperand scope y f → HasFault scope (Two o x y) f
-  right_fails i (own h) = right i h
-  right_fails i (not_int j n) = right_kind i j n
+  -- a text is no left operand
+  pub text_fails : {x : Scalar} {s : Sc} {k : Kind} → IsOf scope x s k → k ≡ kind.Text → FailsAsOperand scope x (KindMismatch kind.Int kind.Text)
+  text_fails {x} {s} i e = a_text (subst (λ j. IsOf scope x s j) e i)
+
+  -- a fault of the kinds is one of the operation
+  kinds_fail : {o : Op} {x y : Scalar} {s t : Sc} {k l : Kind} {f : TypeFault} → IsOf scope x s k → k ≢ kind.Text → IsOf scope y t l → op_kind (op_of o) k l ≡ None → f ≡ kinds_fault o k l → HasFault scope (Two o x y) f
+  kinds_fail {o} {x} {y} i n j none e = subst (λ g. HasFault scope (Two o x y) g) (sym e) (kinds i n j none)
+
+  -- the kind of each operation, and the fault where it has none
+  module _ {x y : Scalar} {s t : Sc} {k l : Kind} where
+    pub sum_is : {m : Kind} → IsOf scope x s k → IsOf scope y t l → alike_kind k l ≡ Some m → IsOf scope (Two Add x y) (term.Two term.Add s t) m
+    sum_is i j e = two i j e
+
+    pub difference_is : {m : Kind} → IsOf scope x s k → IsOf scope y t l → alike_kind k l ≡ Some m → IsOf scope (Two Sub x y) (term.Two term.Sub s t) m
+    difference_is i j e = two i j e
+
+    pub product_is : {m : Kind} → IsOf scope x s k → IsOf scope y t l → product_kind k l ≡ Some m → IsOf scope (Two Mul x y) (term.Two term.Mul s t) m
+    product_is i j e = two i j e
+
+    pub least_is : {m : Kind} → IsOf scope x s k → IsOf scope y t l → alike_kind k l ≡ Some m → IsOf scope (Two Min x y) (term.Two term.Min s t) m
+    least_is i j e = two i j e
+
+    pub greatest_is : {m : Kind} → IsOf scope x s k → IsOf scope y t l → alike_kind k l ≡ Some m → IsOf scope (Two Max x y) (term.Two term.Max s t) m
+    greatest_is i j e = two i j e
+
+    pub sum_fails : {f : TypeFault} → IsOf scope x s k → k ≢ kind.Text → IsOf scope y t l → (alike_kind k l ≡ None) × (f ≡ KindMismatch k l) → HasFault scope (Two Add x y) f
+    sum_fails i n j h = kinds_fail i n j h.0 h.1
+
+    pub difference_fails : {f : TypeFault} → IsOf scope x s k → k ≢ kind.Text → IsOf scope y t l → (alike_kind k l ≡ None) × (f ≡ KindMismatch k l) → HasFault scope (Two Sub x y) f
+    difference_fails i n j h = kinds_fail i n j h.0 h.1
+
+    pub product_fails : {f : TypeFault} → IsOf scope x s k → k ≢ kind.Text → IsOf scope y t l → (product_kind k l ≡ None) × (f ≡ product_fault k l) → HasFault scope (Two Mul x y) f
+    product_fails i n j h = kinds_fail i n j h.0 h.1
+
+    pub least_fails : {f : TypeFault} → IsOf scope x s k → k ≢ kind.Text → IsOf scope y t l → (alike_kind k l ≡ None) × (f ≡ KindMismatch k l) → HasFault scope (Two Min x y) f
+    least_fails i n j h = kinds_fail i n j h.0 h.1
+
+    pub greatest_fails : {f : TypeFault} → IsOf scope x s k → k ≢ kind.Text → IsOf scope y t l → (alike_kind k l ≡ None) × (f ≡ KindMismatch k l) → HasFault scope (Two Max x y) f
+    greatest_fails i n j h = kinds_fail i n j h.0 h.1

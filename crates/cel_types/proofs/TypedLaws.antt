@@ -14,7 +14,7 @@ use Rattle.cel_grammar.specs.declared.mark.Mark.{Mark}
 use Rattle.cel_grammar.specs.declared.mark.Mark.TheVariants as mark
 use Rattle.cel_grammar.specs.Trees.{Scalar, Pred}
 use Rattle.cel_types.specs.Scopes.{Scope, Alone, Sequence, Iteration, Typed, at_place, attribute, named}
-use Rattle.cel_types.specs.Scalars.{IsOf, number, quoted, attr, dur, two}
+use Rattle.cel_types.specs.Scalars.{IsOf, number, decimal, quoted, attr, dur, two}
 use Rattle.cel_types.specs.Predicates.{Means, true, test, and, or, not}
 use Rattle.cel_types.specs.Typed.{event_kinds, binding_kinds}
 use Rattle.cel_types.proofs.CanonicalTyped.{canonical-typed}
@@ -55,7 +55,8 @@ term-of_kind scope x s k number = refl
 term-of_kind scope x s k quoted = refl
 term-of_kind scope x s k (attr {m = m} {a = a} e) = attribute-of_kind scope m a (record { term = s; kind = k }) e
 term-of_kind scope x s k dur = refl
-term-of_kind scope x s k (two {x = y} {y = z} {s = t} {t = u} i j) = (term-of_kind scope y t kind.Int i, term-of_kind scope z u kind.Int j, refl)
+term-of_kind scope x s k decimal = refl
+term-of_kind scope x s k (two {x = y} {y = z} {s = t} {t = u} {k = left} {l = right} i j e) = (left, right, term-of_kind scope y t left i, term-of_kind scope z u right j, e)
 
 -- by induction on the derivation
 pub meaning-typed : (scope : Scope) (p : Pred) (u : Pr) → Means scope p u → IsTyped u (event_kinds scope) (binding_kinds scope)

@@ -7,7 +7,7 @@ use std::alloc::AllocFailed;
 pub enum TypeFault {
     /// The mark may not stand there, or the schema hasn't the attribute; with its mark, as `$1.Name`.
     UnknownAttr { name: Text },
-    /// Another kind is wanted than is given, as in `Name > 1`.
+    /// Another kind is wanted than is given, as in `Name > 1`, or in `Price + 0.5` where Price is a DEC 2.
     KindMismatch { want: Kind, got: Kind },
     /// FOLD assigns an attribute that the left schema hasn't.
     NotAssignable { name: Text },
@@ -17,6 +17,8 @@ pub enum TypeFault {
     UnionMismatch { place: usize },
     /// A schema would have so many attributes, more than 256.
     TooWide { count: usize },
+    /// A product would have so many places, more than 18.
+    TooFine { places: usize },
     /// There was no memory.
     Memory,
 }
