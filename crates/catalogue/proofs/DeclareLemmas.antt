@@ -13,7 +13,7 @@ use Rattle.cel_types.specs.Statements.{FailsAsDeclaration}
 use Rattle.catalogue.specs.declared.fault.LoadFault.{LoadFault}
 use Rattle.catalogue.specs.declared.fault.LoadFault.TheVariants.{Bad, Cycle, Memory}
 use Rattle.catalogue.specs.declared.fault.QueryFault.{QueryFault}
-use Rattle.catalogue.specs.Faults.{IsOfTypes, unknown, kinds, absent, twice, union, wide}
+use Rattle.catalogue.specs.Faults.{IsOfTypes, unknown, kinds, absent, twice, union, wide, fine}
 use Rattle.catalogue.specs.Naming.{name_fault, name_fault_at}
 use Rattle.catalogue.specs.Statements.{name_of, names_in}
 use Rattle.catalogue.specs.Telling.{TellsBad}
@@ -39,6 +39,7 @@ types_told absent e = cc
 types_told twice e = cc
 types_told union e = cc
 types_told wide e = cc
+types_told fine e = cc
 
 -- a declaration with a fault, behind declarations without one
 fails_after : {before : List Statement} {streams : List Entry} → FileDeclares before streams → (s : Statement) (later : List Statement) (lines : List ℕ) (line : ℕ) (f : TypeFault)

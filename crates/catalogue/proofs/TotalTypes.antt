@@ -10,6 +10,7 @@ use Rattle.std.proofs.lemmas.Option.{slice_get-get_or}
 use Rattle.event_types.specs.declared.kind.Kind.{Kind}
 use Rattle.event_types.specs.declared.kind.Kind.TheVariants as kind
 use Rattle.semantics.specs.Expressions.{Ex}
+use Rattle.semantics.specs.OpKinds.{op_kind}
 use Rattle.semantics.specs.Scalars.{Sc, Pr, Binding}
 use Rattle.stream_schema.specs.Joining.{is_taken}
 use Rattle.stream_schema.specs.Schema.{Attr, kinds_of, place_of}
@@ -25,7 +26,7 @@ use Rattle.cel_types.specs.Items.{FailToMake, Make, attr, names_there}
 use Rattle.cel_types.specs.Items as items
 use Rattle.cel_types.specs.Predicates.{Fails, Means}
 use Rattle.cel_types.specs.Predicates as pred
-use Rattle.cel_types.specs.Scalars.{HasFault, IsOf}
+use Rattle.cel_types.specs.Scalars.{HasFault, IsOf, kinds_fault, op_of, product_fault}
 use Rattle.cel_types.specs.Scalars as scalar
 use Rattle.cel_types.specs.Scopes.{Alone, Iteration, Scope, Sequence, Typed, at_place, attribute}
 use Rattle.cel_types.specs.Sources.{FailsToElaborate, Elaborates}
@@ -42,6 +43,10 @@ use Rattle.catalogue.proofs.StandLemmas.{among-there}
 pub data Case (Good : Type 0) (Bad : TypeFault → Type 0) : Type 0 where
   good : Good → Case Good Bad
   bad : {f : TypeFault} {why : QueryFault} → IsOfTypes f why → Bad f → Case Good Bad
+
+-- the fault can be told
+abbrev Told : TypeFault → Type 0
+Told f = (why : QueryFault) × IsOfTypes f why
 
 -- a stream's number is that of the table
 number-within : (streams : List Entry) (a : List ℕ) (n : ℕ) → number_of a streams ≡ Some n → n < length streams
@@ -72,20 +77,33 @@ attribute_case : (scope : Scope) (m : Mark) (a : List ℕ) (found : Option Typed
 attribute_case scope m a (Some one) is = good (one.term, one.kind, scalar.attr is)
 attribute_case scope m a None is = bad told.unknown (scalar.unknown is)
 
-right_case : (scope : Scope) (o : Op) (x y : Scalar) (s : Sc) → IsOf scope x s kind.Int → Case ((t : Sc) × (l : Kind) × IsOf scope y t l) (HasFault scope y) → Case ((u : Sc) × (k : Kind) × IsOf scope (tree.Two o x y) u k) (HasFault scope (tree.Two o x y))
-right_case scope o x y s left (good (t, l, right)) = by_kind (same_or_not l kind.Int)
-  where
-    by_kind : (l ≡ kind.Int) ⊎ (l ≢ kind.Int) → Case ((u : Sc) × (k : Kind) × IsOf scope (tree.Two o x y) u k) (HasFault scope (tree.Two o x y))
-    by_kind (inl e) = good (_, _, scalar.two left (subst (λ k. IsOf scope y t k) e right))
-    by_kind (inr other) = bad told.kinds (scalar.right_kind left right other)
-right_case scope o x y s left (bad tells fails) = bad tells (scalar.right left fails)
+-- the fault of the kinds of operands can be told
+product_told : (k l : Kind) → Told (product_fault k l)
+product_told (kind.Dec m) (kind.Dec n) = (_, told.fine)
+product_told (kind.Dec m) kind.Int = (_, told.kinds)
+product_told (kind.Dec m) kind.Text = (_, told.kinds)
+product_told kind.Int l = (_, told.kinds)
+product_told kind.Text l = (_, told.kinds)
+
+kinds_told : (o : Op) (k l : Kind) → Told (kinds_fault o k l)
+kinds_told tree.Mul k l = product_told k l
+kinds_told o k l = (_, told.kinds)
+
+-- operands of these kinds have a kind together, or a fault
+pair_case : (scope : Scope) (o : Op) (x y : Scalar) (s t : Sc) (k l : Kind) (found : Option Kind) → IsOf scope x s k → k ≢ kind.Text → IsOf scope y t l → op_kind (op_of o) k l ≡ found → Case ((u : Sc) × (m : Kind) × IsOf scope (tree.Two o x y) u m) (HasFault scope (tree.Two o x y))
+pair_case scope o x y s t k l (Some m) left number right is = good (_, m, scalar.two left right is)
+pair_case scope o x y s t k l None left number right is = let (why, tells) = kinds_told o k l in bad tells (scalar.kinds left number right is)
+
+right_case : (scope : Scope) (o : Op) (x y : Scalar) (s : Sc) (k : Kind) → IsOf scope x s k → k ≢ kind.Text → Case ((t : Sc) × (l : Kind) × IsOf scope y t l) (HasFault scope y) → Case ((u : Sc) × (m : Kind) × IsOf scope (tree.Two o x y) u m) (HasFault scope (tree.Two o x y))
+right_case scope o x y s k left number (good (t, l, right)) = pair_case scope o x y s t k l (op_kind (op_of o) k l) left number right refl
+right_case scope o x y s k left number (bad tells fails) = bad tells (scalar.right left number fails)
 
 two_case : (scope : Scope) (o : Op) (x y : Scalar) → Case ((s : Sc) × (k : Kind) × IsOf scope x s k) (HasFault scope x) → Case ((t : Sc) × (l : Kind) × IsOf scope y t l) (HasFault scope y) → Case ((u : Sc) × (k : Kind) × IsOf scope (tree.Two o x y) u k) (HasFault scope (tree.Two o x y))
-two_case scope o x y (good (s, k, left)) right = by_kind (same_or_not k kind.Int)
+two_case scope o x y (good (s, k, left)) right = by_kind (same_or_not k kind.Text)
   where
-    by_kind : (k ≡ kind.Int) ⊎ (k ≢ kind.Int) → Case ((u : Sc) × (l : Kind) × IsOf scope (tree.Two o x y) u l) (HasFault scope (tree.Two o x y))
-    by_kind (inl e) = right_case scope o x y s (subst (λ l. IsOf scope x s l) e left) right
-    by_kind (inr other) = bad told.kinds (scalar.left_kind left other)
+    by_kind : (k ≡ kind.Text) ⊎ (k ≢ kind.Text) → Case ((u : Sc) × (l : Kind) × IsOf scope (tree.Two o x y) u l) (HasFault scope (tree.Two o x y))
+    by_kind (inl e) = bad told.kinds (scalar.left_text (subst (λ l. IsOf scope x s l) e left))
+    by_kind (inr number) = right_case scope o x y s k left number right
 two_case scope o x y (bad tells fails) right = bad tells (scalar.left fails)
 
 -- a scalar has a term of a kind, or a fault
@@ -94,6 +112,7 @@ scalar_case scope (tree.Number n) = good (_, _, scalar.number)
 scalar_case scope (tree.Quoted t) = good (_, _, scalar.quoted)
 scalar_case scope (tree.Attr m a) = attribute_case scope m a (attribute scope m a) refl
 scalar_case scope tree.Dur = good (_, _, scalar.dur)
+scalar_case scope (tree.Decimal scale units) = good (_, _, scalar.decimal)
 scalar_case scope (tree.Two o x y) = two_case scope o x y (scalar_case scope x) (scalar_case scope y)
 
 test_case : (scope : Scope) (x y : Scalar) (c : Cmp) → Case ((s : Sc) × (k : Kind) × IsOf scope x s k) (HasFault scope x) → Case ((t : Sc) × (l : Kind) × IsOf scope y t l) (HasFault scope y) → Case ((u : Pr) × Means scope (tree.Test x c y) u) (Fails scope (tree.Test x c y))

@@ -9,7 +9,7 @@ use Rattle.resubscribe.specs.Order.{IsOrder}
 use Rattle.resubscribe.proofs.OrderLemmas.{one_order}
 use Rattle.catalogue.specs.declared.fault.QueryFault.{QueryFault}
 use Rattle.catalogue.specs.Arranging.{AreSound, FailInNames, HaveCycle}
-use Rattle.catalogue.specs.Faults.{IsOfTypes, unknown, kinds, absent, twice, union, wide}
+use Rattle.catalogue.specs.Faults.{IsOfTypes, unknown, kinds, absent, twice, union, wide, fine}
 use Rattle.catalogue.specs.Filing.{FailsAsFile, IsFileWithinLimit}
 use Rattle.catalogue.specs.Judgement.{Accepted, Circle, Judged, Judges, Refused, Refuses, Verdict}
 use Rattle.catalogue.specs.Judgement as judgement
@@ -28,6 +28,7 @@ types_same absent absent = refl
 types_same twice twice = refl
 types_same union union = refl
 types_same wide wide = refl
+types_same fine fine = refl
 
 same_refusal : {line other_line : ℕ} {f g : TypeFault} {why other : QueryFault} → (line ≡ other_line) × (f ≡ g) → IsOfTypes f why → IsOfTypes g other → Refused line why ≡ Refused other_line other
 same_refusal {g = g} {other = other} same is is_too =

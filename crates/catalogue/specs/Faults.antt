@@ -30,3 +30,4 @@ pub data IsOfTypes : TypeFault → QueryFault → Type 0 where
   twice : {name : List ℕ} → IsOfTypes (type.DuplicateAttr name) (query.DuplicateAttr name)
   union : {place : ℕ} → IsOfTypes (type.UnionMismatch place) (query.UnionMismatch place)
   wide : {count : ℕ} → IsOfTypes (type.TooWide count) (query.TooWide count)
+  fine : {places : ℕ} → IsOfTypes (type.TooFine places) (query.TooFine places)

@@ -64,6 +64,7 @@ pub fn of_types(fault: TypeFault, line: u64) -> LoadFault
         TypeFault::DuplicateAttr { name } => bad(line, QueryFault::DuplicateAttr { name }),
         TypeFault::UnionMismatch { place } => bad(line, QueryFault::UnionMismatch { place }),
         TypeFault::TooWide { count } => bad(line, QueryFault::TooWide { count }),
+        TypeFault::TooFine { places } => bad(line, QueryFault::TooFine { places }),
         TypeFault::Memory => LoadFault::Memory,
     }
 }

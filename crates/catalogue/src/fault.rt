@@ -11,7 +11,7 @@ pub enum QueryFault {
     NotUtf8,
     /// No token stands there, as at `'open`.
     BadToken,
-    /// A number is above 2^127-1.
+    /// A number is above 2^127-1, or the units of a decimal are.
     NumberPast128,
     /// A statement has more than 1,024 tokens.
     TooManyTokens { number: u64 },
@@ -39,6 +39,8 @@ pub enum QueryFault {
     UnionMismatch { place: usize },
     /// A schema would have so many attributes, more than 256.
     TooWide { count: usize },
+    /// A product would have so many places, more than 18.
+    TooFine { places: usize },
 }
 
 /// Why a query text gives no catalogue.

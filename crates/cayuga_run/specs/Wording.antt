@@ -32,6 +32,7 @@ query_words (query.NotAssignable name) = codes "attribute " ++ (name ++ codes " 
 query_words (query.DuplicateAttr name) = codes "attribute " ++ (name ++ codes " stands twice")
 query_words (query.UnionMismatch place) = codes "union differs at attribute " ++ decimal place
 query_words (query.TooWide count) = decimal count ++ codes " attributes, at most 256"
+query_words (query.TooFine places) = decimal places ++ codes " places, at most 18"
 
 -- what is wrong with an event line, in words
 abbrev pub line_words : LineFault → List ℕ

@@ -124,6 +124,7 @@ fn query_words(alloc: Global, why: &QueryFault) -> Result<String, Memory>
         QueryFault::TooWide { count } => {
             Ok(format!(in alloc; "{count} attributes, at most 256")?)
         }
+        QueryFault::TooFine { places } => { Ok(format!(in alloc; "{places} places, at most 18")?) }
     }
 }
 

@@ -1,6 +1,6 @@
 use Rattle.cel_types.specs.declared.fault.TypeFault.TheVariants as type
 use Rattle.catalogue.specs.declared.fault.QueryFault.TheVariants as query
-use Rattle.catalogue.specs.Faults.{unknown, kinds, absent, twice, union, wide}
+use Rattle.catalogue.specs.Faults.{unknown, kinds, absent, twice, union, wide, fine}
 use Rattle.catalogue.proofs.DeclareLemmas.{told_on}
 use Rattle.catalogue.proofs.declaring.of_types.Goals as goal
 
@@ -21,3 +21,6 @@ returns-in-UnionMismatch c = told_on c.args.line c.args.fault (type.UnionMismatc
 
 pub returns-in-TooWide : goal.returns-in-TooWide
 returns-in-TooWide c = told_on c.args.line c.args.fault (type.TooWide c.in-TooWide.count) (query.TooWide c.in-TooWide.count) c.bad-in-TooWide.result c.in-TooWide.is c.bad-in-TooWide.ensures wide
+
+pub returns-in-TooFine : goal.returns-in-TooFine
+returns-in-TooFine c = told_on c.args.line c.args.fault (type.TooFine c.in-TooFine.places) (query.TooFine c.in-TooFine.places) c.bad-in-TooFine.result c.in-TooFine.is c.bad-in-TooFine.ensures fine
