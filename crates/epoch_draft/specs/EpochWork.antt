@@ -55,3 +55,7 @@ pairs_work net done stores opened made pairs = takes_work net (news_of opened ma
 -- the pairs that are drawn of an epoch take out by no more tests than its tuples have
 abbrev pub TakesNoMore : Net → Layout → List (Option Store) → List (List TupleView) → List (List TupleView) → List Pair → Type 0
 TakesNoMore net layout stores opened made pairs = pairs_work net layout.order stores opened made pairs ≤ taking_work net layout (held stores) (streams_of opened)
+
+-- the pairs that are drawn of the tuples that were heard take out by no more tests than these tuples have
+abbrev pub HeardTakesNoMore : Net → Layout → List (Option Store) → List (List TupleView) → List (List TupleView) → List Pair → Type 0
+HeardTakesNoMore net layout stores opened made pairs = pairs_work net [] stores opened made pairs ≤ heard_taking net layout (held stores) (streams_of opened)

@@ -11,9 +11,11 @@ use Rattle.stream_readers.specs.Finding.{waits_on}
 use Rattle.stream_readers.specs.Ways.{is_state_looked_up}
 use Rattle.epoch_laws.specs.Closing.{Stores}
 use Rattle.epoch_draft.specs.Comes.{gets}
+use Rattle.epoch_draft.specs.Drafts.{Grows}
 use Rattle.epoch_draft.specs.Moves.{Move, moves_from, moves_over}
 use Rattle.epoch_draft.specs.Pairs.{met}
 use Rattle.epoch_draft.specs.Takes.{take_work, takes_work}
+use Rattle.epoch_draft.specs.declared.draft.Draft.{Draft}
 use Rattle.epoch_draft.specs.declared.draft.Pair.{Pair}
 
 -- what a tuple makes of the instances at a state, if it waits so
@@ -28,6 +30,10 @@ met_at net stores tuple number = met_by (wait_at net number) (stores number) tup
 -- the moves of what leaves waiting states so
 abbrev pub moves_met : Net → Stores → TupleView → List ℕ → List Move
 moves_met net stores tuple numbers = flat_map (λ number. moves_from net number (met_at net stores tuple number)) numbers
+
+-- the draft has besides what a tuple makes of the instances at states with these numbers
+abbrev pub GrowsByMet : Net → Stores → TupleView → List ℕ → Draft → Draft → Type 0
+GrowsByMet net stores tuple numbers old new = Grows net (moves_met net stores tuple numbers) old new
 
 -- all moves that come of a tuple of a stream
 abbrev pub moves_of : Net → Stores → ℕ → TupleView → List Move

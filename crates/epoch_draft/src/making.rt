@@ -9,7 +9,7 @@ ghost use Rattle.epoch_draft.specs.Held.{held};
 ghost use Rattle.epoch_draft.specs.Machines.{CanRead, IsMachine};
 ghost use Rattle.epoch_draft.specs.Readying.{HaveKeys};
 ghost use Rattle.epoch_draft.specs.Suits.{TupleSuits};
-ghost use Rattle.epoch_draft.specs.EpochWork.{TakesNoMore, derived_work, draw_work, heard_taking, pairs_work};
+ghost use Rattle.epoch_draft.specs.EpochWork.{HeardTakesNoMore, TakesNoMore, derived_work, draw_work};
 ghost use Rattle.epoch_draft.specs.Tests.{stream_work, streams_work};
 
 use crate::agenda::plan;
@@ -55,7 +55,7 @@ fn meet_opened<L: Ledger>(
     requires touched { AreOpened opened.now touched.now }
     requires still { IsStill (length machine.now.layout.now.kinds) (length machine.now.network.now) drawing.old }
     ensures drawn { OnOk result (DrawnUpTo machine.now.network.now machine.now.layout.now machine.now.stores.now opened.now [] drawing.new.draft drawing.new.pairs) }
-    ensures takes { OnOk result (pairs_work machine.now.network.now [] machine.now.stores.now opened.now drawing.new.draft.made drawing.new.pairs ≤ heard_taking machine.now.network.now machine.now.layout.now (held machine.now.stores.now) (streams_of opened.now)) }
+    ensures takes { OnOk result (HeardTakesNoMore machine.now.network.now machine.now.layout.now machine.now.stores.now opened.now drawing.new.draft.made drawing.new.pairs) }
     ensures agenda { drawing.new.agenda.keys ≡ drawing.old.agenda.keys }
     ensures ticks { steps.new ≤ steps.old + streams_work machine.now.network.now (held machine.now.stores.now) opened.now touched.now }
 {
@@ -82,7 +82,7 @@ fn derive<L: Ledger>(
     requires can_draw { CanDraw machine.now.network.now machine.now.layout.now machine.now.stores.now opened.now }
     requires can_read { CanRead machine.now }
     requires drawn { DrawnUpTo machine.now.network.now machine.now.layout.now machine.now.stores.now opened.now [] drawing.old.draft drawing.old.pairs }
-    requires takes { pairs_work machine.now.network.now [] machine.now.stores.now opened.now drawing.old.draft.made drawing.old.pairs ≤ heard_taking machine.now.network.now machine.now.layout.now (held machine.now.stores.now) (streams_of opened.now) }
+    requires takes { HeardTakesNoMore machine.now.network.now machine.now.layout.now machine.now.stores.now opened.now drawing.old.draft.made drawing.old.pairs }
     requires none_planned { drawing.old.agenda.keys ≡ [] }
     ensures drawn { OnOk result (DrawnUpTo machine.now.network.now machine.now.layout.now machine.now.stores.now opened.now machine.now.layout.now.order drawing.new.draft drawing.new.pairs) }
     ensures takes { OnOk result (TakesNoMore machine.now.network.now machine.now.layout.now machine.now.stores.now opened.now drawing.new.draft.made drawing.new.pairs) }

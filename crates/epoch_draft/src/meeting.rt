@@ -8,7 +8,7 @@ ghost use Rattle.epoch_laws.specs.Instances.{begins};
 ghost use Rattle.epoch_draft.specs.Drafts.{Grows, IsDraftOf};
 ghost use Rattle.epoch_draft.specs.Held.{held};
 ghost use Rattle.epoch_draft.specs.Machines.{IsMachine};
-ghost use Rattle.epoch_draft.specs.Meeting.{Lists, ListsAll, moves_met, moves_of, moves_of_all, pair_of};
+ghost use Rattle.epoch_draft.specs.Meeting.{GrowsByMet, Lists, ListsAll, moves_of, moves_of_all, pair_of};
 ghost use Rattle.epoch_draft.specs.Moves.{moves_on};
 ghost use Rattle.epoch_draft.specs.Stores.{HasStores};
 ghost use Rattle.epoch_draft.specs.Suits.{MeetingSuits, TupleSuits, WaySuits};
@@ -41,7 +41,7 @@ fn meet_waits<L: Ledger>(
     requires stores { HasStores machine.now.network.now machine.now.stores.now }
     requires draft { IsDraftOf machine.now.network.now drawing.old.draft }
     requires suits { All (MeetingSuits machine.now.network.now (held machine.now.stores.now) tuple.now) drawing.old.found.waits }
-    ensures grows { OnOk result (Grows machine.now.network.now (moves_met machine.now.network.now (held machine.now.stores.now) tuple.now drawing.old.found.waits) drawing.old.draft drawing.new.draft) }
+    ensures grows { OnOk result (GrowsByMet machine.now.network.now (held machine.now.stores.now) tuple.now drawing.old.found.waits drawing.old.draft drawing.new.draft) }
     ensures pairs { OnOk result (drawing.new.pairs ≡ drawing.old.pairs ++ map (pair_of stream place) drawing.old.found.waits) }
     ensures agenda { drawing.new.agenda.keys ≡ drawing.old.agenda.keys }
     ensures ticks { steps.new ≤ steps.old + sum_by (state_work machine.now.network.now (held machine.now.stores.now) tuple.now) drawing.old.found.waits }
