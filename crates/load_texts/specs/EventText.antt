@@ -11,11 +11,15 @@ marked mark number = mark ++ decimal number
 abbrev pub stock_line : ℕ → ℕ → ℕ → ℕ → List ℕ
 stock_line at name price volume = marked (codes "Stock,,") at ++ (marked (codes ",S") name ++ (marked (codes ",") price ++ (marked (codes ",") volume ++ 10 ∷ [])))
 
--- the event line at a place from 0: two lines have one detection time, and each makes three draws
+-- the detection time of the event at a place from 0: two events have one
+abbrev pub event_time : ℕ → ℕ
+event_time place = 1 + place / 2
+
+-- the event line at a place from 0, which makes three draws
 abbrev pub event_line : ℕ → ℕ → List ℕ
 event_line seed place =
     let before = 3 * place in
-    stock_line (1 + place / 2) (draw seed (before + 1) % 1000) (draw seed (before + 2) % 10000) (draw seed (before + 3) % 1000)
+    stock_line (event_time place) (draw seed (before + 1) % 1000) (draw seed (before + 2) % 10000) (draw seed (before + 3) % 1000)
 
 -- so many event lines from a place on
 abbrev pub lines_from : ℕ → ℕ → ℕ → List ℕ

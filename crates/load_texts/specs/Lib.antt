@@ -1,4 +1,5 @@
 pub mod Draws
+pub mod Epochs
 pub mod EventText
 pub mod Laws
 pub mod QueryText

@@ -5,11 +5,13 @@
 #![tactic(auto)]
 
 mod draws;
+mod epochs;
 mod laws;
 mod lines;
 mod queries;
 mod text;
 
+pub use epochs::epoch_count;
 pub use laws::event_texts_are_short;
 pub use queries::{query_count, query_text};
 pub use text::{EventText, PIECE, event_text};
