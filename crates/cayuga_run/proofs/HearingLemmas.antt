@@ -35,7 +35,7 @@ front_of_both : (front piece : List ℕ) (a b c : Option (List ℕ)) → a ≡ p
 front_of_both front piece a b None e f = e ∙ ap (prepend_known front) f
 front_of_both front piece a b (Some rest) e f = e ∙ ap (prepend_known front) f ∙ ap Some (sym (append_assoc front piece rest))
 
-front_of_none : (a : Option (List ℕ)) → a ≡ prepend_known [] a
+pub front_of_none : (a : Option (List ℕ)) → a ≡ prepend_known [] a
 front_of_none None = refl
 front_of_none (Some rest) = refl
 
@@ -63,13 +63,13 @@ pub record HasTaken (judged : Judged) (limit : ℕ) (bytes piece : List ℕ) (se
   pub faults : SameFaults old now
 
 -- no bytes close an epoch
-nothing_closed : (judged : Judged) → report_of_closed judged [] false ≡ []
+pub nothing_closed : (judged : Judged) → report_of_closed judged [] false ≡ []
 nothing_closed judged =
     let none : lines [] false ≡ [] = ap (λ text. lines_from 0 false text false) (strip_bom-short [] (omega arith)) in
     ap (λ (found : List Line). report (program_of judged) (closed (map (reading_of judged.streams) found) false)) none
 
 -- nothing was read yet
-pub heard_none : (judged : Judged) (limit : ℕ) (session : SessionView) (told : Told) → SessionStandsFor session [] [] → judged_of session.catalogue ≡ judged → session.limit ≡ limit → HasHeard judged limit 0 session told told
+unfoldable pub heard_none : (judged : Judged) (limit : ℕ) (session : SessionView) (told : Told) → SessionStandsFor session [] [] → judged_of session.catalogue ≡ judged → session.limit ≡ limit → HasHeard judged limit 0 session told told
 heard_none judged limit session told stands queries most = record {
   bytes = [];
   counted = refl;
@@ -140,14 +140,14 @@ module _ {judged : Judged} {limit : ℕ} {bytes piece : List ℕ} {session : Ses
   pub alone_written : HearsAlone old next
   alone_written = record { attached = same.attached ∙ t.alone.attached; queries = ap (λ f. f Queries) same.left ∙ t.alone.queries }
 
-  front_written : old.left Events ≡ prepend_known (bytes ++ piece) (next.left Events)
+  pub front_written : old.left Events ≡ prepend_known (bytes ++ piece) (next.left Events)
   front_written = t.front ∙ ap (λ f. prepend_known (bytes ++ piece) (f Events)) (sym same.left)
 
-  same_faults : next.write_faults ≡ now.write_faults → SameFaults old next
+  pub same_faults : next.write_faults ≡ now.write_faults → SameFaults old next
   same_faults quiet = record { attach = same.attach_faults ∙ t.faults.attach; read = same.read_faults ∙ t.faults.read; write = quiet ∙ t.faults.write }
 
   -- the piece was heard
-  pub heard_more : (after : SessionView) (taken size : ℕ) → length bytes ≡ taken → length piece ≡ size → Feeds session after [] bytes piece now next → KeepsQueries session after → next.write_faults ≡ now.write_faults
+  unfoldable pub heard_more : (after : SessionView) (taken size : ℕ) → length bytes ≡ taken → length piece ≡ size → Feeds session after [] bytes piece now next → KeepsQueries session after → next.write_faults ≡ now.write_faults
       → HasHeard judged limit (taken + size) after old next
   heard_more after taken size counted sized feeds keeps quiet = record {
     bytes = bytes ++ piece;
@@ -229,25 +229,25 @@ module _ {judged : Judged} {limit : ℕ} {bytes piece : List ℕ} {session : Ses
   cut_within = ap (λ n. take n (bytes ++ piece)) t.most
 
   -- why the session stopped at the piece, as the outcome
-  pub stops_at_piece : (after : SessionView) (fault : SessionFault) → StopsAtPiece session [] bytes piece now next fault → Hears judged limit after old next (status_of fault)
-  stops_at_piece after (fault.TooMuch most) s = (
+  pub stops_at_piece : length (bytes ++ piece) ≤ limit + 1 → (after : SessionView) (fault : SessionFault) → StopsAtPiece session [] bytes piece now next fault → Hears judged limit after old next (status_of fault)
+  stops_at_piece room after (fault.TooMuch most) s = (
     s.0 ∙ t.most,
     (
       bytes ++ piece,
-      subst (λ n. n < length (bytes ++ piece)) t.most s.1,
+      (let past = subst (λ n. n < length (bytes ++ piece)) t.most s.1 in omega (arith, past, room)),
       heard_up_to (take session.limit (bytes ++ piece)) false cut_within (λ e. cc) None s.2 s.3,
     ),
   )
-  stops_at_piece after (fault.Refused refusal) s = stops (take session.limit (bytes ++ piece)) false cut_within (λ e. cc) after (fault.Refused refusal) s
-  stops_at_piece after fault.WriteFault s = stops (take session.limit (bytes ++ piece)) false cut_within (λ e. cc) after fault.WriteFault s
-  stops_at_piece after fault.Memory s = stops (take session.limit (bytes ++ piece)) false cut_within (λ e. cc) after fault.Memory s
+  stops_at_piece room after (fault.Refused refusal) s = stops (take session.limit (bytes ++ piece)) false cut_within (λ e. cc) after (fault.Refused refusal) s
+  stops_at_piece room after fault.WriteFault s = stops (take session.limit (bytes ++ piece)) false cut_within (λ e. cc) after fault.WriteFault s
+  stops_at_piece room after fault.Memory s = stops (take session.limit (bytes ++ piece)) false cut_within (λ e. cc) after fault.Memory s
 
   -- the text has ended
   module _ (none : piece ≡ []) (nil : IfSome (now.left Events) (λ rest. rest ≡ [])) where
-    nil_after : IfSome (next.left Events) (λ rest. rest ≡ [])
+    pub nil_after : IfSome (next.left Events) (λ rest. rest ≡ [])
     nil_after = subst (λ f. IfSome (f Events) (λ (rest : List ℕ). rest ≡ [])) (sym same.left) nil
 
-    cut_whole : bytes ≡ take limit (bytes ++ piece)
+    pub cut_whole : bytes ≡ take limit (bytes ++ piece)
     cut_whole = sym (ap (λ p. take limit (bytes ++ p)) none ∙ ap (take limit) (append-nil bytes) ∙ take_all limit bytes (subst (λ n. length bytes ≤ n) t.most t.stands.within))
 
     -- a session that has finished has heard all

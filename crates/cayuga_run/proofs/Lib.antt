@@ -9,6 +9,7 @@ pub mod ReadingLemmas
 pub mod RefusedLemmas
 pub mod RunAnswers
 pub mod RunLemmas
+pub mod TestsLemmas
 pub mod WordingLemmas
 pub mod WorkLemmas
 pub mod WritingAnswers

@@ -198,9 +198,10 @@ module _ {run : Run} {limit : ℕ} {judged : Judged} {old mid new : Told} (r : I
   }
 
   -- so are events past the limit
-  pub too_much_after : (bytes : List ℕ) → limit < length bytes → HearsUpTo judged limit bytes false None mid new → IsTooMuch run limit old new
+  pub too_much_after : (bytes : List ℕ) → length bytes ≡ limit + 1 → HearsUpTo judged limit bytes false None mid new → IsTooMuch run limit old new
   too_much_after bytes long h = record {
     there = r.there;
+    taken = record { taken = bytes; size = long; front = sym r.events ∙ h.takes.front };
     text = of_both _ _ (new.left Events) judged bytes
         (λ c e. (limit < length e) × (refused_in c (take limit e) false ≡ None) × Wrote (report_of_closed c (take limit e) false) old new) r.accept (sym r.events ∙ h.takes.front)
         (λ rest e.

@@ -19,7 +19,7 @@ use Rattle.cayuga_run.proofs.HearingLemmas.{HasHeard, heard_within}
 use Rattle.cayuga_run.proofs.RunLemmas.{HasQueries}
 
 -- no side is both attached and not
-both_ways : {P : Type 0} {b : Bool} → b ≡ true → b ≡ false → P
+pub both_ways : {P : Type 0} {b : Bool} → b ≡ true → b ≡ false → P
 both_ways t f = absurd (let wrong : true ≡ false = sym t ∙ f in cc)
 
 -- what was taken before a read, and what the read took
@@ -83,7 +83,7 @@ reads_no_events events limit r free = record {
 }
 
 -- this is what an accepted text is accepted as
-accepted_as : (file : Option (List ℕ)) (judged : Judged) (P : Judged → Type 0) → IfSome file (λ text. Accepts text judged) → P judged → IfSome file (λ text. IsAcceptedWith text P)
+pub accepted_as : (file : Option (List ℕ)) (judged : Judged) (P : Judged → Type 0) → IfSome file (λ text. Accepts text judged) → P judged → IfSome file (λ text. IsAcceptedWith text P)
 accepted_as None judged P accepts holds = tt
 accepted_as (Some text) judged P accepts holds = record { judged = judged; accepts = accepts; holds = holds }
 

@@ -9,6 +9,7 @@ use Rattle.cayuga_run.specs.declared.status.Status.{Status}
 use Rattle.cayuga_run.specs.Reading.{ReadsBoth, ReadsQueries}
 use Rattle.cayuga_run.specs.Refusing.{OfQueries}
 use Rattle.cayuga_run.specs.RunOutcome.{RunOutcome}
+use Rattle.cayuga_run.specs.Tests.{TestsOfRun}
 
 -- the queries were attached and read to their end, their text is accepted as this, and nothing else was done
 pub record HasAccepted (queries : List ℕ) (judged : Judged) (old new : Told) : Type 0 where
@@ -40,3 +41,8 @@ abbrev pub EndsReading : Judged → List ℕ → ℕ → Told → Told → Type 
 EndsReading judged events limit before after =
     (queries : List ℕ) (first : Told) → HasAccepted queries judged first before → ReadsQueries queries first before
     → ReadsBoth queries events limit first after
+
+-- how many conditions are then tested at most
+abbrev pub EndsTests : Judged → List ℕ → ℕ → Told → Told → ℕ → ℕ → Type 0
+EndsTests judged events limit before after old new =
+    (queries : List ℕ) (first : Told) → HasAccepted queries judged first before → TestsOfRun queries events limit first after old new

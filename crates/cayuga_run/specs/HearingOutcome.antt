@@ -1,5 +1,5 @@
 -- What the hearing of the events has done, by its status. No public clause cites this module.
-use Rattle.std.specs.Prelude.{◌≡◌, ◌<◌, ◌≤◌, ℕ, List, [], Bool, true, false, length, take, Option, None, Some, IfSome}
+use Rattle.std.specs.Prelude.{◌≡◌, ◌≤◌, ℕ, ◌+◌, List, [], Bool, true, false, length, take, Option, None, Some, IfSome}
 use Rattle.std.specs.Io.KnownBytes.{prepend_known}
 use Rattle.cay_host.specs.declared.side.Side.TheVariants.{Queries, Events}
 use Rattle.cay_host.specs.Faults.{Rose}
@@ -60,7 +60,7 @@ pub record HearsFront (judged : Judged) (limit : ℕ) (old new : Told) : Type 0 
 -- what was taken and written, and what the session then works for, by the status
 abbrev pub Hears : Judged → ℕ → SessionView → Told → Told → Status → Type 0
 Hears judged limit session old new Done = HearsAll judged limit session old new
-Hears judged limit session old new (TooMuch most) = (most ≡ limit) × ((bytes : List ℕ) × (limit < length bytes) × HearsUpTo judged limit bytes false None old new)
+Hears judged limit session old new (TooMuch most) = (most ≡ limit) × ((bytes : List ℕ) × (length bytes ≡ limit + 1) × HearsUpTo judged limit bytes false None old new)
 Hears judged limit session old new (ReadFault side) = (side ≡ Events) × Rose old.read_faults new.read_faults × ((bytes : List ℕ) × (length bytes ≤ limit) × HearsUpTo judged limit bytes false None old new)
 Hears judged limit session old new (BadEvent line why) = HearsRefused judged limit (HasFault line why) old new
 Hears judged limit session old new (OutOfOrder line at seen) = HearsRefused judged limit (IsOutOfOrder line at seen) old new

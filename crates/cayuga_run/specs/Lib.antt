@@ -16,6 +16,7 @@ pub mod Stats
 pub mod StatsOutcome
 pub mod StoppedWriting
 pub mod Taking
+pub mod Tests
 pub mod Wording
 pub mod Works
 pub mod WritingOutcome

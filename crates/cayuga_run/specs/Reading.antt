@@ -16,6 +16,12 @@ pub record TakesAtMost (most : ℕ) (text rest : Option (List ℕ)) : Type 0 whe
   pub few : length taken ≤ most
   pub front : text ≡ prepend_known taken rest
 
+-- just so many bytes were taken from the front of a text, and this is the rest
+pub record TakesExactly (many : ℕ) (text rest : Option (List ℕ)) : Type 0 where
+  pub taken : List ℕ
+  pub size : length taken ≡ many
+  pub front : text ≡ prepend_known taken rest
+
 -- the bytes that were taken of an event text have two parts: the first is within the limit, and no line of it is refused; the second has at most 65,536 bytes; and both have at most one byte more than the limit
 pub record StopsInPiece (judged : Judged) (limit : ℕ) (text rest : Option (List ℕ)) : Type 0 where
   pub heard : List ℕ

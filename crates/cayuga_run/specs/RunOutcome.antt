@@ -1,5 +1,5 @@
 -- What a run has done, by its status.
-use Rattle.std.specs.Prelude.{◌≡◌, ◌⊎◌, ℕ, ◌<◌, ◌≤◌, List, [], ◌++◌, Bool, true, false, nat_le, length, take, Some, None, IfSome}
+use Rattle.std.specs.Prelude.{◌≡◌, ◌⊎◌, ℕ, ◌+◌, ◌<◌, ◌≤◌, List, [], ◌++◌, Bool, true, false, nat_le, length, take, Some, None, IfSome}
 use Rattle.std.specs.Io.KnownBytes.{prepend_known}
 use Rattle.cay_host.specs.declared.side.Side.{Side}
 use Rattle.cay_host.specs.declared.side.Side.TheVariants.{Queries, Events}
@@ -14,6 +14,7 @@ use Rattle.cayuga_run.specs.declared.status.Status.TheVariants.{Done, Usage, Bad
 use Rattle.catalogue.specs.Judgement.{Verdict, Accepted, Refused, Circle, Judged, Judges}
 use Rattle.cayuga_run.specs.Accepting.{IsAcceptedWith}
 use Rattle.session.specs.WroteFront.{WroteFront}
+use Rattle.cayuga_run.specs.Reading.{TakesExactly}
 use Rattle.cayuga_run.specs.Refusing.{IsBadQuery, AnswersCycle, OfQueries, ReadsUpTo, StoppedAt, StoppedInQueries}
 use Rattle.cayuga_run.specs.Reports.{heard_in, refused_in, report_of_closed, report_of_heard}
 use Rattle.cayuga_run.specs.Stats.{ComesBehind}
@@ -47,9 +48,10 @@ pub record AnswersRefusal (refusal : Refusal) (run : Run) (limit : ℕ) (old new
   pub text : OfFiles run old (λ queries events. IsAcceptedWith queries (λ judged.
       (refused_in judged (take limit events) (is_whole limit events) ≡ Some refusal) × Wrote (report_of_closed judged (take limit events) (is_whole limit events)) old new))
 
--- there are more events than the limit, none up to it is refused, and the report of the epochs closed by then was written
+-- there are more events than the limit, of which one byte more than it was taken, none up to it is refused, and the report of the epochs closed by then was written
 pub record IsTooMuch (run : Run) (limit : ℕ) (old new : Told) : Type 0 where
   pub there : AreThere run old
+  pub taken : TakesExactly (limit + 1) (file_of run.events old.files) (new.left Events)
   pub text : OfFiles run old (λ queries events. IsAcceptedWith queries (λ judged.
       (limit < length events) × (refused_in judged (take limit events) false ≡ None) × Wrote (report_of_closed judged (take limit events) false) old new))
 

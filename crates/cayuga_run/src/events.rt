@@ -6,6 +6,7 @@ ghost use Rattle.session.specs.SessionView.{SessionStandsFor};
 ghost use Rattle.cayuga_run.specs.Blaming.{BlamesHost};
 ghost use Rattle.cayuga_run.specs.HearingOutcome.{Hears, HearsAlone, status_of};
 ghost use Rattle.cayuga_run.specs.Reading.{StopsInPiece};
+ghost use Rattle.cayuga_run.specs.Tests.{TestsOfTaken};
 
 use crate::pieces::{PIECE, piece_size};
 use crate::status::Status;
@@ -29,6 +30,7 @@ pub fn read_events<H: Host, L: Ledger>(
     ensures blames { BlamesHost (H.told host.old) (H.told host.new) result }
     ensures stops { StopsInPiece (judged_of session.old.catalogue) limit ((H.told host.old).left Events) ((H.told host.new).left Events) }
     ensures alone { HearsAlone (H.told host.old) (H.told host.new) }
+    ensures tests { TestsOfTaken (judged_of session.old.catalogue) limit ((H.told host.old).left Events) ((H.told host.new).left Events) steps.old steps.new }
 {
     let mut piece = [0u8; PIECE];
     let mut taken: u64 = 0;

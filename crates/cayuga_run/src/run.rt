@@ -3,10 +3,11 @@ ghost use Rattle.std.specs.Prelude.{◌≡◌, [], false};
 ghost use Rattle.cay_host.specs.declared.side.Side.TheVariants.{Queries, Events};
 ghost use Rattle.catalogue.specs.Catalogued.{judged_of};
 ghost use Rattle.session.specs.SessionView.{SessionStandsFor};
-ghost use Rattle.cayuga_run.specs.Begun.{EndsReading, EndsRun};
+ghost use Rattle.cayuga_run.specs.Begun.{EndsReading, EndsRun, EndsTests};
 ghost use Rattle.cayuga_run.specs.Blaming.{BlamesHost};
 ghost use Rattle.cayuga_run.specs.Reading.{ReadsBoth};
 ghost use Rattle.cayuga_run.specs.RunOutcome.{RunOutcome};
+ghost use Rattle.cayuga_run.specs.Tests.{TestsOfRun};
 
 use crate::accepting::accept;
 use crate::events::read_events;
@@ -16,6 +17,14 @@ use cay_host::{Host, Ledger, Side, Steps};
 use session::Session;
 use std::alloc::Global;
 
+/// The events that a run hears, the most bytes that it takes of them, and whether a line of stats is asked for.
+#[derive(Drop)]
+pub struct Hearing<'a> {
+    pub events: &'a str,
+    pub limit: u64,
+    pub stats: bool,
+}
+
 /// Runs the queries over the events. What an epoch brings is written once a later event or the end of
 /// the events has closed it. Where all events were heard and stats are asked for, a line of stats stands
 /// behind the report.
@@ -23,25 +32,24 @@ pub fn run<H: Host, L: Ledger>(
     alloc: Global,
     host: &mut H,
     queries: &str,
-    events: &str,
-    stats: bool,
-    limit: u64,
+    hearing: &Hearing<'_>,
     steps: &mut Steps<L>,
 ) -> Status
     requires queries { (H.told host.old).attached Queries ≡ false }
     requires events { (H.told host.old).attached Events ≡ false }
-    ensures outcome { RunOutcome (record { queries = queries.now; events = events.now; stats = stats }) limit (H.told host.old) (H.told host.new) result }
+    ensures outcome { RunOutcome (record { queries = queries.now; events = hearing.now.events.now; stats = hearing.now.stats }) hearing.now.limit (H.told host.old) (H.told host.new) result }
     ensures blames { BlamesHost (H.told host.old) (H.told host.new) result }
-    ensures reads { ReadsBoth queries.now events.now limit (H.told host.old) (H.told host.new) }
+    ensures reads { ReadsBoth queries.now hearing.now.events.now hearing.now.limit (H.told host.old) (H.told host.new) }
+    ensures tests { TestsOfRun queries.now hearing.now.events.now hearing.now.limit (H.told host.old) (H.told host.new) steps.old steps.new }
 {
     let catalogue = match accept(alloc, host, queries) {
         Ok(catalogue) => catalogue,
         Err(status) => return status,
     };
-    let Ok(mut session) = Session::make(alloc, catalogue, limit) else {
+    let Ok(mut session) = Session::make(alloc, catalogue, hearing.limit) else {
         return Status::Memory;
     };
-    attach_and_read(alloc, host, &mut session, events, stats, limit, steps)
+    attach_and_read(alloc, host, &mut session, hearing, steps)
 }
 
 // Attaches the events and hears them. Where all were heard and stats are asked for, writes their line.
@@ -49,24 +57,23 @@ fn attach_and_read<H: Host, L: Ledger>(
     alloc: Global,
     host: &mut H,
     session: &mut Session,
-    events: &str,
-    stats: bool,
-    limit: u64,
+    hearing: &Hearing<'_>,
     steps: &mut Steps<L>,
 ) -> Status
     requires free { (H.told host.old).attached Events ≡ false }
     requires stands { SessionStandsFor session.old [] [] }
-    requires limit { session.old.limit ≡ limit }
-    ensures outcome { EndsRun (judged_of session.old.catalogue) events.now stats limit (H.told host.old) (H.told host.new) result }
+    requires limit { session.old.limit ≡ hearing.now.limit }
+    ensures outcome { EndsRun (judged_of session.old.catalogue) hearing.now.events.now hearing.now.stats hearing.now.limit (H.told host.old) (H.told host.new) result }
     ensures blames { BlamesHost (H.told host.old) (H.told host.new) result }
-    ensures reads { EndsReading (judged_of session.old.catalogue) events.now limit (H.told host.old) (H.told host.new) }
+    ensures reads { EndsReading (judged_of session.old.catalogue) hearing.now.events.now hearing.now.limit (H.told host.old) (H.told host.new) }
+    ensures tests { EndsTests (judged_of session.old.catalogue) hearing.now.events.now hearing.now.limit (H.told host.old) (H.told host.new) steps.old steps.new }
 {
-    if host.attach(Side::Events, events).is_err() {
+    if host.attach(Side::Events, hearing.events).is_err() {
         return Status::AttachFault(Side::Events);
     }
-    match read_events(alloc, host, session, limit, steps) {
+    match read_events(alloc, host, session, hearing.limit, steps) {
         Status::Done => {
-            if stats {
+            if hearing.stats {
                 write_stats(alloc, host, session)
             } else {
                 Status::Done

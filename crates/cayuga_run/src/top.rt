@@ -7,9 +7,10 @@ ghost use Rattle.cayuga_run.specs.Answers.{Answers};
 ghost use Rattle.cayuga_run.specs.Blaming.{BlamesHost};
 ghost use Rattle.cayuga_run.specs.Outcome.{Outcome};
 ghost use Rattle.cayuga_run.specs.Reading.{Reads};
+ghost use Rattle.cayuga_run.specs.Tests.{StaysWithinWork};
 ghost use Rattle.cayuga_run.specs.Works.{has_side, work_of};
 
-use crate::run::run;
+use crate::run::{Hearing, run};
 use crate::status::Status;
 use crate::writing::{check, plan};
 use cay_host::{Host, Ledger, Steps};
@@ -30,7 +31,8 @@ pub fn cayuga<H: Host, L: Ledger>(
     steps: &mut Steps<L>,
 ) -> Status
     requires { IsFree (H.told host.old) }
-    ensures { Answers (work_of (job (texts_of words.now))) (2 ^ 40) (H.told host.old) (H.told host.new) result }
+    ensures answers { Answers (work_of (job (texts_of words.now))) (2 ^ 40) (H.told host.old) (H.told host.new) result }
+    ensures tests { StaysWithinWork (work_of (job (texts_of words.now))) (2 ^ 40) (H.told host.old) (H.told host.new) steps.old steps.new }
 {
     cayuga_within(alloc, host, words, MOST_EVENT_BYTES, steps)
 }
@@ -44,7 +46,8 @@ pub fn cayuga_within<H: Host, L: Ledger>(
     steps: &mut Steps<L>,
 ) -> Status
     requires { IsFree (H.told host.old) }
-    ensures { Answers (work_of (job (texts_of words.now))) limit (H.told host.old) (H.told host.new) result }
+    ensures answers { Answers (work_of (job (texts_of words.now))) limit (H.told host.old) (H.told host.new) result }
+    ensures tests { StaysWithinWork (work_of (job (texts_of words.now))) limit (H.told host.old) (H.told host.new) steps.old steps.new }
 {
     do_words(alloc, host, words, limit, steps)
 }
@@ -62,6 +65,7 @@ fn do_words<H: Host, L: Ledger>(
     ensures blames { BlamesHost (H.told host.old) (H.told host.new) result }
     ensures reads { Reads (work_of (job (texts_of words.now))) limit (H.told host.old) (H.told host.new) }
     ensures sides { (side : Side) → has_side (work_of (job (texts_of words.now))) side ≡ false → (H.told host.new).attached side ≡ false }
+    ensures tests { StaysWithinWork (work_of (job (texts_of words.now))) limit (H.told host.old) (H.told host.new) steps.old steps.new }
 {
     match job_of(alloc, words) {
         Ok(Some(job)) => do_job(alloc, host, &job, limit, steps),
@@ -83,6 +87,7 @@ fn do_job<H: Host, L: Ledger>(
     ensures blames { BlamesHost (H.told host.old) (H.told host.new) result }
     ensures reads { Reads (work_of (Some job.now)) limit (H.told host.old) (H.told host.new) }
     ensures sides { (side : Side) → has_side (work_of (Some job.now)) side ≡ false → (H.told host.new).attached side ≡ false }
+    ensures tests { StaysWithinWork (work_of (Some job.now)) limit (H.told host.old) (H.told host.new) steps.old steps.new }
 {
     match job {
         Job::Run {
@@ -90,9 +95,12 @@ fn do_job<H: Host, L: Ledger>(
             events,
             stats,
         } => {
-            let queries = queries.as_str();
-            let events = events.as_str();
-            run(alloc, host, queries, events, *stats, limit, steps)
+            let hearing = Hearing {
+                events: events.as_str(),
+                limit,
+                stats: *stats,
+            };
+            run(alloc, host, queries.as_str(), &hearing, steps)
         }
         Job::Check { queries } => check(alloc, host, queries.as_str()),
         Job::Plan { queries } => plan(alloc, host, queries.as_str()),

@@ -1,22 +1,27 @@
-use Rattle.std.proofs.Common.{◌+◌, ◌-◌, ◌≤◌, [], ◌++◌, length, length-take, take, drop, refl, subst, sym, ap, arith}
+use Rattle.std.proofs.Common.{◌+◌, ◌-◌, ◌≤◌, [], ◌++◌, length, length-append, length-take, take, drop, false, refl, subst, sym, ap, arith}
 use Rattle.std.proofs.Math.Facts.{Fits-of_lt}
 use Rattle.cay_host.specs.declared.side.Side.TheVariants.{Events}
 use Rattle.catalogue.specs.Catalogued.{judged_of}
 use Rattle.cayuga_run.specs.HearingOutcome.{Hears}
 use Rattle.cayuga_run.proofs.HearingLemmas.{blames_read, heard_more, heard_none, heard_within, hears_all, piece_is, read_failed, stops_at_end, stops_at_piece, taken_more}
 use Rattle.cayuga_run.proofs.ReadingLemmas.{stops_at_read, stops_in_piece, stops_then_writes}
+use Rattle.cayuga_run.proofs.TestsLemmas.{rises_not, tests_at_end, tests_at_piece, tests_at_read, tests_more}
 use Rattle.cayuga_run.proofs.events.read_events.Goals as goal
 
 -- nothing is read before the first piece
 pub pieces-init : goal.pieces-init
-pieces-init g c = heard_none (judged_of c.args.session.now.catalogue) c.args.limit c.args.session.now (g.H.Host.told c.args.host.now) c.requires.stands refl c.requires.limit
+unfolding heard_none
+pieces-init g c = (
+  heard_none (judged_of c.args.session.now.catalogue) c.args.limit c.args.session.now (g.H.Host.told c.args.host.now) c.requires.stands refl c.requires.limit,
+  rises_not (judged_of c.args.session.now.catalogue) [] false c.args.steps.now,
+)
 
 -- a read failed
 pub returns-in-Err-clause-hears : goal.returns-in-Err-clause-hears
-returns-in-Err-clause-hears g c = read_failed c.pieces.invariant c.in-Err.ensures.kept c.in-Err.ensures.cause c.read.ensures.same
+returns-in-Err-clause-hears g c = read_failed c.pieces.invariant.0 c.in-Err.ensures.kept c.in-Err.ensures.cause c.read.ensures.same
 
 pub returns-in-Err-clause-blames : goal.returns-in-Err-clause-blames
-returns-in-Err-clause-blames g c = blames_read c.pieces.invariant c.read.ensures.same
+returns-in-Err-clause-blames g c = blames_read c.pieces.invariant.0 c.read.ensures.same
 
 -- the events have ended
 pub returns-in-Ok-finish-clause-hears : goal.returns-in-Ok-finish-clause-hears
@@ -25,9 +30,9 @@ returns-in-Ok-finish-clause-hears g c =
     let rest = drop c.piece_size-want.result c.pieces.piece in
     let slice = length-take c.piece_size-want.result c.pieces.piece in
     let room : length buffer ≤ 65536 = omega (arith, slice) in
-    let t = taken_more c.pieces.invariant c.in-Ok.count buffer rest room c.in-Ok.ensures.took c.read.ensures.same c.in-Ok.ensures.quiet in
+    let t = taken_more c.pieces.invariant.0 c.in-Ok.count buffer rest room c.in-Ok.ensures.took c.read.ensures.same c.in-Ok.ensures.quiet in
     let none = ap (λ n. take n (buffer ++ rest)) c.if-count-eq0.true in
-    hears_all t c.finish.ensures.same none (c.in-Ok.ensures.took.end c.if-count-eq0.true) c.finish.new.self c.finish.ensures.queries (c.in-Ok-finish.ensures.finished [] c.pieces.invariant.bytes c.pieces.invariant.stands)
+    hears_all t c.finish.ensures.same none (c.in-Ok.ensures.took.end c.if-count-eq0.true) c.finish.new.self c.finish.ensures.queries (c.in-Ok-finish.ensures.finished [] c.pieces.invariant.0.bytes c.pieces.invariant.0.stands)
 
 pub returns-in-Err-finish-clause-hears : goal.returns-in-Err-finish-clause-hears
 returns-in-Err-finish-clause-hears g c =
@@ -35,24 +40,27 @@ returns-in-Err-finish-clause-hears g c =
     let rest = drop c.piece_size-want.result c.pieces.piece in
     let slice = length-take c.piece_size-want.result c.pieces.piece in
     let room : length buffer ≤ 65536 = omega (arith, slice) in
-    let t = taken_more c.pieces.invariant c.in-Ok.count buffer rest room c.in-Ok.ensures.took c.read.ensures.same c.in-Ok.ensures.quiet in
+    let t = taken_more c.pieces.invariant.0 c.in-Ok.count buffer rest room c.in-Ok.ensures.took c.read.ensures.same c.in-Ok.ensures.quiet in
     let none = ap (λ n. take n (buffer ++ rest)) c.if-count-eq0.true in
     subst (Hears (judged_of c.args.session.now.catalogue) c.args.limit c.finish.new.self (g.H.Host.told c.args.host.now) (g.H.Host.told c.finish.new.host)) (sym c.status_of.ensures)
-    (stops_at_end t c.finish.ensures.same none (c.in-Ok.ensures.took.end c.if-count-eq0.true) c.finish.new.self c.in-Err-finish.fault (c.in-Err-finish.ensures.finished [] c.pieces.invariant.bytes c.pieces.invariant.stands))
+    (stops_at_end t c.finish.ensures.same none (c.in-Ok.ensures.took.end c.if-count-eq0.true) c.finish.new.self c.in-Err-finish.fault (c.in-Err-finish.ensures.finished [] c.pieces.invariant.0.bytes c.pieces.invariant.0.stands))
 
 -- one more piece was heard
 pub pieces-preserved : goal.pieces-preserved
+unfolding heard_more
 pieces-preserved g c =
     let buffer = c.read.new.buf in
     let rest = drop c.piece_size-want.result c.pieces.piece in
     let slice = length-take c.piece_size-want.result c.pieces.piece in
     let room : length buffer ≤ 65536 = omega (arith, slice) in
-    let t = taken_more c.pieces.invariant c.in-Ok.count buffer rest room c.in-Ok.ensures.took c.read.ensures.same c.in-Ok.ensures.quiet in
-    let heard = c.pieces.invariant in
+    let t = taken_more c.pieces.invariant.0 c.in-Ok.count buffer rest room c.in-Ok.ensures.took c.read.ensures.same c.in-Ok.ensures.quiet in
+    let heard = c.pieces.invariant.0 in
     let feeds = c.in-Ok-feed.ensures.fed [] heard.bytes heard.stands in
     let sized = piece_is c.in-Ok.count buffer rest c.in-Ok.ensures.took in
     let more = heard_more t c.feed.ensures.same c.feed.new.self c.pieces.taken c.in-Ok.count heard.counted sized feeds c.feed.ensures.queries c.in-Ok-feed.ensures.quiet in
-    more
+    let within = heard_within more in
+    let counted = more.counted in
+    (more, tests_more c.args.steps.now c.pieces.steps c.feed.new.steps t c.pieces.invariant.1 (omega (arith, within, counted)) c.feed.ensures.tests)
 
 pub overflow_add-taken : goal.overflow_add-taken
 overflow_add-taken g c =
@@ -60,8 +68,8 @@ overflow_add-taken g c =
     let rest = drop c.piece_size-want.result c.pieces.piece in
     let slice = length-take c.piece_size-want.result c.pieces.piece in
     let room : length buffer ≤ 65536 = omega (arith, slice) in
-    let t = taken_more c.pieces.invariant c.in-Ok.count buffer rest room c.in-Ok.ensures.took c.read.ensures.same c.in-Ok.ensures.quiet in
-    let heard = c.pieces.invariant in
+    let t = taken_more c.pieces.invariant.0 c.in-Ok.count buffer rest room c.in-Ok.ensures.took c.read.ensures.same c.in-Ok.ensures.quiet in
+    let heard = c.pieces.invariant.0 in
     let feeds = c.in-Ok-feed.ensures.fed [] heard.bytes heard.stands in
     let sized = piece_is c.in-Ok.count buffer rest c.in-Ok.ensures.took in
     let more = heard_more t c.feed.ensures.same c.feed.new.self c.pieces.taken c.in-Ok.count heard.counted sized feeds c.feed.ensures.queries c.in-Ok-feed.ensures.quiet in
@@ -75,8 +83,8 @@ pieces-smaller g c =
     let rest = drop c.piece_size-want.result c.pieces.piece in
     let slice = length-take c.piece_size-want.result c.pieces.piece in
     let room : length buffer ≤ 65536 = omega (arith, slice) in
-    let t = taken_more c.pieces.invariant c.in-Ok.count buffer rest room c.in-Ok.ensures.took c.read.ensures.same c.in-Ok.ensures.quiet in
-    let heard = c.pieces.invariant in
+    let t = taken_more c.pieces.invariant.0 c.in-Ok.count buffer rest room c.in-Ok.ensures.took c.read.ensures.same c.in-Ok.ensures.quiet in
+    let heard = c.pieces.invariant.0 in
     let feeds = c.in-Ok-feed.ensures.fed [] heard.bytes heard.stands in
     let sized = piece_is c.in-Ok.count buffer rest c.in-Ok.ensures.took in
     let more = heard_more t c.feed.ensures.same c.feed.new.self c.pieces.taken c.in-Ok.count heard.counted sized feeds c.feed.ensures.queries c.in-Ok-feed.ensures.quiet in
@@ -91,13 +99,21 @@ returns-in-Err-feed-clause-hears g c =
     let rest = drop c.piece_size-want.result c.pieces.piece in
     let slice = length-take c.piece_size-want.result c.pieces.piece in
     let room : length buffer ≤ 65536 = omega (arith, slice) in
-    let t = taken_more c.pieces.invariant c.in-Ok.count buffer rest room c.in-Ok.ensures.took c.read.ensures.same c.in-Ok.ensures.quiet in
+    let t = taken_more c.pieces.invariant.0 c.in-Ok.count buffer rest room c.in-Ok.ensures.took c.read.ensures.same c.in-Ok.ensures.quiet in
+    let heard = c.pieces.invariant.0 in
+    let sized = piece_is c.in-Ok.count buffer rest c.in-Ok.ensures.took in
+    let fits = c.in-Ok.ensures.took.fits in
+    let want = c.piece_size-want.ensures in
+    let within = heard_within heard in
+    let counted = heard.counted in
+    let both = length-append heard.bytes (take c.in-Ok.count (buffer ++ rest)) in
+    let most : length (heard.bytes ++ take c.in-Ok.count (buffer ++ rest)) ≤ c.args.limit + 1 = omega (arith, sized, fits, slice, want, within, counted, both) in
     subst (Hears (judged_of c.args.session.now.catalogue) c.args.limit c.feed.new.self (g.H.Host.told c.args.host.now) (g.H.Host.told c.feed.new.host)) (sym c.status_of-in-Err-feed.ensures)
-    (stops_at_piece t c.feed.ensures.same c.feed.new.self c.in-Err-feed.fault (c.in-Err-feed.ensures.broken [] c.pieces.invariant.bytes c.pieces.invariant.stands))
+    (stops_at_piece t c.feed.ensures.same most c.feed.new.self c.in-Err-feed.fault (c.in-Err-feed.ensures.broken [] c.pieces.invariant.0.bytes c.pieces.invariant.0.stands))
 
 -- what was read, where a read failed
 pub returns-in-Err-clause-stops : goal.returns-in-Err-clause-stops
-returns-in-Err-clause-stops g c = stops_at_read c.pieces.invariant (ap (λ f. f Events) c.in-Err.ensures.kept)
+returns-in-Err-clause-stops g c = stops_at_read c.pieces.invariant.0 (ap (λ f. f Events) c.in-Err.ensures.kept)
 
 -- and where the session ended
 pub returns-in-Ok-finish-clause-stops : goal.returns-in-Ok-finish-clause-stops
@@ -107,7 +123,7 @@ returns-in-Ok-finish-clause-stops g c =
     let want = c.piece_size-want.ensures in
     let small : length buffer ≤ 65536 = omega (arith, slice) in
     let room : length buffer ≤ c.args.limit - c.pieces.taken + 1 = omega (arith, slice, want) in
-    let stops = stops_in_piece c.pieces.invariant c.in-Ok.count buffer small room c.in-Ok.ensures.took in
+    let stops = stops_in_piece c.pieces.invariant.0 c.in-Ok.count buffer small room c.in-Ok.ensures.took in
     stops_then_writes stops c.finish.ensures.same
 
 pub returns-in-Err-finish-clause-stops : goal.returns-in-Err-finish-clause-stops
@@ -117,7 +133,7 @@ returns-in-Err-finish-clause-stops g c =
     let want = c.piece_size-want.ensures in
     let small : length buffer ≤ 65536 = omega (arith, slice) in
     let room : length buffer ≤ c.args.limit - c.pieces.taken + 1 = omega (arith, slice, want) in
-    let stops = stops_in_piece c.pieces.invariant c.in-Ok.count buffer small room c.in-Ok.ensures.took in
+    let stops = stops_in_piece c.pieces.invariant.0 c.in-Ok.count buffer small room c.in-Ok.ensures.took in
     stops_then_writes stops c.finish.ensures.same
 
 pub returns-in-Err-feed-clause-stops : goal.returns-in-Err-feed-clause-stops
@@ -127,5 +143,40 @@ returns-in-Err-feed-clause-stops g c =
     let want = c.piece_size-want.ensures in
     let small : length buffer ≤ 65536 = omega (arith, slice) in
     let room : length buffer ≤ c.args.limit - c.pieces.taken + 1 = omega (arith, slice, want) in
-    let stops = stops_in_piece c.pieces.invariant c.in-Ok.count buffer small room c.in-Ok.ensures.took in
+    let stops = stops_in_piece c.pieces.invariant.0 c.in-Ok.count buffer small room c.in-Ok.ensures.took in
     stops_then_writes stops c.feed.ensures.same
+
+-- what was tested, where a read failed
+pub returns-in-Err-clause-tests : goal.returns-in-Err-clause-tests
+returns-in-Err-clause-tests g c = tests_at_read (g.H.Host.told c.read.new.self) c.args.steps.now c.pieces.steps c.pieces.invariant.0 c.pieces.invariant.1 c.in-Err.ensures.kept
+
+-- where the events have ended
+pub returns-in-Ok-finish-clause-tests : goal.returns-in-Ok-finish-clause-tests
+returns-in-Ok-finish-clause-tests g c =
+    let buffer = c.read.new.buf in
+    let rest = drop c.piece_size-want.result c.pieces.piece in
+    let slice = length-take c.piece_size-want.result c.pieces.piece in
+    let room : length buffer ≤ 65536 = omega (arith, slice) in
+    let t = taken_more c.pieces.invariant.0 c.in-Ok.count buffer rest room c.in-Ok.ensures.took c.read.ensures.same c.in-Ok.ensures.quiet in
+    let none = ap (λ n. take n (buffer ++ rest)) c.if-count-eq0.true in
+    tests_at_end c.args.steps.now c.pieces.steps c.finish.new.steps t c.pieces.invariant.1 c.finish.ensures.same none (c.in-Ok.ensures.took.end c.if-count-eq0.true) c.finish.ensures.tests
+
+pub returns-in-Err-finish-clause-tests : goal.returns-in-Err-finish-clause-tests
+returns-in-Err-finish-clause-tests g c =
+    let buffer = c.read.new.buf in
+    let rest = drop c.piece_size-want.result c.pieces.piece in
+    let slice = length-take c.piece_size-want.result c.pieces.piece in
+    let room : length buffer ≤ 65536 = omega (arith, slice) in
+    let t = taken_more c.pieces.invariant.0 c.in-Ok.count buffer rest room c.in-Ok.ensures.took c.read.ensures.same c.in-Ok.ensures.quiet in
+    let none = ap (λ n. take n (buffer ++ rest)) c.if-count-eq0.true in
+    tests_at_end c.args.steps.now c.pieces.steps c.finish.new.steps t c.pieces.invariant.1 c.finish.ensures.same none (c.in-Ok.ensures.took.end c.if-count-eq0.true) c.finish.ensures.tests
+
+-- and where the session stopped at a piece
+pub returns-in-Err-feed-clause-tests : goal.returns-in-Err-feed-clause-tests
+returns-in-Err-feed-clause-tests g c =
+    let buffer = c.read.new.buf in
+    let rest = drop c.piece_size-want.result c.pieces.piece in
+    let slice = length-take c.piece_size-want.result c.pieces.piece in
+    let room : length buffer ≤ 65536 = omega (arith, slice) in
+    let t = taken_more c.pieces.invariant.0 c.in-Ok.count buffer rest room c.in-Ok.ensures.took c.read.ensures.same c.in-Ok.ensures.quiet in
+    tests_at_piece c.args.steps.now c.pieces.steps c.feed.new.steps t c.pieces.invariant.1 c.feed.ensures.same c.feed.ensures.tests

@@ -1,5 +1,5 @@
-use Rattle.std.proofs.Common.{◌≡◌, refl, rules, subst, false, Result, Ok, Err}
-use Rattle.std.specs.Result.{OnOk, is_err}
+use Rattle.std.proofs.Common.{◌≡◌, ◌∙◌, ap, refl, rules, subst, false, true, Result, Ok, Err}
+use Rattle.std.specs.Result.{OnErr, OnOk, is_err}
 use Rattle.cay_host.specs.declared.side.Side.TheVariants.{Events}
 use Rattle.catalogue.specs.Catalogued.{judged_of}
 use Rattle.catalogue.specs.Judgement.{Judged}
@@ -11,12 +11,18 @@ use Rattle.cayuga_run.proofs.BlamingLemmas.{blames_after, none_blamed}
 use Rattle.cayuga_run.proofs.EndLemmas.{run_hears, run_tells}
 use Rattle.cayuga_run.proofs.OutcomeLemmas.{ready}
 use Rattle.cayuga_run.proofs.ReadingLemmas.{alone_then_writes, reads_before_events, reads_events, stops_then_writes}
+use Rattle.cayuga_run.proofs.TestsLemmas.{tests_events, tests_nothing, tests_then_writes}
 use Rattle.cayuga_run.proofs.run.attach_and_read.Goals as goal
 
 -- what a call promises of its Ok, where it is no Err
 from_ok : {T E P : Type 0} (r : Result T E) → false ≡ is_err r → OnOk r P → P
 from_ok (Ok value) none holds = holds
 from_ok (Err fault) none holds = absurd cc
+
+-- and of its Err, where it is one
+from_err : {T E P : Type 0} (r : Result T E) → true ≡ is_err r → OnErr r P → P
+from_err (Ok value) failed holds = absurd cc
+from_err (Err fault) failed holds = holds
 
 -- the events couldn't be attached
 pub returns-then-is_err-clause-blames : goal.returns-then-is_err-clause-blames
@@ -27,26 +33,26 @@ returns-then-is_err-clause-blames g c = record {
 }
 
 -- the events were heard, and then the stats line was written
-pub returns-then-stats-clause-outcome : goal.returns-then-stats-clause-outcome
-returns-then-stats-clause-outcome g c = λ queries first accepted.
+pub returns-then-hearing-clause-outcome : goal.returns-then-hearing-clause-outcome
+returns-then-hearing-clause-outcome g c = λ queries first accepted.
     let told = g.H.Host.told in
-    let run : Run = record { queries = queries; events = c.args.events.now; stats = c.args.stats } in
+    let run : Run = record { queries = queries; events = c.args.hearing.now.events.now; stats = c.args.hearing.now.stats } in
     let judged = judged_of c.args.session.now.catalogue in
     let all = c.in-Done.ensures.hears in
-    run_tells run c.args.limit judged first (told c.attach.new.self) (told c.read_events.new.host) (told c.write_stats.new.host) all.bytes c.write_stats.result
+    run_tells run c.args.hearing.now.limit judged first (told c.attach.new.self) (told c.read_events.new.host) (told c.write_stats.new.host) all.bytes c.write_stats.result
     (ready run judged first (told c.args.host.now) (told c.attach.new.self) accepted (from_ok c.attach.result c.if-is_err.ensures.value c.attach.ensures.ok) c.attach.ensures.same)
-    all.heard c.read_events.ensures.alone (none_blamed c.in-Done.ensures.blames).write c.if-stats.true c.write_stats.ensures.same
+    all.heard c.read_events.ensures.alone (none_blamed c.in-Done.ensures.blames).write c.if-hearing.true c.write_stats.ensures.same
     (subst (λ (j : Judged). StatsOutcome j (heard_in j all.bytes) (told c.read_events.new.host) (told c.write_stats.new.host) c.write_stats.result) all.queries (c.write_stats.ensures.writes _ all.finished.works))
 
 -- the events were heard, and no stats are asked for
-pub returns-else-stats-clause-outcome : goal.returns-else-stats-clause-outcome
-returns-else-stats-clause-outcome g c = λ queries first accepted.
+pub returns-else-hearing-clause-outcome : goal.returns-else-hearing-clause-outcome
+returns-else-hearing-clause-outcome g c = λ queries first accepted.
     let told = g.H.Host.told in
-    let run : Run = record { queries = queries; events = c.args.events.now; stats = c.args.stats } in
+    let run : Run = record { queries = queries; events = c.args.hearing.now.events.now; stats = c.args.hearing.now.stats } in
     let judged = judged_of c.args.session.now.catalogue in
-    run_hears run c.args.limit judged c.read_events.new.session first (told c.attach.new.self) (told c.read_events.new.host) Done
+    run_hears run c.args.hearing.now.limit judged c.read_events.new.session first (told c.attach.new.self) (told c.read_events.new.host) Done
     (ready run judged first (told c.args.host.now) (told c.attach.new.self) accepted (from_ok c.attach.result c.if-is_err.ensures.value c.attach.ensures.ok) c.attach.ensures.same)
-    c.in-Done.ensures.hears c.read_events.ensures.alone (λ e. c.if-stats.false)
+    c.in-Done.ensures.hears c.read_events.ensures.alone (λ e. c.if-hearing.false)
 
 -- the hearing stopped before the end of the events
 pub returns-in_default : goal.returns-in_default
@@ -55,8 +61,8 @@ returns-in_default g c =
     let judged = judged_of c.args.session.now.catalogue in
     record {
       outcome = λ queries first accepted.
-          let run : Run = record { queries = queries; events = c.args.events.now; stats = c.args.stats } in
-          run_hears run c.args.limit judged c.read_events.new.session first (told c.attach.new.self) (told c.read_events.new.host) c.read_events.result
+          let run : Run = record { queries = queries; events = c.args.hearing.now.events.now; stats = c.args.hearing.now.stats } in
+          run_hears run c.args.hearing.now.limit judged c.read_events.new.session first (told c.attach.new.self) (told c.read_events.new.host) c.read_events.result
           (ready run judged first (told c.args.host.now) (told c.attach.new.self) accepted (from_ok c.attach.result c.if-is_err.ensures.value c.attach.ensures.ok) c.attach.ensures.same)
           c.read_events.ensures.hears c.read_events.ensures.alone (λ e. absurd (c.in_default.not-Done e));
       blames = blames_after c.read_events.result (record {
@@ -65,18 +71,35 @@ returns-in_default g c =
         write = c.attach.ensures.same.write_faults;
       }) c.read_events.ensures.blames;
       reads = λ queries first accepted before.
-          reads_events c.args.events.now c.args.limit accepted before (from_ok c.attach.result c.if-is_err.ensures.value c.attach.ensures.ok) c.read_events.ensures.alone c.read_events.ensures.stops;
+          reads_events c.args.hearing.now.events.now c.args.hearing.now.limit accepted before (from_ok c.attach.result c.if-is_err.ensures.value c.attach.ensures.ok) c.read_events.ensures.alone c.read_events.ensures.stops;
+      tests = λ queries first accepted.
+          tests_events c.args.hearing.now.events.now c.args.hearing.now.limit accepted (from_ok c.attach.result c.if-is_err.ensures.value c.attach.ensures.ok) c.read_events.ensures.alone c.read_events.ensures.tests;
     }
 
 -- what was read of the events, and of the queries before
 pub returns-then-is_err-clause-reads : goal.returns-then-is_err-clause-reads
-returns-then-is_err-clause-reads g c = λ queries first accepted before. reads_before_events c.args.events.now c.args.limit accepted before (search rules) c.requires.free
+returns-then-is_err-clause-reads g c = λ queries first accepted before. reads_before_events c.args.hearing.now.events.now c.args.hearing.now.limit accepted before (search rules) c.requires.free
 
-pub returns-then-stats-clause-reads : goal.returns-then-stats-clause-reads
-returns-then-stats-clause-reads g c = λ queries first accepted before.
-    reads_events c.args.events.now c.args.limit accepted before (from_ok c.attach.result c.if-is_err.ensures.value c.attach.ensures.ok)
+pub returns-then-hearing-clause-reads : goal.returns-then-hearing-clause-reads
+returns-then-hearing-clause-reads g c = λ queries first accepted before.
+    reads_events c.args.hearing.now.events.now c.args.hearing.now.limit accepted before (from_ok c.attach.result c.if-is_err.ensures.value c.attach.ensures.ok)
     (alone_then_writes c.read_events.ensures.alone c.write_stats.ensures.same) (stops_then_writes c.read_events.ensures.stops c.write_stats.ensures.same)
 
-pub returns-else-stats-clause-reads : goal.returns-else-stats-clause-reads
-returns-else-stats-clause-reads g c = λ queries first accepted before.
-    reads_events c.args.events.now c.args.limit accepted before (from_ok c.attach.result c.if-is_err.ensures.value c.attach.ensures.ok) c.read_events.ensures.alone c.read_events.ensures.stops
+pub returns-else-hearing-clause-reads : goal.returns-else-hearing-clause-reads
+returns-else-hearing-clause-reads g c = λ queries first accepted before.
+    reads_events c.args.hearing.now.events.now c.args.hearing.now.limit accepted before (from_ok c.attach.result c.if-is_err.ensures.value c.attach.ensures.ok) c.read_events.ensures.alone c.read_events.ensures.stops
+
+-- what was tested
+pub returns-then-is_err-clause-tests : goal.returns-then-is_err-clause-tests
+returns-then-is_err-clause-tests g c = λ queries first accepted.
+    let fails = from_err c.attach.result c.if-is_err.ensures.value c.attach.ensures.failed in
+    tests_nothing queries c.args.hearing.now.events.now c.args.hearing.now.limit c.args.steps.now (ap (λ f. f Events) fails.attached ∙ c.requires.free)
+
+pub returns-then-hearing-clause-tests : goal.returns-then-hearing-clause-tests
+returns-then-hearing-clause-tests g c = λ queries first accepted.
+    tests_events c.args.hearing.now.events.now c.args.hearing.now.limit accepted (from_ok c.attach.result c.if-is_err.ensures.value c.attach.ensures.ok)
+    (alone_then_writes c.read_events.ensures.alone c.write_stats.ensures.same) (tests_then_writes c.read_events.ensures.tests c.write_stats.ensures.same)
+
+pub returns-else-hearing-clause-tests : goal.returns-else-hearing-clause-tests
+returns-else-hearing-clause-tests g c = λ queries first accepted.
+    tests_events c.args.hearing.now.events.now c.args.hearing.now.limit accepted (from_ok c.attach.result c.if-is_err.ensures.value c.attach.ensures.ok) c.read_events.ensures.alone c.read_events.ensures.tests

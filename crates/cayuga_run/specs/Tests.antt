@@ -1,0 +1,41 @@
+-- How many conditions a job tests at most.
+use Rattle.std.specs.Prelude.{◌≡◌, ◌≤◌, ◌+◌, ℕ, List, [], Bool, true, false, length, take, Option, IfSome}
+use Rattle.std.specs.Io.KnownBytes.{prepend_known}
+use Rattle.automaton.specs.Prefixes.{Prefix}
+use Rattle.cay_host.specs.declared.side.Side.TheVariants.{Queries, Events}
+use Rattle.cay_host.specs.Files.{file_of}
+use Rattle.cay_host.specs.Told.{Told}
+use Rattle.catalogue.specs.Judgement.{Judged, program_of}
+use Rattle.prefix_merge.specs.Counts.{ListPrefixes}
+use Rattle.session.specs.Heard.{closed}
+use Rattle.session.specs.Readings.{readings}
+use Rattle.session.specs.RunWork.{run_work}
+use Rattle.splitter.specs.Chains.{lines_of}
+use Rattle.cayuga_run.specs.Accepting.{IsAcceptedWith}
+use Rattle.cayuga_run.specs.Works.{Work, ByWork}
+
+-- the tests that the epochs ask for that an event text closes, which has ended or not; the states are the prefixes of the queries' lines, each once
+abbrev pub tests_of_closed : Judged → List Prefix → List ℕ → Bool → ℕ
+tests_of_closed judged states text ended = run_work states (program_of judged) (closed (readings judged.streams text ended) ended)
+
+-- a count of tests rose by no more than the epochs ask for that an event text closes
+abbrev pub RisesWithin : Judged → List ℕ → Bool → ℕ → ℕ → Type 0
+RisesWithin judged text ended old new = (states : List Prefix) → ListPrefixes (lines_of (program_of judged)) states → new ≤ old + tests_of_closed judged states text ended
+
+-- these bytes were taken of an event text, which has ended behind them or not, and a count of tests rose by no more than the epochs ask for that those within the limit close
+pub record TestsOfTaken (judged : Judged) (limit : ℕ) (text rest : Option (List ℕ)) (old new : ℕ) : Type 0 where
+  pub taken : List ℕ
+  pub ended : Bool
+  pub front : text ≡ prepend_known taken rest
+  pub whole : ended ≡ true → (length taken ≤ limit) × IfSome rest (λ more. more ≡ [])
+  pub within : RisesWithin judged (take limit taken) ended old new
+
+-- nothing was tested before the events were attached, and then no more than the epochs ask for that the bytes taken of them close
+pub record TestsOfRun (queries events : List ℕ) (limit : ℕ) (before after : Told) (old new : ℕ) : Type 0 where
+  pub unattached : after.attached Events ≡ false → new ≡ old
+  pub attached : after.attached Events ≡ true
+      → IfSome (file_of queries before.files) (λ text. IsAcceptedWith text (λ judged. TestsOfTaken judged limit (file_of events before.files) (after.left Events) old new))
+
+-- how many conditions were tested at most, by the work: none where nothing is run
+abbrev pub StaysWithinWork : Work → ℕ → Told → Told → ℕ → ℕ → Type 0
+StaysWithinWork work limit before after old new = ByWork work (new ≡ old) (λ run. TestsOfRun run.queries run.events limit before after old new) (λ writing. new ≡ old)
