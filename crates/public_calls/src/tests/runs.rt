@@ -4,10 +4,12 @@ ghost use Rattle.cay_host.specs.MemHost.{mem_told};
 ghost use Rattle.cay_host.specs.Told.{IsFree};
 
 mod cases;
+mod failing;
 
-use cases::{CASES, Case};
+use cases::{CASES, Case, PAIRS};
 use cay_host::{Ledger, MemHost, Quiet, Steps};
 use cayuga_run::{Status, cayuga_within};
+use failing::{STAGES, Stage};
 use std::alloc::{AllocError, Global};
 use std::process::Abort;
 use std::sync::ledger::Blank;
@@ -53,6 +55,32 @@ fn expect(rt: &impl Abort, alloc: Global, case: &Case<'_>) -> Result<(), Fail> {
 fn pieces_calls_that_fail_and_limits_are_told(rt: HostRuntime) -> Result<(), Fail> {
     for case in &CASES {
         expect(&rt, rt.alloc(), case)?;
+    }
+    Ok(())
+}
+
+// The calls of a stage, one a run, fail.
+fn fail_in_turn(rt: &impl Abort, alloc: Global, stage: &Stage<'_>) -> Result<(), Fail> {
+    for place in 0..stage.calls {
+        let more = if stage.writes { place as usize } else { 0 };
+        let written = stage.written.saturating_add(more);
+        assert!(rt; written <= PAIRS.written.len());
+        let case = Case {
+            name: stage.name,
+            failing: stage.first.saturating_add(place),
+            status: stage.status,
+            written: &PAIRS.written[..written],
+            ..PAIRS
+        };
+        expect(rt, alloc, &case)?;
+    }
+    Ok(())
+}
+
+#[test]
+fn each_call_that_fails_is_told_with_what_was_written_before(rt: HostRuntime) -> Result<(), Fail> {
+    for stage in &STAGES {
+        fail_in_turn(&rt, rt.alloc(), stage)?;
     }
     Ok(())
 }

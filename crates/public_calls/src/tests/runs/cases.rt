@@ -37,27 +37,31 @@ const STATS: Case = Case {
     ..PLAIN
 };
 
-/// Three events of eight bytes each, read and written byte by byte. The queries have 59 bytes.
-const PAIRS: Case = Case {
+/// Three events that make two pairs, read and written byte by byte. The queries have 114 bytes, the events 57,
+/// and each row has 27.
+pub const PAIRS: Case = Case {
     name: "bytes that come and go one by one make the same pairs",
-    queries: b"STREAM S (a INT);\nSELECT * FROM S NEXT {TRUE} S PUBLISH P;\n",
-    events: b"S,1,1,5\nS,2,2,6\nS,3,3,7\n",
+    queries: b"STREAM Stock (Name TEXT, Price INT, Volume INT);\n\
+        SELECT * FROM Stock NEXT {$2.Name = $1.Name} Stock PUBLISH Pair;\n",
+    events: b"Stock,1,1,IBM,10,5\nStock,2,2,IBM,11,6\nStock,3,3,IBM,12,7\n",
     pieces: (1, 1),
     limit: 99,
-    written: b"P,1,2,5,6\nP,2,3,6,7\n",
+    written: b"Pair,1,2,IBM,10,5,IBM,11,6\nPair,2,3,IBM,11,6,IBM,12,7\n",
     ..PLAIN
 };
 
-/// Each of these events. A piece has one line of them, and seven reads take the 45 bytes of the queries to
-/// their end.
+/// Each of three events of eight bytes. A piece has one line of them, and seven reads take the 45 bytes of the
+/// queries to their end.
 const ALL: Case = Case {
     queries: b"STREAM S (a INT);\nSELECT * FROM S PUBLISH A;\n",
+    events: b"S,1,1,5\nS,2,2,6\nS,3,3,7\n",
     pieces: (8, 5),
-    ..PAIRS
+    limit: 99,
+    ..PLAIN
 };
 
 /// Pieces, calls that fail, and limits.
-pub const CASES: [Case; 10] = [
+pub const CASES: [Case; 9] = [
     PLAIN,
     Case {
         name: "the events have one byte more than the limit",
@@ -99,15 +103,6 @@ pub const CASES: [Case; 10] = [
         ..PLAIN
     },
     PAIRS,
-    // Before it stand two calls that attach, a read for each of 59 and 24 bytes, the read that ends the
-    // queries, and ten writes of the first row.
-    Case {
-        name: "the end of the events can't be read, and an epoch was closed",
-        failing: 97,
-        status: "cayuga: cannot read the events",
-        written: b"P,1,2,5,6\n",
-        ..PAIRS
-    },
     // Before it stand two calls that attach, seven reads of the queries, two of the events, and two writes of
     // the first row.
     Case {
