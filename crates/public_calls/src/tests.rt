@@ -8,5 +8,6 @@ mod hosts;
 mod indexes;
 mod merging;
 mod runs;
+mod texts;
 mod times;
 mod values;
