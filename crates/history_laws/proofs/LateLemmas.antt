@@ -42,6 +42,7 @@ late_denoted start (Fold p q m e f) streams all =
     runs_sifted (is_late start) (is_late start) p (late_follows start p) q m.parts (λ b r is. refl) (denote e streams) (denote f streams) (denote_sound streams all e) (denote_sound streams all f)
     ∙ (λ i. flat_map (runs p q m.parts (late_denoted start f streams all i)) (late_denoted start e streams all i))
 
+-- a number that tests below another is below it
 pub below : (stream declared : ℕ) → nat_lt stream declared ≡ true → stream < declared
 below stream declared is = grind (arith, nat_tests)
 

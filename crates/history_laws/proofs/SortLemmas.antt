@@ -11,6 +11,7 @@ use Rattle.event_types.proofs.SortLemmas.{sort_permutes, sorted_is}
 use Rattle.scalar_expr.proofs.Bags.{filter_permuted}
 use Rattle.scalar_expr.proofs.SortedLemmas.{sort_sorted}
 
+-- what is kept of the tuples in their order is those that are kept, in their order
 pub filter_sorted : (test : TupleView → Bool) (tuples : List TupleView) → filter test (sorted tuples) ≡ sorted (filter test tuples)
 filter_sorted test tuples =
     sorted_is tuple_cmp tuple_total tuple_exact (filter test tuples) (filter test (sorted tuples))

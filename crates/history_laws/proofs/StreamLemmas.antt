@@ -33,6 +33,7 @@ sifted keep streams stream = filter (keep stream) (streams stream)
 abbrev pub Commutes : Sift → Query → Type 0
 Commutes keep query = (streams : Streams) → AllSound streams → filter (keep query.stream) (denote query.expr streams) ≡ denote query.expr (sifted keep streams)
 
+-- with one stream more whose tuples are sound, all are sound
 pub with_sound : (streams : Streams) → AllSound streams → (number : ℕ) (tuples : List TupleView) → All IsSound tuples → AllSound (with_stream streams number tuples)
 with_sound streams all number tuples sound stream = go (stream == number)
   where

@@ -102,6 +102,7 @@ falls_never seen (Ok event ∷ later) h =
       never_falls = (rest.behind, rest.never_falls);
     }
 
+-- the events of lines that are in order never fall
 pub events_never_fall : (seen : Option ℕ) (founds : List Found) → InOrder seen founds → NeverFalls (events_found founds)
 events_never_fall seen founds h = (falls_never seen founds h).never_falls
 

@@ -186,8 +186,10 @@ module _ (text : List ℕ) (whole : Judged) (accepts : Accepts text whole) (even
           ∙ flat_map_same (λ part. flat_map (of_name time) (names_of part)) (λ part. epoch (program_of part) (closed_by events ended part) time) parts
           (All-weaker (IsPartOf whole) (λ part. flat_map (of_name time) (names_of part) ≡ epoch (program_of part) (closed_by events ended part) time) (of_part time) parts all)
 
+-- parts that have each query together report what the whole does
 pub query_parts : QueryPartsReportTheWhole
 query_parts text whole parts events ended accepts all each = parts_report text whole accepts events ended parts all each
 
+-- where the queries of the parts in turn are those of the whole, so are their epochs
 pub in_turn : PartsInTurnReportTheWhole
 in_turn text whole parts events ended accepts all names = parts_in_turn text whole accepts events ended parts all names
