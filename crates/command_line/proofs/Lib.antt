@@ -1,4 +1,5 @@
 pub mod CommandLemmas
-pub mod PlainLemmas
 pub mod JobLemmas
+pub mod PlainLemmas
+pub mod RangeLemmas
 pub mod TwiceLemmas

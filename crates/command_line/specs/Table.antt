@@ -1,5 +1,5 @@
 -- The job that the words of the command line name.
-use Rattle.std.specs.Prelude.{Bool, false, List, [], ◌∷◌, Option, Some, None, codes, if◌then◌else◌, map, option_and_then, option_map}
+use Rattle.std.specs.Prelude.{◌≡◌, ℕ, ◌<◌, ◌≤◌, ◌^◌, Bool, false, List, [], ◌∷◌, Option, Some, None, codes, if◌then◌else◌, map, option_and_then, option_map}
 use Rattle.std.specs.Borrow.{Bor}
 use Rattle.std.specs.Option.{option_map_or}
 use Rattle.std.specs.Str.{bytes_eq}
@@ -9,7 +9,8 @@ use Rattle.clap.specs.Simple.{matches_of}
 use Rattle.clap.specs.Walk.{Row, Text, all_of, first_of}
 use Rattle.command_line.specs.Command.{the_command}
 use Rattle.command_line.specs.declared.job.Job.{Job}
-use Rattle.command_line.specs.declared.job.Job.TheVariants.{Check, Plan, Run}
+use Rattle.command_line.specs.declared.job.Job.TheVariants.{Check, Load, Plan, Run}
+use Rattle.command_line.specs.Numbers.{number_within}
 
 -- the words as bytes
 abbrev pub texts_of : List (Bor Text) → List Text
@@ -25,13 +26,19 @@ abbrev pub run_of : Bool → List Text → Option Job
 run_of stats (queries ∷ events ∷ []) = Some (Run queries events stats)
 run_of stats values = None
 
--- the table of the jobs: `run QUERIES EVENTS`, with which the flag may go, `check QUERIES` and `plan QUERIES`
+-- a load has two values, its seed below 2^31 and its number of events from 1 to 200,000
+abbrev pub load_of : List Text → Option Job
+load_of (seed ∷ events ∷ []) = option_and_then (λ s. option_map (λ n. Load s n) (number_within 1 200000 events)) (number_within 0 2147483647 seed)
+load_of values = None
+
+-- the table of the jobs: `run QUERIES EVENTS`, with which the flag may go, `check QUERIES`, `plan QUERIES` and `load SEED N`
 abbrev pub job_by : Bool → Text → List Text → Option Job
 job_by stats action values =
     if bytes_eq action (codes "run") then run_of stats values
     else (if stats then None
     else (if bytes_eq action (codes "check") then option_map Check (only values)
-    else (if bytes_eq action (codes "plan") then option_map Plan (only values) else None)))
+    else (if bytes_eq action (codes "plan") then option_map Plan (only values)
+    else (if bytes_eq action (codes "load") then load_of values else None))))
 
 -- the job of a flag, an action and its values, which needs both an action and values
 abbrev pub job_given : Bool → Option Text → Option (List Text) → Option Job
@@ -59,3 +66,7 @@ rows_taken words = rows_without (fault_of the_command words) (matches_of the_com
 -- the job that the words ask for, if they ask for one
 abbrev pub job : List Text → Option Job
 job words = option_and_then job_found (rows_taken words)
+
+-- where the job is a load, its seed is below 2^31, and it has from 1 to 200,000 events
+abbrev pub IsInRange : Option Job → Type 0
+IsInRange asked = (seed events : ℕ) → asked ≡ Some (Load seed events) → (seed < 2 ^ 31) × (0 < events) × (events ≤ 200000)

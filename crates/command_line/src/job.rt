@@ -19,4 +19,9 @@ pub enum Job {
     Plan {
         queries: Text,
     },
+    /// Runs the generator's texts, whose events are made from the seed, and writes one line of numbers: `load SEED N`.
+    Load {
+        seed: u64,
+        events: u64,
+    },
 }

@@ -6,6 +6,7 @@
 mod command;
 mod job;
 mod laws;
+mod numbers;
 mod table;
 
 pub use job::Job;

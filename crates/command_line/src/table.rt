@@ -4,17 +4,25 @@ ghost use Rattle.std.specs.Option.{option_map_or};
 ghost use Rattle.std.specs.Str.{bytes_eq};
 ghost use Rattle.clap.specs.Matches.{found_of};
 ghost use Rattle.clap.specs.Walk.{rows_of};
-ghost use Rattle.command_line.specs.Table.{job, job_by, job_found, job_given, only, run_of, texts_of};
+ghost use Rattle.command_line.specs.Table.{job, job_by, IsInRange, job_found, job_given, load_of, only, run_of, texts_of};
 
 use crate::command::matches_in;
 use crate::job::Job;
+use crate::numbers::number_within;
 use clap::ArgMatches;
 use event_types::{Memory, Text};
 use std::alloc::Global;
 
+/// The greatest seed of a load: 2^31-1.
+const MOST_SEED: u64 = 2_147_483_647;
+
+/// The most events of a load.
+const MOST_EVENTS: u64 = 200_000;
+
 /// The job that the words after the program's name ask for; None exactly where they ask for none.
 pub fn job_of(alloc: Global, words: &[&str]) -> Result<Option<Job>, Memory>
-    ensures { IfOk result (λ asked. asked ≡ job (texts_of words.now)) }
+    ensures job { IfOk result (λ asked. asked ≡ job (texts_of words.now)) }
+    ensures in_range { IfOk result (λ asked. IsInRange asked) }
 {
     match matches_in(alloc, &*words)? {
         Some(found) => job_in(alloc, &found),
@@ -67,6 +75,8 @@ fn job_by(alloc: Global, stats: bool, action: &str, values: &[&str]) -> Result<O
         Ok(only(alloc, values)?.map(|queries| Job::Check { queries }))
     } else if action == "plan" {
         Ok(only(alloc, values)?.map(|queries| Job::Plan { queries }))
+    } else if action == "load" {
+        Ok(load(values))
     } else {
         Ok(None)
     }
@@ -87,6 +97,20 @@ fn run(alloc: Global, stats: bool, values: &[&str]) -> Result<Option<Job>, Memor
             }))
         }
         _ => Ok(None),
+    }
+}
+
+// The load of two values.
+fn load(values: &[&str]) -> Option<Job>
+    ensures { result ≡ load_of (texts_of values.now) }
+{
+    match values {
+        [seed, events] => {
+            let seed = number_within(0, MOST_SEED, seed)?;
+            let events = number_within(1, MOST_EVENTS, events)?;
+            Some(Job::Load { seed, events })
+        }
+        _ => None,
     }
 }
 
