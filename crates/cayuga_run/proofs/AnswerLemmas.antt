@@ -6,11 +6,13 @@ use Rattle.cayuga_run.specs.declared.status.Status.{Status}
 use Rattle.cayuga_run.specs.declared.status.Status.TheVariants.{Done, Usage, BadQuery, Cycle, BadEvent, OutOfOrder, AttachFault, ReadFault, WriteFault, TooMuch, Memory}
 use Rattle.cayuga_run.specs.Answers.{Answers}
 use Rattle.cayuga_run.specs.Blaming.{BlamesHost}
+use Rattle.cayuga_run.specs.LoadOutcome.{LoadOutcome}
 use Rattle.cayuga_run.specs.Outcome.{DidNothing, Outcome}
 use Rattle.cayuga_run.specs.Reading.{Reads}
 use Rattle.cayuga_run.specs.RunOutcome.{RunOutcome}
-use Rattle.cayuga_run.specs.Works.{Work, Nothing, Reports, Writes, has_side}
+use Rattle.cayuga_run.specs.Works.{Work, Nothing, Reports, Writes, Loads, has_side}
 use Rattle.cayuga_run.specs.WritingOutcome.{WritingOutcome}
+use Rattle.cayuga_run.proofs.LoadAnswers.{load_complete_by, load_decided, load_refused_by}
 use Rattle.cayuga_run.proofs.RunAnswers.{complete_by, decided, refused_by}
 use Rattle.cayuga_run.proofs.WritingAnswers.{writing_complete_by, writing_decided, writing_refused_by}
 
@@ -108,4 +110,24 @@ answers (Writes writing) limit old new status o blames reads sides = record {
   refused = writing_refused_by writing old new status o;
   determined = writing_decided writing old new status o;
   complete = writing_complete_by writing old new status o;
+}
+answers (Loads load) limit old new status o blames reads sides = record {
+  usage = λ other. (λ e. absurd (subst (LoadOutcome load old new) e o).0, λ e. cc);
+  usage_does = λ e. absurd (subst (LoadOutcome load old new) e o).0;
+  done = λ e. subst (LoadOutcome load old new) e o;
+  bad_query = λ line why e. subst (LoadOutcome load old new) e o;
+  cycle = λ names e. subst (LoadOutcome load old new) e o;
+  bad_event = λ line why e. subst (LoadOutcome load old new) e o;
+  out_of_order = λ line at seen e. subst (LoadOutcome load old new) e o;
+  too_much = λ most e. absurd (subst (LoadOutcome load old new) e o).0;
+  attach_fault = λ side e. (subst (LoadOutcome load old new) e o).0;
+  read_fault = λ side e. (subst (LoadOutcome load old new) e o).0;
+  write_fault = λ e. subst (LoadOutcome load old new) e o;
+  memory = λ e. (subst (LoadOutcome load old new) e o).1;
+  blames = blames;
+  reads = reads;
+  sides = sides;
+  refused = load_refused_by load old new status o;
+  determined = load_decided load old new status o;
+  complete = load_complete_by load old new status o;
 }

@@ -26,7 +26,7 @@ use Rattle.cayuga_run.proofs.OutcomeLemmas.{IsRunReady, at_end, memory_after, of
 use Rattle.cayuga_run.proofs.RunLemmas.{Wrote-after}
 
 -- where no line is refused, the end of the text closes all that was heard
-closed_is_heard : (lines : List Reading) → refused lines ≡ None → closed lines true ≡ heard lines
+pub closed_is_heard : (lines : List Reading) → refused lines ≡ None → closed lines true ≡ heard lines
 closed_is_heard lines e = ap (λ o. cond (true && is_none o) (heard lines) (before_last (heard lines))) e
 
 -- nothing comes behind the report where no stats are asked for

@@ -4,11 +4,14 @@ pub mod EndLemmas
 pub mod GrowingLemmas
 pub mod HearingLemmas
 pub mod JudgementLemmas
+pub mod LoadAnswers
+pub mod LoadLemmas
 pub mod OutcomeLemmas
 pub mod ReadingLemmas
 pub mod RefusedLemmas
 pub mod RunAnswers
 pub mod RunLemmas
+pub mod SummaryLemmas
 pub mod TestsLemmas
 pub mod WordingLemmas
 pub mod WorkLemmas

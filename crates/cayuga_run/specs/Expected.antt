@@ -1,5 +1,5 @@
 -- The status that the texts of both files ask for.
-use Rattle.std.specs.Prelude.{◌≡◌, ⊤, ℕ, ◌-◌, ◌^◌, ◌<◌, List, Bool, true, false, take, Option, Some, None}
+use Rattle.std.specs.Prelude.{◌≡◌, ⊤, ℕ, ◌-◌, ◌^◌, ◌<◌, List, Bool, true, false, length, take, Option, Some, None}
 use Rattle.cay_host.specs.declared.side.Side.TheVariants.{Queries}
 use Rattle.cay_host.specs.Told.{Told}
 use Rattle.session.specs.declared.refusal.Refusal.{Refusal}
@@ -28,6 +28,10 @@ pub record IsExpected (limit : ℕ) (queries events : List ℕ) (status : Status
   pub verdict : Verdict
   pub judged : Judges queries verdict
   pub value : status ≡ expected_of verdict limit events
+
+-- so do they where all of the event text is within the limit
+abbrev pub IsExpectedWhole : List ℕ → List ℕ → Status → Type 0
+IsExpectedWhole queries events status = IsExpected (length events) queries events status
 
 -- they ask for at most one
 abbrev pub OneStatus : Type 0

@@ -5,6 +5,8 @@ pub mod Blaming
 pub mod Expected
 pub mod HearingOutcome
 pub mod Laws
+pub mod LoadHearing
+pub mod LoadOutcome
 pub mod Number
 pub mod Outcome
 pub mod QueryFailing

@@ -53,4 +53,4 @@ pub record ReadsBoth (queries events : List ℕ) (limit : ℕ) (old new : Told) 
 -- what was read, by the work
 abbrev pub Reads : Work → ℕ → Told → Told → Type 0
 Reads work limit old new =
-    ByWork work (new.left ≡ old.left) (λ run. ReadsBoth run.queries run.events limit old new) (λ writing. ReadsNoEvents writing.queries old new)
+    ByWork work (new.left ≡ old.left) (λ run. ReadsBoth run.queries run.events limit old new) (λ writing. ReadsNoEvents writing.queries old new) (λ load. new.left ≡ old.left)

@@ -1,18 +1,20 @@
 -- How many conditions a job tests at most.
-use Rattle.std.specs.Prelude.{◌≡◌, ◌≤◌, ◌+◌, ℕ, List, [], Bool, true, false, length, take, Option, IfSome}
+use Rattle.std.specs.Prelude.{◌≡◌, ◌≤◌, ◌⊎◌, ◌+◌, ℕ, List, [], Bool, true, false, length, take, Option, Some, IfSome}
 use Rattle.std.specs.Io.KnownBytes.{prepend_known}
 use Rattle.automaton.specs.Prefixes.{Prefix}
-use Rattle.cay_host.specs.declared.side.Side.TheVariants.{Queries, Events}
+use Rattle.cay_host.specs.declared.side.Side.TheVariants.{Events}
 use Rattle.cay_host.specs.Files.{file_of}
 use Rattle.cay_host.specs.Told.{Told}
 use Rattle.catalogue.specs.Judgement.{Judged, program_of}
+use Rattle.load_texts.specs.EventText.{event_text}
+use Rattle.load_texts.specs.QueryText.{query_text}
 use Rattle.prefix_merge.specs.Counts.{ListPrefixes}
 use Rattle.session.specs.Heard.{closed}
 use Rattle.session.specs.Readings.{readings}
 use Rattle.session.specs.RunWork.{run_work}
 use Rattle.splitter.specs.Chains.{lines_of}
 use Rattle.cayuga_run.specs.Accepting.{IsAcceptedWith}
-use Rattle.cayuga_run.specs.Works.{Work, ByWork}
+use Rattle.cayuga_run.specs.Works.{Work, ByWork, Load}
 
 -- the tests that the epochs ask for that an event text closes, which has ended or not; the states are the prefixes of the queries' lines, each once
 abbrev pub tests_of_closed : Judged → List Prefix → List ℕ → Bool → ℕ
@@ -36,6 +38,15 @@ pub record TestsOfRun (queries events : List ℕ) (limit : ℕ) (before after : 
   pub attached : after.attached Events ≡ true
       → IfSome (file_of queries before.files) (λ text. IsAcceptedWith text (λ judged. TestsOfTaken judged limit (file_of events before.files) (after.left Events) old new))
 
+-- no more was tested than the epochs ask for that a front of this event text closes
+abbrev pub TestsOfText : Judged → List ℕ → ℕ → ℕ → Type 0
+TestsOfText judged text old new = (rest : List ℕ) × TestsOfTaken judged (length text) (Some text) (Some rest) old new
+
+-- nothing was tested; or the generator's queries are accepted, and no more than the epochs ask for that a front of its events closes
+abbrev pub TestsOfLoad : Load → ℕ → ℕ → Type 0
+TestsOfLoad load old new = (new ≡ old) ⊎ IsAcceptedWith (query_text load.events) (λ judged. TestsOfText judged (event_text load.seed load.events) old new)
+
 -- how many conditions were tested at most, by the work: none where nothing is run
 abbrev pub StaysWithinWork : Work → ℕ → Told → Told → ℕ → ℕ → Type 0
-StaysWithinWork work limit before after old new = ByWork work (new ≡ old) (λ run. TestsOfRun run.queries run.events limit before after old new) (λ writing. new ≡ old)
+StaysWithinWork work limit before after old new =
+    ByWork work (new ≡ old) (λ run. TestsOfRun run.queries run.events limit before after old new) (λ writing. new ≡ old) (λ load. TestsOfLoad load old new)

@@ -54,8 +54,8 @@ fn read_queries<H: Host>(alloc: Global, host: &mut H) -> Result<Catalogue, Statu
     }
 }
 
-// Judges the bytes of the queries.
-fn judge_text(alloc: Global, text: &[u8]) -> Result<Catalogue, Status>
+/// Judges the bytes of the queries.
+pub fn judge_text(alloc: Global, text: &[u8]) -> Result<Catalogue, Status>
     ensures accepted { IfOk result (λ catalogue. Accepts text.now (judged_of catalogue)) }
     ensures fails { IfErr result (TextFails text.now) }
 {

@@ -54,8 +54,8 @@ pub fn read_events<H: Host, L: Ledger>(
     }
 }
 
-// The status of a session's fault.
-fn status_of(fault: SessionFault) -> Status
+/// The status of a session's fault.
+pub fn status_of(fault: SessionFault) -> Status
     ensures { result ≡ status_of fault }
 {
     match fault {

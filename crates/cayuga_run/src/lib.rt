@@ -6,6 +6,7 @@
 mod accepting;
 mod events;
 mod laws;
+mod load;
 mod pieces;
 mod run;
 mod sides;

@@ -2,7 +2,7 @@
 ghost use Rattle.std.specs.Prelude.{◌≡◌, ◌^◌, false, Some};
 ghost use Rattle.cay_host.specs.declared.side.Side.{Side};
 ghost use Rattle.cay_host.specs.Told.{IsFree};
-ghost use Rattle.command_line.specs.Table.{job, texts_of};
+ghost use Rattle.command_line.specs.Table.{IsInRange, job, texts_of};
 ghost use Rattle.cayuga_run.specs.Answers.{Answers};
 ghost use Rattle.cayuga_run.specs.Blaming.{BlamesHost};
 ghost use Rattle.cayuga_run.specs.Outcome.{Outcome};
@@ -10,6 +10,7 @@ ghost use Rattle.cayuga_run.specs.Reading.{Reads};
 ghost use Rattle.cayuga_run.specs.Tests.{StaysWithinWork};
 ghost use Rattle.cayuga_run.specs.Works.{has_side, work_of};
 
+use crate::load::load;
 use crate::run::{Hearing, run};
 use crate::status::Status;
 use crate::writing::{check, plan};
@@ -23,7 +24,7 @@ const MOST_EVENT_BYTES: u64 = 1 << 40;
 /// Does what the words after the program's name ask for. `run [--stats] QUERIES EVENTS` writes the report
 /// of the queries over the events, of which at most 2^40 bytes are taken, and with the flag a line of stats
 /// behind it. `check QUERIES` writes the canonical text of the queries, and `plan QUERIES` what each of them
-/// publishes and reads.
+/// publishes and reads. `load SEED N` runs the generator's texts and writes one line of numbers.
 pub fn cayuga<H: Host, L: Ledger>(
     alloc: Global,
     host: &mut H,
@@ -82,7 +83,8 @@ fn do_job<H: Host, L: Ledger>(
     limit: u64,
     steps: &mut Steps<L>,
 ) -> Status
-    requires { IsFree (H.told host.old) }
+    requires free { IsFree (H.told host.old) }
+    requires in_range { IsInRange (Some job.now) }
     ensures outcome { Outcome (work_of (Some job.now)) limit (H.told host.old) (H.told host.new) result }
     ensures blames { BlamesHost (H.told host.old) (H.told host.new) result }
     ensures reads { Reads (work_of (Some job.now)) limit (H.told host.old) (H.told host.new) }
@@ -104,5 +106,6 @@ fn do_job<H: Host, L: Ledger>(
         }
         Job::Check { queries } => check(alloc, host, queries.as_str()),
         Job::Plan { queries } => plan(alloc, host, queries.as_str()),
+        Job::Load { seed, events } => load(alloc, host, *seed, *events, steps),
     }
 }
