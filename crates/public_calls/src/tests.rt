@@ -2,11 +2,13 @@
 mod chains;
 mod closings;
 mod counts;
+mod engines;
 mod evaluation;
 mod generated;
 mod hosts;
 mod indexes;
 mod merging;
+mod offering;
 mod runs;
 mod texts;
 mod times;

@@ -1,0 +1,25 @@
+use Rattle.std.proofs.Common.{sym, subst}
+use Rattle.std.proofs.lemmas.Result.{IfOk-weaker}
+use Rattle.splitter.specs.Layouts.{IsLayoutOf}
+use Rattle.catalogue.specs.Catalogued.{judged_of}
+use Rattle.catalogue.specs.Chained.{kinds_of_each}
+use Rattle.epoch_engine.specs.Starts.{IsNew}
+use Rattle.session.specs.EngineStandsWithLastOpen.{IsPlanned, lines_over, program_over}
+use Rattle.session.proofs.PlanLemmas.{new_planned}
+use Rattle.public_calls.proofs.tests.offering.engine.Goals as goal
+
+-- the layout fits the merged network
+pub make-requires : goal.make-requires
+make-requires c =
+    let now = c.args.catalogue.now in
+    let lines = rw c.lines.ensures.value at c.in_ok-merged.ensures.lines in
+    let layout = subst (IsLayoutOf (program_over now) (kinds_of_each (judged_of now).streams)) (sym c.in_ok-layout.ensures) c.layout.ensures in
+    (lines_over now, lines, layout.fits)
+
+-- the engine is over them
+pub returns : goal.returns
+returns c =
+    let now = c.args.catalogue.now in
+    let lines = rw c.lines.ensures.value at c.in_ok-merged.ensures.lines in
+    let layout = subst (IsLayoutOf (program_over now) (kinds_of_each (judged_of now).streams)) (sym c.in_ok-layout.ensures) c.layout.ensures in
+    IfOk-weaker c.make.result (IsNew c.in_ok-merged.merged c.in_ok-layout.layout) (IsPlanned now) (λ engine new. new_planned now c.in_ok-merged.merged c.in_ok-layout.layout engine lines layout new) c.make.ensures

@@ -1,0 +1,190 @@
+//! Events that an engine hands back, and how many bindings wait.
+ghost use Rattle.std.specs.Prelude.{◌≡◌, ◌<◌};
+
+use crate::tests::offering::{NEWS, STOCK, catalogue, engine, offer};
+use epoch_engine::{Batch, Engine, OfferFault};
+use event_types::{Memory, StreamId, Tuple, Tuples, Value};
+use std::alloc::Global;
+use std::process::Abort;
+use std::sync::ledger::Blank;
+use std::test::Fail;
+use steps::{Ledger, Quiet, Steps};
+
+/// The places of Pair and Near among the streams that are printed.
+const PAIR: usize = 0;
+
+const NEAR: usize = 2;
+
+// A row: its start, its detection and its numbers.
+type Row<'a> = (u64, u64, &'a [i128]);
+
+// What is done with an engine, and what is seen then.
+#[derive(Clone, Copy)]
+enum Deed<'a> {
+    // An event of a stream with a number, a start and a detection is taken.
+    Offer(StreamId, i128, u64, u64),
+    // An event of Stock with a start and a detection comes back, as late for this time.
+    Late(u64, u64, u64),
+    // The open epoch is closed, and a printed stream has these rows.
+    Close(usize, &'a [Row<'a>]),
+    // So many bindings are stored once those are taken out that no later event can match.
+    Alive(u64),
+}
+
+// Closes the open epoch; where that is refused, it is open still, and is closed again.
+fn close<L: Ledger>(
+    rt: &impl Abort,
+    alloc: Global,
+    engine: &mut Engine,
+    blank: Blank,
+) -> Result<Batch, Memory>
+    requires name { blank.name ≡ L.name }
+    requires parts { blank.parts ≡ L.parts }
+    requires some { 0 < blank.parts }
+{
+    let mut steps = Steps::<L>::new(blank);
+    assert!(rt; engine.open_time().is_some());
+    match engine.close(alloc, &mut steps) {
+        Ok(batch) => Ok(batch),
+        Err(_) => engine.close(alloc, &mut steps),
+    }
+}
+
+// These are the rows of a printed stream, and no other has some.
+fn is_printed(rt: &impl Abort, batch: &Batch, place: usize, rows: &[Row<'_>]) {
+    let printed = batch.printed();
+    match printed.entries {
+        [] => assert_eq!(rt; rows.len(), 0),
+        [entry] => {
+            assert_eq!(rt; entry.place, place);
+            assert!(rt; entry.stream < printed.made.len());
+            are(rt, printed.made.get(entry.stream), rows);
+        }
+        _ => panic!(rt; "several streams have rows"),
+    }
+}
+
+// The tuples are these rows.
+fn are(rt: &impl Abort, tuples: &Tuples, rows: &[Row<'_>]) {
+    assert_eq!(rt; tuples.len(), rows.len());
+    for (tuple, row) in tuples.as_slice().iter().zip(rows) {
+        is_row(rt, tuple, *row);
+    }
+}
+
+// The tuple is this row.
+fn is_row(rt: &impl Abort, tuple: &Tuple, row: Row<'_>) {
+    let (from, at, numbers) = row;
+    assert_eq!(rt; (tuple.from(), tuple.at()), (from, at));
+    assert_eq!(rt; tuple.vals().len(), numbers.len());
+    for (value, number) in tuple.vals().as_slice().iter().zip(numbers) {
+        assert!(rt; *value == Value::Int(*number));
+    }
+}
+
+// The open epoch has these rows of a printed stream.
+fn closes_with(
+    rt: &impl Abort,
+    alloc: Global,
+    engine: &mut Engine,
+    place: usize,
+    rows: &[Row<'_>],
+) -> Result<(), Memory> {
+    let batch = close::<Quiet>(rt, alloc, engine, Blank::new(1))?;
+    is_printed(rt, &batch, place, rows);
+    engine.take_back(batch);
+    Ok(())
+}
+
+// An event of Stock is out of order for what was seen, and comes back.
+fn comes_back(rt: &impl Abort, alloc: Global, engine: &mut Engine, from: u64, at: u64, seen: u64) {
+    match offer(rt, alloc, engine, STOCK, (8, from, at)) {
+        Err(
+            OfferFault::OutOfOrder {
+                at: offered,
+                seen: met,
+                tuple,
+            },
+        ) => {
+            assert_eq!(rt; (offered, met), (at, seen));
+            is_row(rt, &tuple, (from, at, &[8]));
+        }
+        _ => panic!(rt; "not out of order"),
+    }
+}
+
+// Does one thing with an engine.
+fn does(rt: &impl Abort, alloc: Global, engine: &mut Engine, deed: Deed<'_>) -> Result<(), Memory> {
+    match deed {
+        Deed::Offer(stream, number, from, at) => {
+            assert!(rt; offer(rt, alloc, engine, stream, (number, from, at)).is_ok());
+        }
+        Deed::Late(from, at, seen) => comes_back(rt, alloc, engine, from, at, seen),
+        Deed::Close(place, rows) => closes_with(rt, alloc, engine, place, rows)?,
+        Deed::Alive(count) => {
+            engine.trim();
+            assert_eq!(rt; engine.live(), count);
+        }
+    }
+    Ok(())
+}
+
+// Does one thing after another.
+fn goes_through(
+    rt: &impl Abort,
+    alloc: Global,
+    engine: &mut Engine,
+    deeds: &[Deed<'_>],
+) -> Result<(), Memory> {
+    for deed in deeds {
+        does(rt, alloc, engine, *deed)?;
+    }
+    Ok(())
+}
+
+// A new engine goes through the deeds.
+fn expect(rt: &impl Abort, alloc: Global, deeds: &[Deed<'_>]) -> Result<(), Memory> {
+    let mut engine = engine(alloc, &catalogue(rt, alloc))?;
+    goes_through(rt, alloc, &mut engine, deeds)
+}
+
+// Late for the open epoch, and for a closed one.
+const LATE: [Deed; 6] = [
+    Deed::Offer(STOCK, 7, 3, 3),
+    Deed::Late(1, 2, 3),
+    Deed::Close(NEAR, &[]),
+    Deed::Late(2, 3, 3),
+    Deed::Offer(STOCK, 9, 4, 4),
+    Deed::Close(NEAR, &[(3, 4, &[7, 9])]),
+];
+
+#[test]
+fn late_event_comes_back(rt: HostRuntime) -> Result<(), Fail> {
+    expect(&rt, rt.alloc(), &LATE)?;
+    Ok(())
+}
+
+// The event of 1 waits for an equal one, for a lower one, for any within 5 and for a pair. News meets none of
+// these; after the epoch of 6 the third is out of time. The event of 7 meets the first, and waits for all four.
+const WAITING: [Deed; 14] = [
+    Deed::Alive(0),
+    Deed::Offer(STOCK, 7, 1, 1),
+    Deed::Alive(0),
+    Deed::Close(PAIR, &[]),
+    Deed::Alive(4),
+    Deed::Offer(NEWS, 0, 5, 5),
+    Deed::Close(PAIR, &[]),
+    Deed::Alive(4),
+    Deed::Offer(NEWS, 0, 6, 6),
+    Deed::Close(PAIR, &[]),
+    Deed::Alive(3),
+    Deed::Offer(STOCK, 7, 7, 7),
+    Deed::Close(PAIR, &[(1, 7, &[7, 7])]),
+    Deed::Alive(6),
+];
+
+#[test]
+fn bindings_that_wait_are_counted(rt: HostRuntime) -> Result<(), Fail> {
+    expect(&rt, rt.alloc(), &WAITING)?;
+    Ok(())
+}
