@@ -1,10 +1,8 @@
 -- States that stand for prefixes, and the prefixes with which a prefix begins.
-use Rattle.std.proofs.Common.{◌≡◌, ◌⊎◌, ◌∙◌, sym, ap, refl, subst, inl, inr, ℕ, zero, suc, get_or, ◌+◌, ◌<◌, List, [], ◌∷◌, ◌++◌, add-one, drop, take, arith}
+use Rattle.std.proofs.Common.{◌≡◌, ◌⊎◌, ◌∙◌, sym, ap, refl, subst, inl, inr, ℕ, zero, suc, get_or, ◌+◌, ◌<◌, List, [], ◌∷◌, ◌++◌, take, arith}
 use Rattle.std.specs.Prelude.{Contains, Option, Some, None, slice_get}
 use Rattle.std.specs.Option.{option_and_then}
-use Rattle.std.proofs.Math.Seq.{drop-cons}
 use Rattle.std.proofs.lemmas.List.Elements.{Contains-append_cases, Contains-append_left, Contains-append_right}
-use Rattle.std.proofs.lemmas.Option.{get_or_from_slice_get, slice_get_within}
 use Rattle.automaton.specs.declared.line.Hop.{Hop}
 use Rattle.automaton.specs.declared.network.Entrance.{Entrance}
 use Rattle.automaton.specs.declared.network.Entrance.TheVariants as entrance
@@ -59,8 +57,3 @@ at_beginning net number (After whole hop) prefix here has =
 -- one hop more
 pub one_hop_more : (first : Prefix) (hops : List Hop) (place : ℕ) (hop : Hop) → slice_get hops place ≡ Some hop → extended first (take (place + 1) hops) ≡ After (extended first (take place hops)) hop
 one_hop_more first hops place hop is = ap (extended first) (take_read hops place hop is) ∙ extended-push first (take place hops) hop
-
--- the hops from a place on
-pub next_hop : (hops : List Hop) (place : ℕ) (hop : Hop) → slice_get hops place ≡ Some hop → drop place hops ≡ hop ∷ drop (place + 1) hops
-next_hop hops place hop is =
-    drop-cons hops place hop (slice_get_within hops place hop is) ∙ (λ i. get_or_from_slice_get hops place hop hop is i ∷ drop (sym (add-one place) i) hops)

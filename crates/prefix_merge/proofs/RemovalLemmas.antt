@@ -1,5 +1,5 @@
 -- A line that leaves a merged network.
-use Rattle.std.proofs.Common.{◌≡◌, ◌≢◌, ◌⊎◌, ◌∙◌, ◌↔◌, sym, ap, refl, subst, inl, inr, ℕ, zero, suc, ◌+◌, ◌≤◌, ◌==◌, Bool, true, false, not, ◌||◌, cond, IsTrue, length, List, [], ◌∷◌, ◌++◌, map, arith}
+use Rattle.std.proofs.Common.{◌≡◌, ◌≢◌, ◌⊎◌, ◌∙◌, ◌↔◌, sym, ap, refl, subst, inl, inr, ℕ, zero, suc, ◌+◌, ◌≤◌, ◌==◌, Bool, true, false, not, ◌||◌, cond, IsTrue, length, List, [], ◌∷◌, map, arith}
 use Rattle.std.specs.Prelude.{Contains, Option, Some, None, count_by, is_some}
 use Rattle.std.specs.HashMap.{HashMap}
 use Rattle.std.specs.List.{filter, flat_map, list_any, range_with_len}

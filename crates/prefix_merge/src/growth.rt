@@ -5,7 +5,7 @@ ghost use Rattle.automaton.specs.States.{Net, edges_at, is_used, root_at};
 ghost use Rattle.prefix_merge.specs.Growth.{AreUsedBelow, Grows, Plants, Reaches, end_of};
 ghost use Rattle.prefix_merge.specs.Merging.{IsLowestFree};
 
-use automaton::{End, Line, Network};
+use automaton::{End, Hop, Line, Network};
 use event_types::{Copied, Memory};
 use std::alloc::Global;
 
@@ -48,37 +48,30 @@ pub(crate) fn free_number(network: &Network, from: usize) -> usize
     number
 }
 
-// Adds the states of a line's hops from a place on, and its end. Gives a number below which each is used.
+// Adds the states of hops one after another, from a state on, and at the last one an end. Gives a number below
+// which each is used.
 pub(crate) fn grow(
     alloc: Global,
     network: &mut Network,
     from: usize,
     tip: usize,
-    line: &Line,
-    place: usize,
-    end: usize,
+    hops: &[Hop],
+    end: End,
 ) -> Result<usize, Memory>
     requires tip { IsTrue (is_used network.old tip) }
     requires from { AreUsedBelow network.old from }
-    requires place { place ≤ length line.now.hops }
-    ensures grown { IfOk result (λ bound. Grows tip (drop place line.now.hops) (end_of line.now end) network.old network.new) }
+    ensures grown { IfOk result (λ bound. Grows tip hops.now end network.old network.new) }
     ensures bound { IfOk result (λ bound. AreUsedBelow network.new bound) }
     ensures kept { OnErr result (network.new ≡ network.old) }
 {
-    if place == line.hops.len() {
-        let step = line.last.copied(alloc)?;
-        let end = End {
-            step,
-            out: line.out,
-            number: end,
-        };
+    let Some((hop, rest)) = hops.split_first() else {
         network.add_end(tip, end)?;
         return Ok(from);
-    }
+    };
     let number = free_number(network, from);
     let places = network.places();
-    network.add_hop(alloc, number, tip, line.hops.get(place))?;
-    match grow(alloc, network, number, number, line, place + 1, end) {
+    network.add_hop(alloc, number, tip, hop)?;
+    match grow(alloc, network, number, number, rest, end) {
         Ok(bound) => Ok(bound),
         Err(fault) => {
             take_back(network, number, places);
@@ -100,15 +93,36 @@ pub(crate) fn plant(
     ensures bound { IfOk result (λ bound. AreUsedBelow network.new bound) }
     ensures kept { OnErr result (network.new ≡ network.old) }
 {
+    let end = numbered_end(alloc, line, end)?;
     let places = network.places();
     network.add_root(alloc, number, line.root)?;
-    match grow(alloc, network, number, number, line, 0, end) {
+    match grow(alloc, network, number, number, line.hops.as_slice(), end) {
         Ok(bound) => Ok(bound),
         Err(fault) => {
             take_back(network, number, places);
             Err(fault)
         }
     }
+}
+
+// The hops of a line from a place on.
+pub(crate) fn hops_from(line: &Line, place: usize) -> &[Hop]
+    requires { place ≤ length line.now.hops }
+    ensures { result.now ≡ drop place line.now.hops }
+{
+    &line.hops.as_slice()[place..]
+}
+
+// The end of a line, with its number.
+pub(crate) fn numbered_end(alloc: Global, line: &Line, number: usize) -> Result<End, Memory>
+    ensures { IfOk result (λ end. end ≡ end_of line.now number) }
+{
+    let step = line.last.copied(alloc)?;
+    Ok(End {
+        step,
+        out: line.out,
+        number,
+    })
 }
 
 // Takes a state away that came when there were so many places.

@@ -7,7 +7,7 @@ ghost use Rattle.prefix_merge.specs.Insertion.{Inserts};
 ghost use Rattle.prefix_merge.specs.Merging.{HasEnd, IsMerged};
 ghost use Rattle.prefix_merge.specs.Removal.{Removes};
 
-use crate::growth::{free_number, grow, plant, reach};
+use crate::growth::{free_number, grow, hops_from, numbered_end, plant, reach};
 use crate::pruning::{Roots, holder, prune};
 use automaton::{Line, Lines, Network};
 use event_types::Memory;
@@ -110,13 +110,14 @@ impl Merged {
         ensures kept { OnErr result (self.new ≡ self.old) }
     {
         let reached = reach(&self.network, root, line);
+        let hops = hops_from(line, reached.place);
+        let end = numbered_end(self.alloc, line, end)?;
         self.lowest = grow(
             self.alloc,
             &mut self.network,
             self.lowest,
             reached.state,
-            line,
-            reached.place,
+            hops,
             end,
         )?;
         Ok(())

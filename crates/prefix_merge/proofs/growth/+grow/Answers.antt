@@ -2,9 +2,8 @@ use Rattle.std.proofs.Common.{◌≤◌, List, subst, sym}
 use Rattle.automaton.specs.declared.line.Hop.{Hop}
 use Rattle.automaton.specs.Changes.{RemovesState}
 use Rattle.automaton.specs.States.{Net}
-use Rattle.prefix_merge.specs.Growth.{Grows, end_of}
+use Rattle.prefix_merge.specs.Growth.{Grows}
 use Rattle.prefix_merge.proofs.GrowthLemmas.{lowest_within}
-use Rattle.prefix_merge.proofs.PrefixLemmas.{next_hop}
 use Rattle.prefix_merge.proofs.UndoneLemmas.{hop_undone}
 use Rattle.prefix_merge.proofs.growth.+grow.Goals as goal
 
@@ -19,12 +18,12 @@ take_back-requires-clause-next t c =
 -- the hop's state comes, and then those of the rest
 pub returns-in-Ok-clause-grown : goal.returns-in-Ok-clause-grown
 returns-in-Ok-clause-grown t c =
-    subst (λ (hops : List Hop). Grows c.args.tip hops (end_of c.args.line.now c.args.end) c.args.network.now c.grow.new.network) (sym (next_hop c.args.line.now.hops c.args.place c.get.result.now c.get.ensures))
+    subst (λ (hops : List Hop). Grows c.args.tip hops c.args.end c.args.network.now c.grow.new.network) (sym c.in-Some.ensures.cases.0)
     (c.free_number-number.result, c.add_hop.new.self, c.free_number-number.ensures, c.in_ok-add_hop.ensures.added, c.in-Ok.ensures.grown)
 
 -- the state is taken away again
 pub returns-in-Err-clause-kept : goal.returns-in-Err-clause-kept
 returns-in-Err-clause-kept t c =
     let removes = subst (λ (net : Net). RemovesState c.free_number-number.result net c.take_back.ensures.0) c.in-Err.ensures.kept c.take_back.ensures.1 in
-    hop_undone c.free_number-number.result c.places-places.result c.args.tip c.get.result.now c.args.network.now c.add_hop.new.self c.take_back.ensures.0 c.take_back.new.network c.places-places.ensures.network c.requires.tip
+    hop_undone c.free_number-number.result c.places-places.result c.args.tip c.in-Some.hop.now c.args.network.now c.add_hop.new.self c.take_back.ensures.0 c.take_back.new.network c.places-places.ensures.network c.requires.tip
     c.free_number-number.ensures.free (lowest_within c.args.network.now c.free_number-number.result c.free_number-number.ensures) c.places-places.ensures.value c.in_ok-add_hop.ensures.added removes c.take_back.ensures.2

@@ -1,5 +1,5 @@
-use Rattle.std.proofs.Common.{◌-◌, length}
+use Rattle.std.proofs.Common.{length}
 use Rattle.prefix_merge.proofs.growth.+grow.Given as goal
 
 abbrev pub decreases-grow : goal.decreases-grow
-decreases-grow l = length l.line.now.hops - l.place
+decreases-grow l = length l.hops.now
