@@ -7,7 +7,7 @@ use Rattle.automaton.specs.declared.line.Hop.{Hop}
 use Rattle.automaton.specs.declared.network.Entrance.{Entrance}
 use Rattle.automaton.specs.declared.network.Entrance.TheVariants as entrance
 use Rattle.automaton.specs.declared.network.State.{State}
-use Rattle.automaton.specs.Changes.{RemovesState, hop_by, without_edge}
+use Rattle.automaton.specs.Changes.{RemovesState, without_edge}
 use Rattle.automaton.specs.Networks.{IsAt, IsNetwork}
 use Rattle.automaton.specs.Prefixes.{Prefix, Root, After}
 use Rattle.automaton.specs.States.{Net, before_at, before_by, before_in, edges_at, edges_in, entrance_at, entrance_in, is_used, root_by, state_at, tells}
@@ -77,12 +77,6 @@ module _ (net : Net) (is : IsNetwork net) where
   -- from a state without edges none is entered
   pub none_entered : (number next : ℕ) → edges_at net number ≡ [] → before_at net next ≡ Some number → ⊥
   none_entered number next none from = let k = edge_to next number from in let empty = ap length none in absurd (omega (arith, k.1))
-
--- a hop and the state before say how a state is entered
-pub entered_by : (o : Option Entrance) (before : ℕ) (hop : Hop) → option_and_then before_by o ≡ Some before → option_and_then hop_by o ≡ Some hop → o ≡ Some (entrance.Waiting before hop)
-entered_by None before hop e f = cc
-entered_by (Some (entrance.Root stream)) before hop e f = cc
-entered_by (Some (entrance.Waiting from own)) before hop e f = let same : from ≡ before = cc in let same' : own ≡ hop = cc in λ i. Some (entrance.Waiting (same i) (same' i))
 
 -- a state leaves
 module _ (number : ℕ) (old new : Net) (removes : RemovesState number old new) (last : edges_at old number ≡ []) (is : IsNetwork old) where

@@ -1,26 +1,16 @@
 -- Networks that a state, an edge or an end comes to or leaves.
 use Rattle.std.specs.Prelude.{◌≡◌, ◌≢◌, ℕ, ◌+◌, ◌==◌, max, false, not, List, [], ◌∷◌, ◌++◌, Option, Some, None, count_by, is_some, length}
 use Rattle.std.specs.List.{filter}
-use Rattle.std.specs.Option.{option_and_then}
 use Rattle.automaton.specs.declared.line.Hop.{Hop}
 use Rattle.automaton.specs.declared.network.End.{End}
 use Rattle.automaton.specs.declared.network.Entrance.{Entrance}
 use Rattle.automaton.specs.declared.network.Entrance.TheVariants as entrance
 use Rattle.automaton.specs.declared.network.State.{State}
-use Rattle.automaton.specs.States.{Net, before_at, entrance_in, state_at, tells}
+use Rattle.automaton.specs.States.{Net, before_at, state_at, tells}
 
 -- a state that is entered so, without edges and ends
 abbrev pub bare : Entrance → Option State
 bare entrance = Some (record { entrance = entrance; edges = []; ends = [] })
-
--- the hop through which a waiting state is entered
-abbrev pub hop_by : Entrance → Option Hop
-hop_by (entrance.Root stream) = None
-hop_by (entrance.Waiting before hop) = Some hop
-
--- the same of a state that may be there
-abbrev pub hop_in : Option State → Option Hop
-hop_in slot = option_and_then hop_by (entrance_in slot)
 
 -- the state with one more forward edge
 abbrev pub with_edge : ℕ → Option State → Option State

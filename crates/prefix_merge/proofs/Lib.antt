@@ -1,4 +1,5 @@
 pub mod AnyLemmas
+pub mod BucketLemmas
 pub mod ContainLemmas
 pub mod CountLemmas
 pub mod EndingLemmas

@@ -1,3 +1,4 @@
+pub mod Buckets
 pub mod Counts
 pub mod Growth
 pub mod Insertion

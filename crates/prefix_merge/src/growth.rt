@@ -5,7 +5,8 @@ ghost use Rattle.automaton.specs.States.{Net, edges_at, is_used, root_at};
 ghost use Rattle.prefix_merge.specs.Growth.{AreUsedBelow, Grows, Plants, Reaches, end_of};
 ghost use Rattle.prefix_merge.specs.Merging.{IsLowestFree};
 
-use automaton::{End, Hop, Line, Network};
+use crate::indexed::Indexed;
+use automaton::{End, Hop, Line};
 use event_types::{Copied, Memory};
 use std::alloc::Global;
 
@@ -17,7 +18,7 @@ pub(crate) struct Reached {
 }
 
 // How far a line comes through states that are there.
-pub(crate) fn reach(network: &Network, root: usize, line: &Line) -> Reached
+pub(crate) fn reach(network: &Indexed, root: usize, line: &Line) -> Reached
     requires { root_at network.now root ≡ Some line.now.root }
     ensures reached { Reaches network.now line.now result.state result.place }
     ensures place { result.place ≤ length line.now.hops }
@@ -37,10 +38,11 @@ pub(crate) fn reach(network: &Network, root: usize, line: &Line) -> Reached
 }
 
 // The lowest number that no state has, which isn't below this one.
-pub(crate) fn free_number(network: &Network, from: usize) -> usize
+pub(crate) fn free_number(network: &Indexed, from: usize) -> usize
     requires { AreUsedBelow network.now from }
     ensures { IsLowestFree network.now result }
 {
+    let network = network.network();
     let mut number = from;
     while number < network.places() && network.used(number) {
         number += 1;
@@ -52,7 +54,7 @@ pub(crate) fn free_number(network: &Network, from: usize) -> usize
 // which each is used.
 pub(crate) fn grow(
     alloc: Global,
-    network: &mut Network,
+    network: &mut Indexed,
     from: usize,
     tip: usize,
     hops: &[Hop],
@@ -83,7 +85,7 @@ pub(crate) fn grow(
 // Adds the root state of a line, the states of its hops and its end.
 pub(crate) fn plant(
     alloc: Global,
-    network: &mut Network,
+    network: &mut Indexed,
     number: usize,
     line: &Line,
     end: usize,
@@ -126,7 +128,7 @@ pub(crate) fn numbered_end(alloc: Global, line: &Line, number: usize) -> Result<
 }
 
 // Takes a state away that came when there were so many places.
-fn take_back(network: &mut Network, number: usize, places: usize)
+fn take_back(network: &mut Indexed, number: usize, places: usize)
     requires used { IsTrue (is_used network.old number) }
     requires last { edges_at network.old number ≡ [] }
     requires next { number ≤ places }

@@ -5,6 +5,8 @@
 #![tactic(auto)]
 
 mod growth;
+mod hashing;
+mod indexed;
 mod laws;
 mod merged;
 mod pruning;

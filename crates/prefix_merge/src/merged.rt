@@ -8,6 +8,7 @@ ghost use Rattle.prefix_merge.specs.Merging.{HasEnd, IsMerged};
 ghost use Rattle.prefix_merge.specs.Removal.{Removes};
 
 use crate::growth::{free_number, grow, hops_from, numbered_end, plant, reach};
+use crate::indexed::Indexed;
 use crate::pruning::{Roots, holder, prune};
 use automaton::{Line, Lines, Network};
 use event_types::Memory;
@@ -21,7 +22,7 @@ use std::marker::Model;
 #[derive(Drop)]
 pub struct Merged {
     alloc: Global,
-    network: Network,
+    network: Indexed,
     roots: Roots,
     // No number below it is free.
     lowest: usize,
@@ -52,7 +53,7 @@ impl Merged {
     {
         Merged {
             alloc,
-            network: Network::new(alloc),
+            network: Indexed::new(alloc),
             roots: HashMap::new(alloc),
             lowest: 0,
         }
@@ -77,7 +78,7 @@ impl Merged {
         ensures value { result.now ≡ self.now }
         ensures merged { IsMerged self.now }
     {
-        &self.network
+        self.network.network()
     }
 
     /// Adds the states of a line's prefixes that aren't there, and its end with this number.
@@ -97,7 +98,7 @@ impl Merged {
         requires { HasEnd self.old end }
         ensures { Removes end self.old self.new }
     {
-        let state = holder(&self.network, end);
+        let state = holder(self.network.network(), end);
         self.network.remove_end(state, end);
         self.lowest = prune(&mut self.network, &mut self.roots, self.lowest, state);
     }

@@ -9,6 +9,7 @@ ghost use Rattle.prefix_merge.specs.Growth.{AreUsedBelow, IsTable};
 ghost use Rattle.prefix_merge.specs.Merging.{HasEnd, ends_numbered};
 ghost use Rattle.prefix_merge.specs.Pruning.{IsPruned, IsPruning, IsWanted};
 
+use crate::indexed::Indexed;
 use automaton::{End, Network};
 use event_types::StreamId;
 use std::collections::HashMap;
@@ -56,18 +57,19 @@ fn forget(roots: &mut Roots, stream: Option<StreamId>)
 
 // Takes a state away that leads nowhere, then the one before it, as long as no edge leads on from there and
 // no end stands there. Gives a number below which each is used, where this was one.
-pub(crate) fn prune(network: &mut Network, roots: &mut Roots, bound: usize, tip: usize) -> usize
+pub(crate) fn prune(network: &mut Indexed, roots: &mut Roots, bound: usize, tip: usize) -> usize
     requires used { IsTrue (is_used network.old tip) }
     requires network { IsNetwork network.old }
     ensures pruned { (whole : Net) (prefix : Prefix) → IsPruning whole prefix tip network.old → IsPruned whole network.new }
     ensures roots { IsTable roots.old network.old → IsTable roots.new network.new }
     ensures below { AreUsedBelow network.old bound → AreUsedBelow network.new result }
 {
-    if is_wanted(network, tip) {
+    let states = network.network();
+    if is_wanted(states, tip) {
         return bound;
     }
-    forget(roots, network.root(tip));
-    let before = network.before(tip);
+    forget(roots, states.root(tip));
+    let before = states.before(tip);
     network.remove_state(tip);
     let bound = bound.min(tip);
     match before {

@@ -1,8 +1,8 @@
 //! Networks that grow and shrink by a state, an edge or an end.
-ghost use Rattle.std.specs.Prelude.{◌≡◌, ◌≢◌, ◌<◌, ◌≤◌, ◌-◌, ◌↔◌, ℕ, [], IfNone, IfOk, IfSome, IsTrue, OnErr, OnOk, Some, false, length, take};
-ghost use Rattle.automaton.specs.Changes.{AddsEnd, AddsHop, AddsRoot, RemovesEnd, RemovesState, hop_in, without_edge, without_end, without_number, without_numbered};
+ghost use Rattle.std.specs.Prelude.{◌≡◌, ◌<◌, ◌≤◌, ◌-◌, ◌↔◌, [], IfSome, IsTrue, OnErr, OnOk, Some, false, length, take};
+ghost use Rattle.automaton.specs.Changes.{AddsEnd, AddsHop, AddsRoot, RemovesEnd, RemovesState, without_edge, without_end, without_number, without_numbered};
 ghost use Rattle.automaton.specs.Growing.{edged, placed, unedged, without_last};
-ghost use Rattle.automaton.specs.States.{Net, before_at, edges_at, entrance_at, is_used};
+ghost use Rattle.automaton.specs.States.{Net, before_at, edges_at, entrance_at, entrance_in, is_used};
 ghost use Rattle.automaton.specs.declared.network.Entrance.TheVariants.{Waiting};
 
 use super::{End, Ends, Entrance, Network, State};
@@ -34,18 +34,14 @@ impl Network {
         }
     }
 
-    /// The number of a state that is entered from this one through the hop. Takes no memory.
-    pub fn next(&self, state: usize, hop: &Hop) -> Option<usize>
-        requires { IsTrue (is_used self.now state) }
-        ensures found { IfSome result (λ next. entrance_at self.now next ≡ Some (Waiting state hop.now)) }
-        ensures absent { IfNone result ((next : ℕ) → entrance_at self.now next ≢ Some (Waiting state hop.now)) }
+    /// Whether the number is that of a state that is entered from this one through the hop. Takes no memory.
+    pub fn is_entered(&self, number: usize, before: usize, hop: &Hop) -> bool
+        ensures { IsTrue result ↔ (entrance_at self.now number ≡ Some (Waiting before hop.now)) }
     {
-        for edge in self.edges(state).as_slice() {
-            if is_entered(&self.slots[*edge], hop) {
-                return Some(*edge);
-            }
+        match self.slots.get(number) {
+            Some(slot) => is_entered(slot, before, hop),
+            None => false,
         }
-        None
     }
 
     /// A root state comes, without edges and ends.
@@ -121,14 +117,14 @@ impl Network {
     }
 }
 
-// Whether it is a state that is entered through the hop.
-fn is_entered(slot: &Option<State>, hop: &Hop) -> bool
-    ensures { IsTrue result ↔ (hop_in slot.now ≡ Some hop.now) }
+// Whether it is a state that is entered from this one through the hop.
+fn is_entered(slot: &Option<State>, before: usize, hop: &Hop) -> bool
+    ensures { IsTrue result ↔ (entrance_in slot.now ≡ Some (Waiting before hop.now)) }
 {
     match slot {
         Some(state) => match &state.entrance {
             Entrance::Root(_) => false,
-            Entrance::Waiting { hop: own, .. } => own.is_same(hop),
+            Entrance::Waiting { from, hop: own } => *from == before && own.is_same(hop),
         },
         None => false,
     }

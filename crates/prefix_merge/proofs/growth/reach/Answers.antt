@@ -2,13 +2,8 @@ use Rattle.std.proofs.Common.{arith, subst, sym}
 use Rattle.std.proofs.lemmas.Option.{slice_get_within}
 use Rattle.automaton.specs.Networks.{IsAt}
 use Rattle.automaton.specs.Prefixes.{Root}
-use Rattle.automaton.proofs.SlotLemmas.{at_used}
 use Rattle.prefix_merge.proofs.PrefixLemmas.{one_hop_more}
 use Rattle.prefix_merge.proofs.growth.reach.Goals as goal
-
--- the state is there
-pub next-requires : goal.next-requires
-next-requires c = at_used c.args.network.now c.loop-place.state _ c.loop-place.invariant.1
 
 -- a hop more leads to the next state
 pub loop-place-preserved : goal.loop-place-preserved

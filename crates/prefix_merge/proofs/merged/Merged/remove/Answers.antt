@@ -1,6 +1,7 @@
-use Rattle.std.proofs.Common.{subst}
+use Rattle.std.proofs.Common.{◌≤◌, subst}
 use Rattle.automaton.specs.States.{Net}
 use Rattle.automaton.proofs.ChangeLemmas.{removes_end_network}
+use Rattle.prefix_merge.specs.Merging.{ends_numbered}
 use Rattle.prefix_merge.specs.Removal.{Removes}
 use Rattle.prefix_merge.proofs.RemovalLemmas.{end_pruning, line_removed, middle_below, middle_table, numbers_kept, state_used}
 use Rattle.prefix_merge.proofs.merged.Merged.remove.Goals as goal
@@ -13,31 +14,33 @@ prune-self-inside-requires-clause-network c = removes_end_network c.holder-state
 pub invariant_of-self : goal.invariant_of-self
 invariant_of-self c =
     let keeps = c.self.invariant in
+    let holds = subst (λ (net : Net). 1 ≤ ends_numbered net c.args.end c.holder-state.result) c.network.ensures c.holder-state.ensures in
     let old = c.self.inside.network in
     let middle = c.remove_end.new.self in
     let state = c.holder-state.result in
-    let used = state_used old middle state c.args.end keeps.network keeps.merged keeps.numbers c.holder-state.ensures c.remove_end.ensures in
+    let used = state_used old middle state c.args.end keeps.network keeps.merged keeps.numbers holds c.remove_end.ensures in
     let place = keeps.network.places state used in
-    let pruning = end_pruning old middle state c.args.end keeps.network keeps.merged keeps.numbers c.holder-state.ensures c.remove_end.ensures place.0 place.1 in
+    let pruning = end_pruning old middle state c.args.end keeps.network keeps.merged keeps.numbers holds c.remove_end.ensures place.0 place.1 in
     let pruned = c.prune-self-inside.ensures.pruned middle place.0 pruning in
     record {
       network = pruned.left.network;
       merged = pruned.merged;
-      numbers = numbers_kept old middle state c.args.end keeps.network keeps.merged keeps.numbers c.holder-state.ensures c.remove_end.ensures c.prune-self-inside.new.network pruned;
-      roots = c.prune-self-inside.ensures.roots (middle_table old middle state c.args.end keeps.network keeps.merged keeps.numbers c.holder-state.ensures c.remove_end.ensures c.self.inside.roots keeps.roots);
-      below = c.prune-self-inside.ensures.below (middle_below old middle state c.args.end keeps.network keeps.merged keeps.numbers c.holder-state.ensures c.remove_end.ensures c.self.inside.lowest keeps.below);
+      numbers = numbers_kept old middle state c.args.end keeps.network keeps.merged keeps.numbers holds c.remove_end.ensures c.prune-self-inside.new.network pruned;
+      roots = c.prune-self-inside.ensures.roots (middle_table old middle state c.args.end keeps.network keeps.merged keeps.numbers holds c.remove_end.ensures c.self.inside.roots keeps.roots);
+      below = c.prune-self-inside.ensures.below (middle_below old middle state c.args.end keeps.network keeps.merged keeps.numbers holds c.remove_end.ensures c.self.inside.lowest keeps.below);
     }
 
 -- the line has left
 pub returns : goal.returns
 returns c =
     let keeps = c.self.invariant in
+    let holds = subst (λ (net : Net). 1 ≤ ends_numbered net c.args.end c.holder-state.result) c.network.ensures c.holder-state.ensures in
     let old = c.self.inside.network in
     let middle = c.remove_end.new.self in
     let state = c.holder-state.result in
-    let used = state_used old middle state c.args.end keeps.network keeps.merged keeps.numbers c.holder-state.ensures c.remove_end.ensures in
+    let used = state_used old middle state c.args.end keeps.network keeps.merged keeps.numbers holds c.remove_end.ensures in
     let place = keeps.network.places state used in
-    let pruning = end_pruning old middle state c.args.end keeps.network keeps.merged keeps.numbers c.holder-state.ensures c.remove_end.ensures place.0 place.1 in
+    let pruning = end_pruning old middle state c.args.end keeps.network keeps.merged keeps.numbers holds c.remove_end.ensures place.0 place.1 in
     let pruned = c.prune-self-inside.ensures.pruned middle place.0 pruning in
     subst (λ (net : Net). Removes c.args.end net c.prune-self-inside.new.network) c.self.view_is
-    (line_removed old middle state c.args.end keeps.network keeps.merged keeps.numbers c.holder-state.ensures c.remove_end.ensures c.prune-self-inside.new.network pruned)
+    (line_removed old middle state c.args.end keeps.network keeps.merged keeps.numbers holds c.remove_end.ensures c.prune-self-inside.new.network pruned)

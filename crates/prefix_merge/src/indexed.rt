@@ -1,0 +1,215 @@
+//! Networks whose waiting states are found by how they are entered.
+ghost use Rattle.std.specs.Prelude.{◌≡◌, ◌≢◌, ◌<◌, ◌≤◌, ◌-◌, ℕ, [], Contains, IfNone, IfSome, IsTrue, OnErr, OnOk, Some, false, length, take};
+ghost use Rattle.automaton.specs.Changes.{AddsEnd, AddsHop, AddsRoot, RemovesEnd, RemovesState};
+ghost use Rattle.automaton.specs.Networks.{IsNetwork};
+ghost use Rattle.automaton.specs.States.{edges_at, entrance_at, is_used};
+ghost use Rattle.automaton.specs.declared.network.Entrance.TheVariants.{Waiting};
+ghost use Rattle.prefix_merge.specs.Buckets.{bucket_at};
+
+use crate::hashing::entrance_hash;
+use automaton::{End, Hop, Network};
+use event_types::{List, Memory, Numbers, StreamId};
+use std::alloc::Global;
+use std::collections::HashMap;
+use std::marker::Model;
+
+// A network, and its waiting states in buckets by a hash of how each is entered. A contract sees the network.
+#[derive(Drop)]
+pub(crate) struct Indexed {
+    network: Network,
+    buckets: Buckets,
+}
+
+// The states in the bucket of each hash.
+type Buckets = HashMap<u64, Numbers>;
+
+impl Model for Indexed {
+    ghost use Rattle.std.specs.Prelude.{List, Option};
+    ghost use Rattle.automaton.specs.declared.network.State.{State};
+
+    ghost Value = { List (Option State) };
+
+    ghost use Rattle.std.specs.Coded.{coded_list, coded_option};
+    ghost use Rattle.automaton.specs.contracts.network.State as state;
+
+    ghost coded = { coded_list (coded_option state.the_row.coded) };
+
+    ghost use Rattle.prefix_merge.specs.Buckets.{AreInBuckets};
+
+    ghost view = { λ m. m.network };
+
+    ghost invariant = { λ m. AreInBuckets m.buckets m.network };
+}
+
+impl Indexed {
+    pub(crate) fn new(alloc: Global) -> Indexed
+        ensures { result ≡ [] }
+    {
+        Indexed {
+            network: Network::new(alloc),
+            buckets: HashMap::new(alloc),
+        }
+    }
+
+    // The network.
+    pub(crate) fn network(&self) -> &Network
+        ensures { result.now ≡ self.now }
+    {
+        &self.network
+    }
+
+    // A number above those of all states.
+    pub(crate) fn places(&self) -> usize
+        ensures value { result ≡ length self.now }
+        ensures network { IsNetwork self.now }
+    {
+        self.network.places()
+    }
+
+    // The number of a state that is entered from this one through the hop.
+    pub(crate) fn next(&self, before: usize, hop: &Hop) -> Option<usize>
+        ensures found { IfSome result (λ next. entrance_at self.now next ≡ Some (Waiting before hop.now)) }
+        ensures absent { IfNone result ((next : ℕ) → entrance_at self.now next ≢ Some (Waiting before hop.now)) }
+    {
+        let hash = entrance_hash(before, &hop.step, &hop.wait);
+        let states = self.buckets.get(&hash)?;
+        first_entered(&self.network, states.as_slice(), before, hop)
+    }
+
+    // A root state comes, without edges and ends.
+    pub(crate) fn add_root(
+        &mut self,
+        alloc: Global,
+        number: usize,
+        stream: StreamId,
+    ) -> Result<(), Memory>
+        requires next { number ≤ length self.old }
+        requires free { is_used self.old number ≡ false }
+        ensures added { OnOk result (AddsRoot number stream self.old self.new) }
+        ensures kept { OnErr result (self.new ≡ self.old) }
+    {
+        self.network.add_root(alloc, number, stream)
+    }
+
+    // The waiting state of a hop comes, to which a forward edge leads from the state before it.
+    pub(crate) fn add_hop(
+        &mut self,
+        alloc: Global,
+        number: usize,
+        before: usize,
+        hop: &Hop,
+    ) -> Result<(), Memory>
+        requires next { number ≤ length self.old }
+        requires free { is_used self.old number ≡ false }
+        requires before { IsTrue (is_used self.old before) }
+        ensures added { OnOk result (AddsHop number before hop.now self.old self.new) }
+        ensures kept { OnErr result (self.new ≡ self.old) }
+    {
+        let hash = entrance_hash(before, &hop.step, &hop.wait);
+        put(alloc, &mut self.buckets, hash, number)?;
+        let added = self.network.add_hop(alloc, number, before, hop);
+        if added.is_err() {
+            take_out(&mut self.buckets, hash, number);
+        }
+        added
+    }
+
+    // An end comes to a state.
+    pub(crate) fn add_end(&mut self, state: usize, end: End) -> Result<(), Memory>
+        requires { IsTrue (is_used self.old state) }
+        ensures added { OnOk result (AddsEnd state end self.old self.new) }
+        ensures kept { OnErr result (self.new ≡ self.old) }
+    {
+        self.network.add_end(state, end)
+    }
+
+    // The ends of this number leave a state.
+    pub(crate) fn remove_end(&mut self, state: usize, number: usize)
+        requires { IsTrue (is_used self.old state) }
+        ensures { RemovesEnd state number self.old self.new }
+    {
+        self.network.remove_end(state, number);
+    }
+
+    // A state from which no edge leads leaves, with the edge that leads to it.
+    pub(crate) fn remove_state(&mut self, number: usize)
+        requires used { IsTrue (is_used self.old number) }
+        requires last { edges_at self.old number ≡ [] }
+        ensures { RemovesState number self.old self.new }
+    {
+        take_waiting(&mut self.buckets, &self.network, number);
+        self.network.remove_state(number);
+    }
+
+    // Forgets the last place, which no state has.
+    pub(crate) fn shrink(&mut self)
+        requires some { 0 < length self.old }
+        requires free { is_used self.old (length self.old - 1) ≡ false }
+        ensures { self.new ≡ take (length self.old - 1) self.old }
+    {
+        self.network.shrink();
+    }
+}
+
+// The first of the states that is entered from this one through the hop.
+fn first_entered(network: &Network, states: &[usize], before: usize, hop: &Hop) -> Option<usize>
+    ensures found { IfSome result (λ next. entrance_at network.now next ≡ Some (Waiting before hop.now)) }
+    ensures absent { IfNone result ((next : ℕ) → Contains states.now next → entrance_at network.now next ≢ Some (Waiting before hop.now)) }
+{
+    for state in states {
+        if network.is_entered(*state, before, hop) {
+            return Some(*state);
+        }
+    }
+    None
+}
+
+// Puts a state into the bucket of a hash.
+fn put(alloc: Global, buckets: &mut Buckets, hash: u64, state: usize) -> Result<(), Memory>
+    ensures ok { OnOk result (Contains (bucket_at buckets.new hash) state) }
+    ensures kept { (other n : ℕ) → Contains (bucket_at buckets.old other) n → Contains (bucket_at buckets.new other) n }
+{
+    if let Some(states) = buckets.get_mut(&hash) {
+        return states.add(state);
+    }
+    let mut states = List::new(alloc);
+    states.add(state)?;
+    buckets.insert(hash, states)?;
+    Ok(())
+}
+
+// Takes a state out of its bucket, where it is a waiting state.
+fn take_waiting(buckets: &mut Buckets, network: &Network, state: usize)
+    requires { IsTrue (is_used network.now state) }
+    ensures { (other n : ℕ) → n ≢ state → Contains (bucket_at buckets.old other) n → Contains (bucket_at buckets.new other) n }
+{
+    if let (Some(before), Some(wait)) = (network.before(state), network.wait(state)) {
+        let hash = entrance_hash(before, network.step(state), wait);
+        take_out(buckets, hash, state);
+    }
+}
+
+// Takes a state out of the bucket of a hash, and an empty bucket away.
+fn take_out(buckets: &mut Buckets, hash: u64, state: usize)
+    ensures { (other n : ℕ) → n ≢ state → Contains (bucket_at buckets.old other) n → Contains (bucket_at buckets.new other) n }
+{
+    let Some(states) = buckets.get_mut(&hash) else {
+        return;
+    };
+    drop_number(states, state);
+    if states.len() == 0 {
+        buckets.remove(&hash);
+    }
+}
+
+// Takes a number out, where it stands.
+fn drop_number(numbers: &mut Numbers, number: usize)
+    ensures { (n : ℕ) → n ≢ number → Contains numbers.old n → Contains numbers.new n }
+{
+    for place in 0..numbers.len() {
+        if *numbers.get(place) == number {
+            numbers.remove(place);
+            return;
+        }
+    }
+}
