@@ -79,6 +79,7 @@ pub has_key : (o : Option Key) (part : Option KeyPart) → option_map key_of_par
 has_key o None same some = absurd (cc)
 has_key o (Some part) same some = ap is_some (sym same)
 
+-- where there is none, as the program tells
 pub no_key : (o : Option Key) (part : Option KeyPart) → option_map key_of_part part ≡ o → is_some part ≡ false → o ≡ None
 no_key o None same none = sym same
 no_key o (Some part) same none = absurd (cc)

@@ -17,6 +17,7 @@ module _ {X : Type 0} where
   pub first_in : (x : X) (xs : List X) → Contains (x ∷ xs) x
   first_in x xs = (0, omega arith, refl)
 
+  -- what is among the later items is among all
   pub later_in : (x : X) (xs : List X) (y : X) → Contains xs y → Contains (x ∷ xs) y
   later_in x xs y has = (suc has.0, (let lt = has.1 in omega (arith, lt)), has.2)
 
@@ -61,6 +62,7 @@ in_range a (suc n) k le lt = go (a == k) refl (in_range (a + 1) n k)
     go true e rest = subst (Contains (a ∷ range_with_len (a + 1) n)) (same_number a k e) (first_in a (range_with_len (a + 1) n))
     go false e rest = let other = other_number a k e in later_in a (range_with_len (a + 1) n) k (rest (omega (arith, le, other)) (omega (arith, lt)))
 
+-- what is in a range is a number from its start on, below its end
 pub from_range : (a n k : ℕ) → Contains (range_with_len a n) k → (a ≤ k) × (k < a + n)
 from_range a zero k c = absurd (none_in k c)
 from_range a (suc n) k c = go (in_cases a (range_with_len (a + 1) n) k c) (from_range (a + 1) n k)
@@ -74,6 +76,7 @@ abbrev pub Once : List ℕ → Type 0
 Once [] = ⊤
 Once (x ∷ xs) = (Contains xs x → ⊥) × Once xs
 
+-- numbers that differ from each other stand once
 pub once_apart : (xs : List ℕ) → AllPairs (λ x y. x ≢ y) xs → Once xs
 once_apart [] apart = tt
 once_apart (x ∷ xs) apart = (
@@ -81,6 +84,7 @@ once_apart (x ∷ xs) apart = (
   once_apart xs (λ i j d lt below. apart (suc i) (suc j) d (omega (arith, lt)) (omega (arith, below))),
 )
 
+-- those that pass a test stand once
 pub once_filter : (p : ℕ → Bool) (xs : List ℕ) → Once xs → Once (filter p xs)
 once_filter p [] once = tt
 once_filter p (x ∷ xs) once = go (p x) (once_filter p xs once.1)
@@ -89,10 +93,12 @@ once_filter p (x ∷ xs) once = go (p x) (once_filter p xs once.1)
     go true rest = ((λ c. once.0 (from_filter p xs x c).1), rest)
     go false rest = rest
 
+-- the numbers of a range stand once
 pub once_range : (a n : ℕ) → Once (range_with_len a n)
 once_range a zero = tt
 once_range a (suc n) = ((λ c. let le = (from_range (a + 1) n a c).0 in absurd (omega (arith, le))), once_range (a + 1) n)
 
+-- two lists without a number in common
 pub once_append : (xs ys : List ℕ) → Once xs → Once ys → ((n : ℕ) → Contains xs n → Contains ys n → ⊥) → Once (xs ++ ys)
 once_append [] ys one two apart = two
 once_append (x ∷ xs) ys one two apart = ((λ c. go (Contains-append_cases xs ys x c)), once_append xs ys one.1 two (λ n c d. apart n (later_in x xs n c) d))
