@@ -25,9 +25,11 @@ or_true : (a : Bool) → (a || true) ≡ true
 or_true true = refl
 or_true false = refl
 
+-- the same of the second list
 pub any_right : {X : Type 0} (p : X → Bool) (xs ys : List X) → list_any p ys ≡ true → list_any p (xs ++ ys) ≡ true
 any_right p xs ys e = list_any-append p xs ys ∙ ap (λ b. list_any p xs || b) e ∙ or_true (list_any p xs)
 
+-- what is so of each number of a range is so of all in its list
 pub range_all : (P : ℕ → Type 0) (a many : ℕ) → ((x : ℕ) → a ≤ x → x < a + many → P x) → All P (range_with_len a many)
 range_all P a zero each = All-nil P
 range_all P a (suc many) each = All-cons P a (range_with_len (a + 1) many) (each a (omega arith) (omega arith)) (range_all P (a + 1) many (λ x h g. each x (omega arith) (omega arith)))
@@ -92,11 +94,13 @@ module _ (out next last : ℕ) where
       go (inl b) = less_other x s (omega (arith, a.0, b))
       go (inr b) = more_other x s (omega (arith, a.1, b))
 
+  -- a stream of the query or of one before it is none of the later ones
   pub none_later : (xs : List ℕ) (s : ℕ) → All (Later out next last) xs → Earlier out next last s → is_in xs s ≡ false
   none_later [] s all early = refl
   none_later (x ∷ xs) s all early =
       λ i. are_apart s x early (All-head (Later out next last) x xs all) i || none_later xs s (All-tail (Later out next last) x xs all) early i
 
+  -- a later stream is none of the query or of those before it
   pub none_earlier : (xs : List ℕ) (x : ℕ) → All (Earlier out next last) xs → Later out next last x → is_in xs x ≡ false
   none_earlier [] x all late = refl
   none_earlier (s ∷ xs) x all late =
@@ -104,9 +108,11 @@ module _ (out next last : ℕ) where
 
 -- each line of a query publishes one of its streams
 module _ (e : Ex) (out next : ℕ) where
+  -- the stream that it publishes is among them
   pub own_in : is_in (split_order e out next) out ≡ true
   own_in = any_right (λ number. out == number) (hidden_streams e next) (out ∷ []) (ap (λ b. b || false) (self_equal out))
 
+  -- and so is what each of its lines publishes
   pub outs_in : All (λ line. is_in (split_order e out next) line.out ≡ true) (split_lines e out next)
   outs_in =
       let last = (parts_of e next).next in
@@ -127,6 +133,7 @@ module _ (e : Ex) (out next : ℕ) (low : out < next) (reads : ReadsOnly (λ str
   abbrev Late : ℕ → Type 0
   Late = Later out next last
 
+  -- a query that reads streams below its own has streams apart
   pub is_apart : IsApart e out next
   is_apart = record {
     unread = reads_weaker (λ s. s < out) (λ s. s ≢ out) (λ s less same. absurd (omega arith)) e reads;
@@ -134,11 +141,13 @@ module _ (e : Ex) (out next : ℕ) (low : out < next) (reads : ReadsOnly (λ str
     fresh = reads_weaker (λ s. s < out) (λ s. s < next) (λ s less. omega arith) e reads;
   }
 
+  -- its streams are not among the later ones
   pub order_early : All Early (split_order e out next)
   order_early =
       All-append Early (hidden_streams e next) (out ∷ []) (range_all Early next (last - next) (λ x h g. inr (h, omega (arith, parts_up e next))))
       (All-cons Early out [] (inl (omega arith)) (All-nil Early))
 
+  -- nor is what its lines publish
   pub outs_early : All (λ line. Early line.out) (split_lines e out next)
   outs_early =
       All-append (λ line. Early line.out) (parts_of e next).hidden (map (published_on out) (parts_of e next).open_lines)
@@ -169,6 +178,7 @@ module _ (e : Ex) (out next : ℕ) (low : out < next) (reads : ReadsOnly (λ str
     hops = All-weaker (λ hop. Early hop.wait.stream) (λ hop. is_in more hop.wait.stream ≡ false) (λ hop h. none_later out next last more hop.wait.stream late h) line.hops early.1;
   }
 
+  -- its lines read none of the later streams
   pub lines_read_none : (more : List ℕ) → All Late more → All (ReadsNone more) (split_lines e out next)
   lines_read_none more late =
       All-append (ReadsNone more) (parts_of e next).hidden (map (published_on out) (parts_of e next).open_lines)

@@ -41,6 +41,7 @@ from_numbered : (number hidden : ℕ) (xs : List Ex) → AreNumbered number hidd
 from_numbered number hidden [] = tt
 from_numbered number hidden (e ∷ xs) = (refl, refl, from_numbered (number + 1) (parts_of e hidden).next xs)
 
+-- there are as many queries as expressions
 pub from_long : (number hidden : ℕ) (xs : List Ex) → length (queries_from number hidden xs) ≡ length xs
 from_long number hidden [] = refl
 from_long number hidden (e ∷ xs) = let more = from_long (number + 1) (parts_of e hidden).next xs in omega (arith, more)

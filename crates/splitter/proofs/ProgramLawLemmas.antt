@@ -18,6 +18,7 @@ use Rattle.splitter.specs.Chains.{HideApart, lines_of, work_order}
 use Rattle.splitter.specs.ProgramLaws.{IsWideProgram}
 use Rattle.splitter.proofs.ChainLemmas.{chain_means, chain_ordered}
 
+-- the lines of a program whose queries hide streams apart are in order
 pub ordered : (kinds : ℕ → List Kind) (program : Program) → IsProgram kinds program → HideApart program.order → IsInOrder (lines_of program) (work_order program)
 ordered kinds program typed apart = chain_ordered kinds (range_with_len 0 program.declared) program.order typed.in_turn apart
 
@@ -41,6 +42,7 @@ module _ (kinds : ℕ → List Kind) (program : Program) (history : List Event) 
       let streams = declared_streams program.declared history in
       chain_means kinds numbers program.order streams streams is.typed.in_turn is.apart is.wide (declared_kinds kinds program.declared history all) (λ s has. refl)
 
+  -- each query's stream is what its expression denotes, and the declared ones are as they were heard
   pub meant : ((stream : ℕ) → stream < program.declared → made stream ≡ env program history stream) × All IsMade program.queries
   meant = (
     λ stream less. each_meant stream (Contains-append_left numbers (map (λ (q : Query). q.stream) program.order) stream (declared_there program.declared stream less)),
@@ -49,6 +51,7 @@ module _ (kinds : ℕ → List Kind) (program : Program) (history : List Event) 
         (All-contains_itself program.order)),
   )
 
+  -- so the lines give exactly the streams of the program
   pub derived_so : All (λ query. IsPermutation (made query.stream) (env program history query.stream)) program.queries
   derived_so =
       All-weaker IsMade (λ query. IsPermutation (made query.stream) (env program history query.stream)) (λ query same. subst (IsPermutation (made query.stream)) same (IsPermutation-refl (made query.stream))) program.queries meant.1
