@@ -191,6 +191,7 @@ pub maybe_inserted : {T E : Type 0} (r : Result T E) (id : ℕ) (entry : Entry) 
 maybe_inserted (Ok x) id entry es new place is gap = is ∙ inserted id entry es place gap
 maybe_inserted (Err x) id entry es new place is gap = tt
 
+-- the entries are in order whether it was put or not
 pub maybe_ordered : (b : Bool) (id : ℕ) (entry : Entry) (es new : List (ℕ × Entry)) (place : ℕ) → new ≡ cond b (insert es place (id, entry)) es → IsGapFor id es place → AreOrdered es → AreOrdered new
 maybe_ordered true id entry es new place is gap up = subst AreOrdered (sym (is ∙ inserted id entry es place gap)) (ordered_inserted id entry es up)
 maybe_ordered false id entry es new place is gap up = subst AreOrdered (sym is) up
