@@ -23,8 +23,11 @@ use Rattle.catalogue.proofs.CountLemmas.{statement_count}
 
 -- the streams of the queries stand behind the others, and the queries are those that publish them
 record HasParts (streams all : List Entry) (hidden : ℕ) (done : List Query) (expressions : List Expr) : Type 0 where
+  -- the streams that the queries publish
   pub more : List Entry
+  -- they stand behind the others
   pub all_are : all ≡ streams ++ more
+  -- the typed queries are those of the expressions, which publish them
   pub done_are : done ≡ queries_by (length streams) hidden more expressions
 
 -- by induction on the queries
@@ -107,6 +110,7 @@ streams_reach number hidden (s ∷ streams) (x ∷ xs) =
     let after = (split.parts_of (ex_of x) hidden).next in
     let later : length (queries_by (number + 1) after streams xs) ≤ length streams = streams_reach (number + 1) after streams xs in omega arith
 
+-- and an expression
 pub expressions_reach : (number hidden : ℕ) (streams : List Entry) (expressions : List Expr) → length (queries_by number hidden streams expressions) ≤ length expressions
 expressions_reach number hidden [] xs = omega arith
 expressions_reach number hidden (s ∷ streams) [] = omega arith
