@@ -116,6 +116,7 @@ module _ {queries : List ℕ} {judged : Judged} {first before : Told} (events : 
 pub alone_then_writes : {a b c : Told} → HearsAlone a b → SameButOutput b c → HearsAlone a c
 alone_then_writes alone same = record { attached = same.attached ∙ alone.attached; queries = ap (λ f. f Queries) same.left ∙ alone.queries }
 
+-- nor does it change what was taken of them
 pub stops_then_writes : {judged : Judged} {limit : ℕ} {text : Option (List ℕ)} {b c : Told} → StopsInPiece judged limit text (b.left Events) → SameButOutput b c → StopsInPiece judged limit text (c.left Events)
 stops_then_writes {judged} {limit} {text} stops same = subst (StopsInPiece judged limit text) (sym (ap (λ f. f Events) same.left)) stops
 
