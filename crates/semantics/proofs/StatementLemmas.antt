@@ -26,6 +26,7 @@ declared_there declared stream lt =
     let at : 0 + stream ≡ stream = omega arith in
     (stream, subst (λ n. stream < n) (sym (length-range_with_len 0 declared)) lt, get_or-range_with_len 0 declared stream stream lt ∙ at)
 
+-- and no other stream has one of these
 pub there_declared : (declared stream : ℕ) → Contains (range_with_len 0 declared) stream → stream < declared
 there_declared declared stream has =
     let within : has.0 < declared = subst (λ n. has.0 < n) (length-range_with_len 0 declared) has.1 in
