@@ -182,10 +182,8 @@ fn with_both<'a>(alloc: Global, p: RawPred, read: Reading<'a, RawPred>) -> Readi
         (λ q. MatchResult result (λ r. (pred_of r.0 ≡ And (pred_of p) (pred_of q.0)) × (r.1.now ≡ q.1.now)) (λ fault. fault ≡ Unread.Memory))
         (λ fault. result ≡ Err fault) }
 {
-    match read {
-        Ok((q, rest)) => Ok((RawPred::And(Box::new(alloc, p)?, Box::new(alloc, q)?), rest)),
-        Err(fault) => Err(fault),
-    }
+    let (q, rest) = read?;
+    Ok((RawPred::And(Box::new(alloc, p)?, Box::new(alloc, q)?), rest))
 }
 
 // The disjunction of a predicate and one that was read.
@@ -194,10 +192,8 @@ fn with_either<'a>(alloc: Global, p: RawPred, read: Reading<'a, RawPred>) -> Rea
         (λ q. MatchResult result (λ r. (pred_of r.0 ≡ Or (pred_of p) (pred_of q.0)) × (r.1.now ≡ q.1.now)) (λ fault. fault ≡ Unread.Memory))
         (λ fault. result ≡ Err fault) }
 {
-    match read {
-        Ok((q, rest)) => Ok((RawPred::Or(Box::new(alloc, p)?, Box::new(alloc, q)?), rest)),
-        Err(fault) => Err(fault),
-    }
+    let (q, rest) = read?;
+    Ok((RawPred::Or(Box::new(alloc, p)?, Box::new(alloc, q)?), rest))
 }
 
 fn negated(alloc: Global, p: RawPred) -> Result<RawPred, Unread>

@@ -161,10 +161,8 @@ fn with_condition<'a>(
         (λ e. MatchResult result (λ r. (source_of r.0.value ≡ Filter (pred_of condition) (source_of e.0.value)) × (r.1.now ≡ e.1.now)) (λ fault. fault ≡ Unread.Memory))
         (λ fault. result ≡ Err fault) }
 {
-    match read {
-        Ok((source, rest)) => Ok((Box::new(alloc, Source::Filter(condition, source))?, rest)),
-        Err(fault) => Err(fault),
-    }
+    let (source, rest) = read?;
+    Ok((Box::new(alloc, Source::Filter(condition, source))?, rest))
 }
 
 // A source, a link and a term that was read.
@@ -178,10 +176,8 @@ fn with_link<'a>(
         (λ f. MatchResult result (λ r. (source_of r.0.value ≡ linked (link_of link) (source_of left.value) (source_of f.0.value)) × (r.1.now ≡ f.1.now)) (λ fault. fault ≡ Unread.Memory))
         (λ fault. result ≡ Err fault) }
 {
-    match read {
-        Ok((right, rest)) => Ok((Box::new(alloc, joined(left, link, right))?, rest)),
-        Err(fault) => Err(fault),
-    }
+    let (right, rest) = read?;
+    Ok((Box::new(alloc, joined(left, link, right))?, rest))
 }
 
 fn joined(left: Box<Source>, link: Link, right: Box<Source>) -> Source
