@@ -48,9 +48,11 @@ module _ (c : Catalogued) (accepted : IsAccepted c) where
   once : HasEachOnce (reads_in (map statement_of c.file.statements)) c.order
   once = HasEachOnce-order (reads_in (map statement_of c.file.statements)) c.order accepted.accepts.in_order
 
+  -- no query stands twice in the order
   pub order_distinct : AllPairs (λ x y. x ≢ y) c.order
   order_distinct = once.distinct
 
+  -- the order has numbers of queries alone
   pub order_small : (number : ℕ) → Contains c.order number → number < length c.order
   order_small number stands = subst (λ (n : ℕ). number < n) (sym (order_count (reads_in (map statement_of c.file.statements)) c.order accepted.accepts.in_order)) ((once.all number).0 stands)
 
@@ -58,6 +60,7 @@ module _ (c : Catalogued) (accepted : IsAccepted c) where
   pub sizes : length c.declared + length c.order ≡ length c.file.statements
   sizes = statement_count (map statement_of c.file.statements) c.declared c.order accepted.accepts.declares accepted.accepts.in_order ∙ length-map c.file.statements statement_of
 
+  -- as many queries are published as stand in the order
   pub queries_long : length (queries_by (length c.declared) (length c.file.statements) c.published c.expressions) ≡ length c.order
   queries_long = published_count accepted.accepts.publishes
 
@@ -91,6 +94,7 @@ module _ (c : Catalogued) (accepted : IsAccepted c) where
         let is : get_or places query 0 ≡ k = ap (λ q. get_or places q 0) (sym here) ∙ placed.there k within in
         (subst (λ p. p < length c.order) (sym is) within, ap (λ p. get_or c.order p 0) is ∙ here)
 
+    -- a query is published at one of the places
     pub place_small : get_or places query 0 < length c.order
     place_small = at_place.0
 

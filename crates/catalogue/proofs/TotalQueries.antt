@@ -91,5 +91,6 @@ module _ (ss : List Statement) (lines : List ℕ) (streams : List Entry) (order 
       typed_case index within all done publish (get_or (queries_in ss) (get_or order index 0) (tree.Stream [] [])) at (statement_case index within all done publish (get_or (queries_in ss) (get_or order index 0) (tree.Stream [] [])) at)
       (λ more_streams more more_publish. publish_on left (index + 1) (omega arith) more_streams more more_publish)
 
+  -- the queries are typed in their order, or the first that can't be has its fault
   pub publish_case : FileCase ((all : List Entry) × (published : List Query) × Publish (queries_in ss) streams (length ss) order all published) (FailToPublish (queries_in ss) (query_lines ss lines) streams order)
   publish_case = publish_on (length order) 0 (omega arith) streams [] none
