@@ -35,6 +35,7 @@ front_of_both : (front piece : List ℕ) (a b c : Option (List ℕ)) → a ≡ p
 front_of_both front piece a b None e f = e ∙ ap (prepend_known front) f
 front_of_both front piece a b (Some rest) e f = e ∙ ap (prepend_known front) f ∙ ap Some (sym (append_assoc front piece rest))
 
+-- nothing in front is nothing more
 pub front_of_none : (a : Option (List ℕ)) → a ≡ prepend_known [] a
 front_of_none None = refl
 front_of_none (Some rest) = refl
@@ -140,9 +141,11 @@ module _ {judged : Judged} {limit : ℕ} {bytes piece : List ℕ} {session : Ses
   pub alone_written : HearsAlone old next
   alone_written = record { attached = same.attached ∙ t.alone.attached; queries = ap (λ f. f Queries) same.left ∙ t.alone.queries }
 
+  -- the piece stands behind what was taken before
   pub front_written : old.left Events ≡ prepend_known (bytes ++ piece) (next.left Events)
   front_written = t.front ∙ ap (λ f. prepend_known (bytes ++ piece) (f Events)) (sym same.left)
 
+  -- where no write fails, no count of faults rises
   pub same_faults : next.write_faults ≡ now.write_faults → SameFaults old next
   same_faults quiet = record { attach = same.attach_faults ∙ t.faults.attach; read = same.read_faults ∙ t.faults.read; write = quiet ∙ t.faults.write }
 
@@ -244,9 +247,11 @@ module _ {judged : Judged} {limit : ℕ} {bytes piece : List ℕ} {session : Ses
 
   -- the text has ended
   module _ (none : piece ≡ []) (nil : IfSome (now.left Events) (λ rest. rest ≡ [])) where
+    -- nothing is left after the write
     pub nil_after : IfSome (next.left Events) (λ rest. rest ≡ [])
     nil_after = subst (λ f. IfSome (f Events) (λ (rest : List ℕ). rest ≡ [])) (sym same.left) nil
 
+    -- what was taken is within the limit
     pub cut_whole : bytes ≡ take limit (bytes ++ piece)
     cut_whole = sym (ap (λ p. take limit (bytes ++ p)) none ∙ ap (take limit) (append-nil bytes) ∙ take_all limit bytes (subst (λ n. length bytes ≤ n) t.most t.stands.within))
 

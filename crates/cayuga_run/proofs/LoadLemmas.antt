@@ -53,6 +53,7 @@ heard_no_text judged text session told stands queries most = record {
 }
 
 module _ {judged : Judged} {text left : List ℕ} {session : SessionView} {old now : Told} (h : HasHeardText judged text left session old now) (piece rest : List ℕ) (cut : left ≡ piece ++ rest) where
+  -- the piece stands behind what was heard
   pub both : text ≡ (h.bytes ++ piece) ++ rest
   both = h.front ∙ ap (λ bytes. h.bytes ++ bytes) cut ∙ sym (append_assoc h.bytes piece rest)
 
