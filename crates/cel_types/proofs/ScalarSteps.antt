@@ -39,32 +39,42 @@ module _ {scope : Scope} where
 
   -- the kind of each operation, and the fault where it has none
   module _ {x y : Scalar} {s t : Sc} {k l : Kind} where
+    -- a sum has the kind that alike operands have
     pub sum_is : {m : Kind} → IsOf scope x s k → IsOf scope y t l → alike_kind k l ≡ Some m → IsOf scope (Two Add x y) (term.Two term.Add s t) m
     sum_is i j e = two i j e
 
+    -- so has a difference
     pub difference_is : {m : Kind} → IsOf scope x s k → IsOf scope y t l → alike_kind k l ≡ Some m → IsOf scope (Two Sub x y) (term.Two term.Sub s t) m
     difference_is i j e = two i j e
 
+    -- a product has the kind of a product
     pub product_is : {m : Kind} → IsOf scope x s k → IsOf scope y t l → product_kind k l ≡ Some m → IsOf scope (Two Mul x y) (term.Two term.Mul s t) m
     product_is i j e = two i j e
 
+    -- MIN has the kind that alike operands have
     pub least_is : {m : Kind} → IsOf scope x s k → IsOf scope y t l → alike_kind k l ≡ Some m → IsOf scope (Two Min x y) (term.Two term.Min s t) m
     least_is i j e = two i j e
 
+    -- so has MAX
     pub greatest_is : {m : Kind} → IsOf scope x s k → IsOf scope y t l → alike_kind k l ≡ Some m → IsOf scope (Two Max x y) (term.Two term.Max s t) m
     greatest_is i j e = two i j e
 
+    -- a sum of kinds that aren't alike is refused
     pub sum_fails : {f : TypeFault} → IsOf scope x s k → k ≢ kind.Text → IsOf scope y t l → (alike_kind k l ≡ None) × (f ≡ KindMismatch k l) → HasFault scope (Two Add x y) f
     sum_fails i n j h = kinds_fail i n j h.0 h.1
 
+    -- so is a difference
     pub difference_fails : {f : TypeFault} → IsOf scope x s k → k ≢ kind.Text → IsOf scope y t l → (alike_kind k l ≡ None) × (f ≡ KindMismatch k l) → HasFault scope (Two Sub x y) f
     difference_fails i n j h = kinds_fail i n j h.0 h.1
 
+    -- a product of kinds that have none is refused
     pub product_fails : {f : TypeFault} → IsOf scope x s k → k ≢ kind.Text → IsOf scope y t l → (product_kind k l ≡ None) × (f ≡ product_fault k l) → HasFault scope (Two Mul x y) f
     product_fails i n j h = kinds_fail i n j h.0 h.1
 
+    -- MIN of kinds that aren't alike is refused
     pub least_fails : {f : TypeFault} → IsOf scope x s k → k ≢ kind.Text → IsOf scope y t l → (alike_kind k l ≡ None) × (f ≡ KindMismatch k l) → HasFault scope (Two Min x y) f
     least_fails i n j h = kinds_fail i n j h.0 h.1
 
+    -- so is MAX
     pub greatest_fails : {f : TypeFault} → IsOf scope x s k → k ≢ kind.Text → IsOf scope y t l → (alike_kind k l ≡ None) × (f ≡ KindMismatch k l) → HasFault scope (Two Max x y) f
     greatest_fails i n j h = kinds_fail i n j h.0 h.1
