@@ -86,6 +86,7 @@ module _ (nodes : List ℕ) (most node : ℕ) (tree : IsTournament nodes) (inner
   before : (under : ℕ) → length nodes / 2 ≤ under → under < node * (2 ^ deeper * 2) → most < get_or nodes under 0
   before = subst (λ s. (under : ℕ) → length nodes / 2 ≤ under → under < node * s → most < get_or nodes under 0) double here.before
 
+  -- where the left child's number is small enough, the way leads there
   pub to_left : get_or nodes (node * 2) 0 ≤ most → LeadsTo nodes most (node * 2)
   to_left found = record {
     pos = let pos = here.pos in omega (arith, pos);
@@ -96,6 +97,7 @@ module _ (nodes : List ℕ) (most node : ℕ) (tree : IsTournament nodes) (inner
     before = λ under low high. before under low (omega (arith, high));
   }
 
+  -- else it leads to the right child
   pub to_right : most < get_or nodes (node * 2) 0 → LeadsTo nodes most (node * 2 + 1)
   to_right more = record {
     pos = omega arith;
@@ -121,9 +123,11 @@ module _ (nodes : List ℕ) (most node : ℕ) (outer : length nodes / 2 ≤ node
   some : 1 ≤ 2 ^ here.depth
   some = pow_pos here.depth
 
+  -- the leaf is one of the leaves
   pub leaf_within : node - length nodes / 2 < length (leaves_of nodes)
   leaf_within = let long = length-drop (length nodes / 2) nodes in let to = here.to in let wide = mul-le-mul_left (node + 1) some in omega (arith, long, to, wide, outer)
 
+  -- the leaves before it are past the number
   pub leaf_first : (leaf : ℕ) → leaf < node - length nodes / 2 → most < get_or (leaves_of nodes) leaf 0
   leaf_first leaf early = let wide = mul-le-mul_left node some in rw get_or-drop (here.before (length nodes / 2 + leaf) (omega arith) (omega (arith, early, wide, outer)))
 
