@@ -37,6 +37,7 @@ use Rattle.epoch_draft.proofs.Lists.{contains_or_not, none_in}
 pub stays_same : (slot : Option Store) → StaysReady slot slot
 stays_same slot = record { instances = λ ready. ready; keys = λ key c. c }
 
+-- what stays ready twice stays ready
 pub stays_trans : (old mid new : Option Store) → StaysReady old mid → StaysReady mid new → StaysReady old new
 stays_trans old mid new one two = record { instances = λ ready. two.instances (one.instances ready); keys = λ key c. one.keys key (two.keys key c) }
 
@@ -44,6 +45,7 @@ stays_trans old mid new one two = record { instances = λ ready. two.instances (
 pub stay_same : (stores : List (Option Store)) → StayReady stores stores
 stay_same stores n = stays_same (get_or stores n None)
 
+-- so it is with all stores
 pub stay_trans : (old mid new : List (Option Store)) → StayReady old mid → StayReady mid new → StayReady old new
 stay_trans old mid new one two n = stays_trans (get_or old n None) (get_or mid n None) (get_or new n None) (one n) (two n)
 
