@@ -105,6 +105,7 @@ module _ (f : ℕ → ℕ) (r : ℕ) where
       let rest = none_later (a + 1) n (omega (arith, lt)) in
       let one = sum_by-cons (λ s. cond (r == s) (f s) 0) a (range_with_len (a + 1) n) in omega (arith, here, rest, one)
 
+  -- a range has it at most once
   pub one_of_range : (a n : ℕ) → sum_by (λ s. cond (r == s) (f s) 0) (range_with_len a n) ≤ f r
   one_of_range a zero = omega arith
   one_of_range a (suc n) = go (r == a) refl (one_of_range (a + 1) n)

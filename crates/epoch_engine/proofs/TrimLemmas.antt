@@ -107,6 +107,7 @@ module _ (old new : EngineView) (lines : List Line) (history : List Event) (stan
       (purge_stands old.network lines order (stores_in old) (stores_in new) old.time (streams_of old.opened) (Some time) history (subst (λ (o : Option ℕ). Standing o (stores_in old)) is stands.stands)
       (are_purged (time + 1) old.network (stores_in old) (stores_in new) (purged_at time is)))
 
+  -- the trimmed engine stands for the same history
   pub trims_stands : EngineStandsFor new lines history
   trims_stands =
       let same : order ≡ new.layout.order = ap (λ (l : Layout). l.order) (sym trims.plan.layout) in record {
@@ -157,6 +158,7 @@ module _ (old new : EngineView) (lines : List Line) (history : List Event) (stan
   as_many_at number (Root s) at = sym (ap length (none_new number (root_waits old.network number s at)))
   as_many_at number (After p h) at = length_permutation _ _ (stored_exact number p h at) ∙ length-map (stores_in new number) (λ (i : Instance). i.tuple)
 
+  -- its instances are as many as the bindings that wait and are alive
   pub stored_counted : CountsAlive lines order past (min (stored_in new) (2 ^ 64 - 1))
   stored_counted =
       let net = old.network in
