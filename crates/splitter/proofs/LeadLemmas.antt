@@ -88,6 +88,7 @@ module _ (declared : ℕ) (expressions : List Expr) (places : List ℕ) (kinds :
         outs_are = outs_are;
       }
 
+  -- at first no query was split
   pub leads_start : Typed (work_of declared expressions) declared → Wide (work_of declared expressions) → (next : ℕ) (lines : List Line) (order outs : List ℕ) → next ≡ length kinds → lines ≡ [] → order ≡ [] → outs ≡ map (λ at. declared + at) places
       → Leads declared expressions places kinds 0 next lines (record { order = order; outs = outs; kinds = kinds })
   leads_start typed wide next lines order outs next_is no_lines no_order outs_are =
@@ -135,6 +136,7 @@ module _ (declared : ℕ) (expressions : List Expr) (places : List ℕ) (kinds :
       pub query_apart : IsApart e out next
       query_apart = is_apart e out next low (reads_below (kinds_by kinds) (range_with_len 0 out) query later typed_here)
 
+      -- the numbers of its hidden streams are below 2^64
       pub query_room : chain_end (work_of declared expressions) declared < 2 ^ 64 → last < 2 ^ 64
       query_room room =
           let same = leads.end_is ∙ ap (λ order. chain_end order next) rest_is in omega (arith, room, same, end_up (declared + (place + 1)) last (map ex_of (drop (place + 1) expressions)))
@@ -148,6 +150,7 @@ module _ (declared : ℕ) (expressions : List Expr) (places : List ℕ) (kinds :
           (get_longer kinds layout.kinds out (kinds_by kinds out) leads.long (slice_get-get_or kinds out [] (omega (arith, given, inside))))
           typed_here.2 (All-head (λ (q : Query). HasWidths (kinds_by kinds) q.expr) query later wide_here)
 
+      -- its lines grow the layout in turn
       pub query_typed : (all : List (List Kind)) × GrowInTurn layout.kinds (split_lines e out next) all
       query_typed = (grow_by.all, grow_by.grow)
 
@@ -187,6 +190,7 @@ module _ (declared : ℕ) (expressions : List Expr) (places : List ℕ) (kinds :
             (All-weaker (HasLine lines) (HasLine (lines ++ split_lines e out next)) (λ s has. any_left (λ (l : Line). l.out == s) lines (split_lines e out next) has) layout.order leads.has_lines)
             (All-weaker (HasLine (split_lines e out next)) (HasLine (lines ++ split_lines e out next)) (λ s has. any_right (λ (l : Line). l.out == s) lines (split_lines e out next) has) (split_order e out next) own_lines)
 
+        -- one more query was split
         pub leads_next : Leads declared expressions places kinds (place + 1) new_next new_lines new
         leads_next = record {
           lines_are =
@@ -244,6 +248,7 @@ module _ (declared : ℕ) (expressions : List Expr) (places : List ℕ) (kinds :
             (All-weaker (λ at. at < length expressions) (λ at. IsTrue (is_in layout.order (declared + at))) (λ at less. all_in (declared + at) (omega arith) (omega arith)) places placed));
       }
 
+      -- all queries were split
       pub all_made : AreChains declared expressions places kinds (record { lines = lines; layout = layout })
       all_made = record {
         lines = lines_made;

@@ -77,17 +77,21 @@ module _ (kinds : List (List Kind)) (program : Program) (expressions : List Expr
   pub work_typed : PublishInTurn (kinds_by kinds) (range_with_len 0 program.declared) program.order → PublishInTurn (kinds_by kinds) (range_with_len 0 program.declared) (work_of program.declared expressions)
   work_typed turn = subst (PublishInTurn (kinds_by kinds) (range_with_len 0 program.declared)) work_is (turn_from (kinds_by kinds) program.declared hidden (range_with_len 0 program.declared) program.order numbered turn)
 
+  -- their expressions have their widths
   pub work_wide : All (λ query. HasWidths (kinds_by kinds) query.expr) program.order → All (λ query. HasWidths (kinds_by kinds) query.expr) (work_of program.declared expressions)
   work_wide all = subst (All (λ (q : Query). HasWidths (kinds_by kinds) q.expr)) work_is (wide_from (kinds_by kinds) program.declared hidden program.order all)
 
+  -- they end at the same number
   pub work_end : chain_end (work_of program.declared expressions) program.declared ≡ end_of program
   work_end = ap (λ order. chain_end order program.declared) (sym work_is) ∙ end_from program.declared hidden program.order program.declared numbered
 
   -- and what they are
   module _ (places : List ℕ) (outs : map (λ place. program.declared + place) places ≡ outs_of program) (chains : Chains) (made : AreChains program.declared expressions places kinds chains) where
+    -- their lines are those of the program
     pub lines_made : chains.lines ≡ lines_of program
     lines_made = made.lines ∙ ap chain_lines (sym work_is) ∙ lines_from program.declared hidden program.order numbered
 
+    -- and their layout is its layout
     pub layout_made : IsLayoutOf program kinds chains.layout
     layout_made = record {
       order = made.order ∙ ap chain_order (sym work_is) ∙ order_from program.declared hidden program.order numbered;
