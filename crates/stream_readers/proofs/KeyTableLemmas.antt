@@ -49,6 +49,7 @@ pub record ChangedBelow {X : Type 0} (Is : X → X → Type 0) (d : X) (place : 
   pub others : (k : ℕ) → place ≤ k → get_or new k d ≡ get_or old k d
 
 module _ {X : Type 0} (Is : X → X → Type 0) (d : X) where
+  -- at first no item was changed
   pub changed_none : (xs : List X) → ChangedBelow Is d 0 xs xs
   changed_none xs = record { as_many = refl; changed = λ k lt. absurd (omega (arith, lt)); others = λ k le. refl }
 

@@ -54,6 +54,7 @@ module _ (net : Net) (columns : List Entries) (tuple : TupleView) where
     pub led : Contains (states_at (get_or columns attribute []) (value_at tuple attribute)) number
     pub holds : all_hold tuple (parts_at net number) ≡ true
 
+  -- what the first attributes lead to is led to by one of them
   pub from_led : (n number : ℕ) → Contains (led_by net columns tuple n) number → IsLedBelow n number
   from_led zero number c = absurd (none_in number c)
   from_led (suc n) number c =
@@ -64,6 +65,7 @@ module _ (net : Net) (columns : List Entries) (tuple : TupleView) where
       go (inr here) rest =
           let kept = from_filter (λ m. all_hold tuple (parts_at net m)) (states_at (get_or columns n []) (value_at tuple n)) number here in record { attribute = n; below = omega arith; led = kept.1; holds = kept.0 }
 
+  -- and what one of them leads to is among it
   pub to_led : (n attribute number : ℕ) → attribute < n → Contains (states_at (get_or columns attribute []) (value_at tuple attribute)) number → all_hold tuple (parts_at net number) ≡ true → Contains (led_by net columns tuple n) number
   to_led zero attribute number lt led holds = absurd (omega (arith, lt))
   to_led (suc n) attribute number lt led holds =
