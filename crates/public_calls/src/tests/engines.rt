@@ -1,7 +1,7 @@
 //! Events that an engine hands back, and how many bindings wait.
 ghost use Rattle.std.specs.Prelude.{◌≡◌, ◌<◌};
 
-use crate::tests::offering::{NEWS, STOCK, catalogue, engine, offer};
+use crate::tests::offering::{NEWS, Parts, STOCK, catalogue, engine, offer};
 use epoch_engine::{Batch, Engine, OfferFault};
 use event_types::{Memory, StreamId, Tuple, Tuples, Value};
 use std::alloc::Global;
@@ -29,6 +29,22 @@ enum Deed<'a> {
     Close(usize, &'a [Row<'a>]),
     // So many bindings are stored once those are taken out that no later event can match.
     Alive(u64),
+}
+
+// An event of a stream is taken; where memory for that is refused, it is offered again.
+fn take(
+    rt: &impl Abort,
+    alloc: Global,
+    engine: &mut Engine,
+    stream: StreamId,
+    parts: Parts,
+) -> Result<(), Memory> {
+    let answer = match offer(rt, alloc, engine, stream, parts)? {
+        Err(OfferFault::Memory { .. }) => offer(rt, alloc, engine, stream, parts)?,
+        answer => answer,
+    };
+    assert!(rt; answer.is_ok());
+    Ok(())
 }
 
 // Closes the open epoch; where that is refused, it is open still, and is closed again.
@@ -97,8 +113,15 @@ fn closes_with(
 }
 
 // An event of Stock is out of order for what was seen, and comes back.
-fn comes_back(rt: &impl Abort, alloc: Global, engine: &mut Engine, from: u64, at: u64, seen: u64) {
-    match offer(rt, alloc, engine, STOCK, (8, from, at)) {
+fn comes_back(
+    rt: &impl Abort,
+    alloc: Global,
+    engine: &mut Engine,
+    from: u64,
+    at: u64,
+    seen: u64,
+) -> Result<(), Memory> {
+    match offer(rt, alloc, engine, STOCK, (8, from, at))? {
         Err(
             OfferFault::OutOfOrder {
                 at: offered,
@@ -108,6 +131,7 @@ fn comes_back(rt: &impl Abort, alloc: Global, engine: &mut Engine, from: u64, at
         ) => {
             assert_eq!(rt; (offered, met), (at, seen));
             is_row(rt, &tuple, (from, at, &[8]));
+            Ok(())
         }
         _ => panic!(rt; "not out of order"),
     }
@@ -117,9 +141,9 @@ fn comes_back(rt: &impl Abort, alloc: Global, engine: &mut Engine, from: u64, at
 fn does(rt: &impl Abort, alloc: Global, engine: &mut Engine, deed: Deed<'_>) -> Result<(), Memory> {
     match deed {
         Deed::Offer(stream, number, from, at) => {
-            assert!(rt; offer(rt, alloc, engine, stream, (number, from, at)).is_ok());
+            take(rt, alloc, engine, stream, (number, from, at))?;
         }
-        Deed::Late(from, at, seen) => comes_back(rt, alloc, engine, from, at, seen),
+        Deed::Late(from, at, seen) => comes_back(rt, alloc, engine, from, at, seen)?,
         Deed::Close(place, rows) => closes_with(rt, alloc, engine, place, rows)?,
         Deed::Alive(count) => {
             engine.trim();
@@ -144,7 +168,7 @@ fn goes_through(
 
 // A new engine goes through the deeds.
 fn expect(rt: &impl Abort, alloc: Global, deeds: &[Deed<'_>]) -> Result<(), Memory> {
-    let mut engine = engine(alloc, &catalogue(rt, alloc))?;
+    let mut engine = engine(alloc, &catalogue(alloc)?)?;
     goes_through(rt, alloc, &mut engine, deeds)
 }
 

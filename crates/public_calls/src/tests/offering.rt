@@ -27,13 +27,13 @@ pub const NEWS: StreamId = 1;
 /// An event of one number: the number, its start and its detection.
 pub type Parts = (i128, u64, u64);
 
-/// The catalogue of the queries.
-pub fn catalogue(rt: &impl Abort, alloc: Global) -> Catalogue
-    ensures { IsAccepted result }
+/// The catalogue of the queries. Nothing but want of memory refuses them.
+pub fn catalogue(alloc: Global) -> Result<Catalogue, Memory>
+    ensures { IfOk result IsAccepted }
 {
     match load(alloc, QUERIES) {
-        Ok(catalogue) => catalogue,
-        Err(_) => panic!(rt; "refused"),
+        Ok(catalogue) => Ok(catalogue),
+        Err(_) => Err(Memory),
     }
 }
 
@@ -46,20 +46,20 @@ pub fn engine(alloc: Global, catalogue: &Catalogue) -> Result<Engine, Memory>
     Engine::make(alloc, merged, layout)
 }
 
-/// Offers an event of one number, which is not ahead of the open epoch.
+/// Makes an event of one number, which is not ahead of the open epoch, and offers it.
 pub fn offer(
     rt: &impl Abort,
     alloc: Global,
     engine: &mut Engine,
     stream: StreamId,
     parts: Parts,
-) -> Result<(), OfferFault>
+) -> Result<Result<(), OfferFault>, Memory>
     ensures network { engine.new.network ≡ engine.old.network }
     ensures layout { engine.new.layout ≡ engine.old.layout }
-    ensures opened { OnOk result (engine.new.time ≡ None → engine.new.closed_time ≡ None) }
+    ensures opened { IfOk result (λ answer. OnOk answer (engine.new.time ≡ None → engine.new.closed_time ≡ None)) }
 {
     let (number, from, at) = parts;
-    let tuple = event(rt, alloc, number, from, at);
+    let tuple = event(rt, alloc, number, from, at)?;
     let layout = engine.layout();
     assert!(rt; stream < layout.kinds.len());
     assert!(rt; is_int(layout.kinds.get(stream)));
@@ -67,20 +67,24 @@ pub fn offer(
     if let Some(time) = engine.open_time() {
         assert!(rt; at <= time);
     }
-    engine.offer(stream, tuple)
+    Ok(engine.offer(stream, tuple))
 }
 
 // The event of one number.
-fn event(rt: &impl Abort, alloc: Global, number: i128, from: u64, at: u64) -> Tuple
-    ensures kinds { HasKinds (kind.Int ∷ []) result }
-    ensures at { result.at ≡ at }
+fn event(
+    rt: &impl Abort,
+    alloc: Global,
+    number: i128,
+    from: u64,
+    at: u64,
+) -> Result<Tuple, Memory>
+    ensures kinds { IfOk result (HasKinds (kind.Int ∷ [])) }
+    ensures at { IfOk result (λ event. event.at ≡ at) }
 {
     let mut vals = List::new(alloc);
-    if vals.push(Value::Int(number)).is_err() {
-        panic!(rt; "no memory");
-    }
+    vals.add(Value::Int(number))?;
     match Tuple::make(vals, from, at) {
-        Ok(event) => event,
+        Ok(event) => Ok(event),
         Err(_) => panic!(rt; "starts after its detection"),
     }
 }
