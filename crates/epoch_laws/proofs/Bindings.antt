@@ -21,7 +21,7 @@ use Rattle.epoch_laws.proofs.Lists.{every, map-flat_map}
 use Rattle.epoch_laws.proofs.Purges.{rows_stepped}
 
 -- the bindings of instances that began at one time
-began_bindings : (first : ℕ) (ts : List TupleView) → bindings_of (map (began first) ts) ≡ ts
+pub began_bindings : (first : ℕ) (ts : List TupleView) → bindings_of (map (began first) ts) ≡ ts
 began_bindings first [] = refl
 began_bindings first (t ∷ ts) = ap (λ us. t ∷ us) (began_bindings first ts)
 

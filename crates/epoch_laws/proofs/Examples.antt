@@ -1,14 +1,17 @@
--- Examples of one epoch at one wait, each worked out by hand. No contract cites them.
+-- Examples of one epoch at one wait, and of what flows after a birth, each worked out by hand. No contract cites them.
 use Rattle.std.proofs.Common.{◌≡◌, refl, ℕ, pos, List, [], ◌∷◌, map}
-use Rattle.std.specs.Prelude.{Some, None}
+use Rattle.std.specs.Prelude.{Option, Some, None}
 use Rattle.event_types.specs.declared.comparison.Cmp.TheVariants as cmp
 use Rattle.event_types.specs.declared.value.Value.TheVariants as value
 use Rattle.event_types.specs.Tuple.{TupleView}
 use Rattle.instances.specs.declared.instance.Instance.{Instance}
+use Rattle.semantics.specs.Denotation.{Streams, streams_of}
 use Rattle.semantics.specs.Scalars.{Lit, Event, Dur, Test}
+use Rattle.automaton.specs.Prefixes.{After, Root}
 use Rattle.automaton.specs.declared.line.Hop.{Hop}
 use Rattle.automaton.specs.declared.wait.Turn.{Turn}
 use Rattle.epoch_laws.specs.Epochs.{stepped, took}
+use Rattle.epoch_laws.specs.InstanceFlow.{BornLine, derived_after, flow_instances, given_after}
 use Rattle.epoch_laws.specs.Instances.{began, begins, instances_entering}
 
 -- the tuple of one number with these times
@@ -62,3 +65,31 @@ second = stepped [] None [] (instances_entering (next 2) (took [] None (tuple 7 
 -- what leaves it with a tuple of U at 3 began with the tuple of S
 pub first_is_kept : took [] None (tuple 8 3 3 ∷ []) second ≡ began 1 (triple 1 7 8 1 3) ∷ []
 first_is_kept = refl
+
+-- S has tuples at 1 and at 3, T one at 4
+abbrev heard : Streams
+heard = streams_of ((tuple 1 1 1 ∷ tuple 2 3 3 ∷ []) ∷ (tuple 8 4 4 ∷ []) ∷ [])
+
+-- the line of these hops behind S, with a birth
+abbrev line : List Hop → Option ℕ → BornLine
+line hops birth = record { line = record { root = 0; hops = hops; last = []; out = 2 }; birth = birth }
+
+-- each match of S NEXT T began with its own tuple of S
+pub matches_keep_their_begin : flow_instances heard (After (Root 0) (next 1)) ≡ began 1 (pair 1 8 1 4) ∷ began 3 (pair 2 8 3 4) ∷ []
+matches_keep_their_begin = refl
+
+-- after a birth at 2 the match that began at 1 isn't given, though it was made at 4
+pub begun_before_is_cut : given_after heard (line (next 1 ∷ []) (Some 2)) ≡ pair 2 8 3 4 ∷ []
+begun_before_is_cut = refl
+
+-- three queries read one flow, each from its own birth on
+pub each_reads_from_its_birth : derived_after (line (next 1 ∷ []) None ∷ line (next 1 ∷ []) (Some 3) ∷ line (next 1 ∷ []) (Some 2) ∷ []) heard 2 ≡ pair 1 8 1 4 ∷ pair 2 8 3 4 ∷ pair 2 8 3 4 ∷ []
+each_reads_from_its_birth = refl
+
+-- the detection decides and not the start, and what is detected at the birth isn't read
+pub detection_decides : given_after (streams_of ((tuple 9 1 3 ∷ tuple 8 1 2 ∷ []) ∷ [])) (line [] (Some 2)) ≡ tuple 9 1 3 ∷ []
+detection_decides = refl
+
+-- a FOLD that began at 1 is cut with all that it goes on to
+pub fold_is_cut : given_after heard (line (record { step = []; wait = record { stream = 1; choose = []; fold = Some (turn 9) } } ∷ []) (Some 2)) ≡ tuple 8 3 4 ∷ []
+fold_is_cut = refl

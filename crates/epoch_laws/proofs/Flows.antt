@@ -29,7 +29,7 @@ use Rattle.epoch_laws.proofs.Purges.{rows_stepped}
 use Rattle.epoch_laws.proofs.Waits.{chosen_before, chosen_past, few_of, rows_give, rows_keep}
 
 -- a step keeps the times
-abbrev Timed : TupleView → Option TupleView → Type 0
+abbrev pub Timed : TupleView → Option TupleView → Type 0
 Timed t None = Unit {0}
 Timed t (Some u) = (u.at ≡ t.at) × (u.from ≡ t.from)
 
@@ -41,7 +41,7 @@ passed_timed (Keep c) t = go (all_true c t None)
     go false = tt
 passed_timed (Make m) t = (refl, refl)
 
-pass_timed : (step : List Stage) (t : TupleView) → Timed t (pass step t)
+pub pass_timed : (step : List Stage) (t : TupleView) → Timed t (pass step t)
 pass_timed [] t = (refl, refl)
 pass_timed (s ∷ step) t = go (pass_timed step) (passed s t) (passed_timed s t)
   where

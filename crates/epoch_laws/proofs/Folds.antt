@@ -24,7 +24,7 @@ use Rattle.epoch_laws.proofs.Cuts.{not_now, is_now, not_less, empty_is, before_n
 use Rattle.epoch_laws.proofs.Lists.{All-flat_map, filter-flat_map, filter_alike, flat_map-filter, flat_map-flat_map}
 
 -- each tuple with which a binding goes on starts after the binding was detected
-goers_start_later : (p q : List Pr) (rs : List TupleView) (b : TupleView) → All (λ r. b.at < r.from) (goers p q rs b)
+pub goers_start_later : (p q : List Pr) (rs : List TupleView) (b : TupleView) → All (λ r. b.at < r.from) (goers p q rs b)
 goers_start_later p q rs b = All-filter (λ r. all_true q r (Some b)) (λ r. b.at < r.from) (nexts p b rs) (nexts_start_later p b rs)
 
 -- what is past is sound

@@ -1,12 +1,15 @@
 pub mod Bags
 pub mod Batches
 pub mod Bindings
+pub mod Births
 pub mod Cuts
+pub mod Each
 pub mod Events
 pub mod Examples
 pub mod Flows
 pub mod Folds
 pub mod Grows
+pub mod InstanceFlows
 pub mod Lists
 pub mod Networks
 pub mod Purges

@@ -1,9 +1,12 @@
 pub mod Batch
+pub mod BirthLaws
+pub mod Births
 pub mod CloseLaws
 pub mod Closing
 pub mod Epochs
 pub mod Events
 pub mod Histories
+pub mod InstanceFlow
 pub mod Instances
 pub mod LineLaws
 pub mod Lines

@@ -6,6 +6,7 @@
 #![tactic(auto)]
 
 ghost use Rattle.epoch_laws.specs.Batch.{BatchIsResults};
+ghost use Rattle.epoch_laws.specs.BirthLaws.{BornLinesReadLater, InstancesFlow, LaterInstancesFlow, UnbornLinesReadAll};
 ghost use Rattle.epoch_laws.specs.CloseLaws.{EpochGrows, EpochStarts, StandsAtStart, StandsClosed, StandsPurged};
 ghost use Rattle.epoch_laws.specs.LineLaws.{LineGivesInEpoch, StateKeeps};
 ghost use Rattle.epoch_laws.specs.PurgeLaws.{DeadLater, DeadStayDead};
@@ -127,4 +128,27 @@ pub fn purge_stands()
 /// Purged whole, the stores have exactly the waiting bindings that are alive.
 pub fn trimmed_is_alive()
     ensures { TrimmedIsAlive }
+{}
+
+/// The instances that flow along a prefix hold the tuples that flow there.
+pub fn instances_flow()
+    ensures { InstancesFlow }
+{}
+
+/// Those that began after a birth are those that flow over the streams cut there.
+///
+/// So states may be shared by queries that came at different times: a tuple is detected no earlier than
+/// its instance began, and what is eligible for it starts, and is detected, later still.
+pub fn later_instances_flow()
+    ensures { LaterInstancesFlow }
+{}
+
+/// Lines with births give what they give over the streams cut at these births.
+pub fn born_lines_read_later()
+    ensures { BornLinesReadLater }
+{}
+
+/// Without births, lines give what they give over all times.
+pub fn unborn_lines_read_all()
+    ensures { UnbornLinesReadAll }
 {}
