@@ -32,6 +32,7 @@ use Rattle.epoch_laws.specs.StoresStandFor.{Serves}
 use Rattle.epoch_laws.specs.Stores.{IsWithin}
 use Rattle.epoch_laws.proofs.Bags.{no_length, permuted_is}
 use Rattle.epoch_laws.proofs.Standing.{purge_stands, trimmed_is_alive}
+use Rattle.epoch_laws.proofs.StoresStandFor.{stored_wait}
 use Rattle.epoch_laws.proofs.Streams.{start_waits}
 use Rattle.prefix_merge.specs.Merging.{IsMerged}
 use Rattle.prefix_merge.proofs.CountLemmas.{numbers, places, states, states_distinct, used_at}
@@ -132,9 +133,9 @@ module _ (old new : EngineView) (lines : List Line) (history : List Event) (stan
     none_stored is =
         let start = subst (λ (o : Option ℕ). Standing o (stores_in old)) is stands.stands in
         let nothing = none_before past start.stores_stand.before in
-        let held = start.stores_stand.holds number p h at in
+        let held = stored_wait 0 (streams_over lines order past) p h (stores_in old number) (start.stores_stand.holds number p h at) in
         none_bound (stores_in old number)
-        (within_none (bindings_of (stores_in old number)) (subst (IsWithin (bindings_of (stores_in old number))) (ap (λ (e : List Event). waiting (streams_over lines order e) p h) nothing ∙ start_waits lines order p h) held.at_most))
+        (within_none (bindings_of (stores_in old number)) (subst (IsWithin (bindings_of (stores_in old number))) (ap (λ (e : List Event). waiting (streams_over lines order e) p h) nothing ∙ start_waits lines order p h) held))
 
     -- what is alive is stored
     alive_stored : (closed_time : Option ℕ) → old.closed_time ≡ closed_time → IsPermutation (stores_in new number) (alive_instances (next_time closed_time) h.wait.choose (stores_in old number))

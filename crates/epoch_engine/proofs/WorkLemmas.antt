@@ -13,10 +13,11 @@ use Rattle.automaton.specs.declared.line.Hop.{Hop}
 use Rattle.automaton.specs.declared.line.Line.{Line}
 use Rattle.epoch_laws.specs.Histories.{events_before, streams_over}
 use Rattle.epoch_laws.specs.Instances.{bindings_of}
-use Rattle.epoch_laws.specs.Standing.{closed_part, last_time}
+use Rattle.epoch_laws.specs.Standing.{closed_part, last_time, next_time}
 use Rattle.epoch_laws.specs.Stores.{IsWithin}
 use Rattle.epoch_laws.proofs.Bags.{permuted_is}
 use Rattle.epoch_laws.proofs.Standing.{upto_last}
+use Rattle.epoch_laws.proofs.StoresStandFor.{stored_wait}
 use Rattle.epoch_engine.specs.Work.{end_tests, state_tests, waiting_over, work_with}
 use Rattle.epoch_engine.specs.EngineView.{EngineView, stores_in}
 use Rattle.epoch_engine.specs.WorkLaws.{FewerAskForLess, IsConsistent, RisesByWork, StandsOpen, StoredAskForAll, WaitingAskForAll, closing_tests}
@@ -63,7 +64,7 @@ waiting_ask_for_all engine lines states history time is has =
     let order = engine.layout.order in
     let closed : closed_part engine.time history ≡ events_before time history = ap (λ (o : Option ℕ). closed_part o history) has.is_open in
     closing_within engine lines states history time (waiting_over lines order (events_before time history)) is has
-    (λ k p h at. subst (λ (events : List Event). IsWithin (bindings_of (stores_in engine k)) (waiting (streams_over lines order events) p h)) closed (has.stands.stands.stores_stand.holds k p h at).at_most)
+    (λ k p h at. subst (λ (events : List Event). IsWithin (bindings_of (stores_in engine k)) (waiting (streams_over lines order events) p h)) closed (stored_wait (next_time engine.closed_time) (streams_over lines order (closed_part engine.time history)) p h (stores_in engine k) (has.stands.stands.stores_stand.holds k p h at)))
 
 -- tests that are no more than those of the closing
 pub rises_by_work : (engine : EngineView) (old new : ℕ) → IsConsistent engine → new ≤ old + closing_tests engine → RisesByWork engine old new

@@ -1,18 +1,31 @@
 -- What is made of each instance by itself.
-use Rattle.std.proofs.Common.{◌≡◌, ◌∙◌, sym, ap, refl, ℕ, true, false, cond, List, [], ◌∷◌, ◌++◌, map, append-nil}
+use Rattle.std.proofs.Common.{◌≡◌, ◌∙◌, sym, ap, refl, ℕ, Bool, true, false, cond, List, [], ◌∷◌, ◌++◌, map, append-nil}
 use Rattle.std.specs.Prelude.{Option, Some, None}
-use Rattle.std.specs.List.{All, cons_option, filter_map, flat_map}
+use Rattle.std.specs.Option.{option_map}
+use Rattle.std.specs.List.{All, cons_option, filter, filter_map, flat_map}
+use Rattle.std.specs.List.Sorted.{IsPermutation}
 use Rattle.std.proofs.lemmas.List.Elements.{All-weaker}
 use Rattle.std.proofs.lemmas.List.Folds.{flat_map-map}
+use Rattle.std.proofs.lemmas.List.Sorted.{IsPermutation-map}
+use Rattle.std.proofs.lemmas.List.{map-append}
 use Rattle.event_types.specs.Tuple.{TupleView}
 use Rattle.instances.specs.declared.instance.Instance.{Instance}
+use Rattle.semantics.specs.Scalars.{Pr}
+use Rattle.semantics.proofs.ListLemmas.{filter-map}
 use Rattle.semantics.proofs.ReportLemmas.{flat_map_same}
+use Rattle.scalar_expr.proofs.Bags.{permuted_from}
+use Rattle.automaton.specs.Steps.{pass}
+use Rattle.automaton.specs.declared.step.Stage.{Stage}
+use Rattle.automaton.specs.declared.wait.Turn.{Turn}
 use Rattle.epoch_laws.specs.Births.{began_after, is_after}
+use Rattle.epoch_laws.specs.Epochs.{taken, taken_from, took}
 use Rattle.epoch_laws.specs.InstanceFlow.{each}
-use Rattle.epoch_laws.specs.Instances.{began, bindings_of}
+use Rattle.epoch_laws.specs.Instances.{began, begins, bindings_of, pass_instance}
+use Rattle.epoch_laws.proofs.Bags.{flat_map_alike, flat_map_parts}
 use Rattle.epoch_laws.proofs.Bindings.{began_bindings}
 use Rattle.epoch_laws.proofs.Lists.{every, filter-flat_map, flat_map-filter, flat_map-flat_map, map-flat_map}
 
+-- what is made of a list of tuples
 abbrev pub Made : Type 0
 Made = List TupleView → List TupleView
 
@@ -87,3 +100,63 @@ each_after birth make xs =
     filter-flat_map (λ (i : Instance). is_after birth i.first) (λ (i : Instance). map (began i.first) (make (i.tuple ∷ []))) xs
     ∙ flat_map-filter (λ (i : Instance). is_after birth i.first) (λ _. Unit {0}) (λ (i : Instance). began_after birth (map (began i.first) (make (i.tuple ∷ [])))) (λ (i : Instance). map (began i.first) (make (i.tuple ∷ [])))
     (λ i _ e. began_late birth i.first (make (i.tuple ∷ [])) e) (λ i _ e. began_early birth i.first (make (i.tuple ∷ [])) e) xs (λ _ _ _. tt)
+
+-- what makes of the tuple of each the same bag makes the same bag
+pub each_alike : (P : Instance → Type 0) (make other : Made) → ((i : Instance) → P i → IsPermutation (make (i.tuple ∷ [])) (other (i.tuple ∷ []))) → (xs : List Instance) → All P xs → IsPermutation (each make xs) (each other xs)
+each_alike P make other same xs all =
+    flat_map_alike (λ (i : Instance). map (began i.first) (make (i.tuple ∷ []))) (λ (i : Instance). map (began i.first) (other (i.tuple ∷ []))) xs
+    (All-weaker P (λ (i : Instance). IsPermutation (map (began i.first) (make (i.tuple ∷ []))) (map (began i.first) (other (i.tuple ∷ []))))
+    (λ i h. IsPermutation-map (began i.first) (make (i.tuple ∷ [])) (other (i.tuple ∷ [])) (same i h)) xs all)
+
+-- what is made in two parts
+pub each_parts : (make other : Made) (xs : List Instance) → IsPermutation (each (λ ts. make ts ++ other ts) xs) (each make xs ++ each other xs)
+each_parts make other xs =
+    permuted_from
+    (flat_map_same (λ (i : Instance). map (began i.first) (make (i.tuple ∷ []) ++ other (i.tuple ∷ []))) (λ (i : Instance). map (began i.first) (make (i.tuple ∷ [])) ++ map (began i.first) (other (i.tuple ∷ []))) xs
+    (every (λ (i : Instance). map (began i.first) (make (i.tuple ∷ []) ++ other (i.tuple ∷ [])) ≡ map (began i.first) (make (i.tuple ∷ [])) ++ map (began i.first) (other (i.tuple ∷ [])))
+    (λ i. map-append (began i.first) (make (i.tuple ∷ [])) (other (i.tuple ∷ []))) xs))
+    (flat_map_parts (λ (i : Instance). map (began i.first) (make (i.tuple ∷ []))) (λ (i : Instance). map (began i.first) (other (i.tuple ∷ []))) xs)
+
+-- a list is kept tuple by tuple
+pub each_keeps : (test : TupleView → Bool) → IsEach (filter test)
+each_keeps test [] = refl
+each_keeps test (t ∷ ts) = go (test t) (each_keeps test ts)
+  where
+    go : (b : Bool) → flat_map (λ t. filter test (t ∷ [])) ts ≡ filter test ts → cond b (t ∷ []) [] ++ flat_map (λ t. filter test (t ∷ [])) ts ≡ cond b (t ∷ filter test ts) (filter test ts)
+    go true rest = ap (λ us. t ∷ us) rest
+    go false rest = rest
+
+-- what is kept of each instance are the instances whose tuples are kept
+pub each_kept : (test : TupleView → Bool) (xs : List Instance) → each (filter test) xs ≡ filter (λ (i : Instance). test i.tuple) xs
+each_kept test [] = refl
+each_kept test (i ∷ xs) = go (test i.tuple) (each_kept test xs)
+  where
+    go : (b : Bool) → each (filter test) xs ≡ filter (λ (i : Instance). test i.tuple) xs
+        → map (began i.first) (cond b (i.tuple ∷ []) []) ++ each (filter test) xs ≡ cond b (i ∷ filter (λ (i : Instance). test i.tuple) xs) (filter (λ (i : Instance). test i.tuple) xs)
+    go true rest = ap (λ us. i ∷ us) rest
+    go false rest = rest
+
+-- of tuples that begin, what is kept begins
+pub each_begins : (test : TupleView → Bool) (ts : List TupleView) → each (filter test) (map begins ts) ≡ map begins (filter test ts)
+each_begins test ts = each_kept test (map begins ts) ∙ filter-map (λ (i : Instance). test i.tuple) begins ts
+
+-- what passes a step of each are the instances that pass it
+pub each_passing : (step : List Stage) (xs : List Instance) → each (filter_map (pass step)) xs ≡ filter_map (pass_instance step) xs
+each_passing step [] = refl
+each_passing step (i ∷ xs) = go (pass step i.tuple) (each_passing step xs)
+  where
+    go : (o : Option TupleView) → each (filter_map (pass step)) xs ≡ filter_map (pass_instance step) xs
+        → map (began i.first) (cons_option o []) ++ each (filter_map (pass step)) xs ≡ cons_option (option_map (began i.first) o) (filter_map (pass_instance step) xs)
+    go None rest = rest
+    go (Some u) rest = ap (λ us. began i.first u ∷ us) rest
+
+-- what is taken from each is what all give
+pub each_took : (p : List Pr) (turn : Option Turn) (new : List TupleView) (xs : List Instance) → each (flat_map (taken p turn new)) xs ≡ took p turn new xs
+each_took p turn new xs =
+    flat_map_same (λ (i : Instance). map (began i.first) (taken p turn new i.tuple ++ [])) (taken_from p turn new) xs
+    (every (λ (i : Instance). map (began i.first) (taken p turn new i.tuple ++ []) ≡ taken_from p turn new i) (λ i. ap (map (began i.first)) (append-nil (taken p turn new i.tuple))) xs)
+
+-- what holds no bindings is empty
+pub no_bindings : (xs : List Instance) → bindings_of xs ≡ [] → xs ≡ []
+no_bindings [] e = refl
+no_bindings (i ∷ xs) e = absurd (cc)

@@ -11,7 +11,7 @@ use Rattle.automaton.specs.Prefixes.{After, Root}
 use Rattle.automaton.specs.declared.line.Hop.{Hop}
 use Rattle.automaton.specs.declared.wait.Turn.{Turn}
 use Rattle.epoch_laws.specs.Epochs.{stepped, took}
-use Rattle.epoch_laws.specs.InstanceFlow.{BornLine, derived_after, flow_instances, given_after}
+use Rattle.epoch_laws.specs.InstanceFlow.{BornLine, derived_after, flow_instances, given_after, waiting_instances}
 use Rattle.epoch_laws.specs.Instances.{began, begins, instances_entering}
 
 -- the tuple of one number with these times
@@ -78,6 +78,22 @@ line hops birth = record { line = record { root = 0; hops = hops; last = []; out
 pub matches_keep_their_begin : flow_instances heard (After (Root 0) (next 1)) ≡ began 1 (pair 1 8 1 4) ∷ began 3 (pair 2 8 3 4) ∷ []
 matches_keep_their_begin = refl
 
+-- T has one at 2 in place of it
+abbrev met : Streams
+met = streams_of ((tuple 1 1 1 ∷ tuple 2 3 3 ∷ []) ∷ (tuple 7 2 2 ∷ []) ∷ [])
+
+-- FOLD with T
+abbrev folding : Hop
+folding = record { step = []; wait = record { stream = 1; choose = []; fold = Some (turn 9) } }
+
+-- the tuple that came at 3 waits, the one that was met at 2 doesn't
+pub unmet_waits : waiting_instances met (Root 0) (next 1) ≡ began 3 (tuple 2 3 3) ∷ []
+unmet_waits = refl
+
+-- but in a FOLD the new binding does, which began at 1
+pub new_binding_waits : waiting_instances met (Root 0) folding ≡ began 1 (tuple 7 1 2) ∷ began 3 (tuple 2 3 3) ∷ []
+new_binding_waits = refl
+
 -- after a birth at 2 the match that began at 1 isn't given, though it was made at 4
 pub begun_before_is_cut : given_after heard (line (next 1 ∷ []) (Some 2)) ≡ pair 2 8 3 4 ∷ []
 begun_before_is_cut = refl
@@ -91,5 +107,5 @@ pub detection_decides : given_after (streams_of ((tuple 9 1 3 ∷ tuple 8 1 2 �
 detection_decides = refl
 
 -- a FOLD that began at 1 is cut with all that it goes on to
-pub fold_is_cut : given_after heard (line (record { step = []; wait = record { stream = 1; choose = []; fold = Some (turn 9) } } ∷ []) (Some 2)) ≡ tuple 8 3 4 ∷ []
+pub fold_is_cut : given_after heard (line (folding ∷ []) (Some 2)) ≡ tuple 8 3 4 ∷ []
 fold_is_cut = refl

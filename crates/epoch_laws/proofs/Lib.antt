@@ -9,6 +9,7 @@ pub mod Examples
 pub mod Flows
 pub mod Folds
 pub mod Grows
+pub mod InstanceEpochs
 pub mod InstanceFlows
 pub mod Lists
 pub mod Networks

@@ -14,13 +14,11 @@ use Rattle.semantics.specs.Denotation.{Streams}
 use Rattle.semantics.specs.Scalars.{Pr}
 use Rattle.semantics.proofs.ListLemmas.{filter-map}
 use Rattle.scalar_expr.proofs.Bags.{filter_permuted, flat_map_permuted, permuted_from, permuted_to}
-use Rattle.automaton.specs.Flow.{entering}
 use Rattle.automaton.specs.NetworkLines.{Ending, HasLines, endings_by, ending_at}
 use Rattle.automaton.specs.Networks.{IsAt}
 use Rattle.automaton.specs.Prefixes.{Prefix, Root, After, extended, hops_of, path, root_of}
 use Rattle.automaton.specs.States.{Net, ends_at, entrance_at, root_by, state_at}
 use Rattle.automaton.specs.Steps.{pass}
-use Rattle.automaton.specs.Waiting.{waiting}
 use Rattle.automaton.specs.Work.{ReadsNone, is_in}
 use Rattle.automaton.specs.declared.line.Hop.{Hop}
 use Rattle.automaton.specs.declared.line.Line.{Line}
@@ -29,18 +27,20 @@ use Rattle.automaton.specs.declared.network.Entrance.{Entrance}
 use Rattle.automaton.specs.declared.network.Entrance.TheVariants as entrance
 use Rattle.automaton.specs.declared.network.State.{State}
 use Rattle.epoch_laws.specs.Closing.{Stores, leaving_state, leaving_by, given_by_ends, given_by_ends_at, stepped_by, stores_after}
-use Rattle.epoch_laws.specs.Instances.{begins, bindings_of, instances_entering}
+use Rattle.epoch_laws.specs.Epochs.{stepped}
+use Rattle.epoch_laws.specs.InstanceFlow.{waiting_instances}
+use Rattle.epoch_laws.specs.Instances.{begins, bindings_of, instances_entering, pass_instance}
 use Rattle.epoch_laws.specs.Lines.{flow_now}
-use Rattle.epoch_laws.specs.Stores.{Holds}
+use Rattle.epoch_laws.specs.Stores.{Purged}
 use Rattle.epoch_laws.proofs.Bags.{filter_map_permuted, flat_map_alike, permuted_is}
-use Rattle.epoch_laws.proofs.Bindings.{begins_bindings, entering_bindings, stepped_bindings, took_bindings}
+use Rattle.epoch_laws.proofs.InstanceEpochs.{flow_instances_now, now_bindings}
 use Rattle.epoch_laws.proofs.Lists.{All_last, every, filter-flat_map, flat_map-flat_map, map-flat_map, map_all}
-use Rattle.epoch_laws.proofs.Purges.{IsStored, between_holds, rows_stepped, store_gives, store_keeps}
+use Rattle.epoch_laws.proofs.Purges.{IsStored, between_holds, store_gives, store_keeps}
 use Rattle.semantics.proofs.ReportLemmas.{flat_map_same}
 
--- a store that holds bindings stores them
-pub is_stored : (now : ℕ) (p : List Pr) (store : List Instance) (bindings : List TupleView) → Holds now p store bindings → IsStored now p (bindings_of store) bindings
-is_stored now p store bindings holds = between_holds now p (bindings_of store) bindings holds.at_least holds.at_most
+-- a store of purged instances stores them
+pub is_stored : (now : ℕ) (p : List Pr) (store waits : List Instance) → Purged now p waits store → IsStored now p store waits
+is_stored now p store waits purged = between_holds now p store waits purged.at_least purged.at_most
 
 -- the line of an end at a prefix begins with that prefix
 extended_hops : (p : Prefix) (hops more : List Hop) → extended p (hops ++ more) ≡ extended (extended p hops) more
@@ -133,19 +133,24 @@ no_ends (Some state) e = absurd (cc)
 
 module _ (net : Net) (now : ℕ) (stores : Stores) (news exact earlier : Streams)
     (late : (s : ℕ) → All (λ r. now ≤ r.at) (exact s))
-    (holds : (number : ℕ) (p : Prefix) (h : Hop) → IsAt net number (After p h) → Holds now h.wait.choose (stores number) (waiting earlier p h)) where
+    (holds : (number : ℕ) (p : Prefix) (h : Hop) → IsAt net number (After p h) → Purged now h.wait.choose (waiting_instances earlier p h) (stores number)) where
   -- the stream of a root, or the one on which the last hop waits
   abbrev pub Knows : Prefix → Type 0
   Knows (Root s) = IsPermutation (news s) (exact s)
   Knows (After p h) = IsPermutation (news h.wait.stream) (exact h.wait.stream)
 
   -- what leaves a state is what comes through its prefix
+  pub leaves_instances : (number : ℕ) (p : Prefix) → IsAt net number p → Knows p → IsPermutation (leaving_state net news stores number) (flow_instances_now exact earlier p)
+  leaves_instances number (Root s) at known = permuted_from (root_leaves (entrance_at net number) s news (stores number) at) (IsPermutation-map begins (news s) (exact s) known)
+  leaves_instances number (After p h) at known =
+      permuted_from (ap (λ o. leaving_by o news (stores number)) at.1)
+      (store_gives now h.wait.choose h.wait.fold (exact h.wait.stream) (news h.wait.stream) (stores number) (waiting_instances earlier p h) (late h.wait.stream) known
+      (is_stored now h.wait.choose (stores number) (waiting_instances earlier p h) (holds number p h at)))
+
+  -- and so are its tuples
   pub leaves_alike : (number : ℕ) (p : Prefix) → IsAt net number p → Knows p → IsPermutation (bindings_of (leaving_state net news stores number)) (flow_now exact earlier p)
-  leaves_alike number (Root s) at known = permuted_from (ap bindings_of (root_leaves (entrance_at net number) s news (stores number) at) ∙ begins_bindings (news s)) known
-  leaves_alike number (After p h) at known =
-      permuted_from (ap (λ o. bindings_of (leaving_by o news (stores number))) at.1 ∙ took_bindings h.wait.choose h.wait.fold (news h.wait.stream) (stores number))
-      (store_gives now h.wait.choose h.wait.fold (exact h.wait.stream) (news h.wait.stream) (bindings_of (stores number)) (waiting earlier p h) (late h.wait.stream) known
-      (is_stored now h.wait.choose (stores number) (waiting earlier p h) (holds number p h at)))
+  leaves_alike number p at known =
+      permuted_to (IsPermutation-map (λ (i : Instance). i.tuple) (leaving_state net news stores number) (flow_instances_now exact earlier p) (leaves_instances number p at known)) (now_bindings exact earlier p)
 
   -- a line that reads none of some streams, where all others are known
   knows_of : (order : List ℕ) → ((t : ℕ) → is_in order t ≡ false → IsPermutation (news t) (exact t)) → (p : Prefix) (e : End) → ReadsNone order (line_at p e) → Knows p
@@ -183,21 +188,15 @@ module _ (net : Net) (now : ℕ) (stores : Stores) (news exact earlier : Streams
 
   -- the store of a waiting state after the epoch
   pub stores_keep : (later : ℕ) → now ≤ later → ((s : ℕ) → IsPermutation (news s) (exact s)) → (number : ℕ) (p : Prefix) (h : Hop) → IsAt net number (After p h)
-      → (after : List TupleView) → IsPermutation after (rows_stepped h.wait.choose h.wait.fold (exact h.wait.stream) (entering h (flow_now exact earlier p)) (waiting earlier p h))
-      → IsStored later h.wait.choose (bindings_of (stores_after net news stores number)) after
+      → (after : List Instance) → IsPermutation after (stepped h.wait.choose h.wait.fold (exact h.wait.stream) (instances_entering h (flow_instances_now exact earlier p)) (waiting_instances earlier p h))
+      → IsStored later h.wait.choose (stores_after net news stores number) after
   stores_keep later le known number p h at after is =
-      subst (λ bs. IsStored later h.wait.choose bs after) (sym stored)
-      (store_keeps now h.wait.choose h.wait.fold later (exact h.wait.stream) (news h.wait.stream) (entering h (flow_now exact earlier p)) (entering h (bindings_of (leaving_state net news stores at.0))) (bindings_of (stores number)) (waiting earlier p h) after
+      subst (λ xs. IsStored later h.wait.choose xs after) (sym (ap (λ o. stepped_by o news (leaving_state net news stores) (stores number)) at.1))
+      (store_keeps now h.wait.choose h.wait.fold later (exact h.wait.stream) (news h.wait.stream) (instances_entering h (flow_instances_now exact earlier p)) (instances_entering h (leaving_state net news stores at.0)) (stores number) (waiting_instances earlier p h) after
       le (late h.wait.stream) (known h.wait.stream)
-      (filter_map_permuted (pass h.step) _ _ (leaves_alike at.0 p at.2 (all_known p)))
-      (is_stored now h.wait.choose (stores number) (waiting earlier p h) (holds number p h at)) is)
+      (filter_map_permuted (pass_instance h.step) _ _ (leaves_instances at.0 p at.2 (all_known p)))
+      (is_stored now h.wait.choose (stores number) (waiting_instances earlier p h) (holds number p h at)) is)
     where
       all_known : (p : Prefix) → Knows p
       all_known (Root s) = known s
       all_known (After q k) = known k.wait.stream
-
-      stored : bindings_of (stores_after net news stores number) ≡ rows_stepped h.wait.choose h.wait.fold (news h.wait.stream) (entering h (bindings_of (leaving_state net news stores at.0))) (bindings_of (stores number))
-      stored =
-          ap (λ o. bindings_of (stepped_by o news (leaving_state net news stores) (stores number))) at.1
-          ∙ stepped_bindings h.wait.choose h.wait.fold (news h.wait.stream) (instances_entering h (leaving_state net news stores at.0)) (stores number)
-          ∙ ap (λ ts. rows_stepped h.wait.choose h.wait.fold (news h.wait.stream) ts (bindings_of (stores number))) (entering_bindings h (leaving_state net news stores at.0))

@@ -19,12 +19,15 @@ use Rattle.semantics.specs.Runs.{rebound}
 use Rattle.semantics.specs.Scalars.{Pr, Test, Lit, Event, Binding, Dur}
 use Rattle.semantics.specs.Truth.{truth, all_true}
 use Rattle.semantics.proofs.ListLemmas.{filter_swap}
-use Rattle.instances.specs.Alive.{alive, is_alive, meets_bound}
+use Rattle.instances.specs.Alive.{is_alive, meets_bound}
+use Rattle.instances.specs.Bounds.{alive_instances}
+use Rattle.instances.specs.declared.instance.Instance.{Instance}
 use Rattle.scalar_expr.specs.Classes.{bounded, class_of, exchanged, fixed, keyed}
 use Rattle.scalar_expr.proofs.Bags.{permuted_from, permuted_to, filter_permuted, flat_map_permuted}
 use Rattle.automaton.specs.Waiting.{is_empty}
 use Rattle.automaton.specs.declared.wait.Turn.{Turn}
-use Rattle.epoch_laws.specs.Epochs.{again, is_unmet, taken}
+use Rattle.epoch_laws.specs.Epochs.{again, is_unmet, stepped, taken, taken_from, took, unmatched_after}
+use Rattle.epoch_laws.specs.Instances.{began}
 use Rattle.epoch_laws.specs.Stores.{IsWithin}
 use Rattle.epoch_laws.proofs.Bags.{permuted_is, flat_map_alike, no_length}
 use Rattle.epoch_laws.proofs.Lists.{and-false, every, filter-filter, filter_false, flat_map-filter}
@@ -37,10 +40,10 @@ rest_of choose tuples bindings = filter (is_unmet choose tuples) bindings
 abbrev pub rows_stepped : List Pr → Option Turn → List TupleView → List TupleView → List TupleView → List TupleView
 rows_stepped choose turn tuples entered bindings = rest_of choose tuples bindings ++ (entered ++ again turn (flat_map (taken choose turn tuples) bindings))
 
--- bindings that are within those that wait and have the same alive ones
-pub record IsStored (now : ℕ) (p : List Pr) (store waits : List TupleView) : Type 0 where
+-- instances that are within those that wait and have the same alive ones
+pub record IsStored (now : ℕ) (p : List Pr) (store waits : List Instance) : Type 0 where
   pub within : IsWithin store waits
-  pub alive_same : IsPermutation (alive now p store) (alive now p waits)
+  pub alive_same : IsPermutation (alive_instances now p store) (alive_instances now p waits)
 
 -- one bound, at a time and later
 not_lower : (now at from : ℕ) (most : ℤ) → now ≤ at → int_lt (pos now -ℤ pos from) most ≡ false → int_lt (pos at -ℤ pos from) most ≡ false
@@ -132,14 +135,17 @@ pub dead_on : (now later : ℕ) (p : List Pr) (b : TupleView) → now ≤ later 
 dead_on now later p b le e = all_falls (λ part. meets_bound now b (class_of part)) (λ part. meets_bound later b (class_of part)) (dead_later now later b le) p e
 
 -- those that are alive later are those of them that are alive earlier
-pub alive_alive : (now later : ℕ) (p : List Pr) (bs : List TupleView) → now ≤ later → alive later p (alive now p bs) ≡ alive later p bs
-alive_alive now later p bs le =
-    filter-filter (is_alive later p) (is_alive now p) bs
-    ∙ filter_agree (λ b. is_alive now p b && is_alive later p b) (is_alive later p) (λ b. go b (is_alive now p b) refl) bs
+pub alive_alive : (now later : ℕ) (p : List Pr) (xs : List Instance) → now ≤ later → alive_instances later p (alive_instances now p xs) ≡ alive_instances later p xs
+alive_alive now later p xs le =
+    filter-filter (lives later) (lives now) xs
+    ∙ filter_agree (λ i. lives now i && lives later i) (lives later) (λ i. go i (lives now i) refl) xs
   where
-    go : (b : TupleView) (t : Bool) → is_alive now p b ≡ t → (t && is_alive later p b) ≡ is_alive later p b
-    go b true e = refl
-    go b false e = sym (dead_on now later p b le e)
+    lives : ℕ → Instance → Bool
+    lives time instance = is_alive time p instance.tuple
+
+    go : (i : Instance) (t : Bool) → is_alive now p i.tuple ≡ t → (t && is_alive later p i.tuple) ≡ is_alive later p i.tuple
+    go i true e = refl
+    go i false e = sym (dead_on now later p i.tuple le e)
 
 -- bags are empty together
 empty_permuted : (xs ys : List TupleView) → IsPermutation xs ys → is_empty xs ≡ is_empty ys
@@ -152,40 +158,43 @@ empty_permuted xs ys h = go xs ys (length_permutation xs ys h)
     go (x ∷ xs) (y ∷ ys) e = refl
 
 -- a purge that is done once more changes nothing
-filter-filter_same : (now : ℕ) (p : List Pr) (bs : List TupleView) → alive now p (alive now p bs) ≡ alive now p bs
-filter-filter_same now p bs = alive_alive now now p bs (omega arith)
+alive_twice : (now : ℕ) (p : List Pr) (xs : List Instance) → alive_instances now p (alive_instances now p xs) ≡ alive_instances now p xs
+alive_twice now p xs = alive_alive now now p xs (omega arith)
 
 module _ (now : ℕ) (p : List Pr) where
+  abbrev lives : Instance → Bool
+  lives instance = is_alive now p instance.tuple
+
   -- a store with all that is alive, and nothing but what waits, holds what waits
-  pub between_holds : (store waits : List TupleView) → IsWithin (alive now p waits) store → IsWithin store waits → IsStored now p store waits
-  between_holds store waits low high = record { within = high; alive_same = permuted_from (sym (append-nil (alive now p store)) ∙ ap (λ ys. alive now p store ++ ys) (sym none)) over }
+  pub between_holds : (store waits : List Instance) → IsWithin (alive_instances now p waits) store → IsWithin store waits → IsStored now p store waits
+  between_holds store waits low high = record { within = high; alive_same = permuted_from (sym (append-nil (alive_instances now p store)) ∙ ap (λ ys. alive_instances now p store ++ ys) (sym none)) over }
     where
-      over : IsPermutation (alive now p store ++ alive now p high.0) (alive now p waits)
-      over = permuted_from (sym (filter-append (is_alive now p) store high.0)) (filter_permuted (is_alive now p) (store ++ high.0) waits high.1)
+      over : IsPermutation (alive_instances now p store ++ alive_instances now p high.0) (alive_instances now p waits)
+      over = permuted_from (sym (filter-append lives store high.0)) (filter_permuted lives (store ++ high.0) waits high.1)
 
-      under : IsPermutation (alive now p waits ++ alive now p low.0) (alive now p store)
+      under : IsPermutation (alive_instances now p waits ++ alive_instances now p low.0) (alive_instances now p store)
       under =
-          permuted_from (ap (λ ys. ys ++ alive now p low.0) (sym (filter-filter_same now p waits)) ∙ sym (filter-append (is_alive now p) (alive now p waits) low.0))
-          (filter_permuted (is_alive now p) (alive now p waits ++ low.0) store low.1)
+          permuted_from (ap (λ ys. ys ++ alive_instances now p low.0) (sym (alive_twice now p waits)) ∙ sym (filter-append lives (alive_instances now p waits) low.0))
+          (filter_permuted lives (alive_instances now p waits ++ low.0) store low.1)
 
-      none : alive now p high.0 ≡ []
+      none : alive_instances now p high.0 ≡ []
       none =
-          no_length (alive now p high.0)
-          (omega (arith, length_permutation _ _ over, length_permutation _ _ under, length-append (alive now p store) (alive now p high.0), length-append (alive now p waits) (alive now p low.0)))
+          no_length (alive_instances now p high.0)
+          (omega (arith, length_permutation _ _ over, length_permutation _ _ under, length-append (alive_instances now p store) (alive_instances now p high.0), length-append (alive_instances now p waits) (alive_instances now p low.0)))
 
   -- and a store that holds it has all that is alive
-  pub holds_between : (store waits : List TupleView) → IsStored now p store waits → IsWithin (alive now p waits) store
+  pub holds_between : (store waits : List Instance) → IsStored now p store waits → IsWithin (alive_instances now p waits) store
   holds_between store waits h = (
-    filter (λ b. not (is_alive now p b)) store,
-    IsPermutation-trans _ _ _ (IsPermutation-append_left (filter (λ b. not (is_alive now p b)) store) (alive now p waits) (alive now p store) (IsPermutation-sym _ _ h.alive_same))
-        (IsPermutation-sym _ _ (IsPermutation-filter_both (is_alive now p) (λ b. not (is_alive now p b)) (λ _. refl) store)),
+    filter (λ i. not (lives i)) store,
+    IsPermutation-trans _ _ _ (IsPermutation-append_left (filter (λ i. not (lives i)) store) (alive_instances now p waits) (alive_instances now p store) (IsPermutation-sym _ _ h.alive_same))
+        (IsPermutation-sym _ _ (IsPermutation-filter_both lives (λ i. not (lives i)) (λ _. refl) store)),
   )
 
 -- what a store gives
 module _ (now : ℕ) (p : List Pr) (turn : Option Turn) where
-  -- bindings that aren't alive give nothing
-  took_alive : (new bs : List TupleView) → All (λ r. now ≤ r.at) new → flat_map (taken p turn new) bs ≡ flat_map (taken p turn new) (alive now p bs)
-  took_alive new bs late = flat_map-filter (is_alive now p) (λ _. Unit {0}) (taken p turn new) (taken p turn new) (λ b _ _. refl) (λ b _ e. none b e turn) bs (λ _ _ _. tt)
+  -- instances that aren't alive give nothing
+  took_alive : (new : List TupleView) (xs : List Instance) → All (λ r. now ≤ r.at) new → took p turn new xs ≡ took p turn new (alive_instances now p xs)
+  took_alive new xs late = flat_map-filter (lives now p) (λ _. Unit {0}) (taken_from p turn new) (taken_from p turn new) (λ i _ _. refl) (λ i _ e. ap (map (began i.first)) (none i.tuple e turn)) xs (λ _ _ _. tt)
     where
       unmet : (b : TupleView) → is_alive now p b ≡ false → filter (is_eligible p b) new ≡ []
       unmet b e = filter_false (is_eligible p b) new (All-weaker (λ r. now ≤ r.at) (λ r. is_eligible p b r ≡ false) (λ r le. dead_stay_dead now p b r e le) new late)
@@ -205,62 +214,65 @@ module _ (now : ℕ) (p : List Pr) (turn : Option Turn) where
       go None = IsPermutation-map (joined b) _ _ found
       go (Some t) = IsPermutation-map (rebound t.set.parts b) _ _ (filter_permuted (λ r. all_true t.on r (Some b)) _ _ found)
 
-  -- a store gives what the waiting bindings give
-  pub store_gives : (new news store waits : List TupleView) → All (λ r. now ≤ r.at) new → IsPermutation news new → IsStored now p store waits → IsPermutation (flat_map (taken p turn news) store) (flat_map (taken p turn new) waits)
+  -- a store gives what the waiting instances give
+  pub store_gives : (new news : List TupleView) (store waits : List Instance) → All (λ r. now ≤ r.at) new → IsPermutation news new → IsStored now p store waits → IsPermutation (took p turn news store) (took p turn new waits)
   store_gives new news store waits late h holds =
-      IsPermutation-trans _ _ _ (flat_map_alike (taken p turn news) (taken p turn new) store (every (λ b. IsPermutation (taken p turn news b) (taken p turn new b)) (taken_permuted news new h) store))
+      IsPermutation-trans _ _ _
+      (flat_map_alike (taken_from p turn news) (taken_from p turn new) store
+      (every (λ i. IsPermutation (taken_from p turn news i) (taken_from p turn new i)) (λ i. IsPermutation-map (began i.first) (taken p turn news i.tuple) (taken p turn new i.tuple) (taken_permuted news new h i.tuple)) store))
       (permuted_from (took_alive new store late)
-      (permuted_to (flat_map_permuted (taken p turn new) (alive now p store) (alive now p waits) holds.alive_same) (sym (took_alive new waits late))))
+      (permuted_to (flat_map_permuted (taken_from p turn new) (alive_instances now p store) (alive_instances now p waits) holds.alive_same) (sym (took_alive new waits late))))
 
-  again_permuted : (xs ys : List TupleView) → IsPermutation xs ys → IsPermutation (again turn xs) (again turn ys)
+  again_permuted : (xs ys : List Instance) → IsPermutation xs ys → IsPermutation (again turn xs) (again turn ys)
   again_permuted xs ys h = go turn
     where
       go : (turn : Option Turn) → IsPermutation (again turn xs) (again turn ys)
       go None = IsPermutation-refl []
       go (Some t) = h
 
-  left_alike : (news new bs : List TupleView) → IsPermutation news new → rest_of p news bs ≡ rest_of p new bs
-  left_alike news new bs h =
-      filter_agree (λ b. is_unmet p news b) (λ b. is_unmet p new b) (λ b. empty_permuted _ _ (filter_permuted (is_eligible p b) news new h)) bs
+  left_alike : (news new : List TupleView) (xs : List Instance) → IsPermutation news new → unmatched_after p news xs ≡ unmatched_after p new xs
+  left_alike news new xs h =
+      filter_agree (λ i. is_unmet p news i.tuple) (λ i. is_unmet p new i.tuple) (λ i. empty_permuted _ _ (filter_permuted (is_eligible p i.tuple) news new h)) xs
 
   -- what is left of such a store is such a store of what is left
-  left_alive : (later : ℕ) → now ≤ later → (new store waits : List TupleView) → IsStored now p store waits → IsPermutation (alive later p (rest_of p new store)) (alive later p (rest_of p new waits))
+  left_alive : (later : ℕ) → now ≤ later → (new : List TupleView) (store waits : List Instance) → IsStored now p store waits
+      → IsPermutation (alive_instances later p (unmatched_after p new store)) (alive_instances later p (unmatched_after p new waits))
   left_alive later le new store waits holds =
-      permuted_from (swapped store) (permuted_to (filter_permuted stands _ _ (filter_permuted (is_alive later p) _ _ holds.alive_same)) (sym (swapped waits)))
+      permuted_from (swapped store) (permuted_to (filter_permuted stands _ _ (filter_permuted (lives later p) _ _ holds.alive_same)) (sym (swapped waits)))
     where
-      stands : TupleView → Bool
-      stands b = is_unmet p new b
+      stands : Instance → Bool
+      stands i = is_unmet p new i.tuple
 
-      swapped : (bs : List TupleView) → alive later p (rest_of p new bs) ≡ filter stands (alive later p (alive now p bs))
-      swapped bs = filter_swap (is_alive later p) stands bs ∙ ap (filter stands) (sym (alive_alive now later p bs le))
+      swapped : (xs : List Instance) → alive_instances later p (unmatched_after p new xs) ≡ filter stands (alive_instances later p (alive_instances now p xs))
+      swapped xs = filter_swap (lives later p) stands xs ∙ ap (filter stands) (sym (alive_alive now later p xs le))
 
   -- and keeps what they keep
-  pub store_keeps : (later : ℕ) (new news entered enters store waits after : List TupleView) → now ≤ later → All (λ r. now ≤ r.at) new → IsPermutation news new → IsPermutation enters entered
-      → IsStored now p store waits → IsPermutation after (rows_stepped p turn new entered waits) → IsStored later p (rows_stepped p turn news enters store) after
+  pub store_keeps : (later : ℕ) (new news : List TupleView) (entered enters store waits after : List Instance) → now ≤ later → All (λ r. now ≤ r.at) new → IsPermutation news new → IsPermutation enters entered
+      → IsStored now p store waits → IsPermutation after (stepped p turn new entered waits) → IsStored later p (stepped p turn news enters store) after
   store_keeps later new news entered enters store waits after le late h k holds is = record {
     within = (
-      rest_of p new holds.within.0,
-      IsPermutation-trans _ _ _ (IsPermutation-append_comm (rows_stepped p turn news enters store) (rest_of p new holds.within.0))
-          (IsPermutation-trans _ _ _ (permuted_is (sym (append_assoc (rest_of p new holds.within.0) (rest_of p news store) (enters ++ again turn (flat_map (taken p turn news) store)))))
+      unmatched_after p new holds.within.0,
+      IsPermutation-trans _ _ _ (IsPermutation-append_comm (stepped p turn news enters store) (unmatched_after p new holds.within.0))
+          (IsPermutation-trans _ _ _ (permuted_is (sym (append_assoc (unmatched_after p new holds.within.0) (unmatched_after p news store) (enters ++ again turn (took p turn news store)))))
           (IsPermutation-trans _ _ _ (IsPermutation-append _ _ _ _ parts comes) (IsPermutation-sym _ _ is))),
     );
     alive_same =
         IsPermutation-trans _ _ _
-        (permuted_from (filter-append (is_alive later p) (rest_of p news store) (enters ++ again turn (flat_map (taken p turn news) store)))
+        (permuted_from (filter-append (lives later p) (unmatched_after p news store) (enters ++ again turn (took p turn news store)))
         (permuted_to
         (IsPermutation-append _ _ _ _
-        (permuted_from (ap (alive later p) (left_alike news new store h)) (left_alive later le new store waits holds))
-        (filter_permuted (is_alive later p) _ _ comes))
-        (sym (filter-append (is_alive later p) (rest_of p new waits) (entered ++ again turn (flat_map (taken p turn new) waits))))))
-        (filter_permuted (is_alive later p) _ _ (IsPermutation-sym _ _ is));
+        (permuted_from (ap (alive_instances later p) (left_alike news new store h)) (left_alive later le new store waits holds))
+        (filter_permuted (lives later p) _ _ comes))
+        (sym (filter-append (lives later p) (unmatched_after p new waits) (entered ++ again turn (took p turn new waits))))))
+        (filter_permuted (lives later p) _ _ (IsPermutation-sym _ _ is));
   }
     where
-      comes : IsPermutation (enters ++ again turn (flat_map (taken p turn news) store)) (entered ++ again turn (flat_map (taken p turn new) waits))
+      comes : IsPermutation (enters ++ again turn (took p turn news store)) (entered ++ again turn (took p turn new waits))
       comes = IsPermutation-append _ _ _ _ k (again_permuted _ _ (store_gives new news store waits late h holds))
 
-      parts : IsPermutation (rest_of p new holds.within.0 ++ rest_of p news store) (rest_of p new waits)
+      parts : IsPermutation (unmatched_after p new holds.within.0 ++ unmatched_after p news store) (unmatched_after p new waits)
       parts =
-          permuted_from (ap (λ ys. rest_of p new holds.within.0 ++ ys) (left_alike news new store h))
-          (IsPermutation-trans _ _ _ (IsPermutation-append_comm (rest_of p new holds.within.0) (rest_of p new store))
-          (permuted_from (sym (filter-append (λ b. is_unmet p new b) store holds.within.0))
-          (filter_permuted (λ b. is_unmet p new b) (store ++ holds.within.0) waits holds.within.1)))
+          permuted_from (ap (λ ys. unmatched_after p new holds.within.0 ++ ys) (left_alike news new store h))
+          (IsPermutation-trans _ _ _ (IsPermutation-append_comm (unmatched_after p new holds.within.0) (unmatched_after p new store))
+          (permuted_from (sym (filter-append (λ i. is_unmet p new i.tuple) store holds.within.0))
+          (filter_permuted (λ i. is_unmet p new i.tuple) (store ++ holds.within.0) waits holds.within.1)))

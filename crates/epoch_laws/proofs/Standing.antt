@@ -5,11 +5,12 @@ use Rattle.std.specs.List.{All, filter}
 use Rattle.std.specs.List.Sorted.{IsPermutation}
 use Rattle.std.proofs.lemmas.Bool.Decides.{nat_tests}
 use Rattle.std.proofs.lemmas.List.Elements.{filter-append, filter_passes, All-nil, All-cons, All-head, All-tail, All-append, All-filter, All-weaker}
-use Rattle.std.proofs.lemmas.List.Sorted.{IsPermutation-refl, IsPermutation-trans, IsPermutation-append_left}
+use Rattle.std.proofs.lemmas.List.Sorted.{IsPermutation-refl, IsPermutation-trans, IsPermutation-append_left, IsPermutation-map}
 use Rattle.std.proofs.lemmas.List.{map-append}
 use Rattle.event_types.specs.Order.{sorted}
 use Rattle.event_types.specs.Tuple.{IsSound}
 use Rattle.instances.specs.Bounds.{alive_instances}
+use Rattle.instances.specs.declared.instance.Instance.{Instance}
 use Rattle.semantics.specs.Denotation.{Streams}
 use Rattle.semantics.specs.Histories.{Event, heard_on, upto}
 use Rattle.semantics.specs.Laws.{NeverFalls}
@@ -17,7 +18,7 @@ use Rattle.semantics.specs.Programs.{Program}
 use Rattle.semantics.specs.Results.{results}
 use Rattle.semantics.proofs.ReportLemmas.{filter_all}
 use Rattle.instances.specs.Alive.{alive}
-use Rattle.scalar_expr.proofs.Bags.{permuted_from, permuted_to}
+use Rattle.scalar_expr.proofs.Bags.{permuted_to}
 use Rattle.automaton.specs.Flow.{flow}
 use Rattle.automaton.specs.Networks.{IsAt}
 use Rattle.automaton.specs.Prefixes.{Prefix, After}
@@ -28,11 +29,13 @@ use Rattle.automaton.specs.declared.line.Line.{Line}
 use Rattle.epoch_laws.specs.Batch.{Agree}
 use Rattle.epoch_laws.specs.Closing.{ArePurged, IsEpoch, Stores, leaving_state, stores_after}
 use Rattle.epoch_laws.specs.Histories.{events_before, events_during, streams_over}
+use Rattle.epoch_laws.specs.InstanceFlow.{waiting_instances}
 use Rattle.epoch_laws.specs.Instances.{bindings_of}
 use Rattle.epoch_laws.specs.Standing.{MayFollow, PartsStandFor, closed_part, last_time, next_time, open_part}
 use Rattle.epoch_laws.specs.StoresStandFor.{Serves, StoresStandFor}
 use Rattle.epoch_laws.specs.Times.{IsPast, during}
 use Rattle.epoch_laws.proofs.Batches.{batch_is_results}
+use Rattle.epoch_laws.proofs.InstanceEpochs.{instances_wait}
 use Rattle.epoch_laws.proofs.Lists.{filter_false}
 use Rattle.epoch_laws.proofs.Networks.{is_stored}
 use Rattle.epoch_laws.proofs.StoresStandFor.{alive_bindings, net_flows, net_gives, stands_at_start, stands_closed, stands_purged}
@@ -265,5 +268,13 @@ pub trimmed_is_alive : (net : Net) (lines : List Line) (order : List ℕ) (store
     → PartsStandFor net lines order stores open_time tuples closed_time history → (number : ℕ) (p : Prefix) (h : Hop) → IsAt net number (After p h)
     → IsPermutation (bindings_of (alive_instances (next_time closed_time) h.wait.choose (stores number))) (alive (next_time closed_time) h.wait.choose (waiting (streams_over lines order (closed_part open_time history)) p h))
 trimmed_is_alive net lines order stores open_time tuples closed_time history stands number p h at =
-    permuted_from (alive_bindings (next_time closed_time) h.wait.choose (stores number))
-    (is_stored (next_time closed_time) h.wait.choose (stores number) (waiting (streams_over lines order (closed_part open_time history)) p h) (stands.stores_stand.holds number p h at)).alive_same
+    permuted_to
+    (IsPermutation-map (λ (i : Instance). i.tuple) (alive_instances time h.wait.choose (stores number)) (alive_instances time h.wait.choose (waiting_instances env p h))
+    (is_stored time h.wait.choose (stores number) (waiting_instances env p h) (stands.stores_stand.holds number p h at)).alive_same)
+    (alive_bindings time h.wait.choose (waiting_instances env p h) ∙ ap (alive time h.wait.choose) (instances_wait env p h))
+  where
+    time : ℕ
+    time = next_time closed_time
+
+    env : Streams
+    env = streams_over lines order (closed_part open_time history)

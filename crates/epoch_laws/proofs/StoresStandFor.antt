@@ -29,14 +29,17 @@ use Rattle.automaton.specs.declared.line.Line.{Line}
 use Rattle.automaton.proofs.WorkLemmas.{completed_other, streams_derived}
 use Rattle.epoch_laws.specs.Closing.{ArePurged, IsEpoch, Stores, given_by_ends, leaving_state, stores_after}
 use Rattle.epoch_laws.specs.Histories.{events_before, events_during, streams_over}
+use Rattle.epoch_laws.specs.InstanceFlow.{waiting_instances}
 use Rattle.epoch_laws.specs.Instances.{bindings_of}
 use Rattle.epoch_laws.specs.Lines.{flow_now}
 use Rattle.epoch_laws.specs.StoresStandFor.{Serves, StoresStandFor}
-use Rattle.epoch_laws.specs.Stores.{Holds, Purged}
+use Rattle.epoch_laws.specs.Stores.{IsWithin, Purged}
 use Rattle.epoch_laws.specs.Times.{ArePast, during, IsPast, streams_before, streams_during}
 use Rattle.epoch_laws.proofs.Bags.{map_within, within_permuted, within_through}
-use Rattle.epoch_laws.proofs.Flows.{flow_gives, line_gives, rows_state}
+use Rattle.epoch_laws.proofs.Each.{no_bindings}
+use Rattle.epoch_laws.proofs.Flows.{flow_gives, line_gives}
 use Rattle.epoch_laws.proofs.Folds.{during_at}
+use Rattle.epoch_laws.proofs.InstanceEpochs.{instances_wait, state_keeps}
 use Rattle.epoch_laws.proofs.Lists.{every, filter-flat_map, filter_false}
 use Rattle.epoch_laws.proofs.Networks.{leaves_alike, published_alike, stores_keep}
 use Rattle.epoch_laws.proofs.Purges.{IsStored, between_holds, holds_between}
@@ -46,24 +49,28 @@ use Rattle.epoch_laws.proofs.Streams.{heard_now, over_before, over_past, start_w
 pub alive_bindings : (now : ℕ) (p : List Pr) (store : List Instance) → bindings_of (alive_instances now p store) ≡ alive now p (bindings_of store)
 alive_bindings now p store = sym (filter-map (is_alive now p) (λ (instance : Instance). instance.tuple) store)
 
-purged_holds : (now : ℕ) (p : List Pr) (store kept : List Instance) (bindings : List TupleView) → Holds now p store bindings → Purged now p store kept → Holds now p kept bindings
-purged_holds now p store kept bindings holds purged = record {
+purged_twice : (now : ℕ) (p : List Pr) (waits store kept : List Instance) → Purged now p waits store → Purged now p store kept → Purged now p waits kept
+purged_twice now p waits store kept once again = record {
   at_least =
-      within_permuted (alive now p bindings) (bindings_of (alive_instances now p store)) (bindings_of kept)
-      (permuted_to (IsPermutation-sym _ _ (between_holds now p (bindings_of store) bindings holds.at_least holds.at_most).alive_same) (sym (alive_bindings now p store)))
-      (map_within (λ (instance : Instance). instance.tuple) (alive_instances now p store) kept purged.at_least);
-  at_most = within_through (bindings_of kept) (bindings_of store) bindings (map_within (λ (instance : Instance). instance.tuple) kept store purged.at_most) holds.at_most;
+      within_permuted (alive_instances now p waits) (alive_instances now p store) kept
+      (IsPermutation-sym _ _ (between_holds now p store waits once.at_least once.at_most).alive_same) again.at_least;
+  at_most = within_through kept store waits again.at_most once.at_most;
 }
 
-stored_holds : (now : ℕ) (p : List Pr) (store : List Instance) (bindings : List TupleView) → IsStored now p (bindings_of store) bindings → Holds now p store bindings
-stored_holds now p store bindings s = record { at_least = holds_between now p (bindings_of store) bindings s; at_most = s.within }
+stored_purged : (now : ℕ) (p : List Pr) (store waits : List Instance) → IsStored now p store waits → Purged now p waits store
+stored_purged now p store waits s = record { at_least = holds_between now p store waits s; at_most = s.within }
+
+-- the bindings of a store are of those that wait
+pub stored_wait : (now : ℕ) (env : Streams) (p : Prefix) (h : Hop) (store : List Instance) → Purged now h.wait.choose (waiting_instances env p h) store → IsWithin (bindings_of store) (waiting env p h)
+stored_wait now env p h store purged =
+    subst (IsWithin (bindings_of store)) (instances_wait env p h) (map_within (λ (i : Instance). i.tuple) store (waiting_instances env p h) purged.at_most)
 
 abbrev AllHold : Net → ℕ → Stores → Streams → Type 0
-AllHold net now stores env = (number : ℕ) (p : Prefix) (h : Hop) → IsAt net number (After p h) → Holds now h.wait.choose (stores number) (waiting env p h)
+AllHold net now stores env = (number : ℕ) (p : Prefix) (h : Hop) → IsAt net number (After p h) → Purged now h.wait.choose (waiting_instances env p h) (stores number)
 
 purged_all : (net : Net) (now : ℕ) (stores kept : Stores) (env : Streams) → AllHold net now stores env → ArePurged now net stores kept → AllHold net now kept env
 purged_all net now stores kept env holds purged number p h at =
-    purged_holds now h.wait.choose (stores number) (kept number) (waiting env p h) (holds number p h at) (purged number h.wait (ap (option_and_then wait_by) at.1))
+    purged_twice now h.wait.choose (waiting_instances env p h) (stores number) (kept number) (holds number p h at) (purged number h.wait (ap (option_and_then wait_by) at.1))
 
 -- one epoch of a history
 module _ (net : Net) (lines : List Line) (order : List ℕ) (h : List Event) (time now : ℕ) (stores : Stores) (news : Streams)
@@ -134,14 +141,18 @@ module _ (net : Net) (lines : List Line) (order : List ℕ) (h : List Event) (ti
   -- and keeps the bindings that wait on
   pub net_keeps : (later : ℕ) → now ≤ later → AllHold net later (stores_after net news stores) (streams_over lines order h)
   net_keeps later on number p k at =
-      stored_holds later k.wait.choose (stores_after net news stores number) (waiting full p k)
-      (stores_keep net now stores news exact earlier late holds_earlier later on net_gives number p k at (waiting full p k) (rows_state time full full_past p k))
+      stored_purged later k.wait.choose (stores_after net news stores number) (waiting_instances full p k)
+      (stores_keep net now stores news exact earlier late holds_earlier later on net_gives number p k at (waiting_instances full p k) (state_keeps time full full_past p k))
+
+-- before any event no instance waits
+none_wait : (lines : List Line) (order : List ℕ) (p : Prefix) (h : Hop) → waiting_instances (streams_over lines order []) p h ≡ []
+none_wait lines order p h = no_bindings (waiting_instances (streams_over lines order []) p h) (instances_wait (streams_over lines order []) p h ∙ start_waits lines order p h)
 
 -- at the start the stores hold nothing
 pub stands_at_start : (net : Net) (lines : List Line) (order : List ℕ) → StoresStandFor net lines order 0 (λ _. []) []
 stands_at_start net lines order = record {
   before = All-nil (λ e. IsSound e.tuple × (e.tuple.at < 0));
-  holds = λ number p h at. subst (λ ts. Holds 0 h.wait.choose [] ts) (sym (start_waits lines order p h)) (record { at_least = ([], IsPermutation-refl []); at_most = ([], IsPermutation-refl []) });
+  holds = λ number p h at. subst (λ xs. Purged 0 h.wait.choose xs []) (sym (none_wait lines order p h)) (record { at_least = ([], IsPermutation-refl []); at_most = ([], IsPermutation-refl []) });
 }
 
 -- purged stores stand for the same events

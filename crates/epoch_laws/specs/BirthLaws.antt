@@ -4,14 +4,20 @@ use Rattle.std.specs.List.{filter, flat_map}
 use Rattle.semantics.specs.Denotation.{Streams}
 use Rattle.automaton.specs.Flow.{derived, flow, given}
 use Rattle.automaton.specs.Prefixes.{Prefix}
+use Rattle.automaton.specs.Waiting.{waiting}
+use Rattle.automaton.specs.declared.line.Hop.{Hop}
 use Rattle.automaton.specs.declared.line.Line.{Line}
 use Rattle.epoch_laws.specs.Births.{AreSound, began_after, streams_after}
-use Rattle.epoch_laws.specs.InstanceFlow.{BornLine, derived_after, flow_instances, unborn}
+use Rattle.epoch_laws.specs.InstanceFlow.{BornLine, derived_after, flow_instances, unborn, waiting_instances}
 use Rattle.epoch_laws.specs.Instances.{bindings_of}
 
 -- without the times at which they began, the instances that flow are the tuples that flow
 abbrev pub InstancesFlow : Type 0
 InstancesFlow = (streams : Streams) (prefix : Prefix) → bindings_of (flow_instances streams prefix) ≡ flow streams prefix
+
+-- and those that wait are the bindings that wait
+abbrev pub InstancesWait : Type 0
+InstancesWait = (streams : Streams) (prefix : Prefix) (hop : Hop) → bindings_of (waiting_instances streams prefix hop) ≡ waiting streams prefix hop
 
 -- the instances that began after a birth are, in their order, those that flow over the streams cut there
 abbrev pub LaterInstancesFlow : Type 0

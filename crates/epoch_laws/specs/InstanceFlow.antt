@@ -4,9 +4,11 @@ use Rattle.std.specs.List.{filter, filter_map, flat_map}
 use Rattle.event_types.specs.Tuple.{TupleView}
 use Rattle.instances.specs.declared.instance.Instance.{Instance}
 use Rattle.semantics.specs.Denotation.{Streams}
-use Rattle.automaton.specs.Flow.{leaving}
+use Rattle.automaton.specs.Flow.{entering, leaving}
 use Rattle.automaton.specs.Prefixes.{Prefix, Root, After, path}
 use Rattle.automaton.specs.Steps.{pass}
+use Rattle.automaton.specs.Waiting.{waiting_in}
+use Rattle.automaton.specs.declared.line.Hop.{Hop}
 use Rattle.automaton.specs.declared.line.Line.{Line}
 use Rattle.epoch_laws.specs.Births.{began_after}
 use Rattle.epoch_laws.specs.Instances.{began, begins, bindings_of}
@@ -19,6 +21,14 @@ each make instances = flat_map (λ instance. map (began instance.first) (make (i
 abbrev pub flow_instances : Streams → Prefix → List Instance
 flow_instances streams (Root stream) = map begins (streams stream)
 flow_instances streams (After prefix hop) = each (leaving hop streams) (flow_instances streams prefix)
+
+-- the bindings that wait at a hop, of the tuples that come to its step
+abbrev pub waiting_behind : Hop → Streams → List TupleView → List TupleView
+waiting_behind hop streams tuples = waiting_in hop.wait.choose hop.wait.fold (streams hop.wait.stream) (entering hop tuples)
+
+-- the instances that wait at the state of a hop behind a prefix
+abbrev pub waiting_instances : Streams → Prefix → Hop → List Instance
+waiting_instances streams prefix hop = each (waiting_behind hop streams) (flow_instances streams prefix)
 
 -- a line, and the birth of its query
 pub record BornLine : Type 0 where

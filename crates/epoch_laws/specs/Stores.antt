@@ -1,21 +1,13 @@
 -- Stores of instances: what they may leave out, and what they have to keep.
 use Rattle.std.specs.Prelude.{ℕ, List, ◌++◌}
 use Rattle.std.specs.List.Sorted.{IsPermutation}
-use Rattle.event_types.specs.Tuple.{TupleView}
 use Rattle.instances.specs.Bounds.{alive_instances}
 use Rattle.instances.specs.declared.instance.Instance.{Instance}
 use Rattle.semantics.specs.Scalars.{Pr}
-use Rattle.instances.specs.Alive.{alive}
-use Rattle.epoch_laws.specs.Instances.{bindings_of}
 
 -- as bags, the first list is within the second
 abbrev pub IsWithin : {X : Type 0} → List X → List X → Type 0
 IsWithin {X} xs ys = (rest : List X) × IsPermutation (xs ++ rest) ys
-
--- of the bindings that wait, a store holds at least those that are alive at a time, and no others
-pub record Holds (time : ℕ) (choose : List Pr) (store : List Instance) (bindings : List TupleView) : Type 0 where
-  pub at_least : IsWithin (alive time choose bindings) (bindings_of store)
-  pub at_most : IsWithin (bindings_of store) bindings
 
 -- a store that was purged for a time, in whole, in part or not at all, and in any order
 pub record Purged (time : ℕ) (choose : List Pr) (store kept : List Instance) : Type 0 where

@@ -6,7 +6,7 @@
 #![tactic(auto)]
 
 ghost use Rattle.epoch_laws.specs.Batch.{BatchIsResults};
-ghost use Rattle.epoch_laws.specs.BirthLaws.{BornLinesReadLater, InstancesFlow, LaterInstancesFlow, UnbornLinesReadAll};
+ghost use Rattle.epoch_laws.specs.BirthLaws.{BornLinesReadLater, InstancesFlow, InstancesWait, LaterInstancesFlow, UnbornLinesReadAll};
 ghost use Rattle.epoch_laws.specs.CloseLaws.{EpochGrows, EpochStarts, StandsAtStart, StandsClosed, StandsPurged};
 ghost use Rattle.epoch_laws.specs.LineLaws.{LineGivesInEpoch, StateKeeps};
 ghost use Rattle.epoch_laws.specs.PurgeLaws.{DeadLater, DeadStayDead};
@@ -135,7 +135,12 @@ pub fn instances_flow()
     ensures { InstancesFlow }
 {}
 
-/// Those that began after a birth are those that flow over the streams cut there.
+/// Those that wait at a state hold the bindings that wait there.
+pub fn instances_wait()
+    ensures { InstancesWait }
+{}
+
+/// The instances that began after a birth are those that flow over the streams cut there.
 ///
 /// So states may be shared by queries that came at different times: a tuple is detected no earlier than
 /// its instance began, and what is eligible for it starts, and is detected, later still.
