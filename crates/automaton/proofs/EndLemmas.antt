@@ -78,17 +78,17 @@ prefixes-push lines line = ap (λ ps. prefixes lines ++ ps) (sym (append-nil (be
 
 -- the line comes to its end
 pub grown_end : (lines : List Line) (line : Line) (tip : ℕ) (net : Net) → IsGrown lines tip (path line) net
-    → IsWhole (lines ++ line ∷ []) (ended tip (record { step = line.last; out = line.out; number = length lines }) net)
+    → IsWhole (lines ++ line ∷ []) (ended tip (record { step = line.last; out = line.out; number = length lines; birth = None }) net)
 grown_end lines line tip net g =
-    let end : End = record { step = line.last; out = line.out; number = length lines } in
+    let end : End = record { step = line.last; out = line.out; number = length lines; birth = None } in
     let used = g.used in
     let lt = used_below net tip used in
     let entries = end_entries net tip end used in
     let keeps : KeepsEntries net (ended tip end net) = λ number e is. entries number ∙ is in
     let are : ArePlaces (ended tip end net) g.places = λ number u. at_kept net (ended tip end net) keeps number (g.places number) (g.are_places number (sym (end_used net tip end used number) ∙ u)) in
     let more = endings_more net (ended tip end net) (length-set net tip (with_end end (state_at net tip))) g.places tip end lt (end_ends_tip net tip end used) (end_ends_other net tip end used) in
-    let its : ending_at (g.places tip) end ≡ record { line = line; number = 0 + length lines } =
-    ap (λ p. ending_at p end) g.here ∙ path-ending line (length lines) ∙ (let e : length lines ≡ 0 + length lines = omega arith in ap (λ (n : ℕ). let ending : Ending = record { line = line; number = n } in ending) e) in
+    let its : ending_at (g.places tip) end ≡ record { line = line; number = 0 + length lines; birth = None } =
+    ap (λ p. ending_at p end) g.here ∙ path-ending line (length lines) None ∙ (let e : length lines ≡ 0 + length lines = omega arith in ap (λ (n : ℕ). let ending : Ending = record { line = line; number = n; birth = None } in ending) e) in
     let same : IsPermutation (endings_by g.places (ended tip end net)) (numbered 0 (lines ++ line ∷ [])) =
     subst (IsPermutation (endings_by g.places (ended tip end net))) (ap (λ e. numbered 0 lines ++ e ∷ []) its ∙ sym (numbered-push 0 lines line))
     (IsPermutation-trans _ _ _ more (IsPermutation-append_left (ending_at (g.places tip) end ∷ []) (endings_by g.places net) (numbered 0 lines) g.same)) in

@@ -35,14 +35,14 @@ next_state Holds first hops index hop old new tip next inside is at_end grown so
 
 -- after all hops the end is put
 pub last_state : (Holds : List Line → Type 0) (line : Line) (hops : List Hop) (index : ℕ) (net : Net) (tip number : ℕ) (step : List Stage) (read put : Option State) → length hops ≤ index → hops ≡ line.hops → step ≡ line.last
-    → read ≡ get_or net tip read → put ≡ with_end (record { step = step; out = line.out; number = number }) read
+    → read ≡ get_or net tip read → put ≡ with_end (record { step = step; out = line.out; number = number; birth = None }) read
     → (tip < length net) × ((lines : List Line) → Holds lines → IsGrown lines tip (extended (Root line.root) (take index hops)) net)
     → (lines : List Line) → number ≡ length lines → Holds lines → IsWhole (lines ++ line ∷ []) (set net tip put)
 last_state Holds line hops index net tip number step read put past same same_step is put_is so_far lines counted holds =
     let whole : extended (Root line.root) (take index hops) ≡ path line = ap (extended (Root line.root)) (take_all index hops past ∙ same) in
     let ended_net = grown_end lines line tip net (subst (λ (p : Prefix). IsGrown lines tip p net) whole (so_far.1 lines holds)) in
-    let put_there : put ≡ with_end (record { step = line.last; out = line.out; number = length lines }) (state_at net tip) =
-    put_is ∙ (λ i. with_end (record { step = same_step i; out = line.out; number = counted i }) (same_read net tip read so_far.0 is i)) in
+    let put_there : put ≡ with_end (record { step = line.last; out = line.out; number = length lines; birth = None }) (state_at net tip) =
+    put_is ∙ (λ i. with_end (record { step = same_step i; out = line.out; number = counted i; birth = None }) (same_read net tip read so_far.0 is i)) in
     subst (λ (slot : Option State). IsWhole (lines ++ line ∷ []) (set net tip slot)) (sym put_there) ended_net
 
 -- the lines up to one more

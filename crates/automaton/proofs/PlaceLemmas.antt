@@ -1,6 +1,6 @@
 -- The prefixes of states and the lines of ends, where a network gets one more state or one more end.
 use Rattle.std.proofs.Common.{◌≡◌, ◌⊎◌, ◌∙◌, sym, ap, refl, subst, inl, inr, ℕ, suc, ◌+◌, ◌<◌, ◌==◌, true, cond, length, List, [], ◌∷◌, ◌++◌, map, append_assoc, append-nil, arith}
-use Rattle.std.specs.Prelude.{None, Contains, is_some}
+use Rattle.std.specs.Prelude.{Option, None, Contains, is_some}
 use Rattle.std.specs.List.{flat_map, range_with_len}
 use Rattle.std.specs.List.Sorted.{IsPermutation}
 use Rattle.std.proofs.lemmas.List.{get_or_past, map-append}
@@ -128,12 +128,13 @@ extended-push prefix [] hop = refl
 extended-push prefix (first ∷ hops) hop = extended-push (After prefix first) hops hop
 
 -- the line of its own end
-pub path-ending : (line : Line) (number : ℕ) → ending_at (path line) (record { step = line.last; out = line.out; number = number }) ≡ record { line = line; number = number }
-path-ending line number = λ i. record { line = record { root = path-root line i; hops = path-hops line i; last = line.last; out = line.out }; number = number }
+pub path-ending : (line : Line) (number : ℕ) (birth : Option ℕ)
+    → ending_at (path line) (record { step = line.last; out = line.out; number = number; birth = birth }) ≡ record { line = line; number = number; birth = birth }
+path-ending line number birth = λ i. record { line = record { root = path-root line i; hops = path-hops line i; last = line.last; out = line.out }; number = number; birth = birth }
 
 -- one more line
-pub numbered-push : (number : ℕ) (lines : List Line) (line : Line) → numbered number (lines ++ line ∷ []) ≡ numbered number lines ++ record { line = line; number = number + length lines } ∷ []
-numbered-push number [] line = let e : number ≡ number + 0 = omega arith in ap (λ n. record { line = line; number = n } ∷ []) e
+pub numbered-push : (number : ℕ) (lines : List Line) (line : Line) → numbered number (lines ++ line ∷ []) ≡ numbered number lines ++ record { line = line; number = number + length lines; birth = None } ∷ []
+numbered-push number [] line = let e : number ≡ number + 0 = omega arith in ap (λ n. record { line = line; number = n; birth = None } ∷ []) e
 numbered-push number (first ∷ lines) line =
-    ap (λ es. record { line = first; number = number } ∷ es)
-    (numbered-push (number + 1) lines line ∙ (let e : number + 1 + length lines ≡ number + suc (length lines) = omega arith in ap (λ n. numbered (number + 1) lines ++ record { line = line; number = n } ∷ []) e))
+    ap (λ es. record { line = first; number = number; birth = None } ∷ es)
+    (numbered-push (number + 1) lines line ∙ (let e : number + 1 + length lines ≡ number + suc (length lines) = omega arith in ap (λ n. numbered (number + 1) lines ++ record { line = line; number = n; birth = None } ∷ []) e))

@@ -21,7 +21,8 @@ pub enum Entrance {
     Waiting { from: usize, hop: Hop },
 }
 
-/// The end of a line: its last step, the stream that it publishes, and its number.
+/// The end of a line: its last step, the stream that it publishes, its number, and the birth of its query,
+/// the last time that the query doesn't read, where there is one.
 ///
 /// Ends that differ in the number alone may stand side by side.
 #[derive(Drop)]
@@ -29,6 +30,7 @@ pub struct End {
     pub step: Step,
     pub out: StreamId,
     pub number: usize,
+    pub birth: Option<u64>,
 }
 
 /// The ends at a state.

@@ -13,7 +13,7 @@ use std::alloc::Global;
 
 impl Network {
     /// One root state for each stream in which a line begins, and one waiting state for each hop of each
-    /// line. The number of an end is the place of its line, counted from 0.
+    /// line. The number of an end is the place of its line, counted from 0, and it has no birth.
     pub fn plain(alloc: Global, lines: &Lines) -> Result<Network, Memory>
         ensures { IfOk result (λ network. IsPlain lines.now network) }
     {
@@ -43,6 +43,7 @@ fn add_line(
         step,
         out: line.out,
         number,
+        birth: None,
     };
     put_end(&mut slots[tip], end)
 }

@@ -31,7 +31,7 @@ hop wait = record { step = Keep above_none ∷ []; wait = wait }
 
 -- a root on stream 0, a wait behind it, and FILTER {n > 0} of what leaves it, as stream 1
 abbrev net : Wait → Net
-net wait = Some (record { entrance = Root 0; edges = 1 ∷ []; ends = [] }) ∷ Some (record { entrance = Waiting 0 (hop wait); edges = []; ends = record { step = Keep above_none ∷ []; out = 1; number = 0 } ∷ [] }) ∷ []
+net wait = Some (record { entrance = Root 0; edges = 1 ∷ []; ends = [] }) ∷ Some (record { entrance = Waiting 0 (hop wait); edges = []; ends = record { step = Keep above_none ∷ []; out = 1; number = 0; birth = None } ∷ [] }) ∷ []
 
 -- stream 1 is derived
 abbrev layout : Layout

@@ -1,6 +1,6 @@
 -- The lines of the ends of a network that an end comes to.
 use Rattle.std.proofs.Common.{◌≡◌, ◌⊎◌, ◌∙◌, ◌↔◌, sym, ap, refl, subst, inl, inr, ℕ, zero, suc, ◌+◌, ◌-◌, ◌<◌, ◌≤◌, ◌==◌, Bool, true, false, length, List, [], ◌∷◌, ◌++◌, map, add-zero, append-nil, arith}
-use Rattle.std.specs.Prelude.{count_by}
+use Rattle.std.specs.Prelude.{Option, count_by}
 use Rattle.std.specs.List.{flat_map, range_with_len}
 use Rattle.std.specs.List.Sorted.{IsPermutation}
 use Rattle.std.proofs.lemmas.List.{get_or_past, map-append}
@@ -59,9 +59,9 @@ range_longer f m (suc k) none =
 more_numbered : (ends : List End) (end : End) (number : ℕ) → count_by (λ (e : End). e.number == number) (ends ++ end ∷ []) ≡ count_by (λ (e : End). e.number == number) ends + bit (end.number == number)
 more_numbered ends end number = count-push (λ (e : End). e.number == number) ends end
 
-module _ (old base new : Net) (line : Line) (end : ℕ) (grown : HasGrown old base (path line) (end_of line end) new) where
+module _ (old base new : Net) (line : Line) (end : ℕ) (birth : Option ℕ) (grown : HasGrown old base (path line) (end_of line end birth) new) where
   numbered_last : (number : ℕ) → ends_numbered new number grown.last ≡ ends_numbered old number grown.last + bit (end == number)
-  numbered_last number = ap (count_by (λ (e : End). e.number == number)) grown.more ∙ more_numbered (ends_at old grown.last) (end_of line end) number
+  numbered_last number = ap (count_by (λ (e : End). e.number == number)) grown.more ∙ more_numbered (ends_at old grown.last) (end_of line end birth) number
 
   numbered_other : (number state : ℕ) → (state ≡ grown.last → ⊥) → ends_numbered new number state ≡ ends_numbered old number state
   numbered_other number state ne = ap (count_by (λ (e : End). e.number == number)) (grown.others state ne)
@@ -130,7 +130,7 @@ module _ (old base new : Net) (line : Line) (end : ℕ) (grown : HasGrown old ba
             by_number (inr other) = let none : ends_numbered new number state ≡ 0 = ap (λ n. ends_numbered new n state) same ∙ numbered_other end state other ∙ none_had state in omega (arith, none)
 
   -- the endings are the old ones and the line's
-  pub endings_are : IsNetwork new → (endings : List Ending) → HasEndings old endings → HasEndings new (endings ++ record { line = line; number = end } ∷ [])
+  pub endings_are : IsNetwork new → (endings : List Ending) → HasEndings old endings → HasEndings new (endings ++ record { line = line; number = end; birth = birth } ∷ [])
   endings_are network endings had = record {
     places = places;
     are_places = are;
@@ -145,13 +145,13 @@ module _ (old base new : Net) (line : Line) (end : ℕ) (grown : HasGrown old ba
       are = are_places_of new network
 
       its_ending : Ending
-      its_ending = ending_at (places grown.last) (end_of line end)
+      its_ending = ending_at (places grown.last) (end_of line end birth)
 
       last_place : places grown.last ≡ path line
       last_place = at_one new grown.last (places grown.last) (path line) (are grown.last (at_used new grown.last (path line) grown.here)) grown.here
 
-      its : its_ending ≡ record { line = line; number = end }
-      its = ap (λ p. ending_at p (end_of line end)) last_place ∙ path-ending line end
+      its : its_ending ≡ record { line = line; number = end; birth = birth }
+      its = ap (λ p. ending_at p (end_of line end birth)) last_place ∙ path-ending line end birth
 
       after : ℕ → List Ending
       after number = map (ending_at (places number)) (ends_at new number)
@@ -170,7 +170,7 @@ module _ (old base new : Net) (line : Line) (end : ℕ) (grown : HasGrown old ba
 
       at_last : after grown.last ≡ before grown.last ++ its_ending ∷ []
       at_last =
-          ap (map (ending_at (places grown.last))) grown.more ∙ map-append (ending_at (places grown.last)) (ends_at old grown.last) (end_of line end ∷ [])
+          ap (map (ending_at (places grown.last))) grown.more ∙ map-append (ending_at (places grown.last)) (ends_at old grown.last) (end_of line end birth ∷ [])
           ∙ ap (λ es. es ++ its_ending ∷ []) (same_places grown.last)
 
       at_other : (number : ℕ) → (number ≡ grown.last → ⊥) → after number ≡ before number

@@ -1,6 +1,6 @@
 -- A line that comes to a merged network.
 use Rattle.std.proofs.Common.{◌≡◌, ◌⊎◌, ◌∙◌, ◌↔◌, sym, ap, refl, subst, inl, inr, ℕ, ◌<◌, ◌≤◌, true, false, cond, nat_eq, length, get_or, drop, take, List, [], ◌∷◌, ◌++◌, arith}
-use Rattle.std.specs.Prelude.{Some, None, slice_get}
+use Rattle.std.specs.Prelude.{Option, Some, None, slice_get}
 use Rattle.std.specs.HashMap.{HashMap, get}
 use Rattle.std.specs.Option.{option_and_then}
 use Rattle.std.proofs.Math.Seq.{drop-cons}
@@ -38,36 +38,36 @@ first_hop hops place hop rest is = by_order (cases_lt place (length hops))
     by_order (inr past) = let none = drop_all place hops past in let no : [] ≡ hop ∷ rest = sym none ∙ is in cc
 
 -- the line grows from a state that it has reached
-pub grown_from : (old new : Net) (line : Line) (state place end : ℕ) → IsNetwork old → IsMerged old → Reaches old line state place → Grows state (drop place line.hops) (end_of line end) old new → HasGrown old old (path line) (end_of line end) new
-grown_from old new line state place end network merged reached grows =
-    subst (λ whole. HasGrown old old whole (end_of line end) new) (extended-append (Root line.root) (take place line.hops) (drop place line.hops) ∙ ap (extended (Root line.root)) (take-append-drop place line.hops))
-    (line_grown old old (drop place line.hops) (extended (Root line.root) (take place line.hops)) state (end_of line end) old new (found_growing old (extended (Root line.root) (take place line.hops)) state network merged reached.here)
+pub grown_from : (old new : Net) (line : Line) (state place end : ℕ) (birth : Option ℕ) → IsNetwork old → IsMerged old → Reaches old line state place → Grows state (drop place line.hops) (end_of line end birth) old new → HasGrown old old (path line) (end_of line end birth) new
+grown_from old new line state place end birth network merged reached grows =
+    subst (λ whole. HasGrown old old whole (end_of line end birth) new) (extended-append (Root line.root) (take place line.hops) (drop place line.hops) ∙ ap (extended (Root line.root)) (take-append-drop place line.hops))
+    (line_grown old old (drop place line.hops) (extended (Root line.root) (take place line.hops)) state (end_of line end birth) old new (found_growing old (extended (Root line.root) (take place line.hops)) state network merged reached.here)
     (λ hop rest next is. reached.last hop next (first_hop line.hops place hop rest is)) grows)
 
 -- and from a root state of its own
-pub grown_whole : (old new base : Net) (line : Line) (number end : ℕ) → IsNetwork old → IsMerged old → ((n : ℕ) → root_at old n ≡ Some line.root → ⊥) → IsLowestFree old number → AddsRoot number line.root old base
-    → Grows number line.hops (end_of line end) base new → HasGrown old base (path line) (end_of line end) new
-grown_whole old new base line number end network merged no_root lowest adds grows =
-    line_grown old base line.hops (Root line.root) number (end_of line end) base new (root_growing old base number line.root network merged no_root lowest adds)
+pub grown_whole : (old new base : Net) (line : Line) (number end : ℕ) (birth : Option ℕ) → IsNetwork old → IsMerged old → ((n : ℕ) → root_at old n ≡ Some line.root → ⊥) → IsLowestFree old number → AddsRoot number line.root old base
+    → Grows number line.hops (end_of line end birth) base new → HasGrown old base (path line) (end_of line end birth) new
+grown_whole old new base line number end birth network merged no_root lowest adds grows =
+    line_grown old base line.hops (Root line.root) number (end_of line end birth) base new (root_growing old base number line.root network merged no_root lowest adds)
     (λ hop rest next is entered. none_from_root old base number line.root network merged no_root lowest adds next (ap (option_and_then before_by) entered)) grows
 
 -- so the line has been inserted
-pub line_inserted : (old base new : Net) (line : Line) (end : ℕ) → HasGrown old base (path line) (end_of line end) new → Inserts line end old new
-line_inserted old base new line end grown = record {
+pub line_inserted : (old base new : Net) (line : Line) (end : ℕ) (birth : Option ℕ) → HasGrown old base (path line) (end_of line end birth) new → Inserts line end birth old new
+line_inserted old base new line end birth grown = record {
   stay = grown.stay;
   prefixes = grown.prefixes;
   numbers = grown.numbers;
-  endings = endings_are old base new line end grown grown.network;
-  ends = ends_are old base new line end grown;
+  endings = endings_are old base new line end birth grown grown.network;
+  ends = ends_are old base new line end birth grown;
 }
 
 -- and what a merged network keeps is kept
-pub line_kept : {S : Type 0} (table : HashMap ℕ ℕ S) (bound : ℕ) (old base new : Net) (line : Line) (end : ℕ) → HasGrown old base (path line) (end_of line end) new → (HasEnd old end → ⊥) → IsTable table base → AreUsedBelow new bound
+pub line_kept : {S : Type 0} (table : HashMap ℕ ℕ S) (bound : ℕ) (old base new : Net) (line : Line) (end : ℕ) (birth : Option ℕ) → HasGrown old base (path line) (end_of line end birth) new → (HasEnd old end → ⊥) → IsTable table base → AreUsedBelow new bound
     → {T : Type 0} (before : HashMap ℕ ℕ T) (first : ℕ) → Keeps before first old → Keeps table bound new
-line_kept table bound old base new line end grown fresh roots below before first keeps = record {
+line_kept table bound old base new line end birth grown fresh roots below before first keeps = record {
   network = grown.network;
   merged = grown.merged;
-  numbers = own_numbers old base new line end grown fresh keeps.numbers;
+  numbers = own_numbers old base new line end birth grown fresh keeps.numbers;
   roots = λ stream number. (
     (λ has. grown.roots number ∙ (roots stream number).0 has),
     λ has. (roots stream number).1 (sym (grown.roots number) ∙ has),

@@ -1,6 +1,6 @@
 -- The states of a merged network are the prefixes of its lines.
 use Rattle.std.proofs.Common.{◌≡◌, ◌∙◌, ◌↔◌, sym, ap, refl, subst, ℕ, ◌+◌, Bool, true, false, IsTrue, length, List, [], ◌∷◌, ◌++◌, map, arith}
-use Rattle.std.specs.Prelude.{Contains}
+use Rattle.std.specs.Prelude.{None, Contains}
 use Rattle.std.specs.List.{list_any, range_with_len}
 use Rattle.automaton.specs.declared.line.Line.{Line}
 use Rattle.automaton.specs.declared.network.End.{End}
@@ -88,8 +88,8 @@ pub come_in_turn : LinesComeInTurn
 come_in_turn = record {
   none = record { places = λ number. Root 0; are_places = λ number used. absurd (let no : false ≡ true = used in cc); same = IsPermutation-refl [] };
   next = λ lines line old new had inserts.
-      (let same : numbered 0 lines ++ record { line = line; number = length lines } ∷ [] ≡ numbered 0 (lines ++ line ∷ []) =
-      (let e : length lines ≡ 0 + length lines = omega arith in ap (λ (n : ℕ). numbered 0 lines ++ record { line = line; number = n } ∷ []) e) ∙ sym (numbered-push 0 lines line) in
+      (let same : numbered 0 lines ++ record { line = line; number = length lines; birth = None } ∷ [] ≡ numbered 0 (lines ++ line ∷ []) =
+      (let e : length lines ≡ 0 + length lines = omega arith in ap (λ (n : ℕ). numbered 0 lines ++ record { line = line; number = n; birth = None } ∷ []) e) ∙ sym (numbered-push 0 lines line) in
       subst (HasEndings new) same (inserts.endings (numbered 0 lines) had));
   all = λ lines net merged had. subst (HasLines net) (numbered_lines 0 lines) (own_lines net (numbered 0 lines) merged had);
 }

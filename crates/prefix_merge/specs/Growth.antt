@@ -1,5 +1,5 @@
 -- Merged networks that grow by a line, state by state. No public clause cites this.
-use Rattle.std.specs.Prelude.{◌≡◌, ◌≢◌, ◌<◌, ◌↔◌, ℕ, IsTrue, List, [], ◌∷◌, Some, nat_eq, slice_get, take}
+use Rattle.std.specs.Prelude.{◌≡◌, ◌≢◌, ◌<◌, ◌↔◌, ℕ, IsTrue, List, [], ◌∷◌, Option, Some, nat_eq, slice_get, take}
 use Rattle.std.specs.HashMap.{HashMap, get}
 use Rattle.automaton.specs.declared.line.Hop.{Hop}
 use Rattle.automaton.specs.declared.line.Line.{Line}
@@ -27,9 +27,9 @@ pub record Keeps {S : Type 0} (table : HashMap ℕ ℕ S) (bound : ℕ) (net : N
   pub roots : IsTable table net
   pub below : AreUsedBelow net bound
 
--- a line's end with this number
-abbrev pub end_of : Line → ℕ → End
-end_of line number = record { step = line.last; out = line.out; number = number }
+-- a line's end with this number and this birth
+abbrev pub end_of : Line → ℕ → Option ℕ → End
+end_of line number birth = record { step = line.last; out = line.out; number = number; birth = birth }
 
 -- the line has come to a state by its first hops, and no state is entered from there through the next one
 pub record Reaches (net : Net) (line : Line) (state place : ℕ) : Type 0 where
@@ -41,6 +41,6 @@ abbrev pub Grows : ℕ → List Hop → End → Net → Net → Type 0
 Grows tip [] end old new = AddsEnd tip end old new
 Grows tip (hop ∷ hops) end old new = (number : ℕ) × (grown : Net) × IsLowestFree old number × AddsHop number tip hop old grown × Grows number hops end grown new
 
--- a stream gets a root state at this number, and the hops of its line their states
-abbrev pub Plants : ℕ → Line → ℕ → Net → Net → Type 0
-Plants number line end old new = (grown : Net) × AddsRoot number line.root old grown × Grows number line.hops (end_of line end) grown new
+-- a stream gets a root state at this number, the hops of its line their states, and the last of these the end
+abbrev pub Plants : ℕ → Line → End → Net → Net → Type 0
+Plants number line end old new = (grown : Net) × AddsRoot number line.root old grown × Grows number line.hops end grown new

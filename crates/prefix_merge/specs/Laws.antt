@@ -1,5 +1,5 @@
 -- Laws over merged networks.
-use Rattle.std.specs.Prelude.{◌≡◌, ◌↔◌, List, [], ◌∷◌, ◌++◌, Contains, count_by, is_some, length, map}
+use Rattle.std.specs.Prelude.{◌≡◌, ◌↔◌, List, [], ◌∷◌, ◌++◌, Contains, None, count_by, is_some, length, map}
 use Rattle.automaton.specs.declared.line.Line.{Line}
 use Rattle.automaton.specs.NetworkLines.{Ending, HasEndings, HasLines}
 use Rattle.automaton.specs.Plain.{numbered}
@@ -34,8 +34,8 @@ StatesAreListed = (net : Net) (lines : List Line) → IsMerged net → HasLines 
 abbrev pub LinesAreItsOwn : Type 0
 LinesAreItsOwn = (net : Net) (endings : List Ending) → IsMerged net → HasEndings net endings → HasLines net (map (λ ending. ending.line) endings)
 
--- lines that come one after another, each with its place as the number of its end, are the network's lines
+-- lines that come one after another, each with its place as the number of its end and without a birth, are the network's lines
 pub record LinesComeInTurn : Type 0 where
   pub none : HasEndings [] []
-  pub next : (lines : List Line) (line : Line) (old new : Net) → HasEndings old (numbered 0 lines) → Inserts line (length lines) old new → HasEndings new (numbered 0 (lines ++ line ∷ []))
+  pub next : (lines : List Line) (line : Line) (old new : Net) → HasEndings old (numbered 0 lines) → Inserts line (length lines) None old new → HasEndings new (numbered 0 (lines ++ line ∷ []))
   pub all : (lines : List Line) (net : Net) → IsMerged net → HasEndings net (numbered 0 lines) → HasLines net lines

@@ -89,13 +89,14 @@ pub(crate) fn plant(
     number: usize,
     line: &Line,
     end: usize,
+    birth: Option<u64>,
 ) -> Result<usize, Memory>
     requires { IsLowestFree network.old number }
-    ensures planted { IfOk result (λ bound. Plants number line.now end network.old network.new) }
+    ensures planted { IfOk result (λ bound. Plants number line.now (end_of line.now end birth) network.old network.new) }
     ensures bound { IfOk result (λ bound. AreUsedBelow network.new bound) }
     ensures kept { OnErr result (network.new ≡ network.old) }
 {
-    let end = numbered_end(alloc, line, end)?;
+    let end = numbered_end(alloc, line, end, birth)?;
     let places = network.places();
     network.add_root(alloc, number, line.root)?;
     match grow(alloc, network, number, number, line.hops.as_slice(), end) {
@@ -115,15 +116,21 @@ pub(crate) fn hops_from(line: &Line, place: usize) -> &[Hop]
     &line.hops.as_slice()[place..]
 }
 
-// The end of a line, with its number.
-pub(crate) fn numbered_end(alloc: Global, line: &Line, number: usize) -> Result<End, Memory>
-    ensures { IfOk result (λ end. end ≡ end_of line.now number) }
+// The end of a line, with its number and its birth.
+pub(crate) fn numbered_end(
+    alloc: Global,
+    line: &Line,
+    number: usize,
+    birth: Option<u64>,
+) -> Result<End, Memory>
+    ensures { IfOk result (λ end. end ≡ end_of line.now number birth) }
 {
     let step = line.last.copied(alloc)?;
     Ok(End {
         step,
         out: line.out,
         number,
+        birth,
     })
 }
 

@@ -59,7 +59,8 @@ impl Merged {
         }
     }
 
-    /// The merged network of lines. The number of a line's end is the line's place, counted from 0.
+    /// The merged network of lines. The number of a line's end is the line's place, counted from 0, and it has
+    /// no birth.
     pub fn of(alloc: Global, lines: &Lines) -> Result<Merged, Memory>
         ensures endings { IfOk result (λ merged. HasEndings merged (numbered 0 lines.now)) }
         ensures ends { IfOk result (λ merged. (end : ℕ) → HasEnd merged end ↔ (end < length lines.now)) }
@@ -68,7 +69,7 @@ impl Merged {
     {
         let mut merged = Merged::new(alloc);
         for place in 0..lines.len() {
-            merged.insert(lines.get(place), place)?;
+            merged.insert(lines.get(place), place, None)?;
         }
         Ok(merged)
     }
@@ -81,15 +82,15 @@ impl Merged {
         self.network.network()
     }
 
-    /// Adds the states of a line's prefixes that aren't there, and its end with this number.
-    pub fn insert(&mut self, line: &Line, end: usize) -> Result<(), Memory>
+    /// Adds the states of a line's prefixes that aren't there, and its end with this number and this birth.
+    pub fn insert(&mut self, line: &Line, end: usize, birth: Option<u64>) -> Result<(), Memory>
         requires { ¬ HasEnd self.old end }
-        ensures inserted { OnOk result (Inserts line.now end self.old self.new) }
+        ensures inserted { OnOk result (Inserts line.now end birth self.old self.new) }
         ensures kept { OnErr result (self.new ≡ self.old) }
     {
         match self.roots.get(&line.root).copied() {
-            Some(root) => self.add_from(root, line, end),
-            None => self.add_whole(line, end),
+            Some(root) => self.add_from(root, line, end, birth),
+            None => self.add_whole(line, end, birth),
         }
     }
 
@@ -104,15 +105,21 @@ impl Merged {
     }
 
     // Adds a line whose root state is there.
-    fn add_from(&mut self, root: usize, line: &Line, end: usize) -> Result<(), Memory>
+    fn add_from(
+        &mut self,
+        root: usize,
+        line: &Line,
+        end: usize,
+        birth: Option<u64>,
+    ) -> Result<(), Memory>
         requires end { ¬ HasEnd self.old end }
         requires root { root_at self.old root ≡ Some line.now.root }
-        ensures inserted { OnOk result (Inserts line.now end self.old self.new) }
+        ensures inserted { OnOk result (Inserts line.now end birth self.old self.new) }
         ensures kept { OnErr result (self.new ≡ self.old) }
     {
         let reached = reach(&self.network, root, line);
         let hops = hops_from(line, reached.place);
-        let end = numbered_end(self.alloc, line, end)?;
+        let end = numbered_end(self.alloc, line, end, birth)?;
         self.lowest = grow(
             self.alloc,
             &mut self.network,
@@ -125,15 +132,22 @@ impl Merged {
     }
 
     // Adds a line whose root state isn't there.
-    fn add_whole(&mut self, line: &Line, end: usize) -> Result<(), Memory>
+    fn add_whole(&mut self, line: &Line, end: usize, birth: Option<u64>) -> Result<(), Memory>
         requires end { ¬ HasEnd self.old end }
         requires root { (number : ℕ) → ¬ (root_at self.old number ≡ Some line.now.root) }
-        ensures inserted { OnOk result (Inserts line.now end self.old self.new) }
+        ensures inserted { OnOk result (Inserts line.now end birth self.old self.new) }
         ensures kept { OnErr result (self.new ≡ self.old) }
     {
         let number = free_number(&self.network, self.lowest);
         self.roots.insert(line.root, number)?;
-        match plant(self.alloc, &mut self.network, number, line, end) {
+        match plant(
+            self.alloc,
+            &mut self.network,
+            number,
+            line,
+            end,
+            birth,
+        ) {
             Ok(bound) => {
                 self.lowest = bound;
                 Ok(())

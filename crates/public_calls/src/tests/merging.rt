@@ -1,7 +1,7 @@
 //! Which states a removed line takes away, and which numbers states have.
 ghost use Rattle.std.specs.Prelude.{◌≡◌, IfOk, length};
 
-use automaton::{Hop, Hops, Line, Lines, Wait};
+use automaton::{End, Hop, Hops, Line, Lines, Wait};
 use event_types::{Cmp, List, Memory, Value};
 use prefix_merge::Merged;
 use scalar_expr::{Pred, Scalar, normal};
@@ -24,6 +24,14 @@ fn hop(alloc: Global, choose: Pred) -> Result<Hop, Memory> {
         step: List::new(alloc),
         wait,
     })
+}
+
+// Whether the first of the ends has this birth.
+fn is_born(ends: &[End], birth: Option<u64>) -> bool {
+    match ends.first() {
+        Some(end) => end.birth == birth,
+        None => false,
+    }
 }
 
 // One hop.
@@ -81,12 +89,14 @@ fn freed_number_is_taken_again(rt: HostRuntime) -> Result<(), Fail> {
     )?;
     let mut merged = Merged::of(alloc, &lines)?;
     merged.remove(0);
-    merged.insert(&line(alloc, 7, List::new(alloc)), 0)?;
+    merged.insert(&line(alloc, 7, List::new(alloc)), 0, Some(4))?;
     let network = merged.network();
     assert_eq!(rt; network.states(), 2);
     assert_eq!(rt; network.places(), 2);
     assert!(rt; network.used(0) && network.used(1));
     assert_eq!(rt; network.root(0), Some(7));
     assert_eq!(rt; network.root(1), Some(6));
+    assert!(rt; is_born(network.ends(0).as_slice(), Some(4)));
+    assert!(rt; is_born(network.ends(1).as_slice(), None));
     Ok(())
 }

@@ -1,4 +1,5 @@
 use Rattle.std.proofs.Common.{ℕ, ◌<◌, ◌≤◌, ◌↔◌, [], List, arith, inl, inr, length, subst, sym, take}
+use Rattle.std.specs.Prelude.{None}
 use Rattle.std.proofs.lemmas.List.{length-take-le, take_all}
 use Rattle.automaton.specs.declared.line.Line.{Line}
 use Rattle.automaton.specs.NetworkLines.{HasEndings}
@@ -32,7 +33,7 @@ loop-place-preserved c =
     let place = c.loop-place.place in
     let line = c.get.result.now in
     let inside : place ≤ length lines = omega (arith, c.loop-place-test.true, c.len-place-end.ensures) in
-    let inserts = subst (λ (n : ℕ). Inserts line n c.loop-place.merged c.insert.new.self) (sym (length-take-le place lines inside)) c.in_ok-insert.ensures.inserted in
+    let inserts = subst (λ (n : ℕ). Inserts line n None c.loop-place.merged c.insert.new.self) (sym (length-take-le place lines inside)) c.in_ok-insert.ensures.inserted in
     let more = take_read lines place line c.get.ensures in record {
       endings = subst (λ (ls : List Line). HasEndings c.insert.new.self (numbered 0 ls)) (sym more) (come_in_turn.next (take place lines) line c.loop-place.merged c.insert.new.self c.loop-place.invariant.endings inserts);
       ends = λ end. (
