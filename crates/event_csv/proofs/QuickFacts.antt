@@ -7,6 +7,9 @@ use Rattle.std.specs.Str.{IsAscii}
 use Rattle.std.specs.Str.Parse.{digits_value, digits_value_after}
 use Rattle.std.proofs.Math.Seq.{take-length, take-suc}
 use Rattle.std.proofs.lemmas.Bool.{le-leb, leb-true, and_parts}
+use Rattle.std.proofs.lemmas.Int.{to_z_pos}
+use mir.Syntax.{w128}
+use mir.Val.{to_z}
 use Rattle.std.proofs.lemmas.List.{length-map, length-take-le, take-append-drop}
 use Rattle.std.proofs.lemmas.Str.{IsAscii-append, IsUtf8-append, IsUtf8-from_ascii, IsUtf8-nil}
 use Rattle.std.proofs.lemmas.List.Folds.{list_all_more}
@@ -277,6 +280,10 @@ int-digits (b ∷ more) n some digits value le =
     let minus = is_other b 45 (λ e. absurd (omega (arith, d.0, d.1, e))) in
     let plus = is_other b 43 (λ e. absurd (omega (arith, d.0, d.1, e))) in
     rw (minus, plus) (ap (option_map pos) (number-up 170141183460469231731687303715884105727 (b ∷ more) n some digits value (omega (arith, le))))
+
+-- a number of 64 bits is the same as one of 128
+pub few-same : (n : ℕ) → n ≤ 18446744073709551615 → to_z w128 n ≡ pos n
+few-same n small = to_z_pos w128 n (omega (arith, small))
 
 -- digits write their number
 pub int-first : (s : List ℕ) (n : ℕ) (left : Option (List ℕ)) → NumberFirst s n left → IntFirst s (pos n) left

@@ -33,6 +33,7 @@ pub fn read_event(alloc: Global, streams: &Streams, line: &[u8]) -> Result<Seen,
 
 /// The same, where the name of the stream `near` is compared before names are looked up. It may be any number: that of
 /// the event before is found soonest where lines of one stream follow one another.
+#[inline(always)]
 pub fn read_event_near(
     alloc: Global,
     streams: &Streams,

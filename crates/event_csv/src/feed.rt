@@ -72,6 +72,7 @@ impl Feed {
     }
 
     /// Takes the next line, past empty lines and the header. Takes no memory.
+    #[inline(always)]
     pub fn next_line(&mut self) -> Got<'_>
         ensures* taken { sem 𝓛 (Rests the_row self.entry (λ new. TakesFromFeed self.old new result
             × (line_feeds_so_far new ≡ line_feeds_so_far self.old))) }

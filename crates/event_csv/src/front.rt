@@ -24,21 +24,16 @@ pub(crate) fn take_field(text: &[u8]) -> Option<(&str, Option<&[u8]>)>
     }
 }
 
-/// The INT of the field at the front, where few digits write it, and the fields behind it.
+/// The INT of the field at the front, where few digits write it, and the fields behind it. Most have no sign, so none is
+/// looked for until that fails.
 #[inline(always)]
 pub(crate) fn take_int(text: &[u8]) -> Option<(i128, Option<&[u8]>)>
     ensures { IfSome result (λ r. IntFirst text.now r.0 (option_map (λ s. s.now) r.1)) }
 {
-    if 0 < text.len() && text[0] == b'-' {
-        let (number, rest) = take_number(&text[1..])?;
-        return Some((below_zero(number), rest));
+    match take_number(text) {
+        Some((number, rest)) => Some((number as i128, rest)),
+        None => take_signed(text),
     }
-    if 0 < text.len() && text[0] == b'+' {
-        let (number, rest) = take_number(&text[1..])?;
-        return Some((number as i128, rest));
-    }
-    let (number, rest) = take_number(text)?;
-    Some((number as i128, rest))
 }
 
 /// The number of the field at the front, where that is few digits, and the fields behind it.
@@ -55,6 +50,22 @@ pub(crate) fn take_number(text: &[u8]) -> Option<(u64, Option<&[u8]>)>
     }
     if text[end] == b',' {
         return Some((number, Some(&text[end + 1..])));
+    }
+    None
+}
+
+// The INT of the field at the front, where a sign and few digits write it, and the fields behind it.
+#[inline(always)]
+fn take_signed(text: &[u8]) -> Option<(i128, Option<&[u8]>)>
+    ensures { IfSome result (λ r. IntFirst text.now r.0 (option_map (λ s. s.now) r.1)) }
+{
+    if 0 < text.len() && text[0] == b'-' {
+        let (number, rest) = take_number(&text[1..])?;
+        return Some((below_zero(number), rest));
+    }
+    if 0 < text.len() && text[0] == b'+' {
+        let (number, rest) = take_number(&text[1..])?;
+        return Some((number as i128, rest));
     }
     None
 }
@@ -150,11 +161,11 @@ fn few_digits(text: &[u8]) -> (u64, usize)
     let most = text.len().min(SHORT);
     let mut number: u64 = 0;
     for place in 0..most {
-        let digit = text[place].wrapping_sub(b'0');
+        let digit = (text[place] as u64).wrapping_sub(48);
         if 9 < digit {
             return (number, place);
         }
-        number = number * 10 + digit as u64;
+        number = number * 10 + digit;
     }
     (number, most)
 }

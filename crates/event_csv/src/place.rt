@@ -23,6 +23,7 @@ pub(crate) struct Place {
 }
 
 /// Takes the next line, past those that are empty and the header.
+#[inline(always)]
 pub(crate) fn take_line<'b>(bytes: &'b [u8], place: &mut Place) -> Got<'b>
     requires { IsPlace bytes.now place.old }
     ensures place { IsPlace bytes.now place.new }
@@ -55,6 +56,7 @@ pub(crate) fn take_line<'b>(bytes: &'b [u8], place: &mut Place) -> Got<'b>
 }
 
 // Passes a mark at the front of the text, once there are the three bytes that show it.
+#[inline(always)]
 fn pass_mark(bytes: &[u8], place: &mut Place)
     requires { IsPlace bytes.now place.old }
     ensures place { IsPlace bytes.now place.new }
@@ -99,6 +101,7 @@ fn next_line_feed(bytes: &[u8], from: usize) -> Option<usize>
 }
 
 // Passes the line that ends at `end`, and gives it unless it is passed over.
+#[inline(always)]
 fn pass_line<'b>(bytes: &'b [u8], place: &mut Place, end: usize) -> Option<&'b [u8]>
     requires place { IsPlace bytes.now place.old }
     requires feed { IsFeedAt bytes.now place.old.start end }

@@ -14,6 +14,7 @@ use std::alloc::Global;
 use stream_schema::{Schema, Streams};
 
 /// The event of a line, where it has one and is read quickly.
+#[inline(always)]
 pub(crate) fn read_quickly(
     alloc: Global,
     streams: &Streams,
