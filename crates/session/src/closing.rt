@@ -15,7 +15,9 @@ use cay_host::{Host, Ledger, Steps};
 use event_types::Memory;
 use std::alloc::Global;
 
-// Closes the open epoch, and puts its rows behind those that aren't written yet.
+// Closes the open epoch, and puts its rows behind those that aren't written yet. Out of line, so that the work on a
+// line that closes none stays short.
+#[inline(never)]
 fn close_epoch<L: Ledger>(
     alloc: Global,
     catalogue: &Catalogue,
@@ -35,6 +37,7 @@ fn close_epoch<L: Ledger>(
 }
 
 /// Closes the open epoch where an event of this time comes later.
+#[inline(always)]
 pub fn close_before<H: Host, L: Ledger>(
     alloc: Global,
     host: &mut H,

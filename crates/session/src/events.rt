@@ -24,7 +24,8 @@ use event_csv::Seen;
 use event_types::Memory;
 use std::alloc::Global;
 
-/// Writes the rows, and refuses a line.
+/// Writes the rows, and refuses a line. Out of line, since it comes once.
+#[inline(never)]
 pub fn refuse<H: Host>(host: &mut H, work: &mut Work, refusal: Refusal) -> SessionFault
     ensures by { RefusesBy work.old.rows refusal (H.told host.old) (H.told host.new) result }
     ensures quiet { Blames result (H.told host.old) (H.told host.new) }
@@ -37,6 +38,7 @@ pub fn refuse<H: Host>(host: &mut H, work: &mut Work, refusal: Refusal) -> Sessi
 }
 
 // Offers an event to the engine, and keeps its stream.
+#[inline(always)]
 fn offer_event(work: &mut Work, event: Seen) -> Result<(), Memory>
     requires heard { IsHeard work.old.engine.layout event.stream event.tuple }
     requires not_ahead { IsNotAhead work.old.engine.time event.tuple.at }
@@ -53,6 +55,7 @@ fn offer_event(work: &mut Work, event: Seen) -> Result<(), Memory>
 }
 
 // Works on an event that isn't late.
+#[inline(always)]
 fn close_and_offer<H: Host, L: Ledger>(
     alloc: Global,
     host: &mut H,
@@ -83,6 +86,7 @@ fn close_and_offer<H: Host, L: Ledger>(
 }
 
 /// Works on an event, or refuses its line.
+#[inline(always)]
 pub fn work_on_event<H: Host, L: Ledger>(
     alloc: Global,
     host: &mut H,

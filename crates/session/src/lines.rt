@@ -52,7 +52,8 @@ pub fn work_on_lines<H: Host, L: Ledger>(
     }
 }
 
-// Works on all lines that have their end.
+// Works on all lines that have their end. Out of line, and all that each of them needs in line.
+#[inline(never)]
 fn work_through<H: Host, L: Ledger>(
     alloc: Global,
     host: &mut H,
@@ -82,6 +83,7 @@ fn work_through<H: Host, L: Ledger>(
 }
 
 // Works on the next line, and says whether there was one.
+#[inline(always)]
 fn work_on_line<H: Host, L: Ledger>(
     alloc: Global,
     host: &mut H,

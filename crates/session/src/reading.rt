@@ -29,6 +29,7 @@ pub enum Next {
 }
 
 /// Reads the next line that is neither empty nor the header; its name is looked for at the stream `near` first.
+#[inline(always)]
 pub fn next_reading(
     alloc: Global,
     streams: &Streams,
@@ -65,6 +66,7 @@ pub fn last_reading(
 }
 
 // Reads the bytes of a line.
+#[inline(always)]
 fn read_line(
     alloc: Global,
     streams: &Streams,
