@@ -1,6 +1,6 @@
 -- Keys that come to lead to a state.
 use Rattle.std.proofs.Common.{◌≡◌, ◌∙◌, sym, ap, subst, inl, inr, ℕ, ◌<◌, ◌⊎◌, true, get_or, set, length, List}
-use Rattle.std.specs.Prelude.{Contains, IfNone, IfSome, OnErr, OnOk, Option, Some, None, Result, Ok, Err}
+use Rattle.std.specs.Prelude.{⊤, Contains, IfNone, IfSome, OnErr, OnOk, Option, Some, None, Result, Ok, Err}
 use Rattle.std.specs.List.{All}
 use Rattle.std.proofs.lemmas.Grind.{get_or-set_at}
 use Rattle.std.proofs.lemmas.List.{get_or-set_other}
@@ -22,13 +22,18 @@ use Rattle.binding_index.proofs.EqualityLemmas.{key_decides}
 use Rattle.stream_readers.specs.KeyTables.{IsFoundAt, IsNoted, KeyTable, LeadSame, LeadsFit, entries_at}
 use Rattle.stream_readers.specs.Leading.{lead_key_at, lead_key_in}
 use Rattle.epoch_draft.specs.Held.{instances_in, key_in, shape_of}
-use Rattle.epoch_draft.specs.Led.{AreLed, AreReadyIn, HasKeyOf, IsLeadOf, LeadBy, LeadMore, LeadTo, LeadsBy}
+use Rattle.epoch_draft.specs.Led.{AreLed, AreReadyIn, HasKeyOf, IsLeadOf, LeadBy, LeadMore, LeadTo}
 use Rattle.epoch_draft.specs.Stores.{HasStores}
 use Rattle.epoch_draft.specs.declared.readying.Lead.{Lead}
 use Rattle.epoch_draft.proofs.KeyLemmas.{key_at}
 use Rattle.epoch_draft.proofs.LedLemmas.{lead_is_first}
 use Rattle.epoch_draft.proofs.Lists.{some_is}
 use Rattle.epoch_draft.proofs.StoreLemmas.{key_shape}
+
+-- the key of a binding leads to a state, if it is found by a key
+abbrev pub LeadsBy : KeyTable → Option Lead → TupleView → Type 0
+LeadsBy keys None binding = ⊤
+LeadsBy keys (Some lead) binding = Leads (entries_at keys lead.stream lead.key.event) (value_at binding lead.key.binding) lead.state
 
 -- no key comes to lead anywhere
 pub more_none : (lead : Option Lead) (keys : KeyTable) → LeadMore lead keys keys
@@ -82,10 +87,10 @@ by_ready (Some lead) keys key before after binding of by leads only =
     go v (inl c) = All-contains (λ (v : Value). Leads (entries_at keys lead.stream lead.key.event) v lead.state) before v by c
     go v (inr has) = subst (λ (x : Value). Leads (entries_at keys lead.stream lead.key.event) x lead.state) (subst (λ (k : Option Key). HasKey k binding v) of has) leads
 
--- a key that is ready leads to the state
-pub ready_leads : (lead : Lead) (keys : KeyTable) (ready : List Value) (key : Value) → LeadBy keys (Some lead) ready → is_among key ready ≡ true → Leads (entries_at keys lead.stream lead.key.event) key lead.state
-ready_leads lead keys ready key by among =
-    All-contains (λ (v : Value). Leads (entries_at keys lead.stream lead.key.event) v lead.state) ready key by (Contains-from_any (λ x y e. (key_decides x y).0 e) key ready among)
+-- where the key of a binding is ready, there is room for it
+pub room_by_ready : (lead : Lead) (key : Option Key) (ready : List Value) (binding : TupleView) (value : Value) → HasKeyOf key (Some lead) → value_at binding lead.key.binding ≡ value → is_among value ready ≡ true → IsKeyReady key ready binding
+room_by_ready lead key ready binding value of is among =
+    subst (λ (k : Option Key). IsKeyReady k ready binding) (sym of) (subst (Contains ready) (sym is) (Contains-from_any (λ x y e. (key_decides x y).0 e) value ready among))
 
 -- the binding has the attribute of the key
 pub lead_fits : (lead : Lead) (key : Option Key) (binding : TupleView) → HasKeyOf key (Some lead) → BindingFits key binding → lead.key.binding < length binding.vals

@@ -2,8 +2,6 @@
 use Rattle.std.specs.Prelude.{◌≡◌, ⊤, ℕ, IfSome, List, Option, Some, None, Contains, slice_index_or}
 use Rattle.std.specs.List.{All}
 use Rattle.event_types.specs.declared.value.Value.{Value}
-use Rattle.event_types.specs.Tuple.{TupleView}
-use Rattle.semantics.specs.Values.{value_at}
 use Rattle.instances.specs.Keys.{IsKeyReady, Key}
 use Rattle.automaton.specs.States.{Net, wait_at}
 use Rattle.automaton.specs.declared.wait.Wait.{Wait}
@@ -54,11 +52,6 @@ HasKeyOf key (Some lead) = key ≡ Some (key_of_part lead.key)
 abbrev pub LeadBy : KeyTable → Option Lead → List Value → Type 0
 LeadBy keys None ready = ⊤
 LeadBy keys (Some lead) ready = All (λ value. Leads (entries_at keys lead.stream lead.key.event) value lead.state) ready
-
--- the key of a binding leads to a state, if it is found by a key
-abbrev pub LeadsBy : KeyTable → Option Lead → TupleView → Type 0
-LeadsBy keys None binding = ⊤
-LeadsBy keys (Some lead) binding = Leads (entries_at keys lead.stream lead.key.event) (value_at binding lead.key.binding) lead.state
 
 -- keys lead where they led; and where the state is found as it says, they lead to states alone that are found by them, if they did
 pub record LeadMore (lead : Option Lead) (old new : KeyTable) : Type 0 where

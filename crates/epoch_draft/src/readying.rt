@@ -1,13 +1,13 @@
 //! Room in the stores for what an epoch brings.
 ghost use Rattle.std.specs.Prelude.{◌≡◌, ◌<◌, [], ℕ, Contains, IfNone, IfSome, None, OnOk, length, slice_index_or};
 ghost use Rattle.std.specs.List.{All};
-ghost use Rattle.instances.specs.Keys.{BindingFits};
+ghost use Rattle.instances.specs.Keys.{BindingFits, IsKeyReady};
 ghost use Rattle.binding_index.specs.Leads.{ready_in};
 ghost use Rattle.binding_index.specs.Stores.{condition_of, instances_of, key_of, ready_of};
 ghost use Rattle.stream_readers.specs.Leading.{lead_key_at};
 ghost use Rattle.epoch_draft.specs.Drafts.{DraftFits};
 ghost use Rattle.epoch_draft.specs.Held.{SameStored, instances_in, key_in, shape_of};
-ghost use Rattle.epoch_draft.specs.Led.{AreLed, HasKeyOf, IsLeadOf, LeadBy, LeadMore, LeadsBy};
+ghost use Rattle.epoch_draft.specs.Led.{AreLed, HasKeyOf, IsLeadOf, LeadBy, LeadMore};
 ghost use Rattle.epoch_draft.specs.Readying.{HasRoom, HaveKeyIn, HaveKeys, HaveRoom, HaveRoomIn};
 ghost use Rattle.epoch_draft.specs.Stores.{HasStores};
 
@@ -137,31 +137,36 @@ fn make_room_for(
     ensures same { instances_of store.new ≡ instances_of store.old }
 {
     while let Some(instance) = instances.next() {
-        note(keys, lead, store, instance)?;
-        store.ready(instance)?;
+        make_room_of(keys, lead, store, instance)?;
     }
     Ok(())
 }
 
-// Lets the key of an instance lead to its state, unless it is ready in the state's store.
-fn note(
+// Makes room for an instance in the store, and lets its key lead to the state, unless the key is ready there.
+fn make_room_of(
     keys: &mut KeyReaders,
     lead: &Option<Lead>,
-    store: &Store,
+    store: &mut Store,
     instance: &Instance,
 ) -> Result<(), Memory>
-    requires fits { BindingFits (key_of store.now) instance.now.tuple }
-    requires key { HasKeyOf (key_of store.now) lead.now }
-    requires led { LeadBy keys.old lead.now (ready_of store.now) }
-    ensures ok { OnOk result (LeadsBy keys.new lead.now instance.now.tuple) }
+    requires fits { BindingFits (key_of store.old) instance.now.tuple }
+    requires key { HasKeyOf (key_of store.old) lead.now }
+    requires led { LeadBy keys.old lead.now (ready_of store.old) }
+    ensures room { OnOk result (IsKeyReady (key_of store.old) (ready_of store.new) instance.now.tuple) }
+    ensures led { LeadBy keys.new lead.now (ready_of store.new) }
     ensures leads { LeadMore lead.now keys.old keys.new }
+    ensures more { All (Contains (ready_of store.new)) (ready_of store.old) }
+    ensures condition { condition_of store.new ≡ condition_of store.old }
+    ensures key { key_of store.new ≡ key_of store.old }
+    ensures same { instances_of store.new ≡ instances_of store.old }
 {
     let Some(lead) = lead else {
-        return Ok(());
+        return store.ready(instance);
     };
     let key = instance.tuple.vals().get(lead.key.binding);
     if store.is_ready(key) {
         return Ok(());
     }
-    keys.note(lead.stream, lead.key.event, key, lead.state)
+    keys.note(lead.stream, lead.key.event, key, lead.state)?;
+    store.ready(instance)
 }

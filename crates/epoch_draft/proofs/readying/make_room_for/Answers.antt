@@ -7,7 +7,7 @@ use Rattle.instances.specs.declared.instance.Instance.{Instance}
 use Rattle.binding_index.specs.Stores.{key_of, ready_of}
 use Rattle.epoch_draft.specs.Readying.{HasRoom}
 use Rattle.epoch_draft.specs.Led.{HasKeyOf}
-use Rattle.epoch_draft.proofs.LeadLemmas.{by_kept, by_ready, leads_trans, more_none}
+use Rattle.epoch_draft.proofs.LeadLemmas.{leads_trans, more_none}
 use Rattle.epoch_draft.proofs.MeetLemmas.{head_none}
 use Rattle.epoch_draft.proofs.ReadyLemmas.{more_trans, room_more}
 use Rattle.epoch_draft.proofs.readying.make_room_for.Goals as goal
@@ -25,8 +25,8 @@ loop-instance-init c = record {
   leads = more_none c.args.lead.now c.args.keys.now;
 }
 
-pub note-requires : goal.note-requires
-note-requires c =
+pub make_room_of-requires : goal.make_room_of-requires
+make_room_of-requires c =
     let was = c.loop-instance.invariant in
     let fits = λ (i : Instance). BindingFits (key_of c.loop-instance.store) i.tuple in
     record {
@@ -42,47 +42,32 @@ loop-instance-preserved c =
     let i = c.in-Some.instance.now in
     let rest = c.next.new.self in
     let old = c.loop-instance.store in
-    let new = c.ready.new.self in
+    let new = c.make_room_of.new.store in
     let fits = λ (k : Option Key) (i : Instance). BindingFits k i.tuple in
     let keys = subst (All (fits (key_of old))) c.in-Some.ensures.rest was.keys in
-    let same = c.ready.ensures.same_key in
+    let same = c.make_room_of.ensures.key in
     record {
       keys = subst (λ (k : Option Key). All (fits k) rest) (sym same) (All-tail (fits (key_of old)) i rest keys);
       room = λ ready more room.
-          let before = more_trans (ready_of old) (ready_of new) ready c.ready.ensures.more_ready more in
-          let one : HasRoom (key_of old) (ready_of new) i = record { fits = All-head (fits (key_of old)) i rest keys; is_ready = c.in_ok-ready.ensures.ok } in
+          let before = more_trans (ready_of old) (ready_of new) ready c.make_room_of.ensures.more more in
+          let one : HasRoom (key_of old) (ready_of new) i = record { fits = All-head (fits (key_of old)) i rest keys; is_ready = c.in_ok-make_room_of.ensures.room } in
           let all = room_more (key_of old) (ready_of new) ready i rest more one (subst (λ (k : Option Key). All (HasRoom k ready) rest) same room) in
           subst (λ (k : Option Key). All (HasRoom k ready) c.args.instances) (sym same) (was.room ready before (subst (All (HasRoom (key_of old) ready)) (sym c.in-Some.ensures.rest) all));
-      more = more_trans (ready_of c.args.store.now) (ready_of old) (ready_of new) was.more c.ready.ensures.more_ready;
-      condition = c.ready.ensures.same_condition ∙ was.condition;
+      more = more_trans (ready_of c.args.store.now) (ready_of old) (ready_of new) was.more c.make_room_of.ensures.more;
+      condition = c.make_room_of.ensures.condition ∙ was.condition;
       key = same ∙ was.key;
-      same = c.ready.ensures.same_instances ∙ was.same;
+      same = c.make_room_of.ensures.same ∙ was.same;
       found = subst (λ (k : Option Key). HasKeyOf k c.args.lead.now) (sym same) was.found;
-      led =
-          by_ready c.args.lead.now c.note.new.keys (key_of old) (ready_of old) (ready_of new) i.tuple was.found (by_kept c.args.lead.now c.loop-instance.keys c.note.new.keys (ready_of old) c.note.ensures.leads was.led) c.in_ok-note.ensures.ok
-          c.ready.ensures.only;
-      leads = leads_trans c.args.lead.now c.args.keys.now c.loop-instance.keys c.note.new.keys was.leads c.note.ensures.leads;
+      led = c.make_room_of.ensures.led;
+      leads = leads_trans c.args.lead.now c.args.keys.now c.loop-instance.keys c.make_room_of.new.keys was.leads c.make_room_of.ensures.leads;
     }
 
 -- want of memory leaves what leads to the state
-pub returns-in_err-note-clause-led : goal.returns-in_err-note-clause-led
-returns-in_err-note-clause-led c = by_kept c.args.lead.now c.loop-instance.keys c.note.new.keys (ready_of c.loop-instance.store) c.note.ensures.leads c.loop-instance.invariant.led
+pub returns-in_err-make_room_of-clause-leads : goal.returns-in_err-make_room_of-clause-leads
+returns-in_err-make_room_of-clause-leads c = leads_trans c.args.lead.now c.args.keys.now c.loop-instance.keys c.make_room_of.new.keys c.loop-instance.invariant.leads c.make_room_of.ensures.leads
 
-pub returns-in_err-note-clause-leads : goal.returns-in_err-note-clause-leads
-returns-in_err-note-clause-leads c = leads_trans c.args.lead.now c.args.keys.now c.loop-instance.keys c.note.new.keys c.loop-instance.invariant.leads c.note.ensures.leads
-
-pub returns-in_err-ready-clause-led : goal.returns-in_err-ready-clause-led
-returns-in_err-ready-clause-led c =
-    let was = c.loop-instance.invariant in
-    let old = c.loop-instance.store in
-    by_ready c.args.lead.now c.note.new.keys (key_of old) (ready_of old) (ready_of c.ready.new.self) c.in-Some.instance.now.tuple was.found (by_kept c.args.lead.now c.loop-instance.keys c.note.new.keys (ready_of old) c.note.ensures.leads was.led) c.in_ok-note.ensures.ok
-    c.ready.ensures.only
-
-pub returns-in_err-ready-clause-leads : goal.returns-in_err-ready-clause-leads
-returns-in_err-ready-clause-leads c = leads_trans c.args.lead.now c.args.keys.now c.loop-instance.keys c.note.new.keys c.loop-instance.invariant.leads c.note.ensures.leads
-
-pub returns-in_err-ready-clause-more : goal.returns-in_err-ready-clause-more
-returns-in_err-ready-clause-more c = more_trans (ready_of c.args.store.now) (ready_of c.loop-instance.store) (ready_of c.ready.new.self) c.loop-instance.invariant.more c.ready.ensures.more_ready
+pub returns-in_err-make_room_of-clause-more : goal.returns-in_err-make_room_of-clause-more
+returns-in_err-make_room_of-clause-more c = more_trans (ready_of c.args.store.now) (ready_of c.loop-instance.store) (ready_of c.make_room_of.new.store) c.loop-instance.invariant.more c.make_room_of.ensures.more
 
 pub returns-clause-room : goal.returns-clause-room
 returns-clause-room c =
