@@ -1,5 +1,5 @@
 -- Instances on their ways out of a state.
-use Rattle.std.proofs.Common.{◌≡◌, ◌∙◌, sym, ap, refl, subst, ℕ, zero, suc, ◌+◌, ◌<◌, IsTrue, length, get_or, take, List, [], ◌∷◌, ◌++◌, map, arith}
+use Rattle.std.proofs.Common.{◌≡◌, ◌∙◌, sym, ap, refl, subst, ℕ, zero, suc, ◌+◌, ◌<◌, ◌≤◌, IsTrue, length, get_or, take, List, [], ◌∷◌, ◌++◌, map, arith}
 use Rattle.std.specs.Prelude.{Option, Some, None, is_some}
 use Rattle.std.specs.List.{All}
 use Rattle.std.proofs.lemmas.List.{map-append, take_more}
@@ -40,6 +40,12 @@ go_more f net xs i d x old mid new lt one two =
     subst (λ ms. Grows net ms old new)
     (sym (ap (λ ys. moves_on (map f ys) x) (take_more xs i d lt) ∙ ap (λ ways. moves_on ways x) (map-append f (take i xs) (get_or xs i d ∷ [])) ∙ moves_append (map f (take i xs)) (f (get_or xs i d) ∷ []) x))
     (grows_trans net (moves_on (map f (take i xs)) x) (moves_on (f (get_or xs i d) ∷ []) x) old mid new one two)
+
+-- one way alone
+pub go_one : {X : Type 0} (f : X → Way) (net : Net) (xs : List X) (d : X) (x : Instance) (old new : Draft) → 1 ≤ length xs → length xs < 2 → Grows net (moves_on (f (get_or xs 0 d) ∷ []) x) old new → Grows net (moves_on (map f xs) x) old new
+go_one f net [] d x old new some one grows = absurd (omega (arith, some))
+go_one f net (y ∷ []) d x old new some one grows = grows
+go_one f net (y ∷ z ∷ ys) d x old new some one grows = absurd (omega (arith, one))
 
 -- what suits all ways out of a state suits its edges
 pub into_suits : (net : Net) (n : ℕ) (x : TupleView) → LeavingSuits net n x → All (λ k. StepSuits (step_at net k) x) (edges_at net n)

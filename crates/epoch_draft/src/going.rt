@@ -11,7 +11,7 @@ ghost use Rattle.epoch_draft.specs.Suits.{LeavingSuits, StepSuits};
 ghost use Rattle.epoch_draft.specs.Work.{keeps, ways_work};
 
 use crate::draft::Draft;
-use crate::passing::pass_on;
+use crate::passing::{pass_made, pass_on};
 use crate::station::Station;
 use automaton::{End, Network};
 use event_types::{Memory, Tuple};
@@ -32,6 +32,25 @@ pub(crate) fn go_out<L: Ledger>(
     ensures ticks { steps.new ≤ steps.old + keeps end.now.step }
 {
     match pass_on(draft.alloc, end.step.as_slice(), tuple, steps)? {
+        Some(passed) => draft.add_made(end.out, passed),
+        None => Ok(()),
+    }
+}
+
+// The same of a tuple that is handed over, and so isn't copied.
+fn hand_out<L: Ledger>(
+    draft: &mut Draft,
+    end: &End,
+    tuple: Tuple,
+    steps: &mut Steps<L>,
+) -> Result<(), Memory>
+    requires fits { DraftFits (length draft.old.made) (length draft.old.beads) draft.old }
+    requires below { end.now.out < length draft.old.made }
+    requires suits { StepSuits end.now.step tuple }
+    ensures grows { OnOk result ((net : Net) (first : ℕ) → length draft.old.beads ≡ length net → Grows net (moves_on (Out end.now ∷ []) (began first tuple)) draft.old draft.new) }
+    ensures ticks { steps.new ≤ steps.old + keeps end.now.step }
+{
+    match pass_made(draft.alloc, end.step.as_slice(), tuple, steps)? {
         Some(passed) => draft.add_made(end.out, passed),
         None => Ok(()),
     }
@@ -112,6 +131,26 @@ fn go_out_all<L: Ledger>(
     Ok(())
 }
 
+// An instance goes out by each of these ends. If there is one alone, the instance is handed over to it.
+fn hand_out_all<L: Ledger>(
+    network: &Network,
+    draft: &mut Draft,
+    ends: &[End],
+    instance: Instance,
+    steps: &mut Steps<L>,
+) -> Result<(), Memory>
+    requires below { All (λ end. end.out < length draft.old.made) ends.now }
+    requires fits { DraftFits (length draft.old.made) (length network.now) draft.old }
+    requires suits { All (λ end. StepSuits end.step instance.tuple) ends.now }
+    ensures grows { OnOk result (Grows network.now (moves_on (map Out ends.now) instance) draft.old draft.new) }
+    ensures ticks { steps.new ≤ steps.old + ways_work network.now (map Out ends.now) }
+{
+    match ends {
+        [end] => hand_out(draft, end, instance.tuple, steps),
+        _ => go_out_all(network, draft, ends, &instance, steps),
+    }
+}
+
 /// An instance leaves a waiting state on all ways. After want of memory the draft is of no
 /// more use.
 pub(crate) fn leave<L: Ledger>(
@@ -133,15 +172,12 @@ pub(crate) fn leave<L: Ledger>(
         &instance,
         steps,
     )?;
-    go_out_all(
-        station.network,
-        draft,
-        station.network.ends(station.state).as_slice(),
-        &instance,
-        steps,
-    )?;
+    let ends = station.network.ends(station.state).as_slice();
     match &station.wait.fold {
-        Some(_) => draft.add_bead(station.state, instance),
-        None => Ok(()),
+        Some(_) => {
+            go_out_all(station.network, draft, ends, &instance, steps)?;
+            draft.add_bead(station.state, instance)
+        }
+        None => hand_out_all(station.network, draft, ends, instance, steps),
     }
 }

@@ -37,8 +37,8 @@ pub(crate) fn pass_on<L: Ledger>(
     }
 }
 
-// The same of a tuple that is handed over, and so isn't copied.
-fn pass_made<L: Ledger>(
+/// The same of a tuple that is handed over, and so isn't copied.
+pub(crate) fn pass_made<L: Ledger>(
     alloc: Global,
     step: &[Stage],
     tuple: Tuple,

@@ -9,7 +9,7 @@ use Rattle.epoch_draft.specs.Drafts.{DraftFits, Grows}
 use Rattle.epoch_draft.specs.Moves.{moves_on}
 use Rattle.epoch_draft.specs.Suits.{StepSuits}
 use Rattle.epoch_draft.proofs.DraftLemmas.{back_grows, grows_none}
-use Rattle.epoch_draft.proofs.Lists.{on_ok_four}
+use Rattle.epoch_draft.proofs.Lists.{on_ok, on_ok_four}
 use Rattle.stream_readers.proofs.TargetLemmas.{edges_used}
 use Rattle.epoch_draft.proofs.GoingLemmas.{into_suits, left_all, out_suits, used_below}
 use Rattle.epoch_draft.proofs.going.leave.Goals as goal
@@ -26,10 +26,14 @@ go_into_all-requires-clause-suits g c =
 
 pub go_out_all-requires-clause-suits : goal.go_out_all-requires-clause-suits
 go_out_all-requires-clause-suits g c =
-    subst (All (λ (e : End). StepSuits e.step c.args.instance.tuple)) (sym (c.as_slice-2.ensures ∙ c.ends.ensures)) (out_suits c.args.station.now.network.now c.args.station.now.state c.args.instance.tuple c.requires.suits)
+    subst (All (λ (e : End). StepSuits e.step c.args.instance.tuple)) (sym (c.as_slice-ends.ensures ∙ c.ends.ensures)) (out_suits c.args.station.now.network.now c.args.station.now.state c.args.instance.tuple c.requires.suits)
 
-pub returns-in-Some-clause-grows : goal.returns-in-Some-clause-grows
-returns-in-Some-clause-grows g c =
+pub hand_out_all-requires-clause-suits : goal.hand_out_all-requires-clause-suits
+hand_out_all-requires-clause-suits g c =
+    subst (All (λ (e : End). StepSuits e.step c.args.instance.tuple)) (sym (c.as_slice-ends.ensures ∙ c.ends.ensures)) (out_suits c.args.station.now.network.now c.args.station.now.state c.args.instance.tuple c.requires.suits)
+
+pub returns-in_ok-go_out_all-in-Some-clause-grows : goal.returns-in_ok-go_out_all-in-Some-clause-grows
+returns-in_ok-go_out_all-in-Some-clause-grows g c =
     let net = c.args.station.now.network.now in
     let n = c.args.station.now.state in
     let x = c.args.instance in
@@ -38,7 +42,7 @@ returns-in-Some-clause-grows g c =
     let mid = c.go_out_all.new.draft in
     let new = c.add_bead.new.self in
     let into = subst (λ (ks : List ℕ). Grows net (moves_on (map Into ks) x) c.args.draft.now one) (c.as_slice.ensures ∙ c.edges.ensures) c.in_ok-go_into_all.ensures.grows in
-    let out = subst (λ (es : List End). Grows net (moves_on (map Out es) x) one mid) (c.as_slice-2.ensures ∙ c.ends.ensures) c.in_ok-go_out_all.ensures.grows in
+    let out = subst (λ (es : List End). Grows net (moves_on (map Out es) x) one mid) (c.as_slice-ends.ensures ∙ c.ends.ensures) c.in_ok-go_out_all-in-Some.ensures.grows in
     let many : length mid.beads ≡ length net = out.fits.beads in
     on_ok_four c.add_bead.result (new.beads ≡ set mid.beads n (x ∷ get_or mid.beads n [])) (new.made ≡ mid.made) (new.due ≡ mid.due) (DraftFits (length mid.made) (length mid.beads) new)
     (Grows net (moves_on (ways_at net n) x) c.args.draft.now new)
@@ -55,11 +59,14 @@ returns-in-None-clause-grows g c =
     let x = c.args.instance in
     let wait = c.args.station.now.wait.now in
     let one = c.go_into_all.new.draft in
-    let mid = c.go_out_all.new.draft in
+    let new = c.hand_out_all.new.draft in
     let into = subst (λ (ks : List ℕ). Grows net (moves_on (map Into ks) x) c.args.draft.now one) (c.as_slice.ensures ∙ c.edges.ensures) c.in_ok-go_into_all.ensures.grows in
-    let out = subst (λ (es : List End). Grows net (moves_on (map Out es) x) one mid) (c.as_slice-2.ensures ∙ c.ends.ensures) c.in_ok-go_out_all.ensures.grows in
-    left_all net n wait x c.args.draft.now one mid mid c.requires.station.wait into out
-    (subst (λ (o : Option Turn). Grows net (moves_on (backs_in n o) x) mid mid) (sym c.in-None.is) (grows_none net mid (subst (λ (m : ℕ). DraftFits m (length net) mid) (sym out.fits.made) out.fits)))
+    on_ok c.hand_out_all.result (Grows net (moves_on (map Out c.as_slice-ends.result.now) x) one new) (Grows net (moves_on (ways_at net n) x) c.args.draft.now new)
+    (λ grows.
+    let out = subst (λ (es : List End). Grows net (moves_on (map Out es) x) one new) (c.as_slice-ends.ensures ∙ c.ends.ensures) grows in
+    left_all net n wait x c.args.draft.now one new new c.requires.station.wait into out
+    (subst (λ (o : Option Turn). Grows net (moves_on (backs_in n o) x) new new) (sym c.in-None.is) (grows_none net new (subst (λ (m : ℕ). DraftFits m (length net) new) (sym out.fits.made) out.fits))))
+    c.hand_out_all.ensures.grows
 
 -- want of memory comes after some of the tests
 pub returns-in_err-go_into_all-clause-ticks : goal.returns-in_err-go_into_all-clause-ticks
@@ -68,24 +75,24 @@ returns-in_err-go_into_all-clause-ticks g c =
     let one = subst (λ (ks : List ℕ). c.go_into_all.new.steps ≤ c.args.steps.now + ways_work net (map Into ks)) (c.as_slice.ensures ∙ c.edges.ensures) c.go_into_all.ensures.ticks in
     let all = out_work net c.args.station.now.state in omega (arith, one, all)
 
-pub returns-in_err-go_out_all-clause-ticks : goal.returns-in_err-go_out_all-clause-ticks
-returns-in_err-go_out_all-clause-ticks g c =
+pub returns-in_err-go_out_all-in-Some-clause-ticks : goal.returns-in_err-go_out_all-in-Some-clause-ticks
+returns-in_err-go_out_all-in-Some-clause-ticks g c =
     let net = c.args.station.now.network.now in
     let one = subst (λ (ks : List ℕ). c.go_into_all.new.steps ≤ c.args.steps.now + ways_work net (map Into ks)) (c.as_slice.ensures ∙ c.edges.ensures) c.go_into_all.ensures.ticks in
-    let two = subst (λ (es : List End). c.go_out_all.new.steps ≤ c.go_into_all.new.steps + ways_work net (map Out es)) (c.as_slice-2.ensures ∙ c.ends.ensures) c.go_out_all.ensures.ticks in
+    let two = subst (λ (es : List End). c.go_out_all.new.steps ≤ c.go_into_all.new.steps + ways_work net (map Out es)) (c.as_slice-ends.ensures ∙ c.ends.ensures) c.go_out_all.ensures.ticks in
     let all = out_work net c.args.station.now.state in omega (arith, one, two, all)
 
 -- all tests are those of the ways out
-pub returns-in-Some-clause-ticks : goal.returns-in-Some-clause-ticks
-returns-in-Some-clause-ticks g c =
+pub returns-in_ok-go_out_all-in-Some-clause-ticks : goal.returns-in_ok-go_out_all-in-Some-clause-ticks
+returns-in_ok-go_out_all-in-Some-clause-ticks g c =
     let net = c.args.station.now.network.now in
     let one = subst (λ (ks : List ℕ). c.go_into_all.new.steps ≤ c.args.steps.now + ways_work net (map Into ks)) (c.as_slice.ensures ∙ c.edges.ensures) c.go_into_all.ensures.ticks in
-    let two = subst (λ (es : List End). c.go_out_all.new.steps ≤ c.go_into_all.new.steps + ways_work net (map Out es)) (c.as_slice-2.ensures ∙ c.ends.ensures) c.go_out_all.ensures.ticks in
+    let two = subst (λ (es : List End). c.go_out_all.new.steps ≤ c.go_into_all.new.steps + ways_work net (map Out es)) (c.as_slice-ends.ensures ∙ c.ends.ensures) c.go_out_all.ensures.ticks in
     let all = out_work net c.args.station.now.state in omega (arith, one, two, all)
 
 pub returns-in-None-clause-ticks : goal.returns-in-None-clause-ticks
 returns-in-None-clause-ticks g c =
     let net = c.args.station.now.network.now in
     let one = subst (λ (ks : List ℕ). c.go_into_all.new.steps ≤ c.args.steps.now + ways_work net (map Into ks)) (c.as_slice.ensures ∙ c.edges.ensures) c.go_into_all.ensures.ticks in
-    let two = subst (λ (es : List End). c.go_out_all.new.steps ≤ c.go_into_all.new.steps + ways_work net (map Out es)) (c.as_slice-2.ensures ∙ c.ends.ensures) c.go_out_all.ensures.ticks in
+    let two = subst (λ (es : List End). c.hand_out_all.new.steps ≤ c.go_into_all.new.steps + ways_work net (map Out es)) (c.as_slice-ends.ensures ∙ c.ends.ensures) c.hand_out_all.ensures.ticks in
     let all = out_work net c.args.station.now.state in omega (arith, one, two, all)
