@@ -39,7 +39,7 @@ LeadsBy keys (Some lead) binding = Leads (entries_at keys lead.stream lead.key.e
 pub more_none : (lead : Option Lead) (keys : KeyTable) → LeadMore lead keys keys
 more_none lead keys = record { kept = λ stream attribute key number leads. leads; fit = λ net number is fit. fit }
 
--- nor where each key leads to the same states
+-- where keys lead just where they led, none comes to lead anywhere
 pub more_same : (lead : Option Lead) (old new : KeyTable) → LeadSame old new → LeadMore lead old new
 more_same lead old new same = record {
   kept = λ stream attribute key number leads. subst (λ (es : Entries). Leads es key number) (sym (same stream attribute)) leads;
@@ -62,7 +62,7 @@ pub noted_more : {T E : Type 0} (r : Result T E) (lead : Lead) (key : Value) (ol
 noted_more (Ok x) lead key old new noted same = more_noted lead key old new noted
 noted_more (Err e) lead key old new noted same = more_same (Some lead) old new same
 
--- what leads on twice leads on
+-- keys that came to lead one after another
 pub leads_trans : (lead : Option Lead) (old mid new : KeyTable) → LeadMore lead old mid → LeadMore lead mid new → LeadMore lead old new
 leads_trans lead old mid new one two = record {
   kept = λ stream attribute key number leads. two.kept stream attribute key number (one.kept stream attribute key number leads);
@@ -104,7 +104,7 @@ lead_to net n (Some lead) keys slot is none by w key at lead_by =
     (subst (λ (k : Key). All (λ v. Leads (entries_at keys lead.stream k.event) v n) (ready_in slot)) (some_is (key_of_part lead.key) key (sym is.key ∙ ap lead_key_in at ∙ lead_by))
     (subst (λ (m : ℕ). All (λ v. Leads (entries_at keys lead.stream lead.key.event) v m) (ready_in slot)) is.state by))
 
--- where the keys of a state lead to it, its lead's do
+-- and what leads to the state tells the same of how it is found
 pub lead_from : (net : Net) (n : ℕ) (lead : Option Lead) (keys : KeyTable) (slot : Option Store) → IfSome lead (IsLeadOf net n) → LeadTo net keys n slot → LeadBy keys lead (ready_in slot)
 lead_from net n None keys slot is to = tt
 lead_from net n (Some lead) keys slot is to =

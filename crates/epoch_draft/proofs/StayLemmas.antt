@@ -37,7 +37,7 @@ use Rattle.epoch_draft.proofs.Lists.{contains_or_not, none_in}
 pub stays_same : (slot : Option Store) → StaysReady slot slot
 stays_same slot = record { instances = λ ready. ready; keys = λ key c. c }
 
--- what stays ready twice stays ready
+-- two changes of a store, one after the other
 pub stays_trans : (old mid new : Option Store) → StaysReady old mid → StaysReady mid new → StaysReady old new
 stays_trans old mid new one two = record { instances = λ ready. two.instances (one.instances ready); keys = λ key c. one.keys key (two.keys key c) }
 
@@ -45,7 +45,7 @@ stays_trans old mid new one two = record { instances = λ ready. two.instances (
 pub stay_same : (stores : List (Option Store)) → StayReady stores stores
 stay_same stores n = stays_same (get_or stores n None)
 
--- so it is with all stores
+-- two changes of all stores, one after the other
 pub stay_trans : (old mid new : List (Option Store)) → StayReady old mid → StayReady mid new → StayReady old new
 stay_trans old mid new one two n = stays_trans (get_or old n None) (get_or mid n None) (get_or new n None) (one n) (two n)
 
@@ -99,6 +99,7 @@ taken_stay net news pairs old new taken = same_stay old new taken.same taken.rea
     go n None at ready = subst (All (Ready n)) (sym (taken.none n at)) ready
     go n (Some w) at ready = subst (All (Ready n)) (sym (taken.taken n w at)) (All-filter (λ (i : Instance). is_unmet w.choose (listed_tuples news pairs n) i.tuple) (Ready n) (held old n) ready)
 
+-- a state for which no store was made has no instances
 no_store : (slot : Option Store) → shape_of slot ≡ None → instances_in slot ≡ []
 no_store None e = refl
 no_store (Some store) e = absurd (cc)

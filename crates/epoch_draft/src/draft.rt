@@ -5,7 +5,7 @@ ghost use Rattle.event_types.specs.Order.{sorted};
 ghost use Rattle.epoch_draft.specs.Drafts.{DraftFits, without};
 ghost use Rattle.epoch_draft.specs.Marks.{MarksMore};
 
-use crate::filling::{add, clear_lists, empty_lists};
+use crate::filling::{clear_lists, empty_lists};
 use crate::marks::Marks;
 use event_types::{List, Memory, StreamId, Tuple, Tuples, put_in_order};
 use inst_chain::{Bead, Chain};
@@ -174,7 +174,7 @@ fn empty_chains(alloc: Global, count: usize) -> Result<Beads, Memory>
 {
     let mut chains = List::new(alloc);
     for _ in 0..count {
-        add(&mut chains, Chain::new())?;
+        chains.add(Chain::new())?;
     }
     Ok(chains)
 }

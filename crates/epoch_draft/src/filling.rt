@@ -1,5 +1,5 @@
 //! Lists that are filled and emptied.
-ghost use Rattle.std.specs.Prelude.{◌≡◌, ℕ, ◌<◌, ◌⊎◌, ◌∷◌, ◌++◌, [], Contains, IfOk, OnOk, length, slice_index_or};
+ghost use Rattle.std.specs.Prelude.{◌≡◌, ℕ, ◌<◌, ◌⊎◌, [], Contains, IfOk, length, slice_index_or};
 ghost use Rattle.std.specs.List.{All};
 
 use event_types::{List, Memory};
@@ -11,7 +11,7 @@ pub fn filled<T: Copy>(alloc: Global, count: usize, item: T) -> Result<List<T>, 
 {
     let mut list = List::new(alloc);
     for _ in 0..count {
-        add(&mut list, item)?;
+        list.add(item)?;
     }
     Ok(list)
 }
@@ -22,19 +22,9 @@ pub fn empty_lists<T: Drop>(alloc: Global, count: usize) -> Result<List<List<T>>
 {
     let mut lists = List::new(alloc);
     for _ in 0..count {
-        add(&mut lists, List::new(alloc))?;
+        lists.add(List::new(alloc))?;
     }
     Ok(lists)
-}
-
-/// Puts the item at the end.
-pub(crate) fn add<T: Drop>(list: &mut List<T>, item: T) -> Result<(), Memory>
-    ensures { OnOk result (list.new ≡ list.old ++ item ∷ []) }
-{
-    if list.push(item).is_err() {
-        return Err(Memory);
-    }
-    Ok(())
 }
 
 /// Drops the items of the lists at these places, and keeps their room. Takes no memory.

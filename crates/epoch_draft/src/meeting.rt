@@ -17,7 +17,6 @@ ghost use Rattle.epoch_draft.specs.Work.{state_work, ways_work};
 
 use crate::draft::{Draft, Pair};
 use crate::drawing::Drawing;
-use crate::filling::add;
 use crate::going::{go_into, go_out};
 use crate::machine::Machine;
 use crate::matching::meet_wait;
@@ -53,7 +52,7 @@ fn meet_waits<L: Ledger>(
             stream,
             place,
         };
-        add(&mut drawing.pairs, pair)?;
+        drawing.pairs.add(pair)?;
         meet_wait(
             machine.network,
             machine.stores,

@@ -6,7 +6,6 @@ ghost use Rattle.binding_index.specs.Leads.{ready_in};
 ghost use Rattle.epoch_draft.specs.Held.{instances_in, shape_for, shape_of};
 ghost use Rattle.epoch_draft.specs.Stores.{AreNewStores};
 
-use crate::filling::add;
 use automaton::Network;
 use binding_index::Store;
 use event_types::{List, Memory};
@@ -24,7 +23,7 @@ pub fn empty_stores(alloc: Global, network: &Network) -> Result<Stores, Memory>
     let mut stores = List::new(alloc);
     for number in 0..network.places() {
         let slot = empty_store(alloc, network, number)?;
-        add(&mut stores, slot)?;
+        stores.add(slot)?;
     }
     Ok(stores)
 }

@@ -55,7 +55,7 @@ loop-index-preserved g c =
           moves_more moves net waits i 0 c.args.drawing.now.draft c.loop-index.drawing.draft c.meet_wait.new.draft lt c.loop-index.invariant.grows
           (subst (λ (n : ℕ). Grows net (moves n) c.loop-index.drawing.draft c.meet_wait.new.draft) at c.in_ok-meet_wait.ensures.grows);
       pairs =
-          c.in_ok-add.ensures ∙ ap (λ (ps : List Pair). ps ++ pair c.get-state.result.now ∷ []) c.loop-index.invariant.pairs ∙ ap (λ (n : ℕ). (pairs ++ map pair (take i waits)) ++ pair n ∷ []) at
+          c.in_ok-add.ensures.ok ∙ ap (λ (ps : List Pair). ps ++ pair c.get-state.result.now ∷ []) c.loop-index.invariant.pairs ∙ ap (λ (n : ℕ). (pairs ++ map pair (take i waits)) ++ pair n ∷ []) at
           ∙ append_assoc pairs (map pair (take i waits)) (pair (get_or waits i 0) ∷ [])
           ∙ ap (λ (ps : List Pair). pairs ++ ps) (sym (ap (map pair) (take_more waits i 0 lt) ∙ map-append pair (take i waits) (get_or waits i 0 ∷ [])));
       waits = c.loop-index.invariant.waits;

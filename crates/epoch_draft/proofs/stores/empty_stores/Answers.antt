@@ -27,7 +27,7 @@ pub loop-number-preserved : goal.loop-number-preserved
 loop-number-preserved c =
     let old = c.loop-number.stores in
     let slot = c.in_ok-slot.slot in
-    let is = c.in_ok-add.ensures in
+    let is = c.in_ok-add.ensures.ok in
     let many = c.loop-number.invariant.as_many in
     let Shape = λ (k : ℕ) (o : Option Store). shape_of o ≡ option_map (λ (wait : Wait). shape_for wait.choose) (wait_at c.args.network.now k) in
     record {
