@@ -1,12 +1,15 @@
 -- Buckets of instances by key. No public clause cites this module.
-use Rattle.std.specs.Prelude.{◌≡◌, ℕ, ◌<◌, ◌≤◌, ◌≢◌, ◌⊎◌, Some, slice_get, Bool, true, false, nat_lt, List, [], length, slice_index_or}
+use Rattle.std.specs.Prelude.{◌≡◌, ℕ, ◌<◌, ◌≤◌, ◌≢◌, ◌⊎◌, Some, slice_get, Bool, true, false, not, nat_lt, List, [], length, slice_index_or}
 use Rattle.std.specs.List.{All, IsDistinct, filter, flat_map}
 use Rattle.std.specs.List.Sorted.{IsPermutation}
 use Rattle.std.specs.Map.{keys_of}
 use Rattle.event_types.specs.Order.{sort_by, value_cmp}
 use Rattle.event_types.specs.declared.value.Value.{Value}
 use Rattle.event_types.specs.declared.value.Value.TheVariants.{Over}
+use Rattle.semantics.specs.Scalars.{Pr}
 use Rattle.semantics.specs.Values.{value_at}
+use Rattle.instances.specs.Alive.{is_alive}
+use Rattle.instances.specs.Bounds.{started}
 use Rattle.instances.specs.declared.instance.Instance.{Instance}
 use Rattle.binding_index.specs.Among.{is_key}
 use Rattle.binding_index.specs.Entries.{is_filled, items_at}
@@ -59,6 +62,10 @@ StartFrom oldest buckets = All (StartsFrom oldest) buckets
 -- no instance of a bucket starts before the time that has the bucket's place
 abbrev pub AreStarts : List ℕ → List Bucket → Type 0
 AreStarts starts buckets = (place : ℕ) (d : Bucket) → place < length buckets → StartsFrom (slice_index_or starts place 0) (slice_index_or buckets place d)
+
+-- how many times have passed for a condition: an instance that started then is alive no more
+abbrev pub passed : ℕ → List Pr → List ℕ → ℕ
+passed time condition starts = length (filter (λ start. not (is_alive time condition (started start))) starts)
 
 -- what holds of the buckets of a store: no key comes twice, each instance stands under its key and starts no earlier than the time of its bucket's place, each place has one, and the buckets with instances come first
 pub record AreBuckets (place filled : ℕ) (starts : List ℕ) (buckets : List Bucket) : Type 0 where

@@ -1,5 +1,6 @@
 //! The order of the buckets: those with instances come first, each with the time of its place.
 ghost use Rattle.std.specs.Prelude.{◌≡◌, ◌<◌, ◌≤◌, length, OnOk};
+ghost use Rattle.std.specs.List.{swap};
 ghost use Rattle.std.specs.List.Sorted.{IsPermutation};
 ghost use Rattle.binding_index.specs.Buckets.{AreSame, AreStarts, IsSplit, IsSplitBut};
 
@@ -46,14 +47,28 @@ pub(crate) fn arrange(
     let _len = buckets.len();
     let has_some = buckets[place].has_some();
     if place < filled && !has_some {
-        buckets.swap_indices(place, filled - 1);
-        starts.swap(place, filled - 1);
+        exchange(buckets, starts, place, filled - 1);
         return filled - 1;
     }
     if filled <= place && has_some {
-        buckets.swap_indices(place, filled);
-        starts.swap(place, filled);
+        exchange(buckets, starts, place, filled);
         return filled + 1;
     }
     filled
+}
+
+// Exchanges two buckets and their times, unless they are one.
+fn exchange(buckets: &mut Buckets, starts: &mut Deadlines, place: usize, other: usize)
+    requires place { place < length buckets.old.entries }
+    requires other { other < length buckets.old.entries }
+    requires room { length buckets.old.entries ≤ length starts.old }
+    ensures same { AreSame buckets.old.entries buckets.new.entries }
+    ensures as_many { length buckets.new.entries ≡ length buckets.old.entries }
+    ensures buckets { buckets.new.entries ≡ swap buckets.old.entries place other }
+    ensures starts { starts.new ≡ swap starts.old place other }
+{
+    if place != other {
+        buckets.swap_indices(place, other);
+        starts.swap(place, other);
+    }
 }

@@ -1,10 +1,10 @@
 //! Buckets from which expired instances are taken out.
-ghost use Rattle.std.specs.Prelude.{◌≡◌, ◌<◌, ◌≤◌, ◌+◌, All, IfNone, IfSome, false, filter, length, not, slice_index};
+ghost use Rattle.std.specs.Prelude.{◌≡◌, ◌<◌, ◌≤◌, ◌+◌, All, IfNone, IfSome, false, length, slice_index};
 ghost use Rattle.std.specs.List.{IsDistinct};
 ghost use Rattle.std.specs.Map.{keys_of};
 ghost use Rattle.instances.specs.Alive.{is_alive};
 ghost use Rattle.instances.specs.Bounds.{started};
-ghost use Rattle.binding_index.specs.Buckets.{AreStarts, IsPurged, IsSplit, KeepsAlive};
+ghost use Rattle.binding_index.specs.Buckets.{AreStarts, IsPurged, IsSplit, KeepsAlive, passed};
 ghost use Rattle.binding_index.specs.Among.{is_key};
 
 use crate::arranging::arrange;
@@ -73,7 +73,7 @@ fn expire_at(
     ensures room { length buckets.new.entries ≤ length starts.new }
     ensures split { IsSplit result buckets.new.entries }
     ensures starts { AreStarts starts.new buckets.new.entries }
-    ensures fewer { length (filter (λ start. not (is_alive (now + 1) condition.now (started start))) starts.new) < length (filter (λ start. not (is_alive (now + 1) condition.now (started start))) starts.old) }
+    ensures fewer { passed (now + 1) condition.now starts.new < passed (now + 1) condition.now starts.old }
 {
     let earliest = earliest_alive(condition, now);
     if place >= buckets.len() {

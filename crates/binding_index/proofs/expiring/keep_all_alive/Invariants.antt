@@ -1,7 +1,6 @@
-use Rattle.std.proofs.Common.{◌+◌, ◌≤◌, filter, length, not}
+use Rattle.std.proofs.Common.{◌+◌, ◌≤◌, length}
 use Rattle.instances.specs.Alive.{is_alive}
-use Rattle.instances.specs.Bounds.{started}
-use Rattle.binding_index.specs.Buckets.{AreStarts, IsSplit, KeepsAlive}
+use Rattle.binding_index.specs.Buckets.{AreStarts, IsSplit, KeepsAlive, passed}
 use Rattle.binding_index.proofs.expiring.keep_all_alive.Given as goal
 
 abbrev pub invariant-loop-place : goal.invariant-loop-place
@@ -10,4 +9,4 @@ invariant-loop-place l = (l.filled ≤ length l.buckets.entries) × (length l.bu
 
 -- how many times have passed
 abbrev pub decreases-loop-place : goal.decreases-loop-place
-decreases-loop-place l = length (filter (λ start. not (is_alive (l.now + 1) l.condition (started start))) l.starts)
+decreases-loop-place l = passed (l.now + 1) l.condition l.starts
