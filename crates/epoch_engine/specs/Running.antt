@@ -1,6 +1,7 @@
 -- What holds of the parts of an engine. No public clause cites this module.
-use Rattle.std.specs.Prelude.{◌≡◌, ℕ, ◌⊎◌, IfSome, IsTrue, List, [], Contains, length, Option, slice_index_or}
+use Rattle.std.specs.Prelude.{◌≡◌, ℕ, ◌⊎◌, Box, IfSome, IsTrue, List, [], Contains, length, Option, slice_index_or}
 use Rattle.std.specs.List.{All}
+use Rattle.std.specs.declared.alloc.Global.{Global}
 use Rattle.event_types.specs.Tuple.{TupleView}
 use Rattle.binding_index.specs.declared.store.Store.{Store}
 use Rattle.automaton.specs.Work.{is_in}
@@ -48,8 +49,8 @@ abbrev pub FitsPlan : Plan → Drawing → Type 0
 FitsPlan plan drawing = DraftFits (length plan.layout.kinds) (length plan.merged) drawing.draft
 
 -- the parts of an engine: they fit one another, keys lead to the states where they are ready, no instance expires before its state's deadline, and in a room that is kept nothing is drawn
-pub record IsEngine (plan : Plan) (holdings : Holdings) (epoch : Epoch) (kept : Option Room) : Type 0 where
+pub record IsEngine (plan : Plan) (holdings : Holdings) (epoch : Epoch) (kept : Option (Box Room Global)) : Type 0 where
   pub running : IsRunning plan holdings.stores epoch
   pub led : AreLed plan.merged holdings.keys holdings.stores
   pub watches : Watches holdings.deadlines holdings.stores
-  pub still : IfSome kept (λ room. IsStillFor plan room.drawing)
+  pub still : IfSome kept (λ room. IsStillFor plan room.value.drawing)

@@ -22,7 +22,7 @@ pub struct Printed<'a> {
 #[derive(Drop)]
 pub struct Batch {
     printed: usize,
-    room: Room,
+    room: Box<Room>,
 }
 
 impl Model for Batch {
@@ -33,16 +33,16 @@ impl Model for Batch {
 
     ghost Value = { List (List TupleView) };
 
-    ghost view = { λ b. lists_of b.printed b.room.drawing.draft.made b.room.entries };
+    ghost view = { λ b. lists_of b.printed b.room.value.drawing.draft.made b.room.value.entries };
 
-    ghost invariant = { λ b. IsBatch b.printed b.room };
+    ghost invariant = { λ b. IsBatch b.printed b.room.value };
 }
 
 impl Batch {
     /// The batch of so many printed streams, of which only those with an entry have tuples. Takes no memory.
-    pub(crate) fn make(printed: usize, room: Room) -> Batch
-        requires { IsBatch printed room }
-        ensures { result ≡ lists_of printed room.drawing.draft.made room.entries }
+    pub(crate) fn make(printed: usize, room: Box<Room>) -> Batch
+        requires { IsBatch printed room.value }
+        ensures { result ≡ lists_of printed room.value.drawing.draft.made room.value.entries }
     {
         Batch { printed, room }
     }
@@ -58,8 +58,8 @@ impl Batch {
     }
 
     /// The room in which the epoch was closed. Takes no memory.
-    pub(crate) fn into_room(self) -> Room
-        ensures { DraftFits (length result.drawing.draft.made) (length result.drawing.draft.beads) result.drawing.draft }
+    pub(crate) fn into_room(self) -> Box<Room>
+        ensures { DraftFits (length result.value.drawing.draft.made) (length result.value.drawing.draft.beads) result.value.drawing.draft }
     {
         self.room
     }

@@ -34,7 +34,7 @@ pub struct Engine {
     holdings: Holdings,
     epoch: Epoch,
     // None while a batch is lent, and after a closing was refused.
-    room: Option<Room>,
+    room: Option<Box<Room>>,
     closed_time: Option<u64>,
 }
 
@@ -167,7 +167,10 @@ impl Engine {
     pub fn take_back(&mut self, batch: Batch)
         ensures { self.new ≡ self.old }
     {
-        self.room = batch.into_room().emptied(&self.plan);
+        let mut room = batch.into_room();
+        if room.clear_for(&self.plan) {
+            self.room = Some(room);
+        }
     }
 }
 

@@ -1,5 +1,5 @@
 //! The room in which an epoch is closed.
-ghost use Rattle.std.specs.Prelude.{◌≡◌, ◌==◌, ◌<◌, ◌&&◌, IfOk, IfSome, OnOk, length};
+ghost use Rattle.std.specs.Prelude.{◌≡◌, ◌==◌, ◌<◌, ◌&&◌, IfOk, IsTrue, OnOk, length};
 ghost use Rattle.std.specs.List.{All};
 ghost use Rattle.automaton.specs.Networks.{IsNetwork};
 ghost use Rattle.epoch_draft.specs.Drafts.{DraftFits};
@@ -22,17 +22,21 @@ pub struct Room {
 
 impl Room {
     /// Room to close epochs of a plan's network, in which nothing is drawn.
-    pub(crate) fn make(alloc: Global, plan: &Plan) -> Result<Room, Memory>
-        ensures still { IfOk result (λ room. IsStillFor plan.now room.drawing) }
+    pub(crate) fn make(alloc: Global, plan: &Plan) -> Result<Box<Room>, Memory>
+        ensures still { IfOk result (λ room. IsStillFor plan.now room.value.drawing) }
         ensures network { IsNetwork plan.now.merged }
     {
         let states = plan.merged.network().places();
         let drawing = Drawing::make(alloc, states, plan.layout.kinds.len())?;
-        Ok(Room {
+        let room = Room {
             drawing,
             entries: List::new(alloc),
             places: Vec::new(alloc),
-        })
+        };
+        match Box::new(alloc, room) {
+            Ok(room) => Ok(room),
+            Err(_) => Err(Memory),
+        }
     }
 
     /// Whether there is room for the streams and the states of a plan.
@@ -44,16 +48,16 @@ impl Room {
             && draft.beads.len() == plan.merged.network().places()
     }
 
-    /// The same room with nothing drawn, if it fits a plan. Takes no memory.
-    pub(crate) fn emptied(mut self, plan: &Plan) -> Option<Room>
-        requires { DraftFits (length self.drawing.draft.made) (length self.drawing.draft.beads) self.drawing.draft }
-        ensures { IfSome result (λ room. IsStillFor plan.now room.drawing) }
+    /// Forgets what was drawn, if the room fits a plan, and says whether it does. Takes no memory.
+    pub(crate) fn clear_for(&mut self, plan: &Plan) -> bool
+        requires { DraftFits (length self.old.drawing.draft.made) (length self.old.drawing.draft.beads) self.old.drawing.draft }
+        ensures { IsTrue result → IsStillFor plan.now self.new.drawing }
     {
-        if !self.fits(plan) {
-            return None;
+        let fits = self.fits(plan);
+        if fits {
+            self.drawing.clear();
         }
-        self.drawing.clear();
-        Some(self)
+        fits
     }
 
     /// Lists an entry for each place at which a stream is printed that is due. After want of memory the entries are of

@@ -1,13 +1,14 @@
-use Rattle.std.proofs.Common.{sym, subst, List}
+use Rattle.std.proofs.Common.{◌∙◌, ap, sym, subst, List}
 use Rattle.event_types.specs.Tuple.{TupleView}
 use Rattle.epoch_engine.specs.Entries.{AreEntriesOf}
-use Rattle.epoch_engine.specs.declared.entry.Entry.{Entry}
+use Rattle.epoch_engine.specs.declared.room.Room.{Room}
 use Rattle.epoch_engine.proofs.BatchLemmas.{entries_of}
 use Rattle.epoch_engine.proofs.batch.Batch.printed.Goals as goal
 
 pub returns : goal.returns
 returns c =
-    let room = c.self.inside.room in
-    let made = room.drawing.draft.made in
+    let room = c.self.inside.room.value in
     let is = c.self.invariant in
-    subst (AreEntriesOf c.args.self.now made) (sym c.as_slice.ensures) (subst (λ (lists : List (List TupleView)). AreEntriesOf lists made room.entries) c.self.view_is (entries_of c.self.inside.printed made room.entries is.in_order is.within))
+    let entries = c.as_slice.ensures ∙ ap (λ (r : Room). r.entries) c.deref.ensures in
+    let all = subst (λ (lists : List (List TupleView)). AreEntriesOf lists room.drawing.draft.made room.entries) c.self.view_is (entries_of c.self.inside.printed room.drawing.draft.made room.entries is.in_order is.within) in
+    subst (λ (r : Room). AreEntriesOf c.args.self.now r.drawing.draft.made c.as_slice.result.now) (sym c.deref-2.ensures) (subst (AreEntriesOf c.args.self.now room.drawing.draft.made) (sym entries) all)

@@ -1,4 +1,4 @@
-use Rattle.std.proofs.Common.{◌≡◌, ◌∙◌, sym, ap, refl, subst, ℕ, ◌+◌, ◌≤◌}
+use Rattle.std.proofs.Common.{Box, Global, ◌≡◌, ◌∙◌, sym, ap, refl, subst, ℕ, ◌+◌, ◌≤◌}
 use Rattle.std.specs.Prelude.{IfSome, IsSome, Option}
 use Rattle.semantics.specs.Denotation.{streams_of}
 use Rattle.epoch_engine.specs.Closes.{Closes}
@@ -40,7 +40,7 @@ invariant_of-self-in_err-take_epoch g c =
       running = with_same e.plan e.holdings.stores c.take_epoch.new.holdings.stores e.epoch c.in_err-take_epoch.ensures.kept c.self.invariant.running;
       led = c.take_epoch.ensures.led;
       watches = c.take_epoch.ensures.watches;
-      still = subst (λ (kept : Option Room). IfSome kept (λ room. IsStillFor e.plan room.drawing)) (sym c.take.ensures.after) tt;
+      still = subst (λ (kept : Option (Box Room Global)). IfSome kept (λ room. IsStillFor e.plan room.value.drawing)) (sym c.take.ensures.after) tt;
     }
 
 -- and contracts see what they saw
