@@ -56,13 +56,11 @@ pub fn close_before<H: Host, L: Ledger>(
     ensures tests { RisesByClosing catalogue.now at work.old.engine steps.old steps.new }
 {
     match work.engine.open_time() {
-        Some(seen) if seen < at => match close_epoch(alloc, catalogue, work, steps) {
-            Ok(()) => match write_if_full(host, &mut work.rows) {
-                Ok(()) => Ok(()),
-                Err(_) => Err(SessionFault::WriteFault),
-            },
-            Err(_) => Err(SessionFault::Memory),
-        },
+        Some(seen) if seen < at => {
+            close_epoch(alloc, catalogue, work, steps)?;
+            write_if_full(host, &mut work.rows)?;
+            Ok(())
+        }
         _ => Ok(()),
     }
 }
@@ -82,11 +80,9 @@ pub fn close_last<H: Host, L: Ledger>(
     ensures same { SameButOutput (H.told host.old) (H.told host.new) }
     ensures tests { RisesByOpen catalogue.now work.old.engine steps.old steps.new }
 {
-    if work.engine.open_time().is_some() && close_epoch(alloc, catalogue, work, steps).is_err() {
-        return Err(SessionFault::Memory);
+    if work.engine.open_time().is_some() {
+        close_epoch(alloc, catalogue, work, steps)?;
     }
-    match write_rows(host, &mut work.rows) {
-        Ok(()) => Ok(()),
-        Err(_) => Err(SessionFault::WriteFault),
-    }
+    write_rows(host, &mut work.rows)?;
+    Ok(())
 }

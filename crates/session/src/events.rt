@@ -76,13 +76,9 @@ fn close_and_offer<H: Host, L: Ledger>(
     ensures tests { RisesByClosing catalogue.now line.event.tuple.at work.old.engine steps.old steps.new }
 {
     let at = line.event.tuple.at();
-    match close_before(alloc, host, catalogue, work, at, steps) {
-        Ok(()) => match offer_event(work, line.event) {
-            Ok(()) => Ok(()),
-            Err(_) => Err(SessionFault::Memory),
-        },
-        Err(fault) => Err(fault),
-    }
+    close_before(alloc, host, catalogue, work, at, steps)?;
+    offer_event(work, line.event)?;
+    Ok(())
 }
 
 /// Works on an event, or refuses its line.

@@ -1,5 +1,9 @@
 //! Why a session ends before its work is done.
+ghost use Rattle.std.specs.Prelude.{◌≡◌};
+
 use crate::refusal::Refusal;
+use cay_host::Failed;
+use event_types::Memory;
 
 /// Why a session ends before its work is done.
 #[derive(Clone, Copy, Debug, PartialEq, Eq, Drop)]
@@ -12,4 +16,24 @@ pub enum SessionFault {
     WriteFault,
     /// There was no memory.
     Memory,
+}
+
+impl From<Memory> for SessionFault {
+    ghost use Rattle.session.specs.declared.fault.SessionFault.TheVariants as fault;
+
+    ghost from_gives = { λ _ made. made ≡ fault.Memory };
+
+    fn from(_error: Memory) -> SessionFault {
+        SessionFault::Memory
+    }
+}
+
+impl From<Failed> for SessionFault {
+    ghost use Rattle.session.specs.declared.fault.SessionFault.TheVariants as fault;
+
+    ghost from_gives = { λ _ made. made ≡ fault.WriteFault };
+
+    fn from(_error: Failed) -> SessionFault {
+        SessionFault::WriteFault
+    }
 }

@@ -43,13 +43,9 @@ pub fn work_on_lines<H: Host, L: Ledger>(
     ensures same { SameButOutput (H.told host.old) (H.told host.new) }
     ensures tests { RisesByLines catalogue.now feed.old false work.old.engine steps.old steps.new }
 {
-    match work_through(alloc, host, catalogue, feed, work, steps) {
-        Ok(()) => match write_rows(host, &mut work.rows) {
-            Ok(()) => Ok(()),
-            Err(_) => Err(SessionFault::WriteFault),
-        },
-        Err(fault) => Err(fault),
-    }
+    work_through(alloc, host, catalogue, feed, work, steps)?;
+    write_rows(host, &mut work.rows)?;
+    Ok(())
 }
 
 // Works on all lines that have their end. Out of line, and all that each of them needs in line.
@@ -74,10 +70,8 @@ fn work_through<H: Host, L: Ledger>(
     ensures tests { RisesByLines catalogue.now feed.old false work.old.engine steps.old steps.new }
 {
     'lines: loop {
-        match work_on_line(alloc, host, catalogue, feed, work, steps) {
-            Ok(true) => {}
-            Ok(false) => return Ok(()),
-            Err(fault) => return Err(fault),
+        if !work_on_line(alloc, host, catalogue, feed, work, steps)? {
+            return Ok(());
         }
     }
 }
@@ -108,10 +102,10 @@ fn work_on_line<H: Host, L: Ledger>(
         Err(_) => Err(SessionFault::Memory),
         Ok(Next::NotYet) => Ok(false),
         Ok(Next::Fault(line, why)) => Err(refuse(host, work, Refusal::HasFault { line, why })),
-        Ok(Next::Event(line)) => match work_on_event(alloc, host, catalogue, work, line, steps) {
-            Ok(()) => Ok(true),
-            Err(fault) => Err(fault),
-        },
+        Ok(Next::Event(line)) => {
+            work_on_event(alloc, host, catalogue, work, line, steps)?;
+            Ok(true)
+        }
     }
 }
 
@@ -142,9 +136,9 @@ pub fn work_on_rest<H: Host, L: Ledger>(
             work,
             Refusal::HasFault { line: number, why },
         )),
-        Ok(Next::Event(line)) => match work_on_event(alloc, host, catalogue, work, line, steps) {
-            Ok(()) => close_last(alloc, host, catalogue, work, steps),
-            Err(fault) => Err(fault),
-        },
+        Ok(Next::Event(line)) => {
+            work_on_event(alloc, host, catalogue, work, line, steps)?;
+            close_last(alloc, host, catalogue, work, steps)
+        }
     }
 }

@@ -1,4 +1,5 @@
 use Rattle.std.proofs.Common.{List, ℕ, sym, subst, Option}
+use Rattle.std.proofs.lemmas.Result.{err_from_is_err_and}
 use Rattle.epoch_engine.specs.Offers.{IsNotAhead}
 use Rattle.cay_host.specs.Output.{WrotePart}
 use Rattle.session.specs.EngineStandsWithLastOpen.{program_over}
@@ -8,22 +9,24 @@ use Rattle.session.proofs.TestsLemmas.{closing_rises}
 use Rattle.session.proofs.closing.close_before.Goals as goal
 
 -- the rows of the open epoch were put, and written if there were many
-pub returns-in-Ok-write_if_full-clause-owes : goal.returns-in-Ok-write_if_full-clause-owes
-returns-in-Ok-write_if_full-clause-owes g c = λ history stands.
+pub returns-in_ok-write_if_full-in-Some-clause-owes : goal.returns-in_ok-write_if_full-in-Some-clause-owes
+returns-in_ok-write_if_full-in-Some-clause-owes g c = λ history stands.
     let work = c.args.work.now in
-    owes_closed (program_over c.args.catalogue.now) history work.engine.time c.in-Some.seen c.args.at (sym c.in-Some.ensures) c.if-seen-at.true work.rows c.close_epoch.new.work.rows (c.in-Ok.ensures.rows history stands)
-    c.write_if_full.new.rows (g.H.Host.told c.args.host.now) (g.H.Host.told c.write_if_full.new.host) c.in-Ok-write_if_full.ensures.ok
+    owes_closed (program_over c.args.catalogue.now) history work.engine.time c.in-Some.seen c.args.at (sym c.in-Some.ensures) c.if-seen-at.true work.rows c.close_epoch.new.work.rows (c.in_ok-close_epoch-in-Some.ensures.rows history stands)
+    c.write_if_full.new.rows (g.H.Host.told c.args.host.now) (g.H.Host.told c.write_if_full.new.host) c.in_ok-write_if_full-in-Some.ensures.ok
 
 -- a later event may be offered
-pub returns-in-Ok-write_if_full-clause-ready : goal.returns-in-Ok-write_if_full-clause-ready
-returns-in-Ok-write_if_full-clause-ready g c = ready_later c.args.catalogue.now c.in-Some.seen c.args.at c.args.work.now.engine c.close_epoch.new.work.engine c.in-Ok.ensures.closed (sym c.in-Some.ensures) c.if-seen-at.true
+pub returns-in_ok-write_if_full-in-Some-clause-ready : goal.returns-in_ok-write_if_full-in-Some-clause-ready
+returns-in_ok-write_if_full-in-Some-clause-ready g c = ready_later c.args.catalogue.now c.in-Some.seen c.args.at c.args.work.now.engine c.close_epoch.new.work.engine c.in_ok-close_epoch-in-Some.ensures.closed (sym c.in-Some.ensures) c.if-seen-at.true
 
 -- they couldn't be written
-pub returns-in-Err-write_if_full-clause-fails : goal.returns-in-Err-write_if_full-clause-fails
-returns-in-Err-write_if_full-clause-fails g c = λ history stands.
+pub returns-in_err-write_if_full-in-Some-clause-fails : goal.returns-in_err-write_if_full-in-Some-clause-fails
+returns-in_err-write_if_full-in-Some-clause-fails g c =
+    let p = err_from_is_err_and c.from_residual-in_err-write_if_full-in-Some.result c.from_residual-in_err-write_if_full-in-Some.ensures.1 in
+    rw (p.1, p.2) (λ history stands.
     let work = c.args.work.now in
-    let same = closed_rows (program_over c.args.catalogue.now) history work.engine.time c.in-Some.seen c.args.at (sym c.in-Some.ensures) c.if-seen-at.true work.rows c.close_epoch.new.work.rows (c.in-Ok.ensures.rows history stands) in
-    (c.in-Err-write_if_full.ensures.cause, subst (λ (t : List ℕ). WrotePart t (g.H.Host.told c.args.host.now) (g.H.Host.told c.write_if_full.new.host)) same c.in-Err-write_if_full.ensures.part)
+    let same = closed_rows (program_over c.args.catalogue.now) history work.engine.time c.in-Some.seen c.args.at (sym c.in-Some.ensures) c.if-seen-at.true work.rows c.close_epoch.new.work.rows (c.in_ok-close_epoch-in-Some.ensures.rows history stands) in
+    (c.in_err-write_if_full-in-Some.ensures.cause, subst (λ (t : List ℕ). WrotePart t (g.H.Host.told c.args.host.now) (g.H.Host.told c.write_if_full.new.host)) same c.in_err-write_if_full-in-Some.ensures.part))
 
 -- the event is of the open epoch
 pub returns-in_default-clause-ready : goal.returns-in_default-clause-ready
@@ -31,14 +34,14 @@ returns-in_default-clause-ready g c =
     ready_now c.args.catalogue.now c.args.at c.args.work.now c.requires.at_work c.requires.timely (subst (λ (o : Option ℕ). IsNotAhead o c.args.at) c.in-Some.ensures c.if-seen-at.false)
 
 -- the closing tests no more than the epoch asks for
-pub returns-in-Ok-write_if_full-clause-tests : goal.returns-in-Ok-write_if_full-clause-tests
-returns-in-Ok-write_if_full-clause-tests g c =
+pub returns-in_ok-write_if_full-in-Some-clause-tests : goal.returns-in_ok-write_if_full-in-Some-clause-tests
+returns-in_ok-write_if_full-in-Some-clause-tests g c =
     closing_rises c.args.catalogue.now c.args.work.now.engine c.in-Some.seen c.args.at c.args.steps.now c.close_epoch.new.steps (sym c.in-Some.ensures) c.if-seen-at.true c.close_epoch.ensures.tests
 
-pub returns-in-Err-write_if_full-clause-tests : goal.returns-in-Err-write_if_full-clause-tests
-returns-in-Err-write_if_full-clause-tests g c =
+pub returns-in_err-write_if_full-in-Some-clause-tests : goal.returns-in_err-write_if_full-in-Some-clause-tests
+returns-in_err-write_if_full-in-Some-clause-tests g c =
     closing_rises c.args.catalogue.now c.args.work.now.engine c.in-Some.seen c.args.at c.args.steps.now c.close_epoch.new.steps (sym c.in-Some.ensures) c.if-seen-at.true c.close_epoch.ensures.tests
 
-pub returns-in-Err-clause-tests : goal.returns-in-Err-clause-tests
-returns-in-Err-clause-tests g c =
+pub returns-in_err-close_epoch-in-Some-clause-tests : goal.returns-in_err-close_epoch-in-Some-clause-tests
+returns-in_err-close_epoch-in-Some-clause-tests g c =
     closing_rises c.args.catalogue.now c.args.work.now.engine c.in-Some.seen c.args.at c.args.steps.now c.close_epoch.new.steps (sym c.in-Some.ensures) c.if-seen-at.true c.close_epoch.ensures.tests

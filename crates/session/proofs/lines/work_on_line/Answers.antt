@@ -1,4 +1,5 @@
 use Rattle.std.proofs.Common.{ap, length, false, arith, Err, refl}
+use Rattle.std.proofs.lemmas.Result.{err_from_is_err_and}
 use Rattle.catalogue.specs.Catalogued.{judged_of}
 use Rattle.session.specs.Readings.{readings_left}
 use Rattle.session.specs.EngineStandsWithLastOpen.{program_over}
@@ -18,36 +19,39 @@ returns-in-Ok-Fault-clause-stops g c =
     (refuses program false left.0 history (record { number = c.in-Ok-Fault.line; found = Err c.in-Ok-Fault.why }) c.args.work.now _ before after c.refuse.result refl c.refuse.ensures.by)
 
 -- an event was taken
-pub returns-in-Ok-clause-progress : goal.returns-in-Ok-clause-progress
-returns-in-Ok-clause-progress g c =
+pub returns-in_ok-work_on_event-in-Ok-Event-clause-progress : goal.returns-in_ok-work_on_event-in-Ok-Event-clause-progress
+returns-in_ok-work_on_event-in-Ok-Event-clause-progress g c =
     let shows = rw (c.in-Ok-Event.field-0-is, c.streams.ensures.value) at c.in-Ok-Event.ensures.shows in
     let streams = (judged_of c.args.catalogue.now).streams in (
-      λ history stands. took (readings_left streams c.args.feed.now false) (readings_left streams c.next_reading.new.feed false) (shows false) (c.in-Ok.ensures.more history stands),
+      λ history stands. took (readings_left streams c.args.feed.now false) (readings_left streams c.next_reading.new.feed false) (shows false) (c.in_ok-work_on_event-in-Ok-Event.ensures.more history stands),
       let fewer = ap length (shows false) in omega (arith, fewer),
     )
 
 -- an event wasn't taken
-pub returns-in-Err-work_on_event-clause-stops : goal.returns-in-Err-work_on_event-clause-stops
-returns-in-Err-work_on_event-clause-stops g c =
+pub returns-in_err-work_on_event-in-Ok-Event-clause-stops : goal.returns-in_err-work_on_event-in-Ok-Event-clause-stops
+returns-in_err-work_on_event-in-Ok-Event-clause-stops g c =
     let shows = rw (c.in-Ok-Event.field-0-is, c.streams.ensures.value) at c.in-Ok-Event.ensures.shows in
-    λ history stands. stops_same (program_over c.args.catalogue.now) false _ _ history c.args.work.now (g.H.Host.told c.args.host.now) (g.H.Host.told c.work_on_event.new.host) c.in-Err-work_on_event.fault (shows false)
-    (c.in-Err-work_on_event.ensures.stops false _ history stands)
+    let p = err_from_is_err_and c.from_residual.result c.from_residual.ensures.1 in
+    rw (p.1, p.2) (
+    λ history stands. stops_same (program_over c.args.catalogue.now) false _ _ history c.args.work.now (g.H.Host.told c.args.host.now) (g.H.Host.told c.work_on_event.new.host) _ (shows false)
+    (c.in_err-work_on_event-in-Ok-Event.ensures.stops false _ history stands)
+    )
 
 -- no more is tested than the lines ask for
-pub returns-in-Ok-clause-tests : goal.returns-in-Ok-clause-tests
-returns-in-Ok-clause-tests g c =
+pub returns-in_ok-work_on_event-in-Ok-Event-clause-tests : goal.returns-in_ok-work_on_event-in-Ok-Event-clause-tests
+returns-in_ok-work_on_event-in-Ok-Event-clause-tests g c =
     let shows = rw (c.in-Ok-Event.field-0-is, c.streams.ensures.value) at c.in-Ok-Event.ensures.shows in
     event_rises c.args.catalogue.now c.args.feed.now false c.in-Ok-Event.line.number c.in-Ok-Event.line.event _ c.args.work.now.engine c.args.steps.now c.work_on_event.new.steps (shows false) c.work_on_event.ensures.tests
 
-pub returns-in-Err-work_on_event-clause-tests : goal.returns-in-Err-work_on_event-clause-tests
-returns-in-Err-work_on_event-clause-tests g c =
+pub returns-in_err-work_on_event-in-Ok-Event-clause-tests : goal.returns-in_err-work_on_event-in-Ok-Event-clause-tests
+returns-in_err-work_on_event-in-Ok-Event-clause-tests g c =
     let shows = rw (c.in-Ok-Event.field-0-is, c.streams.ensures.value) at c.in-Ok-Event.ensures.shows in
     event_rises c.args.catalogue.now c.args.feed.now false c.in-Ok-Event.line.number c.in-Ok-Event.line.event _ c.args.work.now.engine c.args.steps.now c.work_on_event.new.steps (shows false) c.work_on_event.ensures.tests
 
-pub returns-in-Ok-clause-moved : goal.returns-in-Ok-clause-moved
-returns-in-Ok-clause-moved g c =
+pub returns-in_ok-work_on_event-in-Ok-Event-clause-moved : goal.returns-in_ok-work_on_event-in-Ok-Event-clause-moved
+returns-in_ok-work_on_event-in-Ok-Event-clause-moved g c =
     let shows = rw (c.in-Ok-Event.field-0-is, c.streams.ensures.value) at c.in-Ok-Event.ensures.shows in
-    λ is history stands. took_tests c.args.catalogue.now c.in-Ok-Event.line.number c.in-Ok-Event.line.event _ _ history c.args.work.now c.work_on_event.new.work _ _ c.args.steps.now c.work_on_event.new.steps (shows false) (c.in-Ok.ensures.more history stands) stands
+    λ is history stands. took_tests c.args.catalogue.now c.in-Ok-Event.line.number c.in-Ok-Event.line.event _ _ history c.args.work.now c.work_on_event.new.work _ _ c.args.steps.now c.work_on_event.new.steps (shows false) (c.in_ok-work_on_event-in-Ok-Event.ensures.more history stands) stands
     c.work_on_event.ensures.tests
 
 -- nothing is tested without an event

@@ -1,4 +1,5 @@
 use Rattle.std.proofs.Common.{◌∙◌, false, refl}
+use Rattle.std.proofs.lemmas.Result.{err_from_is_err_and}
 use Rattle.cay_host.proofs.OutputLemmas.{SameButOutput-trans}
 use Rattle.catalogue.specs.Catalogued.{judged_of}
 use Rattle.session.specs.Readings.{readings_left}
@@ -11,33 +12,34 @@ use Rattle.session.proofs.lines.work_through.Goals as goal
 -- one more line is done
 pub lines-preserved : goal.lines-preserved
 lines-preserved g c = record {
-  goes_on = λ history stands. goes_further (c.lines.invariant.goes_on history stands) (rw c.in-Ok-true.field-0-test at c.in-Ok-true.ensures.progress).0;
-  tests = λ history stands. moves_further (c.lines.invariant.tests history stands) ((rw c.in-Ok-true.field-0-test at c.in-Ok-true.ensures.moved) refl);
-  at_work = c.in-Ok-true.ensures.at_work;
+  goes_on = λ history stands. goes_further (c.lines.invariant.goes_on history stands) (rw c.if-not-branch.false at c.in_ok-work_on_line.ensures.progress).0;
+  tests = λ history stands. moves_further (c.lines.invariant.tests history stands) ((rw c.if-not-branch.false at c.in_ok-work_on_line.ensures.moved) refl);
+  at_work = c.in_ok-work_on_line.ensures.at_work;
   gone = Gone-trans c.lines.invariant.gone c.work_on_line.ensures.gone;
-  quiet = c.in-Ok-true.ensures.quiet ∙ c.lines.invariant.quiet;
+  quiet = c.in_ok-work_on_line.ensures.quiet ∙ c.lines.invariant.quiet;
   same = SameButOutput-trans c.lines.invariant.same c.work_on_line.ensures.same;
 }
 
 -- no more line has its end
-pub returns-in-Ok-false-clause-gone : goal.returns-in-Ok-false-clause-gone
-returns-in-Ok-false-clause-gone g c = Gone-trans c.lines.invariant.gone c.work_on_line.ensures.gone
+pub returns-then-not-branch-clause-gone : goal.returns-then-not-branch-clause-gone
+returns-then-not-branch-clause-gone g c = Gone-trans c.lines.invariant.gone c.work_on_line.ensures.gone
 
 -- the work stopped at a line
-pub returns-in-Err-clause-stops : goal.returns-in-Err-clause-stops
-returns-in-Err-clause-stops g c =
+pub returns-in_err-work_on_line-clause-stops : goal.returns-in_err-work_on_line-clause-stops
+returns-in_err-work_on_line-clause-stops g c =
     let told = g.H.Host.told in
     let streams = (judged_of c.args.catalogue.now).streams in
-    λ history stands. let gone = c.lines.invariant.goes_on history stands in
+    let p = err_from_is_err_and c.from_residual.result c.from_residual.ensures.1 in
+    rw (p.1, p.2) (λ history stands. let gone = c.lines.invariant.goes_on history stands in
     advances_stops (program_over c.args.catalogue.now) false (readings_left streams c.args.feed.now false) (readings_left streams c.lines.feed false) history gone.heard
-    c.args.work.now c.lines.work (told c.args.host.now) (told c.lines.host) (told c.work_on_line.new.host) c.in-Err.fault
-    c.lines.invariant.same.later gone.advances (c.in-Err.ensures.stops gone.heard gone.stands)
+    c.args.work.now c.lines.work (told c.args.host.now) (told c.lines.host) (told c.work_on_line.new.host) _
+    c.lines.invariant.same.later gone.advances (c.in_err-work_on_line.ensures.stops gone.heard gone.stands))
 
 -- no more was tested than the lines ask for
-pub returns-in-Ok-false-clause-tests : goal.returns-in-Ok-false-clause-tests
-returns-in-Ok-false-clause-tests g c =
+pub returns-then-not-branch-clause-tests : goal.returns-then-not-branch-clause-tests
+returns-then-not-branch-clause-tests g c =
     moved_rises c.args.catalogue.now c.args.feed.now c.lines.feed c.args.work.now.engine c.lines.work.engine c.args.steps.now c.lines.steps c.work_on_line.new.steps c.lines.invariant.tests c.work_on_line.ensures.tests
 
-pub returns-in-Err-clause-tests : goal.returns-in-Err-clause-tests
-returns-in-Err-clause-tests g c =
+pub returns-in_err-work_on_line-clause-tests : goal.returns-in_err-work_on_line-clause-tests
+returns-in_err-work_on_line-clause-tests g c =
     moved_rises c.args.catalogue.now c.args.feed.now c.lines.feed c.args.work.now.engine c.lines.work.engine c.args.steps.now c.lines.steps c.work_on_line.new.steps c.lines.invariant.tests c.work_on_line.ensures.tests
