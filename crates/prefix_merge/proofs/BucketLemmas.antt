@@ -1,23 +1,18 @@
--- Hashes that go on, and states in buckets.
-use Rattle.std.proofs.Common.{◌≡◌, ◌⊎◌, ◌∙◌, sym, ap, refl, inl, inr, subst, ℕ, ◌+◌, ◌-◌, ◌<◌, ◌≤◌, Bool, true, false, cond, nat_eq, get_or, length, take, List, [], ◌∷◌, arith}
-use Rattle.std.specs.Prelude.{Contains, Option, Some, None, slice_get}
-use Rattle.std.specs.List.{fold, remove}
+-- States in buckets.
+use Rattle.std.proofs.Common.{◌≡◌, ◌⊎◌, ◌∙◌, sym, ap, refl, inl, inr, subst, ℕ, ◌+◌, ◌-◌, ◌<◌, ◌≤◌, Bool, true, false, cond, nat_eq, get_or, length, List, [], arith}
+use Rattle.std.specs.Prelude.{Contains, Option, Some, None}
+use Rattle.std.specs.List.{remove}
 use Rattle.std.specs.HashMap.{HashMap}
-use Rattle.std.specs.Option.{option_map, unwrap_or}
-use Rattle.std.specs.declared.hash.DefaultHasher.{DefaultHasher}
+use Rattle.std.specs.Option.{unwrap_or}
 use Rattle.std.proofs.lemmas.Bool.{cases_lt}
 use Rattle.std.proofs.lemmas.List.Edits.{get_or-remove_above, get_or-remove_below, length-remove}
-use Rattle.std.proofs.lemmas.List.Sums.{fold-append}
-use Rattle.semantics.specs.Scalars.{Pr}
-use Rattle.scalar_expr.specs.Classes.{Class, class_of}
 use Rattle.automaton.specs.declared.network.Entrance.TheVariants as entrance
 use Rattle.automaton.specs.declared.network.State.{State}
 use Rattle.automaton.specs.Changes.{RemovesState, without_edge}
 use Rattle.automaton.specs.States.{Net, before_at, entrance_at, entrance_in, state_at, tells}
-use Rattle.automaton.proofs.EqualityLemmas.{take_read}
 use Rattle.automaton.proofs.NumberLemmas.{are_same_or_not}
 use Rattle.event_types.proofs.NumberLemmas.{is_other, same_number}
-use Rattle.prefix_merge.specs.Buckets.{AreInBuckets, hash_of, bucket_at, with_class, with_part}
+use Rattle.prefix_merge.specs.Buckets.{AreInBuckets, hash_of, bucket_at}
 
 -- where one number is taken out, the others are there still
 pub others_stay : (numbers : List ℕ) (place number n : ℕ) → place < length numbers → get_or numbers place n ≡ number → (n ≡ number → ⊥) → Contains numbers n → Contains (remove numbers place) n
@@ -35,17 +30,6 @@ others_stay numbers place number n inside is ne (k, lt, at) = by_order (cases_lt
         by_number (inr apart) =
             let back : k - 1 + 1 ≡ k = omega (arith, above, apart) in
             (k - 1, omega (arith, above, apart, lt, shorter), get_or-remove_above numbers place n (k - 1) (omega (arith, above, apart)) inside ∙ ap (λ p. get_or numbers p n) back ∙ at)
-
--- one part more is in the hash
-pub one_part_more : (condition : List Pr) (place : ℕ) (class : Class) (hasher with : DefaultHasher) → option_map class_of (slice_get condition place) ≡ Some class → with ≡ fold with_part hasher (take place condition)
-    → with_class with class ≡ fold with_part hasher (take (place + 1) condition)
-one_part_more condition place class hasher with is so_far = go (slice_get condition place) refl is
-  where
-    go : (part : Option Pr) → slice_get condition place ≡ part → option_map class_of part ≡ Some class → with_class with class ≡ fold with_part hasher (take (place + 1) condition)
-    go (Some part) here told =
-        let same : class_of part ≡ class = cc in
-        ap (with_class with) (sym same) ∙ ap (λ h. with_part h part) so_far ∙ sym (fold-append with_part hasher (take place condition) (part ∷ [])) ∙ ap (fold with_part hasher) (sym (take_read condition place part here))
-    go None here told = cc
 
 -- a number stays where the bucket that changes keeps it
 pub bucket_kept : (old new : ℕ → Option (List ℕ)) (hash : ℕ) (with : Option (List ℕ)) → ((q : ℕ) → new q ≡ cond (nat_eq hash q) with (old q)) → (n : ℕ) → (Contains (unwrap_or (old hash) []) n → Contains (unwrap_or with []) n)

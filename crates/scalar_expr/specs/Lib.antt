@@ -2,6 +2,7 @@ pub mod Canonical
 pub mod CanonicalLaws
 pub mod Classes
 pub mod Fits
+pub mod Hashes
 pub mod KindLaws
 pub mod Kinds
 pub mod NextsLaws

@@ -10,6 +10,7 @@ mod canonical;
 mod conjunction;
 mod copying;
 mod following;
+mod hashing;
 mod kinding;
 mod laws;
 mod ordering;

@@ -31,7 +31,7 @@ pub(crate) fn compare_scalars(x: &Scalar, y: &Scalar) -> Ordering
 }
 
 // The place of a scalar's variant.
-fn scalar_place(x: &Scalar) -> u8
+pub(crate) fn scalar_place(x: &Scalar) -> u8
     ensures { result ≡ sc_place (sc_of x.now) }
 {
     match x {
@@ -63,7 +63,7 @@ fn compare_preds(p: &Pred, q: &Pred) -> Ordering
 }
 
 // The place of a predicate's variant.
-fn pred_place(p: &Pred) -> u8
+pub(crate) fn pred_place(p: &Pred) -> u8
     ensures { result ≡ pr_place (pr_of p.now) }
 {
     match p {

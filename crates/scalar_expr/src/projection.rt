@@ -36,7 +36,7 @@ impl Model for Map {
 
 impl Map {
     // The scalars as they stand.
-    fn scalars(&self) -> &[Scalar]
+    pub(crate) fn scalars(&self) -> &[Scalar]
         ensures { map sc_of result.now ≡ self.now.parts }
     {
         self.parts.as_slice()
