@@ -1,5 +1,5 @@
 -- What is known of the piece at the front of a text.
-use Rattle.std.proofs.Common.{◌≡◌, ◌∙◌, ℕ, zero, suc, Bool, true, false, List, [], ◌∷◌, ◌++◌, length, take, drop, ◌+◌, ◌-◌, ◌<◌, ◌≤◌, refl, sym, ap, arith, add-zero, zero-add, get_or, drop-cons, sub-one, inl, inr, Option, Some, None, pos, nat_lt, nat_le, ◌^◌}
+use Rattle.std.proofs.Common.{◌≡◌, ◌∙◌, ℕ, zero, suc, Bool, true, false, List, [], ◌∷◌, ◌++◌, length, take, drop, ◌+◌, ◌-◌, ◌<◌, ◌≤◌, refl, sym, ap, arith, add-zero, zero-add, get_or, drop-cons, sub-one, inl, inr, Option, Some, None, pos, nat_le}
 use Rattle.std.specs.Prelude.{take_while, if◌then◌else◌, ◌==◌, ◌&&◌, ◌||◌}
 use Rattle.std.specs.List.{list_all}
 use Rattle.std.specs.Char.{is_ascii_digit}
