@@ -116,6 +116,7 @@ impl Engine {
     }
 
     /// Takes a tuple of a declared stream. Its detection time opens an epoch where none is open.
+    #[inline(always)]
     pub fn offer(&mut self, stream: StreamId, tuple: Tuple) -> Result<(), OfferFault>
         requires heard { IsHeard self.old.layout stream tuple }
         requires in_time { IsNotAhead self.old.time tuple.at }

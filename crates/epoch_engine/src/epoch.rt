@@ -32,6 +32,7 @@ impl Epoch {
     }
 
     /// Puts a tuple behind those of its stream. Want of memory hands it back.
+    #[inline(always)]
     pub(crate) fn add(&mut self, stream: StreamId, tuple: Tuple) -> Result<(), Tuple>
         requires stream { stream < length self.old.tuples }
         requires touched { AreTouched self.old.tuples self.old.touched }
