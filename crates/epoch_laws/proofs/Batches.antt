@@ -15,14 +15,14 @@ use Rattle.semantics.specs.Results.{results}
 use Rattle.semantics.proofs.ReportLemmas.{filter_all}
 use Rattle.scalar_expr.proofs.Bags.{filter_permuted}
 use Rattle.automaton.specs.States.{Net}
-use Rattle.automaton.specs.declared.line.Line.{Line}
+use Rattle.epoch_laws.specs.BornLines.{BornLine}
 use Rattle.epoch_laws.specs.Batch.{Agree}
 use Rattle.epoch_laws.specs.Closing.{IsEpoch, Stores}
 use Rattle.epoch_laws.specs.StoresStandFor.{Serves, StoresStandFor}
 use Rattle.epoch_laws.proofs.StoresStandFor.{closed_batch}
 
 -- a batch has the results of each query
-pub batch_is_results : (net : Net) (lines : List Line) (order : List ℕ) (now time : ℕ) (stores : Stores) (past events : List Event) (news : Streams) (program : Program) (stream : ℕ)
+pub batch_is_results : (net : Net) (lines : List BornLine) (order : List ℕ) (now time : ℕ) (stores : Stores) (past events : List Event) (news : Streams) (program : Program) (stream : ℕ)
     → Serves net lines order → StoresStandFor net lines order now stores past → now ≤ time → All (λ e. IsSound e.tuple × (e.tuple.at ≡ time)) events
     → IsEpoch net order stores (heard_on events) news → Agree lines order program (past ++ events) stream
     → sorted (news stream) ≡ results program (past ++ events) stream time

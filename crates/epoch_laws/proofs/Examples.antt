@@ -11,7 +11,8 @@ use Rattle.automaton.specs.Prefixes.{After, Root}
 use Rattle.automaton.specs.declared.line.Hop.{Hop}
 use Rattle.automaton.specs.declared.wait.Turn.{Turn}
 use Rattle.epoch_laws.specs.Epochs.{stepped, took}
-use Rattle.epoch_laws.specs.InstanceFlow.{BornLine, derived_after, flow_instances, given_after, waiting_instances}
+use Rattle.epoch_laws.specs.BornLines.{BornLine}
+use Rattle.epoch_laws.specs.InstanceFlow.{derived_after, flow_instances, given_after, waiting_instances}
 use Rattle.epoch_laws.specs.Instances.{began, begins, instances_entering}
 
 -- the tuple of one number with these times

@@ -1,32 +1,22 @@
 -- One epoch along prefixes and lines.
-use Rattle.std.proofs.Common.{◌≡◌, ◌∙◌, sym, ap, refl, subst, ℕ, ◌≤◌, ◌==◌, Bool, true, false, cond, nat_lt, List, [], ◌∷◌}
+use Rattle.std.proofs.Common.{◌≡◌, ◌∙◌, sym, ap, refl, subst, ℕ, ◌≤◌, Bool, true, false, cond, nat_lt, List, [], ◌∷◌}
 use Rattle.std.specs.Prelude.{Option, Some, None}
 use Rattle.std.specs.Option.{option_and_then}
-use Rattle.std.specs.List.{All, filter, filter_map, flat_map, cons_option}
-use Rattle.std.specs.List.Sorted.{IsPermutation}
+use Rattle.std.specs.List.{All, filter, filter_map, cons_option}
 use Rattle.std.proofs.lemmas.List.Elements.{All-nil, All-cons, All-head, All-tail}
 use Rattle.event_types.specs.Tuple.{TupleView}
-use Rattle.instances.specs.declared.instance.Instance.{Instance}
 use Rattle.semantics.specs.Denotation.{Streams}
 use Rattle.semantics.specs.Truth.{all_true}
-use Rattle.scalar_expr.proofs.Bags.{permuted_to}
-use Rattle.automaton.specs.Flow.{entering, flow, given}
-use Rattle.automaton.specs.Prefixes.{Prefix, Root, After, path}
+use Rattle.automaton.specs.Flow.{entering, flow}
+use Rattle.automaton.specs.Prefixes.{Prefix, Root, After}
 use Rattle.automaton.specs.Steps.{pass, passed}
-use Rattle.automaton.specs.Waiting.{waiting, waiting_in}
 use Rattle.automaton.specs.Waits.{chosen}
 use Rattle.automaton.specs.declared.line.Hop.{Hop}
-use Rattle.automaton.specs.declared.line.Line.{Line}
 use Rattle.automaton.specs.declared.step.Stage.{Stage}
 use Rattle.automaton.specs.declared.step.Stage.TheVariants.{Keep, Make}
-use Rattle.epoch_laws.specs.Epochs.{stepped, taken}
-use Rattle.epoch_laws.specs.Instances.{bindings_of}
-use Rattle.epoch_laws.specs.Lines.{flow_now, given_now}
-use Rattle.epoch_laws.specs.Times.{ArePast, before, during, IsPast, streams_before, streams_during}
-use Rattle.epoch_laws.proofs.Bindings.{stepped_bindings}
+use Rattle.epoch_laws.specs.Times.{ArePast, before, IsPast, streams_before}
 use Rattle.epoch_laws.proofs.Folds.{sound_past}
-use Rattle.epoch_laws.proofs.Purges.{rows_stepped}
-use Rattle.epoch_laws.proofs.Waits.{chosen_before, chosen_past, few_of, rows_give, rows_keep}
+use Rattle.epoch_laws.proofs.Waits.{chosen_before, chosen_past}
 
 -- a step keeps the times
 abbrev pub Timed : TupleView → Option TupleView → Type 0
@@ -99,34 +89,3 @@ module _ (time : ℕ) (env : Streams) (past : ArePast time env) where
 
   entering_before : (p : Prefix) (h : Hop) → before time (entering h (flow env p)) ≡ entering h (flow (streams_before time env) p)
   entering_before p h = pass_cut (λ at. nat_lt at time) h.step (flow env p) ∙ ap (entering h) (flow_before p)
-
-  -- what flows at the last time comes from what waited before it
-  pub flow_gives : (p : Prefix) → during time (flow env p) ≡ flow_now (streams_during time env) (streams_before time env) p
-  flow_gives (Root s) = refl
-  flow_gives (After p h) =
-      rows_give time h.wait.choose h.wait.fold (env h.wait.stream) (entering h (flow env p)) (past h.wait.stream) (few_of time (entering h (flow env p)) (entering_past p h))
-      ∙ ap (λ ls. flat_map (taken h.wait.choose h.wait.fold (during time (env h.wait.stream))) (waiting_in h.wait.choose h.wait.fold (before time (env h.wait.stream)) ls)) (entering_before p h)
-
-  -- what a line gives at a time is what leaves its last step then
-  pub line_gives : (l : Line) → during time (given env l) ≡ given_now (streams_during time env) (streams_before time env) l
-  line_gives l = pass_cut (λ at. at == time) l.last (flow env (path l)) ∙ ap (filter_map (pass l.last)) (flow_gives (path l))
-
-  -- what waits after it
-  pub rows_state : (p : Prefix) (h : Hop)
-      → IsPermutation (waiting env p h)
-      (rows_stepped h.wait.choose h.wait.fold (during time (env h.wait.stream)) (entering h (flow_now (streams_during time env) (streams_before time env) p)) (waiting (streams_before time env) p h))
-  rows_state p h =
-      permuted_to
-      (rows_keep time h.wait.choose h.wait.fold (env h.wait.stream) (entering h (flow env p)) (past h.wait.stream) (few_of time (entering h (flow env p)) (entering_past p h)))
-      (λ i. rows_stepped h.wait.choose h.wait.fold (during time (env h.wait.stream)) (now i) (waiting_in h.wait.choose h.wait.fold (before time (env h.wait.stream)) (entering_before p h i)))
-    where
-      now : during time (entering h (flow env p)) ≡ entering h (flow_now (streams_during time env) (streams_before time env) p)
-      now = pass_cut (λ at. at == time) h.step (flow env p) ∙ ap (entering h) (flow_gives p)
-
-  -- a state keeps the bindings that wait on
-  pub state_keeps : (p : Prefix) (h : Hop) (entered store : List Instance)
-      → bindings_of entered ≡ entering h (flow_now (streams_during time env) (streams_before time env) p) → bindings_of store ≡ waiting (streams_before time env) p h
-      → IsPermutation (waiting env p h) (bindings_of (stepped h.wait.choose h.wait.fold (during time (env h.wait.stream)) entered store))
-  state_keeps p h entered store enters is =
-      permuted_to (rows_state p h)
-      (sym (stepped_bindings h.wait.choose h.wait.fold (during time (env h.wait.stream)) entered store ∙ (λ i. rows_stepped h.wait.choose h.wait.fold (during time (env h.wait.stream)) (enters i) (is i))))

@@ -1,7 +1,7 @@
 -- One epoch along prefixes, as instances.
-use Rattle.std.proofs.Common.{◌≡◌, ◌∙◌, sym, ap, refl, subst, ℕ, ◌≤◌, ◌==◌, nat_lt, List, [], ◌∷◌, ◌++◌, map}
+use Rattle.std.proofs.Common.{◌≡◌, ◌∙◌, sym, ap, refl, subst, ℕ, ◌≤◌, ◌==◌, nat_lt, List, [], ◌∷◌, ◌++◌}
 use Rattle.std.specs.Prelude.{Option, Some, None}
-use Rattle.std.specs.List.{All, filter, flat_map}
+use Rattle.std.specs.List.{All, filter, filter_map, flat_map}
 use Rattle.std.specs.List.Sorted.{IsPermutation}
 use Rattle.std.proofs.lemmas.List.Elements.{All-nil, All-cons}
 use Rattle.std.proofs.lemmas.List.Sorted.{IsPermutation-trans, IsPermutation-append_right}
@@ -11,20 +11,22 @@ use Rattle.semantics.specs.Denotation.{Streams}
 use Rattle.semantics.specs.Runs.{runs}
 use Rattle.semantics.specs.Scalars.{Pr}
 use Rattle.scalar_expr.proofs.Bags.{permuted_to}
-use Rattle.automaton.specs.Flow.{entering, leaving}
-use Rattle.automaton.specs.Prefixes.{Prefix, Root, After}
+use Rattle.automaton.specs.Flow.{entering, flow, leaving}
+use Rattle.automaton.specs.Prefixes.{Prefix, Root, After, path}
 use Rattle.automaton.specs.Steps.{pass}
 use Rattle.automaton.specs.Waiting.{entered, waiting, waiting_in, waits}
 use Rattle.automaton.specs.Waits.{chosen}
 use Rattle.automaton.specs.declared.line.Hop.{Hop}
+use Rattle.automaton.specs.declared.step.Stage.{Stage}
 use Rattle.automaton.specs.declared.wait.Turn.{Turn}
+use Rattle.epoch_laws.specs.Births.{began_after, passing_after}
+use Rattle.epoch_laws.specs.BornLines.{BornLine}
 use Rattle.epoch_laws.specs.Epochs.{again, is_unmet, stepped, taken, took, unmatched_after}
-use Rattle.epoch_laws.specs.InstanceFlow.{each, flow_instances, waiting_behind, waiting_instances}
-use Rattle.epoch_laws.specs.Instances.{begins, bindings_of, instances_entering}
-use Rattle.epoch_laws.specs.Lines.{flow_now}
+use Rattle.epoch_laws.specs.InstanceFlow.{each, flow_instances, given_after, waiting_behind, waiting_instances}
+use Rattle.epoch_laws.specs.Instances.{bindings_of, instances_entering, pass_instance}
+use Rattle.epoch_laws.specs.Lines.{flow_now, given_now}
 use Rattle.epoch_laws.specs.Times.{ArePast, IsPast, before, during, streams_before, streams_during}
-use Rattle.epoch_laws.proofs.Bindings.{begins_bindings, took_bindings}
-use Rattle.epoch_laws.proofs.Each.{IsEach, Made, each_alike, each_begins, each_bindings, each_each, each_gives, each_keeps, each_kept, each_parts, each_passes, each_passing, each_same, each_took, each_twice}
+use Rattle.epoch_laws.proofs.Each.{IsEach, Made, each_after, each_alike, each_begins, each_bindings, each_each, each_gives, each_keeps, each_kept, each_parts, each_passes, each_passing, each_same, each_took, each_twice}
 use Rattle.epoch_laws.proofs.Flows.{flow_past, pass_cut, pass_past}
 use Rattle.epoch_laws.proofs.Folds.{sound_past}
 use Rattle.epoch_laws.proofs.InstanceFlows.{each_leaving, instances_flow}
@@ -46,18 +48,6 @@ each_waiting h env = each_twice (entering h) (waiting_in h.wait.choose h.wait.fo
 -- the tuples of the instances that wait are those that wait
 pub instances_wait : (env : Streams) (p : Prefix) (h : Hop) → bindings_of (waiting_instances env p h) ≡ waiting env p h
 instances_wait env p h = each_bindings (waiting_behind h env) (each_waiting h env) (flow_instances env p) ∙ ap (waiting_behind h env) (instances_flow env p)
-
--- what leaves a state in an epoch as instances
-abbrev pub flow_instances_now : Streams → Streams → Prefix → List Instance
-flow_instances_now now earlier (Root s) = map begins (now s)
-flow_instances_now now earlier (After p h) = took h.wait.choose h.wait.fold (now h.wait.stream) (waiting_instances earlier p h)
-
--- their tuples are those that leave it
-pub now_bindings : (now earlier : Streams) (p : Prefix) → bindings_of (flow_instances_now now earlier p) ≡ flow_now now earlier p
-now_bindings now earlier (Root s) = begins_bindings (now s)
-now_bindings now earlier (After p h) =
-    took_bindings h.wait.choose h.wait.fold (now h.wait.stream) (waiting_instances earlier p h)
-    ∙ ap (flat_map (taken h.wait.choose h.wait.fold (now h.wait.stream))) (instances_wait earlier p h)
 
 module _ (time : ℕ) (env : Streams) (past : ArePast time env) where
   abbrev now : Streams
@@ -136,7 +126,7 @@ module _ (time : ℕ) (env : Streams) (past : ArePast time env) where
         ∙ each_took choose turn new (waiting_instances early p h)
 
   -- what flows in the epoch comes from what waited before it
-  pub flow_gives : (p : Prefix) → each (during time) (flow_instances env p) ≡ flow_instances_now now early p
+  pub flow_gives : (p : Prefix) → each (during time) (flow_instances env p) ≡ flow_now now early p
   flow_gives (Root s) = each_begins (λ t. t.at == time) (env s)
   flow_gives (After p h) =
       each_each (leaving h env) (during time) (each_keeps (λ t. t.at == time)) (flow_instances env p)
@@ -146,7 +136,7 @@ module _ (time : ℕ) (env : Streams) (past : ArePast time env) where
 
   -- what waits after it
   pub state_keeps : (p : Prefix) (h : Hop)
-      → IsPermutation (waiting_instances env p h) (stepped h.wait.choose h.wait.fold (now h.wait.stream) (instances_entering h (flow_instances_now now early p)) (waiting_instances early p h))
+      → IsPermutation (waiting_instances env p h) (stepped h.wait.choose h.wait.fold (now h.wait.stream) (instances_entering h (flow_now now early p)) (waiting_instances early p h))
   state_keeps p h =
       IsPermutation-trans _ _ _
       (each_alike IsOld (waiting_behind h env) (λ ts. rest h ts ++ (comes h ts ++ back h ts))
@@ -163,12 +153,12 @@ module _ (time : ℕ) (env : Streams) (past : ArePast time env) where
           ∙ ap (each (filter (is_unmet (choose h) (new h)))) (stood_each h p)
           ∙ each_kept (is_unmet (choose h) (new h)) (waiting_instances early p h)
 
-      comes_is : each (comes h) (flow_instances env p) ≡ instances_entering h (flow_instances_now now early p)
+      comes_is : each (comes h) (flow_instances env p) ≡ instances_entering h (flow_now now early p)
       comes_is =
           each_same (λ _. Unit {0}) (λ ts. during time (entering h ts)) (λ ts. entering h (during time ts)) (λ i _. pass_cut (λ at. at == time) h.step (i.tuple ∷ [])) (flow_instances env p) (λ _ _ _. tt)
           ∙ sym (each_each (during time) (entering h) (each_passes (pass h.step)) (flow_instances env p))
           ∙ ap (each (entering h)) (flow_gives p)
-          ∙ each_passing h.step (flow_instances_now now early p)
+          ∙ each_passing h.step (flow_now now early p)
 
       back_is : each (back h) (flow_instances env p) ≡ again (turn h) (took (choose h) (turn h) (new h) (waiting_instances early p h))
       back_is = go (turn h) (took_each h p)
@@ -181,3 +171,25 @@ module _ (time : ℕ) (env : Streams) (past : ArePast time env) where
               → each (λ ts. again t (flat_map (taken (choose h) (turn h) (new h)) (stood h ts))) (flow_instances env p) ≡ again t (took (choose h) (turn h) (new h) (waiting_instances early p h))
           go None is = nothing (flow_instances env p)
           go (Some t) is = is
+
+  -- what is given in the epoch
+  passing_now : (step : List Stage) (birth : Option ℕ) (xs : List Instance) → during time (passing_after step birth xs) ≡ passing_after step birth (each (during time) xs)
+  passing_now step birth xs =
+      sym (each_bindings (during time) (each_keeps (λ t. t.at == time)) (began_after birth (filter_map (pass_instance step) xs)))
+      ∙ ap bindings_of (sym (each_after birth (during time) (filter_map (pass_instance step) xs)) ∙ ap (began_after birth) through)
+    where
+      through : each (during time) (filter_map (pass_instance step) xs) ≡ filter_map (pass_instance step) (each (during time) xs)
+      through =
+          ap (each (during time)) (sym (each_passing step xs))
+          ∙ each_each (filter_map (pass step)) (during time) (each_keeps (λ t. t.at == time)) xs
+          ∙ each_same (λ _. Unit {0}) (λ ts. during time (filter_map (pass step) ts)) (λ ts. filter_map (pass step) (during time ts)) (λ i _. pass_cut (λ at. at == time) step (i.tuple ∷ [])) xs (λ _ _ _. tt)
+          ∙ sym (each_each (during time) (filter_map (pass step)) (each_passes (pass step)) xs)
+          ∙ each_passing step (each (during time) xs)
+
+  -- what a line gives in the epoch after its birth
+  pub line_gives : (b : BornLine) → during time (given_after env b) ≡ given_now now early b
+  line_gives b = passing_now b.line.last b.birth (flow_instances env (path b.line)) ∙ ap (passing_after b.line.last b.birth) (flow_gives (path b.line))
+
+  -- what flows in the epoch without the times at which it began
+  pub flow_bindings : (p : Prefix) → bindings_of (flow_now now early p) ≡ during time (flow env p)
+  flow_bindings p = ap bindings_of (sym (flow_gives p)) ∙ each_bindings (during time) (each_keeps (λ t. t.at == time)) (flow_instances env p) ∙ ap (during time) (instances_flow env p)

@@ -7,6 +7,7 @@ use Rattle.std.proofs.lemmas.List.Folds.{flat_map-map}
 use Rattle.event_types.specs.Tuple.{TupleView}
 use Rattle.instances.specs.declared.instance.Instance.{Instance}
 use Rattle.semantics.specs.Denotation.{Streams, matches}
+use Rattle.semantics.specs.Programs.{with_stream}
 use Rattle.semantics.specs.Runs.{runs}
 use Rattle.semantics.specs.Scalars.{Pr}
 use Rattle.semantics.proofs.ListLemmas.{filter-map}
@@ -15,15 +16,17 @@ use Rattle.automaton.specs.Flow.{derived, entering, flow, given, leaving}
 use Rattle.automaton.specs.Prefixes.{Prefix, Root, After, path}
 use Rattle.automaton.specs.Steps.{pass}
 use Rattle.automaton.specs.Waits.{chosen}
+use Rattle.automaton.specs.Work.{completed}
 use Rattle.automaton.specs.declared.line.Hop.{Hop}
 use Rattle.automaton.specs.declared.line.Line.{Line}
 use Rattle.automaton.specs.declared.wait.Turn.{Turn}
 use Rattle.epoch_laws.specs.Births.{AreSound, began_after, is_after, streams_after}
-use Rattle.epoch_laws.specs.InstanceFlow.{BornLine, derived_after, each, flow_instances, given_after, unborn}
+use Rattle.epoch_laws.specs.BornLines.{BornLine, unborn}
+use Rattle.epoch_laws.specs.InstanceFlow.{completed_after, derived_after, each, flow_instances, given_after}
 use Rattle.epoch_laws.specs.Instances.{began, begins, bindings_of}
 use Rattle.epoch_laws.proofs.Bindings.{begins_bindings}
 use Rattle.epoch_laws.proofs.Births.{after_on, chosen_after, chosen_later}
-use Rattle.epoch_laws.proofs.Each.{IsEach, each_after, each_bindings, each_gives, each_passes, each_same, each_twice}
+use Rattle.epoch_laws.proofs.Each.{IsEach, each_after, each_bindings, each_gives, each_passes, each_passing, each_same, each_twice}
 use Rattle.epoch_laws.proofs.Flows.{Timed, pass_timed}
 use Rattle.epoch_laws.proofs.Lists.{All-flat_map, every}
 
@@ -101,9 +104,10 @@ module _ (env : Streams) (sound : AreSound env) where
         ∙ ap (each (leaving h (streams_after birth env))) (later_flow p)
 
   -- a line gives after its birth what it gives over the streams cut there
-  given_later : (b : BornLine) → given_after env b ≡ given (streams_after b.birth env) b.line
+  pub given_later : (b : BornLine) → given_after env b ≡ given (streams_after b.birth env) b.line
   given_later b =
-      ap bindings_of (each_after b.birth (filter_map (pass b.line.last)) (flow_instances env (path b.line)) ∙ ap (each (filter_map (pass b.line.last))) (later_flow b.birth (path b.line)))
+      ap (λ xs. bindings_of (began_after b.birth xs)) (sym (each_passing b.line.last (flow_instances env (path b.line))))
+      ∙ ap bindings_of (each_after b.birth (filter_map (pass b.line.last)) (flow_instances env (path b.line)) ∙ ap (each (filter_map (pass b.line.last))) (later_flow b.birth (path b.line)))
       ∙ each_bindings (filter_map (pass b.line.last)) (each_passes (pass b.line.last)) (flow_instances (streams_after b.birth env) (path b.line))
       ∙ ap (filter_map (pass b.line.last)) (instances_flow (streams_after b.birth env) (path b.line))
 
@@ -116,15 +120,22 @@ module _ (env : Streams) (sound : AreSound env) where
 -- without a birth a line gives what it gives
 given_unborn : (env : Streams) (l : Line) → given_after env (unborn l) ≡ given env l
 given_unborn env l =
-    ap bindings_of (filter_all (λ (i : Instance). is_after None i.first) (each (filter_map (pass l.last)) (flow_instances env (path l)))
+    ap (λ xs. bindings_of (began_after None xs)) (sym (each_passing l.last (flow_instances env (path l))))
+    ∙ ap bindings_of (filter_all (λ (i : Instance). is_after None i.first) (each (filter_map (pass l.last)) (flow_instances env (path l)))
     (every (λ (i : Instance). is_after None i.first ≡ true) (λ i. refl) (each (filter_map (pass l.last)) (flow_instances env (path l)))))
     ∙ each_bindings (filter_map (pass l.last)) (each_passes (pass l.last)) (flow_instances env (path l))
     ∙ ap (filter_map (pass l.last)) (instances_flow env (path l))
 
 -- and so do all lines of a stream
-pub unborn_lines : (lines : List Line) (env : Streams) (s : ℕ) → derived_after (map unborn lines) env s ≡ derived lines env s
-unborn_lines lines env s =
+unborn_derived : (lines : List Line) (env : Streams) (s : ℕ) → derived_after (map unborn lines) env s ≡ derived lines env s
+unborn_derived lines env s =
     ap (flat_map (given_after env)) (filter-map (λ b. b.line.out == s) unborn lines)
     ∙ flat_map-map (given_after env) unborn (filter (λ l. l.out == s) lines)
     ∙ flat_map_same (λ l. given_after env (unborn l)) (given env) (filter (λ l. l.out == s) lines)
     (every (λ l. given_after env (unborn l) ≡ given env l) (given_unborn env) (filter (λ l. l.out == s) lines))
+
+-- and the streams are those of the lines
+pub unborn_lines : (lines : List Line) (order : List ℕ) (env : Streams) → completed_after (map unborn lines) order env ≡ completed lines order env
+unborn_lines lines [] env = refl
+unborn_lines lines (s ∷ order) env =
+    ap (λ rows. completed_after (map unborn lines) order (with_stream env s rows)) (unborn_derived lines env s) ∙ unborn_lines lines order (with_stream env s (derived lines env s))

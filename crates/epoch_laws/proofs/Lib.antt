@@ -2,6 +2,7 @@ pub mod Bags
 pub mod Batches
 pub mod Bindings
 pub mod Births
+pub mod Completed
 pub mod Cuts
 pub mod Each
 pub mod Events

@@ -2,7 +2,7 @@
 use Rattle.std.proofs.Common.{◌≡◌, ◌∙◌, sym, ap, refl, subst, ℕ, ◌≤◌, ◌==◌, Bool, true, false, length, List, [], ◌∷◌, ◌++◌, map}
 use Rattle.std.specs.Prelude.{Option, Some, None, is_some}
 use Rattle.std.specs.Option.{option_and_then, option_map, unwrap_or}
-use Rattle.std.specs.List.{All, filter, filter_map, flat_map, range_with_len}
+use Rattle.std.specs.List.{All, filter, flat_map, range_with_len}
 use Rattle.std.specs.List.Sorted.{IsPermutation}
 use Rattle.std.proofs.lemmas.List.Elements.{All-nil, All-cons, All-head, All-tail, All-weaker}
 use Rattle.std.proofs.lemmas.List.Folds.{flat_map-map}
@@ -14,26 +14,27 @@ use Rattle.semantics.specs.Denotation.{Streams}
 use Rattle.semantics.specs.Scalars.{Pr}
 use Rattle.semantics.proofs.ListLemmas.{filter-map}
 use Rattle.scalar_expr.proofs.Bags.{filter_permuted, flat_map_permuted, permuted_from, permuted_to}
-use Rattle.automaton.specs.NetworkLines.{Ending, HasLines, endings_by, ending_at}
+use Rattle.automaton.specs.NetworkLines.{endings_by, ending_at}
 use Rattle.automaton.specs.Networks.{IsAt}
-use Rattle.automaton.specs.Prefixes.{Prefix, Root, After, extended, hops_of, path, root_of}
+use Rattle.automaton.specs.Prefixes.{Prefix, Root, After, extended, hops_of, root_of}
 use Rattle.automaton.specs.States.{Net, ends_at, entrance_at, root_by, state_at}
-use Rattle.automaton.specs.Steps.{pass}
 use Rattle.automaton.specs.Work.{ReadsNone, is_in}
 use Rattle.automaton.specs.declared.line.Hop.{Hop}
 use Rattle.automaton.specs.declared.line.Line.{Line}
 use Rattle.automaton.specs.declared.network.End.{End}
+use Rattle.automaton.specs.declared.step.Stage.{Stage}
 use Rattle.automaton.specs.declared.network.Entrance.{Entrance}
 use Rattle.automaton.specs.declared.network.Entrance.TheVariants as entrance
 use Rattle.automaton.specs.declared.network.State.{State}
-use Rattle.epoch_laws.specs.Closing.{Stores, leaving_state, leaving_by, given_by_ends, given_by_ends_at, stepped_by, stores_after}
+use Rattle.epoch_laws.specs.Births.{is_after, passing_after}
+use Rattle.epoch_laws.specs.BornLines.{BornLine, HasBornLines, born_by}
+use Rattle.epoch_laws.specs.Closing.{Stores, leaving_state, leaving_by, given_by_end, given_by_ends, given_by_ends_at, stepped_by, stores_after}
 use Rattle.epoch_laws.specs.Epochs.{stepped}
 use Rattle.epoch_laws.specs.InstanceFlow.{waiting_instances}
-use Rattle.epoch_laws.specs.Instances.{begins, bindings_of, instances_entering, pass_instance}
-use Rattle.epoch_laws.specs.Lines.{flow_now}
+use Rattle.epoch_laws.specs.Instances.{begins, instances_entering, pass_instance}
+use Rattle.epoch_laws.specs.Lines.{flow_now, given_now}
 use Rattle.epoch_laws.specs.Stores.{Purged}
 use Rattle.epoch_laws.proofs.Bags.{filter_map_permuted, flat_map_alike, permuted_is}
-use Rattle.epoch_laws.proofs.InstanceEpochs.{flow_instances_now, now_bindings}
 use Rattle.epoch_laws.proofs.Lists.{All_last, every, filter-flat_map, flat_map-flat_map, map-flat_map, map_all}
 use Rattle.epoch_laws.proofs.Purges.{IsStored, between_holds, store_gives, store_keeps}
 use Rattle.semantics.proofs.ReportLemmas.{flat_map_same}
@@ -72,8 +73,12 @@ module _ {X Y : Type 0} (Q : Y → Type 0) where
   flat_all f [] all = All-nil (λ x. All Q (f x))
   flat_all f (x ∷ xs) all = All-cons (λ x. All Q (f x)) x xs (front Q (f x) (flat_map f xs) all) (flat_all f xs (back Q (f x) (flat_map f xs) all))
 
+-- the same with the birth of the end
+abbrev pub born_at : Prefix → End → BornLine
+born_at p e = born_by (ending_at p e)
+
 -- what holds of the lines of a network holds of the line of each end
-module _ (net : Net) (lines : List Line) (has : HasLines net lines) where
+module _ (net : Net) (lines : List BornLine) (has : HasBornLines net lines) where
   -- the prefix of each state
   abbrev pub places : ℕ → Prefix
   places = has.1.places
@@ -87,38 +92,43 @@ module _ (net : Net) (lines : List Line) (has : HasLines net lines) where
   numbers = range_with_len 0 (length net)
 
   -- the lines of a stream, state by state
-  abbrev pub by_state : ℕ → List Line
-  by_state s = flat_map (λ n. map (line_at (places n)) (ends_of s n)) numbers
+  abbrev pub by_state : ℕ → List BornLine
+  by_state s = flat_map (λ n. map (born_at (places n)) (ends_of s n)) numbers
 
-  by_state_is : (s : ℕ) → filter (λ l. l.out == s) (map (λ e. e.line) (endings_by places net)) ≡ by_state s
+  by_state_is : (s : ℕ) → filter (λ (b : BornLine). b.line.out == s) (map born_by (endings_by places net)) ≡ by_state s
   by_state_is s =
-      ap (filter (λ l. l.out == s)) (map-flat_map (λ (e : Ending). e.line) (λ n. map (ending_at (places n)) (ends_at net n)) numbers)
-      ∙ filter-flat_map (λ l. l.out == s) (λ n. map (λ (e : Ending). e.line) (map (ending_at (places n)) (ends_at net n))) numbers
-      ∙ flat_map_same (λ n. filter (λ l. l.out == s) (map (λ (e : Ending). e.line) (map (ending_at (places n)) (ends_at net n)))) (λ n. map (line_at (places n)) (ends_of s n)) numbers
-      (every (λ n. filter (λ l. l.out == s) (map (λ (e : Ending). e.line) (map (ending_at (places n)) (ends_at net n))) ≡ map (line_at (places n)) (ends_of s n)) one numbers)
+      ap (filter (λ (b : BornLine). b.line.out == s)) (map-flat_map born_by (λ n. map (ending_at (places n)) (ends_at net n)) numbers)
+      ∙ filter-flat_map (λ (b : BornLine). b.line.out == s) (λ n. map born_by (map (ending_at (places n)) (ends_at net n))) numbers
+      ∙ flat_map_same (λ n. filter (λ (b : BornLine). b.line.out == s) (map born_by (map (ending_at (places n)) (ends_at net n)))) (λ n. map (born_at (places n)) (ends_of s n)) numbers
+      (every (λ n. filter (λ (b : BornLine). b.line.out == s) (map born_by (map (ending_at (places n)) (ends_at net n))) ≡ map (born_at (places n)) (ends_of s n)) one numbers)
     where
-      one : (n : ℕ) → filter (λ l. l.out == s) (map (λ (e : Ending). e.line) (map (ending_at (places n)) (ends_at net n))) ≡ map (line_at (places n)) (ends_of s n)
-      one n = ap (filter (λ l. l.out == s)) (map-map (λ (e : Ending). e.line) (ending_at (places n)) (ends_at net n)) ∙ filter-map (λ l. l.out == s) (line_at (places n)) (ends_at net n)
+      one : (n : ℕ) → filter (λ (b : BornLine). b.line.out == s) (map born_by (map (ending_at (places n)) (ends_at net n))) ≡ map (born_at (places n)) (ends_of s n)
+      one n = ap (filter (λ (b : BornLine). b.line.out == s)) (map-map born_by (ending_at (places n)) (ends_at net n)) ∙ filter-map (λ (b : BornLine). b.line.out == s) (born_at (places n)) (ends_at net n)
 
   -- the lines of a stream are those of the ends at each state
-  pub lines_by_state : (s : ℕ) → IsPermutation (filter (λ l. l.out == s) lines) (by_state s)
+  pub lines_by_state : (s : ℕ) → IsPermutation (filter (λ (b : BornLine). b.line.out == s) lines) (by_state s)
   lines_by_state s =
-      permuted_from (ap (filter (λ l. l.out == s)) (sym has.2))
-      (permuted_to (filter_permuted (λ l. l.out == s) _ _ (IsPermutation-map (λ (e : Ending). e.line) _ _ (IsPermutation-sym _ _ has.1.same))) (by_state_is s))
+      permuted_from (ap (filter (λ (b : BornLine). b.line.out == s)) (sym has.2))
+      (permuted_to (filter_permuted (λ (b : BornLine). b.line.out == s) _ _ (IsPermutation-map born_by _ _ (IsPermutation-sym _ _ has.1.same))) (by_state_is s))
 
   -- what holds of the lines of a stream holds of each end
-  pub each_end : (Q : Line → Type 0) (s : ℕ) → All Q (filter (λ l. l.out == s) lines) → All (λ n. All (λ e. Q (line_at (places n) e)) (ends_of s n)) numbers
+  pub each_end : (Q : BornLine → Type 0) (s : ℕ) → All Q (filter (λ (b : BornLine). b.line.out == s) lines) → All (λ n. All (λ e. Q (born_at (places n) e)) (ends_of s n)) numbers
   each_end Q s all =
-      All-weaker (λ n. All Q (map (line_at (places n)) (ends_of s n))) (λ n. All (λ e. Q (line_at (places n) e)) (ends_of s n)) (λ n h. map_all Q (line_at (places n)) (ends_of s n) h) numbers
-      (flat_all Q (λ n. map (line_at (places n)) (ends_of s n)) numbers (All-permutation Q _ _ (lines_by_state s) all))
+      All-weaker (λ n. All Q (map (born_at (places n)) (ends_of s n))) (λ n. All (λ e. Q (born_at (places n) e)) (ends_of s n)) (λ n h. map_all Q (born_at (places n)) (ends_of s n) h) numbers
+      (flat_all Q (λ n. map (born_at (places n)) (ends_of s n)) numbers (All-permutation Q _ _ (lines_by_state s) all))
 
   -- what all lines of a stream give, end by end
-  pub flat_ends : {Y : Type 0} (f : Line → List Y) (s : ℕ) → IsPermutation (flat_map f (filter (λ l. l.out == s) lines)) (flat_map (λ n. flat_map (λ e. f (line_at (places n) e)) (ends_of s n)) numbers)
+  pub flat_ends : {Y : Type 0} (f : BornLine → List Y) (s : ℕ) → IsPermutation (flat_map f (filter (λ (b : BornLine). b.line.out == s) lines)) (flat_map (λ n. flat_map (λ e. f (born_at (places n) e)) (ends_of s n)) numbers)
   flat_ends f s =
       permuted_to (flat_map_permuted f _ _ (lines_by_state s))
-      (flat_map-flat_map f (λ n. map (line_at (places n)) (ends_of s n)) numbers
-      ∙ flat_map_same (λ n. flat_map f (map (line_at (places n)) (ends_of s n))) (λ n. flat_map (λ e. f (line_at (places n) e)) (ends_of s n)) numbers
-      (every (λ n. flat_map f (map (line_at (places n)) (ends_of s n)) ≡ flat_map (λ e. f (line_at (places n) e)) (ends_of s n)) (λ n. flat_map-map f (line_at (places n)) (ends_of s n)) numbers))
+      (flat_map-flat_map f (λ n. map (born_at (places n)) (ends_of s n)) numbers
+      ∙ flat_map_same (λ n. flat_map f (map (born_at (places n)) (ends_of s n))) (λ n. flat_map (λ e. f (born_at (places n) e)) (ends_of s n)) numbers
+      (every (λ n. flat_map f (map (born_at (places n)) (ends_of s n)) ≡ flat_map (λ e. f (born_at (places n) e)) (ends_of s n)) (λ n. flat_map-map f (born_at (places n)) (ends_of s n)) numbers))
+
+-- what instances give through a step after a birth doesn't depend on their order
+pub passing_permuted : (step : List Stage) (birth : Option ℕ) (xs ys : List Instance) → IsPermutation xs ys → IsPermutation (passing_after step birth xs) (passing_after step birth ys)
+passing_permuted step birth xs ys h =
+    IsPermutation-map (λ (i : Instance). i.tuple) _ _ (filter_permuted (λ (i : Instance). is_after birth i.first) _ _ (filter_map_permuted (pass_instance step) xs ys h))
 
 -- what leaves one state
 pub root_leaves : (o : Option Entrance) (s : ℕ) (news : Streams) (store : List Instance) → option_and_then root_by o ≡ Some s → leaving_by o news store ≡ map begins (news s)
@@ -140,17 +150,12 @@ module _ (net : Net) (now : ℕ) (stores : Stores) (news exact earlier : Streams
   Knows (After p h) = IsPermutation (news h.wait.stream) (exact h.wait.stream)
 
   -- what leaves a state is what comes through its prefix
-  pub leaves_instances : (number : ℕ) (p : Prefix) → IsAt net number p → Knows p → IsPermutation (leaving_state net news stores number) (flow_instances_now exact earlier p)
+  pub leaves_instances : (number : ℕ) (p : Prefix) → IsAt net number p → Knows p → IsPermutation (leaving_state net news stores number) (flow_now exact earlier p)
   leaves_instances number (Root s) at known = permuted_from (root_leaves (entrance_at net number) s news (stores number) at) (IsPermutation-map begins (news s) (exact s) known)
   leaves_instances number (After p h) at known =
       permuted_from (ap (λ o. leaving_by o news (stores number)) at.1)
       (store_gives now h.wait.choose h.wait.fold (exact h.wait.stream) (news h.wait.stream) (stores number) (waiting_instances earlier p h) (late h.wait.stream) known
       (is_stored now h.wait.choose (stores number) (waiting_instances earlier p h) (holds number p h at)))
-
-  -- and so are its tuples
-  pub leaves_alike : (number : ℕ) (p : Prefix) → IsAt net number p → Knows p → IsPermutation (bindings_of (leaving_state net news stores number)) (flow_now exact earlier p)
-  leaves_alike number p at known =
-      permuted_to (IsPermutation-map (λ (i : Instance). i.tuple) (leaving_state net news stores number) (flow_instances_now exact earlier p) (leaves_instances number p at known)) (now_bindings exact earlier p)
 
   -- a line that reads none of some streams, where all others are known
   knows_of : (order : List ℕ) → ((t : ℕ) → is_in order t ≡ false → IsPermutation (news t) (exact t)) → (p : Prefix) (e : End) → ReadsNone order (line_at p e) → Knows p
@@ -158,41 +163,44 @@ module _ (net : Net) (now : ℕ) (stores : Stores) (news exact earlier : Streams
   knows_of order known (After p h) e reads = known h.wait.stream (All_last (λ h. is_in order h.wait.stream ≡ false) (hops_of p) h reads.hops)
 
   -- what the ends of a stream give
-  pub published_alike : (lines : List Line) (has : HasLines net lines) (s : ℕ) (order : List ℕ) → All (ReadsNone order) (filter (λ l. l.out == s) lines)
+  pub published_alike : (lines : List BornLine) (has : HasBornLines net lines) (s : ℕ) (order : List ℕ) → All (λ (b : BornLine). ReadsNone order b.line) (filter (λ (b : BornLine). b.line.out == s) lines)
       → ((t : ℕ) → is_in order t ≡ false → IsPermutation (news t) (exact t))
-      → IsPermutation (given_by_ends net news stores s) (flat_map (λ l. filter_map (pass l.last) (flow_now exact earlier (path l))) (filter (λ l. l.out == s) lines))
+      → IsPermutation (given_by_ends net news stores s) (flat_map (given_now exact earlier) (filter (λ (b : BornLine). b.line.out == s) lines))
   published_alike lines has s order reads known =
       IsPermutation-trans _ _ _
-      (flat_map_alike (given_by_ends_at net news stores s) (λ n. flat_map (λ e. f (line_at (places net lines has n) e)) (ends_of net lines has s n)) (numbers net lines has)
-      (All-weaker (λ n. All (λ e. ReadsNone order (line_at (places net lines has n) e)) (ends_of net lines has s n)) (λ n. IsPermutation (given_by_ends_at net news stores s n) (flat_map (λ e. f (line_at (places net lines has n) e)) (ends_of net lines has s n)))
-      (λ n all. at_state n all (is_some (state_at net n)) refl) (numbers net lines has) (each_end net lines has (ReadsNone order) s reads)))
+      (flat_map_alike (given_by_ends_at net news stores s) (λ n. flat_map (λ e. f (born_at (places net lines has n) e)) (ends_of net lines has s n)) (numbers net lines has)
+      (All-weaker (λ n. All (λ e. ReadsNone order (line_at (places net lines has n) e)) (ends_of net lines has s n)) (λ n. IsPermutation (given_by_ends_at net news stores s n) (flat_map (λ e. f (born_at (places net lines has n) e)) (ends_of net lines has s n)))
+      (λ n all. at_state n all (is_some (state_at net n)) refl) (numbers net lines has) (each_end net lines has (λ (b : BornLine). ReadsNone order b.line) s reads)))
       (IsPermutation-sym _ _ (flat_ends net lines has f s))
     where
-      f : Line → List TupleView
-      f l = filter_map (pass l.last) (flow_now exact earlier (path l))
+      f : BornLine → List TupleView
+      f b = given_now exact earlier b
+
+      given : ℕ → End → List TupleView
+      given n e = given_by_end (leaving_state net news stores n) e
 
       at_state : (n : ℕ) → All (λ e. ReadsNone order (line_at (places net lines has n) e)) (ends_of net lines has s n) → (used : Bool) → is_some (state_at net n) ≡ used
-          → IsPermutation (given_by_ends_at net news stores s n) (flat_map (λ e. f (line_at (places net lines has n) e)) (ends_of net lines has s n))
+          → IsPermutation (given_by_ends_at net news stores s n) (flat_map (λ e. f (born_at (places net lines has n) e)) (ends_of net lines has s n))
       at_state n all true is =
-          flat_map_alike (λ e. filter_map (pass e.step) (bindings_of (leaving_state net news stores n))) (λ e. f (line_at (places net lines has n) e)) (ends_of net lines has s n)
-          (All-weaker (λ e. ReadsNone order (line_at (places net lines has n) e)) (λ e. IsPermutation (filter_map (pass e.step) (bindings_of (leaving_state net news stores n))) (f (line_at (places net lines has n) e))) one (ends_of net lines has s n) all)
+          flat_map_alike (given n) (λ e. f (born_at (places net lines has n) e)) (ends_of net lines has s n)
+          (All-weaker (λ e. ReadsNone order (line_at (places net lines has n) e)) (λ e. IsPermutation (given n e) (f (born_at (places net lines has n) e))) one (ends_of net lines has s n) all)
         where
-          one : (e : End) → ReadsNone order (line_at (places net lines has n) e) → IsPermutation (filter_map (pass e.step) (bindings_of (leaving_state net news stores n))) (f (line_at (places net lines has n) e))
+          one : (e : End) → ReadsNone order (line_at (places net lines has n) e) → IsPermutation (given n e) (f (born_at (places net lines has n) e))
           one e reads =
-              filter_map_permuted (pass e.step) _ _
-              (permuted_to (leaves_alike n (places net lines has n) (has.1.are_places n is) (knows_of order known (places net lines has n) e reads))
+              passing_permuted e.step e.birth _ _
+              (permuted_to (leaves_instances n (places net lines has n) (has.1.are_places n is) (knows_of order known (places net lines has n) e reads))
               (ap (flow_now exact earlier) (sym (path_back (places net lines has n)))))
       at_state n all false is =
-          permuted_is (ap (λ es. flat_map (λ e. filter_map (pass e.step) (bindings_of (leaving_state net news stores n))) (filter (λ e. e.out == s) es)) (no_ends (state_at net n) is)
-          ∙ sym (ap (λ es. flat_map (λ e. f (line_at (places net lines has n) e)) (filter (λ e. e.out == s) es)) (no_ends (state_at net n) is)))
+          permuted_is (ap (λ es. flat_map (given n) (filter (λ e. e.out == s) es)) (no_ends (state_at net n) is)
+          ∙ sym (ap (λ es. flat_map (λ e. f (born_at (places net lines has n) e)) (filter (λ e. e.out == s) es)) (no_ends (state_at net n) is)))
 
   -- the store of a waiting state after the epoch
   pub stores_keep : (later : ℕ) → now ≤ later → ((s : ℕ) → IsPermutation (news s) (exact s)) → (number : ℕ) (p : Prefix) (h : Hop) → IsAt net number (After p h)
-      → (after : List Instance) → IsPermutation after (stepped h.wait.choose h.wait.fold (exact h.wait.stream) (instances_entering h (flow_instances_now exact earlier p)) (waiting_instances earlier p h))
+      → (after : List Instance) → IsPermutation after (stepped h.wait.choose h.wait.fold (exact h.wait.stream) (instances_entering h (flow_now exact earlier p)) (waiting_instances earlier p h))
       → IsStored later h.wait.choose (stores_after net news stores number) after
   stores_keep later le known number p h at after is =
       subst (λ xs. IsStored later h.wait.choose xs after) (sym (ap (λ o. stepped_by o news (leaving_state net news stores) (stores number)) at.1))
-      (store_keeps now h.wait.choose h.wait.fold later (exact h.wait.stream) (news h.wait.stream) (instances_entering h (flow_instances_now exact earlier p)) (instances_entering h (leaving_state net news stores at.0)) (stores number) (waiting_instances earlier p h) after
+      (store_keeps now h.wait.choose h.wait.fold later (exact h.wait.stream) (news h.wait.stream) (instances_entering h (flow_now exact earlier p)) (instances_entering h (leaving_state net news stores at.0)) (stores number) (waiting_instances earlier p h) after
       le (late h.wait.stream) (known h.wait.stream)
       (filter_map_permuted (pass_instance h.step) _ _ (leaves_instances at.0 p at.2 (all_known p)))
       (is_stored now h.wait.choose (stores number) (waiting_instances earlier p h) (holds number p h at)) is)

@@ -25,7 +25,7 @@ use Rattle.automaton.specs.Prefixes.{Prefix, After}
 use Rattle.automaton.specs.States.{Net}
 use Rattle.automaton.specs.Waiting.{waiting}
 use Rattle.automaton.specs.declared.line.Hop.{Hop}
-use Rattle.automaton.specs.declared.line.Line.{Line}
+use Rattle.epoch_laws.specs.BornLines.{BornLine}
 use Rattle.epoch_laws.specs.Batch.{Agree}
 use Rattle.epoch_laws.specs.Closing.{ArePurged, IsEpoch, Stores, leaving_state, stores_after}
 use Rattle.epoch_laws.specs.Histories.{events_before, events_during, streams_over}
@@ -153,7 +153,7 @@ during_more history event =
     ∙ ap (λ b. events_during event.tuple.at history ++ cond b (event ∷ []) []) (now_now event.tuple.at event.tuple.at refl)
 
 -- at the start the stores stand for no events
-pub start_stands : (net : Net) (lines : List Line) (order : List ℕ) → PartsStandFor net lines order (λ _. []) None (λ _. []) None []
+pub start_stands : (net : Net) (lines : List BornLine) (order : List ℕ) → PartsStandFor net lines order (λ _. []) None (λ _. []) None []
 start_stands net lines order = record {
   sound = All-nil (λ e. IsSound e.tuple);
   never_falls = tt;
@@ -164,7 +164,7 @@ start_stands net lines order = record {
 }
 
 -- an offer
-module _ (net : Net) (lines : List Line) (order : List ℕ) (stores : Stores) (tuples more : Streams) (closed_time : Option ℕ) (history : List Event) (event : Event)
+module _ (net : Net) (lines : List BornLine) (order : List ℕ) (stores : Stores) (tuples more : Streams) (closed_time : Option ℕ) (history : List Event) (event : Event)
     (sound : IsSound event.tuple) (added : (s : ℕ) → IsPermutation (more s) (tuples s ++ heard_on (event ∷ []) s)) where
   grown : (open_time : Option ℕ) → PartsStandFor net lines order stores open_time tuples closed_time history → All (λ e. e.tuple.at ≤ event.tuple.at) history
       → closed_part (Some event.tuple.at) (history ++ event ∷ []) ≡ closed_part open_time history
@@ -199,7 +199,7 @@ module _ (net : Net) (lines : List Line) (order : List ℕ) (stores : Stores) (t
       earlier at h = omega (arith, follows)
 
 -- a closing
-module _ (net : Net) (lines : List Line) (order : List ℕ) (stores : Stores) (time : ℕ) (tuples news : Streams) (closed_time : Option ℕ) (history : List Event)
+module _ (net : Net) (lines : List BornLine) (order : List ℕ) (stores : Stores) (time : ℕ) (tuples news : Streams) (closed_time : Option ℕ) (history : List Event)
     (serves : Serves net lines order) (stands : PartsStandFor net lines order stores (Some time) tuples closed_time history) (epoch : IsEpoch net order stores tuples news) where
   past_and_now : events_before time history ++ events_during time history ≡ history
   past_and_now = parts_are history time stands.never_falls (by_last history time stands.never_falls stands.open_is_last)
@@ -252,7 +252,7 @@ module _ (net : Net) (lines : List Line) (order : List ℕ) (stores : Stores) (t
       ∙ ap (λ (h : List Event). results program h stream time) past_and_now
 
 -- a purge
-pub purge_stands : (net : Net) (lines : List Line) (order : List ℕ) (stores kept : Stores) (open_time : Option ℕ) (tuples : Streams) (closed_time : Option ℕ) (history : List Event)
+pub purge_stands : (net : Net) (lines : List BornLine) (order : List ℕ) (stores kept : Stores) (open_time : Option ℕ) (tuples : Streams) (closed_time : Option ℕ) (history : List Event)
     → PartsStandFor net lines order stores open_time tuples closed_time history → ArePurged (next_time closed_time) net stores kept → PartsStandFor net lines order kept open_time tuples closed_time history
 purge_stands net lines order stores kept open_time tuples closed_time history stands purged = record {
   sound = stands.sound;
@@ -264,7 +264,7 @@ purge_stands net lines order stores kept open_time tuples closed_time history st
 }
 
 -- what a purge leaves is what is alive
-pub trimmed_is_alive : (net : Net) (lines : List Line) (order : List ℕ) (stores : Stores) (open_time : Option ℕ) (tuples : Streams) (closed_time : Option ℕ) (history : List Event)
+pub trimmed_is_alive : (net : Net) (lines : List BornLine) (order : List ℕ) (stores : Stores) (open_time : Option ℕ) (tuples : Streams) (closed_time : Option ℕ) (history : List Event)
     → PartsStandFor net lines order stores open_time tuples closed_time history → (number : ℕ) (p : Prefix) (h : Hop) → IsAt net number (After p h)
     → IsPermutation (bindings_of (alive_instances (next_time closed_time) h.wait.choose (stores number))) (alive (next_time closed_time) h.wait.choose (waiting (streams_over lines order (closed_part open_time history)) p h))
 trimmed_is_alive net lines order stores open_time tuples closed_time history stands number p h at =

@@ -1,13 +1,13 @@
 -- Stores that stand for a history go on standing for it.
 use Rattle.std.proofs.Common.{◌≡◌, ◌∙◌, sym, ap, refl, subst, ℕ, ◌+◌, ◌<◌, ◌≤◌, ◌==◌, Bool, true, false, not, ◌||◌, nat_lt, List, [], ◌∷◌, ◌++◌, append-nil, arith}
 use Rattle.std.specs.Option.{option_and_then}
-use Rattle.std.specs.List.{All, filter, filter_map, flat_map}
+use Rattle.std.specs.List.{All, filter, flat_map}
 use Rattle.std.specs.List.Sorted.{IsPermutation}
 use Rattle.std.proofs.lemmas.Bool.{eqb-true}
 use Rattle.std.proofs.lemmas.Bool.Decides.{nat_tests}
 use Rattle.std.proofs.lemmas.List.Elements.{filter-append, All-nil, All-append, All-head, All-tail, All-weaker}
-use Rattle.std.proofs.lemmas.List.Sorted.{IsPermutation-refl, IsPermutation-sym, IsPermutation-trans, IsPermutation-filter_both}
-use Rattle.event_types.specs.Tuple.{TupleView, IsSound}
+use Rattle.std.proofs.lemmas.List.Sorted.{IsPermutation-refl, IsPermutation-sym, IsPermutation-trans, IsPermutation-map, IsPermutation-filter_both}
+use Rattle.event_types.specs.Tuple.{IsSound}
 use Rattle.instances.specs.Bounds.{alive_instances}
 use Rattle.instances.specs.declared.instance.Instance.{Instance}
 use Rattle.semantics.specs.Denotation.{Streams}
@@ -17,31 +17,29 @@ use Rattle.semantics.proofs.ListLemmas.{filter-map}
 use Rattle.semantics.proofs.ReportLemmas.{filter_all, flat_map_same}
 use Rattle.instances.specs.Alive.{alive, is_alive}
 use Rattle.scalar_expr.proofs.Bags.{permuted_from, permuted_to}
-use Rattle.automaton.specs.Flow.{derived, flow, given}
+use Rattle.automaton.specs.Flow.{flow}
 use Rattle.automaton.specs.Networks.{IsAt}
-use Rattle.automaton.specs.Prefixes.{Prefix, Root, After, path}
+use Rattle.automaton.specs.Prefixes.{Prefix, Root, After}
 use Rattle.automaton.specs.States.{Net, wait_by}
-use Rattle.automaton.specs.Steps.{pass}
 use Rattle.automaton.specs.Waiting.{waiting}
-use Rattle.automaton.specs.Work.{IsInOrder, is_in}
+use Rattle.automaton.specs.Work.{IsInOrder, ReadsNone, is_in}
 use Rattle.automaton.specs.declared.line.Hop.{Hop}
-use Rattle.automaton.specs.declared.line.Line.{Line}
-use Rattle.automaton.proofs.WorkLemmas.{completed_other, streams_derived}
+use Rattle.epoch_laws.specs.BornLines.{BornLine, lines_in}
 use Rattle.epoch_laws.specs.Closing.{ArePurged, IsEpoch, Stores, given_by_ends, leaving_state, stores_after}
 use Rattle.epoch_laws.specs.Histories.{events_before, events_during, streams_over}
-use Rattle.epoch_laws.specs.InstanceFlow.{waiting_instances}
+use Rattle.epoch_laws.specs.InstanceFlow.{derived_after, given_after, waiting_instances}
 use Rattle.epoch_laws.specs.Instances.{bindings_of}
-use Rattle.epoch_laws.specs.Lines.{flow_now}
+use Rattle.epoch_laws.specs.Lines.{given_now}
 use Rattle.epoch_laws.specs.StoresStandFor.{Serves, StoresStandFor}
 use Rattle.epoch_laws.specs.Stores.{IsWithin, Purged}
 use Rattle.epoch_laws.specs.Times.{ArePast, during, IsPast, streams_before, streams_during}
 use Rattle.epoch_laws.proofs.Bags.{map_within, within_permuted, within_through}
+use Rattle.epoch_laws.proofs.Completed.{completed_other, of_lines, streams_derived}
 use Rattle.epoch_laws.proofs.Each.{no_bindings}
-use Rattle.epoch_laws.proofs.Flows.{flow_gives, line_gives}
 use Rattle.epoch_laws.proofs.Folds.{during_at}
-use Rattle.epoch_laws.proofs.InstanceEpochs.{instances_wait, state_keeps}
+use Rattle.epoch_laws.proofs.InstanceEpochs.{flow_bindings, instances_wait, line_gives, state_keeps}
 use Rattle.epoch_laws.proofs.Lists.{every, filter-flat_map, filter_false}
-use Rattle.epoch_laws.proofs.Networks.{leaves_alike, published_alike, stores_keep}
+use Rattle.epoch_laws.proofs.Networks.{Knows, leaves_instances, published_alike, stores_keep}
 use Rattle.epoch_laws.proofs.Purges.{IsStored, between_holds, holds_between}
 use Rattle.epoch_laws.proofs.Streams.{heard_now, over_before, over_past, start_waits}
 
@@ -73,7 +71,7 @@ purged_all net now stores kept env holds purged number p h at =
     purged_twice now h.wait.choose (waiting_instances env p h) (stores number) (kept number) (holds number p h at) (purged number h.wait (ap (option_and_then wait_by) at.1))
 
 -- one epoch of a history
-module _ (net : Net) (lines : List Line) (order : List ℕ) (h : List Event) (time now : ℕ) (stores : Stores) (news : Streams)
+module _ (net : Net) (lines : List BornLine) (order : List ℕ) (h : List Event) (time now : ℕ) (stores : Stores) (news : Streams)
     (serves : Serves net lines order) (past : All (λ e. IsPast time e.tuple) h) (le : now ≤ time)
     (holds : AllHold net now stores (streams_over lines order (events_before time h)))
     (epoch : IsEpoch net order stores (heard_on (events_during time h)) news) where
@@ -99,29 +97,25 @@ module _ (net : Net) (lines : List Line) (order : List ℕ) (h : List Event) (ti
   holds_earlier : AllHold net now stores earlier
   holds_earlier = subst (λ (env : Streams). AllHold net now stores env) (sym (over_before time lines order h past)) holds
 
-  f : Line → List TupleView
-  f l = filter_map (pass l.last) (flow_now exact earlier (path l))
-
   -- a derived stream has in the epoch what its lines give
-  exact_is : (s : ℕ) → full s ≡ derived lines full s → exact s ≡ flat_map f (filter (λ l. l.out == s) lines)
-  unfolding f
+  exact_is : (s : ℕ) → full s ≡ derived_after lines full s → exact s ≡ flat_map (given_now exact earlier) (filter (λ (b : BornLine). b.line.out == s) lines)
   exact_is s e =
       ap (during time) e
-      ∙ filter-flat_map (λ r. r.at == time) (given full) (filter (λ l. l.out == s) lines)
-      ∙ flat_map_same (λ l. during time (given full l)) f (filter (λ l. l.out == s) lines) (every (λ l. during time (given full l) ≡ f l) (line_gives time full full_past) (filter (λ l. l.out == s) lines))
+      ∙ filter-flat_map (λ r. r.at == time) (given_after full) (filter (λ (b : BornLine). b.line.out == s) lines)
+      ∙ flat_map_same (λ b. during time (given_after full b)) (given_now exact earlier) (filter (λ (b : BornLine). b.line.out == s) lines)
+      (every (λ b. during time (given_after full b) ≡ given_now exact earlier b) (line_gives time full full_past) (filter (λ (b : BornLine). b.line.out == s) lines))
 
-  news_alike : (rest : List ℕ) → IsInOrder lines rest → All (λ s. IsPermutation (news s) (given_by_ends net news stores s)) rest → All (λ s. full s ≡ derived lines full s) rest
+  news_alike : (rest : List ℕ) → IsInOrder (lines_in lines) rest → All (λ s. IsPermutation (news s) (given_by_ends net news stores s)) rest → All (λ s. full s ≡ derived_after lines full s) rest
       → ((t : ℕ) → is_in rest t ≡ false → IsPermutation (news t) (exact t)) → (t : ℕ) → IsPermutation (news t) (exact t)
-  unfolding f
   news_alike [] ordered published_all made known t = known t refl
   news_alike (s ∷ rest) ordered published_all made known t =
-      news_alike rest ordered.2 (All-tail (λ s. IsPermutation (news s) (given_by_ends net news stores s)) s rest published_all) (All-tail (λ s. full s ≡ derived lines full s) s rest made) (λ t e. go t e (t == s) refl) t
+      news_alike rest ordered.2 (All-tail (λ s. IsPermutation (news s) (given_by_ends net news stores s)) s rest published_all) (All-tail (λ s. full s ≡ derived_after lines full s) s rest made) (λ t e. go t e (t == s) refl) t
     where
       one : IsPermutation (news s) (exact s)
       one =
           IsPermutation-trans _ _ _ (All-head (λ s. IsPermutation (news s) (given_by_ends net news stores s)) s rest published_all)
-          (permuted_to (published_alike net now stores news exact earlier late holds_earlier lines serves.has_lines s (s ∷ rest) ordered.0 known)
-          (sym (exact_is s (All-head (λ s. full s ≡ derived lines full s) s rest made))))
+          (permuted_to (published_alike net now stores news exact earlier late holds_earlier lines serves.has_lines s (s ∷ rest) (of_lines (ReadsNone (s ∷ rest)) lines s ordered.0) known)
+          (sym (exact_is s (All-head (λ s. full s ≡ derived_after lines full s) s rest made))))
 
       go : (t : ℕ) → is_in rest t ≡ false → (b : Bool) → (t == s) ≡ b → IsPermutation (news t) (exact t)
       go t e true is = subst (λ n. IsPermutation (news n) (exact n)) (sym (eqb-true t s is)) one
@@ -135,8 +129,12 @@ module _ (net : Net) (lines : List Line) (order : List ℕ) (h : List Event) (ti
 
   -- what leaves a state is what flows out of its prefix in the epoch
   pub net_flows : (number : ℕ) (p : Prefix) → IsAt net number p → IsPermutation (bindings_of (leaving_state net news stores number)) (during time (flow full p))
-  net_flows number (Root s) at = permuted_to (leaves_alike net now stores news exact earlier late holds_earlier number (Root s) at (net_gives s)) (sym (flow_gives time full full_past (Root s)))
-  net_flows number (After p k) at = permuted_to (leaves_alike net now stores news exact earlier late holds_earlier number (After p k) at (net_gives k.wait.stream)) (sym (flow_gives time full full_past (After p k)))
+  net_flows number p at =
+      permuted_to (IsPermutation-map (λ (i : Instance). i.tuple) _ _ (leaves_instances net now stores news exact earlier late holds_earlier number p at (knows p))) (flow_bindings time full full_past p)
+    where
+      knows : (p : Prefix) → Knows net now stores news exact earlier late holds_earlier p
+      knows (Root s) = net_gives s
+      knows (After q k) = net_gives k.wait.stream
 
   -- and keeps the bindings that wait on
   pub net_keeps : (later : ℕ) → now ≤ later → AllHold net later (stores_after net news stores) (streams_over lines order h)
@@ -145,18 +143,18 @@ module _ (net : Net) (lines : List Line) (order : List ℕ) (h : List Event) (ti
       (stores_keep net now stores news exact earlier late holds_earlier later on net_gives number p k at (waiting_instances full p k) (state_keeps time full full_past p k))
 
 -- before any event no instance waits
-none_wait : (lines : List Line) (order : List ℕ) (p : Prefix) (h : Hop) → waiting_instances (streams_over lines order []) p h ≡ []
+none_wait : (lines : List BornLine) (order : List ℕ) (p : Prefix) (h : Hop) → waiting_instances (streams_over lines order []) p h ≡ []
 none_wait lines order p h = no_bindings (waiting_instances (streams_over lines order []) p h) (instances_wait (streams_over lines order []) p h ∙ start_waits lines order p h)
 
 -- at the start the stores hold nothing
-pub stands_at_start : (net : Net) (lines : List Line) (order : List ℕ) → StoresStandFor net lines order 0 (λ _. []) []
+pub stands_at_start : (net : Net) (lines : List BornLine) (order : List ℕ) → StoresStandFor net lines order 0 (λ _. []) []
 stands_at_start net lines order = record {
   before = All-nil (λ e. IsSound e.tuple × (e.tuple.at < 0));
   holds = λ number p h at. subst (λ xs. Purged 0 h.wait.choose xs []) (sym (none_wait lines order p h)) (record { at_least = ([], IsPermutation-refl []); at_most = ([], IsPermutation-refl []) });
 }
 
 -- purged stores stand for the same events
-pub stands_purged : (net : Net) (lines : List Line) (order : List ℕ) (now : ℕ) (stores kept : Stores) (past : List Event) → StoresStandFor net lines order now stores past → ArePurged now net stores kept → StoresStandFor net lines order now kept past
+pub stands_purged : (net : Net) (lines : List BornLine) (order : List ℕ) (now : ℕ) (stores kept : Stores) (past : List Event) → StoresStandFor net lines order now stores past → ArePurged now net stores kept → StoresStandFor net lines order now kept past
 stands_purged net lines order now stores kept past s purged = record { before = s.before; holds = purged_all net now stores kept (streams_over lines order past) s.holds purged }
 
 -- the history of an epoch is cut at its time
@@ -186,7 +184,7 @@ is_during now time le past events old new =
     same at h = grind (arith, nat_tests)
 
 -- the stores after an epoch stand for its events too
-pub stands_closed : (net : Net) (lines : List Line) (order : List ℕ) (now time : ℕ) (stores kept : Stores) (past events : List Event) (news : Streams)
+pub stands_closed : (net : Net) (lines : List BornLine) (order : List ℕ) (now time : ℕ) (stores kept : Stores) (past events : List Event) (news : Streams)
     → Serves net lines order → StoresStandFor net lines order now stores past → now ≤ time → All (λ e. IsSound e.tuple × (e.tuple.at ≡ time)) events
     → IsEpoch net order stores (heard_on events) news → ArePurged (time + 1) net (stores_after net news stores) kept
     → ((s : ℕ) → IsPermutation (news s) (during time (streams_over lines order (past ++ events) s))) × StoresStandFor net lines order (time + 1) kept (past ++ events)
@@ -228,7 +226,7 @@ stands_closed net lines order now time stores kept past events news serves s le 
     is_epoch = subst (λ (h : List Event). IsEpoch net order stores (heard_on h) news) (sym (is_during now time le past events s.before new)) epoch
 
 -- the tuples of the epoch alone, whatever is stored after it
-pub closed_batch : (net : Net) (lines : List Line) (order : List ℕ) (now time : ℕ) (stores : Stores) (past events : List Event) (news : Streams)
+pub closed_batch : (net : Net) (lines : List BornLine) (order : List ℕ) (now time : ℕ) (stores : Stores) (past events : List Event) (news : Streams)
     → Serves net lines order → StoresStandFor net lines order now stores past → now ≤ time → All (λ e. IsSound e.tuple × (e.tuple.at ≡ time)) events
     → IsEpoch net order stores (heard_on events) news
     → (s : ℕ) → IsPermutation (news s) (during time (streams_over lines order (past ++ events) s))

@@ -1,5 +1,5 @@
 -- The streams of lines over a history.
-use Rattle.std.proofs.Common.{◌≡◌, ◌∙◌, sym, ap, refl, ℕ, ◌==◌, Bool, true, false, cond, nat_lt, List, [], ◌∷◌, map, arith}
+use Rattle.std.proofs.Common.{◌≡◌, ◌∙◌, sym, ap, refl, subst, ℕ, ◌==◌, Bool, true, false, cond, nat_lt, List, [], ◌∷◌, map, arith}
 use Rattle.std.specs.Prelude.{Option, Some, None}
 use Rattle.std.specs.List.{All, filter, filter_map, flat_map}
 use Rattle.std.proofs.lemmas.Bool.Decides.{nat_tests}
@@ -9,20 +9,26 @@ use Rattle.semantics.specs.Denotation.{Streams}
 use Rattle.semantics.specs.Histories.{Event, heard_on}
 use Rattle.semantics.specs.Programs.{with_stream}
 use Rattle.semantics.proofs.ListLemmas.{filter-map, filter_swap}
-use Rattle.automaton.specs.Flow.{derived, entering, flow, given}
+use Rattle.automaton.specs.Flow.{entering, flow, given}
 use Rattle.automaton.specs.Prefixes.{Prefix, Root, After, path}
 use Rattle.automaton.specs.Steps.{pass}
 use Rattle.automaton.specs.Waiting.{waiting, waiting_in}
 use Rattle.automaton.specs.Waits.{chosen}
-use Rattle.automaton.specs.Work.{IsInOrder, completed}
+use Rattle.automaton.specs.Work.{IsInOrder}
 use Rattle.automaton.specs.declared.line.Hop.{Hop}
 use Rattle.automaton.specs.declared.line.Line.{Line}
 use Rattle.automaton.specs.declared.wait.Turn.{Turn}
-use Rattle.automaton.proofs.WorkLemmas.{streams_derived}
+use Rattle.epoch_laws.specs.Births.{AreSound, is_after, streams_after}
+use Rattle.epoch_laws.specs.BornLines.{BornLine, lines_in}
 use Rattle.epoch_laws.specs.Histories.{events_before, events_during, streams_over}
+use Rattle.epoch_laws.specs.InstanceFlow.{completed_after, derived_after, given_after}
 use Rattle.epoch_laws.specs.Lines.{given_now}
 use Rattle.epoch_laws.specs.Times.{ArePast, before, during, IsPast, streams_before, streams_during}
-use Rattle.epoch_laws.proofs.Flows.{flow_before, flow_past, line_gives, pass_cut, pass_past}
+use Rattle.epoch_laws.proofs.Completed.{streams_derived}
+use Rattle.epoch_laws.proofs.Flows.{flow_before, flow_past, pass_cut, pass_past}
+use Rattle.epoch_laws.proofs.Folds.{sound_past}
+use Rattle.epoch_laws.proofs.InstanceEpochs.{line_gives}
+use Rattle.epoch_laws.proofs.InstanceFlows.{given_later}
 use Rattle.epoch_laws.proofs.Lists.{All-flat_map, every, filter-flat_map, filter_none}
 use Rattle.semantics.proofs.ReportLemmas.{flat_map_same}
 
@@ -30,13 +36,24 @@ use Rattle.semantics.proofs.ReportLemmas.{flat_map_same}
 pub with_other : (env : Streams) (n : ℕ) (rows : List TupleView) (s : ℕ) → (s == n) ≡ false → with_stream env n rows s ≡ env s
 with_other env n rows s e = ap (λ b. cond b rows (env s)) e
 
--- no tuple of a derived stream is later
-module _ (time : ℕ) (lines : List Line) where
-  given_past : (env : Streams) → ArePast time env → (l : Line) → All (IsPast time) (given env l)
-  given_past env past l = pass_past time l.last (flow env (path l)) (flow_past time env past (path l))
+-- streams of the past that are cut at a birth are of the past, and sound
+after_past : (time : ℕ) (birth : Option ℕ) (env : Streams) → ArePast time env → ArePast time (streams_after birth env)
+after_past time birth env past s = All-filter (λ t. is_after birth t.at) (IsPast time) (env s) (past s)
 
-  derived_past : (env : Streams) → ArePast time env → (s : ℕ) → All (IsPast time) (derived lines env s)
-  derived_past env past s = All-flat_map (IsPast time) (given env) (filter (λ l. l.out == s) lines) (every (λ l. All (IsPast time) (given env l)) (given_past env past) (filter (λ l. l.out == s) lines))
+sound_of : (time : ℕ) (env : Streams) → ArePast time env → AreSound env
+sound_of time env past s = sound_past time (env s) (past s)
+
+-- no tuple of a derived stream is later
+module _ (time : ℕ) (lines : List BornLine) where
+  line_past : (env : Streams) → ArePast time env → (l : Line) → All (IsPast time) (given env l)
+  line_past env past l = pass_past time l.last (flow env (path l)) (flow_past time env past (path l))
+
+  given_past : (env : Streams) → ArePast time env → (b : BornLine) → All (IsPast time) (given_after env b)
+  given_past env past b = subst (λ ts. All (IsPast time) ts) (sym (given_later env (sound_of time env past) b)) (line_past (streams_after b.birth env) (after_past time b.birth env past) b.line)
+
+  derived_past : (env : Streams) → ArePast time env → (s : ℕ) → All (IsPast time) (derived_after lines env s)
+  derived_past env past s =
+      All-flat_map (IsPast time) (given_after env) (filter (λ (b : BornLine). b.line.out == s) lines) (every (λ b. All (IsPast time) (given_after env b)) (given_past env past) (filter (λ (b : BornLine). b.line.out == s) lines))
 
   with_past : (env : Streams) → ArePast time env → (n : ℕ) (rows : List TupleView) → All (IsPast time) rows → ArePast time (with_stream env n rows)
   with_past env past n rows all s = go (s == n)
@@ -46,19 +63,32 @@ module _ (time : ℕ) (lines : List Line) where
       go false = past s
 
   -- what the lines derive is past
-  pub completed_past : (order : List ℕ) (env : Streams) → ArePast time env → ArePast time (completed lines order env)
+  pub completed_past : (order : List ℕ) (env : Streams) → ArePast time env → ArePast time (completed_after lines order env)
   completed_past [] env past = past
-  completed_past (s ∷ order) env past = completed_past order (with_stream env s (derived lines env s)) (with_past env past s (derived lines env s) (derived_past env past s))
+  completed_past (s ∷ order) env past = completed_past order (with_stream env s (derived_after lines env s)) (with_past env past s (derived_after lines env s) (derived_past env past s))
 
   -- what they are before the time
-  given_before : (env : Streams) → ArePast time env → (l : Line) → before time (given env l) ≡ given (streams_before time env) l
-  given_before env past l = pass_cut (λ at. nat_lt at time) l.last (flow env (path l)) ∙ ap (filter_map (pass l.last)) (flow_before time env past (path l))
+  line_before : (env : Streams) → ArePast time env → (l : Line) → before time (given env l) ≡ given (streams_before time env) l
+  line_before env past l = pass_cut (λ at. nat_lt at time) l.last (flow env (path l)) ∙ ap (filter_map (pass l.last)) (flow_before time env past (path l))
 
-  derived_before : (env : Streams) → ArePast time env → (s : ℕ) → before time (derived lines env s) ≡ derived lines (streams_before time env) s
+  cut_twice : (birth : Option ℕ) (env : Streams) → streams_before time (streams_after birth env) ≡ streams_after birth (streams_before time env)
+  cut_twice birth env = λ i s. filter_swap (λ t. nat_lt t.at time) (λ t. is_after birth t.at) (env s) i
+
+  before_past : (env : Streams) → ArePast time env → ArePast time (streams_before time env)
+  before_past env past s = All-filter (λ t. nat_lt t.at time) (IsPast time) (env s) (past s)
+
+  given_before : (env : Streams) → ArePast time env → (b : BornLine) → before time (given_after env b) ≡ given_after (streams_before time env) b
+  given_before env past b =
+      ap (before time) (given_later env (sound_of time env past) b)
+      ∙ line_before (streams_after b.birth env) (after_past time b.birth env past) b.line
+      ∙ ap (λ e. given e b.line) (cut_twice b.birth env)
+      ∙ sym (given_later (streams_before time env) (sound_of time (streams_before time env) (before_past env past)) b)
+
+  derived_before : (env : Streams) → ArePast time env → (s : ℕ) → before time (derived_after lines env s) ≡ derived_after lines (streams_before time env) s
   derived_before env past s =
-      filter-flat_map (λ r. nat_lt r.at time) (given env) (filter (λ l. l.out == s) lines)
-      ∙ flat_map_same (λ l. before time (given env l)) (given (streams_before time env)) (filter (λ l. l.out == s) lines)
-      (every (λ l. before time (given env l) ≡ given (streams_before time env) l) (given_before env past) (filter (λ l. l.out == s) lines))
+      filter-flat_map (λ r. nat_lt r.at time) (given_after env) (filter (λ (b : BornLine). b.line.out == s) lines)
+      ∙ flat_map_same (λ b. before time (given_after env b)) (given_after (streams_before time env)) (filter (λ (b : BornLine). b.line.out == s) lines)
+      (every (λ b. before time (given_after env b) ≡ given_after (streams_before time env) b) (given_before env past) (filter (λ (b : BornLine). b.line.out == s) lines))
 
   with_before : (env : Streams) (n : ℕ) (rows other : List TupleView) → before time rows ≡ other → streams_before time (with_stream env n rows) ≡ with_stream (streams_before time env) n other
   with_before env n rows other e = λ i s. go s (s == n) i
@@ -68,11 +98,11 @@ module _ (time : ℕ) (lines : List Line) where
       go s false = refl
 
   -- what they derive before a time is derived from what is before it
-  pub completed_before : (order : List ℕ) (env : Streams) → ArePast time env → streams_before time (completed lines order env) ≡ completed lines order (streams_before time env)
+  pub completed_before : (order : List ℕ) (env : Streams) → ArePast time env → streams_before time (completed_after lines order env) ≡ completed_after lines order (streams_before time env)
   completed_before [] env past = refl
   completed_before (s ∷ order) env past =
-      completed_before order (with_stream env s (derived lines env s)) (with_past env past s (derived lines env s) (derived_past env past s))
-      ∙ ap (completed lines order) (with_before env s (derived lines env s) (derived lines (streams_before time env) s) (derived_before env past s))
+      completed_before order (with_stream env s (derived_after lines env s)) (with_past env past s (derived_after lines env s) (derived_past env past s))
+      ∙ ap (completed_after lines order) (with_before env s (derived_after lines env s) (derived_after lines (streams_before time env) s) (derived_before env past s))
 
 -- over a history
 heard_past : (time : ℕ) (h : List Event) → All (λ e. IsPast time e.tuple) h → ArePast time (heard_on h)
@@ -86,15 +116,15 @@ pub heard_now : (time : ℕ) (h : List Event) (s : ℕ) → during time (heard_o
 heard_now time h s = filter-map (λ r. r.at == time) (λ e. e.tuple) (filter (λ e. e.stream == s) h) ∙ ap (map (λ e. e.tuple)) (filter_swap (λ e. e.tuple.at == time) (λ e. e.stream == s) h)
 
 -- the streams of past events are past
-pub over_past : (time : ℕ) (lines : List Line) (order : List ℕ) (h : List Event) → All (λ e. IsPast time e.tuple) h → ArePast time (streams_over lines order h)
+pub over_past : (time : ℕ) (lines : List BornLine) (order : List ℕ) (h : List Event) → All (λ e. IsPast time e.tuple) h → ArePast time (streams_over lines order h)
 over_past time lines order h all = completed_past time lines order (heard_on h) (heard_past time h all)
 
 -- what they have before a time is derived from what is before it
-pub over_before : (time : ℕ) (lines : List Line) (order : List ℕ) (h : List Event) → All (λ e. IsPast time e.tuple) h → streams_before time (streams_over lines order h) ≡ streams_over lines order (events_before time h)
-over_before time lines order h all = completed_before time lines order (heard_on h) (heard_past time h all) ∙ ap (completed lines order) (heard_before time h)
+pub over_before : (time : ℕ) (lines : List BornLine) (order : List ℕ) (h : List Event) → All (λ e. IsPast time e.tuple) h → streams_before time (streams_over lines order h) ≡ streams_over lines order (events_before time h)
+over_before time lines order h all = completed_before time lines order (heard_on h) (heard_past time h all) ∙ ap (completed_after lines order) (heard_before time h)
 
 -- which are the streams of the earlier events
-pub streams_early : (time : ℕ) (lines : List Line) (order : List ℕ) (h : List Event) → All (λ e. IsPast time e.tuple) h → (s : ℕ) → before time (streams_over lines order h s) ≡ streams_over lines order (events_before time h) s
+pub streams_early : (time : ℕ) (lines : List BornLine) (order : List ℕ) (h : List Event) → All (λ e. IsPast time e.tuple) h → (s : ℕ) → before time (streams_over lines order h s) ≡ streams_over lines order (events_before time h) s
 streams_early time lines order h all s = λ i. over_before time lines order h all i s
 
 -- at the start nothing waits
@@ -106,14 +136,14 @@ flow_none env none (After p h) = ap (λ ts. chosen h.wait.choose h.wait.fold (en
     go None = refl
     go (Some t) = refl
 
-no_streams : (lines : List Line) (order : List ℕ) (s : ℕ) → streams_over lines order [] s ≡ []
+no_streams : (lines : List BornLine) (order : List ℕ) (s : ℕ) → streams_over lines order [] s ≡ []
 no_streams lines order s = sym (streams_early 0 lines order [] (All-nil (λ e. IsPast 0 e.tuple)) s) ∙ filter_agree (λ r. nat_lt r.at 0) (λ _. false) (λ r. no_less r.at) (streams_over lines order [] s) ∙ filter_none (streams_over lines order [] s)
   where
     no_less : (at : ℕ) → nat_lt at 0 ≡ false
     no_less at = grind (arith, nat_tests)
 
 -- before any event nothing waits
-pub start_waits : (lines : List Line) (order : List ℕ) (p : Prefix) (h : Hop) → waiting (streams_over lines order []) p h ≡ []
+pub start_waits : (lines : List BornLine) (order : List ℕ) (p : Prefix) (h : Hop) → waiting (streams_over lines order []) p h ≡ []
 start_waits lines order p h =
     ap (λ ts. waiting_in h.wait.choose h.wait.fold (streams_over lines order [] h.wait.stream) (entering h ts)) (flow_none (streams_over lines order []) (no_streams lines order) p) ∙ go h.wait.fold
   where
@@ -122,18 +152,18 @@ start_waits lines order p h =
     go (Some t) = refl
 
 -- what the lines of a derived stream give in an epoch
-pub streams_give : (time : ℕ) (lines : List Line) (order : List ℕ) (h : List Event) → All (λ e. IsPast time e.tuple) h → IsInOrder lines order
-    → let streams = streams_over lines order h in All (λ s. during time (streams s) ≡ flat_map (given_now (streams_during time streams) (streams_before time streams)) (filter (λ l. l.out == s) lines)) order
+pub streams_give : (time : ℕ) (lines : List BornLine) (order : List ℕ) (h : List Event) → All (λ e. IsPast time e.tuple) h → IsInOrder (lines_in lines) order
+    → let streams = streams_over lines order h in All (λ s. during time (streams s) ≡ flat_map (given_now (streams_during time streams) (streams_before time streams)) (filter (λ (b : BornLine). b.line.out == s) lines)) order
 streams_give time lines order h past ordered =
-    All-weaker (λ s. streams_over lines order h s ≡ derived lines (streams_over lines order h) s)
-    (λ s. during time (streams_over lines order h s) ≡ flat_map (given_now (streams_during time (streams_over lines order h)) (streams_before time (streams_over lines order h))) (filter (λ l. l.out == s) lines))
+    All-weaker (λ s. streams_over lines order h s ≡ derived_after lines (streams_over lines order h) s)
+    (λ s. during time (streams_over lines order h s) ≡ flat_map (given_now (streams_during time (streams_over lines order h)) (streams_before time (streams_over lines order h))) (filter (λ (b : BornLine). b.line.out == s) lines))
     one order (streams_derived lines order (heard_on h) ordered)
   where
-    one : (s : ℕ) → streams_over lines order h s ≡ derived lines (streams_over lines order h) s
-        → during time (streams_over lines order h s) ≡ flat_map (given_now (streams_during time (streams_over lines order h)) (streams_before time (streams_over lines order h))) (filter (λ l. l.out == s) lines)
+    one : (s : ℕ) → streams_over lines order h s ≡ derived_after lines (streams_over lines order h) s
+        → during time (streams_over lines order h s) ≡ flat_map (given_now (streams_during time (streams_over lines order h)) (streams_before time (streams_over lines order h))) (filter (λ (b : BornLine). b.line.out == s) lines)
     one s e =
         ap (during time) e
-        ∙ filter-flat_map (λ r. r.at == time) (given (streams_over lines order h)) (filter (λ l. l.out == s) lines)
-        ∙ flat_map_same (λ l. during time (given (streams_over lines order h) l)) (given_now (streams_during time (streams_over lines order h)) (streams_before time (streams_over lines order h))) (filter (λ l. l.out == s) lines)
-        (every (λ l. during time (given (streams_over lines order h) l) ≡ given_now (streams_during time (streams_over lines order h)) (streams_before time (streams_over lines order h)) l)
-        (line_gives time (streams_over lines order h) (over_past time lines order h past)) (filter (λ l. l.out == s) lines))
+        ∙ filter-flat_map (λ r. r.at == time) (given_after (streams_over lines order h)) (filter (λ (b : BornLine). b.line.out == s) lines)
+        ∙ flat_map_same (λ l. during time (given_after (streams_over lines order h) l)) (given_now (streams_during time (streams_over lines order h)) (streams_before time (streams_over lines order h))) (filter (λ (b : BornLine). b.line.out == s) lines)
+        (every (λ l. during time (given_after (streams_over lines order h) l) ≡ given_now (streams_during time (streams_over lines order h)) (streams_before time (streams_over lines order h)) l)
+        (line_gives time (streams_over lines order h) (over_past time lines order h past)) (filter (λ (b : BornLine). b.line.out == s) lines))

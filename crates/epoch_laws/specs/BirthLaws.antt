@@ -2,13 +2,15 @@
 use Rattle.std.specs.Prelude.{◌≡◌, ℕ, ◌==◌, List, map, Option}
 use Rattle.std.specs.List.{filter, flat_map}
 use Rattle.semantics.specs.Denotation.{Streams}
-use Rattle.automaton.specs.Flow.{derived, flow, given}
+use Rattle.automaton.specs.Flow.{flow, given}
 use Rattle.automaton.specs.Prefixes.{Prefix}
 use Rattle.automaton.specs.Waiting.{waiting}
+use Rattle.automaton.specs.Work.{completed}
 use Rattle.automaton.specs.declared.line.Hop.{Hop}
 use Rattle.automaton.specs.declared.line.Line.{Line}
 use Rattle.epoch_laws.specs.Births.{AreSound, began_after, streams_after}
-use Rattle.epoch_laws.specs.InstanceFlow.{BornLine, derived_after, flow_instances, unborn, waiting_instances}
+use Rattle.epoch_laws.specs.BornLines.{BornLine, unborn}
+use Rattle.epoch_laws.specs.InstanceFlow.{completed_after, derived_after, flow_instances, waiting_instances}
 use Rattle.epoch_laws.specs.Instances.{bindings_of}
 
 -- without the times at which they began, the instances that flow are the tuples that flow
@@ -30,6 +32,6 @@ BornLinesReadLater =
     (lines : List BornLine) (streams : Streams) (stream : ℕ) → AreSound streams
     → derived_after lines streams stream ≡ flat_map (λ born. given (streams_after born.birth streams) born.line) (filter (λ born. born.line.out == stream) lines)
 
--- and without births lines give what they give
+-- and without births the streams are those of the lines
 abbrev pub UnbornLinesReadAll : Type 0
-UnbornLinesReadAll = (lines : List Line) (streams : Streams) (stream : ℕ) → derived_after (map unborn lines) streams stream ≡ derived lines streams stream
+UnbornLinesReadAll = (lines : List Line) (order : List ℕ) (streams : Streams) → completed_after (map unborn lines) order streams ≡ completed lines order streams

@@ -1,18 +1,19 @@
 -- One epoch over the states of a network, where each waiting state has a store of its own.
 use Rattle.std.specs.Prelude.{◌≡◌, ℕ, ◌==◌, false, List, [], length, map, Option, Some, None}
-use Rattle.std.specs.List.{All, filter, filter_map, flat_map, range_with_len}
+use Rattle.std.specs.List.{All, filter, flat_map, range_with_len}
 use Rattle.std.specs.List.Sorted.{IsPermutation}
 use Rattle.event_types.specs.Tuple.{TupleView}
 use Rattle.instances.specs.declared.instance.Instance.{Instance}
 use Rattle.semantics.specs.Denotation.{Streams}
 use Rattle.automaton.specs.States.{Net, ends_at, entrance_at, wait_at}
-use Rattle.automaton.specs.Steps.{pass}
 use Rattle.automaton.specs.Work.{is_in}
+use Rattle.automaton.specs.declared.network.End.{End}
 use Rattle.automaton.specs.declared.network.Entrance.{Entrance}
 use Rattle.automaton.specs.declared.network.Entrance.TheVariants.{Root, Waiting}
 use Rattle.automaton.specs.declared.wait.Wait.{Wait}
 use Rattle.epoch_laws.specs.Epochs.{stepped, took}
-use Rattle.epoch_laws.specs.Instances.{begins, bindings_of, instances_entering}
+use Rattle.epoch_laws.specs.Births.{passing_after}
+use Rattle.epoch_laws.specs.Instances.{begins, instances_entering}
 use Rattle.epoch_laws.specs.Stores.{Purged}
 
 -- the instances of each waiting state, by its number
@@ -39,9 +40,13 @@ stepped_by (Some (Waiting before hop)) news leaving store = stepped hop.wait.cho
 abbrev pub stores_after : Net → Streams → Stores → Stores
 stores_after net news stores number = stepped_by (entrance_at net number) news (leaving_state net news stores) (stores number)
 
+-- what an end gives of the instances that leave its state, after its birth
+abbrev pub given_by_end : List Instance → End → List TupleView
+given_by_end leaving end = passing_after end.step end.birth leaving
+
 -- what the ends of a stream give in the epoch at one state
 abbrev pub given_by_ends_at : Net → Streams → Stores → ℕ → ℕ → List TupleView
-given_by_ends_at net news stores stream number = flat_map (λ end. filter_map (pass end.step) (bindings_of (leaving_state net news stores number))) (filter (λ end. end.out == stream) (ends_at net number))
+given_by_ends_at net news stores stream number = flat_map (given_by_end (leaving_state net news stores number)) (filter (λ end. end.out == stream) (ends_at net number))
 
 -- what they give at all states
 abbrev pub given_by_ends : Net → Streams → Stores → ℕ → List TupleView

@@ -3,12 +3,12 @@ use Rattle.std.specs.Prelude.{ℕ, ◌==◌, nat_lt, List}
 use Rattle.std.specs.List.{filter}
 use Rattle.semantics.specs.Denotation.{Streams}
 use Rattle.semantics.specs.Histories.{Event, heard_on}
-use Rattle.automaton.specs.Work.{completed}
-use Rattle.automaton.specs.declared.line.Line.{Line}
+use Rattle.epoch_laws.specs.BornLines.{BornLine}
+use Rattle.epoch_laws.specs.InstanceFlow.{completed_after}
 
 -- all streams over a history: those that were heard, and each derived stream, made in the order of work
-abbrev pub streams_over : List Line → List ℕ → List Event → Streams
-streams_over lines order history = completed lines order (heard_on history)
+abbrev pub streams_over : List BornLine → List ℕ → List Event → Streams
+streams_over lines order history = completed_after lines order (heard_on history)
 
 -- the events that are detected before a time
 abbrev pub events_before : ℕ → List Event → List Event

@@ -1,17 +1,17 @@
 -- What flows along prefixes and lines as instances, each of which keeps the time at which it began.
-use Rattle.std.specs.Prelude.{ℕ, ◌==◌, List, [], ◌∷◌, map, Option, None}
-use Rattle.std.specs.List.{filter, filter_map, flat_map}
+use Rattle.std.specs.Prelude.{ℕ, ◌==◌, List, [], ◌∷◌, map}
+use Rattle.std.specs.List.{filter, flat_map}
 use Rattle.event_types.specs.Tuple.{TupleView}
 use Rattle.instances.specs.declared.instance.Instance.{Instance}
 use Rattle.semantics.specs.Denotation.{Streams}
+use Rattle.semantics.specs.Programs.{with_stream}
 use Rattle.automaton.specs.Flow.{entering, leaving}
 use Rattle.automaton.specs.Prefixes.{Prefix, Root, After, path}
-use Rattle.automaton.specs.Steps.{pass}
 use Rattle.automaton.specs.Waiting.{waiting_in}
 use Rattle.automaton.specs.declared.line.Hop.{Hop}
-use Rattle.automaton.specs.declared.line.Line.{Line}
-use Rattle.epoch_laws.specs.Births.{began_after}
-use Rattle.epoch_laws.specs.Instances.{began, begins, bindings_of}
+use Rattle.epoch_laws.specs.Births.{passing_after}
+use Rattle.epoch_laws.specs.BornLines.{BornLine}
+use Rattle.epoch_laws.specs.Instances.{began, begins}
 
 -- what is made of each instance by itself: the tuples that are made of its tuple, which began when it did
 abbrev pub each : (List TupleView → List TupleView) → List Instance → List Instance
@@ -30,19 +30,15 @@ waiting_behind hop streams tuples = waiting_in hop.wait.choose hop.wait.fold (st
 abbrev pub waiting_instances : Streams → Prefix → Hop → List Instance
 waiting_instances streams prefix hop = each (waiting_behind hop streams) (flow_instances streams prefix)
 
--- a line, and the birth of its query
-pub record BornLine : Type 0 where
-  pub line : Line
-  pub birth : Option ℕ
-
--- a line whose query has no birth
-abbrev pub unborn : Line → BornLine
-unborn line = record { line = line; birth = None }
-
--- what a line gives after a birth: the instances that pass its last step and began after the birth, without the times at which they began
+-- what a line gives after its birth
 abbrev pub given_after : Streams → BornLine → List TupleView
-given_after streams born = bindings_of (began_after born.birth (each (filter_map (pass born.line.last)) (flow_instances streams (path born.line))))
+given_after streams born = passing_after born.line.last born.birth (flow_instances streams (path born.line))
 
 -- what all lines give so that publish a stream, one after the other in their order
 abbrev pub derived_after : List BornLine → Streams → ℕ → List TupleView
 derived_after lines streams stream = flat_map (given_after streams) (filter (λ born. born.line.out == stream) lines)
+
+-- the streams with each derived stream, made in this order: what its lines give after their births over the streams before it
+abbrev pub completed_after : List BornLine → List ℕ → Streams → Streams
+completed_after lines [] streams = streams
+completed_after lines (stream ∷ order) streams = completed_after lines order (with_stream streams stream (derived_after lines streams stream))

@@ -1,6 +1,7 @@
 pub mod Batch
 pub mod BirthLaws
 pub mod Births
+pub mod BornLines
 pub mod CloseLaws
 pub mod Closing
 pub mod Epochs

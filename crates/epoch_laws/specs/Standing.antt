@@ -7,7 +7,7 @@ use Rattle.semantics.specs.Denotation.{Streams}
 use Rattle.semantics.specs.Histories.{Event, heard_on}
 use Rattle.semantics.specs.Laws.{NeverFalls}
 use Rattle.automaton.specs.States.{Net}
-use Rattle.automaton.specs.declared.line.Line.{Line}
+use Rattle.epoch_laws.specs.BornLines.{BornLine}
 use Rattle.epoch_laws.specs.Closing.{Stores}
 use Rattle.epoch_laws.specs.Histories.{events_before, events_during}
 use Rattle.epoch_laws.specs.StoresStandFor.{StoresStandFor}
@@ -39,7 +39,7 @@ MayFollow (Some open_time) closed_time at = at ≡ open_time
 MayFollow None closed_time at = next_time closed_time ≤ at
 
 -- the open epoch is that of the last time, and its tuples are the history's; the last closed time is that of the rest, for which the stores stand
-pub record PartsStandFor (net : Net) (lines : List Line) (order : List ℕ) (stores : Stores) (open_time : Option ℕ) (tuples : Streams) (closed_time : Option ℕ) (history : List Event) : Type 0 where
+pub record PartsStandFor (net : Net) (lines : List BornLine) (order : List ℕ) (stores : Stores) (open_time : Option ℕ) (tuples : Streams) (closed_time : Option ℕ) (history : List Event) : Type 0 where
   pub sound : All (λ event. IsSound event.tuple) history
   pub never_falls : NeverFalls history
   pub open_is_last : IfSome open_time (λ time. last_time history ≡ Some time)

@@ -15,7 +15,7 @@ use Rattle.automaton.specs.Prefixes.{Prefix, After}
 use Rattle.automaton.specs.States.{Net}
 use Rattle.automaton.specs.Waiting.{waiting}
 use Rattle.automaton.specs.declared.line.Hop.{Hop}
-use Rattle.automaton.specs.declared.line.Line.{Line}
+use Rattle.epoch_laws.specs.BornLines.{BornLine}
 use Rattle.epoch_laws.specs.Batch.{Agree}
 use Rattle.epoch_laws.specs.Closing.{ArePurged, IsEpoch, Stores, leaving_state, stores_after}
 use Rattle.epoch_laws.specs.Histories.{streams_over}
@@ -26,12 +26,12 @@ use Rattle.epoch_laws.specs.Times.{during}
 
 -- without events, an engine with empty stores stands for the empty history
 abbrev pub StartStands : Type 0
-StartStands = (net : Net) (lines : List Line) (order : List ℕ) → PartsStandFor net lines order (λ _. []) None (λ _. []) None []
+StartStands = (net : Net) (lines : List BornLine) (order : List ℕ) → PartsStandFor net lines order (λ _. []) None (λ _. []) None []
 
 -- an offered event that may follow comes to the open tuples and to the end of the history
 abbrev pub OfferStands : Type 0
 OfferStands =
-    (net : Net) (lines : List Line) (order : List ℕ) (stores : Stores) (open_time : Option ℕ) (tuples more : Streams) (closed_time : Option ℕ) (history : List Event) (event : Event)
+    (net : Net) (lines : List BornLine) (order : List ℕ) (stores : Stores) (open_time : Option ℕ) (tuples more : Streams) (closed_time : Option ℕ) (history : List Event) (event : Event)
     → PartsStandFor net lines order stores open_time tuples closed_time history → IsSound event.tuple → MayFollow open_time closed_time event.tuple.at
     → ((stream : ℕ) → IsPermutation (more stream) (tuples stream ++ heard_on (event ∷ []) stream))
     → PartsStandFor net lines order stores (Some event.tuple.at) more closed_time (history ++ event ∷ [])
@@ -39,7 +39,7 @@ OfferStands =
 -- a closing gives the tuples that the streams have at the open time, and then no epoch is open
 abbrev pub CloseStands : Type 0
 CloseStands =
-    (net : Net) (lines : List Line) (order : List ℕ) (stores kept : Stores) (time : ℕ) (tuples news : Streams) (closed_time : Option ℕ) (history : List Event)
+    (net : Net) (lines : List BornLine) (order : List ℕ) (stores kept : Stores) (time : ℕ) (tuples news : Streams) (closed_time : Option ℕ) (history : List Event)
     → Serves net lines order → PartsStandFor net lines order stores (Some time) tuples closed_time history
     → IsEpoch net order stores tuples news → ArePurged (time + 1) net (stores_after net news stores) kept
     → ((stream : ℕ) → IsPermutation (news stream) (during time (streams_over lines order history stream))) × PartsStandFor net lines order kept None (λ _. []) (Some time) history
@@ -47,13 +47,13 @@ CloseStands =
 -- an epoch that is open is that of the last time of its history, so it has no later events
 abbrev pub OpenIsLast : Type 0
 OpenIsLast =
-    (net : Net) (lines : List Line) (order : List ℕ) (stores : Stores) (time : ℕ) (tuples : Streams) (closed_time : Option ℕ) (history : List Event)
+    (net : Net) (lines : List BornLine) (order : List ℕ) (stores : Stores) (time : ℕ) (tuples : Streams) (closed_time : Option ℕ) (history : List Event)
     → PartsStandFor net lines order stores (Some time) tuples closed_time history → upto time history ≡ history
 
 -- what leaves a state in the epoch is what flows out of the state's prefix at the open time
 abbrev pub EpochFlows : Type 0
 EpochFlows =
-    (net : Net) (lines : List Line) (order : List ℕ) (stores : Stores) (time : ℕ) (tuples news : Streams) (closed_time : Option ℕ) (history : List Event)
+    (net : Net) (lines : List BornLine) (order : List ℕ) (stores : Stores) (time : ℕ) (tuples news : Streams) (closed_time : Option ℕ) (history : List Event)
     → Serves net lines order → PartsStandFor net lines order stores (Some time) tuples closed_time history → IsEpoch net order stores tuples news
     → (number : ℕ) (prefix : Prefix) → IsAt net number prefix
     → IsPermutation (bindings_of (leaving_state net news stores number)) (during time (flow (streams_over lines order history) prefix))
@@ -61,7 +61,7 @@ EpochFlows =
 -- these tuples, put in order, are the results of each query whose stream the lines agree on
 abbrev pub ClosingIsResults : Type 0
 ClosingIsResults =
-    (net : Net) (lines : List Line) (order : List ℕ) (stores : Stores) (time : ℕ) (tuples news : Streams) (closed_time : Option ℕ) (history : List Event) (program : Program) (stream : ℕ)
+    (net : Net) (lines : List BornLine) (order : List ℕ) (stores : Stores) (time : ℕ) (tuples news : Streams) (closed_time : Option ℕ) (history : List Event) (program : Program) (stream : ℕ)
     → Serves net lines order → PartsStandFor net lines order stores (Some time) tuples closed_time history
     → IsEpoch net order stores tuples news → Agree lines order program history stream
     → sorted (news stream) ≡ results program history stream time
@@ -69,14 +69,14 @@ ClosingIsResults =
 -- stores that are purged for the next time stand for what they stood for
 abbrev pub PurgeStands : Type 0
 PurgeStands =
-    (net : Net) (lines : List Line) (order : List ℕ) (stores kept : Stores) (open_time : Option ℕ) (tuples : Streams) (closed_time : Option ℕ) (history : List Event)
+    (net : Net) (lines : List BornLine) (order : List ℕ) (stores kept : Stores) (open_time : Option ℕ) (tuples : Streams) (closed_time : Option ℕ) (history : List Event)
     → PartsStandFor net lines order stores open_time tuples closed_time history → ArePurged (next_time closed_time) net stores kept
     → PartsStandFor net lines order kept open_time tuples closed_time history
 
 -- purged whole, each store has exactly the waiting bindings that are alive
 abbrev pub TrimmedIsAlive : Type 0
 TrimmedIsAlive =
-    (net : Net) (lines : List Line) (order : List ℕ) (stores : Stores) (open_time : Option ℕ) (tuples : Streams) (closed_time : Option ℕ) (history : List Event)
+    (net : Net) (lines : List BornLine) (order : List ℕ) (stores : Stores) (open_time : Option ℕ) (tuples : Streams) (closed_time : Option ℕ) (history : List Event)
     → PartsStandFor net lines order stores open_time tuples closed_time history
     → (number : ℕ) (prefix : Prefix) (hop : Hop) → IsAt net number (After prefix hop)
     → IsPermutation (bindings_of (alive_instances (next_time closed_time) hop.wait.choose (stores number)))

@@ -1,4 +1,4 @@
-use Rattle.epoch_laws.proofs.Flows as lemma
+use Rattle.epoch_laws.proofs.InstanceEpochs as lemma
 use Rattle.epoch_laws.proofs.state_keeps.Goals as goal
 
 pub returns : goal.returns
