@@ -30,6 +30,7 @@ use Rattle.automaton.specs.Work.{IsInOrder, is_in}
 use Rattle.automaton.specs.declared.layout.Layout.{Layout}
 use Rattle.automaton.specs.declared.line.Line.{Line}
 use Rattle.stream_readers.specs.Finding.{waits_on}
+use Rattle.epoch_laws.specs.BornLines.{lines_in}
 use Rattle.epoch_laws.specs.Closing.{IsEpoch, Stores, given_by_ends}
 use Rattle.epoch_laws.specs.StoresStandFor.{Serves}
 use Rattle.epoch_laws.proofs.Bags.{no_length}
@@ -284,7 +285,7 @@ module _ (net : Net) (layout : Layout) (stores : List (Option Store)) (opened : 
   below = All-get_or (λ t. t < length layout.kinds) order i 0 lt can.order
 
   apart : is_in done s ≡ false
-  apart = not_done can.lines done s (drop (i + 1) order) serves.in_order
+  apart = not_done (lines_in can.lines) done s (drop (i + 1) order) serves.in_order
 
   -- the stream has no tuples yet
   unseen : (made : List (List TupleView)) → news_of opened made done s ≡ []

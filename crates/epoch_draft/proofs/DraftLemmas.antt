@@ -1,7 +1,8 @@
 -- Drafts that have something more.
 use Rattle.std.proofs.Common.{◌≡◌, ◌∙◌, sym, ap, refl, subst, inl, inr, ℕ, ◌<◌, ◌⊎◌, ◌==◌, true, false, cond, length, get_or, set, List, [], ◌∷◌, ◌++◌, append_assoc, arith, zero, suc, Bool}
-use Rattle.std.specs.Prelude.{Contains, Some, option_to_list, None}
+use Rattle.std.specs.Prelude.{Contains, Option, Some, option_to_list, None}
 use Rattle.std.specs.Option.{option_map}
+use Rattle.std.specs.List.{cons_option}
 use Rattle.std.specs.List.Sorted.{IsPermutation}
 use Rattle.std.proofs.lemmas.Bool.Decides.{nat_tests}
 use Rattle.std.proofs.lemmas.Grind.{flat_map-append, get_or-set_at}
@@ -15,7 +16,8 @@ use Rattle.automaton.specs.Steps.{pass}
 use Rattle.automaton.proofs.NumberLemmas.{are_same_or_not}
 use Rattle.automaton.specs.declared.network.End.{End}
 use Rattle.stream_readers.specs.Ways.{Back, Into, Way, Out}
-use Rattle.epoch_laws.specs.Instances.{began, pass_instance}
+use Rattle.epoch_laws.specs.Births.{began_after, is_after, passing_after}
+use Rattle.epoch_laws.specs.Instances.{began, bindings_of, pass_instance}
 use Rattle.epoch_laws.proofs.Bags.{permuted_is}
 use Rattle.epoch_draft.specs.Drafts.{Adds, DraftFits, EndsBelow, Grows, IsDraftOf}
 use Rattle.epoch_draft.specs.Marks.{AreMarks, MarksMore}
@@ -180,30 +182,47 @@ made_adds s rows old t lt made e = go (are_same_or_not t s)
         subst (λ (xs : List TupleView). Adds xs (get_or old t []) (get_or (set old s (get_or old s [] ++ rows)) t [])) (sym (e ∙ ap (λ b. cond b rows []) (other_test s t (λ eq. other (sym eq)))))
         (adds_none (get_or old t []) (get_or (set old s (get_or old s [] ++ rows)) t []) (get_or-set_other old s t (get_or old s [] ++ rows) [] other))
 
+-- nothing is given of an instance that doesn't pass the step or began too early
+abbrev pub IsKept : End → Instance → Type 0
+IsKept e x = (is_after e.birth x.first ≡ false) ⊎ (pass e.step x.tuple ≡ None)
+
+pub nothing_given : (e : End) (x : Instance) → IsKept e x → passing_after e.step e.birth (x ∷ []) ≡ []
+nothing_given e x (inl early) = go (pass e.step x.tuple)
+  where
+    go : (o : Option TupleView) → bindings_of (began_after e.birth (cons_option (option_map (began x.first) o) [])) ≡ []
+    go None = refl
+    go (Some y) = ap (λ b. bindings_of (cond b (began x.first y ∷ []) [])) early
+nothing_given e x (inr passes) = ap (λ o. bindings_of (began_after e.birth (cons_option (option_map (began x.first) o) []))) passes
+
+-- one that passes it later gives one tuple
+gives_one : (e : End) (x : Instance) (y : TupleView) → is_after e.birth x.first ≡ true → pass e.step x.tuple ≡ Some y → passing_after e.step e.birth (x ∷ []) ≡ y ∷ []
+gives_one e x y late passes =
+    ap (λ o. bindings_of (began_after e.birth (cons_option (option_map (began x.first) o) []))) passes ∙ ap (λ b. bindings_of (cond b (began x.first y ∷ []) [])) late
+
 -- an instance that goes out
-pub out_grows : (net : Net) (old new : Draft) (e : End) (x : Instance) (y : TupleView) → e.out < length old.made → pass e.step x.tuple ≡ Some y → length old.beads ≡ length net
+pub out_grows : (net : Net) (old new : Draft) (e : End) (x : Instance) (y : TupleView) → e.out < length old.made → is_after e.birth x.first ≡ true → pass e.step x.tuple ≡ Some y → length old.beads ≡ length net
     → new.made ≡ set old.made e.out (get_or old.made e.out [] ++ y ∷ []) → new.beads ≡ old.beads → MarksMore old.due new.due → DraftFits (length old.made) (length old.beads) new → Grows net (moves_on (Out e ∷ []) x) old new
-out_grows net old new e x y lt passes many made beads due fits = record {
+out_grows net old new e x y lt late passes many made beads due fits = record {
   fits = subst (λ (m : ℕ). DraftFits (length old.made) m new) many fits;
   due = due;
   made = λ t.
       subst (λ (lists : List (List TupleView)). Adds (made_of t (moves_on (Out e ∷ []) x)) (get_or old.made t []) (get_or lists t [])) (sym made)
-      (made_adds e.out (y ∷ []) old.made t lt (made_of t (moves_on (Out e ∷ []) x)) (append-nil (cond (e.out == t) (option_to_list (pass e.step x.tuple)) []) ∙ ap (λ o. cond (e.out == t) (option_to_list o) []) passes));
+      (made_adds e.out (y ∷ []) old.made t lt (made_of t (moves_on (Out e ∷ []) x)) (append-nil (cond (e.out == t) (passing_after e.step e.birth (x ∷ [])) []) ∙ ap (λ rows. cond (e.out == t) rows []) (gives_one e x y late passes)));
   bound = λ w. permuted_is (ap (λ (lists : List (List Instance)). get_or lists w []) beads ∙ sym (append-nil (get_or old.beads w [])));
 }
 
--- one that doesn't pass
-pub out_stays : (net : Net) (old : Draft) (e : End) (x : Instance) → pass e.step x.tuple ≡ None → DraftFits (length old.made) (length net) old → Grows net (moves_on (Out e ∷ []) x) old old
-out_stays net old e x passes fits = record {
+-- one that doesn't go out
+pub out_stays : (net : Net) (old : Draft) (e : End) (x : Instance) → IsKept e x → DraftFits (length old.made) (length net) old → Grows net (moves_on (Out e ∷ []) x) old old
+out_stays net old e x kept fits = record {
   fits = fits;
   due = marks_same old.due fits.due;
   made = λ t.
       subst (λ (rows : List TupleView). Adds rows (get_or old.made t []) (get_or old.made t []))
-      (sym (append-nil (cond (e.out == t) (option_to_list (pass e.step x.tuple)) []) ∙ ap (λ o. cond (e.out == t) (option_to_list o) []) passes ∙ none (e.out == t))) (adds_none (get_or old.made t []) (get_or old.made t []) refl);
+      (sym (append-nil (cond (e.out == t) (passing_after e.step e.birth (x ∷ [])) []) ∙ ap (λ rows. cond (e.out == t) rows []) (nothing_given e x kept) ∙ none (e.out == t))) (adds_none (get_or old.made t []) (get_or old.made t []) refl);
   bound = λ w. permuted_is (sym (append-nil (get_or old.beads w [])));
 }
   where
-    none : (b : Bool) → cond b (option_to_list {X = TupleView} None) [] ≡ []
+    none : (b : Bool) → cond b (bindings_of []) [] ≡ []
     none true = refl
     none false = refl
 

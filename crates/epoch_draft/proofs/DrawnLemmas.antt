@@ -26,7 +26,7 @@ use Rattle.automaton.specs.declared.network.Entrance.{Entrance}
 use Rattle.automaton.specs.declared.network.Entrance.TheVariants.{Root, Waiting}
 use Rattle.automaton.specs.declared.network.State.{State}
 use Rattle.stream_readers.specs.Finding.{waits_on}
-use Rattle.epoch_laws.specs.Closing.{Stores, leaving_state, leaving_by, given_by_ends, given_by_ends_at, stepped_by, stores_after}
+use Rattle.epoch_laws.specs.Closing.{Stores, leaving_state, leaving_by, given_by_end, given_by_ends, given_by_ends_at, stepped_by, stores_after}
 use Rattle.epoch_laws.specs.Epochs.{again, unmatched_after, took}
 use Rattle.epoch_laws.specs.Instances.{bindings_of, instances_entering}
 use Rattle.epoch_laws.proofs.Bags.{no_length, permuted_is}
@@ -217,7 +217,7 @@ published_none net stores s =
     each : (n : ℕ) → given_by_ends_at net no_streams stores s n ≡ []
     each n =
         let ends = filter (λ (e : End). e.out == s) (ends_at net n) in
-        ap (λ (store : List Instance). flat_map (λ (e : End). filter_map (pass e.step) (bindings_of store)) ends) (leaves_none net stores n) ∙ nothing_of ends
+        ap (λ (store : List Instance). flat_map (given_by_end store) ends) (leaves_none net stores n) ∙ nothing_of ends
 
 again_none : (fold : Option Turn) → again {X = Instance} fold [] ≡ []
 again_none None = refl

@@ -14,11 +14,12 @@ use Rattle.automaton.specs.declared.network.Entrance.{Entrance}
 use Rattle.automaton.specs.declared.network.Entrance.TheVariants.{Root, Waiting}
 use Rattle.automaton.specs.declared.layout.Layout.{Layout}
 use Rattle.instances.specs.declared.instance.Instance.{Instance}
-use Rattle.epoch_laws.specs.Closing.{Stores, given_by_ends, given_by_ends_at, leaving_by, leaving_state}
+use Rattle.epoch_laws.specs.Closing.{Stores, given_by_end, given_by_ends, given_by_ends_at, leaving_by, leaving_state}
 use Rattle.epoch_laws.specs.Epochs.{taken, taken_from}
 use Rattle.epoch_laws.specs.Instances.{began, begins}
-use Rattle.epoch_laws.proofs.Bags.{filter_map_permuted, flat_map_alike}
+use Rattle.epoch_laws.proofs.Bags.{flat_map_alike}
 use Rattle.epoch_laws.proofs.Lists.{every}
+use Rattle.epoch_laws.proofs.Networks.{passing_permuted}
 use Rattle.epoch_laws.proofs.Purges.{taken_permuted}
 use Rattle.epoch_draft.specs.Deriving.{AreOpened}
 use Rattle.epoch_draft.specs.EpochWork.{derived_tests, heard_tests}
@@ -59,16 +60,13 @@ module _ (net : Net) (stores : Stores) (news later : Streams) (alike : AreAlike 
       flat_map_alike (given_by_ends_at net news stores s) (given_by_ends_at net later stores s) (range_with_len 0 (length net))
       (every (λ n. IsPermutation (given_by_ends_at net news stores s n) (given_by_ends_at net later stores s n)) at (range_with_len 0 (length net)))
     where
-      bindings : (n : ℕ) → IsPermutation (map (λ (i : Instance). i.tuple) (leaving_state net news stores n)) (map (λ (i : Instance). i.tuple) (leaving_state net later stores n))
-      bindings n = IsPermutation-map (λ (i : Instance). i.tuple) (leaving_state net news stores n) (leaving_state net later stores n) (leaving_alike n)
-
       at : (n : ℕ) → IsPermutation (given_by_ends_at net news stores s n) (given_by_ends_at net later stores s n)
       at n =
           let ends = filter (λ (e : End). e.out == s) (ends_at net n) in
-          let was = map (λ (i : Instance). i.tuple) (leaving_state net news stores n) in
-          let is = map (λ (i : Instance). i.tuple) (leaving_state net later stores n) in
-          flat_map_alike (λ (e : End). filter_map (pass e.step) was) (λ (e : End). filter_map (pass e.step) is) ends
-          (every (λ (e : End). IsPermutation (filter_map (pass e.step) was) (filter_map (pass e.step) is)) (λ e. filter_map_permuted (pass e.step) was is (bindings n)) ends)
+          let was = leaving_state net news stores n in
+          let is = leaving_state net later stores n in
+          flat_map_alike (given_by_end was) (given_by_end is) ends
+          (every (λ (e : End). IsPermutation (given_by_end was e) (given_by_end is e)) (λ e. passing_permuted e.step e.birth was is (leaving_alike n)) ends)
 
 module _ (tests : ℕ → TupleView → ℕ) (net : Net) (stores : Stores) where
   -- the same tests over the same tuples, by induction on the order of work

@@ -1,5 +1,5 @@
 -- What comes of a tuple of a stream.
-use Rattle.std.proofs.Common.{◌≡◌, ◌∙◌, sym, ap, refl, subst, ℕ, ◌+◌, ◌<◌, ◌==◌, Bool, true, false, cond, length, get_or, take, List, [], ◌∷◌, ◌++◌, map}
+use Rattle.std.proofs.Common.{inr, ◌≡◌, ◌∙◌, sym, ap, refl, subst, ℕ, ◌+◌, ◌<◌, ◌==◌, Bool, true, false, cond, length, get_or, take, List, [], ◌∷◌, ◌++◌, map}
 use Rattle.std.specs.Prelude.{IsTrue, Option, Some, None, is_some, option_to_list}
 use Rattle.std.specs.Option.{option_and_then, option_map}
 use Rattle.std.specs.List.{All, filter, flat_map, range_with_len}
@@ -33,7 +33,7 @@ use Rattle.epoch_draft.specs.Moves.{Move, bound_by, bound_of, made_by, made_of, 
 use Rattle.epoch_draft.specs.Pairs.{followed, met}
 use Rattle.epoch_draft.specs.declared.draft.Draft.{Draft}
 use Rattle.epoch_draft.proofs.Concats.{tested_of}
-use Rattle.epoch_draft.proofs.DraftLemmas.{grows_none, grows_same, grows_trans}
+use Rattle.epoch_draft.proofs.DraftLemmas.{nothing_given, grows_none, grows_same, grows_trans}
 use Rattle.epoch_draft.proofs.GoingLemmas.{all_left, all_right, moves_append}
 use Rattle.semantics.proofs.ReportLemmas.{flat_map_same}
 
@@ -58,7 +58,7 @@ nothing_passes false = refl
 -- nothing comes of a tuple on silent ways
 silent_made : (net : Net) (t : ℕ) (r : TupleView) (way : Way) → IsSilent net r way → made_by t (begins r) way ≡ []
 silent_made net t r (Into k) silent = refl
-silent_made net t r (Out e) silent = ap (λ o. cond (e.out == t) (option_to_list o) []) silent ∙ nothing_passes (e.out == t)
+silent_made net t r (Out e) silent = ap (λ rows. cond (e.out == t) rows []) (nothing_given e (begins r) (inr silent)) ∙ nothing_passes (e.out == t)
 silent_made net t r (Back n) silent = absurd silent
 
 silent_bound : (net : Net) (w : ℕ) (r : TupleView) (way : Way) → IsSilent net r way → bound_by net w (begins r) way ≡ []

@@ -2,7 +2,7 @@
 use Rattle.std.proofs.Common.{◌≡◌, ◌∙◌, sym, ap, refl, ℕ, zero, suc, ◌+◌, ◌<◌, ◌≤◌, ◌==◌, Bool, true, false, cond, length, List, [], ◌∷◌, ◌++◌, map, arith}
 use Rattle.std.specs.Prelude.{Option, Some, None, option_to_list, count_by}
 use Rattle.std.specs.Option.{option_and_then, option_map, unwrap_or}
-use Rattle.std.specs.List.{filter, filter_map, flat_map, range_with_len}
+use Rattle.std.specs.List.{cons_option, filter, filter_map, flat_map, range_with_len}
 use Rattle.std.specs.List.Sorted.{IsPermutation}
 use Rattle.std.proofs.lemmas.Bool.Decides.{nat_tests}
 use Rattle.std.proofs.lemmas.Grind.{flat_map-append}
@@ -24,6 +24,8 @@ use Rattle.automaton.specs.declared.wait.Turn.{Turn}
 use Rattle.automaton.specs.declared.wait.Wait.{Wait}
 use Rattle.automaton.proofs.CountLemmas.{count-cons}
 use Rattle.stream_readers.specs.Ways.{Into, Out, Way, backs_by, backs_in, ways_at}
+use Rattle.epoch_laws.specs.Births.{began_after, is_after, passing_after}
+use Rattle.epoch_laws.specs.Closing.{given_by_end}
 use Rattle.epoch_laws.specs.Epochs.{again}
 use Rattle.epoch_laws.specs.Instances.{bindings_of, instances_entering, pass_instance}
 use Rattle.epoch_laws.proofs.Bags.{flat_map_alike, flat_map_parts}
@@ -105,7 +107,7 @@ backs_made s x n (Some w) = go w.fold
     go None = refl
     go (Some turn) = refl
 
-made_ways : (net : Net) (s n : ℕ) (x : Instance) → flat_map (made_by s x) (ways_at net n) ≡ flat_map (λ e. option_to_list (pass e.step x.tuple)) (filter (λ e. e.out == s) (ends_at net n))
+made_ways : (net : Net) (s n : ℕ) (x : Instance) → flat_map (made_by s x) (ways_at net n) ≡ flat_map (λ e. passing_after e.step e.birth (x ∷ [])) (filter (λ e. e.out == s) (ends_at net n))
 made_ways net s n x =
     flat_map-append (made_by s x) (map Into (edges_at net n)) (map Out (ends_at net n) ++ backs_by n (wait_at net n))
     ∙ ap (λ rows. rows ++ flat_map (made_by s x) (map Out (ends_at net n) ++ backs_by n (wait_at net n))) (flat_map-map (made_by s x) Into (edges_at net n) ∙ nothing_of (edges_at net n))
@@ -113,30 +115,38 @@ made_ways net s n x =
     ∙ ap (λ rows. flat_map (made_by s x) (map Out (ends_at net n)) ++ rows) (backs_made s x n (wait_at net n))
     ∙ append-nil (flat_map (made_by s x) (map Out (ends_at net n)))
     ∙ flat_map-map (made_by s x) Out (ends_at net n)
-    ∙ tested_of (λ (e : End). e.out == s) (λ e. option_to_list (pass e.step x.tuple)) (ends_at net n)
+    ∙ tested_of (λ (e : End). e.out == s) (λ e. passing_after e.step e.birth (x ∷ [])) (ends_at net n)
 
--- what passes of the bindings of instances, one by one
-passing_of : (f : TupleView → Option TupleView) (store : List Instance) → flat_map (λ (x : Instance). option_to_list (f x.tuple)) store ≡ filter_map f (bindings_of store)
-passing_of f store = sym (flat_map-map (λ (t : TupleView). option_to_list (f t)) (λ (x : Instance). x.tuple) store) ∙ options_of f (bindings_of store)
+-- what instances give by an end, one by one
+passing_of : (e : End) (store : List Instance) → flat_map (λ x. passing_after e.step e.birth (x ∷ [])) store ≡ given_by_end store e
+passing_of e [] = refl
+passing_of e (x ∷ store) = go (pass_instance e.step x) (passing_of e store)
+  where
+    go : (o : Option Instance) → flat_map (λ x. passing_after e.step e.birth (x ∷ [])) store ≡ given_by_end store e
+        → bindings_of (began_after e.birth (cons_option o [])) ++ flat_map (λ x. passing_after e.step e.birth (x ∷ [])) store ≡ bindings_of (began_after e.birth (cons_option o (filter_map (pass_instance e.step) store)))
+    go None rest = rest
+    go (Some y) rest = kept (is_after e.birth y.first)
+      where
+        kept : (b : Bool) → bindings_of (cond b (y ∷ []) []) ++ flat_map (λ x. passing_after e.step e.birth (x ∷ [])) store ≡ bindings_of (cond b (y ∷ began_after e.birth (filter_map (pass_instance e.step) store)) (began_after e.birth (filter_map (pass_instance e.step) store)))
+        kept true = ap (λ rows. y.tuple ∷ rows) rest
+        kept false = rest
 
-made_state : (net : Net) (s n : ℕ) (store : List Instance)
-    → IsPermutation (flat_map (λ x. flat_map (made_by s x) (ways_at net n)) store) (flat_map (λ e. filter_map (pass e.step) (bindings_of store)) (filter (λ e. e.out == s) (ends_at net n)))
+made_state : (net : Net) (s n : ℕ) (store : List Instance) → IsPermutation (flat_map (λ x. flat_map (made_by s x) (ways_at net n)) store) (flat_map (given_by_end store) (filter (λ e. e.out == s) (ends_at net n)))
 made_state net s n store =
     let ends = filter (λ (e : End). e.out == s) (ends_at net n) in
     permuted_from
-    (flat_map_same (λ x. flat_map (made_by s x) (ways_at net n)) (λ x. flat_map (λ (e : End). option_to_list (pass e.step x.tuple)) ends) store
-    (every (λ x. flat_map (made_by s x) (ways_at net n) ≡ flat_map (λ (e : End). option_to_list (pass e.step x.tuple)) ends) (made_ways net s n) store))
-    (permuted_to (pairs_turned (λ x (e : End). option_to_list (pass e.step x.tuple)) store ends)
-    (flat_map_same (λ (e : End). flat_map (λ x. option_to_list (pass e.step x.tuple)) store) (λ (e : End). filter_map (pass e.step) (bindings_of store)) ends
-    (every (λ (e : End). flat_map (λ x. option_to_list (pass e.step x.tuple)) store ≡ filter_map (pass e.step) (bindings_of store)) (λ e. passing_of (pass e.step) store) ends)))
+    (flat_map_same (λ x. flat_map (made_by s x) (ways_at net n)) (λ x. flat_map (λ (e : End). passing_after e.step e.birth (x ∷ [])) ends) store
+    (every (λ x. flat_map (made_by s x) (ways_at net n) ≡ flat_map (λ (e : End). passing_after e.step e.birth (x ∷ [])) ends) (made_ways net s n) store))
+    (permuted_to (pairs_turned (λ x (e : End). passing_after e.step e.birth (x ∷ [])) store ends)
+    (flat_map_same (λ (e : End). flat_map (λ x. passing_after e.step e.birth (x ∷ [])) store) (given_by_end store) ends
+    (every (λ (e : End). flat_map (λ x. passing_after e.step e.birth (x ∷ [])) store ≡ given_by_end store e) (λ e. passing_of e store) ends)))
 
 -- what all moves make for a stream is what its ends give
-pub made_over : (net : Net) (flow : ℕ → List Instance) (s : ℕ)
-    → IsPermutation (made_of s (moves_over net flow)) (flat_map (λ n. flat_map (λ e. filter_map (pass e.step) (bindings_of (flow n))) (filter (λ e. e.out == s) (ends_at net n))) (range_with_len 0 (length net)))
+pub made_over : (net : Net) (flow : ℕ → List Instance) (s : ℕ) → IsPermutation (made_of s (moves_over net flow)) (flat_map (λ n. flat_map (given_by_end (flow n)) (filter (λ e. e.out == s) (ends_at net n))) (range_with_len 0 (length net)))
 made_over net flow s =
     permuted_from (over_states (made_by s) net flow)
-    (flat_map_alike (λ n. flat_map (λ x. flat_map (made_by s x) (ways_at net n)) (flow n)) (λ n. flat_map (λ e. filter_map (pass e.step) (bindings_of (flow n))) (filter (λ e. e.out == s) (ends_at net n))) (range_with_len 0 (length net))
-    (every (λ n. IsPermutation (flat_map (λ x. flat_map (made_by s x) (ways_at net n)) (flow n)) (flat_map (λ e. filter_map (pass e.step) (bindings_of (flow n))) (filter (λ e. e.out == s) (ends_at net n))))
+    (flat_map_alike (λ n. flat_map (λ x. flat_map (made_by s x) (ways_at net n)) (flow n)) (λ n. flat_map (given_by_end (flow n)) (filter (λ e. e.out == s) (ends_at net n))) (range_with_len 0 (length net))
+    (every (λ n. IsPermutation (flat_map (λ x. flat_map (made_by s x) (ways_at net n)) (flow n)) (flat_map (given_by_end (flow n)) (filter (λ e. e.out == s) (ends_at net n))))
     (λ n. made_state net s n (flow n)) (range_with_len 0 (length net))))
 
 -- what goes back to a state, if it waits so

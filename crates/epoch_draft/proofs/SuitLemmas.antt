@@ -27,10 +27,12 @@ use Rattle.automaton.specs.declared.wait.Turn.{Turn}
 use Rattle.automaton.specs.declared.wait.Wait.{Wait}
 use Rattle.stream_readers.specs.Finding.{is_root_on, is_wait_on, waits_on}
 use Rattle.stream_readers.specs.Ways.{Back, Into, Out, backs_by, backs_in, ways_at}
-use Rattle.epoch_laws.specs.Closing.{leaving_state, leaving_by, given_by_ends, given_by_ends_at}
+use Rattle.epoch_laws.specs.Births.{began_after, is_after}
+use Rattle.epoch_laws.specs.Closing.{leaving_state, leaving_by, given_by_end, given_by_ends, given_by_ends_at}
 use Rattle.epoch_laws.specs.Epochs.{took}
-use Rattle.epoch_laws.specs.Instances.{begins, bindings_of}
-use Rattle.epoch_laws.proofs.Lists.{All-flat_map, every}
+use Rattle.epoch_laws.specs.Instances.{begins, bindings_of, pass_instance}
+use Rattle.epoch_laws.proofs.Bindings.{passing_bindings}
+use Rattle.epoch_laws.proofs.Lists.{All-flat_map, every, map_all}
 use Rattle.epoch_draft.specs.Held.{held, instances_in}
 use Rattle.epoch_draft.specs.Kindings.{EndFits}
 use Rattle.epoch_draft.specs.Pairs.{met}
@@ -49,6 +51,14 @@ told s (Some t) e = ap Some (same_number t s e)
 
 step_suits : (step : List Stage) (ks out : List Kind) (x : TupleView) → StepGives step ks out → HasKinds ks x → StepSuits step x
 step_suits step ks out x gives h = (step_passes step ks out x gives h).suits
+
+
+-- what holds of all that passes the step of an end holds of what the end gives
+passed_after : (P : TupleView → Type 0) (e : End) (store : List Instance) → All P (filter_map (pass e.step) (bindings_of store)) → All P (given_by_end store e)
+passed_after P e store all =
+    All-map P (λ (i : Instance). i.tuple) (began_after e.birth (filter_map (pass_instance e.step) store))
+    (All-filter (λ (i : Instance). is_after e.birth i.first) (λ (i : Instance). P i.tuple) (filter_map (pass_instance e.step) store)
+    (map_all P (λ (i : Instance). i.tuple) (filter_map (pass_instance e.step) store) (subst (λ ts. All P ts) (sym (passing_bindings e.step store)) all)))
 
 -- a waiting state by the state before it
 by_before : (net : Net) (k n : ℕ) → before_at net k ≡ Some n → (hop : Hop) × (entrance_at net k ≡ Some (Waiting n hop))
@@ -166,15 +176,14 @@ module _ (net : Net) (network : IsNetwork net) (kinds : List (List Kind)) (store
     published_kinds s known is =
         All-flat_map (HasKinds known) (given_by_ends_at net seen (held stores) s) (range_with_len 0 (length net)) (every (λ n. All (HasKinds known) (given_by_ends_at net seen (held stores) s n)) each (range_with_len 0 (length net)))
       where
-        bindings : ℕ → List TupleView
-        bindings n = bindings_of (leaving_state net seen (held stores) n)
-
-        one : (n : ℕ) (e : End) → EndFits kinds (typed.kinding.leaving n) e → (e.out == s) ≡ true → All (HasKinds known) (filter_map (pass e.step) (bindings n))
+        one : (n : ℕ) (e : End) → EndFits kinds (typed.kinding.leaving n) e → (e.out == s) ≡ true → All (HasKinds known) (given_by_end (leaving_state net seen (held stores) n) e)
         one n e fit out =
-            subst (λ (ks : List Kind). All (HasKinds ks) (filter_map (pass e.step) (bindings n)))
-            (some_is fit.0 known (sym fit.2 ∙ ap (slice_get kinds) (same_number e.out s out) ∙ is)) (passed_kinds e.step (typed.kinding.leaving n) fit.0 (bindings n) fit.1 (All-map (HasKinds (typed.kinding.leaving n)) (λ (i : Instance). i.tuple) (leaving_state net seen (held stores) n) (leaves_kinds n)))
+            subst (λ (ks : List Kind). All (HasKinds ks) (given_by_end (leaving_state net seen (held stores) n) e))
+            (some_is fit.0 known (sym fit.2 ∙ ap (slice_get kinds) (same_number e.out s out) ∙ is))
+            (passed_after (HasKinds fit.0) e (leaving_state net seen (held stores) n)
+            (passed_kinds e.step (typed.kinding.leaving n) fit.0 (bindings_of (leaving_state net seen (held stores) n)) fit.1 (All-map (HasKinds (typed.kinding.leaving n)) (λ (i : Instance). i.tuple) (leaving_state net seen (held stores) n) (leaves_kinds n))))
 
         each : (n : ℕ) → All (HasKinds known) (given_by_ends_at net seen (held stores) s n)
         each n =
-            All-flat_map (HasKinds known) (λ (e : End). filter_map (pass e.step) (bindings n)) (filter (λ e. e.out == s) (ends_at net n))
+            All-flat_map (HasKinds known) (given_by_end (leaving_state net seen (held stores) n)) (filter (λ e. e.out == s) (ends_at net n))
             (λ k d lt. one n (get_or (filter (λ (e : End). e.out == s) (ends_at net n)) k d) (All-filter (λ (e : End). e.out == s) (EndFits kinds (typed.kinding.leaving n)) (ends_at net n) (ends_typed n) k d lt) (filter_passes (λ (e : End). e.out == s) (ends_at net n) k d lt))

@@ -20,7 +20,7 @@ use Rattle.automaton.specs.declared.network.Entrance.{Entrance}
 use Rattle.automaton.specs.declared.network.Entrance.TheVariants.{Root, Waiting}
 use Rattle.automaton.specs.declared.wait.Wait.{Wait}
 use Rattle.stream_readers.specs.Finding.{is_wait_on, waits_on}
-use Rattle.epoch_laws.specs.Closing.{Stores, given_by_ends, leaving_by, leaving_state}
+use Rattle.epoch_laws.specs.Closing.{Stores, given_by_end, given_by_ends, leaving_by, leaving_state}
 use Rattle.epoch_laws.specs.Epochs.{took}
 use Rattle.epoch_laws.specs.Instances.{begins, bindings_of}
 use Rattle.epoch_laws.proofs.Lists.{every}
@@ -143,4 +143,4 @@ module _ (net : Net) (stores : Stores) (seen later : Streams) (alike : AreReadAl
 
   -- and the ends give the same
   pub given_same : (t : ℕ) → given_by_ends net later stores t ≡ given_by_ends net seen stores t
-  given_same t = ap (λ (leaving : ℕ → List Instance). flat_map (λ n. flat_map (λ (e : End). filter_map (pass e.step) (bindings_of (leaving n))) (filter (λ (e : End). e.out == t) (ends_at net n))) (range_with_len 0 (length net))) leaving_same
+  given_same t = ap (λ (leaving : ℕ → List Instance). flat_map (λ n. flat_map (given_by_end (leaving n)) (filter (λ (e : End). e.out == t) (ends_at net n))) (range_with_len 0 (length net))) leaving_same

@@ -10,9 +10,9 @@ use Rattle.automaton.specs.Networks.{IsNetwork}
 use Rattle.automaton.specs.States.{Net}
 use Rattle.automaton.specs.Work.{is_in}
 use Rattle.automaton.specs.declared.layout.Layout.{Layout}
-use Rattle.automaton.specs.declared.line.Line.{Line}
 use Rattle.stream_readers.specs.Readers.{AreReadersOf}
 use Rattle.stream_readers.specs.declared.reader.Reader.{Reader}
+use Rattle.epoch_laws.specs.BornLines.{BornLine}
 use Rattle.epoch_laws.specs.Closing.{IsEpoch, Stores}
 use Rattle.epoch_laws.specs.StoresStandFor.{Serves}
 use Rattle.epoch_draft.specs.Drafts.{DraftFits, EndsBelow, Grows, without}
@@ -58,7 +58,7 @@ pub record AreOpened (opened : List (List TupleView)) (touched : List ℕ) : Typ
 -- the network and the layout are of some lines, all is typed, and no derived stream has open tuples
 pub record CanDraw (net : Net) (layout : Layout) (stores : List (Option Store)) (opened : List (List TupleView)) : Type 0 where
   pub network : IsNetwork net
-  pub lines : List Line
+  pub lines : List BornLine
   pub serves : Serves net lines layout.order
   pub typed : IsTyped net layout.kinds stores
   pub kinds : HaveKinds layout.kinds (streams_of opened)

@@ -4,8 +4,8 @@ use Rattle.std.specs.List.{flat_map, range_with_len}
 use Rattle.event_types.specs.Tuple.{TupleView}
 use Rattle.instances.specs.declared.instance.Instance.{Instance}
 use Rattle.automaton.specs.States.{Net, step_at}
-use Rattle.automaton.specs.Steps.{pass}
 use Rattle.stream_readers.specs.Ways.{Back, Into, Out, Way, ways_at}
+use Rattle.epoch_laws.specs.Births.{passing_after}
 use Rattle.epoch_laws.specs.Instances.{pass_instance}
 
 -- an instance that goes a way
@@ -13,10 +13,10 @@ pub record Move : Type 0 where
   pub instance : Instance
   pub way : Way
 
--- what an instance makes of a way for a stream: a tuple, of which it no longer matters when it began
+-- what an instance makes of a way for a stream: by an end what it gives after the end's birth, of which it no longer matters when it began
 abbrev pub made_by : ℕ → Instance → Way → List TupleView
 made_by stream instance (Into next) = []
-made_by stream instance (Out end) = if end.out == stream then option_to_list (pass end.step instance.tuple) else []
+made_by stream instance (Out end) = if end.out == stream then passing_after end.step end.birth (instance ∷ []) else []
 made_by stream instance (Back number) = []
 
 -- what an instance makes of a way for a waiting state: an instance that began when it did

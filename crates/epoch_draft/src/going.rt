@@ -3,6 +3,7 @@ ghost use Rattle.std.specs.Prelude.{◌≡◌, ◌+◌, ◌<◌, ◌≤◌, ◌�
 ghost use Rattle.std.specs.List.{All};
 ghost use Rattle.automaton.specs.States.{Net, is_used, step_at};
 ghost use Rattle.stream_readers.specs.Ways.{Into, Out, ways_at};
+ghost use Rattle.epoch_laws.specs.Births.{is_after};
 ghost use Rattle.epoch_laws.specs.Instances.{began};
 ghost use Rattle.epoch_draft.specs.Drafts.{DraftFits, Grows, IsDraftOf};
 ghost use Rattle.epoch_draft.specs.Machines.{IsStation};
@@ -18,19 +19,24 @@ use event_types::{Memory, Tuple};
 use instances::Instance;
 use steps::{Ledger, Steps};
 
-/// A tuple goes out by an end, whenever it began. After want of memory the draft is of no more use.
+/// A tuple that began at the time `first` goes out by an end, where that is after the end's birth. After want of
+/// memory the draft is of no more use.
 pub(crate) fn go_out<L: Ledger>(
     draft: &mut Draft,
     end: &End,
     tuple: &Tuple,
+    first: u64,
     steps: &mut Steps<L>,
 ) -> Result<(), Memory>
     requires fits { DraftFits (length draft.old.made) (length draft.old.beads) draft.old }
     requires below { end.now.out < length draft.old.made }
     requires suits { StepSuits end.now.step tuple.now }
-    ensures grows { OnOk result ((net : Net) (first : ℕ) → length draft.old.beads ≡ length net → Grows net (moves_on (Out end.now ∷ []) (began first tuple.now)) draft.old draft.new) }
+    ensures grows { OnOk result ((net : Net) → length draft.old.beads ≡ length net → Grows net (moves_on (Out end.now ∷ []) (began first tuple.now)) draft.old draft.new) }
     ensures ticks { steps.new ≤ steps.old + keeps end.now.step }
 {
+    if !is_read(end.birth, first) {
+        return Ok(());
+    }
     match pass_on(draft.alloc, end.step.as_slice(), tuple, steps)? {
         Some(passed) => draft.add_made(end.out, passed),
         None => Ok(()),
@@ -42,17 +48,31 @@ fn hand_out<L: Ledger>(
     draft: &mut Draft,
     end: &End,
     tuple: Tuple,
+    first: u64,
     steps: &mut Steps<L>,
 ) -> Result<(), Memory>
     requires fits { DraftFits (length draft.old.made) (length draft.old.beads) draft.old }
     requires below { end.now.out < length draft.old.made }
     requires suits { StepSuits end.now.step tuple }
-    ensures grows { OnOk result ((net : Net) (first : ℕ) → length draft.old.beads ≡ length net → Grows net (moves_on (Out end.now ∷ []) (began first tuple)) draft.old draft.new) }
+    ensures grows { OnOk result ((net : Net) → length draft.old.beads ≡ length net → Grows net (moves_on (Out end.now ∷ []) (began first tuple)) draft.old draft.new) }
     ensures ticks { steps.new ≤ steps.old + keeps end.now.step }
 {
+    if !is_read(end.birth, first) {
+        return Ok(());
+    }
     match pass_made(draft.alloc, end.step.as_slice(), tuple, steps)? {
         Some(passed) => draft.add_made(end.out, passed),
         None => Ok(()),
+    }
+}
+
+// Whether a query of this birth reads what began at the time `first`.
+fn is_read(birth: Option<u64>, first: u64) -> bool
+    ensures { result ≡ is_after birth first }
+{
+    match birth {
+        Some(birth) => birth < first,
+        None => true,
     }
 }
 
@@ -126,7 +146,7 @@ fn go_out_all<L: Ledger>(
     ensures ticks { steps.new ≤ steps.old + ways_work network.now (map Out ends.now) }
 {
     for end in ends {
-        go_out(draft, end, &instance.tuple, steps)?;
+        go_out(draft, end, &instance.tuple, instance.first, steps)?;
     }
     Ok(())
 }
@@ -146,7 +166,7 @@ fn hand_out_all<L: Ledger>(
     ensures ticks { steps.new ≤ steps.old + ways_work network.now (map Out ends.now) }
 {
     match ends {
-        [end] => hand_out(draft, end, instance.tuple, steps),
+        [end] => hand_out(draft, end, instance.tuple, instance.first, steps),
         _ => go_out_all(network, draft, ends, &instance, steps),
     }
 }

@@ -103,7 +103,7 @@ fn go<L: Ledger>(
         Target::Edge(state) => { go_into(network, draft, state, tuple, tuple.at(), steps) }
         Target::End(place) => {
             let end = network.ends(place.state).get(place.place);
-            go_out(draft, end, tuple, steps)
+            go_out(draft, end, tuple, tuple.at(), steps)
         }
     }
 }

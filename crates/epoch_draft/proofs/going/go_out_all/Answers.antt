@@ -22,7 +22,7 @@ loop-end-preserved g c =
     record {
       grows =
           go_more Out net ends i end c.args.instance.now c.args.draft.now c.loop-end.draft c.go_out.new.draft lt c.loop-end.invariant.grows
-          (subst (λ (e : End). Grows net (moves_on (Out e ∷ []) c.args.instance.now) c.loop-end.draft c.go_out.new.draft) c.end-item.is (c.in_ok-go_out.ensures.grows net c.args.instance.now.first c.loop-end.invariant.grows.fits.beads));
+          (subst (λ (e : End). Grows net (moves_on (Out e ∷ []) c.args.instance.now) c.loop-end.draft c.go_out.new.draft) c.end-item.is (c.in_ok-go_out.ensures.grows net c.loop-end.invariant.grows.fits.beads));
       ticks = omega (arith, more, was, one);
     }
 

@@ -1,4 +1,4 @@
-use Rattle.std.proofs.Common.{◌≡◌, ℕ, ◌∷◌, [], length, map, subst}
+use Rattle.std.proofs.Common.{◌≡◌, ◌∷◌, [], length, map, subst}
 use Rattle.automaton.specs.States.{Net}
 use Rattle.automaton.specs.declared.network.End.{End}
 use Rattle.stream_readers.specs.Ways.{Out}
@@ -16,8 +16,8 @@ returns-in-len1-clause-grows g c =
     let old = c.args.draft.now in
     let new = c.hand_out.new.draft in
     let end = c.end-item.result in
-    on_ok c.hand_out.result ((net : Net) (first : ℕ) → length old.beads ≡ length net → Grows net (moves_on (Out end ∷ []) (began first x.tuple)) old new) (Grows c.args.network.now (moves_on (map Out c.args.ends.now) x) old new)
+    on_ok c.hand_out.result ((net : Net) → length old.beads ≡ length net → Grows net (moves_on (Out end ∷ []) (began x.first x.tuple)) old new) (Grows c.args.network.now (moves_on (map Out c.args.ends.now) x) old new)
     (λ grows.
     go_one Out c.args.network.now c.args.ends.now end x old new c.in-len1.len_at_least c.in-len1.len_below
-    (subst (λ (e : End). Grows c.args.network.now (moves_on (Out e ∷ []) x) old new) c.end-item.is (grows c.args.network.now x.first c.requires.fits.beads)))
+    (subst (λ (e : End). Grows c.args.network.now (moves_on (Out e ∷ []) x) old new) c.end-item.is (grows c.args.network.now c.requires.fits.beads)))
     c.hand_out.ensures.grows

@@ -50,5 +50,5 @@ returns-in-End-clause-grows g c =
     let end = c.get-end.result.now in
     let got : slice_get (ends_at net place.state) place.place ≡ Some end = ap (λ es. slice_get es place.place) (sym c.ends.ensures) ∙ c.get-end.ensures in
     let ways : way_of net c.args.target ≡ Out end ∷ [] = ap (way_of net) c.in-End.is ∙ ap out_by got in
-    on_ok c.go_out.result ((any : Net) (first : ℕ) → length old.beads ≡ length any → Grows any (moves_on (Out end ∷ []) (began first x)) old new) (Grows net (moves_on (way_of net c.args.target) (begins x)) old new)
-    (λ grows. subst (λ (ws : List Way). Grows net (moves_on ws (begins x)) old new) (sym ways) (grows net x.at c.requires.draft.fits.beads)) c.go_out.ensures.grows
+    on_ok c.go_out.result ((any : Net) → length old.beads ≡ length any → Grows any (moves_on (Out end ∷ []) (began c.at-in-End.result x)) old new) (Grows net (moves_on (way_of net c.args.target) (begins x)) old new)
+    (λ grows. subst (λ (ws : List Way). Grows net (moves_on ws (begins x)) old new) (sym ways) (subst (λ (at : ℕ). Grows net (moves_on (Out end ∷ []) (began at x)) old new) c.at-in-End.ensures.value (grows net c.requires.draft.fits.beads))) c.go_out.ensures.grows
