@@ -18,7 +18,6 @@ use Rattle.automaton.specs.Networks.{IsAt}
 use Rattle.automaton.specs.Prefixes.{Prefix, Root, After, path}
 use Rattle.automaton.specs.States.{Net, edges_at, ends_at, entrance_in, is_used, root_at, root_by, state_at, step_at, wait_at, wait_by}
 use Rattle.automaton.specs.declared.line.Hop.{Hop}
-use Rattle.automaton.specs.declared.line.Line.{Line}
 use Rattle.automaton.specs.declared.network.End.{End}
 use Rattle.automaton.specs.declared.network.Entrance.{Entrance}
 use Rattle.automaton.specs.declared.network.State.{State}
@@ -26,6 +25,7 @@ use Rattle.automaton.specs.declared.step.Stage.{Stage}
 use Rattle.automaton.specs.declared.wait.Wait.{Wait}
 use Rattle.stream_readers.specs.Finding.{is_root_on, is_wait_on, waits_on, ways_on}
 use Rattle.stream_readers.specs.Ways.{first_parts, is_state_looked_up, is_way_looked_up, parts_in, ways_at}
+use Rattle.epoch_laws.specs.BornLines.{BornLine, lines_in}
 use Rattle.epoch_laws.specs.Closing.{IsEpoch, Stores, leaving_by, leaving_state}
 use Rattle.epoch_laws.specs.Epochs.{took}
 use Rattle.epoch_laws.specs.Histories.{streams_over}
@@ -39,6 +39,7 @@ use Rattle.epoch_draft.specs.Candidates.{candidates_at, candidates_by}
 use Rattle.epoch_draft.specs.Takes.{take_work}
 use Rattle.epoch_draft.specs.Tests.{tuple_work}
 use Rattle.epoch_draft.specs.Work.{keeps, met_work, state_work, way_work, ways_work}
+use Rattle.epoch_engine.proofs.BornLemmas.{plain_lines}
 use Rattle.epoch_engine.specs.EngineView.{EngineView, stores_in}
 use Rattle.epoch_engine.specs.Work.{looking_up, state_tests, step_tests, wait_tests}
 use Rattle.epoch_engine.specs.WorkLaws.{IsConsistent, StandsOpen, closing_tests}
@@ -89,7 +90,7 @@ free_root net k free = go (state_at net k) free
     go None e = refl
     go (Some state) e = absurd (cc)
 
-module _ (engine : EngineView) (lines : List Line) (states : List Prefix) (history : List Event) (time : ℕ) (is : IsConsistent engine) (has : StandsOpen engine lines states history time) where
+module _ (engine : EngineView) (lines : List BornLine) (states : List Prefix) (history : List Event) (time : ℕ) (is : IsConsistent engine) (has : StandsOpen engine lines states history time) where
   abbrev net : Net
   net = engine.network
 
@@ -223,19 +224,19 @@ module _ (engine : EngineView) (lines : List Line) (states : List Prefix) (histo
         omega (arith, first, second, third)
 
     -- all tests of the closing are those that the epoch asks for
-    pub closing_less : closing_tests engine ≤ sum_by (state_tests time full stored) states + sum_by (λ line. tests (path line) line.last) lines
+    pub closing_less : closing_tests engine ≤ sum_by (state_tests time full stored) states + sum_by (λ line. tests (path line) line.last) (lines_in lines)
     closing_less =
         let ks = all_states net stores in
-        let has_lines = has.stands.serves.has_lines in
+        let has_lines = plain_lines net lines has.stands.serves.has_lines in
         let merged = has.stands.merged in
         let sums = by_states in
         let each =
         sum_less (λ k. root_all k + (meet_all k + take_all k)) (λ k. cond (is_used net k) (waits (place k)) 0 + outs k (place k)) ks
         (every (λ k. root_all k + (meet_all k + take_all k) ≤ cond (is_used net k) (waits (place k)) 0 + outs k (place k)) (λ k. at_number k (is_used net k) refl) ks) in
-        let net_wide = net_sum net lines merged is.network has_lines tests waits states has.listed in
-        let by_prefix = sum_same (λ p. edge_into net lines merged is.network has_lines tests p + waits p) (state_tests time full stored) both states in
+        let net_wide = net_sum net (lines_in lines) merged is.network has_lines tests waits states has.listed in
+        let by_prefix = sum_same (λ p. edge_into net (lines_in lines) merged is.network has_lines tests p + waits p) (state_tests time full stored) both states in
         omega (arith, sums, each, net_wide, by_prefix)
       where
-        both : (p : Prefix) → edge_into net lines has.stands.merged is.network has.stands.serves.has_lines tests p + waits p ≡ state_tests time full stored p
+        both : (p : Prefix) → edge_into net (lines_in lines) has.stands.merged is.network (plain_lines net lines has.stands.serves.has_lines) tests p + waits p ≡ state_tests time full stored p
         both (Root s) = refl
         both (After p h) = refl

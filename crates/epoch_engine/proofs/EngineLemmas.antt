@@ -42,6 +42,7 @@ use Rattle.epoch_draft.proofs.StoreLemmas.{has_store, typed_same}
 use Rattle.epoch_draft.proofs.Lists.{some_is}
 use Rattle.epoch_draft.specs.Marks.{MarksMore}
 use Rattle.epoch_draft.specs.EpochWork.{epoch_work}
+use Rattle.epoch_engine.proofs.BornLemmas.{their_births}
 use Rattle.epoch_engine.specs.Closes.{Closes, IsTaken}
 use Rattle.epoch_engine.specs.EngineView.{EngineView, stores_in}
 use Rattle.epoch_engine.specs.Running.{AreTouched, IsPlan, IsRunning}
@@ -147,12 +148,13 @@ pub made_running : (plan : Plan) (stores : List (Option Store)) (epoch : Epoch) 
     → AreNewStores plan.merged stores → length epoch.tuples ≡ length plan.layout.kinds → ((s : ℕ) → get_or epoch.tuples s [] ≡ []) → AreTouched epoch.tuples epoch.touched
     → IsRunning plan stores epoch
 made_running plan stores epoch fits network is has as_many none touched =
-    let typed = fitting_typed plan.merged plan.layout fits in record {
+    let typed = fitting_typed plan.merged plan.layout fits in
+    let born = their_births plan.merged fits.0 fits.1 in record {
       plan_is = is;
       can_draw = record {
         network = network;
-        lines = fits.0;
-        serves = record { has_lines = fits.1; in_order = fits.2.in_order };
+        lines = born.0;
+        serves = record { has_lines = born.1; in_order = subst (λ (ls : List Line). IsInOrder ls plan.layout.order) (sym born.2) fits.2.in_order };
         typed = record {
           kinding = typed.0;
           states = typed.1;

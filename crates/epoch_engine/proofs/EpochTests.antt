@@ -12,6 +12,7 @@ use Rattle.semantics.specs.Programs.{with_stream}
 use Rattle.automaton.specs.States.{Net, tells}
 use Rattle.automaton.specs.Work.{IsInOrder, is_in}
 use Rattle.automaton.specs.declared.line.Line.{Line}
+use Rattle.epoch_laws.specs.BornLines.{BornLine, lines_in}
 use Rattle.epoch_laws.specs.Closing.{IsEpoch, Stores, given_by_ends}
 use Rattle.epoch_laws.specs.StoresStandFor.{Serves}
 use Rattle.epoch_laws.proofs.Grows.{epoch_grows, epoch_starts}
@@ -33,7 +34,7 @@ finished_other net stores (s ∷ order) news t out =
     finished_other net stores order (with_stream news s (given_by_ends net news stores s)) t parts.1 ∙ with_other news s (given_by_ends net news stores s) t parts.0
 
 -- they are an epoch, by induction on the order of work
-finished_more : (net : Net) (lines : List Line) (stores : Stores) (heard news : Streams) (done order : List ℕ) → Serves net lines (done ++ order) → IsEpoch net done stores heard news → IsEpoch net (done ++ order) stores heard (finished net stores order news)
+finished_more : (net : Net) (lines : List BornLine) (stores : Stores) (heard news : Streams) (done order : List ℕ) → Serves net lines (done ++ order) → IsEpoch net done stores heard news → IsEpoch net (done ++ order) stores heard (finished net stores order news)
 finished_more net lines stores heard news done [] serves epoch = subst (λ (o : List ℕ). IsEpoch net o stores heard news) (sym (append-nil done)) epoch
 finished_more net lines stores heard news done (s ∷ order) serves epoch =
     let given = given_by_ends net news stores s in
@@ -43,7 +44,7 @@ finished_more net lines stores heard news done (s ∷ order) serves epoch =
     (epoch_grows net lines done s order stores heard news given serves epoch (IsPermutation-refl given)))
 
 -- over the tuples that were heard
-pub finished_epoch : (net : Net) (lines : List Line) (order : List ℕ) (stores : Stores) (heard : Streams) → Serves net lines order → IsEpoch net order stores heard (finished net stores order heard)
+pub finished_epoch : (net : Net) (lines : List BornLine) (order : List ℕ) (stores : Stores) (heard : Streams) → Serves net lines order → IsEpoch net order stores heard (finished net stores order heard)
 finished_epoch net lines order stores heard serves = finished_more net lines stores heard heard [] order serves (epoch_starts net stores heard heard (λ s. IsPermutation-refl (heard s)))
 
 -- tests of the tuples of one stream alone, or of none
@@ -115,7 +116,7 @@ module _ (net : Net) (stores : Stores) where
             let here = one_stream s given ∙ ap (λ b. cond b (sum_by g given) 0) e in
             let rest = more h in omega (arith, here, rest)
 
-module _ (net : Net) (lines : List Line) (order : List ℕ) (streams : ℕ) (stores : Stores) (heard : Streams) where
+module _ (net : Net) (lines : List BornLine) (order : List ℕ) (streams : ℕ) (stores : Stores) (heard : Streams) where
   -- the tests of all tuples of the epoch
   abbrev pub whole : (ℕ → TupleView → ℕ) → ℕ
   whole tests = heard_tests tests streams heard + derived_tests tests net order stores heard
@@ -151,7 +152,7 @@ module _ (net : Net) (lines : List Line) (order : List ℕ) (streams : ℕ) (sto
         go : (b : Bool) → is_in order r ≡ b → whole (told (Some r) g) ≤ sum_by g (finished net stores order heard r)
         go true there =
             let none : sum_by g (heard r) ≡ 0 = ap (sum_by g) (All-contains (λ s. heard s ≡ []) order r underived (contains_in order r there)) in
-            let rest = derived_once net stores r g lines order heard serves.in_order there in omega (arith, each, few, none, rest)
+            let rest = derived_once net stores r g (lines_in lines) order heard serves.in_order there in omega (arith, each, few, none, rest)
         go false out =
             let none = derived_none net stores r g order heard out in
             let same : sum_by g (finished net stores order heard r) ≡ sum_by g (heard r) = ap (sum_by g) (finished_other net stores order heard r out) in omega (arith, each, few, none, same)

@@ -1,4 +1,5 @@
 pub mod BatchLemmas
+pub mod BornLemmas
 pub mod ClosedLemmas
 pub mod ClosingTests
 pub mod ConsistentLemmas

@@ -13,7 +13,7 @@ use Rattle.semantics.specs.Denotation.{Streams, streams_of}
 use Rattle.semantics.specs.Histories.{Event, heard_on}
 use Rattle.automaton.specs.States.{Net, wait_at}
 use Rattle.automaton.specs.declared.layout.Layout.{Layout}
-use Rattle.automaton.specs.declared.line.Line.{Line}
+use Rattle.epoch_laws.specs.BornLines.{BornLine, lines_in}
 use Rattle.epoch_laws.specs.Closing.{ArePurged, Stores, stores_after}
 use Rattle.epoch_laws.specs.Histories.{streams_over}
 use Rattle.epoch_laws.specs.Standing as standing
@@ -32,11 +32,11 @@ use Rattle.epoch_engine.specs.EngineView.{EngineView, stores_in}
 use Rattle.epoch_engine.proofs.PurgeLemmas.{are_purged}
 
 -- the parts of an engine that stand for a history
-abbrev Standing : Net → List Line → List ℕ → Stores → Option ℕ → Streams → Option ℕ → List Event → Type 0
+abbrev Standing : Net → List BornLine → List ℕ → Stores → Option ℕ → Streams → Option ℕ → List Event → Type 0
 Standing net lines order stores time opened closed_time history = standing.PartsStandFor net lines order stores time opened closed_time history
 
 -- a new engine
-pub new_stands : (net : Net) (layout : Layout) (lines : List Line) (engine : EngineView) → Serves net lines layout.order → IsNew net layout engine → EngineStandsFor engine lines []
+pub new_stands : (net : Net) (layout : Layout) (lines : List BornLine) (engine : EngineView) → Serves net lines layout.order → IsNew net layout engine → EngineStandsFor engine lines []
 new_stands net layout lines engine serves new =
     let order : engine.layout.order ≡ layout.order = ap (λ (l : Layout). l.order) new.same_layout in
     let stores : (λ _. []) ≡ stores_in engine = λ i n. sym (new.stores n) i in
@@ -65,7 +65,7 @@ may_follow None (Some last) at ahead late = above last at (λ le. late last (le,
     above last at before = omega (arith, before)
 
 -- an engine that took a tuple
-pub offered_stands : (engine : EngineView) (lines : List Line) (history : List Event) (stream : ℕ) (tuple : TupleView) → EngineStandsFor engine lines history → IsHeard engine.layout stream tuple → IsSound tuple → IsNotAhead engine.time tuple.at
+pub offered_stands : (engine : EngineView) (lines : List BornLine) (history : List Event) (stream : ℕ) (tuple : TupleView) → EngineStandsFor engine lines history → IsHeard engine.layout stream tuple → IsSound tuple → IsNotAhead engine.time tuple.at
     → ((seen : ℕ) → IsLate engine.time engine.closed_time tuple.at seen → ⊥) → EngineStandsFor (with_tuple engine stream tuple) lines (history ++ record { stream = stream; tuple = tuple } ∷ [])
 offered_stands engine lines history stream tuple stands heard sound ahead late = record {
   merged = stands.merged;
@@ -93,7 +93,7 @@ offered_stands engine lines history stream tuple stands heard sound ahead late =
     added : (s : ℕ) → IsPermutation (get_or (set engine.opened stream more) s []) (get_or engine.opened s [] ++ heard_on (event ∷ []) s)
     added s = permuted_is (each s (stream == s) refl)
 
-module _ (old new : EngineView) (lines : List Line) (history : List Event) (batch : List (List TupleView)) (stands : EngineStandsFor old lines history) (closes : Closes old new batch) where
+module _ (old new : EngineView) (lines : List BornLine) (history : List Event) (batch : List (List TupleView)) (stands : EngineStandsFor old lines history) (closes : Closes old new batch) where
   open_stands : Standing old.network lines old.layout.order (stores_in old) (Some closes.time) (streams_of old.opened) old.closed_time history
   open_stands = subst (λ (t : Option ℕ). Standing old.network lines old.layout.order (stores_in old) t (streams_of old.opened) old.closed_time history) closes.was_open stands.stands
 

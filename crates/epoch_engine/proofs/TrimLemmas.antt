@@ -19,10 +19,10 @@ use Rattle.automaton.specs.States.{Net, entrance_at, entrance_in, is_used, root_
 use Rattle.automaton.specs.Waiting.{waiting}
 use Rattle.automaton.specs.declared.layout.Layout.{Layout}
 use Rattle.automaton.specs.declared.line.Hop.{Hop}
-use Rattle.automaton.specs.declared.line.Line.{Line}
 use Rattle.automaton.specs.declared.network.Entrance.{Entrance}
 use Rattle.automaton.specs.declared.network.Entrance.TheVariants as entrance
 use Rattle.automaton.specs.declared.network.State.{State}
+use Rattle.epoch_laws.specs.BornLines.{BornLine, lines_in}
 use Rattle.epoch_laws.specs.Closing.{Stores}
 use Rattle.epoch_laws.specs.Histories.{streams_over}
 use Rattle.epoch_laws.specs.Instances.{bindings_of}
@@ -36,6 +36,7 @@ use Rattle.epoch_laws.proofs.StoresStandFor.{stored_wait}
 use Rattle.epoch_laws.proofs.Streams.{start_waits}
 use Rattle.prefix_merge.specs.Merging.{IsMerged}
 use Rattle.prefix_merge.proofs.CountLemmas.{numbers, places, states, states_distinct, used_at}
+use Rattle.epoch_engine.proofs.BornLemmas.{plain_lines}
 use Rattle.epoch_engine.specs.Closes.{ArePurgedWhole}
 use Rattle.epoch_engine.specs.Counts.{CountsAlive, alive_over, stored_in}
 use Rattle.epoch_engine.specs.Laws.{TrimmedIsCounted, TrimmedStands}
@@ -84,7 +85,7 @@ free_waits net number free = go (state_at net number) free
 from_zero : (k : ℕ) → 0 + k ≡ k
 from_zero k = omega arith
 
-module _ (old new : EngineView) (lines : List Line) (history : List Event) (stands : EngineStandsFor old lines history) (trims : Trims old new) where
+module _ (old new : EngineView) (lines : List BornLine) (history : List Event) (stands : EngineStandsFor old lines history) (trims : Trims old new) where
   abbrev order : List ℕ
   order = old.layout.order
 
@@ -163,13 +164,14 @@ module _ (old new : EngineView) (lines : List Line) (history : List Event) (stan
   pub stored_counted : CountsAlive lines order past (min (stored_in new) (2 ^ 64 - 1))
   stored_counted =
       let net = old.network in
-      let has = stands.serves.has_lines in
-      let at = places net lines stands.merged has in
+      let plain = lines_in lines in
+      let has = plain_lines net lines stands.serves.has_lines in
+      let at = places net plain stands.merged has in
       let stored : ℕ → ℕ = λ n. length (stores_in new n) in
-      let each = sum_map (λ p. length (alive_over lines order past p)) at stored (numbers net lines stands.merged has) (λ n listed. as_many_at n (at n) (has.1.are_places n (used_at net lines stands.merged has n listed))) in
+      let each = sum_map (λ p. length (alive_over lines order past p)) at stored (numbers net plain stands.merged has) (λ n listed. as_many_at n (at n) (has.1.are_places n (used_at net plain stands.merged has n listed))) in
       let whole = sum_states stored net new.stores 0 (λ k. ap stored (from_zero k)) (λ k free. none_new k (free_waits net k free)) in record {
-        distinct = states net lines stands.merged has;
-        are = states_distinct net lines stands.merged has;
+        distinct = states net plain stands.merged has;
+        are = states_distinct net plain stands.merged has;
         value = ap (λ (n : ℕ). min n (2 ^ 64 - 1)) (sym (each ∙ whole));
       }
 

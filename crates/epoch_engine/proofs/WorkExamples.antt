@@ -7,9 +7,9 @@ use Rattle.semantics.specs.Histories.{Event as Heard}
 use Rattle.semantics.specs.Scalars.{Binding, Dur, Event, Lit, Test}
 use Rattle.automaton.specs.Prefixes.{Prefix, Root, After}
 use Rattle.automaton.specs.declared.line.Hop.{Hop}
-use Rattle.automaton.specs.declared.line.Line.{Line}
 use Rattle.automaton.specs.declared.step.Stage.TheVariants.{Keep}
 use Rattle.automaton.specs.declared.wait.Turn.{Turn}
+use Rattle.epoch_laws.specs.BornLines.{BornLine, unborn}
 use Rattle.epoch_engine.specs.Work.{work, work_with}
 
 -- the event of one number on a stream, at a time
@@ -24,8 +24,8 @@ hop fold = record {
 }
 
 -- what comes of it is kept where DUR < 9
-abbrev line : Option Turn → Line
-line fold = record { root = 0; hops = hop fold ∷ []; last = Keep (Test Dur cmp.Lt (Lit (value.Int (pos 9))) ∷ []) ∷ []; out = 2 }
+abbrev line : Option Turn → BornLine
+line fold = unborn (record { root = 0; hops = hop fold ∷ []; last = Keep (Test Dur cmp.Lt (Lit (value.Int (pos 9))) ∷ []) ∷ []; out = 2 })
 
 -- its two states
 abbrev states : Option Turn → List Prefix
@@ -60,8 +60,8 @@ pub fewer_bindings_have_fewer_tests : work_with (states None) (line None ∷ [])
 fewer_bindings_have_fewer_tests = refl
 
 -- S, and then a tuple of T with a number above 7
-abbrev guarded : Line
-guarded = record { root = 0; hops = record { step = []; wait = record { stream = 1; choose = Test (Event 0) cmp.Gt (Lit (value.Int (pos 7))) ∷ []; fold = None } } ∷ []; last = []; out = 2 }
+abbrev guarded : BornLine
+guarded = unborn (record { root = 0; hops = record { step = []; wait = record { stream = 1; choose = Test (Event 0) cmp.Gt (Lit (value.Int (pos 7))) ∷ []; fold = None } } ∷ []; last = []; out = 2 })
 
 abbrev guarded_states : List Prefix
 guarded_states = Root 0 ∷ After (Root 0) (record { step = []; wait = record { stream = 1; choose = Test (Event 0) cmp.Gt (Lit (value.Int (pos 7))) ∷ []; fold = None } }) ∷ []
@@ -83,8 +83,8 @@ pub stored_bindings_are_tested : work_with guarded_states (guarded ∷ []) (2 �
 stored_bindings_are_tested = refl
 
 -- the stream that the first line publishes, where the first number is above 7
-abbrev over_the_first : Line
-over_the_first = record { root = 2; hops = []; last = Keep (Test (Event 0) cmp.Gt (Lit (value.Int (pos 7))) ∷ []) ∷ []; out = 3 }
+abbrev over_the_first : BornLine
+over_the_first = unborn (record { root = 2; hops = []; last = Keep (Test (Event 0) cmp.Gt (Lit (value.Int (pos 7))) ∷ []) ∷ []; out = 3 })
 
 -- its tuple of the time 2 has a test beside the three of the first line
 pub derived_tuple_is_tested : work (Root 0 ∷ After (Root 0) (hop None) ∷ Root 2 ∷ []) (line None ∷ over_the_first ∷ []) (2 ∷ 3 ∷ []) history 2 ≡ 4

@@ -10,7 +10,7 @@ use Rattle.automaton.specs.Networks.{IsAt}
 use Rattle.automaton.specs.Prefixes.{Prefix, Root, After}
 use Rattle.automaton.specs.Waiting.{waiting}
 use Rattle.automaton.specs.declared.line.Hop.{Hop}
-use Rattle.automaton.specs.declared.line.Line.{Line}
+use Rattle.epoch_laws.specs.BornLines.{BornLine, lines_in}
 use Rattle.epoch_laws.specs.Histories.{events_before, streams_over}
 use Rattle.epoch_laws.specs.Instances.{bindings_of}
 use Rattle.epoch_laws.specs.Standing.{closed_part, last_time, next_time}
@@ -44,10 +44,10 @@ fewer_ask_for_less states lines order stored history time within =
     let fewer = sum_less (state_tests time streams stored) (state_tests time streams waits) states each in omega (arith, fewer)
 
 -- the tests of a closing, where at least what is stored is at the states
-closing_within : (engine : EngineView) (lines : List Line) (states : List Prefix) (history : List Event) (time : ℕ) (stored : Prefix → List TupleView) → IsConsistent engine → StandsOpen engine lines states history time
+closing_within : (engine : EngineView) (lines : List BornLine) (states : List Prefix) (history : List Event) (time : ℕ) (stored : Prefix → List TupleView) → IsConsistent engine → StandsOpen engine lines states history time
     → ((k : ℕ) (p : Prefix) (h : Hop) → IsAt engine.network k (After p h) → IsWithin (bindings_of (stores_in engine k)) (stored (After p h))) → closing_tests engine ≤ work_with states lines engine.layout.order stored history time
 closing_within engine lines states history time stored is has within =
-    subst (λ (events : List Event). closing_tests engine ≤ sum_by (state_tests time (streams_over lines engine.layout.order events) stored) states + sum_by (end_tests time (streams_over lines engine.layout.order events)) lines)
+    subst (λ (events : List Event). closing_tests engine ≤ sum_by (state_tests time (streams_over lines engine.layout.order events) stored) states + sum_by (end_tests time (streams_over lines engine.layout.order events)) (lines_in lines))
     (sym (upto_last history time has.stands.stands.never_falls last)) (closing_less engine lines states history time is has stored within)
   where
     last : last_time history ≡ Some time

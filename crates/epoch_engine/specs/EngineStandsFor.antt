@@ -3,14 +3,14 @@ use Rattle.std.specs.Prelude.{◌≡◌, ℕ, List, [], None, length}
 use Rattle.semantics.specs.Denotation.{streams_of}
 use Rattle.semantics.specs.Histories.{Event}
 use Rattle.automaton.specs.States.{wait_at}
-use Rattle.automaton.specs.declared.line.Line.{Line}
 use Rattle.prefix_merge.specs.Merging.{IsMerged}
+use Rattle.epoch_laws.specs.BornLines.{BornLine}
 use Rattle.epoch_laws.specs.Standing as standing
 use Rattle.epoch_laws.specs.StoresStandFor.{Serves}
 use Rattle.epoch_engine.specs.EngineView.{EngineView, stores_in}
 
--- an engine whose network is merged and has these lines, and whose order of work is one for them, stands for a history: its stores, its open tuples, its open epoch and its last closed time are those that the history asks for, nothing is stored where no state waits, and there is a list of open tuples for each stream that has kinds
-pub record EngineStandsFor (engine : EngineView) (lines : List Line) (history : List Event) : Type 0 where
+-- an engine whose network is merged and has these lines with these births, and whose order of work is one for them, stands for a history: its stores, its open tuples, its open epoch and its last closed time are those that the history asks for, nothing is stored where no state waits, and there is a list of open tuples for each stream that has kinds
+pub record EngineStandsFor (engine : EngineView) (lines : List BornLine) (history : List Event) : Type 0 where
   pub merged : IsMerged engine.network
   pub serves : Serves engine.network lines engine.layout.order
   pub as_many : length engine.opened ≡ length engine.layout.kinds

@@ -9,7 +9,7 @@ use Rattle.automaton.specs.Prefixes.{Prefix, After}
 use Rattle.automaton.specs.States.{Net}
 use Rattle.automaton.specs.declared.layout.Layout.{Layout}
 use Rattle.automaton.specs.declared.line.Hop.{Hop}
-use Rattle.automaton.specs.declared.line.Line.{Line}
+use Rattle.epoch_laws.specs.BornLines.{BornLine}
 use Rattle.epoch_laws.specs.Histories.{streams_over}
 use Rattle.epoch_laws.specs.Instances.{bindings_of}
 use Rattle.epoch_laws.specs.Standing.{closed_part}
@@ -25,34 +25,34 @@ use Rattle.epoch_engine.specs.EngineView.{EngineView, stores_in}
 
 -- a new engine stands for the empty history
 abbrev pub NewStands : Type 0
-NewStands = (net : Net) (layout : Layout) (lines : List Line) (engine : EngineView) → Serves net lines layout.order → IsNew net layout engine → EngineStandsFor engine lines []
+NewStands = (net : Net) (layout : Layout) (lines : List BornLine) (engine : EngineView) → Serves net lines layout.order → IsNew net layout engine → EngineStandsFor engine lines []
 
 -- an engine that took a tuple stands for the history with that event behind
 abbrev pub OfferedStands : Type 0
 OfferedStands =
-    (engine : EngineView) (lines : List Line) (history : List Event) (stream : ℕ) (tuple : TupleView) → EngineStandsFor engine lines history → IsHeard engine.layout stream tuple → IsSound tuple → IsNotAhead engine.time tuple.at
+    (engine : EngineView) (lines : List BornLine) (history : List Event) (stream : ℕ) (tuple : TupleView) → EngineStandsFor engine lines history → IsHeard engine.layout stream tuple → IsSound tuple → IsNotAhead engine.time tuple.at
     → ((seen : ℕ) → IsLate engine.time engine.closed_time tuple.at seen → ⊥) → EngineStandsFor (with_tuple engine stream tuple) lines (history ++ record { stream = stream; tuple = tuple } ∷ [])
 
 -- an engine that closed its epoch stands for the same history
 abbrev pub ClosedStands : Type 0
-ClosedStands = (old new : EngineView) (lines : List Line) (history : List Event) (batch : List (List TupleView)) → EngineStandsFor old lines history → Closes old new batch → KeepsPlan old new → EngineStandsFor new lines history
+ClosedStands = (old new : EngineView) (lines : List BornLine) (history : List Event) (batch : List (List TupleView)) → EngineStandsFor old lines history → Closes old new batch → KeepsPlan old new → EngineStandsFor new lines history
 
 -- the batch has for each printed stream exactly its tuples over the history that have the time of the epoch, in their order
 abbrev pub BatchIsStreams : Type 0
 BatchIsStreams =
-    (old new : EngineView) (lines : List Line) (history : List Event) (batch : List (List TupleView)) → EngineStandsFor old lines history → (closes : Closes old new batch)
+    (old new : EngineView) (lines : List BornLine) (history : List Event) (batch : List (List TupleView)) → EngineStandsFor old lines history → (closes : Closes old new batch)
     → batch ≡ map (λ stream. sorted (during closes.time (streams_over lines old.layout.order history stream))) old.layout.outs
 
 -- an engine whose stores were purged stands for the same history, and each store has, up to order, exactly the bindings that wait and are alive after the closed part of the history
 pub record TrimmedStands : Type 0 where
-  pub stands : (old new : EngineView) (lines : List Line) (history : List Event) → EngineStandsFor old lines history → Trims old new → EngineStandsFor new lines history
+  pub stands : (old new : EngineView) (lines : List BornLine) (history : List Event) → EngineStandsFor old lines history → Trims old new → EngineStandsFor new lines history
   pub exact :
-      (old new : EngineView) (lines : List Line) (history : List Event) → EngineStandsFor old lines history → Trims old new
+      (old new : EngineView) (lines : List BornLine) (history : List Event) → EngineStandsFor old lines history → Trims old new
       → (number : ℕ) (prefix : Prefix) (hop : Hop) → IsAt new.network number (After prefix hop)
       → IsPermutation (bindings_of (stores_in new number)) (alive_over lines old.layout.order (closed_part old.time history) (After prefix hop))
 
 -- an engine whose stores were purged has as many instances as bindings wait and are alive
 abbrev pub TrimmedIsCounted : Type 0
 TrimmedIsCounted =
-    (old new : EngineView) (lines : List Line) (history : List Event) → EngineStandsFor old lines history → Trims old new
+    (old new : EngineView) (lines : List BornLine) (history : List Event) → EngineStandsFor old lines history → Trims old new
     → CountsAlive lines old.layout.order (closed_part old.time history) (min (stored_in new) (2 ^ 64 - 1))

@@ -17,6 +17,7 @@ use Rattle.automaton.specs.declared.step.Stage.{Stage}
 use Rattle.automaton.specs.declared.wait.Turn.{Turn}
 use Rattle.automaton.specs.declared.wait.Wait.{Wait}
 use Rattle.stream_readers.specs.Ways.{first_parts}
+use Rattle.epoch_laws.specs.BornLines.{BornLine, lines_in}
 use Rattle.epoch_laws.specs.Histories.{events_before, streams_over}
 use Rattle.epoch_laws.specs.Times.{during}
 use Rattle.epoch_draft.specs.Work.{keeps}
@@ -58,14 +59,14 @@ abbrev pub end_tests : ℕ → Streams → Line → ℕ
 end_tests time streams line = step_tests time streams (path line) line.last
 
 -- the tests that the epoch of a time asks for over the events by then, where these bindings are at each state: for all states, which are the prefixes of the lines, each once, and for all ends
-abbrev pub work_with : List Prefix → List Line → List ℕ → (Prefix → List TupleView) → List Event → ℕ → ℕ
-work_with states lines order stored history time = let streams = streams_over lines order (upto time history) in sum_by (state_tests time streams stored) states + sum_by (end_tests time streams) lines
+abbrev pub work_with : List Prefix → List BornLine → List ℕ → (Prefix → List TupleView) → List Event → ℕ → ℕ
+work_with states lines order stored history time = let streams = streams_over lines order (upto time history) in sum_by (state_tests time streams stored) states + sum_by (end_tests time streams) (lines_in lines)
 
 -- the bindings that wait at the state of a prefix after a history; at a root none waits
-abbrev pub waiting_over : List Line → List ℕ → List Event → Prefix → List TupleView
+abbrev pub waiting_over : List BornLine → List ℕ → List Event → Prefix → List TupleView
 waiting_over lines order history (Root stream) = []
 waiting_over lines order history (After prefix hop) = waiting (streams_over lines order history) prefix hop
 
 -- the tests that the epoch of a time asks for, where exactly those bindings are at each state that wait there after the events before the time
-abbrev pub work : List Prefix → List Line → List ℕ → List Event → ℕ → ℕ
+abbrev pub work : List Prefix → List BornLine → List ℕ → List Event → ℕ → ℕ
 work states lines order history time = work_with states lines order (waiting_over lines order (events_before time history)) history time
