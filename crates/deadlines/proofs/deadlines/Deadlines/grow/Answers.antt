@@ -1,4 +1,4 @@
-use Rattle.std.proofs.Common.{◌≡◌, ◌∙◌, sym, ap, suc, ◌+◌, ◌-◌, ◌^◌, ◌<◌, ◌++◌, length, replicate, set, take, arith}
+use Rattle.std.proofs.Common.{◌≡◌, ◌∙◌, sym, ap, suc, ◌+◌, ◌-◌, ◌^◌, ◌++◌, length, replicate, set, take, arith}
 use Rattle.std.proofs.lemmas.List.{length-take-le}
 use Rattle.deadlines.specs.Tournament.{leaves_of}
 use Rattle.deadlines.proofs.TournamentLemmas.{next_written}
