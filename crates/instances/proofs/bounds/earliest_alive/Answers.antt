@@ -1,7 +1,5 @@
-use Rattle.std.proofs.Common.{◌≡◌, ◌∙◌, ◌+◌, ◌≤◌, ◌&&◌, ℕ, suc, ap, sym, length, nat_le, take, List, arith}
+use Rattle.std.proofs.Common.{◌≡◌, ◌∙◌, ◌+◌, ◌&&◌, ℕ, suc, ap, take, arith}
 use Rattle.std.specs.List.{list_all}
-use Rattle.std.proofs.lemmas.List.{take_all}
-use Rattle.semantics.specs.Scalars.{Pr}
 use Rattle.instances.specs.Alive.{meets_bound}
 use Rattle.scalar_expr.specs.Classes.{class_of, class_of_part}
 use Rattle.instances.specs.Bounds.{started}
