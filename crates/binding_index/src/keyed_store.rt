@@ -77,6 +77,16 @@ impl KeyedStore {
         place_of(&self.buckets, key).is_some()
     }
 
+    /// Forgets the keys that no instance has. Takes no memory.
+    pub fn forget_unused(&mut self)
+        ensures same_instances { self.new.instances ≡ self.old.instances }
+        ensures ready { KeepsUsedKeys (Some self.old.key) self.new.instances self.old.ready self.new.ready }
+        ensures same_condition { self.new.condition ≡ self.old.condition }
+        ensures same_key { self.new.key ≡ self.old.key }
+    {
+        self.buckets.truncate(self.filled);
+    }
+
     // Takes out the instances that no event after `now` can match, and forgets the keys that no instance has.
     // It gives a time before which none of the others starts.
     fn expire(&mut self, now: u64) -> u64

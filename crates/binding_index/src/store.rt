@@ -1,5 +1,6 @@
 //! The store of a waiting state.
 ghost use Rattle.std.specs.Prelude.{◌≡◌, [], IfOk};
+ghost use Rattle.instances.specs.Keys.{KeepsUsedKeys};
 ghost use Rattle.binding_index.specs.Among.{is_among};
 ghost use Rattle.binding_index.specs.KeyParts.{first_key as first_key_of};
 ghost use Rattle.binding_index.specs.Stores.{condition_of, instances_of, key_of, ready_of};
@@ -44,6 +45,19 @@ impl Store {
         match self {
             Store::Plain(_) => false,
             Store::Keyed(store) => store.is_ready(key),
+        }
+    }
+
+    /// Forgets the keys that no instance has. Takes no memory.
+    pub fn forget_unused(&mut self)
+        ensures same_instances { instances_of self.new ≡ instances_of self.old }
+        ensures ready { KeepsUsedKeys (key_of self.old) (instances_of self.new) (ready_of self.old) (ready_of self.new) }
+        ensures same_condition { condition_of self.new ≡ condition_of self.old }
+        ensures same_key { key_of self.new ≡ key_of self.old }
+    {
+        match self {
+            Store::Plain(_) => {}
+            Store::Keyed(store) => store.forget_unused(),
         }
     }
 }
