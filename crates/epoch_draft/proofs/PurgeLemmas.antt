@@ -4,7 +4,7 @@ use Rattle.std.specs.List.{All}
 use Rattle.std.specs.Prelude.{Any, Contains, Option, Some, None, is_some}
 use Rattle.std.proofs.lemmas.Grind.{get_or-set_at}
 use Rattle.std.proofs.lemmas.List.{get_or-set_other, length-set}
-use Rattle.std.proofs.lemmas.List.Elements.{All-contains_itself, All-weaker, Contains-append_left, Contains-push, Contains-push_cases, filter_passes}
+use Rattle.std.proofs.lemmas.List.Elements.{All-contains_itself, All-weaker, Contains-push_cases, filter_passes}
 use Rattle.semantics.proofs.ReportLemmas.{filter_all}
 use Rattle.semantics.specs.Scalars.{Pr}
 use Rattle.event_types.specs.declared.value.Value.{Value}
@@ -20,10 +20,10 @@ use Rattle.automaton.specs.declared.wait.Wait.{Wait}
 use Rattle.automaton.proofs.NumberLemmas.{are_same_or_not}
 use Rattle.epoch_draft.specs.Held.{SameShapes, Shape, held, instances_in, shape_of}
 use Rattle.epoch_draft.specs.Led.{StayReady, StaysReady}
-use Rattle.epoch_draft.specs.Purging.{AreAllPurged, ArePurgedIn, AreUsedIn, IsPurgedAt, alive_in}
+use Rattle.epoch_draft.specs.Purging.{AreAllPurged, AreUsedIn, ForgetUnusedIn, IsPurgedAt, alive_in}
 use Rattle.epoch_draft.specs.declared.draft.Pair.{Pair}
 use Rattle.epoch_draft.proofs.DrawnLemmas.{entry_below}
-use Rattle.epoch_draft.proofs.Lists.{below_or_last, contains_or_not, map_more, some_is}
+use Rattle.epoch_draft.proofs.Lists.{below_or_last, map_more, some_is}
 use Rattle.epoch_draft.proofs.StateLemmas.{at_wait, wait_entry}
 use Rattle.epoch_draft.proofs.StayLemmas.{stay_same, stay_set, stay_trans}
 
@@ -65,52 +65,41 @@ kept_used old new instances before after same keeps =
     subst (λ (k : Option Key). All (λ v. Any (λ (i : Instance). HasKey k i.tuple v) instances) after) (sym same)
     (All-weaker (Contains after) (λ v. Any (λ (i : Instance). HasKey old i.tuple v) instances) (λ v c. ((keeps v).0 c).1) after (All-contains_itself after))
 
--- one store more is purged
-purge_push : (time : ℕ) (numbers : List ℕ) (n : ℕ) (first old : List (Option Store)) (slot : Option Store) → n < length first → instances_in slot ≡ alive_in time (get_or old n None) → shape_of slot ≡ shape_of (get_or old n None) → AreUsedIn slot
-    → StaysReady (get_or old n None) slot → ArePurgedIn numbers time first old → ArePurgedIn (numbers ++ n ∷ []) time first (set old n slot)
-purge_push time numbers n first old slot below is shape used stays h = record {
-  same = shapes_trans first old (set old n slot) h.same (shapes_set old n slot there shape);
-  stay = stay_set first old n slot there h.stay stays;
-  purged = λ k c. purged k (are_same_or_not k n) (Contains-push_cases numbers n k c);
+-- one store more forgets keys
+forget_push : (numbers : List ℕ) (n : ℕ) (first old : List (Option Store)) (slot : Option Store) → n < length first → instances_in slot ≡ instances_in (get_or old n None) → shape_of slot ≡ shape_of (get_or old n None) → AreUsedIn slot
+    → StaysReady (get_or old n None) slot → ForgetUnusedIn numbers first old → ForgetUnusedIn (numbers ++ n ∷ []) first (set old n slot)
+forget_push numbers n first old slot below is shape used stays h = record {
+  same = record { same = shapes_trans first old (set old n slot) h.same.same (shapes_set old n slot there shape); held = λ k. same k (are_same_or_not k n) };
   used = λ k c. keys k (are_same_or_not k n) (Contains-push_cases numbers n k c);
-  others = λ k absent. others k absent (are_same_or_not k n);
+  stay = stay_set first old n slot there h.stay stays;
 }
   where
     there : n < length old
-    there = let e = h.same.as_many in omega (arith, below, e)
+    there = let e = h.same.same.as_many in omega (arith, below, e)
 
     here : (k : ℕ) → k ≡ n → get_or (set old n slot) k None ≡ slot
     here k same = get_or-set_at old n k slot None same there
 
-    once : Contains numbers n ⊎ (Contains numbers n → ⊥) → instances_in slot ≡ alive_in time (get_or first n None)
-    once (inl c) = is ∙ purged_twice time (get_or first n None) (get_or old n None) (h.same.shapes n) (h.purged n c)
-    once (inr absent) = is ∙ ap (alive_in time) (h.others n absent)
-
-    purged : (k : ℕ) → (k ≡ n) ⊎ (k ≡ n → ⊥) → Contains numbers k ⊎ (n ≡ k) → held (set old n slot) k ≡ alive_in time (get_or first k None)
-    purged k (inl same) c = ap instances_in (here k same) ∙ once (contains_or_not numbers n) ∙ ap (λ (m : ℕ). alive_in time (get_or first m None)) (sym same)
-    purged k (inr other) (inl c) = ap instances_in (get_or-set_other old n k slot None other) ∙ h.purged k c
-    purged k (inr other) (inr same) = absurd (other (sym same))
+    same : (k : ℕ) → (k ≡ n) ⊎ (k ≡ n → ⊥) → held (set old n slot) k ≡ held first k
+    same k (inl this) = ap instances_in (here k this) ∙ is ∙ ap (held old) (sym this) ∙ h.same.held k
+    same k (inr other) = ap instances_in (get_or-set_other old n k slot None other) ∙ h.same.held k
 
     keys : (k : ℕ) → (k ≡ n) ⊎ (k ≡ n → ⊥) → Contains numbers k ⊎ (n ≡ k) → AreUsedIn (get_or (set old n slot) k None)
     keys k (inl same) c = subst AreUsedIn (sym (here k same)) used
     keys k (inr other) (inl c) = subst AreUsedIn (sym (get_or-set_other old n k slot None other)) (h.used k c)
     keys k (inr other) (inr same) = absurd (other (sym same))
 
-    others : (k : ℕ) → (Contains (numbers ++ n ∷ []) k → ⊥) → (k ≡ n) ⊎ (k ≡ n → ⊥) → get_or (set old n slot) k None ≡ get_or first k None
-    others k absent (inl same) = absurd (absent (subst (Contains (numbers ++ n ∷ [])) (sym same) (Contains-push numbers n)))
-    others k absent (inr other) = get_or-set_other old n k slot None other ∙ h.others k (λ c. absent (Contains-append_left numbers (n ∷ []) k c))
-
--- no store is purged yet
-pub purged_nowhere : (time : ℕ) (stores : List (Option Store)) → ArePurgedIn [] time stores stores
-purged_nowhere time stores = record { same = shapes_same stores; purged = λ n c. absurd (omega (arith, c)); used = λ n c. absurd (omega (arith, c)); stay = stay_same stores; others = λ n absent. refl }
+-- no store has forgotten any
+pub forget_nowhere : (stores : List (Option Store)) → ForgetUnusedIn [] stores stores
+forget_nowhere stores = record { same = record { same = shapes_same stores; held = λ n. refl }; used = λ n c. absurd (omega (arith, c)); stay = stay_same stores }
 
 -- one pair more
-pub purge_pair : (time : ℕ) (pairs : List Pair) (i : ℕ) (d : Pair) (first old : List (Option Store)) (slot : Option Store) → i < length pairs → (get_or pairs i d).state < length first
-    → instances_in slot ≡ alive_in time (get_or old (get_or pairs i d).state None) → shape_of slot ≡ shape_of (get_or old (get_or pairs i d).state None) → AreUsedIn slot
-    → StaysReady (get_or old (get_or pairs i d).state None) slot → ArePurgedIn (map (λ (pair : Pair). pair.state) (take i pairs)) time first old → ArePurgedIn (map (λ (pair : Pair). pair.state) (take (i + 1) pairs)) time first (set old (get_or pairs i d).state slot)
-purge_pair time pairs i d first old slot lt below is shape used stays h =
-    subst (λ (ns : List ℕ). ArePurgedIn ns time first (set old (get_or pairs i d).state slot)) (sym (map_more (λ (pair : Pair). pair.state) pairs i d lt))
-    (purge_push time (map (λ (pair : Pair). pair.state) (take i pairs)) (get_or pairs i d).state first old slot below is shape used stays h)
+pub forget_pair : (pairs : List Pair) (i : ℕ) (d : Pair) (first old : List (Option Store)) (slot : Option Store) → i < length pairs → (get_or pairs i d).state < length first → instances_in slot ≡ instances_in (get_or old (get_or pairs i d).state None)
+    → shape_of slot ≡ shape_of (get_or old (get_or pairs i d).state None) → AreUsedIn slot → StaysReady (get_or old (get_or pairs i d).state None) slot → ForgetUnusedIn (map (λ (pair : Pair). pair.state) (take i pairs)) first old
+    → ForgetUnusedIn (map (λ (pair : Pair). pair.state) (take (i + 1) pairs)) first (set old (get_or pairs i d).state slot)
+forget_pair pairs i d first old slot lt below is shape used stays h =
+    subst (λ (ns : List ℕ). ForgetUnusedIn ns first (set old (get_or pairs i d).state slot)) (sym (map_more (λ (pair : Pair). pair.state) pairs i d lt))
+    (forget_push (map (λ (pair : Pair). pair.state) (take i pairs)) (get_or pairs i d).state first old slot below is shape used stays h)
 
 -- the store of a waiting state was purged
 pub purged_there : (net : Net) (time n : ℕ) (stores : List (Option Store)) (slot : Option Store) → n < length stores → is_some (wait_at net n) ≡ true → instances_in slot ≡ alive_in time (get_or stores n None) → shape_of slot ≡ shape_of (get_or stores n None) → AreUsedIn slot

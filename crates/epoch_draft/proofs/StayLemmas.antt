@@ -78,6 +78,18 @@ purge_stays old new time is keeps same = record {
         subst (All (λ (i : Instance). IsKeyReady (key_of old) (ready_of old) i.tuple)) (sym is)
         (All-filter (λ (i : Instance). is_alive time (condition_of old) i.tuple) (λ (i : Instance). IsKeyReady (key_of old) (ready_of old) i.tuple) (instances_of old) ready)
 
+-- a store that forgets keys keeps those of its instances
+pub forget_stays : (old new : Store) → instances_of new ≡ instances_of old → KeepsUsedKeys (key_of old) (instances_of new) (ready_of old) (ready_of new) → key_of new ≡ key_of old → StaysReady (Some old) (Some new)
+forget_stays old new is keeps same = record {
+  instances = λ ready.
+      subst (λ (k : Option Key). All (λ (i : Instance). IsKeyReady k (ready_of new) i.tuple) (instances_of new)) (sym same)
+      (All-weaker (Contains (instances_of new)) (λ (i : Instance). IsKeyReady (key_of old) (ready_of new) i.tuple)
+      (λ i c. used_ready (key_of old) (instances_of new) (ready_of old) (ready_of new) keeps i c
+      (All-contains (λ (i : Instance). IsKeyReady (key_of old) (ready_of old) i.tuple) (instances_of new) i (subst (All (λ (i : Instance). IsKeyReady (key_of old) (ready_of old) i.tuple)) (sym is) ready) c))
+      (instances_of new) (All-contains_itself (instances_of new)));
+  keys = λ key c. ((keeps key).0 c).0;
+}
+
 -- where stores are made for the same and the same keys are ready, all depends on the instances
 pub same_stay : (old new : List (Option Store)) → SameShapes old new → SameReady old new
     → ((n : ℕ) → All (λ (i : Instance). IsKeyReady (key_in (get_or old n None)) (ready_in (get_or old n None)) i.tuple) (held old n) → All (λ (i : Instance). IsKeyReady (key_in (get_or old n None)) (ready_in (get_or old n None)) i.tuple) (held new n)) → StayReady old new

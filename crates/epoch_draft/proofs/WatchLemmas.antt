@@ -2,7 +2,7 @@
 use Rattle.std.proofs.Common.{◌≡◌, ◌∙◌, sym, ap, refl, subst, inl, inr, ℕ, ◌<◌, ◌≤◌, ◌⊎◌, Bool, true, cond, length, get_or, nat_le, nat_lt, set, List, [], ◌∷◌, ◌++◌, arith}
 use Rattle.std.specs.List.{All, count_by, filter}
 use Rattle.std.specs.List.Sorted.{IsPermutation}
-use Rattle.std.specs.Prelude.{Contains, Option, Some, None}
+use Rattle.std.specs.Prelude.{Option, Some, None}
 use Rattle.std.proofs.lemmas.List.Elements.{All-append, All-cons, All-filter, All-same, filter_passes}
 use Rattle.std.proofs.lemmas.List.Sorted.{All-permutation, IsPermutation-sym}
 use Rattle.semantics.specs.Scalars.{Pr}
@@ -22,14 +22,14 @@ use Rattle.automaton.specs.declared.wait.Wait.{Wait}
 use Rattle.automaton.proofs.NumberLemmas.{are_same_or_not}
 use Rattle.semantics.specs.Denotation.{Streams}
 use Rattle.epoch_laws.specs.Epochs.{is_unmet}
-use Rattle.epoch_draft.specs.Held.{SameShapes, SameStored, Shape, held, instances_in, shape_of}
+use Rattle.epoch_draft.specs.Held.{SameShapes, SameStored, Shape, instances_in, shape_of}
 use Rattle.epoch_draft.specs.Led.{StayReady, StaysReady}
-use Rattle.epoch_draft.specs.Purging.{AreAllPurged, ArePurgedIn, alive_in}
+use Rattle.epoch_draft.specs.Purging.{AreAllPurged, ForgetUnusedIn, alive_in}
 use Rattle.epoch_draft.specs.Settling.{AreTaken, listed_tuples}
 use Rattle.epoch_draft.specs.Stores.{AreNewStores, HasStores}
 use Rattle.epoch_draft.specs.declared.draft.Pair.{Pair}
 use Rattle.epoch_draft.specs.Watching.{ArePurgedEach, IsWatched, Watches}
-use Rattle.epoch_draft.proofs.Lists.{contains_or_not, some_is}
+use Rattle.epoch_draft.proofs.Lists.{some_is}
 use Rattle.epoch_draft.proofs.PurgeLemmas.{purged_twice, shapes_same, shapes_set, shapes_trans}
 use Rattle.epoch_draft.proofs.StayLemmas.{stay_same, stay_set, stay_trans}
 use Rattle.epoch_draft.proofs.StoreLemmas.{condition_is}
@@ -186,15 +186,7 @@ watches_taken net news pairs deadlines old new taken = watches_fewer deadlines o
     go n None at = fewer_same (get_or old n None) (get_or new n None) (taken.none n at)
     go n (Some w) at = ((λ (i : Instance). is_unmet w.choose (listed_tuples news pairs n) i.tuple), taken.taken n w at)
 
--- where some stores were purged
-pub watches_some : (time : ℕ) (numbers : List ℕ) (deadlines : List ℕ) (old new : List (Option Store)) → ArePurgedIn numbers time old new → Watches deadlines old → Watches deadlines new
-watches_some time numbers deadlines old new purged = watches_fewer deadlines old new purged.same (λ n. go n (contains_or_not numbers n))
-  where
-    go : (n : ℕ) → Contains numbers n ⊎ (Contains numbers n → ⊥) → HasFewer (get_or old n None) (get_or new n None)
-    go n (inl c) = fewer_alive time (get_or old n None) (get_or new n None) (purged.purged n c)
-    go n (inr absent) = fewer_same (get_or old n None) (get_or new n None) (ap instances_in (purged.others n absent))
-
--- and where all were
+-- where all stores were purged
 pub watches_all : (time : ℕ) (net : Net) (deadlines : List ℕ) (old new : List (Option Store)) → AreAllPurged net time old new → Watches deadlines old → Watches deadlines new
 watches_all time net deadlines old new purged = watches_fewer deadlines old new purged.same (λ n. go n (wait_at net n) refl)
   where
@@ -210,17 +202,13 @@ watches_new net deadlines stores new as_many = record { as_many = as_many ∙ sy
     none None empty time early = refl
     none (Some store) empty time early = ap (alive_instances time (condition_of store)) empty ∙ sym empty
 
--- where all stores were purged and then some once more, all are
-pub purged_each : (time : ℕ) (numbers : List ℕ) (old mid new : List (Option Store)) → ArePurgedEach time old mid → ArePurgedIn numbers time mid new → ArePurgedEach time old new
+-- where all stores were purged and then some forgot keys, all are purged
+pub purged_each : (time : ℕ) (numbers : List ℕ) (old mid new : List (Option Store)) → ArePurgedEach time old mid → ForgetUnusedIn numbers mid new → ArePurgedEach time old new
 purged_each time numbers old mid new was after = record {
-  same = shapes_trans old mid new was.same after.same;
-  purged = λ n. go n (contains_or_not numbers n);
+  same = shapes_trans old mid new was.same after.same.same;
+  purged = λ n. after.same.held n ∙ was.purged n;
   stay = stay_trans old mid new was.stay after.stay;
 }
-  where
-    go : (n : ℕ) → Contains numbers n ⊎ (Contains numbers n → ⊥) → held new n ≡ alive_in time (get_or old n None)
-    go n (inl c) = after.purged n c ∙ purged_twice time (get_or old n None) (get_or mid n None) (was.same.shapes n) (was.purged n)
-    go n (inr absent) = ap instances_in (after.others n absent) ∙ was.purged n
 
 -- where one more of a chain is alive as long, it is enough that those behind it are
 pub alive_on : (time from end : ℕ) (choose : List Pr) (first : Instance) (rest look chain : List Instance) → look ≡ first ∷ rest → from ≡ first.tuple.from → is_alive time choose (started from) ≡ nat_lt time end → time < end → (alive_instances time choose look ≡ look → alive_instances time choose chain ≡ chain)

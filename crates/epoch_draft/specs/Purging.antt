@@ -9,7 +9,7 @@ use Rattle.binding_index.specs.Leads.{ready_in}
 use Rattle.binding_index.specs.Stores.{condition_of, instances_of}
 use Rattle.binding_index.specs.declared.store.Store.{Store}
 use Rattle.instances.specs.declared.instance.Instance.{Instance}
-use Rattle.epoch_draft.specs.Held.{SameShapes, held, instances_in, key_in}
+use Rattle.epoch_draft.specs.Held.{SameShapes, SameStored, held, instances_in, key_in}
 use Rattle.epoch_draft.specs.Led.{StayReady}
 
 -- those of a store's instances that are alive at a time; a state without a store has none
@@ -21,13 +21,11 @@ alive_in time (Some store) = alive_instances time (condition_of store) (instance
 abbrev pub AreUsedIn : Option Store → Type 0
 AreUsedIn slot = All (λ value. Any (λ instance. HasKey (key_in slot) instance.tuple value) (instances_in slot)) (ready_in slot)
 
--- the stores with these numbers were purged and keep the keys of their instances alone, and all others are the same
-pub record ArePurgedIn (numbers : List ℕ) (time : ℕ) (old new : List (Option Store)) : Type 0 where
-  pub same : SameShapes old new
-  pub purged : (number : ℕ) → Contains numbers number → held new number ≡ alive_in time (slice_index_or old number None)
+-- the stores have the same instances, and those with these numbers keep the keys of their instances alone
+pub record ForgetUnusedIn (numbers : List ℕ) (old new : List (Option Store)) : Type 0 where
+  pub same : SameStored old new
   pub used : (number : ℕ) → Contains numbers number → AreUsedIn (slice_index_or new number None)
   pub stay : StayReady old new
-  pub others : (number : ℕ) → (Contains numbers number → ⊥) → slice_index_or new number None ≡ slice_index_or old number None
 
 -- the store of a state was purged, if it is a waiting state, and all others are the same
 pub record IsPurgedAt (net : Net) (time number : ℕ) (old new : List (Option Store)) : Type 0 where

@@ -4,7 +4,7 @@ ghost use Rattle.std.specs.List.{All};
 ghost use Rattle.automaton.specs.States.{wait_at};
 ghost use Rattle.epoch_draft.specs.Held.{instances_in, shape_of};
 ghost use Rattle.epoch_draft.specs.Led.{StaysReady};
-ghost use Rattle.epoch_draft.specs.Purging.{AreAllPurged, ArePurgedIn, AreUsedIn, IsPurgedAt, alive_in};
+ghost use Rattle.epoch_draft.specs.Purging.{AreAllPurged, AreUsedIn, ForgetUnusedIn, IsPurgedAt, alive_in};
 ghost use Rattle.epoch_draft.specs.Watching.{IsWatched};
 
 use crate::draft::Pair;
@@ -36,13 +36,26 @@ fn purge_at(network: &Network, number: usize, stores: &mut Stores, time: u64)
     }
 }
 
-/// The same of the stores of the states that these pairs name. Takes no memory.
-pub(crate) fn purge_paired(stores: &mut Stores, pairs: &[Pair], time: u64)
+/// Forgets the keys that no instance has in the stores of the states that these pairs name. Takes no memory.
+pub(crate) fn forget_paired(stores: &mut Stores, pairs: &[Pair])
     requires { All (λ pair. pair.state < length stores.old) pairs.now }
-    ensures { ArePurgedIn (map (λ pair. pair.state) pairs.now) (time + 1) stores.old stores.new }
+    ensures { ForgetUnusedIn (map (λ pair. pair.state) pairs.now) stores.old stores.new }
 {
     for pair in pairs {
-        purge(stores.get_mut(pair.state), time);
+        forget_unused(stores.get_mut(pair.state));
+    }
+}
+
+// The same in the store of a state, if it has one.
+fn forget_unused(slot: &mut Option<Store>)
+    ensures same { instances_in slot.new ≡ instances_in slot.old }
+    ensures used { AreUsedIn slot.new }
+    ensures stays { StaysReady slot.old slot.new }
+    ensures shape { shape_of slot.new ≡ shape_of slot.old }
+{
+    match slot {
+        Some(store) => store.forget_unused(),
+        None => {}
     }
 }
 

@@ -26,7 +26,7 @@ ghost use Rattle.epoch_draft.specs.Watching.{Watches};
 
 use crate::draft::{Beads, Lists, Pair};
 use crate::drawing::Drawing;
-use crate::purging::purge_paired;
+use crate::purging::forget_paired;
 use crate::stores::Stores;
 use crate::watching::{lower_at, purge_due};
 use automaton::{Layout, Network};
@@ -72,7 +72,7 @@ pub fn settle<L: Ledger>(
 {
     step(course, deadlines, stores, opened, drawing, steps);
     purge_due(stores, deadlines, course.time);
-    purge_paired(stores, drawing.pairs.as_slice(), course.time);
+    forget_paired(stores, drawing.pairs.as_slice());
 }
 
 // The same without the purge.

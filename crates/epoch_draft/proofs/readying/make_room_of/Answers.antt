@@ -7,7 +7,7 @@ use Rattle.semantics.specs.Values.{value_at}
 use Rattle.binding_index.specs.Leads.{Leads}
 use Rattle.binding_index.specs.Stores.{key_of, ready_of}
 use Rattle.stream_readers.specs.KeyTables.{entries_at}
-use Rattle.epoch_draft.specs.Led.{HasKeyOf, LeadBy, LeadMore}
+use Rattle.epoch_draft.specs.Led.{HasKeyOf, LeadMore}
 use Rattle.epoch_draft.specs.declared.readying.Lead.{Lead}
 use Rattle.epoch_draft.proofs.LeadLemmas.{LeadsBy, by_kept, by_ready, noted_more, room_by_ready}
 use Rattle.epoch_draft.proofs.readying.make_room_of.Goals as goal
