@@ -52,7 +52,6 @@ told s (Some t) e = ap Some (same_number t s e)
 step_suits : (step : List Stage) (ks out : List Kind) (x : TupleView) → StepGives step ks out → HasKinds ks x → StepSuits step x
 step_suits step ks out x gives h = (step_passes step ks out x gives h).suits
 
-
 -- what holds of all that passes the step of an end holds of what the end gives
 passed_after : (P : TupleView → Type 0) (e : End) (store : List Instance) → All P (filter_map (pass e.step) (bindings_of store)) → All P (given_by_end store e)
 passed_after P e store all =

@@ -9,7 +9,7 @@ pub mod EpochWork
 pub mod Held
 pub mod Kindings
 pub mod Led
-pub mod Machines
+pub mod StoredNetworks
 pub mod Marks
 pub mod Meeting
 pub mod Moves

@@ -6,14 +6,14 @@ ghost use Rattle.stream_readers.specs.Ways.{Into, Out, ways_at};
 ghost use Rattle.epoch_laws.specs.Births.{is_after};
 ghost use Rattle.epoch_laws.specs.Instances.{began};
 ghost use Rattle.epoch_draft.specs.Drafts.{DraftFits, Grows, IsDraftOf};
-ghost use Rattle.epoch_draft.specs.Machines.{IsStation};
+ghost use Rattle.epoch_draft.specs.StoredNetworks.{IsWaitingState};
 ghost use Rattle.epoch_draft.specs.Moves.{moves_on};
 ghost use Rattle.epoch_draft.specs.Suits.{LeavingSuits, StepSuits};
 ghost use Rattle.epoch_draft.specs.Work.{keeps, ways_work};
 
 use crate::draft::Draft;
 use crate::passing::{pass_made, pass_on};
-use crate::station::Station;
+use crate::waiting_state::WaitingState;
 use automaton::{End, Network};
 use event_types::{Memory, Tuple};
 use instances::Instance;
@@ -174,30 +174,30 @@ fn hand_out_all<L: Ledger>(
 /// An instance leaves a waiting state on all ways. After want of memory the draft is of no
 /// more use.
 pub(crate) fn leave<L: Ledger>(
-    station: &Station<'_>,
+    waiting_state: &WaitingState<'_>,
     draft: &mut Draft,
     instance: Instance,
     steps: &mut Steps<L>,
 ) -> Result<(), Memory>
-    requires station { IsStation station.now }
-    requires draft { IsDraftOf station.now.network.now draft.old }
-    requires suits { LeavingSuits station.now.network.now station.now.state instance.tuple }
-    ensures grows { OnOk result (Grows station.now.network.now (moves_on (ways_at station.now.network.now station.now.state) instance) draft.old draft.new) }
-    ensures ticks { steps.new ≤ steps.old + ways_work station.now.network.now (ways_at station.now.network.now station.now.state) }
+    requires waiting_state { IsWaitingState waiting_state.now }
+    requires draft { IsDraftOf waiting_state.now.network.now draft.old }
+    requires suits { LeavingSuits waiting_state.now.network.now waiting_state.now.state instance.tuple }
+    ensures grows { OnOk result (Grows waiting_state.now.network.now (moves_on (ways_at waiting_state.now.network.now waiting_state.now.state) instance) draft.old draft.new) }
+    ensures ticks { steps.new ≤ steps.old + ways_work waiting_state.now.network.now (ways_at waiting_state.now.network.now waiting_state.now.state) }
 {
     go_into_all(
-        station.network,
+        waiting_state.network,
         draft,
-        station.network.edges(station.state).as_slice(),
+        waiting_state.network.edges(waiting_state.state).as_slice(),
         &instance,
         steps,
     )?;
-    let ends = station.network.ends(station.state).as_slice();
-    match &station.wait.fold {
+    let ends = waiting_state.network.ends(waiting_state.state).as_slice();
+    match &waiting_state.wait.fold {
         Some(_) => {
-            go_out_all(station.network, draft, ends, &instance, steps)?;
-            draft.add_bead(station.state, instance)
+            go_out_all(waiting_state.network, draft, ends, &instance, steps)?;
+            draft.add_bead(waiting_state.state, instance)
         }
-        None => hand_out_all(station.network, draft, ends, instance, steps),
+        None => hand_out_all(waiting_state.network, draft, ends, instance, steps),
     }
 }

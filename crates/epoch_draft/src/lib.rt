@@ -4,7 +4,7 @@
 //! the beads in and purges, and takes no memory. Here too are the stores of a network: they are made, counted
 //! and purged whole.
 //!
-//! `draw` reads a `Machine` and changes a `Drawing` alone, and the count of steps; `settle` goes by a `Course`.
+//! `draw` reads a `StoredNetwork` and changes a `Drawing` alone, and the count of steps; `settle` goes by a `ClosingEpoch`.
 //!
 //! Contracts see each public type as its fields. A `Drawing` is a `Draft`, its pairs, and lists that are used
 //! anew. A `Draft` is the tuples made for each derived stream, the beads made for each state as a list of
@@ -21,7 +21,6 @@ mod draft;
 mod drawing;
 mod filling;
 mod going;
-mod machine;
 mod making;
 mod marks;
 mod matching;
@@ -30,18 +29,19 @@ mod passing;
 mod purging;
 mod readying;
 mod settling;
-mod station;
+mod stored_network;
 mod stores;
+mod waiting_state;
 mod watching;
 
 pub use agenda::places_of;
 pub use draft::{Draft, Lists, Pair, Pairs};
 pub use drawing::Drawing;
 pub use filling::{clear_lists, empty_lists, filled};
-pub use machine::Machine;
 pub use making::draw;
 pub use marks::Marks;
 pub use purging::purge_all;
 pub use readying::make_room;
-pub use settling::{Course, settle};
+pub use settling::{ClosingEpoch, settle};
+pub use stored_network::StoredNetwork;
 pub use stores::{Stores, empty_stores, stored};

@@ -5,7 +5,7 @@ ghost use Rattle.automaton.specs.Networks.{IsNetwork};
 ghost use Rattle.automaton.specs.States.{is_used};
 ghost use Rattle.epoch_draft.specs.Drafts.{Grows, IsDraftOf};
 ghost use Rattle.epoch_draft.specs.Held.{held};
-ghost use Rattle.epoch_draft.specs.Machines.{IsStation};
+ghost use Rattle.epoch_draft.specs.StoredNetworks.{IsWaitingState};
 ghost use Rattle.epoch_draft.specs.Meeting.{met_at};
 ghost use Rattle.epoch_draft.specs.Moves.{moves_from};
 ghost use Rattle.epoch_draft.specs.Pairs.{followed, met, paired, paired_with};
@@ -15,8 +15,8 @@ ghost use Rattle.epoch_draft.specs.Work.{binding_work, pair_work, state_work, tu
 
 use crate::draft::Draft;
 use crate::going::leave;
-use crate::station::Station;
 use crate::stores::Stores;
+use crate::waiting_state::WaitingState;
 use automaton::{Network, Turn, Wait};
 use event_types::{Memory, Tuple};
 use inst_chain::Look;
@@ -71,26 +71,32 @@ fn follow<L: Ledger>(
 
 // What the tuple makes of an instance leaves the state where it waits.
 fn meet_instance<L: Ledger>(
-    station: &Station<'_>,
+    waiting_state: &WaitingState<'_>,
     draft: &mut Draft,
     instance: &Instance,
     tuple: &Tuple,
     steps: &mut Steps<L>,
 ) -> Result<(), Memory>
-    requires station { IsStation station.now }
-    requires draft { IsDraftOf station.now.network.now draft.old }
-    requires suits { WaitSuits station.now.wait.now instance.now.tuple tuple.now }
-    requires leaving { All (λ made. LeavingSuits station.now.network.now station.now.state made.tuple) (paired_with station.now.wait.now tuple.now instance.now) }
-    ensures grows { OnOk result (Grows station.now.network.now (moves_from station.now.network.now station.now.state (paired_with station.now.wait.now tuple.now instance.now)) draft.old draft.new) }
-    ensures ticks { steps.new ≤ steps.old + binding_work station.now.network.now station.now.state station.now.wait.now tuple.now instance.now }
+    requires waiting_state { IsWaitingState waiting_state.now }
+    requires draft { IsDraftOf waiting_state.now.network.now draft.old }
+    requires suits { WaitSuits waiting_state.now.wait.now instance.now.tuple tuple.now }
+    requires leaving { All (λ made. LeavingSuits waiting_state.now.network.now waiting_state.now.state made.tuple) (paired_with waiting_state.now.wait.now tuple.now instance.now) }
+    ensures grows { OnOk result (Grows waiting_state.now.network.now (moves_from waiting_state.now.network.now waiting_state.now.state (paired_with waiting_state.now.wait.now tuple.now instance.now)) draft.old draft.new) }
+    ensures ticks { steps.new ≤ steps.old + binding_work waiting_state.now.network.now waiting_state.now.state waiting_state.now.wait.now tuple.now instance.now }
 {
-    match pair_up(draft.alloc, station.wait, &instance.tuple, tuple, steps)? {
+    match pair_up(
+        draft.alloc,
+        waiting_state.wait,
+        &instance.tuple,
+        tuple,
+        steps,
+    )? {
         Some(made) => {
             let left = Instance {
                 tuple: made,
                 first: instance.first,
             };
-            leave(station, draft, left, steps)
+            leave(waiting_state, draft, left, steps)
         }
         None => Ok(()),
     }
@@ -98,21 +104,21 @@ fn meet_instance<L: Ledger>(
 
 // The same of all instances that the reader gives.
 fn meet_instances<L: Ledger>(
-    station: &Station<'_>,
+    waiting_state: &WaitingState<'_>,
     draft: &mut Draft,
     mut instances: Look<'_, Instance>,
     tuple: &Tuple,
     steps: &mut Steps<L>,
 ) -> Result<(), Memory>
-    requires station { IsStation station.now }
-    requires draft { IsDraftOf station.now.network.now draft.old }
-    requires suits { All (λ instance. WaitSuits station.now.wait.now instance.tuple tuple.now) instances }
-    requires leaving { All (λ made. LeavingSuits station.now.network.now station.now.state made.tuple) (met station.now.wait.now instances tuple.now) }
-    ensures grows { OnOk result (Grows station.now.network.now (moves_from station.now.network.now station.now.state (met station.now.wait.now instances.entry tuple.now)) draft.old draft.new) }
-    ensures ticks { steps.new ≤ steps.old + sum_by (binding_work station.now.network.now station.now.state station.now.wait.now tuple.now) instances.entry }
+    requires waiting_state { IsWaitingState waiting_state.now }
+    requires draft { IsDraftOf waiting_state.now.network.now draft.old }
+    requires suits { All (λ instance. WaitSuits waiting_state.now.wait.now instance.tuple tuple.now) instances }
+    requires leaving { All (λ made. LeavingSuits waiting_state.now.network.now waiting_state.now.state made.tuple) (met waiting_state.now.wait.now instances tuple.now) }
+    ensures grows { OnOk result (Grows waiting_state.now.network.now (moves_from waiting_state.now.network.now waiting_state.now.state (met waiting_state.now.wait.now instances.entry tuple.now)) draft.old draft.new) }
+    ensures ticks { steps.new ≤ steps.old + sum_by (binding_work waiting_state.now.network.now waiting_state.now.state waiting_state.now.wait.now tuple.now) instances.entry }
 {
     while let Some(instance) = instances.next() {
-        meet_instance(station, draft, instance, tuple, steps)?;
+        meet_instance(waiting_state, draft, instance, tuple, steps)?;
     }
     Ok(())
 }
@@ -138,13 +144,13 @@ pub(crate) fn meet_wait<L: Ledger>(
     let Some(wait) = network.wait(state) else {
         return Ok(());
     };
-    let station = Station {
+    let waiting_state = WaitingState {
         network,
         state,
         wait,
     };
     match stores.get(state) {
-        Some(store) => meet_instances(&station, draft, store.candidates(tuple), tuple, steps),
+        Some(store) => meet_instances(&waiting_state, draft, store.candidates(tuple), tuple, steps),
         None => Ok(()),
     }
 }

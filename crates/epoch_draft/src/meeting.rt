@@ -7,7 +7,7 @@ ghost use Rattle.stream_readers.specs.Targets.{IsTarget, way_of};
 ghost use Rattle.epoch_laws.specs.Instances.{begins};
 ghost use Rattle.epoch_draft.specs.Drafts.{Grows, IsDraftOf};
 ghost use Rattle.epoch_draft.specs.Held.{held};
-ghost use Rattle.epoch_draft.specs.Machines.{IsMachine};
+ghost use Rattle.epoch_draft.specs.StoredNetworks.{IsStoredNetwork};
 ghost use Rattle.epoch_draft.specs.Meeting.{GrowsByMet, Lists, ListsAll, moves_of, moves_of_all, pair_of};
 ghost use Rattle.epoch_draft.specs.Moves.{moves_on};
 ghost use Rattle.epoch_draft.specs.Stores.{HasStores};
@@ -18,8 +18,8 @@ ghost use Rattle.epoch_draft.specs.Work.{state_work, ways_work};
 use crate::draft::{Draft, Pair};
 use crate::drawing::Drawing;
 use crate::going::{go_into, go_out};
-use crate::machine::Machine;
 use crate::matching::meet_wait;
+use crate::stored_network::StoredNetwork;
 use automaton::Network;
 use event_types::{Memory, StreamId, Tuple};
 use steps::{Ledger, Steps};
@@ -28,22 +28,22 @@ use stream_readers::Target;
 // At each state that was found: what the tuple makes of the instances there goes all ways out of the state. Each
 // state is listed with the tuple's stream and place.
 fn meet_waits<L: Ledger>(
-    machine: &Machine<'_>,
+    stored_network: &StoredNetwork<'_>,
     drawing: &mut Drawing,
     stream: StreamId,
     place: usize,
     tuple: &Tuple,
     steps: &mut Steps<L>,
 ) -> Result<(), Memory>
-    requires network { IsNetwork machine.now.network.now }
-    requires used { All (λ state. IsTrue (is_used machine.now.network.now state)) drawing.old.found.waits }
-    requires stores { HasStores machine.now.network.now machine.now.stores.now }
-    requires draft { IsDraftOf machine.now.network.now drawing.old.draft }
-    requires suits { All (MeetingSuits machine.now.network.now (held machine.now.stores.now) tuple.now) drawing.old.found.waits }
-    ensures grows { OnOk result (GrowsByMet machine.now.network.now (held machine.now.stores.now) tuple.now drawing.old.found.waits drawing.old.draft drawing.new.draft) }
+    requires network { IsNetwork stored_network.now.network.now }
+    requires used { All (λ state. IsTrue (is_used stored_network.now.network.now state)) drawing.old.found.waits }
+    requires stores { HasStores stored_network.now.network.now stored_network.now.stores.now }
+    requires draft { IsDraftOf stored_network.now.network.now drawing.old.draft }
+    requires suits { All (MeetingSuits stored_network.now.network.now (held stored_network.now.stores.now) tuple.now) drawing.old.found.waits }
+    ensures grows { OnOk result (GrowsByMet stored_network.now.network.now (held stored_network.now.stores.now) tuple.now drawing.old.found.waits drawing.old.draft drawing.new.draft) }
     ensures pairs { OnOk result (drawing.new.pairs ≡ drawing.old.pairs ++ map (pair_of stream place) drawing.old.found.waits) }
     ensures agenda { drawing.new.agenda.keys ≡ drawing.old.agenda.keys }
-    ensures ticks { steps.new ≤ steps.old + sum_by (state_work machine.now.network.now (held machine.now.stores.now) tuple.now) drawing.old.found.waits }
+    ensures ticks { steps.new ≤ steps.old + sum_by (state_work stored_network.now.network.now (held stored_network.now.stores.now) tuple.now) drawing.old.found.waits }
 {
     for index in 0..drawing.found.waits.len() {
         let state = *drawing.found.waits.get(index);
@@ -54,8 +54,8 @@ fn meet_waits<L: Ledger>(
         };
         drawing.pairs.add(pair)?;
         meet_wait(
-            machine.network,
-            machine.stores,
+            stored_network.network,
+            stored_network.stores,
             &mut drawing.draft,
             state,
             tuple,
@@ -110,61 +110,61 @@ fn go<L: Ledger>(
 
 // Makes what comes of a tuple of a stream, which stands there at a place.
 fn meet_tuple<L: Ledger>(
-    machine: &Machine<'_>,
+    stored_network: &StoredNetwork<'_>,
     drawing: &mut Drawing,
     stream: StreamId,
     place: usize,
     tuple: &Tuple,
     steps: &mut Steps<L>,
 ) -> Result<(), Memory>
-    requires machine { IsMachine machine.now }
-    requires stream { stream < length machine.now.readers.now }
-    requires draft { IsDraftOf machine.now.network.now drawing.old.draft }
-    requires suits { TupleSuits machine.now.network.now (held machine.now.stores.now) stream tuple.now }
-    ensures grows { OnOk result (Grows machine.now.network.now (moves_of machine.now.network.now (held machine.now.stores.now) stream tuple.now) drawing.old.draft drawing.new.draft) }
-    ensures lists { OnOk result (Lists machine.now.network.now (held machine.now.stores.now) stream place tuple.now drawing.old.pairs drawing.new.pairs) }
+    requires stored_network { IsStoredNetwork stored_network.now }
+    requires stream { stream < length stored_network.now.readers.now }
+    requires draft { IsDraftOf stored_network.now.network.now drawing.old.draft }
+    requires suits { TupleSuits stored_network.now.network.now (held stored_network.now.stores.now) stream tuple.now }
+    ensures grows { OnOk result (Grows stored_network.now.network.now (moves_of stored_network.now.network.now (held stored_network.now.stores.now) stream tuple.now) drawing.old.draft drawing.new.draft) }
+    ensures lists { OnOk result (Lists stored_network.now.network.now (held stored_network.now.stores.now) stream place tuple.now drawing.old.pairs drawing.new.pairs) }
     ensures agenda { drawing.new.agenda.keys ≡ drawing.old.agenda.keys }
-    ensures ticks { steps.new ≤ steps.old + tuple_work machine.now.network.now (held machine.now.stores.now) stream tuple.now }
+    ensures ticks { steps.new ≤ steps.old + tuple_work stored_network.now.network.now (held stored_network.now.stores.now) stream tuple.now }
 {
-    machine
+    stored_network
         .readers
         .find_targets(stream, tuple, &mut drawing.found)?;
     go_all(
-        machine.network,
+        stored_network.network,
         &mut drawing.draft,
         drawing.found.targets.as_slice(),
         tuple,
         steps,
     )?;
-    machine
+    stored_network
         .readers
         .find_waits(stream, tuple, &mut drawing.found)?;
-    machine
+    stored_network
         .keys
-        .find(machine.network, stream, tuple, &mut drawing.found)?;
-    meet_waits(machine, drawing, stream, place, tuple, steps)
+        .find(stored_network.network, stream, tuple, &mut drawing.found)?;
+    meet_waits(stored_network, drawing, stream, place, tuple, steps)
 }
 
 /// Makes what comes of the tuples of a stream, and lists them with the waiting states. After want of memory
 /// the drawing is of no more use.
 pub(crate) fn meet_stream<L: Ledger>(
-    machine: &Machine<'_>,
+    stored_network: &StoredNetwork<'_>,
     drawing: &mut Drawing,
     stream: StreamId,
     tuples: &[Tuple],
     steps: &mut Steps<L>,
 ) -> Result<(), Memory>
-    requires machine { IsMachine machine.now }
-    requires stream { stream < length machine.now.readers.now }
-    requires draft { IsDraftOf machine.now.network.now drawing.old.draft }
-    requires suits { All (TupleSuits machine.now.network.now (held machine.now.stores.now) stream) tuples.now }
-    ensures grows { OnOk result (Grows machine.now.network.now (moves_of_all machine.now.network.now (held machine.now.stores.now) stream tuples.now) drawing.old.draft drawing.new.draft) }
-    ensures lists { OnOk result (ListsAll machine.now.network.now (held machine.now.stores.now) stream tuples.now drawing.old.pairs drawing.new.pairs) }
+    requires stored_network { IsStoredNetwork stored_network.now }
+    requires stream { stream < length stored_network.now.readers.now }
+    requires draft { IsDraftOf stored_network.now.network.now drawing.old.draft }
+    requires suits { All (TupleSuits stored_network.now.network.now (held stored_network.now.stores.now) stream) tuples.now }
+    ensures grows { OnOk result (Grows stored_network.now.network.now (moves_of_all stored_network.now.network.now (held stored_network.now.stores.now) stream tuples.now) drawing.old.draft drawing.new.draft) }
+    ensures lists { OnOk result (ListsAll stored_network.now.network.now (held stored_network.now.stores.now) stream tuples.now drawing.old.pairs drawing.new.pairs) }
     ensures agenda { drawing.new.agenda.keys ≡ drawing.old.agenda.keys }
-    ensures ticks { steps.new ≤ steps.old + stream_work machine.now.network.now (held machine.now.stores.now) stream tuples.now }
+    ensures ticks { steps.new ≤ steps.old + stream_work stored_network.now.network.now (held stored_network.now.stores.now) stream tuples.now }
 {
     for (place, tuple) in tuples.iter().enumerate() {
-        meet_tuple(machine, drawing, stream, place, tuple, steps)?;
+        meet_tuple(stored_network, drawing, stream, place, tuple, steps)?;
     }
     Ok(())
 }

@@ -40,7 +40,7 @@ use steps::{Ledger, Steps};
 
 /// What the second half of a closing goes by: a network and its layout, and the time of the epoch.
 #[derive(Drop)]
-pub struct Course<'a> {
+pub struct ClosingEpoch<'a> {
     pub network: &'a Network,
     pub layout: &'a Layout,
     pub time: u64,
@@ -51,53 +51,53 @@ pub struct Course<'a> {
 /// deadlines passed. Where a tuple was listed, the keys that no instance has any more are forgotten. Takes no
 /// memory.
 pub fn settle<L: Ledger>(
-    course: &Course<'_>,
+    closing: &ClosingEpoch<'_>,
     deadlines: &mut Deadlines,
     stores: &mut Stores,
     opened: &Lists,
     drawing: &mut Drawing,
     steps: &mut Steps<L>,
 )
-    requires can_draw { CanDraw course.now.network.now course.now.layout.now stores.old opened.now }
-    requires drawn { DrawnUpTo course.now.network.now course.now.layout.now stores.old opened.now course.now.layout.now.order drawing.old.draft drawing.old.pairs }
+    requires can_draw { CanDraw closing.now.network.now closing.now.layout.now stores.old opened.now }
+    requires drawn { DrawnUpTo closing.now.network.now closing.now.layout.now stores.old opened.now closing.now.layout.now.order drawing.old.draft drawing.old.pairs }
     requires room { HaveRoom stores.old drawing.old.draft.beads }
     requires watches { Watches deadlines.old stores.old }
-    ensures closed { AreClosed (course.now.time + 1) course.now.network.now (news_of opened.now drawing.old.draft.made course.now.layout.now.order) stores.old stores.new }
+    ensures closed { AreClosed (closing.now.time + 1) closing.now.network.now (news_of opened.now drawing.old.draft.made closing.now.layout.now.order) stores.old stores.new }
     ensures watches { Watches deadlines.new stores.new }
     ensures used { All (λ pair. AreUsedIn (slice_index_or stores.new pair.state None)) drawing.old.pairs }
     ensures stay { StayReady stores.old stores.new }
     ensures made { drawing.new.draft.made ≡ drawing.old.draft.made }
-    ensures fits { DraftFits (length course.now.layout.now.kinds) (length course.now.network.now) drawing.new.draft }
-    ensures ticks { steps.new ≤ steps.old + pairs_work course.now.network.now course.now.layout.now.order stores.old opened.now drawing.old.draft.made drawing.old.pairs }
+    ensures fits { DraftFits (length closing.now.layout.now.kinds) (length closing.now.network.now) drawing.new.draft }
+    ensures ticks { steps.new ≤ steps.old + pairs_work closing.now.network.now closing.now.layout.now.order stores.old opened.now drawing.old.draft.made drawing.old.pairs }
 {
-    step(course, deadlines, stores, opened, drawing, steps);
-    purge_due(stores, deadlines, course.time);
+    step(closing, deadlines, stores, opened, drawing, steps);
+    purge_due(stores, deadlines, closing.time);
     forget_paired(stores, drawing.pairs.as_slice());
 }
 
 // The same without the purge.
 fn step<L: Ledger>(
-    course: &Course<'_>,
+    closing: &ClosingEpoch<'_>,
     deadlines: &mut Deadlines,
     stores: &mut Stores,
     opened: &Lists,
     drawing: &mut Drawing,
     steps: &mut Steps<L>,
 )
-    requires can_draw { CanDraw course.now.network.now course.now.layout.now stores.old opened.now }
-    requires drawn { DrawnUpTo course.now.network.now course.now.layout.now stores.old opened.now course.now.layout.now.order drawing.old.draft drawing.old.pairs }
+    requires can_draw { CanDraw closing.now.network.now closing.now.layout.now stores.old opened.now }
+    requires drawn { DrawnUpTo closing.now.network.now closing.now.layout.now stores.old opened.now closing.now.layout.now.order drawing.old.draft drawing.old.pairs }
     requires room { HaveRoom stores.old drawing.old.draft.beads }
     requires watches { Watches deadlines.old stores.old }
-    ensures settled { AreSettled course.now.network.now (news_of opened.now drawing.old.draft.made course.now.layout.now.order) stores.old stores.new }
+    ensures settled { AreSettled closing.now.network.now (news_of opened.now drawing.old.draft.made closing.now.layout.now.order) stores.old stores.new }
     ensures watches { Watches deadlines.new stores.new }
     ensures stay { StayReady stores.old stores.new }
     ensures made { drawing.new.draft.made ≡ drawing.old.draft.made }
     ensures pairs { drawing.new.pairs ≡ drawing.old.pairs }
-    ensures fits { DraftFits (length course.now.layout.now.kinds) (length course.now.network.now) drawing.new.draft }
-    ensures ticks { steps.new ≤ steps.old + pairs_work course.now.network.now course.now.layout.now.order stores.old opened.now drawing.old.draft.made drawing.old.pairs }
+    ensures fits { DraftFits (length closing.now.layout.now.kinds) (length closing.now.network.now) drawing.new.draft }
+    ensures ticks { steps.new ≤ steps.old + pairs_work closing.now.network.now closing.now.layout.now.order stores.old opened.now drawing.old.draft.made drawing.old.pairs }
 {
     take_all(
-        course.network,
+        closing.network,
         stores,
         opened,
         &drawing.draft.made,
@@ -106,7 +106,7 @@ fn step<L: Ledger>(
     );
     let draft = &mut drawing.draft;
     link_all(
-        course.network,
+        closing.network,
         deadlines,
         stores,
         &mut draft.beads,

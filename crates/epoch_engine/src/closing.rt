@@ -13,7 +13,7 @@ use crate::epoch::Epoch;
 use crate::holdings::Holdings;
 use crate::plan::Plan;
 use crate::room::Room;
-use epoch_draft::{Course, Drawing, Machine, draw, make_room, settle};
+use epoch_draft::{ClosingEpoch, Drawing, StoredNetwork, draw, make_room, settle};
 use event_types::Memory;
 use steps::{Ledger, Steps};
 
@@ -66,7 +66,7 @@ fn draw_epoch<L: Ledger>(
     ensures takes { OnOk result (TakesWithin plan.now holdings.new.stores epoch.now room.new.drawing) }
     ensures ticks { steps.new ≤ steps.old + drawing_work plan.now holdings.old.stores epoch.now }
 {
-    let machine = Machine {
+    let stored_network = StoredNetwork {
         network: plan.merged.network(),
         layout: &plan.layout,
         readers: &plan.readers,
@@ -75,7 +75,13 @@ fn draw_epoch<L: Ledger>(
         stores: &holdings.stores,
     };
     let touched = epoch.touched.numbers.as_slice();
-    draw(&machine, &epoch.tuples, touched, &mut room.drawing, steps)?;
+    draw(
+        &stored_network,
+        &epoch.tuples,
+        touched,
+        &mut room.drawing,
+        steps,
+    )?;
     room.list(plan)?;
     make_room(
         plan.merged.network(),
@@ -111,13 +117,13 @@ fn settle_epoch<L: Ledger>(
         Some(time) => time,
         None => unreachable!(),
     };
-    let course = Course {
+    let closing = ClosingEpoch {
         network: plan.merged.network(),
         layout: &plan.layout,
         time,
     };
     settle(
-        &course,
+        &closing,
         &mut holdings.deadlines,
         &mut holdings.stores,
         &epoch.tuples,

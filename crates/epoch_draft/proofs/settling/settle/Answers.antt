@@ -13,18 +13,18 @@ use Rattle.epoch_draft.proofs.settling.settle.Goals as goal
 
 pub forget_paired-requires : goal.forget_paired-requires
 forget_paired-requires g c =
-    let net = c.args.course.now.network.now in
-    let below = pairs_below net c.args.course.now.layout.now c.args.stores.now c.args.opened.now c.args.drawing.now.draft c.args.drawing.now.pairs c.requires.can_draw c.requires.drawn in
+    let net = c.args.closing.now.network.now in
+    let below = pairs_below net c.args.closing.now.layout.now c.args.stores.now c.args.opened.now c.args.drawing.now.draft c.args.drawing.now.pairs c.requires.can_draw c.requires.drawn in
     subst (λ (m : ℕ). All (λ (p : Pair). p.state < m) c.as_slice.result.now) (sym (c.purge_due.ensures.purged.same.as_many ∙ c.step.ensures.settled.same.as_many ∙ c.requires.can_draw.typed.as_many))
     (subst (All (λ (p : Pair). p.state < length net)) (sym (c.as_slice.ensures ∙ c.step.ensures.pairs)) below)
 
 -- the stores whose deadlines passed were purged, and then those of the pairs forgot keys
 pub returns-clause-closed : goal.returns-clause-closed
 returns-clause-closed g c =
-    let time = c.args.course.now.time + 1 in
+    let time = c.args.closing.now.time + 1 in
     let mid = c.step.new.stores in
     let new = c.forget_paired.new.stores in
-    closed time c.args.course.now.network.now c.args.course.now.layout.now.kinds c.args.stores.now mid new (news_of c.args.opened.now c.args.drawing.now.draft.made c.args.course.now.layout.now.order) c.requires.can_draw.typed c.step.ensures.settled
+    closed time c.args.closing.now.network.now c.args.closing.now.layout.now.kinds c.args.stores.now mid new (news_of c.args.opened.now c.args.drawing.now.draft.made c.args.closing.now.layout.now.order) c.requires.can_draw.typed c.step.ensures.settled
     (purged_each time (map (λ (p : Pair). p.state) c.as_slice.result.now) mid c.purge_due.new.stores new c.purge_due.ensures.purged c.forget_paired.ensures)
 
 -- the deadlines are those of what is left

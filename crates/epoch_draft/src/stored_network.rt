@@ -6,7 +6,7 @@ use stream_readers::{KeyReaders, Readers};
 /// All that `draw` reads besides the open tuples: a network and its layout, what reads each
 /// stream, the place of each stream in the order of work, and the stores with the keys that lead to their states.
 #[derive(Drop)]
-pub struct Machine<'a> {
+pub struct StoredNetwork<'a> {
     pub network: &'a Network,
     pub layout: &'a Layout,
     pub readers: &'a Readers,
