@@ -21,11 +21,15 @@ use Rattle.session.specs.declared.work.Work.{Work}
 use Rattle.session.specs.SessionView.{SessionStandsFor, TrimsEngine, SessionView, WorksFor, program_in}
 use Rattle.session.specs.EngineStandsWithLastOpen.{IsGoing}
 use Rattle.session.proofs.PlanLemmas.{planned_still}
+use Rattle.session.specs.UnbornLines.{unborn_lines}
+use Rattle.session.proofs.UnbornLemmas.{plainly}
+use Rattle.automaton.specs.NetworkLines.{HasLines}
+use Rattle.epoch_engine.proofs.BornLemmas.{plain_lines}
 
 module _ (session : SessionView) (history : List Event) (works : WorksFor session history) where
   -- the distinct prefixes of the lines
   listed : ListsStates session.engine.network (lines_of (program_in session))
-  listed = states_are_listed session.engine.network (lines_of (program_in session)) works.engine.merged works.engine.serves.has_lines
+  listed = states_are_listed session.engine.network (lines_of (program_in session)) works.engine.merged (subst (HasLines session.engine.network) (plainly (lines_of (program_in session))) (plain_lines session.engine.network (unborn_lines (program_in session)) works.engine.serves.has_lines))
 
   -- the states of the network are as many
   pub states_counted : (states : ℕ) → states ≡ count_by is_some session.engine.network → CountsStates (lines_of (program_in session)) states
@@ -54,17 +58,17 @@ module _ (old new : SessionView) (trims : TrimsEngine old new) where
   module _ (history : List Event) (works : WorksFor old history) where
     -- what is stored then are the bindings that wait and are alive
     pub alive_counted : (live : ℕ) → live ≡ min (stored_in new.engine) (2 ^ 64 - 1)
-        → CountsAlive (lines_of (program_in old)) (work_order (program_in old)) (closed_part old.engine.time history) live
+        → CountsAlive (unborn_lines (program_in old)) (work_order (program_in old)) (closed_part old.engine.time history) live
     alive_counted live same =
         let program = program_in old in
-        let counted = trimmed_is_counted old.engine new.engine (lines_of program) history works.engine trims.engine in
-        subst (λ n. CountsAlive (lines_of program) (work_order program) (closed_part old.engine.time history) n) (sym same)
-        (subst (λ order. CountsAlive (lines_of program) order (closed_part old.engine.time history) (min (stored_in new.engine) (2 ^ 64 - 1))) works.layout.order counted)
+        let counted = trimmed_is_counted old.engine new.engine (unborn_lines program) history works.engine trims.engine in
+        subst (λ n. CountsAlive (unborn_lines program) (work_order program) (closed_part old.engine.time history) n) (sym same)
+        (subst (λ order. CountsAlive (unborn_lines program) order (closed_part old.engine.time history) (min (stored_in new.engine) (2 ^ 64 - 1))) works.layout.order counted)
 
     mid_works : WorksFor mid history
     mid_works = record {
       layout = subst (IsLayoutOf (program_in old) (kinds_of_each (judged_of old.catalogue).streams)) (sym trims.engine.plan.layout) works.layout;
-      engine = trimmed_stands.stands old.engine new.engine (lines_of (program_in old)) history works.engine trims.engine;
+      engine = trimmed_stands.stands old.engine new.engine (unborn_lines (program_in old)) history works.engine trims.engine;
     }
 
     -- the engine works for the same events

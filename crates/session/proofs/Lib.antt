@@ -16,4 +16,5 @@ pub mod SessionLemmas
 pub mod StandsLemmas
 pub mod StaysWithinLemmas
 pub mod TestsLemmas
+pub mod UnbornLemmas
 pub mod WroteFrontLemmas

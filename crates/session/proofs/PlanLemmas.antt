@@ -17,15 +17,16 @@ use Rattle.semantics.specs.TypedPrograms.{PublishInTurn}
 use Rattle.stream_schema.specs.Schema.{kinds_of}
 use Rattle.stream_schema.specs.Streams.{Entry, schemas_of}
 use Rattle.automaton.specs.declared.layout.Layout.{Layout}
-use Rattle.automaton.specs.NetworkLines.{HasLines}
 use Rattle.automaton.specs.States.{Net}
-use Rattle.automaton.specs.Work.{is_in}
+use Rattle.automaton.specs.Work.{IsInOrder, is_in}
 use Rattle.splitter.specs.Laws.{hidden_streams, split_order}
 use Rattle.cel_types.specs.SourceLaws.{kinds_in}
-use Rattle.splitter.specs.Chains.{HideApart, chain_order, hidden_end, work_order}
+use Rattle.splitter.specs.Chains.{HideApart, chain_order, hidden_end, lines_of, work_order}
 use Rattle.splitter.specs.Layouts.{IsLayoutOf}
 use Rattle.splitter.proofs.ApartLemmas.{range_all}
 use Rattle.splitter.proofs.LineLemmas.{get_more}
+use Rattle.automaton.specs.declared.line.Line.{Line}
+use Rattle.epoch_laws.specs.BornLines.{HasBornLines}
 use Rattle.epoch_laws.specs.StoresStandFor.{Serves}
 use Rattle.epoch_engine.specs.Closes.{Closes, KeepsPlan}
 use Rattle.epoch_engine.specs.Offers.{IsHeard}
@@ -38,6 +39,7 @@ use Rattle.event_csv.specs.declared.event.Seen.{Seen}
 use Rattle.session.specs.Fits.{Fits}
 use Rattle.session.specs.EngineStandsWithLastOpen.{IsPlanned, lines_over, program_over}
 use Rattle.session.proofs.BatchLinesLemmas.{as_many}
+use Rattle.session.proofs.UnbornLemmas.{plainly}
 
 -- the derived streams of queries have greater numbers than a stream that is there, by induction on the queries
 order_above : (kinds : ℕ → List Kind) (stream : ℕ) (there : List ℕ) (order : List Query) → Contains there stream → PublishInTurn kinds there order → HideApart order → All (λ number. stream < number) (chain_order order)
@@ -101,17 +103,20 @@ batch_count c old new batch planned closes =
 -- a changed engine of the same network and layout
 pub planned_still : (c : Catalogued) (old new : engine.EngineView) → KeepsPlan old new → IsPlanned c old → IsPlanned c new
 planned_still c old new plan planned = record {
-  lines = subst (λ (net : Net). HasLines net (lines_over c)) (sym plan.network) planned.lines;
+  lines = subst (λ (net : Net). HasBornLines net (lines_over c)) (sym plan.network) planned.lines;
   layout = subst (IsLayoutOf (program_over c) (kinds_of_each (judged_of c).streams)) (sym plan.layout) planned.layout;
 }
 
 -- a network that has the lines of a catalogue, and a layout of it, serve them
-pub lines_serve : (c : Catalogued) (net : Net) (layout : Layout) → HasLines net (lines_over c) → IsLayoutOf (program_over c) (kinds_of_each (judged_of c).streams) layout → Serves net (lines_over c) layout.order
-lines_serve c net layout lines fits = record { has_lines = lines; in_order = fits.fits.in_order }
+pub lines_serve : (c : Catalogued) (net : Net) (layout : Layout) → HasBornLines net (lines_over c) → IsLayoutOf (program_over c) (kinds_of_each (judged_of c).streams) layout → Serves net (lines_over c) layout.order
+lines_serve c net layout lines fits = record {
+  has_lines = lines;
+  in_order = subst (λ (ls : List Line). IsInOrder ls layout.order) (sym (plainly (lines_of (program_over c)))) fits.fits.in_order;
+}
 
 -- an engine that was made over them has them
-pub new_planned : (c : Catalogued) (net : Net) (layout : Layout) (now : engine.EngineView) → HasLines net (lines_over c) → IsLayoutOf (program_over c) (kinds_of_each (judged_of c).streams) layout → IsNew net layout now → IsPlanned c now
+pub new_planned : (c : Catalogued) (net : Net) (layout : Layout) (now : engine.EngineView) → HasBornLines net (lines_over c) → IsLayoutOf (program_over c) (kinds_of_each (judged_of c).streams) layout → IsNew net layout now → IsPlanned c now
 new_planned c net layout now lines fits new = record {
-  lines = subst (λ (n : Net). HasLines n (lines_over c)) (sym new.network) lines;
+  lines = subst (λ (n : Net). HasBornLines n (lines_over c)) (sym new.network) lines;
   layout = subst (IsLayoutOf (program_over c) (kinds_of_each (judged_of c).streams)) (sym new.same_layout) fits;
 }

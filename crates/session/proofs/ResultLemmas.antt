@@ -17,6 +17,7 @@ use Rattle.automaton.specs.Work.{completed}
 use Rattle.epoch_laws.specs.Batch.{Agree}
 use Rattle.epoch_laws.specs.Standing as standing
 use Rattle.epoch_laws.proofs.Lists.{filter_false}
+use Rattle.epoch_laws.proofs.InstanceFlows.{unborn_lines as unborn_lines_are}
 use Rattle.epoch_laws.proofs.Standing.{closing_is_results}
 use Rattle.epoch_engine.specs.Closes.{Closes}
 use Rattle.epoch_engine.specs.EngineStandsFor.{EngineStandsFor}
@@ -30,6 +31,7 @@ use Rattle.catalogue.specs.Judgement.{program_of}
 use Rattle.cel_types.specs.SourceLaws.{kinds_in}
 use Rattle.catalogue.proofs.ProgramLemmas.{accepted_are_wide_programs}
 use Rattle.session.specs.ClosingGivesResults.{ClosingGivesResults}
+use Rattle.session.specs.UnbornLines.{unborn_lines}
 
 -- an event of a declared stream is of no other stream
 other_stream : (at stream declared : ℕ) → at < declared → nat_lt stream declared ≡ false → (at == stream) ≡ false
@@ -59,20 +61,21 @@ module _ (kinds : ℕ → List Kind) (program : Program) (wide : IsWideProgram k
       by_test true e = refl
       by_test false e = heard_none stream e
 
-  agree : (order : List ℕ) → order ≡ work_order program → All (λ query. Agree (lines_of program) order program history query.stream) program.queries
+  agree : (order : List ℕ) → order ≡ work_order program → All (λ query. Agree (unborn_lines program) order program history query.stream) program.queries
   agree order same =
-      subst (λ (s : Streams × List ℕ). All (λ (query : Query). IsPermutation (completed (lines_of program) s.1 s.0 query.stream) (env program history query.stream)) program.queries)
-      (λ i. (λ stream. sym (heard_declared stream) i, sym same i)) (derived_so kinds program history wide all)
+      subst (λ (made : Streams). All (λ (query : Query). IsPermutation (made query.stream) (env program history query.stream)) program.queries) (sym (unborn_lines_are (lines_of program) order (heard_on history)))
+      (subst (λ (s : Streams × List ℕ). All (λ (query : Query). IsPermutation (completed (lines_of program) s.1 s.0 query.stream) (env program history query.stream)) program.queries)
+      (λ i. (λ stream. sym (heard_declared stream) i, sym same i)) (derived_so kinds program history wide all))
 
-  module _ (of_streams : List (List Kind)) (old new : EngineView) (batch : List (List TupleView)) (layout : IsLayoutOf program of_streams old.layout) (stands : EngineStandsFor old (lines_of program) history) (closes : Closes old new batch) where
-    open_stands : standing.PartsStandFor old.network (lines_of program) old.layout.order (stores_in old) (Some closes.time) (streams_of old.opened) old.closed_time history
+  module _ (of_streams : List (List Kind)) (old new : EngineView) (batch : List (List TupleView)) (layout : IsLayoutOf program of_streams old.layout) (stands : EngineStandsFor old (unborn_lines program) history) (closes : Closes old new batch) where
+    open_stands : standing.PartsStandFor old.network (unborn_lines program) old.layout.order (stores_in old) (Some closes.time) (streams_of old.opened) old.closed_time history
     open_stands =
-        subst (λ (t : Option ℕ). standing.PartsStandFor old.network (lines_of program) old.layout.order (stores_in old) t (streams_of old.opened) old.closed_time history) closes.was_open stands.stands
+        subst (λ (t : Option ℕ). standing.PartsStandFor old.network (unborn_lines program) old.layout.order (stores_in old) t (streams_of old.opened) old.closed_time history) closes.was_open stands.stands
 
     each : All (λ query. sorted (closes.taken.news query.stream) ≡ results program history query.stream closes.time) program.queries
     each =
-        All-weaker (λ (query : Query). Agree (lines_of program) old.layout.order program history query.stream) (λ query. sorted (closes.taken.news query.stream) ≡ results program history query.stream closes.time)
-        (λ query. closing_is_results old.network (lines_of program) old.layout.order (stores_in old) closes.time (streams_of old.opened) closes.taken.news old.closed_time history stands.serves open_stands closes.taken.epoch program query.stream)
+        All-weaker (λ (query : Query). Agree (unborn_lines program) old.layout.order program history query.stream) (λ query. sorted (closes.taken.news query.stream) ≡ results program history query.stream closes.time)
+        (λ query. closing_is_results old.network (unborn_lines program) old.layout.order (stores_in old) closes.time (streams_of old.opened) closes.taken.news old.closed_time history stands.serves open_stands closes.taken.epoch program query.stream)
         program.queries (agree old.layout.order layout.order)
 
     -- what a closing gives is the results of the queries

@@ -11,6 +11,7 @@ use Rattle.semantics.specs.Laws.{NeverFalls}
 use Rattle.semantics.specs.Programs.{Program}
 use Rattle.semantics.proofs.ReportLemmas.{filter_none, times-append, times_of_one}
 use Rattle.splitter.specs.Chains.{lines_of, work_order}
+use Rattle.epoch_laws.specs.BornLines.{lines_in}
 use Rattle.epoch_laws.specs.Histories.{events_before, streams_over}
 use Rattle.epoch_laws.specs.Standing.{last_time}
 use Rattle.epoch_engine.specs.Work.{end_tests, state_tests, waiting_over}
@@ -19,6 +20,7 @@ use Rattle.session.specs.Owes.{closes}
 use Rattle.session.specs.RunWork.{epoch_tests, run_work}
 use Rattle.session.specs.TestsLeft.{tests_left}
 use Rattle.session.proofs.ClosingLemmas.{Standing, brought, brought_after}
+use Rattle.session.specs.UnbornLines.{unborn_lines}
 
 -- later events aren't before a time
 before_later : (time : ℕ) (history later : List Event) → All (λ event. time < event.tuple.at) later → events_before time (history ++ later) ≡ events_before time history
@@ -42,11 +44,11 @@ by_later time history later all =
 -- what an epoch asks for is unchanged by later events
 tests_stand : (states : List Prefix) (program : Program) (history later : List Event) (time : ℕ) → All (λ event. time < event.tuple.at) later → epoch_tests states program (history ++ later) time ≡ epoch_tests states program history time
 tests_stand states program history later time all =
-    let lines = lines_of program in
+    let lines = unborn_lines program in
     let order = work_order program in
     let by = by_later time history later all in
     let early = before_later time history later all in
-    λ i. sum_by (state_tests time (streams_over lines order (by i)) (waiting_over lines order (early i))) states + sum_by (end_tests time (streams_over lines order (by i))) lines
+    λ i. sum_by (state_tests time (streams_over lines order (by i)) (waiting_over lines order (early i))) states + sum_by (end_tests time (streams_over lines order (by i))) (lines_in lines)
 
 -- what holds of each event's time holds of each time
 all_times : (P : ℕ → Type 0) (history : List Event) → All (λ event. P event.tuple.at) history → All P (times history)

@@ -42,6 +42,8 @@ use Rattle.session.proofs.ClosingLemmas.{rows_left_after}
 use Rattle.session.proofs.FitsLemmas.{event_fits}
 use Rattle.session.proofs.HeardLemmas.{GoOn, closed_on, go_on}
 use Rattle.session.proofs.PlanLemmas.{is_declared, of_its_kinds}
+use Rattle.session.specs.UnbornLines.{unborn_lines}
+use Rattle.epoch_laws.specs.BornLines.{BornLine}
 
 -- a limit cuts the later bytes
 pub cut_within : (text piece : List ℕ) (limit : ℕ) → length text ≤ limit → take limit (text ++ piece) ≡ text ++ take (limit - length text) piece
@@ -200,7 +202,7 @@ pub unfed_part : IsPart unfed
 unfed_part = record { none = no_lines false; short = omega arith; no_feed = refl }
 
 -- an engine that stands for a history, and has no epoch closed where none is open, has the last one open
-last_open : (now : engine.EngineView) (ls : List automaton.Line) (past : List Event) → engines.EngineStandsFor now ls past → (now.time ≡ None → now.closed_time ≡ None) → now.time ≡ last_time past
+last_open : (now : engine.EngineView) (ls : List BornLine) (past : List Event) → engines.EngineStandsFor now ls past → (now.time ≡ None → now.closed_time ≡ None) → now.time ≡ last_time past
 last_open now ls past stands opened = by_time now.time refl
   where
     by_time : (o : Option ℕ) → now.time ≡ o → now.time ≡ last_time past
@@ -210,7 +212,7 @@ last_open now ls past stands opened = by_time now.time refl
 -- a session that was fed nothing stands for what its engine stands for
 pub begins : (session : SessionView) (past : List Event) → session.ended ≡ false → session.fed ≡ 0 → session.feed ≡ unfed → AreDeclared (judged_of session.catalogue) past
     → IsLayoutOf (program_in session) (kinds_of_each (judged_of session.catalogue).streams) session.engine.layout
-    → (session.engine.time ≡ None → session.engine.closed_time ≡ None) → engines.EngineStandsFor session.engine (lines_of (program_in session)) past → SessionStandsFor session past []
+    → (session.engine.time ≡ None → session.engine.closed_time ≡ None) → engines.EngineStandsFor session.engine (unborn_lines (program_in session)) past → SessionStandsFor session past []
 begins session past going fed feed declared layout opened stands =
     let read = reading_of (judged_of session.catalogue).streams in
     let same = sym (append-nil past) ∙ ap (λ ls. heard_after past (map read ls)) (sym (no_lines false)) in
@@ -219,8 +221,8 @@ begins session past going fed feed declared layout opened stands =
       within = omega arith;
       none_refused = ap (λ ls. refused_after past (map read ls)) (no_lines false);
       declared = declared;
-      works = record { layout = layout; engine = subst (engines.EngineStandsFor session.engine (lines_of (program_in session))) same stands };
-      last_is_open = last_open session.engine (lines_of (program_in session)) past stands opened ∙ ap last_time same;
+      works = record { layout = layout; engine = subst (engines.EngineStandsFor session.engine (unborn_lines (program_in session))) same stands };
+      last_is_open = last_open session.engine (unborn_lines (program_in session)) past stands opened ∙ ap last_time same;
       counted = fed;
       feed = subst (HasGiven []) (sym feed) (record { gives = λ more ended. ap (λ ls. ls ++ unread_lines (fed_more unfed more) ended) (sym (no_lines false)); line_feeds = refl; none_held = refl });
     }

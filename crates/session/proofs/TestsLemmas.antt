@@ -1,5 +1,5 @@
 -- The tests of the closing of an epoch, and of the lines that are left.
-use Rattle.std.proofs.Common.{◌≡◌, ◌∙◌, ap, refl, subst, ℕ, ◌+◌, ◌≤◌, ◌<◌, Bool, true, false, cond, is_some, nat_lt, List, [], ◌∷◌, ◌++◌, Some, None, Option, arith}
+use Rattle.std.proofs.Common.{sym, ◌≡◌, ◌∙◌, ap, refl, subst, ℕ, ◌+◌, ◌≤◌, ◌<◌, Bool, true, false, cond, is_some, nat_lt, List, [], ◌∷◌, ◌++◌, Some, None, Option, arith}
 use Rattle.std.specs.Prelude.{IsSome}
 use Rattle.std.proofs.lemmas.Bool.{le-ltb, lt-ltb, ltb-true}
 use Rattle.cay_host.specs.Told.{Told}
@@ -22,6 +22,9 @@ use Rattle.session.specs.Readings.{heard_of}
 use Rattle.session.specs.TestsLeft.{RisesByClosing, RisesByLines, RisesByOpen, TestsGoOn, tests_of_closing, open_tests, tests_left}
 use Rattle.session.proofs.HeardLemmas.{first_none}
 use Rattle.session.proofs.StandsLemmas.{last_of}
+use Rattle.session.proofs.UnbornLemmas.{plainly}
+use Rattle.splitter.specs.Chains.{lines_of}
+use Rattle.automaton.specs.declared.line.Line.{Line}
 
 -- what the closing of an engine takes is no more than the open epoch asks for
 pub open_rises : (c : Catalogued) (engine : EngineView) (old new : ℕ) → IsPlanned c engine → IsSome engine.time → RisesByWork engine old new → RisesByOpen c engine old new
@@ -31,7 +34,7 @@ open_rises c engine old new planned opened rises history states stands listed = 
     go None is some = absurd (cc)
     go (Some time) is some =
         subst (λ (order : List ℕ). new ≤ old + work states (lines_over c) order history time) planned.layout.order
-        (rises.waiting (lines_over c) states history time (record { stands = stands.engine; is_open = is; listed = listed }))
+        (rises.waiting (lines_over c) states history time (record { stands = stands.engine; is_open = is; listed = subst (λ (ls : List Line). ListPrefixes ls states) (sym (plainly (lines_of (program_over c)))) listed }))
 
 -- no tests are few enough
 pub rises_none : (c : Catalogued) (engine : EngineView) (old : ℕ) → RisesByOpen c engine old old
@@ -78,7 +81,7 @@ event_rises c feed ended number event lines engine old new shows rises history s
 -- where the event of a line was taken, what is no longer to come is the closing
 pub event_moves : (c : Catalogued) (ended : Bool) (number : ℕ) (event : Seen) (lines : List Reading) (history : List Event) (old new : Work) (a b : Told) (before after : ℕ)
     → AdvancesPastLine c (line_of number event) history old new a b → EngineStandsWithLastOpen c history old.engine → RisesByClosing c event.tuple.at old.engine before after
-    → (states : List Prefix) → ListPrefixes (lines_over c) states
+    → (states : List Prefix) → ListPrefixes (lines_of (program_over c)) states
     → after + tests_left states (program_over c) ended lines new.engine.time (history ++ heard_of event ∷ []) ≤ before + tests_left states (program_over c) ended (line_of number event ∷ lines) old.engine.time history
 event_moves c ended number event lines history old new a b before after takes stands rises states listed =
     let few = rises history states stands listed in

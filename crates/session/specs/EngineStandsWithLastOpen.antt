@@ -2,10 +2,8 @@
 use Rattle.std.specs.Prelude.{◌≡◌, ◌≤◌, ℕ, List, [], None}
 use Rattle.semantics.specs.Histories.{Event}
 use Rattle.semantics.specs.Programs.{Program}
-use Rattle.automaton.specs.declared.line.Line.{Line}
-use Rattle.automaton.specs.NetworkLines.{HasLines}
-use Rattle.splitter.specs.Chains.{lines_of}
 use Rattle.splitter.specs.Layouts.{IsLayoutOf}
+use Rattle.epoch_laws.specs.BornLines.{BornLine, HasBornLines}
 use Rattle.epoch_laws.specs.Standing.{last_time}
 use Rattle.epoch_engine.specs.Closes.{KeepsPlan}
 use Rattle.epoch_engine.specs.Offers.{IsLate, IsNotAhead}
@@ -16,15 +14,16 @@ use Rattle.catalogue.specs.Catalogued.{Catalogued, judged_of}
 use Rattle.catalogue.specs.Chained.{kinds_of_each}
 use Rattle.catalogue.specs.Judgement.{program_of}
 use Rattle.session.specs.SessionView.{AreDeclared}
+use Rattle.session.specs.UnbornLines.{unborn_lines}
 use Rattle.session.specs.declared.work.Work.{Work}
 
 -- the program of a catalogue
 abbrev pub program_over : Catalogued → Program
 program_over c = program_of (judged_of c)
 
--- its automaton lines
-abbrev pub lines_over : Catalogued → List Line
-lines_over c = lines_of (program_over c)
+-- its automaton lines, whose queries have no births
+abbrev pub lines_over : Catalogued → List BornLine
+lines_over c = unborn_lines (program_over c)
 
 -- the engine stands for events on declared streams, with the last of their epochs open
 pub record EngineStandsWithLastOpen (c : Catalogued) (history : List Event) (now : engine.EngineView) : Type 0 where
@@ -32,9 +31,9 @@ pub record EngineStandsWithLastOpen (c : Catalogued) (history : List Event) (now
   pub engine : engines.EngineStandsFor now (lines_over c) history
   pub last_is_open : now.time ≡ last_time history
 
--- the engine's network has the lines of the catalogue's program, and its layout is one of it
+-- the engine's network has the lines of the catalogue's program, without births, and its layout is one of it
 pub record IsPlanned (c : Catalogued) (now : engine.EngineView) : Type 0 where
-  pub lines : HasLines now.network (lines_over c)
+  pub lines : HasBornLines now.network (lines_over c)
   pub layout : IsLayoutOf (program_over c) (kinds_of_each (judged_of c).streams) now.layout
 
 -- the engine is planned, and where no epoch is open, none was closed

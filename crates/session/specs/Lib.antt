@@ -13,3 +13,4 @@ pub mod SessionCode
 pub mod SessionView
 pub mod TestsLeft
 pub mod WroteFront
+pub mod UnbornLines

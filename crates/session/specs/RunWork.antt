@@ -9,10 +9,11 @@ use Rattle.epoch_engine.specs.Work.{work}
 use Rattle.session.specs.Feeds.{within_limit}
 use Rattle.session.specs.Heard.{closed_after}
 use Rattle.session.specs.SessionView.{SessionStandsFor, SessionView, program_in, readings_in}
+use Rattle.session.specs.UnbornLines.{unborn_lines}
 
 -- the tests that the epoch of a time asks for, of a program over a history; its states are the prefixes of its lines, each once
 abbrev pub epoch_tests : List Prefix → Program → List Event → ℕ → ℕ
-epoch_tests states program history time = work states (lines_of program) (work_order program) history time
+epoch_tests states program history time = work states (unborn_lines program) (work_order program) history time
 
 -- those of all epochs of a history
 abbrev pub run_work : List Prefix → Program → List Event → ℕ

@@ -5,7 +5,7 @@ use Rattle.semantics.specs.Histories.{Event}
 use Rattle.semantics.specs.Programs.{Program}
 use Rattle.semantics.specs.Report.{report}
 use Rattle.semantics.specs.TypedPrograms.{HaveTheirKinds}
-use Rattle.splitter.specs.Chains.{lines_of, work_order}
+use Rattle.splitter.specs.Chains.{work_order}
 use Rattle.splitter.specs.Layouts.{IsLayoutOf}
 use Rattle.epoch_laws.specs.Standing.{closed_part, last_time}
 use Rattle.epoch_engine.specs.Counts.{CountsAlive}
@@ -20,6 +20,7 @@ use Rattle.catalogue.specs.Chained.{kinds_of_each}
 use Rattle.catalogue.specs.Judgement.{Judged, program_of}
 use Rattle.session.specs.Heard.{Reading, closed_after, heard_after, refused_after}
 use Rattle.session.specs.Readings.{readings}
+use Rattle.session.specs.UnbornLines.{unborn_lines}
 
 -- a session: its queries, its engine, the most bytes of an event text, its feed, the number of bytes that it was fed, and whether it has ended
 pub record SessionView : Type 0 where
@@ -55,7 +56,7 @@ pub record HasGiven (text : List ℕ) (feed : Fed) : Type 0 where
 -- the engine of a session has a layout of its queries, and stands for a history over the merged network of their lines
 pub record WorksFor (session : SessionView) (history : List Event) : Type 0 where
   pub layout : IsLayoutOf (program_in session) (kinds_of_each (judged_of session.catalogue).streams) session.engine.layout
-  pub engine : engines.EngineStandsFor session.engine (lines_of (program_in session)) history
+  pub engine : engines.EngineStandsFor session.engine (unborn_lines (program_in session)) history
 
 -- a session stands for a history of events on declared streams and for the bytes of an event text behind it: the session hasn't ended, has counted the bytes, and they are within the limit; no line of them is refused; its engine works for all that was heard, with the last epoch open; and its feed has given the lines of the bytes
 pub record SessionStandsFor (session : SessionView) (past : List Event) (text : List ℕ) : Type 0 where
@@ -71,7 +72,7 @@ pub record SessionStandsFor (session : SessionView) (past : List Event) (text : 
 -- whatever events of declared streams an engine stands for, a session stands for them and for no text behind them
 abbrev pub StandsForPast : Catalogued → engine.EngineView → SessionView → Type 0
 StandsForPast c over session =
-    (past : List Event) → AreDeclared (judged_of c) past → engines.EngineStandsFor over (lines_of (program_of (judged_of c))) past → SessionStandsFor session past []
+    (past : List Event) → AreDeclared (judged_of c) past → engines.EngineStandsFor over (unborn_lines (program_of (judged_of c))) past → SessionStandsFor session past []
 
 -- the engine works for all that was heard of the whole text, with no epoch open
 pub record HasFinished (session : SessionView) (past : List Event) (text : List ℕ) : Type 0 where
@@ -95,4 +96,4 @@ pub record KeepsQueries (old new : SessionView) : Type 0 where
 -- the number of bindings that wait after the closed epochs of what the session works for
 abbrev pub CountsWaiting : SessionView → ℕ → Type 0
 CountsWaiting session count =
-    (history : List Event) → WorksFor session history → CountsAlive (lines_of (program_in session)) (work_order (program_in session)) (closed_part session.engine.time history) count
+    (history : List Event) → WorksFor session history → CountsAlive (unborn_lines (program_in session)) (work_order (program_in session)) (closed_part session.engine.time history) count

@@ -4,10 +4,11 @@ use Rattle.semantics.specs.Histories.{Event}
 use Rattle.semantics.specs.Programs.{Program}
 use Rattle.automaton.specs.Prefixes.{Prefix}
 use Rattle.prefix_merge.specs.Counts.{ListPrefixes}
+use Rattle.splitter.specs.Chains.{lines_of}
 use Rattle.epoch_engine.specs.EngineView.{EngineView}
 use Rattle.event_csv.specs.Fed.{Fed}
 use Rattle.catalogue.specs.Catalogued.{Catalogued}
-use Rattle.session.specs.EngineStandsWithLastOpen.{EngineStandsWithLastOpen, lines_over, program_over}
+use Rattle.session.specs.EngineStandsWithLastOpen.{EngineStandsWithLastOpen, program_over}
 use Rattle.session.specs.ForEachHistory.{lines_in}
 use Rattle.session.specs.Heard.{Reading, events_in, last_after, refusal_of}
 use Rattle.session.specs.Owes.{closes, is_later}
@@ -31,7 +32,7 @@ tests_left states program ended (line ∷ lines) seen history =
 
 -- whatever events an engine stands for, a count of tests rose by at most so many
 abbrev pub RisesBy : Catalogued → EngineView → (List Prefix → List Event → ℕ) → ℕ → ℕ → Type 0
-RisesBy c engine many old new = (history : List Event) (states : List Prefix) → EngineStandsWithLastOpen c history engine → ListPrefixes (lines_over c) states → new ≤ old + many states history
+RisesBy c engine many old new = (history : List Event) (states : List Prefix) → EngineStandsWithLastOpen c history engine → ListPrefixes (lines_of (program_over c)) states → new ≤ old + many states history
 
 -- by at most what the open epoch asks for
 abbrev pub RisesByOpen : Catalogued → EngineView → ℕ → ℕ → Type 0
@@ -49,7 +50,7 @@ RisesByLines c feed ended engine old new = RisesBy c engine (λ states history. 
 pub record TestsGoOn (c : Catalogued) (lines others : List Reading) (history : List Event) (old new : EngineView) (before after : ℕ) : Type 0 where
   pub heard : List Event
   pub stands : EngineStandsWithLastOpen c heard new
-  pub fewer : (states : List Prefix) → ListPrefixes (lines_over c) states
+  pub fewer : (states : List Prefix) → ListPrefixes (lines_of (program_over c)) states
       → after + tests_left states (program_over c) false others new.time heard ≤ before + tests_left states (program_over c) false lines old.time history
 
 -- the same of the lines of a feed, whatever events the engine stands for, where a line was worked on

@@ -1,8 +1,9 @@
 //! Sessions.
 ghost use Rattle.std.specs.Prelude.{◌≡◌, ℕ, [], List, None, false, true, IfErr, IfOk, OnErr, OnOk, take};
 ghost use Rattle.semantics.specs.Histories.{Event};
-ghost use Rattle.automaton.specs.NetworkLines.{HasLines};
 ghost use Rattle.splitter.specs.Chains.{lines_of};
+ghost use Rattle.epoch_laws.specs.BornLines.{HasBornLines};
+ghost use Rattle.session.specs.UnbornLines.{unborn_lines};
 ghost use Rattle.splitter.specs.Layouts.{IsLayoutOf};
 ghost use Rattle.cay_host.specs.Output.{SameButOutput};
 ghost use Rattle.prefix_merge.specs.Counts.{CountsPlain, CountsStates};
@@ -72,7 +73,7 @@ impl Session {
 
     /// Goes on with an engine that may have been offered events before. Takes no memory.
     pub fn over(alloc: Global, catalogue: Catalogue, engine: Engine, limit: u64) -> Session
-        requires lines { HasLines engine.network (lines_of (program_of (judged_of catalogue))) }
+        requires lines { HasBornLines engine.network (unborn_lines (program_of (judged_of catalogue))) }
         requires layout { IsLayoutOf (program_of (judged_of catalogue)) (kinds_of_each (judged_of catalogue).streams) engine.layout }
         requires opened { engine.time ≡ None → engine.closed_time ≡ None }
         ensures queries { result.catalogue ≡ catalogue }

@@ -1,0 +1,20 @@
+-- Lines without births.
+use Rattle.std.proofs.Common.{◌≡◌, ◌∙◌, sym, ap, refl, subst, ℕ, ◌+◌, List, [], ◌∷◌, map}
+use Rattle.automaton.specs.NetworkLines.{ArePrefixes, HasEndings, HasLines}
+use Rattle.automaton.specs.Plain.{numbered}
+use Rattle.automaton.specs.States.{Net}
+use Rattle.automaton.specs.declared.line.Line.{Line}
+use Rattle.epoch_laws.specs.BornLines.{HasBornLines, born_by, lines_in, unborn}
+
+-- the lines that have no births are these lines
+pub plainly : (lines : List Line) → lines_in (map unborn lines) ≡ lines
+plainly [] = refl
+plainly (line ∷ lines) = ap (λ ls. line ∷ ls) (plainly lines)
+
+born_numbered : (number : ℕ) (lines : List Line) → map born_by (numbered number lines) ≡ map unborn lines
+born_numbered number [] = refl
+born_numbered number (line ∷ lines) = ap (λ bs. unborn line ∷ bs) (born_numbered (number + 1) lines)
+
+-- lines that come without births have none
+pub have_none : (net : Net) (lines : List Line) → HasEndings net (numbered 0 lines) → HasLines net lines → HasBornLines net (map unborn lines)
+have_none net lines had has = (numbered 0 lines, had, born_numbered 0 lines, subst (ArePrefixes net) (sym (plainly lines)) has.3)
