@@ -140,14 +140,7 @@ impl Merged {
     {
         let number = free_number(&self.network, self.lowest);
         self.roots.insert(line.root, number)?;
-        match plant(
-            self.alloc,
-            &mut self.network,
-            number,
-            line,
-            end,
-            birth,
-        ) {
+        match plant(self.alloc, &mut self.network, number, line, end, birth) {
             Ok(bound) => {
                 self.lowest = bound;
                 Ok(())
