@@ -14,6 +14,7 @@ use Rattle.cayuga_run.specs.declared.status.Status.{Status}
 use Rattle.cayuga_run.specs.declared.status.Status.TheVariants.{Done, BadEvent, OutOfOrder, Memory}
 use Rattle.cayuga_run.specs.LoadOutcome.{load_line}
 use Rattle.cayuga_run.specs.Reports.{refused_in, report_of_heard}
+use Rattle.session.specs.UnbornLines.{unborn_lines}
 
 -- an event text was heard to its end, no line of it is refused, and its report was written; the session works for all that was heard, with no epoch open
 pub record HearsWhole (judged : Judged) (text : List ℕ) (session : SessionView) (old new : Told) : Type 0 where
@@ -39,5 +40,5 @@ pub record HasTotals (judged : Judged) (history : List Event) (events results : 
   pub states : ℕ
   pub live : ℕ
   pub counts_states : CountsStates (lines_of (program_of judged)) states
-  pub counts_live : CountsAlive (lines_of (program_of judged)) (work_order (program_of judged)) history live
+  pub counts_live : CountsAlive (unborn_lines (program_of judged)) (work_order (program_of judged)) history live
   pub value : line ≡ load_line events (record { states = states; results = results; live = live })

@@ -17,6 +17,7 @@ use Rattle.cayuga_run.specs.declared.status.Status.TheVariants.{Done, BadQuery, 
 use Rattle.cayuga_run.specs.Accepting.{IsAcceptedWith}
 use Rattle.cayuga_run.specs.Reports.{heard_in, refused_in, report_of_heard}
 use Rattle.cayuga_run.specs.Works.{Load}
+use Rattle.session.specs.UnbornLines.{unborn_lines}
 
 -- what a run of accepted queries over an event text comes to: the states of the merged network, the lines of the report, and the bindings that wait and are alive
 pub record Totals : Type 0 where
@@ -28,7 +29,7 @@ pub record Totals : Type 0 where
 pub record AreTotals (judged : Judged) (events : List ℕ) (totals : Totals) : Type 0 where
   pub states : CountsStates (lines_of (program_of judged)) totals.states
   pub results : totals.results ≡ min (count_lf (report_of_heard judged events true)) (2 ^ 64 - 1)
-  pub live : CountsAlive (lines_of (program_of judged)) (work_order (program_of judged)) (heard_in judged events) totals.live
+  pub live : CountsAlive (unborn_lines (program_of judged)) (work_order (program_of judged)) (heard_in judged events) totals.live
 
 -- what stands behind the first numbers of the line: `, states 1, results 1, live 0` and an LF
 abbrev pub totals_text : Totals → List ℕ

@@ -5,6 +5,7 @@ use Rattle.splitter.specs.Chains.{lines_of, work_order}
 use Rattle.prefix_merge.specs.Counts.{CountsPlain, CountsStates}
 use Rattle.epoch_engine.specs.Counts.{CountsAlive}
 use Rattle.catalogue.specs.Judgement.{Judged, program_of}
+use Rattle.session.specs.UnbornLines.{unborn_lines}
 
 -- the numbers of a stats line: the states of the merged network, those of the plain network, and the bindings that wait and are alive
 pub record Stats : Type 0 where
@@ -16,7 +17,7 @@ pub record Stats : Type 0 where
 pub record AreStats (judged : Judged) (history : List Event) (stats : Stats) : Type 0 where
   pub states : CountsStates (lines_of (program_of judged)) stats.states
   pub plain : CountsPlain (lines_of (program_of judged)) stats.plain
-  pub live : CountsAlive (lines_of (program_of judged)) (work_order (program_of judged)) history stats.live
+  pub live : CountsAlive (unborn_lines (program_of judged)) (work_order (program_of judged)) history stats.live
 
 -- the line: `# states 3, plain 4, live 2` and an LF
 abbrev pub stats_line : Stats → List ℕ

@@ -4,8 +4,10 @@ use Rattle.splitter.specs.Layouts.{IsLayoutOf}
 use Rattle.catalogue.specs.Catalogued.{judged_of}
 use Rattle.catalogue.specs.Chained.{kinds_of_each}
 use Rattle.epoch_engine.specs.Starts.{IsNew}
-use Rattle.session.specs.EngineStandsWithLastOpen.{IsPlanned, lines_over, program_over}
+use Rattle.splitter.specs.Chains.{lines_of}
+use Rattle.session.specs.EngineStandsWithLastOpen.{IsPlanned, program_over}
 use Rattle.session.proofs.PlanLemmas.{new_planned}
+use Rattle.session.proofs.UnbornLemmas.{have_none}
 use Rattle.public_calls.proofs.tests.offering.engine.Goals as goal
 
 -- the layout fits the merged network
@@ -14,12 +16,14 @@ make-requires c =
     let now = c.args.catalogue.now in
     let lines = rw c.lines.ensures.value at c.in_ok-merged.ensures.lines in
     let layout = subst (IsLayoutOf (program_over now) (kinds_of_each (judged_of now).streams)) (sym c.in_ok-layout.ensures) c.layout.ensures in
-    (lines_over now, lines, layout.fits)
+    (lines_of (program_over now), lines, layout.fits)
 
 -- the engine is over them
 pub returns : goal.returns
 returns c =
     let now = c.args.catalogue.now in
-    let lines = rw c.lines.ensures.value at c.in_ok-merged.ensures.lines in
+    let plain = rw c.lines.ensures.value at c.in_ok-merged.ensures.lines in
+    let ends = rw c.lines.ensures.value at c.in_ok-merged.ensures.endings in
+    let lines = have_none c.in_ok-merged.merged (lines_of (program_over now)) ends plain in
     let layout = subst (IsLayoutOf (program_over now) (kinds_of_each (judged_of now).streams)) (sym c.in_ok-layout.ensures) c.layout.ensures in
     IfOk-weaker c.make.result (IsNew c.in_ok-merged.merged c.in_ok-layout.layout) (IsPlanned now) (λ engine new. new_planned now c.in_ok-merged.merged c.in_ok-layout.layout engine lines layout new) c.make.ensures
