@@ -11,20 +11,20 @@ use Rattle.epoch_draft.specs.declared.stored_network.StoredNetwork.{StoredNetwor
 use Rattle.epoch_draft.specs.declared.waiting_state.WaitingState.{WaitingState}
 
 -- a network with what reads its streams, the stores of its waiting states, and the keys that lead there
-pub record IsStoredNetwork (stored_network : StoredNetwork) : Type 0 where
-  pub network : IsNetwork stored_network.network.now
-  pub readers : AreReadersOf stored_network.network.now stored_network.readers.now
-  pub stores : HasStores stored_network.network.now stored_network.stores.now
-  pub led : AreLed stored_network.network.now stored_network.keys.now stored_network.stores.now
+pub record IsStoredNetwork (stored : StoredNetwork) : Type 0 where
+  pub network : IsNetwork stored.network.now
+  pub readers : AreReadersOf stored.network.now stored.readers.now
+  pub stores : HasStores stored.network.now stored.stores.now
+  pub led : AreLed stored.network.now stored.keys.now stored.stores.now
 
 -- each stream has its reader and its place in the order of work, and keys lead to the states where they are ready
-pub record CanRead (stored_network : StoredNetwork) : Type 0 where
-  pub readers : AreReadersOfAll stored_network.network.now stored_network.layout.now stored_network.readers.now
-  pub places : ArePlaces stored_network.network.now stored_network.layout.now.order (length stored_network.layout.now.kinds) stored_network.places.now
-  pub led : AreLed stored_network.network.now stored_network.keys.now stored_network.stores.now
+pub record CanRead (stored : StoredNetwork) : Type 0 where
+  pub readers : AreReadersOfAll stored.network.now stored.layout.now stored.readers.now
+  pub places : ArePlaces stored.network.now stored.layout.now.order (length stored.layout.now.kinds) stored.places.now
+  pub led : AreLed stored.network.now stored.keys.now stored.stores.now
 
 -- a waiting state of a network
-pub record IsWaitingState (waiting_state : WaitingState) : Type 0 where
-  pub network : IsNetwork waiting_state.network.now
-  pub used : IsTrue (is_used waiting_state.network.now waiting_state.state)
-  pub wait : wait_at waiting_state.network.now waiting_state.state ≡ Some waiting_state.wait.now
+pub record IsWaitingState (waiting : WaitingState) : Type 0 where
+  pub network : IsNetwork waiting.network.now
+  pub used : IsTrue (is_used waiting.network.now waiting.state)
+  pub wait : wait_at waiting.network.now waiting.state ≡ Some waiting.wait.now

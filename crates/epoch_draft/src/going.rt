@@ -174,30 +174,30 @@ fn hand_out_all<L: Ledger>(
 /// An instance leaves a waiting state on all ways. After want of memory the draft is of no
 /// more use.
 pub(crate) fn leave<L: Ledger>(
-    waiting_state: &WaitingState<'_>,
+    waiting: &WaitingState<'_>,
     draft: &mut Draft,
     instance: Instance,
     steps: &mut Steps<L>,
 ) -> Result<(), Memory>
-    requires waiting_state { IsWaitingState waiting_state.now }
-    requires draft { IsDraftOf waiting_state.now.network.now draft.old }
-    requires suits { LeavingSuits waiting_state.now.network.now waiting_state.now.state instance.tuple }
-    ensures grows { OnOk result (Grows waiting_state.now.network.now (moves_on (ways_at waiting_state.now.network.now waiting_state.now.state) instance) draft.old draft.new) }
-    ensures ticks { steps.new ≤ steps.old + ways_work waiting_state.now.network.now (ways_at waiting_state.now.network.now waiting_state.now.state) }
+    requires waiting { IsWaitingState waiting.now }
+    requires draft { IsDraftOf waiting.now.network.now draft.old }
+    requires suits { LeavingSuits waiting.now.network.now waiting.now.state instance.tuple }
+    ensures grows { OnOk result (Grows waiting.now.network.now (moves_on (ways_at waiting.now.network.now waiting.now.state) instance) draft.old draft.new) }
+    ensures ticks { steps.new ≤ steps.old + ways_work waiting.now.network.now (ways_at waiting.now.network.now waiting.now.state) }
 {
     go_into_all(
-        waiting_state.network,
+        waiting.network,
         draft,
-        waiting_state.network.edges(waiting_state.state).as_slice(),
+        waiting.network.edges(waiting.state).as_slice(),
         &instance,
         steps,
     )?;
-    let ends = waiting_state.network.ends(waiting_state.state).as_slice();
-    match &waiting_state.wait.fold {
+    let ends = waiting.network.ends(waiting.state).as_slice();
+    match &waiting.wait.fold {
         Some(_) => {
-            go_out_all(waiting_state.network, draft, ends, &instance, steps)?;
-            draft.add_bead(waiting_state.state, instance)
+            go_out_all(waiting.network, draft, ends, &instance, steps)?;
+            draft.add_bead(waiting.state, instance)
         }
-        None => hand_out_all(waiting_state.network, draft, ends, instance, steps),
+        None => hand_out_all(waiting.network, draft, ends, instance, steps),
     }
 }

@@ -23,45 +23,45 @@ use steps::{Ledger, Steps};
 /// Makes all that comes of the open tuples of an epoch. Nothing but the drawing is changed, and after want of
 /// memory it is of no more use.
 pub fn draw<L: Ledger>(
-    stored_network: &StoredNetwork<'_>,
+    stored: &StoredNetwork<'_>,
     opened: &Lists,
     touched: &[usize],
     drawing: &mut Drawing,
     steps: &mut Steps<L>,
 ) -> Result<(), Memory>
-    requires can_draw { CanDraw stored_network.now.network.now stored_network.now.layout.now stored_network.now.stores.now opened.now }
-    requires can_read { CanRead stored_network.now }
+    requires can_draw { CanDraw stored.now.network.now stored.now.layout.now stored.now.stores.now opened.now }
+    requires can_read { CanRead stored.now }
     requires touched { AreOpened opened.now touched.now }
-    requires still { IsStill (length stored_network.now.layout.now.kinds) (length stored_network.now.network.now) drawing.old }
-    ensures drawn { OnOk result (DrawnUpTo stored_network.now.network.now stored_network.now.layout.now stored_network.now.stores.now opened.now stored_network.now.layout.now.order drawing.new.draft drawing.new.pairs) }
-    ensures keys { OnOk result (HaveKeys stored_network.now.stores.now drawing.new.draft.beads) }
-    ensures takes { OnOk result (TakesNoMore stored_network.now.network.now stored_network.now.layout.now stored_network.now.stores.now opened.now drawing.new.draft.made drawing.new.pairs) }
-    ensures ticks { steps.new ≤ steps.old + draw_work stored_network.now.network.now stored_network.now.layout.now (held stored_network.now.stores.now) (streams_of opened.now) }
+    requires still { IsStill (length stored.now.layout.now.kinds) (length stored.now.network.now) drawing.old }
+    ensures drawn { OnOk result (DrawnUpTo stored.now.network.now stored.now.layout.now stored.now.stores.now opened.now stored.now.layout.now.order drawing.new.draft drawing.new.pairs) }
+    ensures keys { OnOk result (HaveKeys stored.now.stores.now drawing.new.draft.beads) }
+    ensures takes { OnOk result (TakesNoMore stored.now.network.now stored.now.layout.now stored.now.stores.now opened.now drawing.new.draft.made drawing.new.pairs) }
+    ensures ticks { steps.new ≤ steps.old + draw_work stored.now.network.now stored.now.layout.now (held stored.now.stores.now) (streams_of opened.now) }
 {
-    meet_opened(stored_network, opened, touched, drawing, steps)?;
-    derive(stored_network, opened, drawing, steps)
+    meet_opened(stored, opened, touched, drawing, steps)?;
+    derive(stored, opened, drawing, steps)
 }
 
 // Makes what comes of the open tuples themselves.
 fn meet_opened<L: Ledger>(
-    stored_network: &StoredNetwork<'_>,
+    stored: &StoredNetwork<'_>,
     opened: &Lists,
     touched: &[usize],
     drawing: &mut Drawing,
     steps: &mut Steps<L>,
 ) -> Result<(), Memory>
-    requires can_draw { CanDraw stored_network.now.network.now stored_network.now.layout.now stored_network.now.stores.now opened.now }
-    requires can_read { CanRead stored_network.now }
+    requires can_draw { CanDraw stored.now.network.now stored.now.layout.now stored.now.stores.now opened.now }
+    requires can_read { CanRead stored.now }
     requires touched { AreOpened opened.now touched.now }
-    requires still { IsStill (length stored_network.now.layout.now.kinds) (length stored_network.now.network.now) drawing.old }
-    ensures drawn { OnOk result (DrawnUpTo stored_network.now.network.now stored_network.now.layout.now stored_network.now.stores.now opened.now [] drawing.new.draft drawing.new.pairs) }
-    ensures takes { OnOk result (HeardTakesNoMore stored_network.now.network.now stored_network.now.layout.now stored_network.now.stores.now opened.now drawing.new.draft.made drawing.new.pairs) }
+    requires still { IsStill (length stored.now.layout.now.kinds) (length stored.now.network.now) drawing.old }
+    ensures drawn { OnOk result (DrawnUpTo stored.now.network.now stored.now.layout.now stored.now.stores.now opened.now [] drawing.new.draft drawing.new.pairs) }
+    ensures takes { OnOk result (HeardTakesNoMore stored.now.network.now stored.now.layout.now stored.now.stores.now opened.now drawing.new.draft.made drawing.new.pairs) }
     ensures agenda { drawing.new.agenda.keys ≡ drawing.old.agenda.keys }
-    ensures ticks { steps.new ≤ steps.old + streams_work stored_network.now.network.now (held stored_network.now.stores.now) opened.now touched.now }
+    ensures ticks { steps.new ≤ steps.old + streams_work stored.now.network.now (held stored.now.stores.now) opened.now touched.now }
 {
     for stream in touched {
         meet_stream(
-            stored_network,
+            stored,
             drawing,
             *stream,
             opened.get(*stream).as_slice(),
@@ -74,36 +74,36 @@ fn meet_opened<L: Ledger>(
 // Puts the tuples of each derived stream that is due and read in order, in the order of work, and makes what comes of
 // them; then those of the others too.
 fn derive<L: Ledger>(
-    stored_network: &StoredNetwork<'_>,
+    stored: &StoredNetwork<'_>,
     opened: &Lists,
     drawing: &mut Drawing,
     steps: &mut Steps<L>,
 ) -> Result<(), Memory>
-    requires can_draw { CanDraw stored_network.now.network.now stored_network.now.layout.now stored_network.now.stores.now opened.now }
-    requires can_read { CanRead stored_network.now }
-    requires drawn { DrawnUpTo stored_network.now.network.now stored_network.now.layout.now stored_network.now.stores.now opened.now [] drawing.old.draft drawing.old.pairs }
-    requires takes { HeardTakesNoMore stored_network.now.network.now stored_network.now.layout.now stored_network.now.stores.now opened.now drawing.old.draft.made drawing.old.pairs }
+    requires can_draw { CanDraw stored.now.network.now stored.now.layout.now stored.now.stores.now opened.now }
+    requires can_read { CanRead stored.now }
+    requires drawn { DrawnUpTo stored.now.network.now stored.now.layout.now stored.now.stores.now opened.now [] drawing.old.draft drawing.old.pairs }
+    requires takes { HeardTakesNoMore stored.now.network.now stored.now.layout.now stored.now.stores.now opened.now drawing.old.draft.made drawing.old.pairs }
     requires none_planned { drawing.old.agenda.keys ≡ [] }
-    ensures drawn { OnOk result (DrawnUpTo stored_network.now.network.now stored_network.now.layout.now stored_network.now.stores.now opened.now stored_network.now.layout.now.order drawing.new.draft drawing.new.pairs) }
-    ensures takes { OnOk result (TakesNoMore stored_network.now.network.now stored_network.now.layout.now stored_network.now.stores.now opened.now drawing.new.draft.made drawing.new.pairs) }
-    ensures ticks { steps.new ≤ steps.old + derived_work stored_network.now.network.now stored_network.now.layout.now.order (held stored_network.now.stores.now) (streams_of opened.now) }
+    ensures drawn { OnOk result (DrawnUpTo stored.now.network.now stored.now.layout.now stored.now.stores.now opened.now stored.now.layout.now.order drawing.new.draft drawing.new.pairs) }
+    ensures takes { OnOk result (TakesNoMore stored.now.network.now stored.now.layout.now stored.now.stores.now opened.now drawing.new.draft.made drawing.new.pairs) }
+    ensures ticks { steps.new ≤ steps.old + derived_work stored.now.network.now stored.now.layout.now.order (held stored.now.stores.now) (streams_of opened.now) }
 {
-    let end = stored_network.layout.order.len();
+    let end = stored.layout.order.len();
     let mut next = 0;
     plan(
         &mut drawing.agenda,
-        stored_network.places,
+        stored.places,
         drawing.draft.due.numbers.as_slice(),
         next,
         end,
     )?;
     while let Some(place) = drawing.agenda.pop_first() {
-        let stream = *stored_network.layout.order.get(place);
+        let stream = *stored.layout.order.get(place);
         let known = drawing.draft.due.numbers.len();
-        derive_stream(stored_network, stream, drawing, steps)?;
+        derive_stream(stored, stream, drawing, steps)?;
         next = place + 1;
         let fresh = &drawing.draft.due.numbers.as_slice()[known..];
-        plan(&mut drawing.agenda, stored_network.places, fresh, next, end)?;
+        plan(&mut drawing.agenda, stored.places, fresh, next, end)?;
     }
     drawing.draft.put_in_order();
     Ok(())
@@ -111,22 +111,22 @@ fn derive<L: Ledger>(
 
 // Puts the tuples of a derived stream in order, and makes what comes of them.
 fn derive_stream<L: Ledger>(
-    stored_network: &StoredNetwork<'_>,
+    stored: &StoredNetwork<'_>,
     stream: StreamId,
     drawing: &mut Drawing,
     steps: &mut Steps<L>,
 ) -> Result<(), Memory>
-    requires stored_network { IsStoredNetwork stored_network.now }
-    requires read { stream < length stored_network.now.readers.now }
+    requires stored { IsStoredNetwork stored.now }
+    requires read { stream < length stored.now.readers.now }
     requires stream { stream < length drawing.old.draft.made }
-    requires draft { IsDraftOf stored_network.now.network.now drawing.old.draft }
-    requires suits { All (TupleSuits stored_network.now.network.now (held stored_network.now.stores.now) stream) (slice_index_or drawing.old.draft.made stream []) }
-    ensures derives { OnOk result (Derives stored_network.now.network.now (held stored_network.now.stores.now) stream drawing.old.draft drawing.new.draft drawing.old.pairs drawing.new.pairs) }
+    requires draft { IsDraftOf stored.now.network.now drawing.old.draft }
+    requires suits { All (TupleSuits stored.now.network.now (held stored.now.stores.now) stream) (slice_index_or drawing.old.draft.made stream []) }
+    ensures derives { OnOk result (Derives stored.now.network.now (held stored.now.stores.now) stream drawing.old.draft drawing.new.draft drawing.old.pairs drawing.new.pairs) }
     ensures agenda { drawing.new.agenda.keys ≡ drawing.old.agenda.keys }
-    ensures ticks { steps.new ≤ steps.old + stream_work stored_network.now.network.now (held stored_network.now.stores.now) stream (slice_index_or drawing.old.draft.made stream []) }
+    ensures ticks { steps.new ≤ steps.old + stream_work stored.now.network.now (held stored.now.stores.now) stream (slice_index_or drawing.old.draft.made stream []) }
 {
     let mut tuples = drawing.draft.take_made(stream);
     put_in_order(&mut tuples);
-    meet_stream(stored_network, drawing, stream, tuples.as_slice(), steps)?;
+    meet_stream(stored, drawing, stream, tuples.as_slice(), steps)?;
     drawing.draft.put_made(stream, tuples)
 }

@@ -71,32 +71,26 @@ fn follow<L: Ledger>(
 
 // What the tuple makes of an instance leaves the state where it waits.
 fn meet_instance<L: Ledger>(
-    waiting_state: &WaitingState<'_>,
+    waiting: &WaitingState<'_>,
     draft: &mut Draft,
     instance: &Instance,
     tuple: &Tuple,
     steps: &mut Steps<L>,
 ) -> Result<(), Memory>
-    requires waiting_state { IsWaitingState waiting_state.now }
-    requires draft { IsDraftOf waiting_state.now.network.now draft.old }
-    requires suits { WaitSuits waiting_state.now.wait.now instance.now.tuple tuple.now }
-    requires leaving { All (λ made. LeavingSuits waiting_state.now.network.now waiting_state.now.state made.tuple) (paired_with waiting_state.now.wait.now tuple.now instance.now) }
-    ensures grows { OnOk result (Grows waiting_state.now.network.now (moves_from waiting_state.now.network.now waiting_state.now.state (paired_with waiting_state.now.wait.now tuple.now instance.now)) draft.old draft.new) }
-    ensures ticks { steps.new ≤ steps.old + binding_work waiting_state.now.network.now waiting_state.now.state waiting_state.now.wait.now tuple.now instance.now }
+    requires waiting { IsWaitingState waiting.now }
+    requires draft { IsDraftOf waiting.now.network.now draft.old }
+    requires suits { WaitSuits waiting.now.wait.now instance.now.tuple tuple.now }
+    requires leaving { All (λ made. LeavingSuits waiting.now.network.now waiting.now.state made.tuple) (paired_with waiting.now.wait.now tuple.now instance.now) }
+    ensures grows { OnOk result (Grows waiting.now.network.now (moves_from waiting.now.network.now waiting.now.state (paired_with waiting.now.wait.now tuple.now instance.now)) draft.old draft.new) }
+    ensures ticks { steps.new ≤ steps.old + binding_work waiting.now.network.now waiting.now.state waiting.now.wait.now tuple.now instance.now }
 {
-    match pair_up(
-        draft.alloc,
-        waiting_state.wait,
-        &instance.tuple,
-        tuple,
-        steps,
-    )? {
+    match pair_up(draft.alloc, waiting.wait, &instance.tuple, tuple, steps)? {
         Some(made) => {
             let left = Instance {
                 tuple: made,
                 first: instance.first,
             };
-            leave(waiting_state, draft, left, steps)
+            leave(waiting, draft, left, steps)
         }
         None => Ok(()),
     }
@@ -104,21 +98,21 @@ fn meet_instance<L: Ledger>(
 
 // The same of all instances that the reader gives.
 fn meet_instances<L: Ledger>(
-    waiting_state: &WaitingState<'_>,
+    waiting: &WaitingState<'_>,
     draft: &mut Draft,
     mut instances: Look<'_, Instance>,
     tuple: &Tuple,
     steps: &mut Steps<L>,
 ) -> Result<(), Memory>
-    requires waiting_state { IsWaitingState waiting_state.now }
-    requires draft { IsDraftOf waiting_state.now.network.now draft.old }
-    requires suits { All (λ instance. WaitSuits waiting_state.now.wait.now instance.tuple tuple.now) instances }
-    requires leaving { All (λ made. LeavingSuits waiting_state.now.network.now waiting_state.now.state made.tuple) (met waiting_state.now.wait.now instances tuple.now) }
-    ensures grows { OnOk result (Grows waiting_state.now.network.now (moves_from waiting_state.now.network.now waiting_state.now.state (met waiting_state.now.wait.now instances.entry tuple.now)) draft.old draft.new) }
-    ensures ticks { steps.new ≤ steps.old + sum_by (binding_work waiting_state.now.network.now waiting_state.now.state waiting_state.now.wait.now tuple.now) instances.entry }
+    requires waiting { IsWaitingState waiting.now }
+    requires draft { IsDraftOf waiting.now.network.now draft.old }
+    requires suits { All (λ instance. WaitSuits waiting.now.wait.now instance.tuple tuple.now) instances }
+    requires leaving { All (λ made. LeavingSuits waiting.now.network.now waiting.now.state made.tuple) (met waiting.now.wait.now instances tuple.now) }
+    ensures grows { OnOk result (Grows waiting.now.network.now (moves_from waiting.now.network.now waiting.now.state (met waiting.now.wait.now instances.entry tuple.now)) draft.old draft.new) }
+    ensures ticks { steps.new ≤ steps.old + sum_by (binding_work waiting.now.network.now waiting.now.state waiting.now.wait.now tuple.now) instances.entry }
 {
     while let Some(instance) = instances.next() {
-        meet_instance(waiting_state, draft, instance, tuple, steps)?;
+        meet_instance(waiting, draft, instance, tuple, steps)?;
     }
     Ok(())
 }
@@ -144,13 +138,13 @@ pub(crate) fn meet_wait<L: Ledger>(
     let Some(wait) = network.wait(state) else {
         return Ok(());
     };
-    let waiting_state = WaitingState {
+    let waiting = WaitingState {
         network,
         state,
         wait,
     };
     match stores.get(state) {
-        Some(store) => meet_instances(&waiting_state, draft, store.candidates(tuple), tuple, steps),
+        Some(store) => meet_instances(&waiting, draft, store.candidates(tuple), tuple, steps),
         None => Ok(()),
     }
 }

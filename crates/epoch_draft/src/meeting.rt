@@ -28,22 +28,22 @@ use stream_readers::Target;
 // At each state that was found: what the tuple makes of the instances there goes all ways out of the state. Each
 // state is listed with the tuple's stream and place.
 fn meet_waits<L: Ledger>(
-    stored_network: &StoredNetwork<'_>,
+    stored: &StoredNetwork<'_>,
     drawing: &mut Drawing,
     stream: StreamId,
     place: usize,
     tuple: &Tuple,
     steps: &mut Steps<L>,
 ) -> Result<(), Memory>
-    requires network { IsNetwork stored_network.now.network.now }
-    requires used { All (λ state. IsTrue (is_used stored_network.now.network.now state)) drawing.old.found.waits }
-    requires stores { HasStores stored_network.now.network.now stored_network.now.stores.now }
-    requires draft { IsDraftOf stored_network.now.network.now drawing.old.draft }
-    requires suits { All (MeetingSuits stored_network.now.network.now (held stored_network.now.stores.now) tuple.now) drawing.old.found.waits }
-    ensures grows { OnOk result (GrowsByMet stored_network.now.network.now (held stored_network.now.stores.now) tuple.now drawing.old.found.waits drawing.old.draft drawing.new.draft) }
+    requires network { IsNetwork stored.now.network.now }
+    requires used { All (λ state. IsTrue (is_used stored.now.network.now state)) drawing.old.found.waits }
+    requires stores { HasStores stored.now.network.now stored.now.stores.now }
+    requires draft { IsDraftOf stored.now.network.now drawing.old.draft }
+    requires suits { All (MeetingSuits stored.now.network.now (held stored.now.stores.now) tuple.now) drawing.old.found.waits }
+    ensures grows { OnOk result (GrowsByMet stored.now.network.now (held stored.now.stores.now) tuple.now drawing.old.found.waits drawing.old.draft drawing.new.draft) }
     ensures pairs { OnOk result (drawing.new.pairs ≡ drawing.old.pairs ++ map (pair_of stream place) drawing.old.found.waits) }
     ensures agenda { drawing.new.agenda.keys ≡ drawing.old.agenda.keys }
-    ensures ticks { steps.new ≤ steps.old + sum_by (state_work stored_network.now.network.now (held stored_network.now.stores.now) tuple.now) drawing.old.found.waits }
+    ensures ticks { steps.new ≤ steps.old + sum_by (state_work stored.now.network.now (held stored.now.stores.now) tuple.now) drawing.old.found.waits }
 {
     for index in 0..drawing.found.waits.len() {
         let state = *drawing.found.waits.get(index);
@@ -54,8 +54,8 @@ fn meet_waits<L: Ledger>(
         };
         drawing.pairs.add(pair)?;
         meet_wait(
-            stored_network.network,
-            stored_network.stores,
+            stored.network,
+            stored.stores,
             &mut drawing.draft,
             state,
             tuple,
@@ -110,61 +110,61 @@ fn go<L: Ledger>(
 
 // Makes what comes of a tuple of a stream, which stands there at a place.
 fn meet_tuple<L: Ledger>(
-    stored_network: &StoredNetwork<'_>,
+    stored: &StoredNetwork<'_>,
     drawing: &mut Drawing,
     stream: StreamId,
     place: usize,
     tuple: &Tuple,
     steps: &mut Steps<L>,
 ) -> Result<(), Memory>
-    requires stored_network { IsStoredNetwork stored_network.now }
-    requires stream { stream < length stored_network.now.readers.now }
-    requires draft { IsDraftOf stored_network.now.network.now drawing.old.draft }
-    requires suits { TupleSuits stored_network.now.network.now (held stored_network.now.stores.now) stream tuple.now }
-    ensures grows { OnOk result (Grows stored_network.now.network.now (moves_of stored_network.now.network.now (held stored_network.now.stores.now) stream tuple.now) drawing.old.draft drawing.new.draft) }
-    ensures lists { OnOk result (Lists stored_network.now.network.now (held stored_network.now.stores.now) stream place tuple.now drawing.old.pairs drawing.new.pairs) }
+    requires stored { IsStoredNetwork stored.now }
+    requires stream { stream < length stored.now.readers.now }
+    requires draft { IsDraftOf stored.now.network.now drawing.old.draft }
+    requires suits { TupleSuits stored.now.network.now (held stored.now.stores.now) stream tuple.now }
+    ensures grows { OnOk result (Grows stored.now.network.now (moves_of stored.now.network.now (held stored.now.stores.now) stream tuple.now) drawing.old.draft drawing.new.draft) }
+    ensures lists { OnOk result (Lists stored.now.network.now (held stored.now.stores.now) stream place tuple.now drawing.old.pairs drawing.new.pairs) }
     ensures agenda { drawing.new.agenda.keys ≡ drawing.old.agenda.keys }
-    ensures ticks { steps.new ≤ steps.old + tuple_work stored_network.now.network.now (held stored_network.now.stores.now) stream tuple.now }
+    ensures ticks { steps.new ≤ steps.old + tuple_work stored.now.network.now (held stored.now.stores.now) stream tuple.now }
 {
-    stored_network
+    stored
         .readers
         .find_targets(stream, tuple, &mut drawing.found)?;
     go_all(
-        stored_network.network,
+        stored.network,
         &mut drawing.draft,
         drawing.found.targets.as_slice(),
         tuple,
         steps,
     )?;
-    stored_network
+    stored
         .readers
         .find_waits(stream, tuple, &mut drawing.found)?;
-    stored_network
+    stored
         .keys
-        .find(stored_network.network, stream, tuple, &mut drawing.found)?;
-    meet_waits(stored_network, drawing, stream, place, tuple, steps)
+        .find(stored.network, stream, tuple, &mut drawing.found)?;
+    meet_waits(stored, drawing, stream, place, tuple, steps)
 }
 
 /// Makes what comes of the tuples of a stream, and lists them with the waiting states. After want of memory
 /// the drawing is of no more use.
 pub(crate) fn meet_stream<L: Ledger>(
-    stored_network: &StoredNetwork<'_>,
+    stored: &StoredNetwork<'_>,
     drawing: &mut Drawing,
     stream: StreamId,
     tuples: &[Tuple],
     steps: &mut Steps<L>,
 ) -> Result<(), Memory>
-    requires stored_network { IsStoredNetwork stored_network.now }
-    requires stream { stream < length stored_network.now.readers.now }
-    requires draft { IsDraftOf stored_network.now.network.now drawing.old.draft }
-    requires suits { All (TupleSuits stored_network.now.network.now (held stored_network.now.stores.now) stream) tuples.now }
-    ensures grows { OnOk result (Grows stored_network.now.network.now (moves_of_all stored_network.now.network.now (held stored_network.now.stores.now) stream tuples.now) drawing.old.draft drawing.new.draft) }
-    ensures lists { OnOk result (ListsAll stored_network.now.network.now (held stored_network.now.stores.now) stream tuples.now drawing.old.pairs drawing.new.pairs) }
+    requires stored { IsStoredNetwork stored.now }
+    requires stream { stream < length stored.now.readers.now }
+    requires draft { IsDraftOf stored.now.network.now drawing.old.draft }
+    requires suits { All (TupleSuits stored.now.network.now (held stored.now.stores.now) stream) tuples.now }
+    ensures grows { OnOk result (Grows stored.now.network.now (moves_of_all stored.now.network.now (held stored.now.stores.now) stream tuples.now) drawing.old.draft drawing.new.draft) }
+    ensures lists { OnOk result (ListsAll stored.now.network.now (held stored.now.stores.now) stream tuples.now drawing.old.pairs drawing.new.pairs) }
     ensures agenda { drawing.new.agenda.keys ≡ drawing.old.agenda.keys }
-    ensures ticks { steps.new ≤ steps.old + stream_work stored_network.now.network.now (held stored_network.now.stores.now) stream tuples.now }
+    ensures ticks { steps.new ≤ steps.old + stream_work stored.now.network.now (held stored.now.stores.now) stream tuples.now }
 {
     for (place, tuple) in tuples.iter().enumerate() {
-        meet_tuple(stored_network, drawing, stream, place, tuple, steps)?;
+        meet_tuple(stored, drawing, stream, place, tuple, steps)?;
     }
     Ok(())
 }

@@ -11,7 +11,7 @@ use Rattle.epoch_laws.specs.Standing.{last_time, next_time}
 use Rattle.epoch_engine.specs.EngineView.{EngineView}
 use Rattle.prefix_merge.specs.Counts.{ListPrefixes}
 
--- the bindings that wait at the state of a prefix after a history, and that are alive at the time after its last; at a root none waits
+-- the bindings that wait at the state of a prefix after a history, and that are alive at the time after its last, also those that began before the birth of each line there; at a root none waits
 abbrev pub alive_over : List BornLine → List ℕ → List Event → Prefix → List TupleView
 alive_over lines order history (Root stream) = []
 alive_over lines order history (After prefix hop) = alive (next_time (last_time history)) hop.wait.choose (waiting (streams_over lines order history) prefix hop)

@@ -9,7 +9,7 @@ use Rattle.epoch_laws.specs.Standing as standing
 use Rattle.epoch_laws.specs.StoresStandFor.{Serves}
 use Rattle.epoch_engine.specs.EngineView.{EngineView, stores_in}
 
--- an engine whose network is merged and has these lines with these births, and whose order of work is one for them, stands for a history: its stores, its open tuples, its open epoch and its last closed time are those that the history asks for, nothing is stored where no state waits, and there is a list of open tuples for each stream that has kinds
+-- an engine stands for lines with births and a history: its network is merged and has exactly these lines, its order of work is one for them, nothing is stored where no state waits, each stream that has kinds has a list of open tuples, and its parts are those that the history asks for
 pub record EngineStandsFor (engine : EngineView) (lines : List BornLine) (history : List Event) : Type 0 where
   pub merged : IsMerged engine.network
   pub serves : Serves engine.network lines engine.layout.order

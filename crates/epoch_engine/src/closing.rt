@@ -66,7 +66,7 @@ fn draw_epoch<L: Ledger>(
     ensures takes { OnOk result (TakesWithin plan.now holdings.new.stores epoch.now room.new.drawing) }
     ensures ticks { steps.new ≤ steps.old + drawing_work plan.now holdings.old.stores epoch.now }
 {
-    let stored_network = StoredNetwork {
+    let stored = StoredNetwork {
         network: plan.merged.network(),
         layout: &plan.layout,
         readers: &plan.readers,
@@ -75,13 +75,7 @@ fn draw_epoch<L: Ledger>(
         stores: &holdings.stores,
     };
     let touched = epoch.touched.numbers.as_slice();
-    draw(
-        &stored_network,
-        &epoch.tuples,
-        touched,
-        &mut room.drawing,
-        steps,
-    )?;
+    draw(&stored, &epoch.tuples, touched, &mut room.drawing, steps)?;
     room.list(plan)?;
     make_room(
         plan.merged.network(),

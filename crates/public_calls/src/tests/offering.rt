@@ -71,13 +71,7 @@ pub fn offer(
 }
 
 // The event of one number.
-fn event(
-    rt: &impl Abort,
-    alloc: Global,
-    number: i128,
-    from: u64,
-    at: u64,
-) -> Result<Tuple, Memory>
+fn event(rt: &impl Abort, alloc: Global, number: i128, from: u64, at: u64) -> Result<Tuple, Memory>
     ensures kinds { IfOk result (HasKinds (kind.Int ∷ [])) }
     ensures at { IfOk result (λ event. event.at ≡ at) }
 {

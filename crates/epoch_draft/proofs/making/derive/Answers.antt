@@ -30,41 +30,41 @@ pub plan-requires-clause-within : goal.plan-requires-clause-within
 plan-requires-clause-within g c = subst (AreFrom 0 c.len-end.result) (sym c.requires.none_planned) (All-nil _)
 
 pub get-stream-requires : goal.get-stream-requires
-get-stream-requires g c = (first_within c.loop-place.next (length c.args.stored_network.now.layout.now.order) c.in-Some.place c.loop-place.drawing.agenda.keys c.pop_first.new.self.keys c.in-Some.ensures.removal c.loop-place.invariant.within).1
+get-stream-requires g c = (first_within c.loop-place.next (length c.args.stored.now.layout.now.order) c.in-Some.place c.loop-place.drawing.agenda.keys c.pop_first.new.self.keys c.in-Some.ensures.removal c.loop-place.invariant.within).1
 
 pub derive_stream-requires-clause-stream : goal.derive_stream-requires-clause-stream
 derive_stream-requires-clause-stream g c =
-    let lt = (first_within c.loop-place.next (length c.args.stored_network.now.layout.now.order) c.in-Some.place c.loop-place.drawing.agenda.keys c.pop_first.new.self.keys c.in-Some.ensures.removal c.loop-place.invariant.within).1 in
-    let is = get_or_from_slice_get c.args.stored_network.now.layout.now.order c.in-Some.place c.get-stream.result.now 0 c.get-stream.ensures in
-    let there = below c.args.stored_network.now.network.now c.args.stored_network.now.layout.now c.args.stored_network.now.stores.now c.args.opened.now c.requires.can_draw c.in-Some.place lt in
+    let lt = (first_within c.loop-place.next (length c.args.stored.now.layout.now.order) c.in-Some.place c.loop-place.drawing.agenda.keys c.pop_first.new.self.keys c.in-Some.ensures.removal c.loop-place.invariant.within).1 in
+    let is = get_or_from_slice_get c.args.stored.now.layout.now.order c.in-Some.place c.get-stream.result.now 0 c.get-stream.ensures in
+    let there = below c.args.stored.now.network.now c.args.stored.now.layout.now c.args.stored.now.stores.now c.args.opened.now c.requires.can_draw c.in-Some.place lt in
     let room = c.loop-place.invariant.made.until.fits.made in omega (arith, is, there, room)
 
-pub derive_stream-requires-clause-stored_network : goal.derive_stream-requires-clause-stored_network
-derive_stream-requires-clause-stored_network g c = record {
+pub derive_stream-requires-clause-stored : goal.derive_stream-requires-clause-stored
+derive_stream-requires-clause-stored g c = record {
   network = c.requires.can_draw.network;
   readers = c.requires.can_read.readers.are;
-  stores = typed_has c.args.stored_network.now.network.now c.args.stored_network.now.layout.now.kinds c.args.stored_network.now.stores.now c.requires.can_draw.typed;
+  stores = typed_has c.args.stored.now.network.now c.args.stored.now.layout.now.kinds c.args.stored.now.stores.now c.requires.can_draw.typed;
   led = c.requires.can_read.led;
 }
 
 pub derive_stream-requires-clause-draft : goal.derive_stream-requires-clause-draft
-derive_stream-requires-clause-draft g c = drawn_of c.args.stored_network.now.network.now c.args.stored_network.now.layout.now c.args.stored_network.now.stores.now c.args.opened.now c.loop-place.drawing.draft c.requires.can_draw c.loop-place.invariant.made.until.fits
+derive_stream-requires-clause-draft g c = drawn_of c.args.stored.now.network.now c.args.stored.now.layout.now c.args.stored.now.stores.now c.args.opened.now c.loop-place.drawing.draft c.requires.can_draw c.loop-place.invariant.made.until.fits
 
 pub derive_stream-requires-clause-suits : goal.derive_stream-requires-clause-suits
 derive_stream-requires-clause-suits g c =
-    let net = c.args.stored_network.now.network.now in
-    let stores = c.args.stored_network.now.stores.now in
+    let net = c.args.stored.now.network.now in
+    let stores = c.args.stored.now.stores.now in
     let p = c.in-Some.place in
-    let within = first_within c.loop-place.next (length c.args.stored_network.now.layout.now.order) p c.loop-place.drawing.agenda.keys c.pop_first.new.self.keys c.in-Some.ensures.removal c.loop-place.invariant.within in
-    let is = get_or_from_slice_get c.args.stored_network.now.layout.now.order p c.get-stream.result.now 0 c.get-stream.ensures in
+    let within = first_within c.loop-place.next (length c.args.stored.now.layout.now.order) p c.loop-place.drawing.agenda.keys c.pop_first.new.self.keys c.in-Some.ensures.removal c.loop-place.invariant.within in
+    let is = get_or_from_slice_get c.args.stored.now.layout.now.order p c.get-stream.result.now 0 c.get-stream.ensures in
     subst (λ (s : ℕ). All (TupleSuits net (held stores) s) (get_or c.loop-place.drawing.draft.made s [])) is
-    (made_suits net c.args.stored_network.now.layout.now stores c.args.opened.now c.requires.can_draw p within.1 c.loop-place.drawing.draft c.loop-place.drawing.pairs
-    (popped_until net c.args.stored_network.now.layout.now stores c.args.opened.now c.requires.can_draw c.loop-place.drawing.draft c.loop-place.drawing.pairs _ _ _ c.loop-place.next p c.loop-place.drawing.agenda.keys c.pop_first.new.self.keys c.loop-place.invariant.planned c.in-Some.ensures.removal
+    (made_suits net c.args.stored.now.layout.now stores c.args.opened.now c.requires.can_draw p within.1 c.loop-place.drawing.draft c.loop-place.drawing.pairs
+    (popped_until net c.args.stored.now.layout.now stores c.args.opened.now c.requires.can_draw c.loop-place.drawing.draft c.loop-place.drawing.pairs _ _ _ c.loop-place.next p c.loop-place.drawing.agenda.keys c.pop_first.new.self.keys c.loop-place.invariant.planned c.in-Some.ensures.removal
     c.in-Some.ensures.all_above within.0 within.1 c.loop-place.invariant.made).until)
 
 pub overflow_add-next : goal.overflow_add-next
 overflow_add-next g c =
-    let lt = (first_within c.loop-place.next (length c.args.stored_network.now.layout.now.order) c.in-Some.place c.loop-place.drawing.agenda.keys c.pop_first.new.self.keys c.in-Some.ensures.removal c.loop-place.invariant.within).1 in
+    let lt = (first_within c.loop-place.next (length c.args.stored.now.layout.now.order) c.in-Some.place c.loop-place.drawing.agenda.keys c.pop_first.new.self.keys c.in-Some.ensures.removal c.loop-place.invariant.within).1 in
     let end = c.len-end.ensures in omega (arith, lt, end)
 
 -- the streams that are newly due are of the layout
@@ -74,25 +74,25 @@ plan-requires-in-Some-clause-below g c =
     let new = c.derive_stream.new.drawing.draft.due in
     let derives = c.in_ok-derive_stream.ensures.derives in
     let room = derives.meets.fits.due_below ∙ c.loop-place.invariant.made.until.fits.made ∙ sym c.requires.can_read.places.as_many in
-    subst (All (λ n. n < length c.args.stored_network.now.places.now)) (sym (fresh_part old new derives.meets.due c.as_slice-in-Some.result.now c.len-known.result c.as_slice-in-Some.ensures c.len-known.ensures)) (fresh_below old new derives.meets.due (length c.args.stored_network.now.places.now) room)
+    subst (All (λ n. n < length c.args.stored.now.places.now)) (sym (fresh_part old new derives.meets.due c.as_slice-in-Some.result.now c.len-known.result c.as_slice-in-Some.ensures c.len-known.ensures)) (fresh_below old new derives.meets.due (length c.args.stored.now.places.now) room)
 
 pub plan-requires-in-Some-clause-within : goal.plan-requires-in-Some-clause-within
 plan-requires-in-Some-clause-within g c =
     subst (AreFrom (c.in-Some.place + 1) c.len-end.result) (sym c.derive_stream.ensures.agenda)
     (subst (λ (end : ℕ). AreFrom (c.in-Some.place + 1) end c.pop_first.new.self.keys) (sym c.len-end.ensures)
-    (rest_within c.loop-place.next (length c.args.stored_network.now.layout.now.order) c.in-Some.place c.loop-place.drawing.agenda.keys c.pop_first.new.self.keys c.in-Some.ensures.removal c.in-Some.ensures.all_above c.loop-place.invariant.within))
+    (rest_within c.loop-place.next (length c.args.stored.now.layout.now.order) c.in-Some.place c.loop-place.drawing.agenda.keys c.pop_first.new.self.keys c.in-Some.ensures.removal c.in-Some.ensures.all_above c.loop-place.invariant.within))
 
 pub loop-place-smaller : goal.loop-place-smaller
 loop-place-smaller g c =
-    let within = first_within c.loop-place.next (length c.args.stored_network.now.layout.now.order) c.in-Some.place c.loop-place.drawing.agenda.keys c.pop_first.new.self.keys c.in-Some.ensures.removal c.loop-place.invariant.within in
+    let within = first_within c.loop-place.next (length c.args.stored.now.layout.now.order) c.in-Some.place c.loop-place.drawing.agenda.keys c.pop_first.new.self.keys c.in-Some.ensures.removal c.loop-place.invariant.within in
     let from = within.0 in let lt = within.1 in omega (arith, from, lt)
 
 -- one stream more is derived
 pub loop-place-preserved : goal.loop-place-preserved
 loop-place-preserved g c =
-    let net = c.args.stored_network.now.network.now in
-    let layout = c.args.stored_network.now.layout.now in
-    let stores = c.args.stored_network.now.stores.now in
+    let net = c.args.stored.now.network.now in
+    let layout = c.args.stored.now.layout.now in
+    let stores = c.args.stored.now.stores.now in
     let opened = c.args.opened.now in
     let can = c.requires.can_draw in
     let p = c.in-Some.place in
@@ -126,10 +126,10 @@ loop-place-preserved g c =
       };
       within = subst (λ (end : ℕ). AreFrom (p + 1) end now) c.len-end.ensures c.in_ok-plan-2.ensures.within;
       planned =
-          planned_next net layout.order (length layout.kinds) c.args.stored_network.now.places.now keys rest now old.due.numbers meets.due.added new.due.numbers c.loop-place.next p c.requires.can_read.places c.loop-place.invariant.planned within.0 removal
+          planned_next net layout.order (length layout.kinds) c.args.stored.now.places.now keys rest now old.due.numbers meets.due.added new.due.numbers c.loop-place.next p c.requires.can_read.places c.loop-place.invariant.planned within.0 removal
           (subst (λ (ks : List ℕ). All (Contains now) ks) c.derive_stream.ensures.agenda c.in_ok-plan-2.ensures.kept) meets.due.is
-          (subst (λ (end : ℕ). All (λ s. IsPlanned (p + 1) end now (get_or c.args.stored_network.now.places.now s 0)) meets.due.added) c.len-end.ensures
-          (subst (All (λ s. IsPlanned (p + 1) c.len-end.result now (get_or c.args.stored_network.now.places.now s 0))) (fresh_part old.due new.due meets.due c.as_slice-in-Some.result.now c.len-known.result c.as_slice-in-Some.ensures c.len-known.ensures)
+          (subst (λ (end : ℕ). All (λ s. IsPlanned (p + 1) end now (get_or c.args.stored.now.places.now s 0)) meets.due.added) c.len-end.ensures
+          (subst (All (λ s. IsPlanned (p + 1) c.len-end.result now (get_or c.args.stored.now.places.now s 0))) (fresh_part old.due new.due meets.due c.as_slice-in-Some.result.now c.len-known.result c.as_slice-in-Some.ensures c.len-known.ensures)
           c.in_ok-plan-2.ensures.planned));
     }
 
@@ -138,14 +138,14 @@ pub put_in_order-requires : goal.put_in_order-requires
 put_in_order-requires g c =
     let fits = c.loop-place.invariant.made.until.fits in
     let draft = c.loop-place.drawing.draft in
-    subst (λ (m : ℕ). DraftFits m (length draft.beads) draft) (sym fits.made) (subst (λ (m : ℕ). DraftFits (length c.args.stored_network.now.layout.now.kinds) m draft) (sym fits.beads) fits)
+    subst (λ (m : ℕ). DraftFits m (length draft.beads) draft) (sym fits.made) (subst (λ (m : ℕ). DraftFits (length c.args.stored.now.layout.now.kinds) m draft) (sym fits.beads) fits)
 
 -- all is drawn once the others are in order too
 pub returns-clause-drawn : goal.returns-clause-drawn
 returns-clause-drawn g c =
-    let net = c.args.stored_network.now.network.now in
-    let layout = c.args.stored_network.now.layout.now in
-    let stores = c.args.stored_network.now.stores.now in
+    let net = c.args.stored.now.network.now in
+    let layout = c.args.stored.now.layout.now in
+    let stores = c.args.stored.now.stores.now in
     let opened = c.args.opened.now in
     let old = c.loop-place.drawing.draft in
     let pairs = c.loop-place.drawing.pairs in
@@ -158,9 +158,9 @@ returns-clause-drawn g c =
 -- what all pairs take out
 pub returns-clause-takes : goal.returns-clause-takes
 returns-clause-takes g c =
-    let net = c.args.stored_network.now.network.now in
-    let layout = c.args.stored_network.now.layout.now in
-    let stores = c.args.stored_network.now.stores.now in
+    let net = c.args.stored.now.network.now in
+    let layout = c.args.stored.now.layout.now in
+    let stores = c.args.stored.now.stores.now in
     let opened = c.args.opened.now in
     let old = c.loop-place.drawing.draft in
     let pairs = c.loop-place.drawing.pairs in
@@ -175,9 +175,9 @@ returns-clause-takes g c =
 -- want of memory comes after some of the tests
 pub returns-in_err-derive_stream-clause-ticks : goal.returns-in_err-derive_stream-clause-ticks
 returns-in_err-derive_stream-clause-ticks g c =
-    let net = c.args.stored_network.now.network.now in
-    let layout = c.args.stored_network.now.layout.now in
-    let stores = c.args.stored_network.now.stores.now in
+    let net = c.args.stored.now.network.now in
+    let layout = c.args.stored.now.layout.now in
+    let stores = c.args.stored.now.stores.now in
     let opened = c.args.opened.now in
     let can = c.requires.can_draw in
     let p = c.in-Some.place in
@@ -196,9 +196,9 @@ returns-in_err-derive_stream-clause-ticks g c =
 
 pub returns-in_err-plan-2-clause-ticks : goal.returns-in_err-plan-2-clause-ticks
 returns-in_err-plan-2-clause-ticks g c =
-    let net = c.args.stored_network.now.network.now in
-    let layout = c.args.stored_network.now.layout.now in
-    let stores = c.args.stored_network.now.stores.now in
+    let net = c.args.stored.now.network.now in
+    let layout = c.args.stored.now.layout.now in
+    let stores = c.args.stored.now.stores.now in
     let opened = c.args.opened.now in
     let can = c.requires.can_draw in
     let p = c.in-Some.place in
@@ -218,13 +218,13 @@ returns-in_err-plan-2-clause-ticks g c =
 -- no stream is derived yet
 pub loop-place-init : goal.loop-place-init
 loop-place-init g c =
-    let net = c.args.stored_network.now.network.now in
-    let layout = c.args.stored_network.now.layout.now in
-    let stores = c.args.stored_network.now.stores.now in
+    let net = c.args.stored.now.network.now in
+    let layout = c.args.stored.now.layout.now in
+    let stores = c.args.stored.now.stores.now in
     let opened = c.args.opened.now in
     let draft = c.args.drawing.now.draft in
     let pairs = c.args.drawing.now.pairs in
-    let places = c.args.stored_network.now.places.now in
+    let places = c.args.stored.now.places.now in
     let keys = c.plan.new.agenda.keys in
     record {
       below = omega arith;

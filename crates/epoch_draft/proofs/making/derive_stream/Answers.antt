@@ -20,7 +20,7 @@ use Rattle.epoch_draft.proofs.making.derive_stream.Goals as goal
 
 pub meet_stream-requires-clause-suits : goal.meet_stream-requires-clause-suits
 meet_stream-requires-clause-suits g c =
-    let suits = TupleSuits c.args.stored_network.now.network.now (held c.args.stored_network.now.stores.now) c.args.stream in
+    let suits = TupleSuits c.args.stored.now.network.now (held c.args.stored.now.stores.now) c.args.stream in
     let rows = get_or c.args.drawing.now.draft.made c.args.stream [] in
     let is : c.as_slice.result.now ≡ sorted rows = c.as_slice.ensures ∙ c.put_in_order.ensures ∙ ap sorted c.take_made-tuples.ensures.value in
     subst (All suits) (sym is) (All-permutation suits rows (sorted rows) (IsPermutation-sym _ _ (sort_permutes rows)) c.requires.suits)
@@ -29,12 +29,12 @@ pub meet_stream-requires-clause-draft : goal.meet_stream-requires-clause-draft
 meet_stream-requires-clause-draft g c =
     let old = c.args.drawing.now.draft in
     let left = c.take_made-tuples.new.self in
-    draft_of c.args.stored_network.now.network.now old left c.requires.draft (subst (λ (m : ℕ). DraftFits (length old.made) m left) c.requires.draft.fits.beads c.take_made-tuples.ensures.fits)
+    draft_of c.args.stored.now.network.now old left c.requires.draft (subst (λ (m : ℕ). DraftFits (length old.made) m left) c.requires.draft.fits.beads c.take_made-tuples.ensures.fits)
 
 pub returns-clause-derives : goal.returns-clause-derives
 returns-clause-derives g c =
-    let net = c.args.stored_network.now.network.now in
-    let stores = held c.args.stored_network.now.stores.now in
+    let net = c.args.stored.now.network.now in
+    let stores = held c.args.stored.now.stores.now in
     let s = c.args.stream in
     let old = c.args.drawing.now.draft in
     let met = c.meet_stream.new.drawing.draft in
@@ -67,10 +67,10 @@ pub returns-in_err-meet_stream-clause-ticks : goal.returns-in_err-meet_stream-cl
 returns-in_err-meet_stream-clause-ticks g c =
     let rows = get_or c.args.drawing.now.draft.made c.args.stream [] in
     let is : c.as_slice.result.now ≡ sorted rows = c.as_slice.ensures ∙ c.put_in_order.ensures ∙ ap sorted c.take_made-tuples.ensures.value in
-    ordered_ticks c.args.stored_network.now.network.now (held c.args.stored_network.now.stores.now) c.args.stream rows c.as_slice.result.now is c.args.steps.now c.meet_stream.new.steps c.meet_stream.ensures.ticks
+    ordered_ticks c.args.stored.now.network.now (held c.args.stored.now.stores.now) c.args.stream rows c.as_slice.result.now is c.args.steps.now c.meet_stream.new.steps c.meet_stream.ensures.ticks
 
 pub returns-clause-ticks : goal.returns-clause-ticks
 returns-clause-ticks g c =
     let rows = get_or c.args.drawing.now.draft.made c.args.stream [] in
     let is : c.as_slice.result.now ≡ sorted rows = c.as_slice.ensures ∙ c.put_in_order.ensures ∙ ap sorted c.take_made-tuples.ensures.value in
-    ordered_ticks c.args.stored_network.now.network.now (held c.args.stored_network.now.stores.now) c.args.stream rows c.as_slice.result.now is c.args.steps.now c.meet_stream.new.steps c.meet_stream.ensures.ticks
+    ordered_ticks c.args.stored.now.network.now (held c.args.stored.now.stores.now) c.args.stream rows c.as_slice.result.now is c.args.steps.now c.meet_stream.new.steps c.meet_stream.ensures.ticks

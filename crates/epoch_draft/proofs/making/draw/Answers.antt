@@ -12,9 +12,9 @@ derive-requires-clause-takes g c = c.in_ok-meet_opened.ensures.takes
 
 pub returns-clause-keys : goal.returns-clause-keys
 returns-clause-keys g c =
-    let net = c.args.stored_network.now.network.now in
-    let layout = c.args.stored_network.now.layout.now in
-    let stores = c.args.stored_network.now.stores.now in
+    let net = c.args.stored.now.network.now in
+    let layout = c.args.stored.now.layout.now in
+    let stores = c.args.stored.now.stores.now in
     let opened = c.args.opened.now in
     let draft = c.derive.new.drawing.draft in
     let pairs = c.derive.new.drawing.pairs in
@@ -23,12 +23,12 @@ returns-clause-keys g c =
 -- no more is tested than the tuples that are touched
 pub returns-in_err-meet_opened-clause-ticks : goal.returns-in_err-meet_opened-clause-ticks
 returns-in_err-meet_opened-clause-ticks g c =
-    let heard = heard_within c.args.stored_network.now.network.now c.args.stored_network.now.layout.now (held c.args.stored_network.now.stores.now) c.args.opened.now c.args.touched.now c.requires.touched c.requires.can_draw.as_many in
+    let heard = heard_within c.args.stored.now.network.now c.args.stored.now.layout.now (held c.args.stored.now.stores.now) c.args.opened.now c.args.touched.now c.requires.touched c.requires.can_draw.as_many in
     let one = c.meet_opened.ensures.ticks in omega (arith, heard, one)
 
 -- and those that are derived
 pub returns-clause-ticks : goal.returns-clause-ticks
 returns-clause-ticks g c =
-    let heard = heard_within c.args.stored_network.now.network.now c.args.stored_network.now.layout.now (held c.args.stored_network.now.stores.now) c.args.opened.now c.args.touched.now c.requires.touched c.requires.can_draw.as_many in
+    let heard = heard_within c.args.stored.now.network.now c.args.stored.now.layout.now (held c.args.stored.now.stores.now) c.args.opened.now c.args.touched.now c.requires.touched c.requires.can_draw.as_many in
     let one = c.meet_opened.ensures.ticks in
     let two = c.derive.ensures.ticks in omega (arith, heard, one, two)

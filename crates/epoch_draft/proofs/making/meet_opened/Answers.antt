@@ -26,41 +26,41 @@ use Rattle.epoch_draft.proofs.TakeLemmas.{takes_grow}
 pub loop-stream-init : goal.loop-stream-init
 loop-stream-init g c = record {
   fits = c.requires.still.fits;
-  drawn = drawn_starts c.args.stored_network.now.network.now (held c.args.stored_network.now.stores.now) c.args.drawing.now.draft c.requires.still.none_made c.requires.still.no_beads;
-  paired = paired_none c.args.stored_network.now.network.now (held c.args.stored_network.now.stores.now) c.args.drawing.now.pairs c.requires.still.no_pairs;
-  takes = let none = ap (takes_work c.args.stored_network.now.network.now (streams_of c.args.opened.now) (held c.args.stored_network.now.stores.now)) c.requires.still.no_pairs in omega (arith, none);
+  drawn = drawn_starts c.args.stored.now.network.now (held c.args.stored.now.stores.now) c.args.drawing.now.draft c.requires.still.none_made c.requires.still.no_beads;
+  paired = paired_none c.args.stored.now.network.now (held c.args.stored.now.stores.now) c.args.drawing.now.pairs c.requires.still.no_pairs;
+  takes = let none = ap (takes_work c.args.stored.now.network.now (streams_of c.args.opened.now) (held c.args.stored.now.stores.now)) c.requires.still.no_pairs in omega (arith, none);
   agenda = refl;
   ticks = omega arith;
 }
 
-pub meet_stream-requires-clause-stored_network : goal.meet_stream-requires-clause-stored_network
-meet_stream-requires-clause-stored_network g c = record {
+pub meet_stream-requires-clause-stored : goal.meet_stream-requires-clause-stored
+meet_stream-requires-clause-stored g c = record {
   network = c.requires.can_draw.network;
   readers = c.requires.can_read.readers.are;
-  stores = typed_has c.args.stored_network.now.network.now c.args.stored_network.now.layout.now.kinds c.args.stored_network.now.stores.now c.requires.can_draw.typed;
+  stores = typed_has c.args.stored.now.network.now c.args.stored.now.layout.now.kinds c.args.stored.now.stores.now c.requires.can_draw.typed;
   led = c.requires.can_read.led;
 }
 
 pub meet_stream-requires-clause-draft : goal.meet_stream-requires-clause-draft
-meet_stream-requires-clause-draft g c = drawn_of c.args.stored_network.now.network.now c.args.stored_network.now.layout.now c.args.stored_network.now.stores.now c.args.opened.now c.loop-stream.drawing.draft c.requires.can_draw c.loop-stream.invariant.fits
+meet_stream-requires-clause-draft g c = drawn_of c.args.stored.now.network.now c.args.stored.now.layout.now c.args.stored.now.stores.now c.args.opened.now c.loop-stream.drawing.draft c.requires.can_draw c.loop-stream.invariant.fits
 
 pub meet_stream-requires-clause-suits : goal.meet_stream-requires-clause-suits
 meet_stream-requires-clause-suits g c =
     let can = c.requires.can_draw in
-    let net = c.args.stored_network.now.network.now in
-    let stores = c.args.stored_network.now.stores.now in
+    let net = c.args.stored.now.network.now in
+    let stores = c.args.stored.now.stores.now in
     let opened = c.args.opened.now in
     let s = get_or c.args.touched.now c.loop-stream.stream-index 0 in
     let below : s < length opened = All-get_or (λ s. s < length opened) c.args.touched.now c.loop-stream.stream-index 0 c.loop-stream-test.true c.requires.touched.below in
     let is : get_or opened s [] ≡ c.as_slice.result.now = get_or_from_slice_get opened s c.get.result.now [] c.get.ensures ∙ sym c.as_slice.ensures in
     subst (All (TupleSuits net (held stores) s)) is
-    (rows_suit net can.network c.args.stored_network.now.layout.now.kinds stores can.typed s (omega (arith, below, can.as_many)) (get_or opened s []) (can.kinds s))
+    (rows_suit net can.network c.args.stored.now.layout.now.kinds stores can.typed s (omega (arith, below, can.as_many)) (get_or opened s []) (can.kinds s))
 
 -- one stream more is met
 pub loop-stream-preserved : goal.loop-stream-preserved
 loop-stream-preserved g c =
-    let net = c.args.stored_network.now.network.now in
-    let stores = held c.args.stored_network.now.stores.now in
+    let net = c.args.stored.now.network.now in
+    let stores = held c.args.stored.now.stores.now in
     let opened = c.args.opened.now in
     let touched = c.args.touched.now in
     let i = c.loop-stream.stream-index in
@@ -91,20 +91,20 @@ loop-stream-preserved g c =
 -- all are
 pub returns-clause-drawn : goal.returns-clause-drawn
 returns-clause-drawn g c =
-    let net = c.args.stored_network.now.network.now in
-    let stores = c.args.stored_network.now.stores.now in
+    let net = c.args.stored.now.network.now in
+    let stores = c.args.stored.now.stores.now in
     let opened = c.args.opened.now in
     let touched = c.args.touched.now in
     let all = taken_all touched c.loop-stream.stream-index c.loop-stream-test.false in
-    opened_drawn net c.args.stored_network.now.layout.now stores opened touched c.loop-stream.drawing.draft c.loop-stream.drawing.pairs c.requires.can_draw c.requires.touched c.loop-stream.invariant.fits
+    opened_drawn net c.args.stored.now.layout.now stores opened touched c.loop-stream.drawing.draft c.loop-stream.drawing.pairs c.requires.can_draw c.requires.touched c.loop-stream.invariant.fits
     (subst (λ (xs : List ℕ). Drawn net (held stores) (opened_of opened xs) c.loop-stream.drawing.draft) all c.loop-stream.invariant.drawn)
     (subst (λ (xs : List ℕ). Paired net (held stores) (opened_of opened xs) c.loop-stream.drawing.pairs) all c.loop-stream.invariant.paired)
 
 -- what their pairs take out
 pub returns-clause-takes : goal.returns-clause-takes
 returns-clause-takes g c =
-    let net = c.args.stored_network.now.network.now in
-    let stores = held c.args.stored_network.now.stores.now in
+    let net = c.args.stored.now.network.now in
+    let stores = held c.args.stored.now.stores.now in
     let opened = c.args.opened.now in
     let touched = c.args.touched.now in
     let pairs = c.loop-stream.drawing.pairs in
@@ -117,8 +117,8 @@ returns-clause-takes g c =
 -- want of memory comes after some of the tests
 pub returns-in_err-meet_stream-clause-ticks : goal.returns-in_err-meet_stream-clause-ticks
 returns-in_err-meet_stream-clause-ticks g c =
-    let net = c.args.stored_network.now.network.now in
-    let stores = held c.args.stored_network.now.stores.now in
+    let net = c.args.stored.now.network.now in
+    let stores = held c.args.stored.now.stores.now in
     let opened = c.args.opened.now in
     let touched = c.args.touched.now in
     let i = c.loop-stream.stream-index in

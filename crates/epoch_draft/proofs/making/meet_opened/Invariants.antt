@@ -12,10 +12,10 @@ use Rattle.epoch_draft.specs.Takes.{take_work, takes_work}
 -- the streams so far are met
 abbrev pub invariant-loop-stream : goal.invariant-loop-stream
 invariant-loop-stream g l = record {
-  fits : DraftFits (length l.stored_network.layout.now.kinds) (length l.stored_network.network.now) l.drawing.draft;
-  drawn : Drawn l.stored_network.network.now (held l.stored_network.stores.now) (opened_of l.opened (take l.stream-index l.touched)) l.drawing.draft;
-  paired : Paired l.stored_network.network.now (held l.stored_network.stores.now) (opened_of l.opened (take l.stream-index l.touched)) l.drawing.pairs;
-  takes : takes_work l.stored_network.network.now (streams_of l.opened) (held l.stored_network.stores.now) l.drawing.pairs ≤ sum_by (λ s. sum_by (take_work l.stored_network.network.now (held l.stored_network.stores.now) s) (get_or l.opened s [])) (take l.stream-index l.touched);
+  fits : DraftFits (length l.stored.layout.now.kinds) (length l.stored.network.now) l.drawing.draft;
+  drawn : Drawn l.stored.network.now (held l.stored.stores.now) (opened_of l.opened (take l.stream-index l.touched)) l.drawing.draft;
+  paired : Paired l.stored.network.now (held l.stored.stores.now) (opened_of l.opened (take l.stream-index l.touched)) l.drawing.pairs;
+  takes : takes_work l.stored.network.now (streams_of l.opened) (held l.stored.stores.now) l.drawing.pairs ≤ sum_by (λ s. sum_by (take_work l.stored.network.now (held l.stored.stores.now) s) (get_or l.opened s [])) (take l.stream-index l.touched);
   agenda : l.drawing.agenda.keys ≡ l.initial.drawing.agenda.keys;
-  ticks : l.steps ≤ l.initial.steps + streams_work l.stored_network.network.now (held l.stored_network.stores.now) l.opened (take l.stream-index l.touched);
+  ticks : l.steps ≤ l.initial.steps + streams_work l.stored.network.now (held l.stored.stores.now) l.opened (take l.stream-index l.touched);
 }

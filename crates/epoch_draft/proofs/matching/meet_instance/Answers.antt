@@ -11,9 +11,9 @@ use Rattle.epoch_draft.proofs.matching.meet_instance.Goals as goal
 
 pub leave-requires-clause-suits : goal.leave-requires-clause-suits
 leave-requires-clause-suits g c =
-    let net = c.args.waiting_state.now.network.now in
-    let n = c.args.waiting_state.now.state in
-    let w = c.args.waiting_state.now.wait.now in
+    let net = c.args.waiting.now.network.now in
+    let n = c.args.waiting.now.state in
+    let w = c.args.waiting.now.wait.now in
     let i = c.args.instance.now in
     let t = c.args.tuple.now in
     let leaving = λ (made : Instance). LeavingSuits net n made.tuple in

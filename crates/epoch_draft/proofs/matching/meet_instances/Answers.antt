@@ -16,25 +16,25 @@ use Rattle.epoch_draft.proofs.MeetLemmas.{Follows, follows_more, follows_none, h
 use Rattle.epoch_draft.proofs.matching.meet_instances.Goals as goal
 
 pub meet_instance-requires-clause-draft : goal.meet_instance-requires-clause-draft
-meet_instance-requires-clause-draft g c = draft_of c.args.waiting_state.now.network.now c.args.draft.now c.loop-instance.draft c.requires.draft c.loop-instance.invariant.follows.fits
+meet_instance-requires-clause-draft g c = draft_of c.args.waiting.now.network.now c.args.draft.now c.loop-instance.draft c.requires.draft c.loop-instance.invariant.follows.fits
 
 pub meet_instance-requires-clause-suits : goal.meet_instance-requires-clause-suits
 meet_instance-requires-clause-suits g c =
-    let suits = λ (i : Instance). WaitSuits c.args.waiting_state.now.wait.now i.tuple c.args.tuple.now in
+    let suits = λ (i : Instance). WaitSuits c.args.waiting.now.wait.now i.tuple c.args.tuple.now in
     All-head suits c.in-Some.instance.now c.next.new.self (subst (All suits) c.in-Some.ensures.rest c.loop-instance.invariant.suits)
 
 pub meet_instance-requires-clause-leaving : goal.meet_instance-requires-clause-leaving
 meet_instance-requires-clause-leaving g c =
-    let w = c.args.waiting_state.now.wait.now in
+    let w = c.args.waiting.now.wait.now in
     let t = c.args.tuple.now in
-    let leaving = λ (made : Instance). LeavingSuits c.args.waiting_state.now.network.now c.args.waiting_state.now.state made.tuple in
+    let leaving = λ (made : Instance). LeavingSuits c.args.waiting.now.network.now c.args.waiting.now.state made.tuple in
     all_left leaving (paired_with w t c.in-Some.instance.now) (met w c.next.new.self t) (subst (λ (is : List Instance). All leaving (met w is t)) c.in-Some.ensures.rest c.loop-instance.invariant.leaving)
 
 pub loop-instance-preserved : goal.loop-instance-preserved
 loop-instance-preserved g c =
-    let net = c.args.waiting_state.now.network.now in
-    let n = c.args.waiting_state.now.state in
-    let w = c.args.waiting_state.now.wait.now in
+    let net = c.args.waiting.now.network.now in
+    let n = c.args.waiting.now.state in
+    let w = c.args.waiting.now.wait.now in
     let t = c.args.tuple.now in
     let i = c.in-Some.instance.now in
     let rest = c.next.new.self in
@@ -56,9 +56,9 @@ loop-instance-preserved g c =
 
 pub returns-clause-grows : goal.returns-clause-grows
 returns-clause-grows g c =
-    let net = c.args.waiting_state.now.network.now in
-    let n = c.args.waiting_state.now.state in
-    let w = c.args.waiting_state.now.wait.now in
+    let net = c.args.waiting.now.network.now in
+    let n = c.args.waiting.now.state in
+    let w = c.args.waiting.now.wait.now in
     let t = c.args.tuple.now in
     let all : List Move = moves_from net n (met w c.args.instances t) in
     let none : c.loop-instance.instances ≡ [] = head_none c.loop-instance.instances c.in_default.ensures.first in
@@ -72,5 +72,5 @@ returns-in_err-meet_instance-clause-ticks g c =
     let rest = c.next.new.self in
     let was = c.loop-instance.invariant.ticks in
     let one = c.meet_instance.ensures.ticks in
-    let work = binding_work c.args.waiting_state.now.network.now c.args.waiting_state.now.state c.args.waiting_state.now.wait.now c.args.tuple.now in
+    let work = binding_work c.args.waiting.now.network.now c.args.waiting.now.state c.args.waiting.now.wait.now c.args.tuple.now in
     let all = ap (sum_by work) c.in-Some.ensures.rest ∙ sum_by-cons work i rest in omega (arith, was, one, all)

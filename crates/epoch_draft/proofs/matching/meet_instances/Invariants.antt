@@ -12,10 +12,10 @@ use Rattle.epoch_draft.proofs.matching.meet_instances.Given as goal
 -- what the tuple makes of the instances that are left is still to leave
 abbrev pub invariant-loop-instance : goal.invariant-loop-instance
 invariant-loop-instance g l = record {
-  suits : All (λ (i : Instance). WaitSuits l.waiting_state.wait.now i.tuple l.tuple) l.instances;
-  leaving : All (λ (made : Instance). LeavingSuits l.waiting_state.network.now l.waiting_state.state made.tuple) (met l.waiting_state.wait.now l.instances l.tuple);
-  follows : Follows l.waiting_state.network.now (moves_from l.waiting_state.network.now l.waiting_state.state (met l.waiting_state.wait.now l.instances l.tuple)) (moves_from l.waiting_state.network.now l.waiting_state.state (met l.waiting_state.wait.now l.initial.instances l.tuple)) l.initial.draft l.draft;
-  ticks : l.steps + sum_by (binding_work l.waiting_state.network.now l.waiting_state.state l.waiting_state.wait.now l.tuple) l.instances ≤ l.initial.steps + sum_by (binding_work l.waiting_state.network.now l.waiting_state.state l.waiting_state.wait.now l.tuple) l.initial.instances;
+  suits : All (λ (i : Instance). WaitSuits l.waiting.wait.now i.tuple l.tuple) l.instances;
+  leaving : All (λ (made : Instance). LeavingSuits l.waiting.network.now l.waiting.state made.tuple) (met l.waiting.wait.now l.instances l.tuple);
+  follows : Follows l.waiting.network.now (moves_from l.waiting.network.now l.waiting.state (met l.waiting.wait.now l.instances l.tuple)) (moves_from l.waiting.network.now l.waiting.state (met l.waiting.wait.now l.initial.instances l.tuple)) l.initial.draft l.draft;
+  ticks : l.steps + sum_by (binding_work l.waiting.network.now l.waiting.state l.waiting.wait.now l.tuple) l.instances ≤ l.initial.steps + sum_by (binding_work l.waiting.network.now l.waiting.state l.waiting.wait.now l.tuple) l.initial.instances;
 }
 
 abbrev pub decreases-loop-instance : goal.decreases-loop-instance

@@ -14,18 +14,18 @@ use Rattle.epoch_draft.proofs.meeting.meet_stream.Goals as goal
 
 pub meet_tuple-requires-clause-suits : goal.meet_tuple-requires-clause-suits
 meet_tuple-requires-clause-suits g c =
-    let suits = TupleSuits c.args.stored_network.now.network.now (held c.args.stored_network.now.stores.now) c.args.stream in
+    let suits = TupleSuits c.args.stored.now.network.now (held c.args.stored.now.stores.now) c.args.stream in
     let t = c.index-tuples-place.result in
     subst suits (sym c.index-tuples-place.is) (All-get_or suits c.args.tuples.now c.loop-place.place t c.loop-place-test.true c.requires.suits)
 
 pub meet_tuple-requires-clause-draft : goal.meet_tuple-requires-clause-draft
-meet_tuple-requires-clause-draft g c = draft_of c.args.stored_network.now.network.now c.args.drawing.now.draft c.loop-place.drawing.draft c.requires.draft c.loop-place.invariant.grows.fits
+meet_tuple-requires-clause-draft g c = draft_of c.args.stored.now.network.now c.args.drawing.now.draft c.loop-place.drawing.draft c.requires.draft c.loop-place.invariant.grows.fits
 
 -- one tuple more
 pub loop-place-preserved : goal.loop-place-preserved
 loop-place-preserved g c =
-    let net = c.args.stored_network.now.network.now in
-    let stores = held c.args.stored_network.now.stores.now in
+    let net = c.args.stored.now.network.now in
+    let stores = held c.args.stored.now.stores.now in
     let s = c.args.stream in
     let rows = c.args.tuples.now in
     let i = c.loop-place.place in
@@ -47,7 +47,7 @@ loop-place-preserved g c =
 -- want of memory comes after some of the tests
 pub returns-in_err-meet_tuple-clause-ticks : goal.returns-in_err-meet_tuple-clause-ticks
 returns-in_err-meet_tuple-clause-ticks g c =
-    let work = tuple_work c.args.stored_network.now.network.now (held c.args.stored_network.now.stores.now) c.args.stream in
+    let work = tuple_work c.args.stored.now.network.now (held c.args.stored.now.stores.now) c.args.stream in
     let t = c.index-tuples-place.result in
     let part = sum_by_more_le work c.args.tuples.now c.loop-place.place t c.loop-place-test.true in
     let was = c.loop-place.invariant.ticks in

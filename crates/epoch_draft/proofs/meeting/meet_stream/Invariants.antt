@@ -8,8 +8,8 @@ use Rattle.epoch_draft.proofs.meeting.meet_stream.Given as goal
 -- the tuples so far are met and listed
 abbrev pub invariant-loop-place : goal.invariant-loop-place
 invariant-loop-place g l = record {
-  grows : Grows l.stored_network.network.now (moves_of_all l.stored_network.network.now (held l.stored_network.stores.now) l.stream (take l.place l.tuples)) l.initial.drawing.draft l.drawing.draft;
-  lists : ListsAll l.stored_network.network.now (held l.stored_network.stores.now) l.stream (take l.place l.tuples) l.initial.drawing.pairs l.drawing.pairs;
+  grows : Grows l.stored.network.now (moves_of_all l.stored.network.now (held l.stored.stores.now) l.stream (take l.place l.tuples)) l.initial.drawing.draft l.drawing.draft;
+  lists : ListsAll l.stored.network.now (held l.stored.stores.now) l.stream (take l.place l.tuples) l.initial.drawing.pairs l.drawing.pairs;
   agenda : l.drawing.agenda.keys ≡ l.initial.drawing.agenda.keys;
-  ticks : l.steps ≤ l.initial.steps + stream_work l.stored_network.network.now (held l.stored_network.stores.now) l.stream (take l.place l.tuples);
+  ticks : l.steps ≤ l.initial.steps + stream_work l.stored.network.now (held l.stored.stores.now) l.stream (take l.place l.tuples);
 }

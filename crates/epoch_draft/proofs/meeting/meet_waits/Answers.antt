@@ -23,25 +23,25 @@ meet_wait-requires-clause-used g c =
     let waits = c.args.drawing.now.found.waits in
     let i = c.loop-index.index in
     let at : get_or waits i 0 ≡ c.get-state.result.now = ap (λ (ns : List ℕ). get_or ns i 0) (sym c.loop-index.invariant.waits) ∙ get_or_from_slice_get c.loop-index.drawing.found.waits i c.get-state.result.now 0 c.get-state.ensures in
-    let used = λ (n : ℕ). IsTrue (is_used c.args.stored_network.now.network.now n) in
+    let used = λ (n : ℕ). IsTrue (is_used c.args.stored.now.network.now n) in
     subst used at (All-get_or used waits i 0 (subst (λ (m : ℕ). c.loop-index.index < m) c.len-index-end.ensures c.loop-index-test.true) c.requires.used)
 
 pub meet_wait-requires-clause-draft : goal.meet_wait-requires-clause-draft
-meet_wait-requires-clause-draft g c = draft_of c.args.stored_network.now.network.now c.args.drawing.now.draft c.loop-index.drawing.draft c.requires.draft c.loop-index.invariant.grows.fits
+meet_wait-requires-clause-draft g c = draft_of c.args.stored.now.network.now c.args.drawing.now.draft c.loop-index.drawing.draft c.requires.draft c.loop-index.invariant.grows.fits
 
 pub meet_wait-requires-clause-suits : goal.meet_wait-requires-clause-suits
 meet_wait-requires-clause-suits g c =
     let waits = c.args.drawing.now.found.waits in
     let i = c.loop-index.index in
     let at : get_or waits i 0 ≡ c.get-state.result.now = ap (λ (ns : List ℕ). get_or ns i 0) (sym c.loop-index.invariant.waits) ∙ get_or_from_slice_get c.loop-index.drawing.found.waits i c.get-state.result.now 0 c.get-state.ensures in
-    let suits = MeetingSuits c.args.stored_network.now.network.now (held c.args.stored_network.now.stores.now) c.args.tuple.now in
+    let suits = MeetingSuits c.args.stored.now.network.now (held c.args.stored.now.stores.now) c.args.tuple.now in
     subst suits at (All-get_or suits waits i 0 (subst (λ (m : ℕ). c.loop-index.index < m) c.len-index-end.ensures c.loop-index-test.true) c.requires.suits)
 
 -- one state more
 pub loop-index-preserved : goal.loop-index-preserved
 loop-index-preserved g c =
-    let net = c.args.stored_network.now.network.now in
-    let stores = held c.args.stored_network.now.stores.now in
+    let net = c.args.stored.now.network.now in
+    let stores = held c.args.stored.now.stores.now in
     let t = c.args.tuple.now in
     let waits = c.args.drawing.now.found.waits in
     let i = c.loop-index.index in
@@ -69,7 +69,7 @@ loop-index-preserved g c =
 -- want of memory comes after some of the tests
 pub returns-in_err-add-clause-ticks : goal.returns-in_err-add-clause-ticks
 returns-in_err-add-clause-ticks g c =
-    let part = sum_by-take-le (state_work c.args.stored_network.now.network.now (held c.args.stored_network.now.stores.now) c.args.tuple.now) c.args.drawing.now.found.waits c.loop-index.index in
+    let part = sum_by-take-le (state_work c.args.stored.now.network.now (held c.args.stored.now.stores.now) c.args.tuple.now) c.args.drawing.now.found.waits c.loop-index.index in
     let was = c.loop-index.invariant.ticks in omega (arith, part, was)
 
 pub returns-in_err-meet_wait-clause-ticks : goal.returns-in_err-meet_wait-clause-ticks
@@ -77,7 +77,7 @@ returns-in_err-meet_wait-clause-ticks g c =
     let waits = c.args.drawing.now.found.waits in
     let i = c.loop-index.index in
     let at : c.get-state.result.now ≡ get_or waits i 0 = sym (get_or_from_slice_get c.loop-index.drawing.found.waits i c.get-state.result.now 0 c.get-state.ensures) ∙ ap (λ (ns : List ℕ). get_or ns i 0) c.loop-index.invariant.waits in
-    let work = state_work c.args.stored_network.now.network.now (held c.args.stored_network.now.stores.now) c.args.tuple.now in
+    let work = state_work c.args.stored.now.network.now (held c.args.stored.now.stores.now) c.args.tuple.now in
     let part = sum_by_more_le work waits i 0 (subst (λ (m : ℕ). c.loop-index.index < m) c.len-index-end.ensures c.loop-index-test.true) in
     let was = c.loop-index.invariant.ticks in
     let one = subst (λ (n : ℕ). c.meet_wait.new.steps ≤ c.loop-index.steps + work n) at c.meet_wait.ensures.ticks in omega (arith, part, was, one)
