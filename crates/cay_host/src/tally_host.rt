@@ -4,6 +4,7 @@ ghost use Rattle.cay_host.specs.Output.{count_lf};
 
 use crate::host::{Failed, Host};
 use crate::side::Side;
+use memchr::memchr_iter;
 
 /// A host with no file, whose output is counted: the LF bytes written to it. It takes no memory.
 #[derive(Drop)]
@@ -93,5 +94,9 @@ impl Host for TallyHost {
 fn line_feeds(bytes: &[u8]) -> usize
     ensures { result ≡ count_lf bytes.now }
 {
-    bytes.iter().filter(|byte| **byte == b'\n').count()
+    let mut lines = 0;
+    for _ in memchr_iter(b'\n', bytes) {
+        lines += 1;
+    }
+    lines
 }
