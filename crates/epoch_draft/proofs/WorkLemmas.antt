@@ -75,7 +75,8 @@ found_less f p found others all same passes =
 
 -- the targets that a tuple finds lead on ways that are looked up
 pub ways_less : (net : Net) (s : ℕ) (t : TupleView) (targets : List Target) → FindsWays net s t targets → ways_work net (flat_map (way_of net) targets) ≤ ways_work net (filter (is_way_looked_up net t) (ways_on net s))
-ways_less net s t targets finds = found_less (way_work net) (is_way_looked_up net t) (flat_map (way_of net) targets) finds.others (ways_on net s) finds.all finds.looked_up
+ways_less net s t targets finds = found_less (way_work net) (is_way_looked_up net t) (flat_map (way_of net) targets) finds.others (ways_on net s) finds.all
+    (All-weaker (MeetsParts net t) (λ way. is_way_looked_up net t way ≡ true) (λ way met. matched_is_looked_up t (parts_on net way) met) (flat_map (way_of net) targets) finds.met)
 
 -- the states that it finds are looked up
 pub states_less : (work : ℕ → ℕ) (net : Net) (stores : Stores) (s : ℕ) (t : TupleView) (states : List ℕ) → FindsWaits net stores s t states → sum_by work states ≤ sum_by work (filter (is_state_looked_up net t) (waits_on net s))

@@ -18,8 +18,8 @@ use Rattle.stream_readers.specs.Filing.{Filed, filed_to, targets_met, waiting_as
 use Rattle.stream_readers.specs.Finding.{FindsPlain, FindsWays, IsDeaf, IsSilent, plain_waits_on}
 use Rattle.stream_readers.specs.Readers.{targets_on}
 use Rattle.stream_readers.specs.Targets.{IsTarget, way_of}
-use Rattle.stream_readers.specs.Ways.{Way, is_state_looked_up, is_way_looked_up, parts_at}
-use Rattle.stream_readers.proofs.TargetLemmas.{deaf_state, looked_target, silent_target, targets_there, targets_ways}
+use Rattle.stream_readers.specs.Ways.{MeetsParts, Way, is_state_looked_up, parts_at}
+use Rattle.stream_readers.proofs.TargetLemmas.{deaf_state, met_target, silent_target, targets_there, targets_ways}
 
 missed : (b : Bool) → not b ≡ true → b ≡ false
 missed true is = absurd (cc)
@@ -71,10 +71,10 @@ finds_ways net stream tuple filed network same = record {
       given net unmet (IsSilent net tuple) filed
       (each (λ one. unmet one ≡ true → All (IsSilent net tuple) (way_to net one))
       (every (λ target. unmet (filed_to net target) ≡ true → All (IsSilent net tuple) (way_of net target)) (λ target is. silent_target net tuple target (missed (met (filed_to net target)) is)) (targets_on net stream)));
-  looked_up =
-      given net met (λ way. is_way_looked_up net tuple way ≡ true) filed
-      (each (λ one. met one ≡ true → All (λ way. is_way_looked_up net tuple way ≡ true) (way_to net one))
-      (every (λ target. met (filed_to net target) ≡ true → All (λ way. is_way_looked_up net tuple way ≡ true) (way_of net target)) (λ target is. looked_target net tuple target is) (targets_on net stream)));
+  met =
+      given net met (MeetsParts net tuple) filed
+      (each (λ one. met one ≡ true → All (MeetsParts net tuple) (way_to net one))
+      (every (λ target. met (filed_to net target) ≡ true → All (MeetsParts net tuple) (way_of net target)) (λ target is. met_target net tuple target is) (targets_on net stream)));
 }
   where
     met : Filed → Bool

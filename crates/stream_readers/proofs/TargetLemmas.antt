@@ -21,11 +21,11 @@ use Rattle.automaton.specs.declared.step.Stage.TheVariants.{Keep, Make}
 use Rattle.automaton.specs.declared.wait.Wait.{Wait}
 use Rattle.automaton.proofs.ClearedLemmas.{edge_leads, entered_used}
 use Rattle.static_index.specs.FixedParts.{all_hold, fixed_parts}
-use Rattle.static_index.proofs.LawLemmas.{holding_is_matched, matched_is_looked_up}
+use Rattle.static_index.proofs.LawLemmas.{holding_is_matched}
 use Rattle.stream_readers.specs.Finding.{IsDeaf, IsSilent, is_root_on, ways_on}
 use Rattle.stream_readers.specs.Readers.{targets_on}
 use Rattle.stream_readers.specs.Targets.{IsTarget, end_at, out_by, step_of, step_to, targets_at, way_of}
-use Rattle.stream_readers.specs.Ways.{Into, Out, Way, backs_by, first_parts, is_way_looked_up, parts_at, parts_in, ways_at}
+use Rattle.stream_readers.specs.Ways.{Into, MeetsParts, Out, backs_by, first_parts, parts_at, parts_in, ways_at}
 use Rattle.stream_readers.specs.declared.target.Target.{Target}
 use Rattle.stream_readers.specs.declared.target.Target.TheVariants as target
 use Rattle.stream_readers.proofs.FilingLemmas.{at_seam, range_below}
@@ -125,15 +125,14 @@ silent_target net tuple (target.End place) fails = go (slice_get (ends_at net pl
     go None fails = All-nil (IsSilent net tuple)
     go (Some end) fails = All-cons (IsSilent net tuple) (Out end) [] (silent_step tuple end.step fails) (All-nil (IsSilent net tuple))
 
--- the way to a target whose fixed parts all hold is looked up
-pub looked_target : (net : Net) (tuple : TupleView) (target : Target) → all_hold tuple (first_parts (step_to net target)) ≡ true → All (λ way. is_way_looked_up net tuple way ≡ true) (way_of net target)
-looked_target net tuple (target.Edge next) holds =
-    All-cons (λ (way : Way). is_way_looked_up net tuple way ≡ true) (Into next) [] (matched_is_looked_up tuple (first_parts (step_at net next)) holds) (All-nil (λ (way : Way). is_way_looked_up net tuple way ≡ true))
-looked_target net tuple (target.End place) holds = go (slice_get (ends_at net place.state) place.place) holds
+-- where the fixed parts of a target all hold, so do those on its way
+pub met_target : (net : Net) (tuple : TupleView) (target : Target) → all_hold tuple (first_parts (step_to net target)) ≡ true → All (MeetsParts net tuple) (way_of net target)
+met_target net tuple (target.Edge next) holds = All-cons (MeetsParts net tuple) (Into next) [] holds (All-nil (MeetsParts net tuple))
+met_target net tuple (target.End place) holds = go (slice_get (ends_at net place.state) place.place) holds
   where
-    go : (o : Option End) → all_hold tuple (first_parts (step_of o)) ≡ true → All (λ way. is_way_looked_up net tuple way ≡ true) (out_by o)
-    go None holds = All-nil (λ (way : Way). is_way_looked_up net tuple way ≡ true)
-    go (Some end) holds = All-cons (λ (way : Way). is_way_looked_up net tuple way ≡ true) (Out end) [] (matched_is_looked_up tuple (first_parts end.step) holds) (All-nil (λ (way : Way). is_way_looked_up net tuple way ≡ true))
+    go : (o : Option End) → all_hold tuple (first_parts (step_of o)) ≡ true → All (MeetsParts net tuple) (out_by o)
+    go None holds = All-nil (MeetsParts net tuple)
+    go (Some end) holds = All-cons (MeetsParts net tuple) (Out end) [] holds (All-nil (MeetsParts net tuple))
 
 -- a tuple is eligible for no binding at a state of which a fixed part fails
 pub deaf_state : (net : Net) (tuple : TupleView) (n : ℕ) → all_hold tuple (parts_at net n) ≡ false → IsDeaf net tuple n

@@ -15,7 +15,7 @@ use Rattle.static_index.specs.FixedParts.{all_hold}
 use Rattle.stream_readers.specs.KeyTables.{KeyTable, entries_at}
 use Rattle.stream_readers.specs.Leading.{is_keyed, lead_key_at}
 use Rattle.stream_readers.specs.Targets.{IsTarget, way_of}
-use Rattle.stream_readers.specs.Ways.{Back, Into, Out, Way, is_state_looked_up, is_way_looked_up, parts_at, ways_at}
+use Rattle.stream_readers.specs.Ways.{Back, Into, MeetsParts, Out, Way, is_state_looked_up, parts_at, ways_at}
 use Rattle.stream_readers.specs.declared.target.Target.{Target}
 
 -- whether a state is a root of a stream
@@ -44,13 +44,13 @@ IsSilent net tuple (Back number) = ⊥
 abbrev pub IsDeaf : Net → TupleView → ℕ → Type 0
 IsDeaf net tuple number = (wait : Wait) → wait_at net number ≡ Some wait → (binding : TupleView) → is_eligible wait.choose binding tuple ≡ false
 
--- the targets are ways out of the roots of a stream that are looked up by the tuple, each as often as it stands there, and nothing comes of the tuple on the others
+-- the targets are ways out of the roots of a stream whose first fixed parts all hold for the tuple, each as often as it stands there, and nothing comes of the tuple on the others
 pub record FindsWays (net : Net) (stream : ℕ) (tuple : TupleView) (found : List Target) : Type 0 where
   pub are : All (IsTarget net) found
   pub others : List Way
   pub all : IsPermutation (flat_map (way_of net) found ++ others) (ways_on net stream)
   pub silent : All (IsSilent net tuple) others
-  pub looked_up : All (λ way. is_way_looked_up net tuple way ≡ true) (flat_map (way_of net) found)
+  pub met : All (MeetsParts net tuple) (flat_map (way_of net) found)
 
 -- whether a state waits on a stream without a key to find it
 abbrev pub is_plain_on : Net → ℕ → ℕ → Bool

@@ -1,5 +1,5 @@
 -- The ways out of a state, and by which of them a tuple is looked up.
-use Rattle.std.specs.Prelude.{ℕ, Bool, List, [], ◌∷◌, ◌++◌, map, Option, Some, None}
+use Rattle.std.specs.Prelude.{◌≡◌, ℕ, Bool, true, List, [], ◌∷◌, ◌++◌, map, Option, Some, None}
 use Rattle.event_types.specs.Tuple.{TupleView}
 use Rattle.automaton.specs.States.{Net, edges_at, ends_at, step_at, wait_at}
 use Rattle.automaton.specs.declared.network.End.{End}
@@ -7,7 +7,7 @@ use Rattle.automaton.specs.declared.step.Stage.{Stage}
 use Rattle.automaton.specs.declared.step.Stage.TheVariants.{Keep, Make}
 use Rattle.automaton.specs.declared.wait.Turn.{Turn}
 use Rattle.automaton.specs.declared.wait.Wait.{Wait}
-use Rattle.static_index.specs.FixedParts.{first_holds, fixed_parts}
+use Rattle.static_index.specs.FixedParts.{all_hold, first_holds, fixed_parts}
 use Rattle.static_index.specs.declared.fixed_part.FixedPart.{FixedPart}
 
 -- a way out of a state: by a forward edge into a waiting state, by an end out to a stream, or in a FOLD back to the state as a new binding
@@ -50,6 +50,10 @@ parts_in (Some wait) = fixed_parts wait.choose
 -- the same of the state with a number
 abbrev pub parts_at : Net → ℕ → List FixedPart
 parts_at net number = parts_in (wait_at net number)
+
+-- the fixed parts that are asked first on a way all hold for a tuple
+abbrev pub MeetsParts : Net → TupleView → Way → Type 0
+MeetsParts net tuple way = all_hold tuple (parts_on net way) ≡ true
 
 -- whether a way is looked up by a tuple: the first of its fixed parts holds, or it has none
 abbrev pub is_way_looked_up : Net → TupleView → Way → Bool
