@@ -1,5 +1,6 @@
 -- The classes of a conjunction's parts, by which instances and steps are looked up (this project's profile).
-use Rattle.std.specs.Prelude.{ℕ, ℤ, Bool, true, false}
+use Rattle.std.specs.Prelude.{ℕ, ℤ, Bool, true, false, List}
+use Rattle.std.specs.List.{list_all}
 use Rattle.event_types.specs.declared.comparison.Cmp.{Cmp}
 use Rattle.event_types.specs.declared.comparison.Cmp.TheVariants as cmp
 use Rattle.event_types.specs.declared.value.Value.{Value}
@@ -55,3 +56,16 @@ class_of_part (part.Fixed place c v) = Fixed place c v.now
 class_of_part (part.Key place bound) = Key place bound
 class_of_part (part.Bound strict most) = Bound strict most
 class_of_part part.Rest = Rest
+
+-- whether a class is that of fixed parts
+abbrev pub is_fixed_class : Class → Bool
+is_fixed_class (Fixed place c v) = true
+is_fixed_class class = false
+
+-- whether a part is fixed
+abbrev pub is_fixed : Pr → Bool
+is_fixed p = is_fixed_class (class_of p)
+
+-- whether all parts are
+abbrev pub are_fixed : List Pr → Bool
+are_fixed parts = list_all is_fixed parts

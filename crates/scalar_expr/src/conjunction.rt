@@ -1,12 +1,13 @@
 //! Conjunctions.
 ghost use Rattle.std.specs.Prelude.{◌≡◌, ◌<◌, ◌++◌, ◌↔◌, length, map, slice_get, IfOk, IsTrue, OnOk};
+ghost use Rattle.std.specs.List.{list_all};
 ghost use Rattle.std.specs.Option.{option_map};
 ghost use Rattle.scalar_expr.specs.Canonical.{AreCanonical, distinct_parts};
-ghost use Rattle.scalar_expr.specs.Classes.{class_of, class_of_part};
+ghost use Rattle.scalar_expr.specs.Classes.{are_fixed, class_of, class_of_part, is_fixed};
 ghost use Rattle.scalar_expr.specs.Views.{pr_of};
 
 use crate::copying::copy_pred;
-use crate::part::{Part, classed};
+use crate::part::{Part, classed, is_fixed};
 use crate::predicate::Pred;
 use event_types::Memory;
 use std::alloc::Global;
@@ -16,6 +17,8 @@ use std::marker::Model;
 #[derive(Drop)]
 pub struct Conj {
     parts: Vec<Pred>,
+    // Whether all parts are fixed.
+    fixed: bool,
 }
 
 impl Model for Conj {
@@ -31,7 +34,10 @@ impl Model for Conj {
 
     ghost view = { λ c. map pr_of c.parts.items };
 
-    ghost invariant = { λ c. AreCanonical (map pr_of c.parts.items) };
+    ghost use Rattle.std.specs.Prelude.{◌≡◌};
+    ghost use Rattle.scalar_expr.specs.Classes.{are_fixed};
+
+    ghost invariant = { λ c. AreCanonical (map pr_of c.parts.items) × (c.fixed ≡ are_fixed (map pr_of c.parts.items)) };
 }
 
 impl Conj {
@@ -42,7 +48,16 @@ impl Conj {
         let mut parts = parts;
         parts.sort_unstable();
         parts.dedup();
-        Conj { parts }
+        Conj::in_order(parts)
+    }
+
+    // The predicates, which are in their canonical order, each once.
+    fn in_order(parts: Vec<Pred>) -> Conj
+        requires { AreCanonical (map pr_of parts.items) }
+        ensures { result ≡ map pr_of parts.items }
+    {
+        let fixed = all_fixed(&parts);
+        Conj { parts, fixed }
     }
 
     // The predicates as they stand.
@@ -68,6 +83,13 @@ impl Conj {
         classed(&self.parts[place])
     }
 
+    /// Whether each part compares an attribute of the event with a literal. Takes no memory.
+    pub fn is_fixed(&self) -> bool
+        ensures { result ≡ are_fixed self.now }
+    {
+        self.fixed
+    }
+
     /// The conjunction of the parts of both.
     pub fn both(&self, alloc: Global, other: &Conj) -> Result<Conj, Memory>
         ensures { IfOk result (λ condition. condition ≡ distinct_parts (self.now ++ other.now)) }
@@ -91,8 +113,15 @@ impl Conj {
     {
         let mut parts = Vec::new(alloc);
         add_copies(alloc, &mut parts, &self.parts)?;
-        Ok(Conj { parts })
+        Ok(Conj::in_order(parts))
     }
+}
+
+// Whether all predicates are fixed parts.
+fn all_fixed(parts: &[Pred]) -> bool
+    ensures { result ≡ list_all (λ p. is_fixed (pr_of p)) parts.now }
+{
+    parts.iter().all(is_fixed)
 }
 
 // Puts equal predicates behind those that are there.

@@ -1,7 +1,7 @@
 //! The classes of a conjunction's parts.
 ghost use Rattle.std.specs.Prelude.{◌≡◌};
 ghost use Rattle.semantics.specs.Scalars.{Dur, Lit, Test};
-ghost use Rattle.scalar_expr.specs.Classes.{bounded, class_of, class_of_part, exchanged, fixed, keyed};
+ghost use Rattle.scalar_expr.specs.Classes.{bounded, class_of, class_of_part, exchanged, fixed, is_fixed, keyed};
 ghost use Rattle.scalar_expr.specs.Views.{pr_of, sc_of};
 
 use crate::predicate::Pred;
@@ -39,6 +39,13 @@ pub(crate) fn classed(predicate: &Pred) -> Part<'_>
         Pred::Test(x, cmp, y) => test_class(x, *cmp, y),
         _ => Part::Rest,
     }
+}
+
+// Whether a predicate is a fixed part.
+pub(crate) fn is_fixed(predicate: &Pred) -> bool
+    ensures { result ≡ is_fixed (pr_of predicate.now) }
+{
+    matches!(classed(predicate), Part::Fixed { .. })
 }
 
 // The class of a comparison.

@@ -1,4 +1,4 @@
 use Rattle.scalar_expr.proofs.conjunction.Conj.copy.Goals as goal
 
-pub invariant_of-result : goal.invariant_of-result
-invariant_of-result c = rw (c.in_ok-add_copies.ensures, c.new-parts.ensures.items, c.deref.ensures.value) c.self.invariant
+pub in_order-requires : goal.in_order-requires
+in_order-requires c = rw (c.in_ok-add_copies.ensures, c.new-parts.ensures.items, c.deref.ensures.value) c.self.invariant.0

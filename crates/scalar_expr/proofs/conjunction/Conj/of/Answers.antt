@@ -20,8 +20,8 @@ in_form c =
     let in_order = sorted_is pr_cmp pr_total pr_exact _ _ (IsPermutation-map pr_of _ _ c.sort_unstable.ensures.permutation) (IsSorted-map pr_of pr_cmp sorted c.sort_unstable.ensures.sorted) in
     ap (map pr_of) (dedup_is (eq_by_cmp pred_cmp) _ _ c.dedup.ensures.filtered) ∙ map-dedup_all pr_of (eq_by_cmp pr_cmp) sorted ∙ ap (dedup (eq_by_cmp pr_cmp)) in_order
 
-pub invariant_of-result : goal.invariant_of-result
-invariant_of-result c = subst AreCanonical (sym (in_form c)) (distinct_parts-canonical (map pr_of c.args.parts.items))
+pub in_order-requires : goal.in_order-requires
+in_order-requires c = subst AreCanonical (sym (in_form c)) (distinct_parts-canonical (map pr_of c.args.parts.items))
 
 pub returns : goal.returns
-returns c = in_form c
+returns c = c.in_order.ensures ∙ in_form c.before
