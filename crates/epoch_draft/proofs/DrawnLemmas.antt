@@ -2,7 +2,7 @@
 use Rattle.std.proofs.Common.{◌≡◌, ◌∙◌, sym, ap, refl, subst, inl, inr, ℕ, ◌<◌, ◌==◌, ◌⊎◌, Bool, true, false, cond, length, get_or, List, [], ◌∷◌, ◌++◌, append_assoc, arith}
 use Rattle.std.specs.Prelude.{Contains, Option, Some, None, slice_get}
 use Rattle.std.specs.Option.{option_and_then, option_map, unwrap_or}
-use Rattle.std.specs.List.{All, filter, filter_map, flat_map, range_with_len}
+use Rattle.std.specs.List.{All, filter, flat_map, range_with_len}
 use Rattle.std.specs.List.Sorted.{IsPermutation}
 use Rattle.std.proofs.lemmas.Bool.Decides.{nat_tests}
 use Rattle.std.proofs.lemmas.Grind.{flat_map-append}
@@ -18,7 +18,6 @@ use Rattle.semantics.specs.Scalars.{Pr}
 use Rattle.scalar_expr.proofs.Bags.{flat_map_permuted, permuted_from, permuted_to}
 use Rattle.automaton.specs.Networks.{IsNetwork}
 use Rattle.automaton.specs.States.{Net, before_at, before_by, edges_at, ends_at, entrance_at, state_at, wait_at}
-use Rattle.automaton.specs.Steps.{pass}
 use Rattle.automaton.specs.declared.network.End.{End}
 use Rattle.automaton.specs.declared.wait.Turn.{Turn}
 use Rattle.automaton.specs.declared.line.Hop.{Hop}
@@ -28,7 +27,7 @@ use Rattle.automaton.specs.declared.network.State.{State}
 use Rattle.stream_readers.specs.Finding.{waits_on}
 use Rattle.epoch_laws.specs.Closing.{Stores, leaving_state, leaving_by, given_by_end, given_by_ends, given_by_ends_at, stepped_by, stores_after}
 use Rattle.epoch_laws.specs.Epochs.{again, unmatched_after, took}
-use Rattle.epoch_laws.specs.Instances.{bindings_of, instances_entering}
+use Rattle.epoch_laws.specs.Instances.{instances_entering}
 use Rattle.epoch_laws.proofs.Bags.{no_length, permuted_is}
 use Rattle.epoch_laws.proofs.Lists.{every}
 use Rattle.epoch_draft.specs.Comes.{gets}

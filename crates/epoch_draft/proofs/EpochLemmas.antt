@@ -1,14 +1,13 @@
 -- The tests of the tuples of an epoch.
-use Rattle.std.proofs.Common.{◌≡◌, sym, refl, subst, ℕ, ◌+◌, ◌≤◌, ◌==◌, Bool, true, false, cond, length, get_or, List, [], ◌∷◌, map}
+use Rattle.std.proofs.Common.{◌≡◌, sym, refl, subst, ℕ, ◌+◌, ◌≤◌, ◌==◌, Bool, true, false, cond, length, get_or, List, [], ◌∷◌}
 use Rattle.std.specs.Prelude.{Option, Some, None, sum_by}
-use Rattle.std.specs.List.{filter, filter_map, range_with_len}
+use Rattle.std.specs.List.{filter, range_with_len}
 use Rattle.std.specs.List.Sorted.{IsPermutation}
 use Rattle.std.proofs.lemmas.List.Sorted.{IsPermutation-map, IsPermutation-refl, sum_by-IsPermutation}
 use Rattle.event_types.specs.Tuple.{TupleView}
 use Rattle.semantics.specs.Denotation.{Streams, streams_of}
 use Rattle.semantics.specs.Programs.{with_stream}
 use Rattle.automaton.specs.States.{Net, ends_at, entrance_at}
-use Rattle.automaton.specs.Steps.{pass}
 use Rattle.automaton.specs.declared.network.End.{End}
 use Rattle.automaton.specs.declared.network.Entrance.{Entrance}
 use Rattle.automaton.specs.declared.network.Entrance.TheVariants.{Root, Waiting}

@@ -8,6 +8,7 @@ pub mod DrawnLemmas
 pub mod EdgeLemmas
 pub mod EpochLemmas
 pub mod Examples
+pub mod FoundLemmas
 pub mod GoingLemmas
 pub mod KeyLemmas
 pub mod LeadLemmas

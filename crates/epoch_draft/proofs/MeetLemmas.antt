@@ -185,7 +185,7 @@ moves_more f net xs i d old mid new lt one two =
     (grows_trans net (flat_map f (take i xs)) (f (get_or xs i d)) old mid new one two)
 
 module _ {X Y : Type 0} (P : Y → Type 0) (f : X → List Y) where
-  all_flat : (xs : List X) → All P (flat_map f xs) → All (λ x. All P (f x)) xs
+  pub all_flat : (xs : List X) → All P (flat_map f xs) → All (λ x. All P (f x)) xs
   all_flat [] all = All-nil (λ x. All P (f x))
   all_flat (x ∷ xs) all = All-cons (λ x. All P (f x)) x xs (all_left P (f x) (flat_map f xs) all) (all_flat xs (all_right P (f x) (flat_map f xs) all))
 

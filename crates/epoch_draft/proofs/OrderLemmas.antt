@@ -1,29 +1,26 @@
 -- Derived streams that are put in order once all are made.
-use Rattle.std.proofs.Common.{◌≡◌, ◌∙◌, sym, ap, refl, subst, inl, inr, ℕ, ◌+◌, ◌<◌, ◌≤◌, ◌⊎◌, Bool, true, false, cond, length, get_or, set, take, List, [], ◌++◌, arith}
-use Rattle.std.specs.Prelude.{Contains, Option, Some, None, option_to_list, slice_get}
-use Rattle.std.specs.List.{All}
+use Rattle.std.proofs.Common.{◌≡◌, ◌∙◌, sym, ap, refl, subst, inl, inr, ℕ, ◌+◌, ◌<◌, ◌⊎◌, Bool, true, false, cond, length, get_or, set, take, List, [], ◌++◌, arith}
+use Rattle.std.specs.Prelude.{Contains, Option, Some, option_to_list, slice_get}
 use Rattle.std.specs.Option.{option_map}
 use Rattle.std.specs.List.Sorted.{IsPermutation}
 use Rattle.std.proofs.lemmas.Grind.{get_or-set_at}
 use Rattle.std.proofs.lemmas.List.{get_or-set_other, length-set}
-use Rattle.std.proofs.lemmas.List.Elements.{All-contains, All-contains_itself, All-weaker}
+use Rattle.std.proofs.lemmas.List.Elements.{All-contains, All-weaker}
 use Rattle.std.proofs.lemmas.List.Sorted.{All-permutation, IsPermutation-refl, IsPermutation-sym, IsPermutation-trans, length_permutation}
-use Rattle.event_types.specs.declared.kind.Kind.{Kind}
 use Rattle.event_types.specs.Order.{sorted}
 use Rattle.event_types.specs.Tuple.{TupleView}
 use Rattle.binding_index.specs.declared.store.Store.{Store}
 use Rattle.instances.specs.declared.instance.Instance.{Instance}
-use Rattle.semantics.specs.Denotation.{Streams, streams_of}
+use Rattle.semantics.specs.Denotation.{Streams}
 use Rattle.semantics.specs.Kinds.{HasKinds}
 use Rattle.scalar_expr.proofs.Bags.{permuted_from, permuted_to}
 use Rattle.automaton.specs.States.{Net, entrance_at}
 use Rattle.automaton.specs.Work.{is_in}
 use Rattle.automaton.specs.declared.layout.Layout.{Layout}
 use Rattle.automaton.specs.declared.line.Hop.{Hop}
-use Rattle.automaton.specs.declared.network.Entrance.{Entrance}
 use Rattle.automaton.specs.declared.network.Entrance.TheVariants.{Waiting}
 use Rattle.stream_readers.specs.Finding.{waits_on}
-use Rattle.epoch_laws.specs.Closing.{Stores, given_by_ends, leaving_state}
+use Rattle.epoch_laws.specs.Closing.{given_by_ends, leaving_state}
 use Rattle.epoch_laws.specs.Epochs.{again, took}
 use Rattle.epoch_laws.specs.Instances.{instances_entering}
 use Rattle.epoch_laws.proofs.Lists.{every}
@@ -33,7 +30,7 @@ use Rattle.epoch_draft.specs.Drafts.{DraftFits}
 use Rattle.epoch_draft.specs.Drawn.{Drawn, Paired}
 use Rattle.epoch_draft.specs.EpochWork.{pairs_work}
 use Rattle.epoch_draft.specs.Held.{held}
-use Rattle.epoch_draft.specs.Takes.{tuple_of, takes_work}
+use Rattle.epoch_draft.specs.Takes.{tuple_of}
 use Rattle.epoch_draft.specs.Typed.{HaveKinds}
 use Rattle.epoch_draft.specs.declared.draft.Draft.{Draft}
 use Rattle.epoch_draft.specs.declared.draft.Pair.{Pair}

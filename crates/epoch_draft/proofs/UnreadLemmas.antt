@@ -1,9 +1,8 @@
 -- Streams that no state reads.
-use Rattle.std.proofs.Common.{◌≡◌, ◌∙◌, sym, ap, refl, subst, inl, inr, ℕ, zero, suc, ◌==◌, ◌⊎◌, Bool, true, false, cond, length, get_or, set, List, [], ◌∷◌, ◌++◌, map, append-nil, arith}
+use Rattle.std.proofs.Common.{◌≡◌, ◌∙◌, sym, ap, refl, subst, inl, inr, ℕ, zero, suc, ◌==◌, ◌⊎◌, true, false, cond, length, get_or, set, List, [], ◌∷◌, map, append-nil, arith}
 use Rattle.std.specs.Prelude.{Contains, Option, Some, None, slice_get}
 use Rattle.std.specs.Option.{option_and_then, option_map}
-use Rattle.std.specs.List.{All, filter, filter_map, flat_map, range_with_len}
-use Rattle.std.specs.List.Sorted.{IsPermutation}
+use Rattle.std.specs.List.{filter, flat_map, range_with_len}
 use Rattle.std.proofs.lemmas.Bool.Decides.{nat_tests}
 use Rattle.std.proofs.lemmas.List.{length-set}
 use Rattle.std.proofs.lemmas.List.Elements.{All-contains, All-nil, filter_passes}
@@ -12,9 +11,7 @@ use Rattle.event_types.specs.Tuple.{TupleView}
 use Rattle.event_types.proofs.NumberLemmas.{same_number}
 use Rattle.instances.specs.declared.instance.Instance.{Instance}
 use Rattle.semantics.specs.Denotation.{Streams}
-use Rattle.automaton.specs.States.{Net, ends_at, entrance_at, tells, wait_at, wait_by}
-use Rattle.automaton.specs.Steps.{pass}
-use Rattle.automaton.specs.declared.line.Hop.{Hop}
+use Rattle.automaton.specs.States.{Net, ends_at, entrance_at, tells, wait_by}
 use Rattle.automaton.specs.declared.network.End.{End}
 use Rattle.automaton.specs.declared.network.Entrance.{Entrance}
 use Rattle.automaton.specs.declared.network.Entrance.TheVariants.{Root, Waiting}
@@ -22,16 +19,15 @@ use Rattle.automaton.specs.declared.wait.Wait.{Wait}
 use Rattle.stream_readers.specs.Finding.{is_wait_on, waits_on}
 use Rattle.epoch_laws.specs.Closing.{Stores, given_by_end, given_by_ends, leaving_by, leaving_state}
 use Rattle.epoch_laws.specs.Epochs.{took}
-use Rattle.epoch_laws.specs.Instances.{begins, bindings_of}
+use Rattle.epoch_laws.specs.Instances.{begins}
 use Rattle.epoch_laws.proofs.Lists.{every}
 use Rattle.epoch_draft.specs.Agenda.{IsUnread, read_at, read_by}
 use Rattle.epoch_draft.specs.Comes.{gets, gets_by}
 use Rattle.epoch_draft.specs.Deriving.{Meets}
 use Rattle.epoch_draft.specs.Drafts.{DraftFits, Grows, without}
-use Rattle.epoch_draft.specs.Meeting.{IsPairOf, ListsAll, moves_of, moves_of_all}
+use Rattle.epoch_draft.specs.Meeting.{IsPairOf, moves_of, moves_of_all}
 use Rattle.epoch_draft.specs.Moves.{Move, moves_from}
 use Rattle.epoch_draft.specs.Pairs.{met}
-use Rattle.epoch_draft.specs.Takes.{take_work, takes_work}
 use Rattle.epoch_draft.specs.declared.draft.Draft.{Draft}
 use Rattle.epoch_draft.specs.declared.draft.Pair.{Pair}
 use Rattle.epoch_draft.proofs.Concats.{nothing_of}

@@ -5,7 +5,7 @@ use Rattle.std.specs.List.{All, filter, flat_map}
 use Rattle.std.specs.List.Sorted.{IsPermutation}
 use Rattle.std.proofs.lemmas.Grind.{flat_map-append}
 use Rattle.std.proofs.lemmas.List.{append-nil, map-append, take_more}
-use Rattle.std.proofs.lemmas.List.Elements.{filter-append}
+use Rattle.std.proofs.lemmas.List.Elements.{All-weaker, filter-append}
 use Rattle.std.proofs.lemmas.List.Sorted.{sum_by-IsPermutation}
 use Rattle.scalar_expr.proofs.Bags.{filter_permuted}
 use Rattle.semantics.proofs.ReportLemmas.{filter_all}
@@ -14,7 +14,8 @@ use Rattle.event_types.specs.Tuple.{TupleView}
 use Rattle.automaton.specs.States.{Net, edges_at, ends_at, wait_at}
 use Rattle.automaton.specs.declared.wait.Turn.{Turn}
 use Rattle.automaton.specs.declared.wait.Wait.{Wait}
-use Rattle.stream_readers.specs.Ways.{Way, backs_by, backs_in, Into, Out, ways_at, is_state_looked_up, is_way_looked_up}
+use Rattle.static_index.proofs.LawLemmas.{matched_is_looked_up}
+use Rattle.stream_readers.specs.Ways.{MeetsParts, Way, backs_by, backs_in, Into, Out, parts_on, ways_at, is_state_looked_up, is_way_looked_up}
 use Rattle.stream_readers.specs.Finding.{FindsWays, waits_on, ways_on}
 use Rattle.epoch_laws.specs.Closing.{Stores}
 use Rattle.epoch_draft.specs.Meeting.{FindsWaits}

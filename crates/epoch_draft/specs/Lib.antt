@@ -6,6 +6,7 @@ pub mod Drafts
 pub mod Drawings
 pub mod Drawn
 pub mod EpochWork
+pub mod Found
 pub mod Held
 pub mod Kindings
 pub mod Led

@@ -2,6 +2,7 @@
 ghost use Rattle.std.specs.Prelude.{◌≡◌, ◌+◌, ◌<◌, ◌≤◌, ◌∷◌, [], ℕ, IsTrue, OnOk, Some, length, map};
 ghost use Rattle.std.specs.List.{All};
 ghost use Rattle.automaton.specs.States.{Net, is_used, step_at};
+ghost use Rattle.automaton.specs.Steps.{pass};
 ghost use Rattle.stream_readers.specs.Ways.{Into, Out, ways_at};
 ghost use Rattle.epoch_laws.specs.Births.{is_after};
 ghost use Rattle.epoch_laws.specs.Instances.{began};
@@ -14,30 +15,32 @@ ghost use Rattle.epoch_draft.specs.Work.{keeps, ways_work};
 use crate::draft::Draft;
 use crate::passing::{pass_made, pass_on};
 use crate::waiting_state::WaitingState;
-use automaton::{End, Network};
+use automaton::{End, Network, Stage};
 use event_types::{Memory, Tuple};
 use instances::Instance;
 use steps::{Ledger, Steps};
 
-/// A tuple that began at the time `first` goes out by an end, where that is after the end's birth. After want of
-/// memory the draft is of no more use.
+/// A tuple that began at the time `first` goes out by an end, where that is after the end's birth. It passes these
+/// stages, which do with it what those of the end do. After want of memory the draft is of no more use.
 pub(crate) fn go_out<L: Ledger>(
     draft: &mut Draft,
     end: &End,
+    step: &[Stage],
     tuple: &Tuple,
     first: u64,
     steps: &mut Steps<L>,
 ) -> Result<(), Memory>
     requires fits { DraftFits (length draft.old.made) (length draft.old.beads) draft.old }
     requires below { end.now.out < length draft.old.made }
-    requires suits { StepSuits end.now.step tuple.now }
+    requires suits { StepSuits step.now tuple.now }
+    requires passes { pass step.now tuple.now ≡ pass end.now.step tuple.now }
     ensures grows { OnOk result ((net : Net) → length draft.old.beads ≡ length net → Grows net (moves_on (Out end.now ∷ []) (began first tuple.now)) draft.old draft.new) }
-    ensures ticks { steps.new ≤ steps.old + keeps end.now.step }
+    ensures ticks { steps.new ≤ steps.old + keeps step.now }
 {
     if !is_read(end.birth, first) {
         return Ok(());
     }
-    match pass_on(draft.alloc, end.step.as_slice(), tuple, steps)? {
+    match pass_on(draft.alloc, step, tuple, steps)? {
         Some(passed) => draft.add_made(end.out, passed),
         None => Ok(()),
     }
@@ -76,23 +79,23 @@ fn is_read(birth: Option<u64>, first: u64) -> bool
     }
 }
 
-/// A tuple that began at the time `first` goes by a forward edge into the state with a number. After want
-/// of memory the draft is of no more use.
+/// A tuple that began at the time `first` goes by a forward edge into the state with a number. It passes these stages,
+/// which do with it what those of the edge do. After want of memory the draft is of no more use.
 pub(crate) fn go_into<L: Ledger>(
-    network: &Network,
     draft: &mut Draft,
     state: usize,
+    step: &[Stage],
     tuple: &Tuple,
     first: u64,
     steps: &mut Steps<L>,
 ) -> Result<(), Memory>
-    requires used { IsTrue (is_used network.now state) }
-    requires fits { DraftFits (length draft.old.made) (length network.now) draft.old }
-    requires suits { StepSuits (step_at network.now state) tuple.now }
-    ensures grows { OnOk result (Grows network.now (moves_on (Into state ∷ []) (began first tuple.now)) draft.old draft.new) }
-    ensures ticks { steps.new ≤ steps.old + keeps (step_at network.now state) }
+    requires fits { DraftFits (length draft.old.made) (length draft.old.beads) draft.old }
+    requires below { state < length draft.old.beads }
+    requires suits { StepSuits step.now tuple.now }
+    ensures grows { OnOk result ((net : Net) → length draft.old.beads ≡ length net → pass step.now tuple.now ≡ pass (step_at net state) tuple.now → Grows net (moves_on (Into state ∷ []) (began first tuple.now)) draft.old draft.new) }
+    ensures ticks { steps.new ≤ steps.old + keeps step.now }
 {
-    match pass_on(draft.alloc, network.step(state).as_slice(), tuple, steps)? {
+    match pass_on(draft.alloc, step, tuple, steps)? {
         Some(passed) => {
             let instance = Instance {
                 tuple: passed,
@@ -120,9 +123,9 @@ fn go_into_all<L: Ledger>(
 {
     for state in states {
         go_into(
-            network,
             draft,
             *state,
+            network.step(*state).as_slice(),
             &instance.tuple,
             instance.first,
             steps,
@@ -146,7 +149,14 @@ fn go_out_all<L: Ledger>(
     ensures ticks { steps.new ≤ steps.old + ways_work network.now (map Out ends.now) }
 {
     for end in ends {
-        go_out(draft, end, &instance.tuple, instance.first, steps)?;
+        go_out(
+            draft,
+            end,
+            end.step.as_slice(),
+            &instance.tuple,
+            instance.first,
+            steps,
+        )?;
     }
     Ok(())
 }

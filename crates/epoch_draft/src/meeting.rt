@@ -4,6 +4,7 @@ ghost use Rattle.std.specs.List.{All, flat_map};
 ghost use Rattle.automaton.specs.Networks.{IsNetwork};
 ghost use Rattle.automaton.specs.States.{is_used};
 ghost use Rattle.stream_readers.specs.Targets.{IsTarget, way_of};
+ghost use Rattle.stream_readers.specs.Ways.{MeetsParts};
 ghost use Rattle.epoch_laws.specs.Instances.{begins};
 ghost use Rattle.epoch_draft.specs.Drafts.{Grows, IsDraftOf};
 ghost use Rattle.epoch_draft.specs.Held.{held};
@@ -19,6 +20,7 @@ use crate::draft::{Draft, Pair};
 use crate::drawing::Drawing;
 use crate::going::{go_into, go_out};
 use crate::matching::meet_wait;
+use crate::passing::left_of;
 use crate::stored_network::StoredNetwork;
 use automaton::Network;
 use event_types::{Memory, StreamId, Tuple};
@@ -65,7 +67,7 @@ fn meet_waits<L: Ledger>(
     Ok(())
 }
 
-// A tuple, which begins here, goes to each of these targets.
+// A tuple, which begins here, goes to each of these targets, by which it was found.
 fn go_all<L: Ledger>(
     network: &Network,
     draft: &mut Draft,
@@ -76,6 +78,7 @@ fn go_all<L: Ledger>(
     requires targets { All (IsTarget network.now) targets.now }
     requires draft { IsDraftOf network.now draft.old }
     requires suits { All (λ target. All (WaySuits network.now tuple.now) (way_of network.now target)) targets.now }
+    requires met { All (λ target. All (MeetsParts network.now tuple.now) (way_of network.now target)) targets.now }
     ensures grows { OnOk result (Grows network.now (moves_on (flat_map (way_of network.now) targets.now) (begins tuple.now)) draft.old draft.new) }
     ensures ticks { steps.new ≤ steps.old + ways_work network.now (flat_map (way_of network.now) targets.now) }
 {
@@ -85,7 +88,7 @@ fn go_all<L: Ledger>(
     Ok(())
 }
 
-// A tuple, which begins here, goes to a target.
+// A tuple, which begins here, goes to a target by which it was found.
 fn go<L: Ledger>(
     network: &Network,
     draft: &mut Draft,
@@ -96,14 +99,19 @@ fn go<L: Ledger>(
     requires target { IsTarget network.now target }
     requires draft { IsDraftOf network.now draft.old }
     requires suits { All (WaySuits network.now tuple.now) (way_of network.now target) }
+    requires met { All (MeetsParts network.now tuple.now) (way_of network.now target) }
     ensures grows { OnOk result (Grows network.now (moves_on (way_of network.now target) (begins tuple.now)) draft.old draft.new) }
     ensures ticks { steps.new ≤ steps.old + ways_work network.now (way_of network.now target) }
 {
     match target {
-        Target::Edge(state) => { go_into(network, draft, state, tuple, tuple.at(), steps) }
+        Target::Edge(state) => {
+            let step = left_of(network.step(state).as_slice());
+            go_into(draft, state, step, tuple, tuple.at(), steps)
+        }
         Target::End(place) => {
             let end = network.ends(place.state).get(place.place);
-            go_out(draft, end, tuple, tuple.at(), steps)
+            let step = left_of(end.step.as_slice());
+            go_out(draft, end, step, tuple, tuple.at(), steps)
         }
     }
 }

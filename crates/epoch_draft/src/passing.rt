@@ -1,6 +1,7 @@
 //! Tuples on their way through steps, with the number of tests.
-ghost use Rattle.std.specs.Prelude.{◌≡◌, ◌+◌, ◌≤◌, IfOk};
+ghost use Rattle.std.specs.Prelude.{◌≡◌, ◌+◌, ◌≤◌, IfOk, IsTrue};
 ghost use Rattle.automaton.specs.Steps.{pass};
+ghost use Rattle.epoch_draft.specs.Found.{IsFixedStage, IsLeftOf};
 ghost use Rattle.epoch_draft.specs.Suits.{StepSuits};
 ghost use Rattle.epoch_draft.specs.Work.{keeps};
 
@@ -61,5 +62,26 @@ pub(crate) fn pass_made<L: Ledger>(
             let made = apply(alloc, projection, &tuple, None, tuple.from(), tuple.at())?;
             pass_made(alloc, rest, made, steps)
         }
+    }
+}
+
+/// What a tuple has still to pass of a step by whose first fixed parts it was found: a condition of nothing but
+/// fixed parts isn't tested again. Takes no memory.
+pub(crate) fn left_of(step: &[Stage]) -> &[Stage]
+    ensures { IsLeftOf step.now result.now }
+{
+    match step.first() {
+        Some(stage) if is_fixed_stage(stage) => &step[1..],
+        _ => step,
+    }
+}
+
+// Whether a stage is a condition of fixed parts alone.
+fn is_fixed_stage(stage: &Stage) -> bool
+    ensures { IsTrue result → IsFixedStage stage.now }
+{
+    match stage {
+        Stage::Keep(condition) => condition.is_fixed(),
+        Stage::Make(_) => false,
     }
 }

@@ -1,4 +1,4 @@
-use Rattle.std.proofs.Common.{◌≡◌, ◌∙◌, sym, subst, ℕ, ◌+◌, ◌<◌, false, get_or, List}
+use Rattle.std.proofs.Common.{◌∙◌, sym, subst, ◌+◌, ◌<◌, false, get_or}
 use Rattle.std.proofs.lemmas.List.Elements.{All-get_or}
 use Rattle.std.proofs.lemmas.Option.{get_or_from_slice_get}
 use Rattle.epoch_draft.proofs.AgendaLemmas.{ArePlacesUpTo, places_more, places_skip}

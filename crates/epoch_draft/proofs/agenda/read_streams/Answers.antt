@@ -1,4 +1,4 @@
-use Rattle.std.proofs.Common.{◌≡◌, ◌∙◌, sym, subst, ℕ, ◌+◌, ◌≤◌, length, arith}
+use Rattle.std.proofs.Common.{◌∙◌, sym, subst, ◌+◌, ◌≤◌, length, arith}
 use Rattle.epoch_draft.proofs.AgendaLemmas.{AreReadBelow, read_all, read_more, read_none}
 use Rattle.epoch_draft.proofs.agenda.read_streams.Goals.{in-Some, in-None}
 use Rattle.epoch_draft.proofs.agenda.read_streams.Goals as goal

@@ -2,7 +2,6 @@ use Rattle.std.proofs.Common.{◌<◌, ◌≤◌, ◌∙◌, ap, sym, ℕ, List,
 use Rattle.std.proofs.lemmas.List.Elements.{All-get_or}
 use Rattle.std.proofs.lemmas.Option.{get_or_from_slice_get}
 use Rattle.event_types.specs.Order.{sorted}
-use Rattle.event_types.specs.Tuple.{TupleView}
 use Rattle.epoch_draft.proofs.Lists.{taken_all}
 use Rattle.epoch_draft.proofs.OrderLemmas.{OrderedSoFar, ordered_all, ordered_more, ordered_none}
 use Rattle.epoch_draft.proofs.draft.put_all_in_order.Goals as goal

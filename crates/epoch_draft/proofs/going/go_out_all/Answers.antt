@@ -1,5 +1,6 @@
-use Rattle.std.proofs.Common.{◌+◌, ◌≤◌, ◌∷◌, [], subst, arith}
+use Rattle.std.proofs.Common.{◌+◌, ◌≤◌, ◌∷◌, [], List, subst, arith}
 use Rattle.automaton.specs.declared.network.End.{End}
+use Rattle.automaton.specs.declared.step.Stage.{Stage}
 use Rattle.stream_readers.specs.Ways.{Out}
 use Rattle.epoch_draft.specs.Drafts.{Grows}
 use Rattle.epoch_draft.specs.Moves.{moves_on}
@@ -18,7 +19,7 @@ loop-end-preserved g c =
     let lt = c.loop-end-test.true in
     let more = ways_more Out net ends i end lt in
     let was = c.loop-end.invariant.ticks in
-    let one = subst (λ (e : End). c.go_out.new.steps ≤ c.loop-end.steps + keeps e.step) c.end-item.is c.in_ok-go_out.ensures.ticks in
+    let one = subst (λ (e : End). c.go_out.new.steps ≤ c.loop-end.steps + keeps e.step) c.end-item.is (subst (λ (step : List Stage). c.go_out.new.steps ≤ c.loop-end.steps + keeps step) c.as_slice.ensures c.in_ok-go_out.ensures.ticks) in
     record {
       grows =
           go_more Out net ends i end c.args.instance.now c.args.draft.now c.loop-end.draft c.go_out.new.draft lt c.loop-end.invariant.grows
@@ -32,4 +33,4 @@ returns-in_err-go_out-clause-ticks g c =
     let end = c.end-item.result in
     let part = ways_part Out c.args.network.now c.args.ends.now c.loop-end.end-index end c.loop-end-test.true in
     let was = c.loop-end.invariant.ticks in
-    let one = subst (λ (e : End). c.go_out.new.steps ≤ c.loop-end.steps + keeps e.step) c.end-item.is c.go_out.ensures.ticks in omega (arith, part, was, one)
+    let one = subst (λ (e : End). c.go_out.new.steps ≤ c.loop-end.steps + keeps e.step) c.end-item.is (subst (λ (step : List Stage). c.go_out.new.steps ≤ c.loop-end.steps + keeps step) c.as_slice.ensures c.go_out.ensures.ticks) in omega (arith, part, was, one)

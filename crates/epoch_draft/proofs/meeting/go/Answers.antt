@@ -2,13 +2,16 @@ use Rattle.std.proofs.Common.{◌≡◌, ◌∙◌, sym, ap, subst, ℕ, ◌<◌
 use Rattle.std.specs.Prelude.{Option, Some, slice_get}
 use Rattle.std.specs.List.{All}
 use Rattle.std.proofs.lemmas.List.Elements.{All-head}
-use Rattle.automaton.specs.States.{Net, ends_at}
+use Rattle.automaton.specs.States.{Net, ends_at, step_at}
+use Rattle.automaton.specs.Steps.{pass}
 use Rattle.automaton.specs.declared.network.End.{End}
+use Rattle.automaton.specs.declared.step.Stage.{Stage}
 use Rattle.stream_readers.specs.Targets.{out_by, way_of}
-use Rattle.stream_readers.specs.Ways.{Into, Out, Way}
+use Rattle.stream_readers.specs.Ways.{Into, MeetsParts, Out, Way}
 use Rattle.stream_readers.specs.declared.target.Target.{Target}
 use Rattle.epoch_laws.specs.Instances.{began, begins}
 use Rattle.epoch_draft.specs.Drafts.{Grows}
+use Rattle.epoch_draft.specs.Found.{IsLeftOf}
 use Rattle.epoch_draft.specs.Moves.{moves_on}
 use Rattle.epoch_draft.specs.Suits.{WaySuits}
 use Rattle.epoch_draft.proofs.Lists.{all_at}
@@ -19,7 +22,8 @@ pub go_into-requires-clause-suits : goal.go_into-requires-clause-suits
 go_into-requires-clause-suits g c =
     let net = c.args.network.now in
     let x = c.args.tuple.now in
-    All-head (WaySuits net x) (Into c.in-Edge.state) [] (subst (λ (t : Target). All (WaySuits net x) (way_of net t)) c.in-Edge.is c.requires.suits)
+    let left = subst (λ (step : List Stage). IsLeftOf step c.left_of-step.result.now) (c.as_slice.ensures ∙ c.step.ensures) c.left_of-step.ensures in
+    left.suits x (All-head (WaySuits net x) (Into c.in-Edge.state) [] (subst (λ (t : Target). All (WaySuits net x) (way_of net t)) c.in-Edge.is c.requires.suits))
 
 pub go_out-requires-clause-below : goal.go_out-requires-clause-below
 go_out-requires-clause-below g c =
@@ -36,10 +40,38 @@ go_out-requires-clause-suits g c =
     let place = c.in-End.place in
     let end = c.get-end.result.now in
     let got : slice_get (ends_at net place.state) place.place ≡ Some end = ap (λ es. slice_get es place.place) (sym c.ends.ensures) ∙ c.get-end.ensures in
-    All-head (WaySuits net x) (Out end) []
-    (subst (λ (o : Option End). All (WaySuits net x) (out_by o)) got (subst (λ (t : Target). All (WaySuits net x) (way_of net t)) c.in-End.is c.requires.suits))
+    let left = subst (λ (step : List Stage). IsLeftOf step c.left_of-step-in-End.result.now) c.as_slice-in-End.ensures c.left_of-step-in-End.ensures in
+    left.suits x
+    (All-head (WaySuits net x) (Out end) []
+    (subst (λ (o : Option End). All (WaySuits net x) (out_by o)) got (subst (λ (t : Target). All (WaySuits net x) (way_of net t)) c.in-End.is c.requires.suits)))
+
+pub go_out-requires-clause-passes : goal.go_out-requires-clause-passes
+go_out-requires-clause-passes g c =
+    let net = c.args.network.now in
+    let x = c.args.tuple.now in
+    let place = c.in-End.place in
+    let end = c.get-end.result.now in
+    let got : slice_get (ends_at net place.state) place.place ≡ Some end = ap (λ es. slice_get es place.place) (sym c.ends.ensures) ∙ c.get-end.ensures in
+    let left = subst (λ (step : List Stage). IsLeftOf step c.left_of-step-in-End.result.now) c.as_slice-in-End.ensures c.left_of-step-in-End.ensures in
+    left.passes x
+    (All-head (MeetsParts net x) (Out end) []
+    (subst (λ (o : Option End). All (MeetsParts net x) (out_by o)) got (subst (λ (t : Target). All (MeetsParts net x) (way_of net t)) c.in-End.is c.requires.met)))
 
 -- the tuple begins at its detection
+pub returns-in-Edge-clause-grows : goal.returns-in-Edge-clause-grows
+returns-in-Edge-clause-grows g c =
+    let net = c.args.network.now in
+    let x = c.args.tuple.now in
+    let old = c.args.draft.now in
+    let new = c.go_into.new.draft in
+    let next = c.in-Edge.state in
+    let left = subst (λ (step : List Stage). IsLeftOf step c.left_of-step.result.now) (c.as_slice.ensures ∙ c.step.ensures) c.left_of-step.ensures in
+    let passes = left.passes x (All-head (MeetsParts net x) (Into next) [] (subst (λ (t : Target). All (MeetsParts net x) (way_of net t)) c.in-Edge.is c.requires.met)) in
+    on_ok c.go_into.result ((any : Net) → length old.beads ≡ length any → pass c.left_of-step.result.now x ≡ pass (step_at any next) x → Grows any (moves_on (Into next ∷ []) (began c.at.result x)) old new)
+    (Grows net (moves_on (way_of net c.args.target) (begins x)) old new)
+    (λ grows. subst (λ (ws : List Way). Grows net (moves_on ws (begins x)) old new) (sym (ap (way_of net) c.in-Edge.is))
+    (subst (λ (at : ℕ). Grows net (moves_on (Into next ∷ []) (began at x)) old new) c.at.ensures.value (grows net c.requires.draft.fits.beads passes))) c.go_into.ensures.grows
+
 pub returns-in-End-clause-grows : goal.returns-in-End-clause-grows
 returns-in-End-clause-grows g c =
     let net = c.args.network.now in

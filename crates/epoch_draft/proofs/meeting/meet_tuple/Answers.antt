@@ -2,6 +2,7 @@ use Rattle.std.proofs.Common.{◌≡◌, sym, subst, ℕ, ◌+◌, ◌≤◌, �
 use Rattle.std.specs.List.{All, flat_map}
 use Rattle.automaton.specs.States.{is_used}
 use Rattle.stream_readers.specs.Targets.{way_of}
+use Rattle.stream_readers.specs.Ways.{MeetsParts}
 use Rattle.stream_readers.specs.declared.target.Target.{Target}
 use Rattle.epoch_laws.specs.Instances.{begins}
 use Rattle.epoch_draft.specs.Drafts.{Grows}
@@ -14,7 +15,7 @@ use Rattle.epoch_draft.proofs.DraftLemmas.{draft_of}
 use Rattle.epoch_draft.proofs.LedLemmas.{finds_all}
 use Rattle.epoch_draft.proofs.Lists.{on_ok}
 use Rattle.epoch_draft.proofs.WorkLemmas.{states_less, ways_less}
-use Rattle.epoch_draft.proofs.MeetLemmas.{found_all, found_grows, found_ways, waits_used}
+use Rattle.epoch_draft.proofs.MeetLemmas.{all_flat, found_all, found_grows, found_ways, waits_used}
 use Rattle.epoch_draft.proofs.meeting.meet_tuple.Goals as goal
 
 pub go_all-requires-clause-suits : goal.go_all-requires-clause-suits
@@ -23,6 +24,13 @@ go_all-requires-clause-suits g c =
     let s = c.args.stream in
     let t = c.args.tuple.now in
     subst (All (λ (target : Target). All (WaySuits net t) (way_of net target))) (sym c.as_slice.ensures) (found_ways (WaySuits net t) net s t c.find_targets.new.found.targets (c.in_ok-find_targets.ensures net c.requires.stored.network c.requires.stored.readers) c.requires.suits.roots)
+
+pub go_all-requires-clause-met : goal.go_all-requires-clause-met
+go_all-requires-clause-met g c =
+    let net = c.args.stored.now.network.now in
+    let t = c.args.tuple.now in
+    subst (All (λ (target : Target). All (MeetsParts net t) (way_of net target))) (sym c.as_slice.ensures)
+    (all_flat (MeetsParts net t) (way_of net) c.find_targets.new.found.targets (c.in_ok-find_targets.ensures net c.requires.stored.network c.requires.stored.readers).met)
 
 pub meet_waits-requires-clause-used : goal.meet_waits-requires-clause-used
 meet_waits-requires-clause-used g c =

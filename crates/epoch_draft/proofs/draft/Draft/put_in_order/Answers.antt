@@ -1,8 +1,7 @@
-use Rattle.std.proofs.Common.{◌≡◌, ◌∙◌, ap, inl, inr, sym, subst, ◌<◌, ◌⊎◌, ℕ, length, get_or, List, []}
+use Rattle.std.proofs.Common.{◌≡◌, ◌∙◌, ap, inl, inr, sym, subst, ◌<◌, ◌⊎◌, ℕ, get_or, List, []}
 use Rattle.std.specs.Prelude.{Contains}
 use Rattle.std.specs.List.{All}
 use Rattle.event_types.specs.Order.{sorted}
-use Rattle.event_types.specs.Tuple.{TupleView}
 use Rattle.epoch_draft.proofs.MarkLemmas.{all_below}
 use Rattle.epoch_draft.proofs.draft.Draft.put_in_order.Goals as goal
 
