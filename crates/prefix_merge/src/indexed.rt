@@ -1,10 +1,10 @@
 //! Networks whose waiting states are found by how they are entered.
-ghost use Rattle.std.specs.Prelude.{◌≡◌, ◌≢◌, ◌<◌, ◌≤◌, ◌-◌, ℕ, [], Contains, IfNone, IfSome, IsTrue, OnErr, OnOk, Some, false, length, take};
+ghost use Rattle.std.specs.Prelude.{◌≡◌, ◌≢◌, ◌<◌, ◌≤◌, ◌-◌, ◌==◌, ℕ, [], Contains, IfNone, IfSome, IsTrue, OnErr, OnOk, Some, count_by, false, if◌then◌else◌, length, take};
 ghost use Rattle.automaton.specs.Changes.{AddsEnd, AddsHop, AddsRoot, RemovesEnd, RemovesState};
 ghost use Rattle.automaton.specs.Networks.{IsNetwork};
 ghost use Rattle.automaton.specs.States.{edges_at, entrance_at, is_used};
 ghost use Rattle.automaton.specs.declared.network.Entrance.TheVariants.{Waiting};
-ghost use Rattle.prefix_merge.specs.Buckets.{bucket_at};
+ghost use Rattle.prefix_merge.specs.Buckets.{HaveSame, IsPut, IsTakenFrom, IsTakenOut};
 
 use crate::hashing::entrance_hash;
 use automaton::{End, Hop, Network};
@@ -77,6 +77,7 @@ impl Indexed {
     }
 
     // A root state comes, without edges and ends.
+    #[tactic(auto, using(crate::proofs::BucketLemmas::buckets_root))]
     pub(crate) fn add_root(
         &mut self,
         alloc: Global,
@@ -142,6 +143,7 @@ impl Indexed {
     }
 
     // Forgets the last place, which no state has.
+    #[tactic(auto, using(crate::proofs::BucketLemmas::buckets_shrunk))]
     pub(crate) fn shrink(&mut self)
         requires some { 0 < length self.old }
         requires free { is_used self.old (length self.old - 1) ≡ false }
@@ -166,8 +168,8 @@ fn first_entered(network: &Network, states: &[usize], before: usize, hop: &Hop) 
 
 // Puts a state into the bucket of a hash.
 fn put(alloc: Global, buckets: &mut Buckets, hash: u64, state: usize) -> Result<(), Memory>
-    ensures ok { OnOk result (Contains (bucket_at buckets.new hash) state) }
-    ensures kept { (other n : ℕ) → Contains (bucket_at buckets.old other) n → Contains (bucket_at buckets.new other) n }
+    ensures ok { OnOk result (IsPut hash state buckets.old buckets.new) }
+    ensures kept { OnErr result (HaveSame buckets.old buckets.new) }
 {
     if let Some(states) = buckets.get_mut(&hash) {
         return states.add(state);
@@ -181,7 +183,7 @@ fn put(alloc: Global, buckets: &mut Buckets, hash: u64, state: usize) -> Result<
 // Takes a state out of its bucket, where it is a waiting state.
 fn take_waiting(buckets: &mut Buckets, network: &Network, state: usize)
     requires { IsTrue (is_used network.now state) }
-    ensures { (other n : ℕ) → n ≢ state → Contains (bucket_at buckets.old other) n → Contains (bucket_at buckets.new other) n }
+    ensures { IsTakenFrom network.now state buckets.old buckets.new }
 {
     if let (Some(before), Some(wait)) = (network.before(state), network.wait(state)) {
         let hash = entrance_hash(before, network.step(state), wait);
@@ -191,7 +193,7 @@ fn take_waiting(buckets: &mut Buckets, network: &Network, state: usize)
 
 // Takes a state out of the bucket of a hash, and an empty bucket away.
 fn take_out(buckets: &mut Buckets, hash: u64, state: usize)
-    ensures { (other n : ℕ) → n ≢ state → Contains (bucket_at buckets.old other) n → Contains (bucket_at buckets.new other) n }
+    ensures { IsTakenOut hash state buckets.old buckets.new }
 {
     let Some(states) = buckets.get_mut(&hash) else {
         return;
@@ -202,9 +204,9 @@ fn take_out(buckets: &mut Buckets, hash: u64, state: usize)
     }
 }
 
-// Takes a number out, where it stands.
+// Takes a number out once, where it stands.
 fn drop_number(numbers: &mut Numbers, number: usize)
-    ensures { (n : ℕ) → n ≢ number → Contains numbers.old n → Contains numbers.new n }
+    ensures { (n : ℕ) → count_by (λ other. other == n) numbers.new ≡ count_by (λ other. other == n) numbers.old - (if number == n then 1 else 0) }
 {
     for place in 0..numbers.len() {
         if *numbers.get(place) == number {
