@@ -167,8 +167,8 @@ buckets_kept buckets number old new are here others = same_hashes buckets old ne
     by_number hash n (inl same) = ap (λ m. has_hash hash (entrance_at new m)) same ∙ ap (has_hash hash) here ∙ sym (ap (λ m. has_hash hash (entrance_at old m)) same)
     by_number hash n (inr apart) = ap (λ slot. has_hash hash (entrance_in slot)) (others n apart)
 
--- where the last place goes, which no state has
-module _ {S : Type 0} (buckets : HashMap ℕ (List ℕ) S) (old : Net) (are : AreInBuckets buckets old) (some : 0 < length old) (free : is_used old (length old - 1) ≡ false) where
+-- where the last place goes, which no state has, each number has the same state
+module _ (old : Net) (some : 0 < length old) (free : is_used old (length old - 1) ≡ false) where
   nothing_behind : (n : ℕ) → length old - 1 ≤ n → state_at old n ≡ None
   nothing_behind n past = go (are_same_or_not n (length old - 1))
     where
@@ -176,12 +176,16 @@ module _ {S : Type 0} (buckets : HashMap ℕ (List ℕ) S) (old : Net) (are : Ar
       go (inl same) = ap (state_at old) same ∙ nothing_there (state_at old (length old - 1)) free
       go (inr more) = get_or_past old n None (omega (arith, past, more, some))
 
-  short_states : (n : ℕ) → (n < length old - 1) ⊎ (length old - 1 ≤ n) → state_at (take (length old - 1) old) n ≡ state_at old n
-  short_states n (inl below) = get_or-take (length old - 1) old n None below
-  short_states n (inr past) = get_or_past (take (length old - 1) old) n None (let short = length-take (length old - 1) old in omega (arith, short, past)) ∙ sym (nothing_behind n past)
+  pub short_states : (n : ℕ) → state_at (take (length old - 1) old) n ≡ state_at old n
+  short_states n = by_order (cases_lt n (length old - 1))
+    where
+      by_order : (n < length old - 1) ⊎ (length old - 1 ≤ n) → state_at (take (length old - 1) old) n ≡ state_at old n
+      by_order (inl below) = get_or-take (length old - 1) old n None below
+      by_order (inr past) = get_or_past (take (length old - 1) old) n None (let short = length-take (length old - 1) old in omega (arith, short, past)) ∙ sym (nothing_behind n past)
 
-  pub buckets_shrunk : AreInBuckets buckets (take (length old - 1) old)
-  buckets_shrunk = same_hashes buckets old (take (length old - 1) old) are (λ hash n. ap (λ slot. has_hash hash (entrance_in slot)) (short_states n (cases_lt n (length old - 1))))
+-- so buckets stay
+pub buckets_shrunk : {S : Type 0} (buckets : HashMap ℕ (List ℕ) S) (old : Net) → AreInBuckets buckets old → 0 < length old → is_used old (length old - 1) ≡ false → AreInBuckets buckets (take (length old - 1) old)
+buckets_shrunk buckets old are some free = same_hashes buckets old (take (length old - 1) old) are (λ hash n. ap (λ slot. has_hash hash (entrance_in slot)) (short_states old some free n))
 
 -- a waiting state stands in the bucket of its hash
 pub waiting_in : {S : Type 0} (buckets : HashMap ℕ (List ℕ) S) (net : Net) (number before : ℕ) (hop : Hop) → AreInBuckets buckets net → entrance_at net number ≡ Some (entrance.Waiting before hop) → Contains (bucket_at buckets (hash_of before hop.step hop.wait)) number

@@ -1,22 +1,23 @@
 -- Merged networks that grow by a state, an end, and a line.
-use Rattle.std.proofs.Common.{◌≡◌, ◌⊎◌, ◌∙◌, sym, ap, subst, inl, inr, ℕ, ◌<◌, ◌≤◌, Bool, true, false, IsTrue, length, arith}
+use Rattle.std.proofs.Common.{◌≡◌, ◌⊎◌, ◌∙◌, sym, ap, refl, subst, inl, inr, ℕ, ◌-◌, ◌<◌, ◌≤◌, Bool, true, false, cond, IsTrue, length, [], ◌∷◌, ◌++◌, append-nil, arith}
 use Rattle.std.specs.Prelude.{Contains, Some, is_some}
-use Rattle.std.specs.List.{list_any}
+use Rattle.std.specs.List.{filter, list_any}
 use Rattle.std.specs.Option.{option_and_then}
 use Rattle.std.proofs.lemmas.Bool.{cases_lt}
+use Rattle.std.proofs.lemmas.List.Elements.{filter-append}
 use Rattle.automaton.specs.declared.line.Hop.{Hop}
 use Rattle.automaton.specs.declared.network.End.{End}
 use Rattle.automaton.specs.declared.network.Entrance.TheVariants as entrance
 use Rattle.automaton.specs.Changes.{AddsHop}
 use Rattle.automaton.specs.Networks.{IsAt, IsNetwork}
 use Rattle.automaton.specs.Prefixes.{Prefix, Root, After, beginnings}
-use Rattle.automaton.specs.States.{Net, before_at, before_by, ends_at, ends_in, entrance_at, entrance_in, is_used, root_at, root_by, root_in, state_at}
-use Rattle.automaton.proofs.ChangeLemmas.{adds_hop_network, free_kept, free_reads, hop_apart, hop_entry}
+use Rattle.automaton.specs.States.{Net, before_at, before_by, edges_at, ends_at, ends_in, entrance_at, entrance_in, is_used, root_at, root_by, root_in, state_at}
+use Rattle.automaton.proofs.ChangeLemmas.{adds_hop_network, edges_before, free_kept, free_reads, hop_apart, hop_edges, hop_entry}
 use Rattle.automaton.proofs.ClearedLemmas.{before_used}
 use Rattle.automaton.proofs.NumberLemmas.{are_same_or_not}
 use Rattle.automaton.proofs.SlotLemmas.{KeepsEntries, at_kept, at_one, at_used, edge_ends, entry_there, used_below}
 use Rattle.prefix_merge.specs.Insertion.{TakesLowest}
-use Rattle.prefix_merge.specs.Merging.{HasPrefix, IsLowestFree, IsUsedBy}
+use Rattle.prefix_merge.specs.Merging.{EndsInState, HasPrefix, IsLowestFree, IsUsedBy}
 use Rattle.prefix_merge.proofs.PrefixLemmas.{begins_before, begins_itself}
 
 -- a state isn't both there and not there
@@ -54,10 +55,12 @@ pub record IsGrowing (old base : Net) (prefix : Prefix) (tip : ℕ) (net : Net) 
   pub needed : (number : ℕ) (p : Prefix) → IsAt net number p → (IsUsedBy net any_end p) ⊎ (Contains (beginnings prefix) p)
   pub stay : (number : ℕ) → IsTrue (is_used old number) → entrance_at net number ≡ entrance_at old number
   pub same_ends : (number : ℕ) → ends_at net number ≡ ends_at old number
+  pub old_edges : (number : ℕ) → filter (is_used old) (edges_at net number) ≡ edges_at old number
   pub came : (p : Prefix) → HasPrefix net p → (HasPrefix old p) ⊎ (Contains (beginnings prefix) p)
   pub numbers : TakesLowest old net
   pub roots : (number : ℕ) → root_at net number ≡ root_at base number
   pub longer : length old ≤ length net
+  pub last : EndsInState net
 
 -- a state that wasn't there comes
 module _ (net grown : Net) (number : ℕ) (is : IsNetwork net) (free : is_used net number ≡ false) (entries : (other : ℕ) → (other ≡ number → ⊥) → entrance_at grown other ≡ entrance_at net other) where
@@ -206,6 +209,34 @@ module _ (old base : Net) (prefix : Prefix) (tip number : ℕ) (hop : Hop) (net 
       let was : is_used net n ≡ true = sym (entry_there (state_at net n)) ∙ ap is_some (growing.stay n used) ∙ entry_there (state_at old n) ∙ used in
       entries n (λ e. not_both net n was (ap (is_used net) e ∙ lowest.free)) ∙ growing.stay n used
 
+  -- the new state isn't an old one
+  new_free : is_used old number ≡ false
+  new_free = by_use (is_used old number) refl
+    where
+      by_use : (b : Bool) → is_used old number ≡ b → b ≡ false
+      by_use false free = refl
+      by_use true used = absurd (not_both net number (sym (entry_there (state_at net number)) ∙ ap is_some (growing.stay number used) ∙ entry_there (state_at old number) ∙ used) lowest.free)
+
+  hop_old_edges : (n : ℕ) → filter (is_used old) (edges_at grown n) ≡ edges_at old n
+  hop_old_edges n = by_number (are_same_or_not n tip)
+    where
+      by_number : (n ≡ tip) ⊎ (n ≡ tip → ⊥) → filter (is_used old) (edges_at grown n) ≡ edges_at old n
+      by_number (inl same) =
+          ap (λ m. filter (is_used old) (edges_at grown m)) same ∙ ap (filter (is_used old)) (edges_before number tip hop net grown lowest.free tip_used adds growing.network)
+          ∙ filter-append (is_used old) (edges_at net tip) (number ∷ []) ∙ (λ i. filter (is_used old) (edges_at net tip) ++ cond (new_free i) (number ∷ []) []) ∙ append-nil (filter (is_used old) (edges_at net tip))
+          ∙ growing.old_edges tip ∙ ap (edges_at old) (sym same)
+      by_number (inr nt) = ap (filter (is_used old)) (hop_edges number tip hop net grown lowest.free tip_used adds growing.network n nt) ∙ growing.old_edges n
+
+  -- the last place is a state's
+  hop_last : EndsInState grown
+  hop_last some = by_order (cases_lt number (length net))
+    where
+      by_order : (number < length net) ⊎ (length net ≤ number) → is_used grown (length grown - 1) ≡ true
+      by_order (inl inside) =
+          let same : length grown - 1 ≡ length net - 1 = let places = adds.places in omega (arith, places, inside) in
+          ap (is_used grown) same ∙ used_forth net grown number growing.network lowest.free entries (length net - 1) (growing.last (omega (arith, inside)))
+      by_order (inr past) = let same : length grown - 1 ≡ number = let places = adds.places in omega (arith, places, past) in ap (is_used grown) same ∙ ap is_some adds.here
+
   -- a network grows by a hop
   pub hop_growing : IsGrowing old base (After prefix hop) number grown
   hop_growing = record {
@@ -215,8 +246,10 @@ module _ (old base : Net) (prefix : Prefix) (tip number : ℕ) (hop : Hop) (net 
     needed = hop_needed;
     stay = hop_stay;
     same_ends = λ n. ends_kept n ∙ growing.same_ends n;
+    old_edges = hop_old_edges;
     came = hop_came;
     numbers = record { lowest = hop_lowest; rising = hop_rising };
     roots = hop_roots;
     longer = (let places = adds.places in let was = growing.longer in omega arith);
+    last = hop_last;
   }

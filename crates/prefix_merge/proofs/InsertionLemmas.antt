@@ -1,18 +1,20 @@
 -- A line that comes to a merged network.
-use Rattle.std.proofs.Common.{◌≡◌, ◌⊎◌, ◌∙◌, ◌↔◌, sym, ap, refl, subst, inl, inr, ℕ, ◌<◌, ◌≤◌, true, false, cond, nat_eq, length, get_or, drop, take, List, [], ◌∷◌, ◌++◌, arith}
+use Rattle.std.proofs.Common.{◌≡◌, ◌⊎◌, ◌∙◌, ◌↔◌, sym, ap, refl, subst, inl, inr, ℕ, zero, suc, ◌<◌, ◌≤◌, ◌==◌, true, false, not, cond, nat_eq, length, get_or, drop, take, List, [], ◌∷◌, ◌++◌, append-nil, arith}
 use Rattle.std.specs.Prelude.{Option, Some, None, slice_get}
 use Rattle.std.specs.HashMap.{HashMap, get}
 use Rattle.std.specs.Option.{option_and_then}
 use Rattle.std.proofs.Math.Seq.{drop-cons}
 use Rattle.std.proofs.lemmas.Bool.{cases_lt}
+use Rattle.std.proofs.lemmas.List.Elements.{filter-append}
 use Rattle.std.proofs.lemmas.List.{drop_all, take-append-drop}
 use Rattle.std.proofs.lemmas.Option.{slice_get-get_or}
 use Rattle.automaton.specs.declared.line.Hop.{Hop}
 use Rattle.automaton.specs.declared.line.Line.{Line}
-use Rattle.automaton.specs.Changes.{AddsRoot}
+use Rattle.automaton.specs.declared.network.End.{End}
+use Rattle.automaton.specs.Changes.{AddsRoot, without_numbered}
 use Rattle.automaton.specs.Networks.{IsAt, IsNetwork}
 use Rattle.automaton.specs.Prefixes.{Prefix, Root, extended, path}
-use Rattle.automaton.specs.States.{Net, before_by, is_used, root_at, root_in}
+use Rattle.automaton.specs.States.{Net, before_by, ends_at, is_used, root_at, root_in}
 use Rattle.automaton.proofs.ChangeLemmas.{free_reads}
 use Rattle.event_types.proofs.NumberLemmas.{is_other, is_same}
 use Rattle.automaton.proofs.NumberLemmas.{are_same_or_not}
@@ -20,8 +22,9 @@ use Rattle.automaton.proofs.RootLemmas.{whole_none}
 use Rattle.automaton.proofs.SlotLemmas.{at_used}
 use Rattle.prefix_merge.specs.Growth.{AreUsedBelow, Grows, IsTable, Keeps, Reaches, end_of}
 use Rattle.prefix_merge.specs.Insertion.{Inserts}
-use Rattle.prefix_merge.specs.Merging.{HasEnd, IsLowestFree, IsMerged}
+use Rattle.prefix_merge.specs.Merging.{EndsInState, HasEnd, IsLowestFree, IsMerged, ends_numbered}
 use Rattle.prefix_merge.proofs.EndingLemmas.{endings_are, ends_are, own_numbers}
+use Rattle.prefix_merge.proofs.RemovalLemmas.{none_numbered}
 use Rattle.prefix_merge.proofs.StartLemmas.{HasGrown, found_growing, line_grown, none_from_root, root_growing}
 
 -- a prefix with hops behind it, and more hops
@@ -38,26 +41,47 @@ first_hop hops place hop rest is = by_order (cases_lt place (length hops))
     by_order (inr past) = let none = drop_all place hops past in let no : [] ≡ hop ∷ rest = sym none ∙ is in cc
 
 -- the line grows from a state that it has reached
-pub grown_from : (old new : Net) (line : Line) (state place end : ℕ) (birth : Option ℕ) → IsNetwork old → IsMerged old → Reaches old line state place → Grows state (drop place line.hops) (end_of line end birth) old new → HasGrown old old (path line) (end_of line end birth) new
-grown_from old new line state place end birth network merged reached grows =
+pub grown_from : (old new : Net) (line : Line) (state place end : ℕ) (birth : Option ℕ) → IsNetwork old → IsMerged old → EndsInState old → Reaches old line state place → Grows state (drop place line.hops) (end_of line end birth) old new → HasGrown old old (path line) (end_of line end birth) new
+grown_from old new line state place end birth network merged last reached grows =
     subst (λ whole. HasGrown old old whole (end_of line end birth) new) (extended-append (Root line.root) (take place line.hops) (drop place line.hops) ∙ ap (extended (Root line.root)) (take-append-drop place line.hops))
-    (line_grown old old (drop place line.hops) (extended (Root line.root) (take place line.hops)) state (end_of line end birth) old new (found_growing old (extended (Root line.root) (take place line.hops)) state network merged reached.here)
+    (line_grown old old (drop place line.hops) (extended (Root line.root) (take place line.hops)) state (end_of line end birth) old new (found_growing old (extended (Root line.root) (take place line.hops)) state network merged last reached.here)
     (λ hop rest next is. reached.last hop next (first_hop line.hops place hop rest is)) grows)
 
 -- and from a root state of its own
-pub grown_whole : (old new base : Net) (line : Line) (number end : ℕ) (birth : Option ℕ) → IsNetwork old → IsMerged old → ((n : ℕ) → root_at old n ≡ Some line.root → ⊥) → IsLowestFree old number → AddsRoot number line.root old base
+pub grown_whole : (old new base : Net) (line : Line) (number end : ℕ) (birth : Option ℕ) → IsNetwork old → IsMerged old → EndsInState old → ((n : ℕ) → root_at old n ≡ Some line.root → ⊥) → IsLowestFree old number → AddsRoot number line.root old base
     → Grows number line.hops (end_of line end birth) base new → HasGrown old base (path line) (end_of line end birth) new
-grown_whole old new base line number end birth network merged no_root lowest adds grows =
-    line_grown old base line.hops (Root line.root) number (end_of line end birth) base new (root_growing old base number line.root network merged no_root lowest adds)
-    (λ hop rest next is entered. none_from_root old base number line.root network merged no_root lowest adds next (ap (option_and_then before_by) entered)) grows
+grown_whole old new base line number end birth network merged last no_root lowest adds grows =
+    line_grown old base line.hops (Root line.root) number (end_of line end birth) base new (root_growing old base number line.root network merged last no_root lowest adds)
+    (λ hop rest next is entered. none_from_root old base number line.root network merged last no_root lowest adds next (ap (option_and_then before_by) entered)) grows
+
+-- the ends of before, where none had the number
+module _ (old base new : Net) (line : Line) (end : ℕ) (birth : Option ℕ) (grown : HasGrown old base (path line) (end_of line end birth) new) (fresh : HasEnd old end → ⊥) where
+  without_old : (number : ℕ) → without_numbered end (ends_at old number) ≡ ends_at old number
+  without_old number = none_numbered end (ends_at old number) (none_there (ends_numbered old end number) refl)
+    where
+      none_there : (n : ℕ) → ends_numbered old end number ≡ n → n ≡ 0
+      none_there zero is = refl
+      none_there (suc n) is = absurd (fresh (number, omega (arith, is)))
+
+  old_ends : (number : ℕ) → without_numbered end (ends_at new number) ≡ ends_at old number
+  old_ends number = by_number (are_same_or_not number grown.last)
+    where
+      by_number : (number ≡ grown.last) ⊎ (number ≡ grown.last → ⊥) → without_numbered end (ends_at new number) ≡ ends_at old number
+      by_number (inl same) =
+          ap (λ n. without_numbered end (ends_at new n)) same ∙ ap (without_numbered end) grown.more
+          ∙ filter-append (λ (e : End). not (e.number == end)) (ends_at old grown.last) (end_of line end birth ∷ [])
+          ∙ (λ i. without_old grown.last i ++ cond (not (is_same end end refl i)) (end_of line end birth ∷ []) []) ∙ append-nil (ends_at old grown.last) ∙ ap (ends_at old) (sym same)
+      by_number (inr ne) = ap (without_numbered end) (grown.others number ne) ∙ without_old number
 
 -- so the line has been inserted
-pub line_inserted : (old base new : Net) (line : Line) (end : ℕ) (birth : Option ℕ) → HasGrown old base (path line) (end_of line end birth) new → Inserts line end birth old new
-line_inserted old base new line end birth grown = record {
+pub line_inserted : (old base new : Net) (line : Line) (end : ℕ) (birth : Option ℕ) → HasGrown old base (path line) (end_of line end birth) new → (HasEnd old end → ⊥) → Inserts line end birth old new
+line_inserted old base new line end birth grown fresh = record {
   stay = grown.stay;
   prefixes = grown.prefixes;
   numbers = grown.numbers;
   endings = endings_are old base new line end birth grown grown.network;
+  old_edges = grown.old_edges;
+  old_ends = old_ends old base new line end birth grown fresh;
   ends = ends_are old base new line end birth grown;
 }
 
@@ -73,6 +97,7 @@ line_kept table bound old base new line end birth grown fresh roots below before
     λ has. (roots stream number).1 (sym (grown.roots number) ∙ has),
   );
   below = below;
+  last = grown.in_state;
 }
 
 -- the table with one more root state
@@ -136,4 +161,5 @@ nothing_kept table empty = record {
     λ has. let no : None ≡ Some stream = has in cc,
   );
   below = λ number lt. absurd (omega (arith, lt));
+  last = λ some. absurd (omega (arith, some));
 }

@@ -1,4 +1,5 @@
 pub mod AnyLemmas
+pub mod BackLemmas
 pub mod BucketLemmas
 pub mod ContainLemmas
 pub mod CountLemmas
@@ -10,5 +11,7 @@ pub mod PrefixLemmas
 pub mod PruningLemmas
 pub mod RemovalLemmas
 pub mod RootLemmas
+pub mod ShortLemmas
 pub mod StartLemmas
+pub mod TurnLemmas
 pub mod UndoneLemmas

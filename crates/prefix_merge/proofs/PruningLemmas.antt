@@ -1,18 +1,18 @@
 -- Merged networks that lose the states that no end uses.
-use Rattle.std.proofs.Common.{◌≡◌, ◌⊎◌, ◌∙◌, ◌↔◌, cond, nat_eq, sym, ap, refl, subst, inl, inr, ℕ, suc, ◌<◌, ◌≤◌, Bool, true, false, IsTrue, length, get_or, List, [], ◌∷◌, arith}
+use Rattle.std.proofs.Common.{◌≡◌, ◌⊎◌, ◌∙◌, ◌↔◌, cond, nat_eq, sym, ap, refl, subst, inl, inr, ℕ, suc, ◌<◌, ◌≤◌, ◌==◌, Bool, true, false, not, IsTrue, length, get_or, List, [], ◌∷◌, arith}
 use Rattle.std.specs.Prelude.{Contains, Option, Some, None, is_some}
-use Rattle.std.specs.List.{list_any}
+use Rattle.std.specs.List.{filter, list_any}
 use Rattle.std.specs.HashMap.{HashMap, get}
 use Rattle.std.specs.Option.{option_and_then}
 use Rattle.automaton.specs.declared.line.Hop.{Hop}
 use Rattle.automaton.specs.declared.network.End.{End}
 use Rattle.automaton.specs.declared.network.State.{State}
-use Rattle.automaton.specs.Changes.{RemovesState, without_edge}
+use Rattle.automaton.specs.Changes.{RemovesState, without_edge, without_number}
 use Rattle.automaton.specs.Networks.{IsAt, IsNetwork}
 use Rattle.automaton.specs.Prefixes.{Prefix, Root, After, beginnings}
-use Rattle.automaton.specs.States.{Net, before_at, before_by, edges_at, ends_at, ends_in, entrance_at, is_used, root_at, root_by, root_in, state_at, tells}
+use Rattle.automaton.specs.States.{Net, before_at, before_by, edges_at, edges_in, ends_at, ends_in, entrance_at, is_used, root_at, root_by, root_in, state_at, tells}
 use Rattle.automaton.proofs.ClearedLemmas.{before_used, edge_leads, left_at, left_entry, left_reads, none_entered, removes_state_network, told_not, waiting_before}
-use Rattle.event_types.proofs.NumberLemmas.{is_same}
+use Rattle.event_types.proofs.NumberLemmas.{is_other, is_same}
 use Rattle.automaton.proofs.NumberLemmas.{are_same_or_not}
 use Rattle.automaton.proofs.SlotLemmas.{at_used, entry_there}
 use Rattle.prefix_merge.specs.Growth.{IsTable}
@@ -20,6 +20,7 @@ use Rattle.prefix_merge.specs.Merging.{IsUsedBy}
 use Rattle.prefix_merge.specs.Pruning.{IsWithoutUnused, IsPruned, IsPruning, IsWanted}
 use Rattle.prefix_merge.proofs.GrowthLemmas.{any_end, not_both}
 use Rattle.prefix_merge.proofs.PrefixLemmas.{begins_before, begins_cases, begins_root, root_or_waiting}
+use Rattle.prefix_merge.proofs.UndoneLemmas.{none_without}
 
 -- how many hops a prefix has
 abbrev depth : Prefix → ℕ
@@ -55,6 +56,15 @@ some_end (end ∷ ends) some = refl
 -- where there are no ends, none counts
 pub no_end : (ends : List End) → ends ≡ [] → IsTrue (list_any any_end ends) → ⊥
 no_end ends none has = let no : false ≡ true = sym (ap (list_any any_end) none) ∙ has in cc
+
+-- what passes two tests
+filtered_twice : (p q r : ℕ → Bool) → ((n : ℕ) → cond (p n) (q n) false ≡ r n) → (numbers : List ℕ) → filter q (filter p numbers) ≡ filter r numbers
+filtered_twice p q r is [] = refl
+filtered_twice p q r is (n ∷ numbers) = go (filtered_twice p q r is numbers) (p n) (is n)
+  where
+    go : filter q (filter p numbers) ≡ filter r numbers → (b : Bool) → cond b (q n) false ≡ r n → filter q (cond b (n ∷ filter p numbers) (filter p numbers)) ≡ cond (r n) (n ∷ filter r numbers) (filter r numbers)
+    go rest true same = λ i. cond (same i) (n ∷ rest i) (rest i)
+    go rest false same = λ i. cond (same i) (n ∷ filter r numbers) (rest i)
 
 -- a state that is wanted ends the pruning
 module _ (whole : Net) (prefix : Prefix) (tip : ℕ) (net : Net) (pruning : IsPruning whole prefix tip net) where
@@ -124,6 +134,43 @@ module _ (whole : Net) (prefix : Prefix) (tip : ℕ) (net : Net) (pruning : IsPr
         by_number (inl same) = ap (ends_at left) same ∙ ap ends_in removes.here ∙ sym no_ends ∙ ap (ends_at net) (sym same)
         by_number (inr ne) = left_reads tip net left removes no_edges pruning.left.network ends_in ends_cut number ne
 
+    edges_of_cut : (slot : Option State) → edges_in (without_edge tip slot) ≡ without_number tip (edges_in slot)
+    edges_of_cut None = refl
+    edges_of_cut (Some state) = refl
+
+    -- each state that is left has the same edges but one to the state that leaves
+    edges_cut : (number : ℕ) → (number ≡ tip → ⊥) → edges_at left number ≡ without_number tip (edges_at net number)
+    edges_cut number ne = by_before (before_at net tip) refl
+      where
+        untold : tells number (before_at net tip) ≡ false → edges_at left number ≡ without_number tip (edges_at net number)
+        untold told = ap edges_in (removes.others number ne told) ∙ sym (none_without tip (edges_at net number) (pruning.left.network.edges number tip ∙ ap (λ b. cond b 1 0) told))
+
+        by_before : (o : Option ℕ) → before_at net tip ≡ o → edges_at left number ≡ without_number tip (edges_at net number)
+        by_before None from = untold (ap (tells number) from)
+        by_before (Some before) from = by_number (are_same_or_not before number)
+          where
+            by_number : (before ≡ number) ⊎ (before ≡ number → ⊥) → edges_at left number ≡ without_number tip (edges_at net number)
+            by_number (inl same) =
+                ap (edges_at left) (sym same) ∙ ap edges_in (removes.edge before from) ∙ edges_of_cut (state_at net before) ∙ ap (λ n. without_number tip (edges_at net n)) same
+            by_number (inr apart) = untold (ap (tells number) from ∙ is_other before number apart)
+
+    used_left : (number : ℕ) → cond (is_used net number) (not (number == tip)) false ≡ is_used left number
+    used_left number = by_number (are_same_or_not number tip)
+      where
+        neither : (b : Bool) → cond b false false ≡ false
+        neither true = refl
+        neither false = refl
+
+        itself : (b : Bool) → cond b true false ≡ b
+        itself true = refl
+        itself false = refl
+
+        by_number : (number ≡ tip) ⊎ (number ≡ tip → ⊥) → cond (is_used net number) (not (number == tip)) false ≡ is_used left number
+        by_number (inl same) = ap (λ b. cond (is_used net number) (not b) false) (is_same number tip same) ∙ neither (is_used net number) ∙ sym (ap (is_used left) same ∙ gone)
+        by_number (inr ne) =
+            ap (λ b. cond (is_used net number) (not b) false) (is_other number tip ne) ∙ itself (is_used net number)
+            ∙ sym (entry_there (state_at net number)) ∙ ap is_some (sym (entry_left number ne)) ∙ entry_there (state_at left number)
+
     -- what is left has the prefixes that are wanted
     pub still_left : IsWithoutUnused whole left
     still_left = record {
@@ -132,6 +179,11 @@ module _ (whole : Net) (prefix : Prefix) (tip : ℕ) (net : Net) (pruning : IsPr
           (let same = entry_left number (not_tip number used) in
           let was : is_used net number ≡ true = sym (entry_there (state_at net number)) ∙ ap is_some (sym same) ∙ entry_there (state_at left number) ∙ used in same ∙ pruning.left.stay number was);
       ends = λ number. ends_left number ∙ pruning.left.ends number;
+      edges = λ number used.
+          (let same = entry_left number (not_tip number used) in
+          let was : is_used net number ≡ true = sym (entry_there (state_at net number)) ∙ ap is_some (sym same) ∙ entry_there (state_at left number) ∙ used in
+          edges_cut number (not_tip number used) ∙ ap (without_number tip) (pruning.left.edges number was)
+          ∙ filtered_twice (is_used net) (λ n. not (n == tip)) (is_used left) used_left (edges_at whole number));
       places = removes.places ∙ pruning.left.places;
     }
 

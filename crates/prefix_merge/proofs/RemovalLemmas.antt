@@ -12,7 +12,7 @@ use Rattle.automaton.specs.Changes.{RemovesEnd, without_end, without_numbered}
 use Rattle.automaton.specs.NetworkLines.{Ending, HasEndings, ending_at, endings_by}
 use Rattle.automaton.specs.Networks.{IsAt, IsNetwork}
 use Rattle.automaton.specs.Prefixes.{Prefix, beginnings}
-use Rattle.automaton.specs.States.{Net, ends_at, ends_in, entrance_at, entrance_in, is_used, root_at, root_by, state_at}
+use Rattle.automaton.specs.States.{Net, edges_at, edges_in, ends_at, ends_in, entrance_at, entrance_in, is_used, root_at, root_by, state_at}
 use Rattle.automaton.proofs.ChangeLemmas.{gone_entry, reads_alike, removes_end_network}
 use Rattle.automaton.proofs.CountLemmas.{bit, count-cons}
 use Rattle.event_types.proofs.NumberLemmas.{is_other, same_number}
@@ -26,13 +26,14 @@ use Rattle.prefix_merge.proofs.AnyLemmas.{none_unused}
 use Rattle.prefix_merge.proofs.EndingLemmas.{ends_none}
 use Rattle.prefix_merge.proofs.GrowthLemmas.{any_end}
 use Rattle.prefix_merge.proofs.PrefixLemmas.{at_beginning}
+use Rattle.prefix_merge.proofs.StartLemmas.{edges_stay}
 
 -- whether an end has another number
-abbrev other_end : ℕ → End → Bool
+abbrev pub other_end : ℕ → End → Bool
 other_end number end = not (end.number == number)
 
 -- ends without those of a number
-none_numbered : (number : ℕ) (ends : List End) → count_by (λ (e : End). e.number == number) ends ≡ 0 → without_numbered number ends ≡ ends
+pub none_numbered : (number : ℕ) (ends : List End) → count_by (λ (e : End). e.number == number) ends ≡ 0 → without_numbered number ends ≡ ends
 none_numbered number [] none = refl
 none_numbered number (end ∷ ends) none = go (none_numbered number ends) (end.number == number) refl
   where
@@ -66,7 +67,7 @@ counted_gone number (end ∷ ends) = go (counted_gone number ends) (end.number =
         omega (arith, rest, counted, zero')
 
 -- some end is left where one has another number
-any_left : (number : ℕ) (ends : List End) → list_any any_end (without_numbered number ends) ≡ list_any (other_end number) ends
+pub any_left : (number : ℕ) (ends : List End) → list_any any_end (without_numbered number ends) ≡ list_any (other_end number) ends
 any_left number [] = refl
 any_left number (end ∷ ends) = go (any_left number ends) (not (end.number == number))
   where
@@ -129,7 +130,7 @@ module _ (old middle : Net) (state end : ℕ) (network : IsNetwork old) (merged 
   -- pruning begins at that state
   pub end_pruning : (prefix : Prefix) → IsAt old state prefix → IsPruning middle prefix state middle
   end_pruning prefix here = record {
-    left = record { network = removes_end_network state end old middle removes network; stay = λ number used. refl; ends = λ number. refl; places = refl };
+    left = record { network = removes_end_network state end old middle removes network; stay = λ number used. refl; ends = λ number. refl; edges = λ number used. sym (edges_stay middle (removes_end_network state end old middle removes network) number); places = refl };
     here = at_kept old middle on state prefix here;
     apart = λ number other p at_number at_other. merged.apart number other p (at_kept middle old off number p at_number) (at_kept middle old off other p at_other);
     needed = λ number p at_number. by_use p (merged.needed number p (at_kept middle old off number p at_number));
@@ -239,9 +240,23 @@ module _ (old middle : Net) (state end : ℕ) (network : IsNetwork old) (merged 
             (λ number. ap (map (ending_at (had.places number))) (new_ends number) ∙ lines_left end (had.places number) (ends_at old number)) (range_with_len 0 (length old))
             ∙ sym (filter-flat_map (other_ending end) before (range_with_len 0 (length old)))
 
+    edges_cut : (slot : Option State) → edges_in (without_end end slot) ≡ edges_in slot
+    edges_cut None = refl
+    edges_cut (Some present) = refl
+
+    middle_edges : (number : ℕ) → edges_at middle number ≡ edges_at old number
+    middle_edges = reads_alike edges_in old middle state (ap edges_in removes.here ∙ edges_cut (state_at old state)) removes.others
+
     -- so the line has left
     pub line_removed : Removes end old new
-    line_removed = record { stay = new_entry; states = states_are; endings = endings_are; ends = ends_are }
+    line_removed = record {
+      stay = new_entry;
+      states = states_are;
+      endings = endings_are;
+      edges_left = λ number used. pruned.left.edges number used ∙ ap (filter (is_used new)) (middle_edges number);
+      ends_left = new_ends;
+      ends = ends_are;
+    }
 
   -- the table and the numbers that are used stay while the end leaves
   pub middle_table : {S : Type 0} (table : HashMap ℕ ℕ S) → IsTable table old → IsTable table middle

@@ -1,22 +1,23 @@
 -- A line that begins to grow, and one that has come to its end.
-use Rattle.std.proofs.Common.{◌≡◌, ◌⊎◌, ◌∙◌, ◌↔◌, sym, ap, refl, subst, inl, inr, ℕ, ◌<◌, ◌≤◌, true, false, IsTrue, length, List, [], ◌∷◌, ◌++◌, arith}
+use Rattle.std.proofs.Common.{◌≡◌, ◌⊎◌, ◌∙◌, ◌↔◌, sym, ap, refl, subst, inl, inr, ℕ, suc, ◌-◌, ◌<◌, ◌≤◌, Bool, true, false, cond, IsTrue, length, get_or, List, [], ◌∷◌, ◌++◌, arith}
 use Rattle.std.specs.Prelude.{Contains, Some, is_some}
-use Rattle.std.specs.List.{list_any}
+use Rattle.std.specs.List.{filter, list_any}
 use Rattle.std.specs.Option.{option_and_then}
+use Rattle.std.proofs.lemmas.Bool.{cases_lt}
 use Rattle.automaton.specs.declared.line.Hop.{Hop}
 use Rattle.automaton.specs.declared.network.End.{End}
 use Rattle.automaton.specs.declared.network.Entrance.TheVariants as entrance
 use Rattle.automaton.specs.Changes.{AddsEnd, AddsRoot}
 use Rattle.automaton.specs.Networks.{IsAt, IsNetwork}
 use Rattle.automaton.specs.Prefixes.{Prefix, Root, After, beginnings, extended}
-use Rattle.automaton.specs.States.{Net, before_at, before_by, before_in, ends_at, ends_in, entrance_at, entrance_in, is_used, root_at, root_by, state_at}
+use Rattle.automaton.specs.States.{Net, before_at, before_by, before_in, edges_at, edges_in, ends_at, ends_in, entrance_at, entrance_in, is_used, root_at, root_by, state_at}
 use Rattle.automaton.proofs.ChangeLemmas.{adds_end_network, adds_root_network, free_reads, reads_alike}
-use Rattle.automaton.proofs.ClearedLemmas.{before_used}
+use Rattle.automaton.proofs.ClearedLemmas.{before_used, edge_leads, entered_used}
 use Rattle.automaton.proofs.NumberLemmas.{are_same_or_not}
-use Rattle.automaton.proofs.SlotLemmas.{KeepsEntries, at_kept, at_one, at_used, end_ends, end_entry, entry_there}
+use Rattle.automaton.proofs.SlotLemmas.{KeepsEntries, at_kept, at_one, at_used, end_edges, end_ends, end_entry, entry_there}
 use Rattle.prefix_merge.specs.Growth.{Grows}
 use Rattle.prefix_merge.specs.Insertion.{TakesLowest}
-use Rattle.prefix_merge.specs.Merging.{HasPrefix, IsLowestFree, IsMerged, IsUsedBy}
+use Rattle.prefix_merge.specs.Merging.{EndsInState, HasPrefix, IsLowestFree, IsMerged, IsUsedBy}
 use Rattle.prefix_merge.proofs.GrowthLemmas.{IsGrowing, any_end, back, forth, hop_growing, none_from, not_before, not_both, used_back, used_forth, used_still}
 use Rattle.prefix_merge.proofs.PrefixLemmas.{at_beginning, begins_itself}
 
@@ -24,15 +25,25 @@ use Rattle.prefix_merge.proofs.PrefixLemmas.{at_beginning, begins_itself}
 pub stay_keeps : (old net : Net) → ((number : ℕ) → IsTrue (is_used old number) → entrance_at net number ≡ entrance_at old number) → KeepsEntries old net
 stay_keeps old net stay number e is = stay number (sym (entry_there (state_at old number)) ∙ ap is_some is) ∙ is
 
+-- numbers that all pass are kept
+all_pass : (p : ℕ → Bool) (numbers : List ℕ) → ((k : ℕ) → k < length numbers → p (get_or numbers k 0) ≡ true) → filter p numbers ≡ numbers
+all_pass p [] passes = refl
+all_pass p (n ∷ numbers) passes = λ i. cond (passes 0 (omega arith) i) (n ∷ all_pass p numbers (λ k lt. passes (suc k) (omega (arith, lt))) i) (filter p numbers)
+
+-- edges lead to states that are there
+pub edges_stay : (net : Net) → IsNetwork net → (number : ℕ) → filter (is_used net) (edges_at net number) ≡ edges_at net number
+edges_stay net network number = all_pass (is_used net) (edges_at net number) (λ k lt. entered_used net network (get_or (edges_at net number) k 0) number (edge_leads net network number k 0 lt))
+
 -- the line begins where a state is there
-pub found_growing : (old : Net) (prefix : Prefix) (tip : ℕ) → IsNetwork old → IsMerged old → IsAt old tip prefix → IsGrowing old old prefix tip old
-found_growing old prefix tip network merged here = record {
+pub found_growing : (old : Net) (prefix : Prefix) (tip : ℕ) → IsNetwork old → IsMerged old → EndsInState old → IsAt old tip prefix → IsGrowing old old prefix tip old
+found_growing old prefix tip network merged last here = record {
   network = network;
   here = here;
   apart = merged.apart;
   needed = λ number p at_number. inl (merged.needed number p at_number);
   stay = λ number used. refl;
   same_ends = λ number. refl;
+  old_edges = edges_stay old network;
   came = λ p has. inl has;
   numbers = record {
     lowest = λ number below free used lt. absurd (not_both old number used free);
@@ -40,10 +51,11 @@ found_growing old prefix tip network merged here = record {
   };
   roots = λ number. refl;
   longer = omega arith;
+  last = last;
 }
 
 -- the line begins at a new root state
-module _ (old base : Net) (number stream : ℕ) (network : IsNetwork old) (merged : IsMerged old) (no_root : (n : ℕ) → root_at old n ≡ Some stream → ⊥) (lowest : IsLowestFree old number) (adds : AddsRoot number stream old base) where
+module _ (old base : Net) (number stream : ℕ) (network : IsNetwork old) (merged : IsMerged old) (last : EndsInState old) (no_root : (n : ℕ) → root_at old n ≡ Some stream → ⊥) (lowest : IsLowestFree old number) (adds : AddsRoot number stream old base) where
   entries : (other : ℕ) → (other ≡ number → ⊥) → entrance_at base other ≡ entrance_at old other
   entries other ne = ap entrance_in (adds.others other ne)
 
@@ -98,6 +110,18 @@ module _ (old base : Net) (number stream : ℕ) (network : IsNetwork old) (merge
   pub none_from_root : (next : ℕ) → before_at base next ≡ Some number → ⊥
   none_from_root next from = not_before old base number network lowest.free entries next (sym (root_befores next) ∙ from)
 
+  root_edges : (other : ℕ) → edges_at base other ≡ edges_at old other
+  root_edges = reads_alike edges_in old base number (ap edges_in adds.here ∙ sym (free_reads old base number lowest.free edges_in)) adds.others
+
+  root_last : EndsInState base
+  root_last some = by_order (cases_lt number (length old))
+    where
+      by_order : (number < length old) ⊎ (length old ≤ number) → is_used base (length base - 1) ≡ true
+      by_order (inl inside) =
+          let same : length base - 1 ≡ length old - 1 = let places = adds.places in omega (arith, places, inside) in
+          ap (is_used base) same ∙ used_forth old base number network lowest.free entries (length old - 1) (last (omega (arith, inside)))
+      by_order (inr past) = let same : length base - 1 ≡ number = let places = adds.places in omega (arith, places, past) in ap (is_used base) same ∙ ap is_some adds.here
+
   -- a network grows from a root
   pub root_growing : IsGrowing old base (Root stream) number base
   root_growing = record {
@@ -107,6 +131,7 @@ module _ (old base : Net) (number stream : ℕ) (network : IsNetwork old) (merge
     needed = root_needed;
     stay = λ n used. entries n (λ e. not_both old n used (ap (is_used old) e ∙ lowest.free));
     same_ends = root_ends;
+    old_edges = λ n. ap (filter (is_used old)) (root_edges n) ∙ edges_stay old network n;
     came = root_came;
     numbers = record {
       lowest = root_lowest;
@@ -114,6 +139,7 @@ module _ (old base : Net) (number stream : ℕ) (network : IsNetwork old) (merge
     };
     roots = λ n. refl;
     longer = (let places = adds.places in omega arith);
+    last = root_last;
   }
 
 -- the network has grown by a line: its last state has the end
@@ -129,7 +155,9 @@ pub record HasGrown (old base : Net) (whole : Prefix) (end : End) (new : Net) : 
   pub more : ends_at new last ≡ ends_at old last ++ end ∷ []
   -- each other state has the same ends
   pub others : (number : ℕ) → (number ≡ last → ⊥) → ends_at new number ≡ ends_at old number
+  pub old_edges : (number : ℕ) → filter (is_used old) (edges_at new number) ≡ edges_at old number
   pub longer : length old ≤ length new
+  pub in_state : EndsInState new
 
 -- some end stands among more of them
 any_more : (ends more : List End) → IsTrue (list_any any_end ends) → IsTrue (list_any any_end (ends ++ more))
@@ -180,6 +208,9 @@ module _ (old base : Net) (whole : Prefix) (last : ℕ) (end : End) (net new : N
   stays : (number : ℕ) → IsTrue (is_used old number) → entrance_at new number ≡ entrance_at old number
   stays number used = same_entries number ∙ growing.stay number used
 
+  end_edges_same : (number : ℕ) → edges_at new number ≡ edges_at net number
+  end_edges_same = reads_alike edges_in net new last (ap edges_in adds.here ∙ end_edges end (state_at net last)) adds.others
+
   -- behind all hops the network has grown by the line
   pub end_grown : HasGrown old base whole end new
   end_grown = record {
@@ -205,7 +236,11 @@ module _ (old base : Net) (whole : Prefix) (last : ℕ) (end : End) (net new : N
     here = at_kept net new on last whole growing.here;
     more = last_ends ∙ ap (λ ends. ends ++ end ∷ []) (growing.same_ends last);
     others = λ number ne. other_ends number ne ∙ growing.same_ends number;
+    old_edges = λ number. ap (filter (is_used old)) (end_edges_same number) ∙ growing.old_edges number;
     longer = (let places = adds.places in let was = growing.longer in omega arith);
+    in_state = λ some.
+        (let places = adds.places in
+        let same : length new - 1 ≡ length net - 1 = omega (arith, places) in ap (is_used new) same ∙ used_same (length net - 1) ∙ growing.last (omega (arith, places, some)));
   }
 
 -- the line grows to its end

@@ -9,7 +9,7 @@ use Rattle.automaton.specs.Changes.{AddsEnd, AddsHop, AddsRoot}
 use Rattle.automaton.specs.Networks.{IsAt, IsNetwork}
 use Rattle.automaton.specs.Prefixes.{Root, extended}
 use Rattle.automaton.specs.States.{Net, entrance_at, is_used, root_at}
-use Rattle.prefix_merge.specs.Merging.{HasOwnNumbers, IsLowestFree, IsMerged}
+use Rattle.prefix_merge.specs.Merging.{EndsInState, HasOwnNumbers, IsLowestFree, IsMerged}
 
 -- the table tells the root state of each stream that has one, and of no other stream
 abbrev pub IsTable : {S : Type 0} → HashMap ℕ ℕ S → Net → Type 0
@@ -26,6 +26,7 @@ pub record Keeps {S : Type 0} (table : HashMap ℕ ℕ S) (bound : ℕ) (net : N
   pub numbers : HasOwnNumbers net
   pub roots : IsTable table net
   pub below : AreUsedBelow net bound
+  pub last : EndsInState net
 
 -- a line's end with this number and this birth
 abbrev pub end_of : Line → ℕ → Option ℕ → End

@@ -1,5 +1,5 @@
 -- Laws over merged networks.
-use Rattle.std.specs.Prelude.{◌≡◌, ◌↔◌, List, [], ◌∷◌, ◌++◌, Contains, None, count_by, is_some, length, map}
+use Rattle.std.specs.Prelude.{◌≡◌, ◌↔◌, ℕ, List, [], ◌∷◌, ◌++◌, Contains, Option, None, count_by, is_some, length, map}
 use Rattle.automaton.specs.declared.line.Line.{Line}
 use Rattle.automaton.specs.NetworkLines.{Ending, HasEndings, HasLines}
 use Rattle.automaton.specs.Plain.{numbered}
@@ -7,7 +7,8 @@ use Rattle.automaton.specs.Prefixes.{Prefix, prefixes}
 use Rattle.automaton.specs.States.{Net, root_in}
 use Rattle.prefix_merge.specs.Counts.{ListPrefixes, is_root}
 use Rattle.prefix_merge.specs.Insertion.{Inserts}
-use Rattle.prefix_merge.specs.Merging.{HasPrefix, IsMerged}
+use Rattle.prefix_merge.specs.Merging.{EndsInState, HasPrefix, IsMerged, IsSettled}
+use Rattle.prefix_merge.specs.Removal.{Removes}
 
 -- the states of a merged network are exactly the prefixes of its lines
 abbrev pub StatesArePrefixes : Type 0
@@ -29,6 +30,11 @@ pub record ListsStates (net : Net) (lines : List Line) : Type 0 where
 -- each merged network that has the lines has such a list
 abbrev pub StatesAreListed : Type 0
 StatesAreListed = (net : Net) (lines : List Line) → IsMerged net → HasLines net lines → ListsStates net lines
+
+-- a line that comes and is taken away again leaves a merged network as it was
+abbrev pub TakenBackIsBefore : Type 0
+TakenBackIsBefore =
+    (line : Line) (end : ℕ) (birth : Option ℕ) (old middle new : Net) → IsSettled old → IsSettled middle → EndsInState new → Inserts line end birth old middle → Removes end middle new → new ≡ old
 
 -- a merged network has the lines of its endings, and no others
 abbrev pub LinesAreItsOwn : Type 0

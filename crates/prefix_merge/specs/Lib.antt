@@ -6,3 +6,4 @@ pub mod Laws
 pub mod Merging
 pub mod Pruning
 pub mod Removal
+pub mod Turns

@@ -1,8 +1,8 @@
 -- Merged networks, in which lines that begin alike share their states.
-use Rattle.std.specs.Prelude.{◌≡◌, ◌≤◌, ◌<◌, ◌==◌, ℕ, Bool, true, false, IsTrue, Contains, count_by}
+use Rattle.std.specs.Prelude.{◌≡◌, ◌≤◌, ◌<◌, ◌-◌, ◌==◌, ℕ, Bool, true, false, IsTrue, Contains, count_by, length}
 use Rattle.std.specs.List.{list_any}
 use Rattle.automaton.specs.declared.network.End.{End}
-use Rattle.automaton.specs.Networks.{IsAt}
+use Rattle.automaton.specs.Networks.{IsAt, IsNetwork}
 use Rattle.automaton.specs.Prefixes.{Prefix, beginnings}
 use Rattle.automaton.specs.States.{Net, ends_at, is_used}
 
@@ -35,6 +35,16 @@ HasEnd net number = (state : ℕ) × (1 ≤ ends_numbered net number state)
 pub record HasOwnNumbers (net : Net) : Type 0 where
   pub one : (number state : ℕ) → ends_numbered net number state ≤ 1
   pub apart : (number state other : ℕ) → 1 ≤ ends_numbered net number state → 1 ≤ ends_numbered net number other → state ≡ other
+
+-- the last place is that of a state, if there is one
+abbrev pub EndsInState : Net → Type 0
+EndsInState net = 0 < length net → IsTrue (is_used net (length net - 1))
+
+-- it is a merged network, whose last place is that of a state
+pub record IsSettled (net : Net) : Type 0 where
+  pub network : IsNetwork net
+  pub merged : IsMerged net
+  pub last : EndsInState net
 
 -- no state has the number, and each number below it is that of a state
 pub record IsLowestFree (net : Net) (number : ℕ) : Type 0 where

@@ -1,9 +1,10 @@
 -- Merged networks that lose the states that no end uses. No public clause cites this.
-use Rattle.std.specs.Prelude.{◌≡◌, ◌≢◌, ◌⊎◌, ℕ, [], true, IsTrue, Contains, length}
+use Rattle.std.specs.Prelude.{◌≡◌, ◌≢◌, ◌≤◌, ◌⊎◌, ℕ, [], true, IsTrue, Contains, length}
+use Rattle.std.specs.List.{filter}
 use Rattle.automaton.specs.Networks.{IsAt, IsNetwork}
 use Rattle.automaton.specs.Prefixes.{Prefix, beginnings}
-use Rattle.automaton.specs.States.{Net, edges_at, ends_at, entrance_at, is_used}
-use Rattle.prefix_merge.specs.Merging.{IsMerged, IsUsedBy}
+use Rattle.automaton.specs.States.{Net, edges_at, ends_at, entrance_at, is_used, state_at}
+use Rattle.prefix_merge.specs.Merging.{EndsInState, IsMerged, IsUsedBy}
 
 -- an edge leads on from the state, or an end stands there
 abbrev pub IsWanted : Net → ℕ → Type 0
@@ -14,6 +15,7 @@ pub record IsWithoutUnused (whole net : Net) : Type 0 where
   pub network : IsNetwork net
   pub stay : (number : ℕ) → IsTrue (is_used net number) → entrance_at net number ≡ entrance_at whole number
   pub ends : (number : ℕ) → ends_at net number ≡ ends_at whole number
+  pub edges : (number : ℕ) → IsTrue (is_used net number) → edges_at net number ≡ filter (is_used net) (edges_at whole number)
   pub places : length net ≡ length whole
 
 -- no two states stand for one prefix, and each state's prefix is used by an end or is a beginning of this one, for which a state stands
@@ -27,3 +29,9 @@ pub record IsPruning (whole : Net) (prefix : Prefix) (tip : ℕ) (net : Net) : T
 pub record IsPruned (whole net : Net) : Type 0 where
   pub left : IsWithoutUnused whole net
   pub merged : IsMerged net
+
+-- the same states, without places at the end that no state has
+pub record IsShortened (whole net : Net) : Type 0 where
+  pub same : (number : ℕ) → state_at net number ≡ state_at whole number
+  pub shorter : length net ≤ length whole
+  pub last : EndsInState net

@@ -1,5 +1,5 @@
 //! Laws over merged networks.
-ghost use Rattle.prefix_merge.specs.Laws.{LinesAreItsOwn, LinesComeInTurn, StatesAreCounted, StatesAreListed, StatesArePrefixes};
+ghost use Rattle.prefix_merge.specs.Laws.{LinesAreItsOwn, LinesComeInTurn, StatesAreCounted, StatesAreListed, StatesArePrefixes, TakenBackIsBefore};
 
 /// The states of a merged network are exactly the prefixes that its ends use.
 pub fn states_are_prefixes()
@@ -25,4 +25,9 @@ pub fn lines_are_its_own()
 /// Lines that are inserted one after another make a network that has exactly these lines.
 pub fn lines_come_in_turn()
     ensures { LinesComeInTurn }
+{}
+
+/// A line that is inserted and removed again leaves the network as it was, its list of places included.
+pub fn taken_back_is_before()
+    ensures { TakenBackIsBefore }
 {}

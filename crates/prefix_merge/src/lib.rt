@@ -10,9 +10,10 @@ mod indexed;
 mod laws;
 mod merged;
 mod pruning;
+mod turns;
 
 pub use laws::{
     lines_are_its_own, lines_come_in_turn, states_are_counted, states_are_listed,
-    states_are_prefixes,
+    states_are_prefixes, taken_back_is_before,
 };
 pub use merged::Merged;

@@ -4,12 +4,12 @@ ghost use Rattle.automaton.specs.NetworkLines.{HasEndings, HasLines};
 ghost use Rattle.automaton.specs.Plain.{numbered};
 ghost use Rattle.automaton.specs.States.{root_at};
 ghost use Rattle.prefix_merge.specs.Insertion.{Inserts};
-ghost use Rattle.prefix_merge.specs.Merging.{HasEnd, IsMerged};
+ghost use Rattle.prefix_merge.specs.Merging.{HasEnd, IsMerged, IsSettled};
 ghost use Rattle.prefix_merge.specs.Removal.{Removes};
 
 use crate::growth::{free_number, grow, hops_from, numbered_end, plant, reach};
 use crate::indexed::Indexed;
-use crate::pruning::{Roots, holder, prune};
+use crate::pruning::{Roots, holder, prune, shorten};
 use automaton::{Line, Lines, Network};
 use event_types::Memory;
 use std::alloc::Global;
@@ -78,8 +78,16 @@ impl Merged {
     pub fn network(&self) -> &Network
         ensures value { result.now ≡ self.now }
         ensures merged { IsMerged self.now }
+        ensures settled { IsSettled self.now }
     {
         self.network.network()
+    }
+
+    // What holds of each merged network.
+    pub(crate) fn known(&self)
+        ensures { IsSettled self.now }
+    {
+        self.network();
     }
 
     /// Adds the states of a line's prefixes that aren't there, and its end with this number and this birth.
@@ -102,6 +110,7 @@ impl Merged {
         let state = holder(self.network.network(), end);
         self.network.remove_end(state, end);
         self.lowest = prune(&mut self.network, &mut self.roots, self.lowest, state);
+        shorten(&mut self.network);
     }
 
     // Adds a line whose root state is there.

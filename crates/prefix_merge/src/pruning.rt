@@ -7,7 +7,7 @@ ghost use Rattle.automaton.specs.Prefixes.{Prefix};
 ghost use Rattle.automaton.specs.States.{Net, edges_at, ends_at, is_used, tells};
 ghost use Rattle.prefix_merge.specs.Growth.{AreUsedBelow, IsTable};
 ghost use Rattle.prefix_merge.specs.Merging.{HasEnd, ends_numbered};
-ghost use Rattle.prefix_merge.specs.Pruning.{IsPruned, IsPruning, IsWanted};
+ghost use Rattle.prefix_merge.specs.Pruning.{IsPruned, IsPruning, IsShortened, IsWanted};
 
 use crate::indexed::Indexed;
 use automaton::{End, Network};
@@ -52,6 +52,17 @@ fn forget(roots: &mut Roots, stream: Option<StreamId>)
 {
     if let Some(stream) = stream {
         roots.remove(&stream);
+    }
+}
+
+// Forgets the places behind the last state.
+pub(crate) fn shorten(network: &mut Indexed)
+    ensures { IsShortened network.old network.new }
+{
+    let mut places = network.places();
+    while 0 < places && !network.network().used(places - 1) {
+        network.shrink();
+        places -= 1;
     }
 }
 

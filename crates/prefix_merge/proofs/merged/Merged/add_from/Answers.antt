@@ -21,14 +21,15 @@ invariant_of-self-2 c =
     let fresh = subst (λ (net : Net). HasEnd net c.args.end → ⊥) (sym c.self.view_is) c.requires.end in
     let grows = subst (λ (end : End). Grows c.reach-reached.result.state (drop c.reach-reached.result.place c.args.line.now.hops) end old c.grow.new.network) c.in_ok-end.ensures
     (subst (λ (hops : List Hop). Grows c.reach-reached.result.state hops c.in_ok-end.end old c.grow.new.network) c.hops_from-hops.ensures c.in_ok-self-inside.ensures.grown) in
-    let grown = grown_from old c.grow.new.network c.args.line.now c.reach-reached.result.state c.reach-reached.result.place c.args.end c.args.birth keeps.network keeps.merged c.reach-reached.ensures.reached grows in
+    let grown = grown_from old c.grow.new.network c.args.line.now c.reach-reached.result.state c.reach-reached.result.place c.args.end c.args.birth keeps.network keeps.merged keeps.last c.reach-reached.ensures.reached grows in
     line_kept c.self.inside.roots c.in_ok-self-inside.field-0 old old c.grow.new.network c.args.line.now c.args.end c.args.birth grown fresh keeps.roots c.in_ok-self-inside.ensures.bound c.self.inside.roots c.self.inside.lowest keeps
 
 pub returns-clause-inserted : goal.returns-clause-inserted
 returns-clause-inserted c =
     let old = c.self.inside.network in
     let keeps = c.self.invariant in
+    let fresh = subst (λ (net : Net). HasEnd net c.args.end → ⊥) (sym c.self.view_is) c.requires.end in
     let grows = subst (λ (end : End). Grows c.reach-reached.result.state (drop c.reach-reached.result.place c.args.line.now.hops) end old c.grow.new.network) c.in_ok-end.ensures
     (subst (λ (hops : List Hop). Grows c.reach-reached.result.state hops c.in_ok-end.end old c.grow.new.network) c.hops_from-hops.ensures c.in_ok-self-inside.ensures.grown) in
-    let grown = grown_from old c.grow.new.network c.args.line.now c.reach-reached.result.state c.reach-reached.result.place c.args.end c.args.birth keeps.network keeps.merged c.reach-reached.ensures.reached grows in
-    subst (λ (net : Net). Inserts c.args.line.now c.args.end c.args.birth net c.grow.new.network) c.self.view_is (line_inserted old old c.grow.new.network c.args.line.now c.args.end c.args.birth grown)
+    let grown = grown_from old c.grow.new.network c.args.line.now c.reach-reached.result.state c.reach-reached.result.place c.args.end c.args.birth keeps.network keeps.merged keeps.last c.reach-reached.ensures.reached grows in
+    subst (λ (net : Net). Inserts c.args.line.now c.args.end c.args.birth net c.grow.new.network) c.self.view_is (line_inserted old old c.grow.new.network c.args.line.now c.args.end c.args.birth grown fresh)

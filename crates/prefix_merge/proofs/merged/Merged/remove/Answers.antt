@@ -4,6 +4,7 @@ use Rattle.automaton.proofs.ChangeLemmas.{removes_end_network}
 use Rattle.prefix_merge.specs.Merging.{ends_numbered}
 use Rattle.prefix_merge.specs.Removal.{Removes}
 use Rattle.prefix_merge.proofs.RemovalLemmas.{end_pruning, line_removed, middle_below, middle_table, numbers_kept, state_used}
+use Rattle.prefix_merge.proofs.ShortLemmas.{below_short, merged_short, network_short, numbers_short, removed_short, table_short}
 use Rattle.prefix_merge.proofs.merged.Merged.remove.Goals as goal
 
 -- it is a network still
@@ -22,12 +23,17 @@ invariant_of-self c =
     let place = keeps.network.places state used in
     let pruning = end_pruning old middle state c.args.end keeps.network keeps.merged keeps.numbers holds c.remove_end.ensures place.0 place.1 in
     let pruned = c.prune-self-inside.ensures.pruned middle place.0 pruning in
+    let whole = c.prune-self-inside.new.network in
+    let short = c.shorten.new.network in
+    let shortened = c.shorten.ensures in
     record {
-      network = pruned.left.network;
-      merged = pruned.merged;
-      numbers = numbers_kept old middle state c.args.end keeps.network keeps.merged keeps.numbers holds c.remove_end.ensures c.prune-self-inside.new.network pruned;
-      roots = c.prune-self-inside.ensures.roots (middle_table old middle state c.args.end keeps.network keeps.merged keeps.numbers holds c.remove_end.ensures c.self.inside.roots keeps.roots);
-      below = c.prune-self-inside.ensures.below (middle_below old middle state c.args.end keeps.network keeps.merged keeps.numbers holds c.remove_end.ensures c.self.inside.lowest keeps.below);
+      network = network_short whole short shortened pruned.left.network;
+      merged = merged_short whole short shortened pruned.merged;
+      numbers = numbers_short whole short shortened (numbers_kept old middle state c.args.end keeps.network keeps.merged keeps.numbers holds c.remove_end.ensures whole pruned);
+      roots = table_short whole short shortened c.prune-self-inside.new.roots (c.prune-self-inside.ensures.roots (middle_table old middle state c.args.end keeps.network keeps.merged keeps.numbers holds c.remove_end.ensures c.self.inside.roots keeps.roots));
+      below = below_short whole short shortened c.prune-self-inside.result
+          (c.prune-self-inside.ensures.below (middle_below old middle state c.args.end keeps.network keeps.merged keeps.numbers holds c.remove_end.ensures c.self.inside.lowest keeps.below));
+      last = shortened.last;
     }
 
 -- the line has left
@@ -42,5 +48,5 @@ returns c =
     let place = keeps.network.places state used in
     let pruning = end_pruning old middle state c.args.end keeps.network keeps.merged keeps.numbers holds c.remove_end.ensures place.0 place.1 in
     let pruned = c.prune-self-inside.ensures.pruned middle place.0 pruning in
-    subst (λ (net : Net). Removes c.args.end net c.prune-self-inside.new.network) c.self.view_is
-    (line_removed old middle state c.args.end keeps.network keeps.merged keeps.numbers holds c.remove_end.ensures c.prune-self-inside.new.network pruned)
+    subst (λ (net : Net). Removes c.args.end net c.shorten.new.network) c.self.view_is
+    (removed_short c.prune-self-inside.new.network c.shorten.new.network c.shorten.ensures c.args.end old (line_removed old middle state c.args.end keeps.network keeps.merged keeps.numbers holds c.remove_end.ensures c.prune-self-inside.new.network pruned))

@@ -1,0 +1,102 @@
+-- A line that came and is taken away again leaves the network as it was.
+use Rattle.std.proofs.Common.{◌≡◌, ◌⊎◌, ◌∙◌, sym, ap, refl, subst, inl, inr, ℕ, ◌-◌, ◌<◌, ◌≤◌, Bool, true, false, length, arith}
+use Rattle.std.specs.Prelude.{Contains, Option, Some, None, is_some}
+use Rattle.std.specs.List.{filter, list_any}
+use Rattle.std.proofs.lemmas.Bool.{cases_lt}
+use Rattle.std.proofs.lemmas.List.{ext_get_or}
+use Rattle.automaton.specs.declared.line.Line.{Line}
+use Rattle.automaton.specs.declared.network.State.{State}
+use Rattle.automaton.specs.Networks.{IsNetwork}
+use Rattle.automaton.specs.Prefixes.{beginnings}
+use Rattle.automaton.specs.States.{Net, edges_at, edges_in, ends_at, ends_in, entrance_in, is_used, state_at}
+use Rattle.automaton.proofs.ChangeLemmas.{nothing_there}
+use Rattle.automaton.proofs.SlotLemmas.{KeepsEntries, at_kept, at_one, at_used, entry_there, used_below}
+use Rattle.prefix_merge.specs.Insertion.{Inserts}
+use Rattle.prefix_merge.specs.Laws.{TakenBackIsBefore}
+use Rattle.prefix_merge.specs.Merging.{EndsInState, IsMerged}
+use Rattle.prefix_merge.specs.Removal.{Removes}
+use Rattle.prefix_merge.proofs.EndingLemmas.{ends_none}
+use Rattle.prefix_merge.proofs.GrowthLemmas.{any_end}
+use Rattle.prefix_merge.proofs.PrefixLemmas.{at_beginning}
+use Rattle.prefix_merge.proofs.RemovalLemmas.{any_left, other_end}
+use Rattle.prefix_merge.proofs.StartLemmas.{stay_keeps}
+
+-- states that are entered alike, with the same edges and ends
+same_state : (a b : Option State) → is_some a ≡ true → is_some b ≡ true → entrance_in a ≡ entrance_in b → edges_in a ≡ edges_in b → ends_in a ≡ ends_in b → a ≡ b
+same_state None b a_there b_there entrance edges ends = absurd (let no : false ≡ true = a_there in cc)
+same_state (Some a) None a_there b_there entrance edges ends = absurd (let no : false ≡ true = b_there in cc)
+same_state (Some a) (Some b) a_there b_there entrance edges ends = let e : a.entrance ≡ b.entrance = cc in λ i. Some (record { entrance = e i; edges = edges i; ends = ends i })
+
+-- whether one is there exactly where the other is
+same_bool : (a b : Bool) → (a ≡ true → b ≡ true) → (b ≡ true → a ≡ true) → a ≡ b
+same_bool true b fore back = sym (fore refl)
+same_bool false true fore back = back refl
+same_bool false false fore back = refl
+
+module _ (line : Line) (end : ℕ) (birth : Option ℕ) (old middle new : Net) (old_is : IsNetwork old) (middle_is : IsNetwork middle) (old_merged : IsMerged old) (middle_merged : IsMerged middle) (inserts : Inserts line end birth old middle) (removes : Removes end middle new) where
+  grown : KeepsEntries old middle
+  grown = stay_keeps old middle inserts.stay
+
+  -- an end that isn't the line's stands at a state of before
+  old_any : (number : ℕ) → list_any any_end (ends_at old number) ≡ list_any (other_end end) (ends_at middle number)
+  old_any number = ap (list_any any_end) (sym (inserts.old_ends number)) ∙ any_left end (ends_at middle number)
+
+  old_ends_used : (number : ℕ) → list_any any_end (ends_at old number) ≡ true → is_used old number ≡ true
+  old_ends_used number some = by_use (is_used old number) refl
+    where
+      by_use : (b : Bool) → is_used old number ≡ b → b ≡ true
+      by_use true used = refl
+      by_use false free = let no : false ≡ true = sym (ap (list_any any_end) (ends_none old number free)) ∙ some in cc
+
+  middle_used : (number : ℕ) → is_used new number ≡ true → is_used middle number ≡ true
+  middle_used number used = sym (entry_there (state_at middle number)) ∙ ap is_some (sym (removes.stay number used)) ∙ entry_there (state_at new number) ∙ used
+
+  back : (number : ℕ) → is_used new number ≡ true → is_used old number ≡ true
+  back number used =
+      let place = middle_is.places number (middle_used number used) in
+      let use' = (removes.states number place.0 place.1).0 used in
+      let last_used = old_ends_used use'.last (old_any use'.last ∙ use'.ends) in
+      let last_place = old_is.places use'.last last_used in
+      let same : last_place.0 ≡ use'.whole = at_one middle use'.last last_place.0 use'.whole (at_kept old middle grown use'.last last_place.0 last_place.1) use'.here in
+      let there = at_beginning old use'.last last_place.0 place.0 last_place.1 (subst (λ whole. Contains (beginnings whole) place.0) (sym same) use'.begins) in
+      let it = middle_merged.apart there.0 number place.0 (at_kept old middle grown there.0 place.0 there.1) place.1 in
+      subst (λ n. is_used old n ≡ true) it (at_used old there.0 place.0 there.1)
+
+  forth : (number : ℕ) → is_used old number ≡ true → is_used new number ≡ true
+  forth number used =
+      let place = old_is.places number used in
+      let use' = old_merged.needed number place.0 place.1 in
+      (removes.states number place.0 (at_kept old middle grown number place.0 place.1)).1
+      (record { last = use'.last; whole = use'.whole; here = at_kept old middle grown use'.last use'.whole use'.here; ends = sym (old_any use'.last) ∙ use'.ends; begins = use'.begins })
+
+  same_used : (number : ℕ) → is_used new number ≡ is_used old number
+  same_used number = same_bool (is_used new number) (is_used old number) (back number) (forth number)
+
+  same_slot : (number : ℕ) → state_at new number ≡ state_at old number
+  same_slot number = by_use (is_used old number) refl
+    where
+      by_use : (b : Bool) → is_used old number ≡ b → state_at new number ≡ state_at old number
+      by_use false free = nothing_there (state_at new number) (same_used number ∙ free) ∙ sym (nothing_there (state_at old number) free)
+      by_use true used =
+          let there = forth number used in
+          same_state (state_at new number) (state_at old number) there used (removes.stay number there ∙ inserts.stay number used)
+          (removes.edges_left number there ∙ (λ i. filter (λ m. same_used m i) (edges_at middle number)) ∙ inserts.old_edges number)
+          (removes.ends_left number ∙ inserts.old_ends number)
+
+  no_longer : (a b : Net) → ((number : ℕ) → is_used a number ≡ is_used b number) → EndsInState a → length a ≤ length b
+  no_longer a b same last = by_order (cases_lt (length b) (length a))
+    where
+      by_order : (length b < length a) ⊎ (length a ≤ length b) → length a ≤ length b
+      by_order (inr le) = le
+      by_order (inl more) = let below = used_below b (length a - 1) (sym (same (length a - 1)) ∙ last (omega (arith, more))) in absurd (omega (arith, more, below))
+
+  -- the network is the old one
+  pub taken_back : EndsInState old → EndsInState new → new ≡ old
+  taken_back old_last new_last =
+      let le = no_longer new old same_used new_last in
+      let ge = no_longer old new (λ number. sym (same_used number)) old_last in
+      ext_get_or None new old (omega (arith, le, ge)) (λ k lt. same_slot k)
+
+-- what is taken back wasn't there
+pub taken_back_is_before : TakenBackIsBefore
+taken_back_is_before line end birth old middle new old_settled middle_settled new_last inserts removes = taken_back line end birth old middle new old_settled.network middle_settled.network old_settled.merged middle_settled.merged inserts removes old_settled.last new_last
