@@ -5,6 +5,7 @@ pub mod ContainLemmas
 pub mod CountLemmas
 pub mod EndingLemmas
 pub mod GrowthLemmas
+pub mod HolderLemmas
 pub mod InsertionLemmas
 pub mod LawLemmas
 pub mod PrefixLemmas

@@ -42,7 +42,7 @@ none_numbered number (end ∷ ends) none = go (none_numbered number ends) (end.n
         let counted = count-cons (λ (e : End). e.number == number) end ends in let one : bit (end.number == number) ≡ 1 = ap bit is in absurd (omega (arith, none, counted, one))
     go rest false is = let counted = count-cons (λ (e : End). e.number == number) end ends in ap (λ es. end ∷ es) (rest (omega (arith, none, counted)))
 
-counted_other : (number other : ℕ) (ends : List End) → (number ≡ other → ⊥) → count_by (λ (e : End). e.number == other) (without_numbered number ends) ≡ count_by (λ (e : End). e.number == other) ends
+pub counted_other : (number other : ℕ) (ends : List End) → (number ≡ other → ⊥) → count_by (λ (e : End). e.number == other) (without_numbered number ends) ≡ count_by (λ (e : End). e.number == other) ends
 counted_other number other [] ne = refl
 counted_other number other (end ∷ ends) ne = go (counted_other number other ends ne) (end.number == number) refl ∙ sym (count-cons (λ (e : End). e.number == other) end ends)
   where
@@ -54,7 +54,7 @@ counted_other number other (end ∷ ends) ne = go (counted_other number other en
         omega (arith, rest, zero')
     go rest false is = count-cons (λ (e : End). e.number == other) end (without_numbered number ends) ∙ ap (λ n. bit (end.number == other) + n) rest
 
-counted_gone : (number : ℕ) (ends : List End) → count_by (λ (e : End). e.number == number) (without_numbered number ends) ≡ 0
+pub counted_gone : (number : ℕ) (ends : List End) → count_by (λ (e : End). e.number == number) (without_numbered number ends) ≡ 0
 counted_gone number [] = refl
 counted_gone number (end ∷ ends) = go (counted_gone number ends) (end.number == number) refl
   where

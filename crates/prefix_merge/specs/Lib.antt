@@ -1,6 +1,7 @@
 pub mod Buckets
 pub mod Counts
 pub mod Growth
+pub mod Holders
 pub mod Insertion
 pub mod Laws
 pub mod Merging

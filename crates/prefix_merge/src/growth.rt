@@ -1,9 +1,9 @@
 //! Networks that grow by a line.
 ghost use Rattle.std.specs.Prelude.{◌≡◌, ◌≤◌, ℕ, IfOk, IsTrue, OnErr, Some, [], drop, false, length, max, ◌+◌, take};
 ghost use Rattle.automaton.specs.Changes.{RemovesState};
-ghost use Rattle.automaton.specs.States.{Net, edges_at, is_used, root_at};
+ghost use Rattle.automaton.specs.States.{Net, edges_at, ends_at, is_used, root_at};
 ghost use Rattle.prefix_merge.specs.Growth.{AreUsedBelow, Grows, Plants, Reaches, end_of};
-ghost use Rattle.prefix_merge.specs.Merging.{IsLowestFree};
+ghost use Rattle.prefix_merge.specs.Merging.{HasEnd, IsLowestFree};
 
 use crate::indexed::Indexed;
 use automaton::{End, Hop, Line};
@@ -62,6 +62,7 @@ pub(crate) fn grow(
 ) -> Result<usize, Memory>
     requires tip { IsTrue (is_used network.old tip) }
     requires from { AreUsedBelow network.old from }
+    requires end { ¬ HasEnd network.old end.number }
     ensures grown { IfOk result (λ bound. Grows tip hops.now end network.old network.new) }
     ensures bound { IfOk result (λ bound. AreUsedBelow network.new bound) }
     ensures kept { OnErr result (network.new ≡ network.old) }
@@ -91,7 +92,8 @@ pub(crate) fn plant(
     end: usize,
     birth: Option<u64>,
 ) -> Result<usize, Memory>
-    requires { IsLowestFree network.old number }
+    requires number { IsLowestFree network.old number }
+    requires end { ¬ HasEnd network.old end }
     ensures planted { IfOk result (λ bound. Plants number line.now (end_of line.now end birth) network.old network.new) }
     ensures bound { IfOk result (λ bound. AreUsedBelow network.new bound) }
     ensures kept { OnErr result (network.new ≡ network.old) }
@@ -138,6 +140,7 @@ pub(crate) fn numbered_end(
 fn take_back(network: &mut Indexed, number: usize, places: usize)
     requires used { IsTrue (is_used network.old number) }
     requires last { edges_at network.old number ≡ [] }
+    requires endless { ends_at network.old number ≡ [] }
     requires next { number ≤ places }
     requires places { length network.old ≡ max places (number + 1) }
     ensures { (left : Net) × RemovesState number network.old left × (network.new ≡ take places left) }

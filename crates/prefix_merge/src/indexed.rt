@@ -1,10 +1,13 @@
 //! Networks whose waiting states are found by how they are entered.
-ghost use Rattle.std.specs.Prelude.{◌≡◌, ◌≢◌, ◌<◌, ◌≤◌, ◌-◌, ◌==◌, ℕ, [], Contains, IfNone, IfSome, IsTrue, OnErr, OnOk, Some, count_by, false, if◌then◌else◌, length, take};
+ghost use Rattle.std.specs.Prelude.{◌≡◌, ◌≢◌, ◌<◌, ◌≤◌, ◌-◌, ◌==◌, ℕ, [], Contains, IfNone, IfSome, IsTrue, None, OnErr, OnOk, Some, count_by, false, if◌then◌else◌, length, nat_eq, take};
+ghost use Rattle.std.specs.HashMap.{get};
 ghost use Rattle.automaton.specs.Changes.{AddsEnd, AddsHop, AddsRoot, RemovesEnd, RemovesState};
 ghost use Rattle.automaton.specs.Networks.{IsNetwork};
-ghost use Rattle.automaton.specs.States.{edges_at, entrance_at, is_used};
+ghost use Rattle.automaton.specs.States.{edges_at, ends_at, entrance_at, is_used};
 ghost use Rattle.automaton.specs.declared.network.Entrance.TheVariants.{Waiting};
 ghost use Rattle.prefix_merge.specs.Buckets.{HaveSame, IsPut, IsTakenFrom, IsTakenOut};
+ghost use Rattle.prefix_merge.specs.Holders.{TellsOf};
+ghost use Rattle.prefix_merge.specs.Merging.{HasEnd, ends_numbered};
 
 use crate::hashing::entrance_hash;
 use automaton::{End, Hop, Network};
@@ -13,15 +16,20 @@ use std::alloc::Global;
 use std::collections::HashMap;
 use std::marker::Model;
 
-// A network, and its waiting states in buckets by a hash of how each is entered. A contract sees the network.
+// A network, its waiting states in buckets by a hash of how each is entered, and the state of each end. A contract
+// sees the network.
 #[derive(Drop)]
 pub(crate) struct Indexed {
     network: Network,
     buckets: Buckets,
+    holders: Holders,
 }
 
 // The states in the bucket of each hash.
 type Buckets = HashMap<u64, Numbers>;
+
+// The state at which the end of each number stands.
+type Holders = HashMap<usize, usize>;
 
 impl Model for Indexed {
     ghost use Rattle.std.specs.Prelude.{List, Option};
@@ -35,10 +43,11 @@ impl Model for Indexed {
     ghost coded = { coded_list (coded_option state.the_row.coded) };
 
     ghost use Rattle.prefix_merge.specs.Buckets.{AreInBuckets};
+    ghost use Rattle.prefix_merge.specs.Holders.{AreHolders};
 
     ghost view = { λ m. m.network };
 
-    ghost invariant = { λ m. AreInBuckets m.buckets m.network };
+    ghost invariant = { λ m. AreInBuckets m.buckets m.network × AreHolders m.holders m.network };
 }
 
 impl Indexed {
@@ -48,6 +57,7 @@ impl Indexed {
         Indexed {
             network: Network::new(alloc),
             buckets: HashMap::new(alloc),
+            holders: HashMap::new(alloc),
         }
     }
 
@@ -77,7 +87,6 @@ impl Indexed {
     }
 
     // A root state comes, without edges and ends.
-    #[tactic(auto, using(crate::proofs::BucketLemmas::buckets_root))]
     pub(crate) fn add_root(
         &mut self,
         alloc: Global,
@@ -115,27 +124,47 @@ impl Indexed {
         added
     }
 
-    // An end comes to a state.
+    // The state at which the end with this number stands.
+    pub(crate) fn holder(&self, number: usize) -> usize
+        requires { HasEnd self.now number }
+        ensures { 1 ≤ ends_numbered self.now number result }
+    {
+        match self.holders.get(&number) {
+            Some(state) => *state,
+            None => unreachable!(),
+        }
+    }
+
+    // An end of a new number comes to a state.
     pub(crate) fn add_end(&mut self, state: usize, end: End) -> Result<(), Memory>
-        requires { IsTrue (is_used self.old state) }
+        requires used { IsTrue (is_used self.old state) }
+        requires new { ¬ HasEnd self.old end.number }
         ensures added { OnOk result (AddsEnd state end self.old self.new) }
         ensures kept { OnErr result (self.new ≡ self.old) }
     {
-        self.network.add_end(state, end)
+        let number = end.number;
+        note(&mut self.holders, number, state)?;
+        let added = self.network.add_end(state, end);
+        if added.is_err() {
+            forget(&mut self.holders, number);
+        }
+        added
     }
 
-    // The ends of this number leave a state.
+    // The end of this number leaves its state.
     pub(crate) fn remove_end(&mut self, state: usize, number: usize)
-        requires { IsTrue (is_used self.old state) }
+        requires { 1 ≤ ends_numbered self.old number state }
         ensures { RemovesEnd state number self.old self.new }
     {
         self.network.remove_end(state, number);
+        forget(&mut self.holders, number);
     }
 
-    // A state from which no edge leads leaves, with the edge that leads to it.
+    // A state without edges and ends leaves, with the edge that leads to it.
     pub(crate) fn remove_state(&mut self, number: usize)
         requires used { IsTrue (is_used self.old number) }
         requires last { edges_at self.old number ≡ [] }
+        requires endless { ends_at self.old number ≡ [] }
         ensures { RemovesState number self.old self.new }
     {
         take_waiting(&mut self.buckets, &self.network, number);
@@ -143,7 +172,6 @@ impl Indexed {
     }
 
     // Forgets the last place, which no state has.
-    #[tactic(auto, using(crate::proofs::BucketLemmas::buckets_shrunk))]
     pub(crate) fn shrink(&mut self)
         requires some { 0 < length self.old }
         requires free { is_used self.old (length self.old - 1) ≡ false }
@@ -151,6 +179,22 @@ impl Indexed {
     {
         self.network.shrink();
     }
+}
+
+// Notes the state of an end.
+fn note(holders: &mut Holders, end: usize, state: usize) -> Result<(), Memory>
+    ensures ok { OnOk result (TellsOf end (Some state) holders.old holders.new) }
+    ensures kept { OnErr result ((other : ℕ) → get nat_eq holders.new other ≡ get nat_eq holders.old other) }
+{
+    holders.insert(end, state)?;
+    Ok(())
+}
+
+// Forgets the state of an end.
+fn forget(holders: &mut Holders, end: usize)
+    ensures { TellsOf end None holders.old holders.new }
+{
+    holders.remove(&end);
 }
 
 // The first of the states that is entered from this one through the hop.

@@ -9,7 +9,7 @@ ghost use Rattle.prefix_merge.specs.Removal.{Removes};
 
 use crate::growth::{free_number, grow, hops_from, numbered_end, plant, reach};
 use crate::indexed::Indexed;
-use crate::pruning::{Roots, holder, prune, shorten};
+use crate::pruning::{Roots, prune, shorten};
 use automaton::{Line, Lines, Network};
 use event_types::Memory;
 use std::alloc::Global;
@@ -107,7 +107,7 @@ impl Merged {
         requires { HasEnd self.old end }
         ensures { Removes end self.old self.new }
     {
-        let state = holder(self.network.network(), end);
+        let state = self.network.holder(end);
         self.network.remove_end(state, end);
         self.lowest = prune(&mut self.network, &mut self.roots, self.lowest, state);
         shorten(&mut self.network);

@@ -1,41 +1,19 @@
 //! Networks that states leave which no end uses.
-ghost use Rattle.std.specs.Prelude.{◌≡◌, ◌≤◌, ◌==◌, ℕ, [], IsTrue, None, false, if◌then◌else◌, nat_eq};
-ghost use Rattle.std.specs.List.{list_any};
+ghost use Rattle.std.specs.Prelude.{◌≡◌, ℕ, [], IsTrue, None, false, if◌then◌else◌, nat_eq};
 ghost use Rattle.std.specs.HashMap.{get};
 ghost use Rattle.automaton.specs.Networks.{IsNetwork};
 ghost use Rattle.automaton.specs.Prefixes.{Prefix};
 ghost use Rattle.automaton.specs.States.{Net, edges_at, ends_at, is_used, tells};
 ghost use Rattle.prefix_merge.specs.Growth.{AreUsedBelow, IsTable};
-ghost use Rattle.prefix_merge.specs.Merging.{HasEnd, ends_numbered};
 ghost use Rattle.prefix_merge.specs.Pruning.{IsPruned, IsPruning, IsShortened, IsWanted};
 
 use crate::indexed::Indexed;
-use automaton::{End, Network};
+use automaton::Network;
 use event_types::StreamId;
 use std::collections::HashMap;
 
 // The number of the root state of each stream that has one.
 pub(crate) type Roots = HashMap<StreamId, usize>;
-
-// The state at which the end with this number stands.
-pub(crate) fn holder(network: &Network, number: usize) -> usize
-    requires { HasEnd network.now number }
-    ensures { 1 ≤ ends_numbered network.now number result }
-{
-    for state in 0..network.places() {
-        if network.used(state) && has_end(network.ends(state).as_slice(), number) {
-            return state;
-        }
-    }
-    unreachable!()
-}
-
-// Whether one of the ends has this number.
-fn has_end(ends: &[End], number: usize) -> bool
-    ensures { result ≡ list_any (λ end. end.number == number) ends.now }
-{
-    ends.iter().any(|end| end.number == number)
-}
 
 // Whether an edge leads on from a state, or an end stands there.
 fn is_wanted(network: &Network, state: usize) -> bool

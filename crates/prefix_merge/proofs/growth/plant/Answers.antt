@@ -7,11 +7,11 @@ use Rattle.prefix_merge.proofs.growth.plant.Goals as goal
 
 -- the number is the next one at most
 pub take_back-requires-clause-next : goal.take_back-requires-clause-next
-take_back-requires-clause-next c = subst (λ places. c.args.number ≤ places) (sym c.places-places.ensures.value) (lowest_within c.args.network.now c.args.number c.requires)
+take_back-requires-clause-next c = subst (λ places. c.args.number ≤ places) (sym c.places-places.ensures.value) (lowest_within c.args.network.now c.args.number c.requires.number)
 
 -- the root state is taken away again
 pub returns-in-Err-clause-kept : goal.returns-in-Err-clause-kept
 returns-in-Err-clause-kept c =
     let removes = subst (λ (net : Net). RemovesState c.args.number net c.take_back.ensures.0) c.in-Err.ensures.kept c.take_back.ensures.1 in
-    root_undone c.args.number c.places-places.result c.args.line.now.root c.args.network.now c.add_root.new.self c.take_back.ensures.0 c.take_back.new.network c.requires.free (lowest_within c.args.network.now c.args.number c.requires)
+    root_undone c.args.number c.places-places.result c.args.line.now.root c.args.network.now c.add_root.new.self c.take_back.ensures.0 c.take_back.new.network c.requires.number.free (lowest_within c.args.network.now c.args.number c.requires.number)
     c.places-places.ensures.value c.in_ok-add_root.ensures.added removes c.take_back.ensures.2

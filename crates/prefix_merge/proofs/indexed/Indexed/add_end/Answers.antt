@@ -1,11 +1,30 @@
-use Rattle.std.proofs.Common.{subst, sym}
+use Rattle.std.proofs.Common.{◌≡◌, ◌∙◌, sym, subst, true}
+use Rattle.automaton.specs.States.{Net, is_used}
 use Rattle.prefix_merge.specs.Buckets.{AreInBuckets}
-use Rattle.prefix_merge.proofs.BucketLemmas.{buckets_end, either_way}
+use Rattle.prefix_merge.specs.Holders.{AreHolders}
+use Rattle.prefix_merge.specs.Merging.{HasEnd}
+use Rattle.prefix_merge.proofs.BucketLemmas.{buckets_end, failed, succeeded}
+use Rattle.prefix_merge.proofs.HolderLemmas.{holders_back, holders_more}
 use Rattle.prefix_merge.proofs.indexed.Indexed.add_end.Goals as goal
 
--- the end came or didn't
-pub invariant_of-self : goal.invariant_of-self
-invariant_of-self c =
-    let buckets = c.self.inside.buckets in
-    either_way c.add_end.result c.add_end.ensures.added c.add_end.ensures.kept (buckets_end buckets c.args.state c.args.end c.self.inside.network c.add_end.new.self c.self.invariant)
-    (λ same. subst (AreInBuckets buckets) (sym same) c.self.invariant)
+-- it couldn't be added, and its state was forgotten again
+pub invariant_of-self-then-is_err : goal.invariant_of-self-then-is_err
+invariant_of-self-then-is_err c =
+    let net = c.self.inside.network in
+    let same = failed c.add_end-added.result (sym c.is_err.ensures.value ∙ c.if-is_err.true) c.add_end-added.ensures.kept in
+    let fresh = subst (λ (net : Net). HasEnd net c.args.end.number → ⊥) (sym c.self.view_is) c.requires.new in (
+      subst (AreInBuckets c.self.inside.buckets) (sym same) c.self.invariant.0,
+      subst (AreHolders c.forget.new.holders) (sym same)
+          (holders_back c.self.inside.holders c.note.new.holders c.forget.new.holders c.args.end.number c.args.state net c.self.invariant.1 fresh (c.in_ok-note.ensures {u = tt}).ok c.forget.ensures),
+    )
+
+-- it was added
+pub invariant_of-self-else-is_err : goal.invariant_of-self-else-is_err
+invariant_of-self-else-is_err c =
+    let net = c.self.inside.network in
+    let added = succeeded c.add_end-added.result (sym c.is_err.ensures.value ∙ c.if-is_err.false) c.add_end-added.ensures.added in
+    let fresh = subst (λ (net : Net). HasEnd net c.args.end.number → ⊥) (sym c.self.view_is) c.requires.new in
+    let used = subst (λ (net : Net). is_used net c.args.state ≡ true) (sym c.self.view_is) c.requires.used in (
+      buckets_end c.self.inside.buckets c.args.state c.args.end net c.add_end-added.new.self c.self.invariant.0 added,
+      holders_more c.self.inside.holders c.note.new.holders c.args.state c.args.end net c.add_end-added.new.self c.self.invariant.1 used fresh (c.in_ok-note.ensures {u = tt}).ok added,
+    )

@@ -1,6 +1,15 @@
+use Rattle.std.proofs.Common.{◌∙◌, ap}
+use Rattle.automaton.specs.States.{Net, ends_at}
 use Rattle.prefix_merge.proofs.BucketLemmas.{buckets_less}
+use Rattle.prefix_merge.proofs.HolderLemmas.{holders_same, left_ends}
 use Rattle.prefix_merge.proofs.indexed.Indexed.remove_state.Goals as goal
 
--- the others are in their buckets
+-- the others are in their buckets, and each end stands where it stood
 pub invariant_of-self : goal.invariant_of-self
-invariant_of-self c = buckets_less c.self.inside.buckets c.take_waiting.new.buckets c.args.number c.self.inside.network c.remove_state.new.self c.self.invariant c.take_waiting.ensures c.remove_state.ensures
+invariant_of-self c =
+    let old = c.self.inside.network in
+    let new = c.remove_state.new.self in
+    let endless = ap (λ (net : Net). ends_at net c.args.number) c.self.view_is ∙ c.requires.endless in (
+      buckets_less c.self.inside.buckets c.take_waiting.new.buckets c.args.number old new c.self.invariant.0 c.take_waiting.ensures c.remove_state.ensures,
+      holders_same c.self.inside.holders old new (left_ends c.args.number old new endless c.remove_state.ensures) c.self.invariant.1,
+    )

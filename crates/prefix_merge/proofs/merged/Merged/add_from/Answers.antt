@@ -1,4 +1,4 @@
-use Rattle.std.proofs.Common.{List, drop, subst, sym}
+use Rattle.std.proofs.Common.{List, ap, drop, subst, sym}
 use Rattle.automaton.specs.declared.line.Hop.{Hop}
 use Rattle.automaton.specs.declared.network.End.{End}
 use Rattle.automaton.specs.States.{Net}
@@ -8,6 +8,12 @@ use Rattle.prefix_merge.specs.Insertion.{Inserts}
 use Rattle.prefix_merge.specs.Merging.{HasEnd}
 use Rattle.prefix_merge.proofs.InsertionLemmas.{grown_from, line_inserted, line_kept}
 use Rattle.prefix_merge.proofs.merged.Merged.add_from.Goals as goal
+
+-- no end has the number
+pub grow-requires-clause-end : goal.grow-requires-clause-end
+grow-requires-clause-end c =
+    let number = ap (λ (end : End). end.number) c.in_ok-end.ensures in
+    subst (λ n. HasEnd c.self.inside.network n → ⊥) (sym number) (subst (λ (net : Net). HasEnd net c.args.end → ⊥) (sym c.self.view_is) c.requires.end)
 
 -- the state is there
 pub grow-requires-clause-tip : goal.grow-requires-clause-tip

@@ -1,7 +1,6 @@
-use Rattle.std.proofs.Common.{◌≤◌, subst}
+use Rattle.std.proofs.Common.{subst}
 use Rattle.automaton.specs.States.{Net}
 use Rattle.automaton.proofs.ChangeLemmas.{removes_end_network}
-use Rattle.prefix_merge.specs.Merging.{ends_numbered}
 use Rattle.prefix_merge.specs.Removal.{Removes}
 use Rattle.prefix_merge.proofs.RemovalLemmas.{end_pruning, line_removed, middle_below, middle_table, numbers_kept, state_used}
 use Rattle.prefix_merge.proofs.ShortLemmas.{below_short, merged_short, network_short, numbers_short, removed_short, table_short}
@@ -15,7 +14,7 @@ prune-self-inside-requires-clause-network c = removes_end_network c.holder-state
 pub invariant_of-self : goal.invariant_of-self
 invariant_of-self c =
     let keeps = c.self.invariant in
-    let holds = subst (λ (net : Net). 1 ≤ ends_numbered net c.args.end c.holder-state.result) c.network.ensures c.holder-state.ensures in
+    let holds = c.holder-state.ensures in
     let old = c.self.inside.network in
     let middle = c.remove_end.new.self in
     let state = c.holder-state.result in
@@ -40,7 +39,7 @@ invariant_of-self c =
 pub returns : goal.returns
 returns c =
     let keeps = c.self.invariant in
-    let holds = subst (λ (net : Net). 1 ≤ ends_numbered net c.args.end c.holder-state.result) c.network.ensures c.holder-state.ensures in
+    let holds = c.holder-state.ensures in
     let old = c.self.inside.network in
     let middle = c.remove_end.new.self in
     let state = c.holder-state.result in
