@@ -16,7 +16,9 @@ use Rattle.automaton.specs.Steps.{pass}
 use Rattle.automaton.proofs.NumberLemmas.{are_same_or_not}
 use Rattle.automaton.specs.declared.network.End.{End}
 use Rattle.stream_readers.specs.Ways.{Back, Into, Way, Out}
-use Rattle.epoch_laws.specs.Births.{began_after, is_after, passing_after}
+use Rattle.semantics.specs.Births.{is_after}
+use Rattle.instances.specs.Births.{began_after}
+use Rattle.epoch_laws.specs.Births.{passing_after}
 use Rattle.epoch_laws.specs.Instances.{began, bindings_of, pass_instance}
 use Rattle.epoch_laws.proofs.Bags.{permuted_is}
 use Rattle.epoch_draft.specs.Drafts.{Adds, DraftFits, EndsBelow, Grows, IsDraftOf}

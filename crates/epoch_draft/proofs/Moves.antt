@@ -22,7 +22,9 @@ use Rattle.automaton.specs.declared.wait.Turn.{Turn}
 use Rattle.automaton.specs.declared.wait.Wait.{Wait}
 use Rattle.automaton.proofs.CountLemmas.{count-cons}
 use Rattle.stream_readers.specs.Ways.{Into, Out, Way, backs_by, backs_in, ways_at}
-use Rattle.epoch_laws.specs.Births.{began_after, is_after, passing_after}
+use Rattle.semantics.specs.Births.{is_after}
+use Rattle.instances.specs.Births.{began_after}
+use Rattle.epoch_laws.specs.Births.{passing_after}
 use Rattle.epoch_laws.specs.Closing.{given_by_end}
 use Rattle.epoch_laws.specs.Epochs.{again}
 use Rattle.epoch_laws.specs.Instances.{bindings_of, instances_entering, pass_instance}

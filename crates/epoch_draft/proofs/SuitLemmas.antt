@@ -27,7 +27,8 @@ use Rattle.automaton.specs.declared.wait.Turn.{Turn}
 use Rattle.automaton.specs.declared.wait.Wait.{Wait}
 use Rattle.stream_readers.specs.Finding.{is_root_on, is_wait_on, waits_on}
 use Rattle.stream_readers.specs.Ways.{Back, Into, Out, backs_by, backs_in, ways_at}
-use Rattle.epoch_laws.specs.Births.{began_after, is_after}
+use Rattle.semantics.specs.Births.{is_after}
+use Rattle.instances.specs.Births.{began_after}
 use Rattle.epoch_laws.specs.Closing.{leaving_state, leaving_by, given_by_end, given_by_ends, given_by_ends_at}
 use Rattle.epoch_laws.specs.Epochs.{took}
 use Rattle.epoch_laws.specs.Instances.{begins, bindings_of, pass_instance}

@@ -4,7 +4,7 @@ ghost use Rattle.std.specs.List.{All};
 ghost use Rattle.automaton.specs.States.{Net, is_used, step_at};
 ghost use Rattle.automaton.specs.Steps.{pass};
 ghost use Rattle.stream_readers.specs.Ways.{Into, Out, ways_at};
-ghost use Rattle.epoch_laws.specs.Births.{is_after};
+ghost use Rattle.semantics.specs.Births.{is_after};
 ghost use Rattle.epoch_laws.specs.Instances.{began};
 ghost use Rattle.epoch_draft.specs.Drafts.{DraftFits, Grows, IsDraftOf};
 ghost use Rattle.epoch_draft.specs.StoredNetworks.{IsWaitingState};

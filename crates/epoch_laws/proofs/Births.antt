@@ -14,7 +14,7 @@ use Rattle.semantics.proofs.ReportLemmas.{flat_map_same}
 use Rattle.scalar_expr.proofs.NextsLemmas.{nexts_keep, nexts_start_later}
 use Rattle.automaton.specs.Waits.{chosen}
 use Rattle.automaton.specs.declared.wait.Turn.{Turn}
-use Rattle.epoch_laws.specs.Births.{after, is_after}
+use Rattle.semantics.specs.Births.{after, is_after}
 use Rattle.epoch_laws.proofs.Folds.{goers_start_later, runs_induct, runs_unfold}
 use Rattle.epoch_laws.proofs.Lists.{All-flat_map, and-false, filter-filter, filter_alike}
 

@@ -17,7 +17,8 @@ use Rattle.scalar_expr.proofs.Bags.{permuted_from}
 use Rattle.automaton.specs.Steps.{pass}
 use Rattle.automaton.specs.declared.step.Stage.{Stage}
 use Rattle.automaton.specs.declared.wait.Turn.{Turn}
-use Rattle.epoch_laws.specs.Births.{began_after, is_after}
+use Rattle.semantics.specs.Births.{is_after}
+use Rattle.instances.specs.Births.{began_after}
 use Rattle.epoch_laws.specs.Epochs.{taken, taken_from, took}
 use Rattle.epoch_laws.specs.InstanceFlow.{each}
 use Rattle.epoch_laws.specs.Instances.{began, begins, bindings_of, pass_instance}

@@ -19,7 +19,8 @@ use Rattle.automaton.specs.Waits.{chosen}
 use Rattle.automaton.specs.declared.line.Hop.{Hop}
 use Rattle.automaton.specs.declared.step.Stage.{Stage}
 use Rattle.automaton.specs.declared.wait.Turn.{Turn}
-use Rattle.epoch_laws.specs.Births.{began_after, passing_after}
+use Rattle.instances.specs.Births.{began_after}
+use Rattle.epoch_laws.specs.Births.{passing_after}
 use Rattle.epoch_laws.specs.BornLines.{BornLine}
 use Rattle.epoch_laws.specs.Epochs.{again, is_unmet, stepped, taken, took, unmatched_after}
 use Rattle.epoch_laws.specs.InstanceFlow.{each, flow_instances, given_after, waiting_behind, waiting_instances}

@@ -20,7 +20,9 @@ use Rattle.automaton.specs.Work.{completed}
 use Rattle.automaton.specs.declared.line.Hop.{Hop}
 use Rattle.automaton.specs.declared.line.Line.{Line}
 use Rattle.automaton.specs.declared.wait.Turn.{Turn}
-use Rattle.epoch_laws.specs.Births.{AreSound, began_after, is_after, streams_after}
+use Rattle.semantics.specs.Births.{is_after, streams_after}
+use Rattle.instances.specs.Births.{began_after}
+use Rattle.epoch_laws.specs.Births.{AreSound}
 use Rattle.epoch_laws.specs.BornLines.{BornLine, unborn}
 use Rattle.epoch_laws.specs.InstanceFlow.{completed_after, derived_after, each, flow_instances, given_after}
 use Rattle.epoch_laws.specs.Instances.{began, begins, bindings_of}

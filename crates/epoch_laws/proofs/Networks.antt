@@ -26,7 +26,8 @@ use Rattle.automaton.specs.declared.step.Stage.{Stage}
 use Rattle.automaton.specs.declared.network.Entrance.{Entrance}
 use Rattle.automaton.specs.declared.network.Entrance.TheVariants as entrance
 use Rattle.automaton.specs.declared.network.State.{State}
-use Rattle.epoch_laws.specs.Births.{is_after, passing_after}
+use Rattle.semantics.specs.Births.{is_after}
+use Rattle.epoch_laws.specs.Births.{passing_after}
 use Rattle.epoch_laws.specs.BornLines.{BornLine, HasBornLines, born_by}
 use Rattle.epoch_laws.specs.Closing.{Stores, leaving_state, leaving_by, given_by_end, given_by_ends, given_by_ends_at, stepped_by, stores_after}
 use Rattle.epoch_laws.specs.Epochs.{stepped}

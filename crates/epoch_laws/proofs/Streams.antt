@@ -18,7 +18,8 @@ use Rattle.automaton.specs.Work.{IsInOrder}
 use Rattle.automaton.specs.declared.line.Hop.{Hop}
 use Rattle.automaton.specs.declared.line.Line.{Line}
 use Rattle.automaton.specs.declared.wait.Turn.{Turn}
-use Rattle.epoch_laws.specs.Births.{AreSound, is_after, streams_after}
+use Rattle.semantics.specs.Births.{is_after, streams_after}
+use Rattle.epoch_laws.specs.Births.{AreSound}
 use Rattle.epoch_laws.specs.BornLines.{BornLine, lines_in}
 use Rattle.epoch_laws.specs.Histories.{events_before, events_during, streams_over}
 use Rattle.epoch_laws.specs.InstanceFlow.{completed_after, derived_after, given_after}

@@ -8,7 +8,9 @@ use Rattle.automaton.specs.Waiting.{waiting}
 use Rattle.automaton.specs.Work.{completed}
 use Rattle.automaton.specs.declared.line.Hop.{Hop}
 use Rattle.automaton.specs.declared.line.Line.{Line}
-use Rattle.epoch_laws.specs.Births.{AreSound, began_after, streams_after}
+use Rattle.semantics.specs.Births.{streams_after}
+use Rattle.instances.specs.Births.{began_after}
+use Rattle.epoch_laws.specs.Births.{AreSound}
 use Rattle.epoch_laws.specs.BornLines.{BornLine, unborn}
 use Rattle.epoch_laws.specs.InstanceFlow.{completed_after, derived_after, flow_instances, waiting_instances}
 use Rattle.epoch_laws.specs.Instances.{bindings_of}

@@ -1,4 +1,5 @@
 pub mod Alive
+pub mod Births
 pub mod Bounds
 pub mod Keys
 pub mod Plain

@@ -1,3 +1,4 @@
+pub mod Births
 pub mod Codes
 pub mod Denotation
 pub mod Expressions
