@@ -1,5 +1,6 @@
 pub mod BucketLemmas
 pub mod CandidateLemmas
+pub mod CutLemmas
 pub mod EqualityLemmas
 pub mod ExpiryLemmas
 pub mod KeyLemmas

@@ -99,3 +99,7 @@ pub record IsPurged (test : Instance → Bool) (old new : List Bucket) : Type 0 
 pub record KeepsAlive (test : Instance → Bool) (old new : List Bucket) : Type 0 where
   pub same_keys : IsPermutation (keys_of old) (keys_of new)
   pub alike : (key : Value) → filter test (instances_at new key) ≡ filter test (instances_at old key)
+
+-- each instance of the buckets from a place on passes the test
+abbrev pub PassFrom : (Instance → Bool) → ℕ → List Bucket → Type 0
+PassFrom test place buckets = (number : ℕ) (d : Bucket) → place ≤ number → number < length buckets → All (λ instance. test instance ≡ true) (slice_index_or buckets number d).1

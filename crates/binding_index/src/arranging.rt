@@ -1,8 +1,9 @@
 //! The order of the buckets: those with instances come first, each with the time of its place.
-ghost use Rattle.std.specs.Prelude.{◌≡◌, ◌<◌, ◌≤◌, length, OnOk};
+ghost use Rattle.std.specs.Prelude.{◌≡◌, ◌<◌, ◌≤◌, Bool, length, OnOk};
 ghost use Rattle.std.specs.List.{swap};
 ghost use Rattle.std.specs.List.Sorted.{IsPermutation};
-ghost use Rattle.binding_index.specs.Buckets.{AreSame, AreStarts, IsSplit, IsSplitBut};
+ghost use Rattle.instances.specs.declared.instance.Instance.{Instance};
+ghost use Rattle.binding_index.specs.Buckets.{AreSame, AreStarts, IsSplit, IsSplitBut, PassFrom};
 
 use crate::buckets::Buckets;
 use deadlines::Deadlines;
@@ -42,6 +43,8 @@ pub(crate) fn arrange(
     ensures split { IsSplit result buckets.new.entries }
     ensures starts { AreStarts starts.new buckets.new.entries }
     ensures same_starts { IsPermutation starts.old starts.new }
+    ensures near { place < filled → place ≤ result }
+    ensures pass { (test : Instance → Bool) → place < filled → PassFrom test place buckets.old.entries → PassFrom test place buckets.new.entries }
 {
     // `len` is called for its clause that the number of buckets is below 2^63
     let _len = buckets.len();

@@ -2,12 +2,13 @@
 ghost use Rattle.std.specs.Prelude.{◌≡◌, ◌+◌, ◌-◌, ◌^◌, ◌≤◌, ◌++◌, [], OnOk, Some, min, length, not, filter, All};
 ghost use Rattle.semantics.specs.Nexts.{is_eligible};
 ghost use Rattle.scalar_expr.specs.Fits.{AllFit};
+ghost use Rattle.instances.specs.Births.{began_after};
 ghost use Rattle.instances.specs.Bounds.{alive_instances};
 ghost use Rattle.binding_index.specs.Entries.{has_any};
 
 use event_types::{Memory, Tuple};
 use inst_chain::{Chain, Look};
-use instances::{Instance, Instances, add_copies, count_of, keep_alive, take_eligible};
+use instances::{Instance, Instances, add_copies, count_of, keep_after, keep_alive, take_eligible};
 use scalar_expr::Conj;
 use std::alloc::Global;
 use std::marker::Model;
@@ -77,6 +78,13 @@ impl Bucket {
     {
         chain.append(&mut self.chain);
         std::mem::swap(&mut self.chain, chain);
+    }
+
+    /// Takes out the instances that began no later than a birth.
+    pub(crate) fn keep_after(&mut self, birth: u64)
+        ensures { self.new ≡ began_after (Some birth) self.old }
+    {
+        keep_after(&mut self.chain, birth);
     }
 
     /// Takes out the instances that no event after `now` can match, as the bounds on DUR tell. It gives a time

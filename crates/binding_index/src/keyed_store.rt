@@ -1,5 +1,6 @@
 //! A store with a key.
 ghost use Rattle.std.specs.Prelude.{◌≡◌, ◌+◌, ◌≤◌, [], All, IfOk, IsSome, OnOk, Some};
+ghost use Rattle.instances.specs.Births.{began_after};
 ghost use Rattle.instances.specs.Bounds.{alive_instances};
 ghost use Rattle.instances.specs.Keys.{KeepsUsedKeys};
 ghost use Rattle.binding_index.specs.Among.{is_among};
@@ -7,6 +8,7 @@ ghost use Rattle.binding_index.specs.KeyParts.{first_key as first_key_of, key_of
 
 use crate::arranging::arrange;
 use crate::buckets::{Buckets, add_bucket, candidate_place, copy_all, count_all};
+use crate::cutting::keep_all_after;
 use crate::entries::place_of;
 use crate::expiring::keep_all_alive;
 use crate::key::{KeyPart, first_key};
@@ -87,6 +89,18 @@ impl KeyedStore {
         self.buckets.truncate(self.filled);
     }
 
+    // Takes out the instances that began no later than `since`, where it is given.
+    fn cut(&mut self, since: Option<u64>)
+        ensures began { self.new.instances ≡ began_after since self.old.instances }
+        ensures same_ready { self.new.ready ≡ self.old.ready }
+        ensures same_condition { self.new.condition ≡ self.old.condition }
+        ensures same_key { self.new.key ≡ self.old.key }
+    {
+        if let Some(since) = since {
+            self.filled = keep_all_after(&mut self.buckets, &mut self.starts, self.filled, since);
+        }
+    }
+
     // Takes out the instances that no event after `now` can match, and forgets the keys that no instance has.
     // It gives a time before which none of the others starts.
     fn expire(&mut self, now: u64) -> u64
@@ -160,7 +174,8 @@ impl Waiting for KeyedStore {
         }
     }
 
-    fn purge(&mut self, now: u64) -> u128 {
+    fn purge(&mut self, now: u64, since: Option<u64>) -> u128 {
+        self.cut(since);
         let oldest = self.expire(now);
         purged_until(&self.condition, oldest, now)
     }

@@ -8,6 +8,7 @@
 mod arranging;
 mod bucket;
 mod buckets;
+mod cutting;
 mod directory;
 mod entries;
 mod expiring;

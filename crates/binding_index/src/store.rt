@@ -106,10 +106,10 @@ impl Waiting for Store {
         }
     }
 
-    fn purge(&mut self, now: u64) -> u128 {
+    fn purge(&mut self, now: u64, since: Option<u64>) -> u128 {
         match self {
-            Store::Plain(store) => store.purge(now),
-            Store::Keyed(store) => store.purge(now),
+            Store::Plain(store) => store.purge(now, since),
+            Store::Keyed(store) => store.purge(now, since),
         }
     }
 

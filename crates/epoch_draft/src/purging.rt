@@ -78,7 +78,7 @@ pub(crate) fn purge(slot: &mut Option<Store>, time: u64) -> u128
     ensures later { time + 1 < result }
 {
     match slot {
-        Some(store) => store.purge(time),
+        Some(store) => store.purge(time, None),
         None => NEVER,
     }
 }

@@ -5,6 +5,7 @@
 //! condition and its instances.
 #![tactic(auto)]
 
+mod births;
 mod bounds;
 mod contents;
 mod eligibility;
@@ -13,6 +14,7 @@ mod instance;
 mod plain_store;
 mod waiting;
 
+pub use births::keep_after;
 pub use bounds::{earliest_alive, keep_alive};
 pub use contents::{add_copies, count_of};
 pub use eligibility::take_eligible;

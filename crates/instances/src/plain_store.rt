@@ -1,7 +1,9 @@
 //! A store without a key.
 ghost use Rattle.std.specs.Prelude.{◌≡◌, ◌+◌, ◌≤◌, [], All, None, IfOk};
+ghost use Rattle.instances.specs.Births.{began_after};
 ghost use Rattle.instances.specs.Bounds.{alive_instances};
 
+use crate::births::keep_after;
 use crate::bounds::{earliest_alive, keep_alive};
 use crate::contents::{add_copies, count_of};
 use crate::eligibility::take_eligible;
@@ -53,6 +55,16 @@ impl PlainStore {
             condition,
             oldest: u64::MAX,
         })
+    }
+
+    // Takes out the instances that began no later than `since`, where it is given.
+    fn cut(&mut self, since: Option<u64>)
+        ensures began { self.new.instances ≡ began_after since self.old.instances }
+        ensures same_condition { self.new.condition ≡ self.old.condition }
+    {
+        if let Some(since) = since {
+            keep_after(&mut self.chain, since);
+        }
     }
 
     // Takes out the instances that no event after `now` can match. It gives a time before which none of the
@@ -108,7 +120,8 @@ impl Waiting for PlainStore {
         std::mem::swap(&mut self.chain, &mut chain);
     }
 
-    fn purge(&mut self, now: u64) -> u128 {
+    fn purge(&mut self, now: u64, since: Option<u64>) -> u128 {
+        self.cut(since);
         let oldest = self.expire(now);
         purged_until(&self.condition, oldest, now)
     }

@@ -4,6 +4,7 @@ ghost use Rattle.event_types.specs.declared.value.Value.{Value};
 ghost use Rattle.semantics.specs.Scalars.{Pr};
 ghost use Rattle.scalar_expr.specs.Fits.{AllFit};
 ghost use Rattle.instances.specs.declared.instance.Instance.{Instance};
+ghost use Rattle.instances.specs.Births.{began_after};
 ghost use Rattle.instances.specs.Bounds.{AreAliveUntil, alive_instances};
 ghost use Rattle.instances.specs.Keys.{BindingFits, EventFits, HasKey, IsKeyReady, KeepsUsedKeys, Key, candidates_of, unmatched};
 
@@ -66,13 +67,13 @@ pub trait Waiting {
         ensures same_condition { condition self.new ≡ condition self.old }
         ensures same_key { key self.new ≡ key self.old };
 
-    /// Takes out the instances that no event after this time can match, as the bounds on DUR tell, and
-    /// forgets the keys that no instance has. It gives a deadline of the others, which is later than the next
-    /// time. Takes no memory.
-    fn purge(&mut self, now: u64) -> u128
+    /// Takes out the instances that no event after this time can match, as the bounds on DUR tell, and, where
+    /// `since` is given, those that began no later. It forgets the keys that no instance has, and gives a
+    /// deadline of the others, which is later than the next time. Takes no memory.
+    fn purge(&mut self, now: u64, since: Option<u64>) -> u128
         ensures later { now + 1 < result }
         ensures until { AreAliveUntil result (condition self.old) (instances self.new) }
-        ensures alive { instances self.new ≡ alive_instances (now + 1) (condition self.old) (instances self.old) }
+        ensures alive { instances self.new ≡ alive_instances (now + 1) (condition self.old) (began_after since (instances self.old)) }
         ensures ready { KeepsUsedKeys (key self.old) (instances self.new) (ready_keys self.old) (ready_keys self.new) }
         ensures same_condition { condition self.new ≡ condition self.old }
         ensures same_key { key self.new ≡ key self.old };

@@ -1,5 +1,6 @@
 use Rattle.std.proofs.Common.{◌∙◌, ◌-◌, sym, arith}
 use Rattle.std.proofs.lemmas.List.Sorted.{IsPermutation-swap}
+use Rattle.binding_index.proofs.CutLemmas.{pass_swapped}
 use Rattle.binding_index.proofs.MapLemmas.{filled_there}
 use Rattle.binding_index.proofs.SplitLemmas.{set_aside, set_forward, stands, where_it_should}
 use Rattle.binding_index.proofs.StartLemmas.{starts_swapped}
@@ -40,3 +41,7 @@ returns-clause-split c =
     stands c.args.filled c.args.place c.args.buckets.now.entries c.requires.others
     (λ d. filled_there c.args.buckets.now.entries c.args.place c.index.result.now c.index.ensures d ∙ sym c.has_some-has_some.ensures
     ∙ where_it_should c.has_some-has_some.result c.args.place c.args.filled c.else-place-filled.either c.else-filled-place.either)
+
+pub returns-then-not-has_some-clause-pass : goal.returns-then-not-has_some-clause-pass
+returns-then-not-has_some-clause-pass c test lt =
+    pass_swapped test c.args.place c.args.filled c.args.buckets.now.entries c.exchange.new.buckets.entries lt c.requires.within c.exchange.ensures.as_many c.exchange.ensures.buckets
