@@ -1,6 +1,7 @@
 //! A list of items.
-ghost use Rattle.std.specs.Prelude.{◌≡◌, ◌<◌, [], ◌∷◌, ◌++◌, length, take, slice_get, IsPermutation, IsSorted, IfOk, IfErr, OnOk, OnErr};
+ghost use Rattle.std.specs.Prelude.{◌≡◌, ◌<◌, [], ◌∷◌, ◌++◌, ◌↔◌, length, take, slice_get, IsPermutation, IsSorted, IsSome, IfOk, IfErr, OnOk, OnErr};
 ghost use Rattle.std.specs.List.{remove};
+ghost use Rattle.std.specs.Option.{option_to_list};
 ghost use Rattle.std.specs.Borrow.{sem};
 ghost use Rattle.std.specs.Cmp.Lexicographic.{slice_cmp, slice_partial_cmp, pointwise, lists_equiv, lists_agrees, lists_total, lists_ties, lists_po, lists_per};
 
@@ -79,6 +80,7 @@ impl<T> List<T> {
     }
 
     /// Puts the item at the end. Want of memory drops it.
+    #[inline(always)]
     pub fn add(&mut self, item: T) -> Result<(), Memory>
     where
         T: Drop,
@@ -87,6 +89,14 @@ impl<T> List<T> {
     {
         self.held.push(item)?;
         Ok(())
+    }
+
+    /// Takes the last item out. Takes no memory.
+    pub fn pop(&mut self) -> Option<T>
+        ensures items { self.old ≡ self.new ++ option_to_list result }
+        ensures found { IsSome result ↔ (0 < length self.old) }
+    {
+        self.held.pop()
     }
 
     /// Takes the item at a place out, counted from 0; those behind it move up. Takes no memory.

@@ -70,6 +70,13 @@ impl Tuple {
         &self.vals
     }
 
+    /// The values, taken out of the tuple. Takes no memory.
+    pub fn into_vals(self) -> Vals
+        ensures { result ≡ self.vals }
+    {
+        self.vals
+    }
+
     /// The start.
     pub fn from(&self) -> u64
         ensures value { result ≡ self.now.from }
