@@ -1,5 +1,5 @@
 //! The engine.
-ghost use Rattle.std.specs.Prelude.{◌≡◌, ◌+◌, ◌-◌, ◌^◌, ◌≤◌, ℕ, min, IfNone, IfOk, IfSome, IsSome, OnErr, OnOk};
+ghost use Rattle.std.specs.Prelude.{◌≡◌, ◌+◌, ◌-◌, ◌^◌, ◌≤◌, ℕ, [], min, IfNone, IfOk, IfSome, IsSome, OnErr, OnOk};
 ghost use Rattle.automaton.specs.NetworkLines.{NetworkFits};
 ghost use Rattle.prefix_merge.specs.Merging.{IsMerged};
 ghost use Rattle.semantics.specs.Denotation.{streams_of};
@@ -21,7 +21,7 @@ use crate::plan::Plan;
 use crate::room::Room;
 use automaton::{Layout, Network};
 use epoch_draft::{purge_all, stored};
-use event_types::{Memory, StreamId, Tuple};
+use event_types::{Memory, StreamId, Tuple, Vals};
 use prefix_merge::Merged;
 use std::alloc::Global;
 use std::marker::Model;
@@ -113,6 +113,14 @@ impl Engine {
         if let Some(time) = self.closed_time {
             purge_all(self.plan.merged.network(), &mut self.holdings.stores, time);
         }
+    }
+
+    /// An empty list of values, with the room that those of a closed epoch had, if one is left. Takes no memory.
+    pub fn take_spare(&mut self) -> Option<Vals>
+        ensures value { IfSome result (λ vals. vals ≡ []) }
+        ensures kept { self.new ≡ self.old }
+    {
+        self.epoch.spare.take()
     }
 
     /// Takes a tuple of a declared stream. Its detection time opens an epoch where none is open.

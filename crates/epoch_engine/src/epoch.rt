@@ -2,16 +2,19 @@
 ghost use Rattle.std.specs.Prelude.{◌≡◌, ℕ, ◌<◌, ◌∷◌, ◌++◌, [], None, length, slice_index_or, slice_set, IfErr, IfOk, OnErr, OnOk};
 ghost use Rattle.epoch_engine.specs.Running.{AreTouched};
 
-use epoch_draft::{Lists, Marks, clear_lists, empty_lists};
+use crate::spare::Spare;
+use epoch_draft::{Lists, Marks, empty_lists};
 use event_types::{Memory, StreamId, Tuple};
 use std::alloc::Global;
 
-/// The tuples of each stream, the streams that have some, and the time, where an epoch is open.
+/// The tuples of each stream, the streams that have some, the time, where an epoch is open, and the room that values of
+/// closed epochs had.
 #[derive(Drop)]
 pub struct Epoch {
     pub tuples: Lists,
     pub touched: Marks,
     pub time: Option<u64>,
+    pub spare: Spare,
 }
 
 impl Epoch {
@@ -24,10 +27,12 @@ impl Epoch {
     {
         let tuples = empty_lists(alloc, streams)?;
         let touched = Marks::make(alloc, streams)?;
+        let spare = Spare::make(alloc)?;
         Ok(Epoch {
             tuples,
             touched,
             time: None,
+            spare,
         })
     }
 
@@ -56,7 +61,8 @@ impl Epoch {
         ensures touched { AreTouched self.new.tuples self.new.touched }
         ensures time { self.new.time ≡ None }
     {
-        clear_lists(&mut self.tuples, self.touched.numbers.as_slice());
+        self.spare
+            .clear(&mut self.tuples, self.touched.numbers.as_slice());
         self.touched.clear();
         self.time = None;
     }

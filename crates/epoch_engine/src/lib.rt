@@ -15,6 +15,7 @@ mod holdings;
 mod laws;
 mod plan;
 mod room;
+mod spare;
 
 pub use batch::{Batch, Printed};
 pub use engine::Engine;
