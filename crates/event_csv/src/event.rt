@@ -1,5 +1,5 @@
 //! The event of a line.
-ghost use Rattle.std.specs.Prelude.{◌≡◌, ◌+◌, ◌<◌, ◌≤◌, length, IfOk, IfErr, IfSome};
+ghost use Rattle.std.specs.Prelude.{◌≡◌, ◌+◌, ◌<◌, ◌≤◌, [], length, IfOk, IfErr, IfSome};
 ghost use Rattle.stream_schema.specs.Schema.{kinds_of};
 ghost use Rattle.stream_schema.specs.Streams.{number_of, schemas_of};
 ghost use Rattle.event_csv.specs.Event.{Tells, ValuesTell, counted_event, declared_stream, event, fields_event, no_value, span_of, stream_with, value_of, values_of};
@@ -28,23 +28,26 @@ pub fn read_event(alloc: Global, streams: &Streams, line: &[u8]) -> Result<Seen,
     ensures ok { IfOk result (λ seen. event streams.now line.now ≡ Ok seen) }
     ensures bad { IfErr result (Tells (event streams.now line.now)) }
 {
-    read_event_near(alloc, streams, 0, line)
+    read_event_near(alloc, streams, 0, None, line)
 }
 
 /// The same, where the name of the stream `near` is compared before names are looked up. It may be any number: that of
-/// the event before is found soonest where lines of one stream follow one another.
+/// the event before is found soonest where lines of one stream follow one another. An event that is read quickly
+/// has its values in the list `spare`, if there is one, whose room is used again.
 #[inline(always)]
 pub fn read_event_near(
     alloc: Global,
     streams: &Streams,
     near: StreamId,
+    spare: Option<Vals>,
     line: &[u8],
 ) -> Result<Seen, ReadFail>
-    requires { IsLine line.now }
+    requires line { IsLine line.now }
+    requires spare { IfSome spare (λ vals. vals ≡ []) }
     ensures ok { IfOk result (λ seen. event streams.now line.now ≡ Ok seen) }
     ensures bad { IfErr result (Tells (event streams.now line.now)) }
 {
-    match read_quickly(alloc, streams, near, line) {
+    match read_quickly(alloc, streams, near, spare, line) {
         Some(seen) => Ok(seen),
         None => read_slowly(alloc, streams, near, line),
     }

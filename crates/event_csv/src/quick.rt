@@ -1,6 +1,6 @@
 //! The quick reading of a line, field by field, in one pass and without the reader of `csv`. Every line that is an event
 //! by fields of few digits, and by texts in which no quote stands, is read so; any other is left, and its fault isn't told.
-ghost use Rattle.std.specs.Prelude.{◌≡◌, option_map, IfSome, Ok, Some};
+ghost use Rattle.std.specs.Prelude.{◌≡◌, [], option_map, IfSome, Ok, Some};
 ghost use Rattle.event_csv.specs.Event.{event};
 ghost use Rattle.event_csv.specs.Fed.{IsLine};
 ghost use Rattle.event_csv.specs.Quick.{DecFirst, IsFirst, PutsValue, SpanFirst, StreamFirst, WriteAll};
@@ -19,9 +19,11 @@ pub(crate) fn read_quickly(
     alloc: Global,
     streams: &Streams,
     near: StreamId,
+    spare: Option<Vals>,
     line: &[u8],
 ) -> Option<Seen>
-    requires { IsLine line.now }
+    requires line { IsLine line.now }
+    requires spare { IfSome spare (λ vals. vals ≡ []) }
     ensures { IfSome result (λ seen. event streams.now line.now ≡ Ok seen) }
 {
     if may_have_mark(line) {
@@ -29,7 +31,7 @@ pub(crate) fn read_quickly(
     }
     let (stream, rest) = take_stream(streams, near, line)?;
     let ((from, at), rest) = take_span(rest)?;
-    let vals = take_values(alloc, streams.schema(stream), rest)?;
+    let vals = take_values(alloc, streams.schema(stream), spare, rest)?;
     match Tuple::make(vals, from, at) {
         Ok(tuple) => Some(Seen { stream, tuple }),
         Err(_) => None,
@@ -110,15 +112,19 @@ fn take_span(text: &[u8]) -> Option<((u64, u64), Option<&[u8]>)>
     Some(((from, at), rest))
 }
 
-// The values of the fields that are left, where there is one for each attribute.
+// The values of the fields that are left, where there is one for each attribute, put into the spare list or else a new one.
 #[inline(always)]
-fn take_values(alloc: Global, schema: &Schema, rest: Option<&[u8]>) -> Option<Vals>
+fn take_values(
+    alloc: Global,
+    schema: &Schema,
+    spare: Option<Vals>,
+    rest: Option<&[u8]>,
+) -> Option<Vals>
+    requires { IfSome spare (λ vals. vals ≡ []) }
     ensures { IfSome result (WriteAll schema.now (option_map (λ s. s.now) rest.entry)) }
 {
     let mut rest = rest;
-    let Ok(mut vals) = List::with_room(alloc, schema.size()) else {
-        return None;
-    };
+    let mut vals = empty_vals(alloc, schema.size(), spare)?;
     'fields: while let Some(text) = rest {
         let place = vals.len();
         if schema.size() <= place {
@@ -132,6 +138,18 @@ fn take_values(alloc: Global, schema: &Schema, rest: Option<&[u8]>) -> Option<Va
         Some(vals)
     } else {
         None
+    }
+}
+
+// The spare list, or else a new one with room for so many values.
+#[inline(always)]
+fn empty_vals(alloc: Global, size: usize, spare: Option<Vals>) -> Option<Vals>
+    requires { IfSome spare (λ vals. vals ≡ []) }
+    ensures { IfSome result (λ vals. vals ≡ []) }
+{
+    match spare {
+        Some(vals) => Some(vals),
+        None => List::with_room(alloc, size).ok(),
     }
 }
 

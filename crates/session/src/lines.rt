@@ -98,7 +98,8 @@ fn work_on_line<H: Host, L: Ledger>(
     ensures tests { RisesByLines catalogue.now feed.old false work.old.engine steps.old steps.new }
     ensures moved { IfOk result (TestsMoved catalogue.now feed.old feed.new work.old.engine work.new.engine steps.old steps.new) }
 {
-    match next_reading(alloc, catalogue.streams(), work.near, feed) {
+    let spare = work.engine.take_spare();
+    match next_reading(alloc, catalogue.streams(), work.near, spare, feed) {
         Err(_) => Err(SessionFault::Memory),
         Ok(Next::NotYet) => Ok(false),
         Ok(Next::Fault(line, why)) => Err(refuse(host, work, Refusal::HasFault { line, why })),

@@ -1,12 +1,12 @@
 //! Event lines as they are read.
-ghost use Rattle.std.specs.Prelude.{◌≡◌, false, [], IfOk};
+ghost use Rattle.std.specs.Prelude.{◌≡◌, false, [], IfOk, IfSome};
 ghost use Rattle.event_csv.specs.Fed.{IsLine, unread_lines};
 ghost use Rattle.session.specs.Fits.{FitsNext};
 ghost use Rattle.session.specs.Readings.{IsReading, Shows, ShowsLast};
 ghost use Rattle.session.specs.HandsOutSomeLines.{HandsOutSomeLines};
 
 use event_csv::{Feed, Got, LineFault, ReadFail, Seen, read_event_near};
-use event_types::{Memory, StreamId};
+use event_types::{Memory, StreamId, Vals};
 use std::alloc::Global;
 use stream_schema::Streams;
 
@@ -28,20 +28,23 @@ pub enum Next {
     NotYet,
 }
 
-/// Reads the next line that is neither empty nor the header; its name is looked for at the stream `near` first.
+/// Reads the next line that is neither empty nor the header; its name is looked for at the stream `near` first,
+/// and its values are put into the list `spare`, if there is one.
 #[inline(always)]
 pub fn next_reading(
     alloc: Global,
     streams: &Streams,
     near: StreamId,
+    spare: Option<Vals>,
     feed: &mut Feed,
 ) -> Result<Next, Memory>
+    requires { IfSome spare (λ vals. vals ≡ []) }
     ensures shows { IfOk result (Shows streams.now feed.old feed.new) }
     ensures gone { HandsOutSomeLines feed.old feed.new }
     ensures fits { IfOk result (FitsNext streams.now) }
 {
     match feed.next_line() {
-        Got::Line { number, bytes } => read_line(alloc, streams, near, number, bytes),
+        Got::Line { number, bytes } => read_line(alloc, streams, near, spare, number, bytes),
         Got::Long { number } => Ok(Next::Fault(number, LineFault::LineTooLong)),
         Got::NotYet => Ok(Next::NotYet),
     }
@@ -59,7 +62,7 @@ pub fn last_reading(
     ensures fits { IfOk result (FitsNext streams.now) }
 {
     match feed.last_line() {
-        Got::Line { number, bytes } => read_line(alloc, streams, near, number, bytes),
+        Got::Line { number, bytes } => read_line(alloc, streams, near, None, number, bytes),
         Got::Long { number } => Ok(Next::Fault(number, LineFault::LineTooLong)),
         Got::NotYet => Ok(Next::NotYet),
     }
@@ -71,14 +74,16 @@ fn read_line(
     alloc: Global,
     streams: &Streams,
     near: StreamId,
+    spare: Option<Vals>,
     number: u64,
     bytes: &[u8],
 ) -> Result<Next, Memory>
-    requires { IsLine bytes.now }
+    requires line { IsLine bytes.now }
+    requires spare { IfSome spare (λ vals. vals ≡ []) }
     ensures reading { IfOk result (IsReading streams.now number bytes.now) }
     ensures fits { IfOk result (FitsNext streams.now) }
 {
-    match read_event_near(alloc, streams, near, bytes) {
+    match read_event_near(alloc, streams, near, spare, bytes) {
         Ok(event) => Ok(Next::Event(EventLine { number, event })),
         Err(ReadFail::Bad(why)) => Ok(Next::Fault(number, why)),
         Err(ReadFail::Memory) => Err(Memory),

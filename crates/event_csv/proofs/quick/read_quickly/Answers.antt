@@ -21,8 +21,8 @@ returns-in-Ok c =
     name.first.reads [] ∙ span.reads named ∙ vals.reads (named ++ span.start ∷ span.detection ∷ []) in
     let text : IsUtf8 line = name.first.utf8 (span.utf8 vals.utf8) in
     let cut : event streams line ≡ fields_event streams fields =
-    event-text streams line c.requires.short text
-    ∙ ap (record_event streams) (line-fields line fields (c.may_have_mark.ensures c.if-may_have_mark.false) c.requires.nonempty c.requires.no_feed reads) in
+    event-text streams line c.requires.line.short text
+    ∙ ap (record_event streams) (line-fields line fields (c.may_have_mark.ensures c.if-may_have_mark.false) c.requires.line.nonempty c.requires.line.no_feed reads) in
     rw c.in-Ok.ensures.value (
     cut ∙ quick-event streams fields name.name span.start span.detection vals.fields c.in_ok-stream.stream c.schema.result.now
     (c.in_ok-from.from, c.in_ok-from.at) c.in_ok-vals.vals refl name.declared c.schema.ensures span.times vals.values vals.many

@@ -4,7 +4,7 @@ use Rattle.event_csv.proofs.QuickFacts.{SoFar, all-values, none-yet, one-value}
 use Rattle.event_csv.proofs.quick.take_values.Goals as goal
 
 pub fields-init : goal.fields-init
-fields-init c = rw c.in-Ok.ensures (none-yet (kinds_of c.args.schema.now) (option_map (λ (s : Bor (List ℕ)). s.now) c.args.rest))
+fields-init c = rw c.in_ok-vals.ensures (none-yet (kinds_of c.args.schema.now) (option_map (λ (s : Bor (List ℕ)). s.now) c.args.rest))
 
 pub fields-preserved : goal.fields-preserved
 fields-preserved c =
@@ -21,6 +21,6 @@ pub returns-then-len-size : goal.returns-then-len-size
 returns-then-len-size c =
     let kinds = kinds_of c.args.schema.now in
     let first = option_map (λ (s : Bor (List ℕ)). s.now) c.args.rest in
-    let none : option_map (λ (s : Bor (List ℕ)). s.now) c.fields.rest ≡ None = rw c.in_default-rest.is refl in
+    let none : option_map (λ (s : Bor (List ℕ)). s.now) c.fields.rest ≡ None = rw c.in_default.is refl in
     let so : SoFar kinds first None c.fields.vals = subst (λ (n : Option (List ℕ)). SoFar kinds first n c.fields.vals) none c.fields.invariant in
     all-values c.args.schema.now first c.fields.vals so (omega (arith, c.len.ensures, c.size-2.ensures.value, c.if-len-size.true))

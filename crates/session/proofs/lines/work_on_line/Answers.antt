@@ -22,8 +22,9 @@ returns-in-Ok-Fault-clause-stops g c =
 pub returns-in_ok-work_on_event-in-Ok-Event-clause-progress : goal.returns-in_ok-work_on_event-in-Ok-Event-clause-progress
 returns-in_ok-work_on_event-in-Ok-Event-clause-progress g c =
     let shows = rw (c.in-Ok-Event.field-0-is, c.streams.ensures.value) at c.in-Ok-Event.ensures.shows in
+    let more = rw c.take_spare-spare.ensures.kept at c.in_ok-work_on_event-in-Ok-Event.ensures.more in
     let streams = (judged_of c.args.catalogue.now).streams in (
-      λ history stands. took (readings_left streams c.args.feed.now false) (readings_left streams c.next_reading.new.feed false) (shows false) (c.in_ok-work_on_event-in-Ok-Event.ensures.more history stands),
+      λ history stands. took (readings_left streams c.args.feed.now false) (readings_left streams c.next_reading.new.feed false) (shows false) (more history stands),
       let fewer = ap length (shows false) in omega (arith, fewer),
     )
 
@@ -31,28 +32,33 @@ returns-in_ok-work_on_event-in-Ok-Event-clause-progress g c =
 pub returns-in_err-work_on_event-in-Ok-Event-clause-stops : goal.returns-in_err-work_on_event-in-Ok-Event-clause-stops
 returns-in_err-work_on_event-in-Ok-Event-clause-stops g c =
     let shows = rw (c.in-Ok-Event.field-0-is, c.streams.ensures.value) at c.in-Ok-Event.ensures.shows in
+    let stops = rw c.take_spare-spare.ensures.kept at c.in_err-work_on_event-in-Ok-Event.ensures.stops in
     let p = err_from_is_err_and c.from_residual.result c.from_residual.ensures.1 in
     rw (p.1, p.2) (
     λ history stands. stops_same (program_over c.args.catalogue.now) false _ _ history c.args.work.now (g.H.Host.told c.args.host.now) (g.H.Host.told c.work_on_event.new.host) _ (shows false)
-    (c.in_err-work_on_event-in-Ok-Event.ensures.stops false _ history stands)
+    (stops false _ history stands)
     )
 
 -- no more is tested than the lines ask for
 pub returns-in_ok-work_on_event-in-Ok-Event-clause-tests : goal.returns-in_ok-work_on_event-in-Ok-Event-clause-tests
 returns-in_ok-work_on_event-in-Ok-Event-clause-tests g c =
     let shows = rw (c.in-Ok-Event.field-0-is, c.streams.ensures.value) at c.in-Ok-Event.ensures.shows in
-    event_rises c.args.catalogue.now c.args.feed.now false c.in-Ok-Event.line.number c.in-Ok-Event.line.event _ c.args.work.now.engine c.args.steps.now c.work_on_event.new.steps (shows false) c.work_on_event.ensures.tests
+    let tests = rw c.take_spare-spare.ensures.kept at c.work_on_event.ensures.tests in
+    event_rises c.args.catalogue.now c.args.feed.now false c.in-Ok-Event.line.number c.in-Ok-Event.line.event _ c.args.work.now.engine c.args.steps.now c.work_on_event.new.steps (shows false) tests
 
 pub returns-in_err-work_on_event-in-Ok-Event-clause-tests : goal.returns-in_err-work_on_event-in-Ok-Event-clause-tests
 returns-in_err-work_on_event-in-Ok-Event-clause-tests g c =
     let shows = rw (c.in-Ok-Event.field-0-is, c.streams.ensures.value) at c.in-Ok-Event.ensures.shows in
-    event_rises c.args.catalogue.now c.args.feed.now false c.in-Ok-Event.line.number c.in-Ok-Event.line.event _ c.args.work.now.engine c.args.steps.now c.work_on_event.new.steps (shows false) c.work_on_event.ensures.tests
+    let tests = rw c.take_spare-spare.ensures.kept at c.work_on_event.ensures.tests in
+    event_rises c.args.catalogue.now c.args.feed.now false c.in-Ok-Event.line.number c.in-Ok-Event.line.event _ c.args.work.now.engine c.args.steps.now c.work_on_event.new.steps (shows false) tests
 
 pub returns-in_ok-work_on_event-in-Ok-Event-clause-moved : goal.returns-in_ok-work_on_event-in-Ok-Event-clause-moved
 returns-in_ok-work_on_event-in-Ok-Event-clause-moved g c =
     let shows = rw (c.in-Ok-Event.field-0-is, c.streams.ensures.value) at c.in-Ok-Event.ensures.shows in
-    λ is history stands. took_tests c.args.catalogue.now c.in-Ok-Event.line.number c.in-Ok-Event.line.event _ _ history c.args.work.now c.work_on_event.new.work _ _ c.args.steps.now c.work_on_event.new.steps (shows false) (c.in_ok-work_on_event-in-Ok-Event.ensures.more history stands) stands
-    c.work_on_event.ensures.tests
+    let more = rw c.take_spare-spare.ensures.kept at c.in_ok-work_on_event-in-Ok-Event.ensures.more in
+    let tests = rw c.take_spare-spare.ensures.kept at c.work_on_event.ensures.tests in
+    λ is history stands. took_tests c.args.catalogue.now c.in-Ok-Event.line.number c.in-Ok-Event.line.event _ _ history c.args.work.now c.work_on_event.new.work _ _ c.args.steps.now c.work_on_event.new.steps (shows false) (more history stands) stands
+    tests
 
 -- nothing is tested without an event
 pub returns-in-Err-clause-tests : goal.returns-in-Err-clause-tests
