@@ -11,7 +11,7 @@ use Rattle.semantics.specs.Runs.{goers, rebound, runs_within}
 use Rattle.semantics.specs.Expressions.{Ex, Read, Filter, Select, Union, Next, Fold}
 use Rattle.semantics.specs.Denotation.{Streams, denote, selected, joined, matches}
 use Rattle.scalar_expr.proofs.NextsLemmas.{nexts_start_later, nexts_keep}
-use Rattle.scalar_expr.proofs.ListLemmas.{All-flat_map}
+use Rattle.semantics.proofs.ListLemmas.{All-flat_map}
 
 -- a next of a sound binding, of a sound list, starts after it and is sound
 after_sound : (p : List Pr) (b : TupleView) (rs : List TupleView) → All IsSound rs → All (λ r. (b.at < r.from) × IsSound r) (nexts p b rs)

@@ -14,7 +14,7 @@ use Rattle.semantics.specs.Nexts.{is_eligible}
 use Rattle.semantics.specs.Runs.{rebound}
 use Rattle.semantics.specs.Scalars.{Pr}
 use Rattle.semantics.specs.Truth.{all_true}
-use Rattle.scalar_expr.proofs.ListLemmas.{All-flat_map}
+use Rattle.semantics.proofs.ListLemmas.{All-flat_map}
 use Rattle.scalar_expr.proofs.FitLemmas.{typed_fits, typed_image, typed_tests}
 use Rattle.automaton.specs.LineKinds.{StepGives, TurnGives, WaitGives}
 use Rattle.automaton.specs.Steps.{pass}

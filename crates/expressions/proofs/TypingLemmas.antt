@@ -15,7 +15,7 @@ use Rattle.semantics.specs.Kinds.{HasKinds, HaveKinds}
 use Rattle.semantics.specs.Typing.{AreOfKinds, IsTypedOver}
 use Rattle.semantics.proofs.KindLemmas.{kinds_append}
 use Rattle.scalar_expr.proofs.NextsLemmas.{nexts_keep}
-use Rattle.scalar_expr.proofs.ListLemmas.{All-flat_map}
+use Rattle.semantics.proofs.ListLemmas.{All-flat_map}
 use Rattle.scalar_expr.proofs.FitLemmas.{typed_image}
 
 -- what holds of each tuple of the list holds of each goer

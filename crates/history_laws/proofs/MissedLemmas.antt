@@ -20,8 +20,7 @@ use Rattle.semantics.specs.Results.{results}
 use Rattle.semantics.specs.Runs.{goers, rebound, runs, runs_within}
 use Rattle.semantics.specs.Scalars.{Pr, Sc}
 use Rattle.semantics.specs.Truth.{all_true}
-use Rattle.semantics.proofs.ListLemmas.{All-left, All-right, every}
-use Rattle.scalar_expr.proofs.ListLemmas.{All-flat_map}
+use Rattle.semantics.proofs.ListLemmas.{All-flat_map, All-left, All-right, every}
 use Rattle.scalar_expr.proofs.NextsLemmas.{nexts_keep}
 use Rattle.algebra.proofs.SoundLemmas.{denote_sound}
 use Rattle.history_laws.specs.LateStarts.{AreSound, ResultsSpanAtMost, SpansAtMost, is_late, late}

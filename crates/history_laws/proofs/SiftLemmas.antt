@@ -11,9 +11,8 @@ use Rattle.semantics.specs.Nexts.{earliest, is_earliest, is_eligible, nexts}
 use Rattle.semantics.specs.Runs.{goers, rebound, runs, runs_within}
 use Rattle.semantics.specs.Scalars.{Pr, Sc}
 use Rattle.semantics.specs.Truth.{all_true}
-use Rattle.semantics.proofs.ListLemmas.{filter-filter}
+use Rattle.semantics.proofs.ListLemmas.{All-flat_map, filter-filter}
 use Rattle.semantics.proofs.ReportLemmas.{filter_all, filter_none, flat_map_same}
-use Rattle.scalar_expr.proofs.ListLemmas.{All-flat_map}
 use Rattle.scalar_expr.proofs.NextsLemmas.{nexts_keep}
 use Rattle.scalar_expr.proofs.RunsLemmas.{runs_end}
 

@@ -26,8 +26,7 @@ use Rattle.semantics.specs.Runs.{goers, rebound, runs, runs_within}
 use Rattle.semantics.specs.Scalars.{Pr, Sc, Test, Lit, Dur}
 use Rattle.semantics.specs.Truth.{all_true, truth}
 use Rattle.semantics.specs.Values.{span_start}
-use Rattle.semantics.proofs.ListLemmas.{every}
-use Rattle.scalar_expr.proofs.ListLemmas.{All-flat_map}
+use Rattle.semantics.proofs.ListLemmas.{All-flat_map, every}
 use Rattle.history_laws.specs.LateStarts.{SpansAtMost}
 use Rattle.history_laws.specs.Spans.{AreLimited, HeardSpanAtMost, IsLimited, LimitsSpan}
 use Rattle.history_laws.proofs.StreamLemmas.{heard_on-upto}

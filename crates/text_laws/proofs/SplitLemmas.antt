@@ -12,10 +12,9 @@ use Rattle.semantics.specs.Programs.{Query}
 use Rattle.semantics.specs.Report.{line, lines_at}
 use Rattle.semantics.specs.Results.{results}
 use Rattle.semantics.specs.Values.{value_at}
-use Rattle.semantics.proofs.ListLemmas.{every}
+use Rattle.semantics.proofs.ListLemmas.{All-flat_map, every}
 use Rattle.stream_schema.specs.Streams.{Entry}
 use Rattle.scalar_expr.proofs.Bags.{flat_map_permuted, permuted_from, permuted_to}
-use Rattle.scalar_expr.proofs.ListLemmas.{All-flat_map}
 use Rattle.catalogue.specs.Judgement.{Judged, program_of}
 use Rattle.event_csv.specs.declared.event.Seen.{Seen}
 use Rattle.event_csv.specs.declared.fault.LineFault.{LineFault}
