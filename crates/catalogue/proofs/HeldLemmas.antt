@@ -1,6 +1,6 @@
 -- The places of queries in the order of work, and what stands there.
 use Rattle.std.proofs.Common.{◌≡◌, ◌≢◌, ◌∙◌, ℕ, ◌+◌, ◌<◌, ◌≤◌, List, [], ◌++◌, length, get_or, set, map, sym, ap, subst, inl, inr, arith, length-set, get_or-set_same, get_or-set_other}
-use Rattle.std.specs.Prelude.{◌==◌, AllPairs, Contains, Some, slice_get}
+use Rattle.std.specs.Prelude.{◌==◌, AllPairs, Contains, Some, slice_get, None}
 use Rattle.std.specs.List.{position_or_len}
 use Rattle.std.proofs.lemmas.Bool.{cases_eq}
 use Rattle.std.proofs.lemmas.List.{get_or_default, length-append, length-map}
@@ -110,11 +110,11 @@ module _ (c : Catalogued) (accepted : IsAccepted c) where
     -- the query's stream stands at its place among those that are published
     pub stream_at : length c.declared + place ≡ (query_at (judged_of c) query).stream
     stream_at =
-        sym (ap (λ p. (get_or (queries_by (length c.declared) (length c.file.statements) c.published c.expressions) p (record { name = []; stream = 0; hidden = 0; expr = Read 0 })).stream) (sym is)
-        ∙ stream_by (length c.declared) (length c.file.statements) c.published c.expressions place (record { name = []; stream = 0; hidden = 0; expr = Read 0 }) (typed_there place within))
+        sym (ap (λ p. (get_or (queries_by (length c.declared) (length c.file.statements) c.published c.expressions) p (record { name = []; stream = 0; hidden = 0; expr = Read 0; birth = None })).stream) (sym is)
+        ∙ stream_by (length c.declared) (length c.file.statements) c.published c.expressions place (record { name = []; stream = 0; hidden = 0; expr = Read 0; birth = None }) (typed_there place within))
 
     -- and so does its expression
     pub expression_at : (x : Expr) → slice_get c.expressions place ≡ Some x → ex_of x ≡ (query_at (judged_of c) query).expr
     expression_at x at =
-        expr_by (length c.declared) (length c.file.statements) c.published c.expressions place (record { name = []; stream = 0; hidden = 0; expr = Read 0 }) x (typed_there place within) at
-        ∙ ap (λ p. (get_or (queries_by (length c.declared) (length c.file.statements) c.published c.expressions) p (record { name = []; stream = 0; hidden = 0; expr = Read 0 })).expr) is
+        expr_by (length c.declared) (length c.file.statements) c.published c.expressions place (record { name = []; stream = 0; hidden = 0; expr = Read 0; birth = None }) x (typed_there place within) at
+        ∙ ap (λ p. (get_or (queries_by (length c.declared) (length c.file.statements) c.published c.expressions) p (record { name = []; stream = 0; hidden = 0; expr = Read 0; birth = None })).expr) is

@@ -1,6 +1,6 @@
 -- What typed queries are judged to be, by parts.
 use Rattle.std.proofs.Common.{◌≡◌, ◌∙◌, ℕ, zero, suc, ◌+◌, ◌-◌, ◌<◌, ◌≤◌, List, [], ◌∷◌, ◌++◌, length, take, drop, get_or, map, refl, sym, ap, subst, arith, append_assoc}
-use Rattle.std.specs.Prelude.{Some, slice_get}
+use Rattle.std.specs.Prelude.{Some, slice_get, None}
 use Rattle.std.proofs.Math.Seq.{take-append_seam, drop-append_seam}
 use Rattle.std.proofs.lemmas.List.{append-nil, length-map, length_push}
 use Rattle.expressions.specs.declared.expression.Expr.{Expr}
@@ -44,7 +44,7 @@ has_parts (next {streams = streams} {all = all} {hidden = hidden} {s = s} {more 
     record {
       more = published_by s schema ∷ behind.more;
       all_are = behind.all_are ∙ append_assoc streams (published_by s schema ∷ []) behind.more;
-      done_are = λ i. record { name = (published_by s schema).name; stream = length streams; hidden = hidden; expr = is i } ∷ done_later i;
+      done_are = λ i. record { name = (published_by s schema).name; stream = length streams; hidden = hidden; expr = is i; birth = None } ∷ done_later i;
     }
 
 -- a file whose names are sound, whose queries have this order, and whose statements are typed, is accepted

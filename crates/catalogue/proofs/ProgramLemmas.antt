@@ -1,6 +1,6 @@
 -- Accepted query texts as programs.
 use Rattle.std.proofs.Common.{◌≡◌, ◌∙◌, ℕ, ◌<◌, List, [], ◌∷◌, true, false, length, take, get_or, map, refl, sym, ap, subst, inl, inr, arith}
-use Rattle.std.specs.Prelude.{◌==◌, Contains, Option, Some, slice_get}
+use Rattle.std.specs.Prelude.{◌==◌, Contains, Option, Some, slice_get, None}
 use Rattle.std.specs.List.{All, cons_option, filter_map, position_or_len, range_with_len}
 use Rattle.std.specs.List.Sorted.{IsPermutation}
 use Rattle.std.proofs.Math.Seq.{take-append_seam}
@@ -51,8 +51,8 @@ module _ (text : List ℕ) (judged : Judged) (accepts : Accepts text judged) whe
       (λ k before. is_other (get_or judged.order place 0) (get_or judged.order k 0) (λ same. once.distinct k place 0 before within (sym same)))
       (λ inside. self_equal (get_or judged.order place 0))
 
-  query_there : (place : ℕ) → place < length judged.order → query_at judged (get_or judged.order place 0) ≡ get_or judged.published place (record { name = []; stream = 0; hidden = 0; expr = Read 0 })
-  query_there place within = ap (λ p. get_or judged.published p (record { name = []; stream = 0; hidden = 0; expr = Read 0 })) (place_at place within)
+  query_there : (place : ℕ) → place < length judged.order → query_at judged (get_or judged.order place 0) ≡ get_or judged.published place (record { name = []; stream = 0; hidden = 0; expr = Read 0; birth = None })
+  query_there place within = ap (λ p. get_or judged.published p (record { name = []; stream = 0; hidden = 0; expr = Read 0; birth = None })) (place_at place within)
 
   small : (number : ℕ) → Contains judged.order number → number < length judged.order
   small number stands = subst (λ n. number < n) (sym many) ((once.all number).0 stands)
@@ -63,10 +63,10 @@ module _ (text : List ℕ) (judged : Judged) (accepts : Accepts text judged) whe
   -- the queries in the order of work are those that are typed
   placed : map (query_at judged) judged.order ≡ judged.published
   placed =
-      ext_get_or (record { name = []; stream = 0; hidden = 0; expr = Read 0 }) (map (query_at judged) judged.order) judged.published (length-map judged.order (query_at judged) ∙ sym typed)
+      ext_get_or (record { name = []; stream = 0; hidden = 0; expr = Read 0; birth = None }) (map (query_at judged) judged.order) judged.published (length-map judged.order (query_at judged) ∙ sym typed)
       (λ k within.
       let inside : k < length judged.order = subst (λ n. k < n) (length-map judged.order (query_at judged)) within in
-      get_or-map (query_at judged) judged.order k 0 (record { name = []; stream = 0; hidden = 0; expr = Read 0 }) inside ∙ query_there k inside)
+      get_or-map (query_at judged) judged.order k 0 (record { name = []; stream = 0; hidden = 0; expr = Read 0; birth = None }) inside ∙ query_there k inside)
 
   -- they are the queries of the file in another order
   same_queries : IsPermutation (map (query_at judged) (range_with_len 0 (length judged.order))) judged.published
@@ -98,13 +98,13 @@ module _ (text : List ℕ) (judged : Judged) (accepts : Accepts text judged) whe
     name_is =
         let (k, inside, there) = place_of in
         subst (λ n. (query_at judged n).name ≡ get_or (query_names judged.statements) n []) there
-        (ap (λ (q : Query). q.name) (query_there k inside) ∙ name_in_turn accepts.publishes k (record { name = []; stream = 0; hidden = 0; expr = Read 0 }) inside)
+        (ap (λ (q : Query). q.name) (query_there k inside) ∙ name_in_turn accepts.publishes k (record { name = []; stream = 0; hidden = 0; expr = Read 0; birth = None }) inside)
 
     stream_is : slice_get (stream_names judged.streams) (query_at judged number).stream ≡ Some (query_at judged number).name
     stream_is =
         let (k, inside, there) = place_of in
         subst (λ n. slice_get (stream_names judged.streams) (query_at judged n).stream ≡ Some (query_at judged n).name) there
-        (subst (λ (q : Query). slice_get (stream_names judged.streams) q.stream ≡ Some q.name) (sym (query_there k inside)) (stream_in_turn accepts.publishes k (record { name = []; stream = 0; hidden = 0; expr = Read 0 }) inside))
+        (subst (λ (q : Query). slice_get (stream_names judged.streams) q.stream ≡ Some q.name) (sym (query_there k inside)) (stream_in_turn accepts.publishes k (record { name = []; stream = 0; hidden = 0; expr = Read 0; birth = None }) inside))
 
   behind_declared : StandsBehind judged.declared judged.streams
   behind_declared = stands_behind accepts.publishes

@@ -1,6 +1,6 @@
 -- One more query that is typed.
 use Rattle.std.proofs.Common.{◌≡◌, ◌∙◌, ℕ, List, [], ◌∷◌, ◌++◌, length, map, get_or, sym, ap, append_assoc}
-use Rattle.std.specs.Prelude.{Some, slice_get}
+use Rattle.std.specs.Prelude.{Some, slice_get, None}
 use Rattle.std.proofs.lemmas.List.{append-nil, map-append}
 use Rattle.semantics.specs.Expressions.{Ex}
 use Rattle.semantics.specs.Programs.{Query}
@@ -16,7 +16,7 @@ use Rattle.catalogue.proofs.PlaceLemmas.{name-at}
 
 -- one more query behind others, whose hidden streams stand behind theirs
 pub Publish-push : {queries : List Statement} {streams all : List Entry} {hidden : ℕ} {order : List ℕ} {done : List Query} → Publish queries streams hidden order all done → (number : ℕ) (s : Statement) (schema : List Attr) (x : Ex)
-    → slice_get queries number ≡ Some s → Queries all s schema x → Publish queries streams hidden (order ++ number ∷ []) (all ++ published_by s schema ∷ []) (done ++ record { name = name_of s; stream = length all; hidden = chain_end done hidden; expr = x } ∷ [])
+    → slice_get queries number ≡ Some s → Queries all s schema x → Publish queries streams hidden (order ++ number ∷ []) (all ++ published_by s schema ∷ []) (done ++ record { name = name_of s; stream = length all; hidden = chain_end done hidden; expr = x; birth = None } ∷ [])
 Publish-push none number s schema x there typed = next schema x there typed none
 Publish-push (next own y first gives rest) number s schema x there typed = next own y first gives (Publish-push rest number s schema x there typed)
 

@@ -1,6 +1,6 @@
 -- Queries in their order publish, or the first of them that has a fault has it.
 use Rattle.std.proofs.Common.{◌≡◌, ◌∙◌, ℕ, zero, suc, ◌+◌, ◌<◌, List, [], ◌∷◌, ◌++◌, true, false, length, take, drop, get_or, refl, sym, ap, subst, arith, take-append-drop}
-use Rattle.std.specs.Prelude.{Some, slice_get, Contains}
+use Rattle.std.specs.Prelude.{Some, slice_get, Contains, None}
 use Rattle.std.specs.List.{All, items_where_true}
 use Rattle.std.proofs.Math.Seq.{take-length}
 use Rattle.std.proofs.lemmas.List.{drop_more, length-map, take_more}
@@ -64,7 +64,7 @@ module _ (ss : List Statement) (lines : List ℕ) (streams : List Entry) (order 
       typed_case : (s : Statement) → slice_get (queries_in ss) (get_or order index 0) ≡ Some s → Case ((schema : List Attr) × (x : Ex) × Queries all s schema x) (FailsAsQuery all s)
           → ((all : List Entry) (done : List Query) → Publish (queries_in ss) streams (length ss) (take (index + 1) order) all done → Told) → Told
       typed_case s at (good (schema, x, typed)) later =
-          let query : Query = record { name = name_of s; stream = length all; hidden = chain_end done (length ss); expr = x } in
+          let query : Query = record { name = name_of s; stream = length all; hidden = chain_end done (length ss); expr = x; birth = None } in
           later (all ++ published_by s schema ∷ []) (done ++ query ∷ [])
           (subst (λ (xs : List ℕ). Publish (queries_in ss) streams (length ss) xs (all ++ published_by s schema ∷ []) (done ++ query ∷ [])) (sym (take_more order index 0 within))
           (Publish-push publish (get_or order index 0) s schema x at typed))

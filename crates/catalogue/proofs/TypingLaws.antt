@@ -1,6 +1,6 @@
 -- What the last pass tells is settled.
 use Rattle.std.proofs.Common.{◌≡◌, ℕ, true, List, [], ◌∷◌, ◌++◌, length, refl, sym, subst}
-use Rattle.std.specs.Prelude.{Some, slice_get}
+use Rattle.std.specs.Prelude.{Some, slice_get, None}
 use Rattle.semantics.specs.Expressions.{Ex}
 use Rattle.stream_schema.specs.Streams.{Entry}
 use Rattle.cel_grammar.specs.Trees.{Statement}
@@ -50,7 +50,7 @@ one_publication queries streams hidden _ all others _ _ (next {number = number} 
     let tables : streams ++ published_by t other ∷ [] ≡ streams ++ published_by s schema ∷ [] = λ i. streams ++ published_by (same i) (sym one.0 i) ∷ [] in
     let later : (all ≡ others) × (more ≡ more_too) = one_publication queries (streams ++ published_by s schema ∷ []) (parts_of x hidden).next order all others more more_too rest
     (subst (λ (t : List Entry × Ex). Publish queries t.0 (parts_of t.1 hidden).next order others more_too) (λ i. (tables i, sym one.1 i)) rest_too) in
-    (later.0, λ i. record { name = name_of (sym same i); stream = length streams; hidden = hidden; expr = one.1 i } ∷ later.1 i)
+    (later.0, λ i. record { name = name_of (sym same i); stream = length streams; hidden = hidden; expr = one.1 i; birth = None } ∷ later.1 i)
 
 -- they have at most one first fault
 pub one_publish_fault : OnePublishFault

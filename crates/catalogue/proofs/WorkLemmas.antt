@@ -94,4 +94,4 @@ module _ (ss : List Statement) (lines : List ℕ) (streams : List Entry) (order 
     }
       where
         query : Query
-        query = record { name = name_of s; stream = length all; hidden = chain_end published.queries (length ss); expr = ex_of x }
+        query = record { name = name_of s; stream = length all; hidden = chain_end published.queries (length ss); expr = ex_of x; birth = None }

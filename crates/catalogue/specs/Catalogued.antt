@@ -1,5 +1,5 @@
 -- What contracts see of a `Catalogue`.
-use Rattle.std.specs.Prelude.{◌+◌, ◌-◌, ℕ, List, [], ◌∷◌, ◌++◌, length, map, take, drop, refl}
+use Rattle.std.specs.Prelude.{◌+◌, ◌-◌, ℕ, List, [], ◌∷◌, ◌++◌, length, map, take, drop, refl, None}
 use Rattle.std.specs.Coded.{Coded, code_by, coded×, coded_list, coded_ℕ}
 use Rattle.expressions.specs.contracts.expression.Expr as expression
 use Rattle.expressions.specs.declared.expression.Expr.{Expr}
@@ -43,7 +43,7 @@ abbrev pub queries_by : ℕ → ℕ → List Entry → List Expr → List Query
 queries_by number hidden [] expressions = []
 queries_by number hidden (s ∷ streams) [] = []
 queries_by number hidden (s ∷ streams) (x ∷ expressions) =
-    record { name = s.name; stream = number; hidden = hidden; expr = ex_of x } ∷ queries_by (number + 1) (split.parts_of (ex_of x) hidden).next streams expressions
+    record { name = s.name; stream = number; hidden = hidden; expr = ex_of x; birth = None } ∷ queries_by (number + 1) (split.parts_of (ex_of x) hidden).next streams expressions
 
 -- what a query text is judged to be that has these parts
 abbrev pub judged_of : Catalogued → Judged

@@ -1,5 +1,5 @@
 -- What a query text is judged to be.
-use Rattle.std.specs.Prelude.{◌==◌, ℕ, List, [], length, map, slice_index_or}
+use Rattle.std.specs.Prelude.{◌==◌, ℕ, List, [], length, map, slice_index_or, None}
 use Rattle.std.specs.List.{position_or_len, range_with_len}
 use Rattle.semantics.specs.Expressions.{Read}
 use Rattle.semantics.specs.Programs.{Program, Query}
@@ -50,7 +50,7 @@ pub record Circles (text : List ℕ) (names : List (List ℕ)) : Type 0 where
 
 -- a query with a number: its name, its stream and its expression, which it has at its place in the order of work
 abbrev pub query_at : Judged → ℕ → Query
-query_at judged number = slice_index_or judged.published (position_or_len (λ other. number == other) judged.order) (record { name = []; stream = 0; hidden = 0; expr = Read 0 })
+query_at judged number = slice_index_or judged.published (position_or_len (λ other. number == other) judged.order) (record { name = []; stream = 0; hidden = 0; expr = Read 0; birth = None })
 
 -- the program: how many streams are declared, the queries in the order of the file, and the same in the order of work
 abbrev pub program_of : Judged → Program

@@ -1,5 +1,5 @@
 -- The types of a file: its declarations in file order, then its queries in the order of work.
-use Rattle.std.specs.Prelude.{◌≡◌, ℕ, true, false, List, [], ◌∷◌, ◌++◌, length, map, Some, slice_get}
+use Rattle.std.specs.Prelude.{◌≡◌, ℕ, true, false, List, [], ◌∷◌, ◌++◌, length, map, Some, slice_get, None}
 use Rattle.std.specs.List.{items_where_true}
 use Rattle.expressions.specs.declared.expression.Expr.{Expr}
 use Rattle.expressions.specs.Views.{ex_of}
@@ -50,7 +50,7 @@ pub data Publish (queries : List Statement) : List Entry → ℕ → List ℕ �
   none : {streams : List Entry} {hidden : ℕ} → Publish queries streams hidden [] streams []
   next : {streams all : List Entry} {hidden number : ℕ} {order : List ℕ} {s : Statement} {more : List Query} (schema : List Attr) (x : Ex)
       → slice_get queries number ≡ Some s → Queries streams s schema x → Publish queries (streams ++ published_by s schema ∷ []) (parts_of x hidden).next order all more
-      → Publish queries streams hidden (number ∷ order) all (record { name = name_of s; stream = length streams; hidden = hidden; expr = x } ∷ more)
+      → Publish queries streams hidden (number ∷ order) all (record { name = name_of s; stream = length streams; hidden = hidden; expr = x; birth = None } ∷ more)
 
 -- the first of the queries with these numbers that has a fault has this one, and begins on this line
 pub data FailToPublish (queries : List Statement) (lines : List ℕ) : List Entry → List ℕ → ℕ → TypeFault → Type 0 where

@@ -1,9 +1,11 @@
 -- The streams of a typed program have their kinds.
 use Rattle.std.proofs.Common.{◌≡◌, sym, subst, ℕ, ◌==◌, nat_lt, Bool, true, false, cond, List, [], ◌∷◌, ◌++◌, map}
+use Rattle.std.specs.Prelude.{Option}
 use Rattle.std.specs.List.{All, filter}
-use Rattle.std.proofs.lemmas.List.Elements.{All-nil, All-cons, All-head, All-tail}
+use Rattle.std.proofs.lemmas.List.Elements.{All-nil, All-cons, All-filter, All-head, All-tail}
 use Rattle.event_types.specs.declared.kind.Kind.{Kind}
 use Rattle.event_types.specs.Tuple.{TupleView}
+use Rattle.semantics.specs.Births.{is_after, streams_after}
 use Rattle.semantics.specs.Denotation.{Streams, denote}
 use Rattle.semantics.specs.Histories.{Event, heard_on}
 use Rattle.semantics.specs.Kinds.{HasKinds}
@@ -45,10 +47,15 @@ with_kinds kinds streams number tuples all new stream = go (stream == number) (s
     go true same = subst (λ (n : ℕ). All (HasKinds (kinds n)) tuples) (sym (same (λ i. true))) new
     go false same = all stream
 
+-- so have the streams that are cut at a birth
+pub after_kinds : (kinds : ℕ → List Kind) (streams : Streams) (birth : Option ℕ) → AllHaveKinds kinds streams → AllHaveKinds kinds (streams_after birth streams)
+after_kinds kinds streams birth all stream = All-filter (λ tuple. is_after birth tuple.at) (HasKinds (kinds stream)) (streams stream) (all stream)
+
 -- after queries that are typed in turn each stream has its kinds: by induction on the queries
 pub kinds_in_turn : (kinds : ℕ → List Kind) (there : List ℕ) (streams : Streams) (order : List Query) → AllHaveKinds kinds streams → PublishInTurn kinds there order → AllHaveKinds kinds (published streams order)
 kinds_in_turn kinds there streams [] all h = all
 kinds_in_turn kinds there streams (query ∷ order) all h =
-    let tuples = denote query.expr streams in
-    let one = typed_kinds query.expr query.stream kinds (kinds query.stream) streams (λ s lt. all s) h.2 in
+    let cut = streams_after query.birth streams in
+    let tuples = denote query.expr cut in
+    let one = typed_kinds query.expr query.stream kinds (kinds query.stream) cut (λ s lt. after_kinds kinds streams query.birth all s) h.2 in
     kinds_in_turn kinds (there ++ query.stream ∷ []) (with_stream streams query.stream tuples) order (with_kinds kinds streams query.stream tuples all one) h.3

@@ -5,6 +5,7 @@ use Rattle.std.specs.List.{filter, flat_map}
 use Rattle.std.specs.List.Sorted.{IsPermutation}
 use Rattle.std.proofs.lemmas.List.Sorted.{IsPermutation-append, IsPermutation-cons, IsPermutation-map, IsPermutation-refl, IsPermutation-trans, length_permutation}
 use Rattle.event_types.specs.Tuple.{TupleView}
+use Rattle.semantics.specs.Births.{is_after, streams_after}
 use Rattle.semantics.specs.Denotation.{Streams, denote, joined, matches, selected}
 use Rattle.semantics.specs.Expressions.{Ex, Read, Filter, Select, Union, Next, Fold}
 use Rattle.semantics.specs.Histories.{Event, heard_on}
@@ -69,8 +70,11 @@ with_permuted streams others same number xs ys h stream = go (stream == number)
 pub published_permuted : (streams others : Streams) → AreSameBags streams others → (order : List Query) → AreSameBags (published streams order) (published others order)
 published_permuted streams others same [] = same
 published_permuted streams others same (query ∷ order) =
-    published_permuted (with_stream streams query.stream (denote query.expr streams)) (with_stream others query.stream (denote query.expr others))
-    (with_permuted streams others same query.stream (denote query.expr streams) (denote query.expr others) (denote_permuted streams others same query.expr)) order
+    let cut = streams_after query.birth streams in
+    let others_cut = streams_after query.birth others in
+    let alike = λ (stream : ℕ). filter_permuted (λ (tuple : TupleView). is_after query.birth tuple.at) (streams stream) (others stream) (same stream) in
+    published_permuted (with_stream streams query.stream (denote query.expr cut)) (with_stream others query.stream (denote query.expr others_cut))
+    (with_permuted streams others same query.stream (denote query.expr cut) (denote query.expr others_cut) (denote_permuted cut others_cut alike query.expr)) order
 
 -- what was heard on the streams of a bag of events
 pub heard_permuted : (declared : ℕ) (history others : List Event) → IsPermutation history others → AreSameBags (declared_streams declared history) (declared_streams declared others)

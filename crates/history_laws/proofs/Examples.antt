@@ -1,6 +1,6 @@
 -- Examples that need each premise of the laws, each worked out by hand. No contract cites them.
 use Rattle.std.proofs.Common.{◌≡◌, refl, ℕ, ◌==◌, pos, Bool, false, List, [], ◌∷◌, length}
-use Rattle.std.specs.Prelude.{codes}
+use Rattle.std.specs.Prelude.{codes, None}
 use Rattle.event_types.specs.declared.comparison.Cmp.TheVariants as cmp
 use Rattle.event_types.specs.declared.value.Value.{Value}
 use Rattle.event_types.specs.declared.value.Value.TheVariants as value
@@ -18,7 +18,7 @@ use Rattle.history_laws.specs.LateStarts.{late}
 -- a program of two declared streams, 0 and 1, and one query, which publishes 2
 abbrev asking : Ex → Program
 asking expr =
-    let query : Query = record { name = codes "Q"; stream = 2; hidden = 3; expr = expr } in
+    let query : Query = record { name = codes "Q"; stream = 2; hidden = 3; expr = expr; birth = None } in
     record { declared = 2; queries = query ∷ []; order = query ∷ [] }
 
 -- an event of one number, or of two, on a stream

@@ -1,6 +1,6 @@
 -- Where events never fall, what is denoted over those behind a beginning is denoted over all.
 use Rattle.std.proofs.Common.{◌≡◌, ◌∙◌, sym, ap, refl, subst, ℕ, zero, suc, ◌<◌, ◌≤◌, ◌==◌, Bool, true, false, cond, get_or, nat_le, nat_lt, length, List, [], ◌∷◌, ◌++◌, map, arith}
-use Rattle.std.specs.Prelude.{Contains, None, Some}
+use Rattle.std.specs.Prelude.{Contains, None, Option, Some}
 use Rattle.std.specs.List.{All, filter, flat_map}
 use Rattle.std.proofs.lemmas.Bool.Decides.{nat_tests}
 use Rattle.std.proofs.lemmas.List.{get_or-map, length-map, map-append}
@@ -10,6 +10,7 @@ use Rattle.event_types.specs.Order.{sorted, tuple_cmp}
 use Rattle.event_types.specs.OrderLaws.{tuple_total}
 use Rattle.event_types.specs.Tuple.{IsSound, TupleView}
 use Rattle.event_types.proofs.SortLemmas.{sort_permutes}
+use Rattle.semantics.specs.Births.{after, is_after, streams_after}
 use Rattle.semantics.specs.Denotation.{Streams, denote, joined, matches, selected}
 use Rattle.semantics.specs.Expressions.{Ex, Read, Filter, Select, Union, Next, Fold}
 use Rattle.semantics.specs.Histories.{Event, heard_on, upto}
@@ -20,7 +21,7 @@ use Rattle.semantics.specs.Results.{results}
 use Rattle.semantics.specs.Runs.{goers, rebound, runs, runs_within}
 use Rattle.semantics.specs.Scalars.{Pr, Sc}
 use Rattle.semantics.specs.Truth.{all_true}
-use Rattle.semantics.proofs.ListLemmas.{All-flat_map, All-left, All-right, every}
+use Rattle.semantics.proofs.ListLemmas.{All-flat_map, All-left, All-right, every, filter_swap}
 use Rattle.scalar_expr.proofs.NextsLemmas.{nexts_keep}
 use Rattle.algebra.proofs.SoundLemmas.{denote_sound}
 use Rattle.history_laws.specs.LateStarts.{AreSound, ResultsSpanAtMost, SpansAtMost, is_late, late}
@@ -152,33 +153,52 @@ module _ (bound : ℕ) (few all : Streams) (within : AreWithin bound few all) wh
       one : (b : TupleView) → Contains (denote e all) b → IsSound b → bound ≤ b.at → All (Contains (flat_map (runs p q m.parts (denote f all)) (denote e all))) (runs p q m.parts (denote f few) b)
       one b there sound le = subst (All (Contains (flat_map (runs p q m.parts (denote f all)) (denote e all)))) (sym (same_runs p q m.parts f b sound le)) (given_within (runs p q m.parts (denote f all)) (denote e all) b there)
 
-  -- so it is with what the expression denotes as a stream of that number
-  published_there : (number : ℕ) (e : Ex) → AreWithin bound (with_stream few number (denote e few)) (with_stream all number (denote e all))
-  published_there number e = record {
-    few_sound = with_sound few within.few_sound number (denote e few) (denote_sound few within.few_sound e);
-    all_sound = with_sound all within.all_sound number (denote e all) (denote_sound all within.all_sound e);
-    same_late = λ stream. late_by stream (stream == number);
-    then = λ stream. then_by stream (stream == number);
-    there = λ stream. there_by stream (stream == number);
-  }
-    where
-      late_by : (stream : ℕ) (b : Bool) → late (suc bound) (cond b (denote e few) (few stream)) ≡ late (suc bound) (cond b (denote e all) (all stream))
-      late_by stream true = denoted_late e
-      late_by stream false = within.same_late stream
+-- so it is with both cut at a birth
+after_within : (bound : ℕ) (birth : Option ℕ) (few all : Streams) → AreWithin bound few all → AreWithin bound (streams_after birth few) (streams_after birth all)
+after_within bound birth few all within = record {
+  few_sound = λ stream. All-filter is_later IsSound (few stream) (within.few_sound stream);
+  all_sound = λ stream. All-filter is_later IsSound (all stream) (within.all_sound stream);
+  same_late = λ stream.
+      filter_swap (is_late (suc bound)) is_later (few stream) ∙ ap (after birth) (within.same_late stream) ∙ sym (filter_swap (is_late (suc bound)) is_later (all stream));
+  then = λ stream. All-filter is_later (λ t. bound ≤ t.at) (few stream) (within.then stream);
+  there = λ stream k d lt.
+      passes_within is_later (all stream) (get_or (after birth (few stream)) k d) (All-filter is_later (Contains (all stream)) (few stream) (within.there stream) k d lt) (filter_passes is_later (few stream) k d lt);
+}
+  where
+    is_later : TupleView → Bool
+    is_later tuple = is_after birth tuple.at
 
-      then_by : (stream : ℕ) (b : Bool) → All (λ t. bound ≤ t.at) (cond b (denote e few) (few stream))
-      then_by stream true = denoted_then e
-      then_by stream false = within.then stream
+-- and with what an expression denotes over streams within others, as a stream of that number
+published_there : (bound : ℕ) (few all : Streams) → AreWithin bound few all → (read read_all : Streams) → AreWithin bound read read_all → (number : ℕ) (e : Ex)
+    → AreWithin bound (with_stream few number (denote e read)) (with_stream all number (denote e read_all))
+published_there bound few all within read read_all reads number e = record {
+  few_sound = with_sound few within.few_sound number (denote e read) (denote_sound read reads.few_sound e);
+  all_sound = with_sound all within.all_sound number (denote e read_all) (denote_sound read_all reads.all_sound e);
+  same_late = λ stream. late_by stream (stream == number);
+  then = λ stream. then_by stream (stream == number);
+  there = λ stream. there_by stream (stream == number);
+}
+  where
+    late_by : (stream : ℕ) (b : Bool) → late (suc bound) (cond b (denote e read) (few stream)) ≡ late (suc bound) (cond b (denote e read_all) (all stream))
+    late_by stream true = denoted_late bound read read_all reads e
+    late_by stream false = within.same_late stream
 
-      there_by : (stream : ℕ) (b : Bool) → All (Contains (cond b (denote e all) (all stream))) (cond b (denote e few) (few stream))
-      there_by stream true = denoted_there e
-      there_by stream false = within.there stream
+    then_by : (stream : ℕ) (b : Bool) → All (λ t. bound ≤ t.at) (cond b (denote e read) (few stream))
+    then_by stream true = denoted_then bound read read_all reads e
+    then_by stream false = within.then stream
+
+    there_by : (stream : ℕ) (b : Bool) → All (Contains (cond b (denote e read_all) (all stream))) (cond b (denote e read) (few stream))
+    there_by stream true = denoted_there bound read read_all reads e
+    there_by stream false = within.there stream
 
 -- so it is with all streams of the program, by induction on the queries
 program_within : (bound : ℕ) (order : List Query) (few all : Streams) → AreWithin bound few all → AreWithin bound (published few order) (published all order)
 program_within bound [] few all within = within
 program_within bound (query ∷ order) few all within =
-    program_within bound order (with_stream few query.stream (denote query.expr few)) (with_stream all query.stream (denote query.expr all)) (published_there bound few all within query.stream query.expr)
+    let read = streams_after query.birth few in
+    let read_all = streams_after query.birth all in
+    program_within bound order (with_stream few query.stream (denote query.expr read)) (with_stream all query.stream (denote query.expr read_all))
+    (published_there bound few all within read read_all (after_within bound query.birth few all within) query.stream query.expr)
 
 -- what is heard behind a beginning
 heard_within : (bound declared : ℕ) (past history : List Event) → AreSound past → AreSound history → All (λ event. event.tuple.at < suc bound) past → All (λ event. bound ≤ event.tuple.at) history

@@ -16,6 +16,7 @@ use Rattle.event_types.specs.OrderLaws.{tuple_total}
 use Rattle.event_types.specs.Tuple.{TupleView}
 use Rattle.event_types.proofs.NumberLemmas.{same_number}
 use Rattle.event_types.proofs.SortLemmas.{sort_permutes}
+use Rattle.semantics.specs.Births.{is_after, streams_after}
 use Rattle.semantics.specs.Denotation.{Streams, denote, joined, matches, selected}
 use Rattle.semantics.specs.Expressions.{Ex, Read, Filter, Select, Union, Next, Fold}
 use Rattle.semantics.specs.Histories.{Event, heard_on, upto}
@@ -112,14 +113,18 @@ with_within span is_limited streams within number tuples all stream limited = go
     go true is = all (subst (λ (s : ℕ). is_limited s ≡ true) (same_number stream number is) limited)
     go false is = within stream limited
 
+-- streams that are cut at a birth
+after_within : (span : ℕ) (is_limited : ℕ → Bool) (birth : Option ℕ) (streams : Streams) → AreWithin span is_limited streams → AreWithin span is_limited (streams_after birth streams)
+after_within span is_limited birth streams within stream limited = All-filter (λ tuple. is_after birth tuple.at) (SpansAtMost span) (streams stream) (within stream limited)
+
 -- the streams of a program, by induction on the queries
 published_within : (span : ℕ) (is_limited : ℕ → Bool) (order : List Query) → All (λ query. is_limited query.stream ≡ true → IsLimited span is_limited query.expr) order
     → (streams : Streams) → AreWithin span is_limited streams → AreWithin span is_limited (published streams order)
 published_within span is_limited [] all streams within = within
 published_within span is_limited (query ∷ order) all streams within =
-    published_within span is_limited order (All-tail (λ q. is_limited q.stream ≡ true → IsLimited span is_limited q.expr) query order all) (with_stream streams query.stream (denote query.expr streams))
-    (with_within span is_limited streams within query.stream (denote query.expr streams)
-    (λ limited. denoted_span span is_limited streams within query.expr (All-head (λ q. is_limited q.stream ≡ true → IsLimited span is_limited q.expr) query order all limited)))
+    published_within span is_limited order (All-tail (λ q. is_limited q.stream ≡ true → IsLimited span is_limited q.expr) query order all) (with_stream streams query.stream (denote query.expr (streams_after query.birth streams)))
+    (with_within span is_limited streams within query.stream (denote query.expr (streams_after query.birth streams))
+    (λ limited. denoted_span span is_limited (streams_after query.birth streams) (after_within span is_limited query.birth streams within) query.expr (All-head (λ q. is_limited q.stream ≡ true → IsLimited span is_limited q.expr) query order all limited)))
 
 below : (stream declared : ℕ) → nat_lt stream declared ≡ true → stream < declared
 below stream declared is = grind (arith, nat_tests)

@@ -8,6 +8,7 @@ use Rattle.event_types.specs.OrderLaws.{tuple_total}
 use Rattle.event_types.specs.Tuple.{IsSound, TupleView}
 use Rattle.event_types.proofs.NumberLemmas.{same_number}
 use Rattle.event_types.proofs.SortLemmas.{sort_permutes}
+use Rattle.semantics.specs.Births.{is_after, streams_after}
 use Rattle.semantics.specs.Denotation.{Streams, denote}
 use Rattle.semantics.specs.Histories.{Event, heard_on, upto}
 use Rattle.semantics.specs.Programs.{Program, Query, declared_streams, env, published, with_stream}
@@ -54,11 +55,15 @@ pub published_sifted : (keep : Sift) (order : List Query) → All (Commutes keep
     → (stream : ℕ) → filter (keep stream) (published streams order stream) ≡ published (sifted keep streams) order stream
 published_sifted keep [] all streams sound stream = refl
 published_sifted keep (query ∷ order) all streams sound stream =
-    let tuples = denote query.expr streams in
+    let cut = streams_after query.birth streams in
+    let cut_sound = λ (s : ℕ). All-filter (λ tuple. is_after query.birth tuple.at) IsSound (streams s) (sound s) in
+    let tuples = denote query.expr cut in
     let next = with_stream streams query.stream tuples in
-    let one = All-head (Commutes keep) query order all streams sound in
-    let same : sifted keep next ≡ with_stream (sifted keep streams) query.stream (denote query.expr (sifted keep streams)) = λ i s. with_sifted keep streams query.stream tuples (denote query.expr (sifted keep streams)) one s i in
-    published_sifted keep order (All-tail (Commutes keep) query order all) next (with_sound streams sound query.stream tuples (denote_sound streams sound query.expr)) stream
+    let kept = denote query.expr (streams_after query.birth (sifted keep streams)) in
+    let swapped : sifted keep cut ≡ streams_after query.birth (sifted keep streams) = λ i s. filter_swap (keep s) (λ tuple. is_after query.birth tuple.at) (streams s) i in
+    let one = All-head (Commutes keep) query order all cut cut_sound ∙ ap (denote query.expr) swapped in
+    let same : sifted keep next ≡ with_stream (sifted keep streams) query.stream kept = λ i s. with_sifted keep streams query.stream tuples kept one s i in
+    published_sifted keep order (All-tail (Commutes keep) query order all) next (with_sound streams sound query.stream tuples (denote_sound cut cut_sound query.expr)) stream
     ∙ ap (λ (s : Streams). published s order stream) same
 
 -- what was heard of sound events is sound

@@ -10,7 +10,7 @@ use Rattle.std.proofs.lemmas.List.Quantifiers.{all_pairs_push}
 use Rattle.std.proofs.lemmas.List.Sorted.{Contains-permutation, IsPermutation-filter_both}
 use Rattle.std.proofs.lemmas.Option.{get_or_from_slice_get, slice_get-get_or, slice_get_within}
 use Rattle.semantics.specs.Expressions.{Ex}
-use Rattle.semantics.specs.Programs.{Query}
+use Rattle.semantics.specs.Programs.{IsUnborn, Query}
 use Rattle.stream_schema.specs.Schema.{Attr}
 use Rattle.stream_schema.specs.Streams.{Entry, number_of, stream_names}
 use Rattle.stream_schema.proofs.NameLemmas.{absent-from_none}
@@ -54,16 +54,17 @@ grows (next {streams = streams} {s = s} schema x there gives rest) =
     let (more, same, undeclared) = grows rest in
     (published_by s schema ∷ more, same ∙ append_assoc streams (published_by s schema ∷ []) more, All-cons (λ (e : Entry). e.declared ≡ false) (published_by s schema) more refl undeclared)
 
--- a query of the program is that of a statement: it has its name, its type over these streams and its stream's number
+-- a query of the program is that of a statement: it has its name, its type over these streams and its stream's number, and no birth
 pub record IsOf (streams : List Entry) (s : Statement) (q : Query) : Type 0 where
   pub named : q.name ≡ name_of s
   pub schema : List Attr
   pub gives : Queries streams s schema q.expr
   pub entry : slice_get streams q.stream ≡ Some (published_by s schema)
+  pub unborn : IsUnborn q
 
 -- the first of those that are published next
 first-is : {queries : List Statement} (streams : List Entry) {all : List Entry} (hidden : ℕ) {after : ℕ} {order : List ℕ} {more : List Query} (s : Statement) (schema : List Attr) (x : Ex) → Queries streams s schema x
-    → Publish queries (streams ++ published_by s schema ∷ []) after order all more → IsOf all s (record { name = name_of s; stream = length streams; hidden = hidden; expr = x })
+    → Publish queries (streams ++ published_by s schema ∷ []) after order all more → IsOf all s (record { name = name_of s; stream = length streams; hidden = hidden; expr = x; birth = None })
 first-is streams {all = all} hidden s schema x gives rest =
     let (more, same, undeclared) = grows rest in
     let parts : all ≡ streams ++ published_by s schema ∷ more = same ∙ append_assoc streams (published_by s schema ∷ []) more in
@@ -72,13 +73,14 @@ first-is streams {all = all} hidden s schema x gives rest =
       schema = schema;
       gives = subst (λ (es : List Entry). Queries es s schema x) (sym parts) (queries-append streams (published_by s schema ∷ more) s schema x gives);
       entry = ap (λ es. slice_get es (length streams)) parts ∙ get-end streams (published_by s schema) more;
+      unborn = refl;
     }
 
 -- each published query is that of a statement, by induction on the order
 pub published-are : {queries : List Statement} {streams all : List Entry} {hidden : ℕ} {order : List ℕ} {done : List Query} → Publish queries streams hidden order all done → All (λ q. (s : Statement) × Contains queries s × IsOf all s q) done
 published-are {queries} {all = all} none = All-nil (λ q. (s : Statement) × Contains queries s × IsOf all s q)
 published-are {queries} {all = all} (next {streams = streams} {hidden = hidden} {number = number} {s = s} {more = more} schema x there gives rest) =
-    All-cons (λ q. (s : Statement) × Contains queries s × IsOf all s q) (record { name = name_of s; stream = length streams; hidden = hidden; expr = x }) more
+    All-cons (λ q. (s : Statement) × Contains queries s × IsOf all s q) (record { name = name_of s; stream = length streams; hidden = hidden; expr = x; birth = None }) more
     (s, contains-at queries number s there, first-is streams hidden s schema x gives rest) (published-are rest)
 
 -- each statement of the order has its query, by induction on the order
@@ -88,11 +90,11 @@ publisher none number s (k, inside, same) at = absurd (omega arith)
 publisher {queries} {all = all} (next {streams = streams} {hidden = hidden} {number = first} {s = t} {more = more} schema x there gives rest) number s (zero, inside, same) at =
     let own : Some t ≡ Some s = sym there ∙ ap (slice_get queries) same ∙ at in
     let statements : t ≡ s = cc in
-    let q : Query = record { name = name_of t; stream = length streams; hidden = hidden; expr = x } in
+    let q : Query = record { name = name_of t; stream = length streams; hidden = hidden; expr = x; birth = None } in
     (q, (0, omega arith, refl), subst (λ (z : Statement). IsOf all z q) statements (first-is streams hidden t schema x gives rest))
 publisher (next {streams = streams} {hidden = hidden} {s = t} {more = more} schema x there gives rest) number s (suc k, inside, same) at =
     let (q, stands, is) = publisher rest number s (k, omega arith, same) at in
-    (q, Contains-append_right (record { name = name_of t; stream = length streams; hidden = hidden; expr = x } ∷ []) more q stands, is)
+    (q, Contains-append_right (record { name = name_of t; stream = length streams; hidden = hidden; expr = x; birth = None } ∷ []) more q stands, is)
 
 -- a name with no number stands nowhere
 absent-at : (streams : List Entry) (name : List ℕ) → number_of name streams ≡ None → (k : ℕ) (d : List ℕ) → k < length (stream_names streams) → get_or (stream_names streams) k d ≢ name

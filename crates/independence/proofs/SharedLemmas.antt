@@ -8,7 +8,7 @@ use Rattle.std.proofs.lemmas.List.Sorted.{All-permutation, Contains-permutation,
 use Rattle.std.proofs.lemmas.Option.{get_or_from_slice_get, slice_get-get_or, slice_get_within}
 use Rattle.event_types.specs.declared.kind.Kind.{Kind}
 use Rattle.semantics.specs.Expressions.{Ex}
-use Rattle.semantics.specs.Programs.{Query}
+use Rattle.semantics.specs.Programs.{IsUnborn, Query}
 use Rattle.semantics.specs.Reading.{ReadsOnly, renumbered}
 use Rattle.semantics.specs.Statements.{HaveSameStatements, Publishes}
 use Rattle.semantics.specs.TypedPrograms.{IsProgram}
@@ -51,6 +51,7 @@ pub record IsFollowed (b : Judged) (number : ℕ → ℕ) (u : Statement) (n : �
   pub expr : twin.expr ≡ renumbered number x
   pub stream : number n ≡ twin.stream
   pub entry : slice_get b.streams twin.stream ≡ Some (published_by u schema)
+  pub unborn : IsUnborn twin
 
 module _ (a b : Judged) (s : Stands a) (t : Stands b) (test : List ℕ → Bool) (shared : (u : Statement) → Contains a.statements u → IsTrue (test (name_of u)) → Contains b.statements u) (closed : (u : Statement) (name : List ℕ) → Contains a.statements u → IsTrue (test (name_of u)) → Contains (reads_by u) name → IsTrue (test name)) where
   -- streams of one name and one schema
@@ -95,6 +96,7 @@ module _ (a b : Judged) (s : Stands a) (t : Stands b) (test : List ℕ → Bool)
         expr = sym one.1;
         stream = number-in a.streams b.streams n q.stream (published_by u schema) at (number-at b.streams t.apart q.stream (published_by u schema) entry);
         entry = entry;
+        unborn = is.unborn;
       }
 
   -- so all streams that are shared are alike, by induction on the order of work
@@ -156,15 +158,15 @@ module _ (a b : Judged) (s : Stands a) (t : Stands b) (test : List ℕ → Bool)
           let (m, inside, there, same) = declared-there n (get_or a.declared n (entry_of [] [])) at (subst (λ (y : List ℕ). IsTrue (test y)) named shares) in
           subst (λ (k : ℕ). k < length b.declared) (sym same) inside);
       published =
-          All-permutation (λ q. IsTrue (test (name_at a.streams q.stream)) → ReadsOnly (λ n. IsTrue (test (name_at a.streams n))) q.expr × Publishes (program_of b) (number_in a.streams b.streams q.stream) (renumbered (number_in a.streams b.streams) q.expr))
+          All-permutation (λ q. IsTrue (test (name_at a.streams q.stream)) → ReadsOnly (λ n. IsTrue (test (name_at a.streams n))) q.expr × Publishes (program_of b) (number_in a.streams b.streams q.stream) (renumbered (number_in a.streams b.streams) q.expr) q.birth)
           a.published (program_of a).queries (IsPermutation-sym (program_of a).queries a.published typed.same_queries)
           (All-weaker (λ q. (u : Statement) × Contains (queries_in a.statements) u × IsOf a.streams u q)
-          (λ q. IsTrue (test (name_at a.streams q.stream)) → ReadsOnly (λ n. IsTrue (test (name_at a.streams n))) q.expr × Publishes (program_of b) (number_in a.streams b.streams q.stream) (renumbered (number_in a.streams b.streams) q.expr))
+          (λ q. IsTrue (test (name_at a.streams q.stream)) → ReadsOnly (λ n. IsTrue (test (name_at a.streams n))) q.expr × Publishes (program_of b) (number_in a.streams b.streams q.stream) (renumbered (number_in a.streams b.streams) q.expr) q.birth)
           (λ q known shares. let (u, stands, is) = known in
           let own : IsTrue (test q.name) = subst (λ (y : List ℕ). IsTrue (test y)) (named-at a.streams q.stream (published_by u is.schema) is.entry ∙ sym is.named) shares in
           let followed = queries-followed q u stands is own in (
             queries-shared q u stands is own,
-            (followed.twin, Contains-permutation b.published (program_of b).queries followed.twin (IsPermutation-sym (program_of b).queries b.published other_typed.same_queries) followed.stands, sym followed.stream, followed.expr),
+            (followed.twin, Contains-permutation b.published (program_of b).queries followed.twin (IsPermutation-sym (program_of b).queries b.published other_typed.same_queries) followed.stands, sym followed.stream, followed.expr, followed.unborn ∙ sym is.unborn),
           ))
           a.published s.queries);
     }

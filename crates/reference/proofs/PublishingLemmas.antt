@@ -1,6 +1,6 @@
 -- Streams that are published one after the other.
 use Rattle.std.proofs.Common.{◌≡◌, ◌∙◌, sym, ap, refl, subst, ℕ, zero, suc, ◌+◌, ◌<◌, ◌≤◌, length, get_or, take, drop, add-one, List, [], ◌∷◌, ◌++◌, map, arith}
-use Rattle.std.specs.Prelude.{Some, slice_get}
+use Rattle.std.specs.Prelude.{None, Some, slice_get}
 use Rattle.std.specs.List.{All, cons_option}
 use Rattle.std.specs.List.Sorted.{IsPermutation}
 use Rattle.std.proofs.Math.Seq.{drop-cons, take-length}
@@ -8,6 +8,8 @@ use Rattle.std.proofs.lemmas.List.{length-append, length-take, take-append-le}
 use Rattle.std.proofs.lemmas.List.Elements.{All-nil, All-cons, All-get_or, All-head, All-tail, All-weaker}
 use Rattle.std.proofs.lemmas.List.Sorted.{All-permutation, IsPermutation-sym}
 use Rattle.event_types.specs.Tuple.{TupleView}
+use Rattle.semantics.proofs.BirthLemmas.{streams_after-none}
+use Rattle.semantics.specs.Births.{streams_after}
 use Rattle.semantics.specs.Denotation.{Streams, denote, streams_of}
 use Rattle.semantics.specs.Programs.{Query as Term, published, with_stream}
 use Rattle.algebra.specs.Suits.{Suits}
@@ -45,7 +47,8 @@ next_suits : (queries : List Query) (first : List (List TupleView)) (order : Lis
 next_suits queries first order lists place places query lt is left =
     let cons = placed-cons queries place places query lt is in
     let next = subst (PublishNext (length lists)) cons left.0 in
-    let suited = subst (SuitInTurn (streams_of lists)) cons left.1 in subst (λ (n : ℕ). Suits (query_of query).expr n (streams_of lists)) next.0 suited.0
+    let suited = subst (SuitInTurn (streams_of lists)) cons left.1 in
+    subst (λ (s : ℕ × Streams). Suits (query_of query).expr s.0 s.1) (λ i. (next.0 i, streams_after-none (streams_of lists) i)) suited.0
 
 -- and once it is published, the rest is left
 left_after : (queries : List Query) (first : List (List TupleView)) (order : List ℕ) (lists : List (List TupleView)) (place : ℕ) (places : List ℕ) (query : Query)
@@ -77,8 +80,10 @@ left_after queries first order lists place places query lt is left = (
     counted : length lists + 1 ≡ length (lists ++ tuples ∷ [])
     counted = sym (length-append lists (tuples ∷ []))
 
-    grown : with_stream (streams_of lists) query.stream tuples ≡ streams_of (lists ++ tuples ∷ [])
-    grown = ap (λ n. with_stream (streams_of lists) n tuples) next.0 ∙ sym (streams_of-push lists tuples)
+    grown : with_stream (streams_of lists) query.stream (denote (query_of query).expr (streams_after None (streams_of lists))) ≡ streams_of (lists ++ tuples ∷ [])
+    grown =
+        ap (λ streams. with_stream (streams_of lists) query.stream (denote (query_of query).expr streams)) (streams_after-none (streams_of lists))
+        ∙ ap (λ n. with_stream (streams_of lists) n tuples) next.0 ∙ sym (streams_of-push lists tuples)
 
     at_least : length first ≤ length lists
     at_least = let short = length-take (length first) lists in let same = ap length left.4 in omega arith

@@ -1,5 +1,5 @@
 -- Queries as a program.
-use Rattle.std.specs.Prelude.{◌≡◌, ⊤, ℕ, ◌+◌, List, [], ◌∷◌, map, slice_get}
+use Rattle.std.specs.Prelude.{◌≡◌, ⊤, ℕ, ◌+◌, List, [], ◌∷◌, map, slice_get, None}
 use Rattle.std.specs.List.{filter_map}
 use Rattle.semantics.specs.Programs.{Program, Query as Term}
 use Rattle.expressions.specs.Views.{ex_of}
@@ -7,7 +7,7 @@ use Rattle.reference.specs.declared.query.Query.{Query}
 
 -- the query as a term; it has no lines, so the number of its hidden streams is of no account
 abbrev pub query_of : Query → Term
-query_of query = record { name = query.name.now; stream = query.stream; hidden = 0; expr = ex_of query.expr.now }
+query_of query = record { name = query.name.now; stream = query.stream; hidden = 0; expr = ex_of query.expr.now; birth = None }
 
 -- the queries at these places, in the order of the places
 abbrev pub placed : List Query → List ℕ → List Term

@@ -1,3 +1,4 @@
+pub mod BirthLemmas
 pub mod Examples
 pub mod KindLemmas
 pub mod ListLemmas

@@ -1,6 +1,6 @@
 -- Examples of programs and of their results over a history, each worked out by hand. No contract cites them.
 use Rattle.std.proofs.Common.{◌≡◌, refl, lit<, ℕ, zero, suc, ◌<◌, pos, true, List, [], ◌∷◌, ◌++◌, map, arith}
-use Rattle.std.specs.Prelude.{codes, nat_lt, slice_index_or, Some}
+use Rattle.std.specs.Prelude.{codes, nat_lt, slice_index_or, None, Option, Some}
 use Rattle.std.specs.List.{All, join_with_byte, list_all}
 use Rattle.std.proofs.lemmas.Bool.Decides.{nat_tests}
 use Rattle.std.proofs.lemmas.Fmt.{decimal_digit}
@@ -27,10 +27,10 @@ use Rattle.semantics.proofs.Examples.{number, tuple, pair, rises}
 -- SELECT * FROM S NEXT {$2.a > $1.a} S PUBLISH Up;
 -- in which Up is worked out first, since High reads it
 abbrev high : Query
-high = record { name = codes "High"; stream = 2; hidden = 4; expr = Filter (Test (Event 1) cmp.Gt (number 8) ∷ []) (Read 1) }
+high = record { name = codes "High"; stream = 2; hidden = 4; expr = Filter (Test (Event 1) cmp.Gt (number 8) ∷ []) (Read 1); birth = None }
 
 abbrev up : Query
-up = record { name = codes "Up"; stream = 1; hidden = 3; expr = Next rises (Read 0) (Read 0) }
+up = record { name = codes "Up"; stream = 1; hidden = 3; expr = Next rises (Read 0) (Read 0); birth = None }
 
 abbrev program : Program
 program = record { declared = 1; queries = high ∷ up ∷ []; order = up ∷ high ∷ [] }
@@ -68,6 +68,37 @@ two_epochs =
     let up_line = line_of_pair (codes "Up") refl in
     λ i. ((high_line i ++ []) ++ ((up_line i ++ []) ++ [])) ++ []
 
+-- Up alone, added with this birth
+abbrev up_born : Option ℕ → Program
+up_born birth = let born = record up { birth = birth } in record { declared = 1; queries = born ∷ []; order = born ∷ [] }
+
+-- born at 2 it doesn't read the 7 of 2, so the pairs that began with it are missing, and it has that of the 8 of 3 with the 9 of 4
+born_reads_later : map (results (up_born (Some 2)) history 1) (2 ∷ 3 ∷ 4 ∷ []) ≡ [] ∷ [] ∷ (pair 8 9 3 4 ∷ []) ∷ []
+born_reads_later = refl
+
+-- without a birth it has a pair at 2, two at 3 and that one at 4
+unborn_reads_all : map (results (up_born None) history 1) (2 ∷ 3 ∷ 4 ∷ []) ≡ (pair 5 7 1 2 ∷ []) ∷ (pair 7 8 2 3 ∷ pair 7 9 2 3 ∷ []) ∷ (pair 8 9 3 4 ∷ []) ∷ []
+unborn_reads_all = refl
+
+-- an event counts by its detection: the 6 that starts at 1 is detected after 2, and is paired; the 5 of 1 is not
+detection_counts : results (up_born (Some 2)) (heard 5 1 1 ∷ heard 6 1 3 ∷ heard 9 4 4 ∷ []) 1 4 ≡ pair 6 9 1 4 ∷ []
+detection_counts = refl
+
+-- both queries, where High is added later than Up
+abbrev high_born : ℕ → Program
+high_born birth = let born = record high { birth = Some birth } in record { declared = 1; queries = up ∷ born ∷ []; order = up ∷ born ∷ [] }
+
+-- born at 2, it reads the pair that Up publishes at 3, though this began at 2; born at 3 it doesn't
+high_reads_by_detection : map (results (high_born 2) history 2) (3 ∷ 4 ∷ []) ≡ (pair 7 9 2 3 ∷ []) ∷ (pair 8 9 3 4 ∷ []) ∷ []
+high_reads_by_detection = refl
+
+high_born_later : map (results (high_born 3) history 2) (3 ∷ 4 ∷ []) ≡ [] ∷ (pair 8 9 3 4 ∷ []) ∷ []
+high_born_later = refl
+
+-- and the birth of one changes nothing for the other
+up_is_as_before : map (results (high_born 3) history 1) (2 ∷ 3 ∷ 4 ∷ []) ≡ map (results (up_born None) history 1) (2 ∷ 3 ∷ 4 ∷ [])
+up_is_as_before = refl
+
 -- the same queries on streams whose numbers leave gaps: Up publishes 4 and hides from 6 on, High publishes 9
 abbrev with_gaps : Program
 with_gaps =
@@ -91,10 +122,10 @@ abbrev on_t : Ex
 on_t = Next rises (Read 3) (Read 3)
 
 abbrev run : Query
-run = record { name = codes "Run"; stream = 5; hidden = 6; expr = Next rises (Read 0) on_t }
+run = record { name = codes "Run"; stream = 5; hidden = 6; expr = Next rises (Read 0) on_t; birth = None }
 
 abbrev longer : Query
-longer = record { name = codes "Longer"; stream = 9; hidden = 10; expr = Next (Test (Event 0) cmp.Gt (Binding 2) ∷ []) (Read 5) (Read 3) }
+longer = record { name = codes "Longer"; stream = 9; hidden = 10; expr = Next (Test (Event 0) cmp.Gt (Binding 2) ∷ []) (Read 5) (Read 3); birth = None }
 
 abbrev sparse : Program
 sparse = record { declared = 4; queries = longer ∷ run ∷ []; order = run ∷ longer ∷ [] }

@@ -6,7 +6,7 @@
 #![tactic(auto)]
 
 ghost use Rattle.semantics.specs.Laws.{TimesAscend, LaterEventsChangeNothing, ReportGrows, ReportGrowsByEpochs};
-ghost use Rattle.semantics.specs.Statements.{SameStatementsGiveSameResults, StreamsAreDenoted};
+ghost use Rattle.semantics.specs.Statements.{NoResultsBeforeBirth, SameStatementsGiveSameResults, StreamsAreDenoted};
 
 /// The detection times of a history ascend, each once.
 pub fn times_ascend()
@@ -31,6 +31,11 @@ pub fn report_grows_by_epochs()
 /// The streams of a typed program are those that its statements describe, whatever the order of work.
 pub fn streams_are_denoted()
     ensures { StreamsAreDenoted }
+{}
+
+/// A query that is added gives nothing up to the time of its addition.
+pub fn no_results_before_birth()
+    ensures { NoResultsBeforeBirth }
 {}
 
 /// No result depends on a query or an event that the query doesn't read from.

@@ -10,7 +10,7 @@ use Rattle.event_types.specs.Order.{sorted}
 use Rattle.event_types.specs.Tuple.{TupleView}
 use Rattle.semantics.specs.Denotation.{Streams, streams_of}
 use Rattle.semantics.specs.Histories.{Event, heard_on}
-use Rattle.semantics.specs.Programs.{Program, Query, declared_streams, env}
+use Rattle.semantics.specs.Programs.{IsUnborn, Program, Query, declared_streams, env}
 use Rattle.semantics.specs.Results.{results}
 use Rattle.semantics.specs.TypedPrograms.{HaveTheirKinds}
 use Rattle.automaton.specs.Work.{completed}
@@ -32,6 +32,7 @@ use Rattle.cel_types.specs.SourceLaws.{kinds_in}
 use Rattle.catalogue.proofs.ProgramLemmas.{accepted_are_wide_programs}
 use Rattle.session.specs.ClosingGivesResults.{ClosingGivesResults}
 use Rattle.session.specs.UnbornLines.{unborn_lines}
+use Rattle.session.proofs.UnbornLemmas.{queries_unborn}
 
 -- an event of a declared stream is of no other stream
 other_stream : (at stream declared : ℕ) → at < declared → nat_lt stream declared ≡ false → (at == stream) ≡ false
@@ -46,7 +47,7 @@ by_queries f g (query ∷ queries) all =
     λ i. first i ∷ rest i
 
 -- over events of the declared streams, the lines of a program give its streams up to order
-module _ (kinds : ℕ → List Kind) (program : Program) (wide : IsWideProgram kinds program) (history : List Event) (all : HaveTheirKinds kinds history) (inside : All (λ event. event.stream < program.declared) history) where
+module _ (kinds : ℕ → List Kind) (program : Program) (wide : IsWideProgram kinds program) (unborn : All IsUnborn program.order) (history : List Event) (all : HaveTheirKinds kinds history) (inside : All (λ event. event.stream < program.declared) history) where
   -- nothing is heard on another stream
   heard_none : (stream : ℕ) → nat_lt stream program.declared ≡ false → heard_on history stream ≡ []
   heard_none stream past =
@@ -65,7 +66,7 @@ module _ (kinds : ℕ → List Kind) (program : Program) (wide : IsWideProgram k
   agree order same =
       subst (λ (made : Streams). All (λ (query : Query). IsPermutation (made query.stream) (env program history query.stream)) program.queries) (sym (unborn_lines_are (lines_of program) order (heard_on history)))
       (subst (λ (s : Streams × List ℕ). All (λ (query : Query). IsPermutation (completed (lines_of program) s.1 s.0 query.stream) (env program history query.stream)) program.queries)
-      (λ i. (λ stream. sym (heard_declared stream) i, sym same i)) (derived_so kinds program history wide all))
+      (λ i. (λ stream. sym (heard_declared stream) i, sym same i)) (derived_so kinds program history wide unborn all))
 
   module _ (of_streams : List (List Kind)) (old new : EngineView) (batch : List (List TupleView)) (layout : IsLayoutOf program of_streams old.layout) (stands : EngineStandsFor old (unborn_lines program) history) (closes : Closes old new batch) where
     open_stands : standing.PartsStandFor old.network (unborn_lines program) old.layout.order (stores_in old) (Some closes.time) (streams_of old.opened) old.closed_time history
@@ -87,4 +88,4 @@ module _ (kinds : ℕ → List Kind) (program : Program) (wide : IsWideProgram k
 -- a closing gives the results of each query
 pub closing_gives_results : ClosingGivesResults
 closing_gives_results text judged old new history batch accepts layout stands are closes =
-    batch_is_results (kinds_in judged.streams) (program_of judged) (accepted_are_wide_programs text judged accepts) history are.1 are.0 (kinds_of_each judged.streams) old new batch layout stands closes
+    batch_is_results (kinds_in judged.streams) (program_of judged) (accepted_are_wide_programs text judged accepts) (queries_unborn accepts.publishes) history are.1 are.0 (kinds_of_each judged.streams) old new batch layout stands closes

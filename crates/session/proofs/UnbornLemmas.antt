@@ -1,9 +1,15 @@
--- Lines without births.
-use Rattle.std.proofs.Common.{◌≡◌, ◌∙◌, sym, ap, refl, subst, ℕ, ◌+◌, List, [], ◌∷◌, map}
+-- Lines and queries without births.
+use Rattle.std.proofs.Common.{◌≡◌, sym, ap, refl, subst, ℕ, ◌+◌, List, [], ◌∷◌, map}
+use Rattle.std.specs.List.{All}
+use Rattle.std.proofs.lemmas.List.Elements.{All-nil, All-cons}
+use Rattle.semantics.specs.Programs.{IsUnborn, Query}
+use Rattle.stream_schema.specs.Streams.{Entry}
+use Rattle.cel_grammar.specs.Trees.{Statement}
 use Rattle.automaton.specs.NetworkLines.{ArePrefixes, HasEndings, HasLines}
 use Rattle.automaton.specs.Plain.{numbered}
 use Rattle.automaton.specs.States.{Net}
 use Rattle.automaton.specs.declared.line.Line.{Line}
+use Rattle.catalogue.specs.Typing.{Publish, next, none}
 use Rattle.epoch_laws.specs.BornLines.{HasBornLines, born_by, lines_in, unborn}
 
 -- the lines that have no births are these lines
@@ -18,3 +24,8 @@ born_numbered number (line ∷ lines) = ap (λ bs. unborn line ∷ bs) (born_num
 -- lines that come without births have none
 pub have_none : (net : Net) (lines : List Line) → HasEndings net (numbered 0 lines) → HasLines net lines → HasBornLines net (map unborn lines)
 have_none net lines had has = (numbered 0 lines, had, born_numbered 0 lines, subst (ArePrefixes net) (sym (plainly lines)) has.3)
+
+-- the queries of a text were there from the start
+pub queries_unborn : {queries : List Statement} {streams all : List Entry} {hidden : ℕ} {order : List ℕ} {done : List Query} → Publish queries streams hidden order all done → All IsUnborn done
+queries_unborn none = All-nil IsUnborn
+queries_unborn (next {more = more} schema x there typed rest) = All-cons IsUnborn _ more refl (queries_unborn rest)

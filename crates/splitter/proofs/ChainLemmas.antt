@@ -6,12 +6,15 @@ use Rattle.std.proofs.lemmas.List.Elements.{All-nil, All-cons, All-contains, All
 use Rattle.std.proofs.lemmas.List.Folds.{list_any_none}
 use Rattle.event_types.specs.declared.kind.Kind.{Kind}
 use Rattle.semantics.proofs.ReadingLemmas.{denote_agrees, reads_first}
+use Rattle.semantics.proofs.BirthLemmas.{streams_after-none}
+use Rattle.semantics.specs.Births.{streams_after}
 use Rattle.semantics.specs.Denotation.{Streams, denote}
 use Rattle.semantics.specs.Kinds.{HasKinds}
-use Rattle.semantics.specs.Programs.{Query, published, with_stream}
+use Rattle.semantics.specs.Programs.{IsUnborn, Query, published, with_stream}
 use Rattle.semantics.specs.Reading.{ReadsOnly}
 use Rattle.semantics.specs.TypedPrograms.{PublishInTurn}
-use Rattle.expressions.proofs.ProgramLemmas.{kinds_in_turn}
+use Rattle.expressions.proofs.ProgramLemmas.{with_kinds}
+use Rattle.expressions.proofs.TypingLemmas.{typed_kinds}
 use Rattle.automaton.proofs.AdditionLemmas.{added_alone, added_in_order}
 use Rattle.automaton.specs.Additions.{AreFresh}
 use Rattle.automaton.specs.Work.{IsInOrder, completed, is_in}
@@ -30,6 +33,14 @@ use Rattle.semantics.proofs.ListLemmas.{every}
 -- what a query reads has a lower number than its stream
 pub reads_below : (kinds : ℕ → List Kind) (there : List ℕ) (query : Query) (order : List Query) → PublishInTurn kinds there (query ∷ order) → ReadsOnly (λ stream. stream < query.stream) query.expr
 reads_below kinds there query order turn = reads_first query.stream kinds (kinds query.stream) query.expr turn.2
+
+-- a query's lines work on no stream below its own
+pub not_worked : (query : Query) → query.stream < query.hidden → (s : ℕ) → s < query.stream → is_in (split_order query.expr query.stream query.hidden) s ≡ false
+not_worked query low s less =
+    list_any_none (λ number. s == number) (split_order query.expr query.stream query.hidden)
+    (All-append (λ x. (s == x) ≡ false) (hidden_streams query.expr query.hidden) (query.stream ∷ [])
+    (range_all (λ x. (s == x) ≡ false) query.hidden (hidden_end query - query.hidden) (λ x above below. less_other s x (omega (arith, low))))
+    (All-cons (λ x. (s == x) ≡ false) query.stream [] (less_other s query.stream less) (All-nil (λ x. (s == x) ≡ false))))
 
 module _ (kinds : ℕ → List Kind) where
   -- the streams of the queries behind one
@@ -66,7 +77,7 @@ module _ (kinds : ℕ → List Kind) where
         (outs_later (there ++ later.stream ∷ []) order (Contains-append_left there (later.stream ∷ []) query.stream has) turn.3 (All-tail (LeavesHidden query) later order leave) apart.2)
 
   -- the lines of later queries are fresh
-  later_fresh : (there : List ℕ) (query : Query) (order : List Query) → PublishInTurn kinds there (query ∷ order) → HideApart (query ∷ order)
+  pub later_fresh : (there : List ℕ) (query : Query) (order : List Query) → PublishInTurn kinds there (query ∷ order) → HideApart (query ∷ order)
       → AreFresh (split_lines query.expr query.stream query.hidden) (split_order query.expr query.stream query.hidden) (chain_lines order) (chain_order order)
   later_fresh there query order turn apart =
       let out = query.stream in
@@ -107,14 +118,6 @@ module _ (kinds : ℕ → List Kind) where
         lines_mean_it query.expr query.stream query.hidden streams (is_apart query.expr query.stream query.hidden low (reads_below kinds there query order turn))
         (meets_alike (Contains there) streams plain same query.expr turn.1 meet)
 
-    -- its lines work on none that was there
-    not_worked : (s : ℕ) → s < query.stream → is_in (split_order query.expr query.stream query.hidden) s ≡ false
-    not_worked s less =
-        list_any_none (λ number. s == number) (split_order query.expr query.stream query.hidden)
-        (All-append (λ x. (s == x) ≡ false) (hidden_streams query.expr query.hidden) (query.stream ∷ [])
-        (range_all (λ x. (s == x) ≡ false) query.hidden (hidden_end query - query.hidden) (λ x above below. less_other s x (omega (arith, low))))
-        (All-cons (λ x. (s == x) ≡ false) query.stream [] (less_other s query.stream less) (All-nil (λ x. (s == x) ≡ false))))
-
     turn_means : MeetWidths query.expr plain → (s : ℕ) → Contains (there ++ query.stream ∷ []) s → made s ≡ with_stream plain query.stream (denote query.expr plain) s
     turn_means meet s has = go (Contains-push_cases there query.stream s has)
       where
@@ -124,26 +127,28 @@ module _ (kinds : ℕ → List Kind) where
         go : Contains there s ⊎ (query.stream ≡ s) → made s ≡ with_stream plain query.stream (denote query.expr plain) s
         go (inl was) =
             let less : s < query.stream = All-contains (λ x. x < query.stream) there s turn.0 was in
-            (query_means meet).1 s (not_worked s less) ∙ same s was ∙ sym (ap (λ b. cond b (denote query.expr plain) (plain s)) (less_other s query.stream less))
+            (query_means meet).1 s (not_worked query low s less) ∙ same s was ∙ sym (ap (λ b. cond b (denote query.expr plain) (plain s)) (less_other s query.stream less))
         go (inr same_one) =
             ap made (sym same_one) ∙ (query_means meet).0 ∙ denote_agrees (Contains there) streams plain same query.expr turn.1
             ∙ sym (ap (λ b. cond b (denote query.expr plain) (plain s)) (own same_one))
 
-  -- what the lines mean
-  pub chain_means : (there : List ℕ) (order : List Query) (streams plain : Streams) → PublishInTurn kinds there order → HideApart order → All (λ query. HasWidths kinds query.expr) order
+  -- what the lines mean, where no query has a birth
+  pub chain_means : (there : List ℕ) (order : List Query) (streams plain : Streams) → PublishInTurn kinds there order → HideApart order → All IsUnborn order → All (λ query. HasWidths kinds query.expr) order
       → ((s : ℕ) → All (HasKinds (kinds s)) (plain s)) → ((s : ℕ) → Contains there s → streams s ≡ plain s)
       → (s : ℕ) → Contains (there ++ map (λ query. query.stream) order) s → completed (chain_lines order) (chain_order order) streams s ≡ published plain order s
-  chain_means there [] streams plain turn apart wide have same s has = same s (subst (λ (xs : List ℕ). Contains xs s) (append-nil there) has)
-  chain_means there (query ∷ order) streams plain turn apart wide have same s has =
+  chain_means there [] streams plain turn apart unborn wide have same s has = same s (subst (λ (xs : List ℕ). Contains xs s) (append-nil there) has)
+  chain_means there (query ∷ order) streams plain turn apart unborn wide have same s has =
       let wide_one = All-head (λ (q : Query). HasWidths kinds q.expr) query order wide in
       let meet = wide_meets query.stream kinds plain (λ x below. have x) query.expr (kinds query.stream) turn.2 wide_one in
       let done = completed (split_lines query.expr query.stream query.hidden) (split_order query.expr query.stream query.hidden) streams in
       let tuples = denote query.expr plain in
+      let uncut : streams_after query.birth plain ≡ plain = ap (λ birth. streams_after birth plain) (All-head IsUnborn query order unborn) ∙ streams_after-none plain in
       let more = there ++ query.stream ∷ [] in
       ap (λ (all : Streams). all s) (added_alone (split_lines query.expr query.stream query.hidden) (split_order query.expr query.stream query.hidden) (chain_lines order) (chain_order order) streams (later_fresh there query order turn apart))
-      ∙ chain_means more order done (with_stream plain query.stream tuples) turn.3 apart.2 (All-tail (λ (q : Query). HasWidths kinds q.expr) query order wide)
-      (kinds_in_turn kinds there plain (query ∷ []) have (turn.0, turn.1, turn.2, tt)) (turn_means there query order turn apart.0 streams plain same meet) s
+      ∙ chain_means more order done (with_stream plain query.stream tuples) turn.3 apart.2 (All-tail IsUnborn query order unborn) (All-tail (λ (q : Query). HasWidths kinds q.expr) query order wide)
+      (with_kinds kinds plain query.stream tuples have (typed_kinds query.expr query.stream kinds (kinds query.stream) plain (λ x below. have x) turn.2)) (turn_means there query order turn apart.0 streams plain same meet) s
       (subst (λ (xs : List ℕ). Contains xs s) (sym (append_assoc there (query.stream ∷ []) (map (λ (q : Query). q.stream) order))) has)
+      ∙ ap (λ cut. published (with_stream plain query.stream (denote query.expr cut)) order s) (sym uncut)
 
 -- each line publishes a stream of the order
 pub chain_outs : (order : List Query) → All (λ line. IsTrue (is_in (chain_order order) line.out)) (chain_lines order)

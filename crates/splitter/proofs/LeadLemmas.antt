@@ -1,6 +1,6 @@
 -- How far the lines and the layout of queries are, query by query.
 use Rattle.std.proofs.Common.{◌≡◌, ◌∙◌, sym, ap, refl, subst, ℕ, ◌+◌, ◌-◌, ◌<◌, ◌≤◌, ◌^◌, ◌==◌, ◌||◌, length, get_or, drop, add-one, List, [], ◌∷◌, ◌++◌, map, append-nil, append_assoc, arith}
-use Rattle.std.specs.Prelude.{IsTrue, Some, slice_get}
+use Rattle.std.specs.Prelude.{IsTrue, Some, slice_get, None}
 use Rattle.std.specs.List.{All, list_any, range_with_len}
 use Rattle.std.proofs.Math.Seq.{drop-cons}
 use Rattle.std.proofs.lemmas.List.{drop_all, length-map}
@@ -104,7 +104,7 @@ module _ (declared : ℕ) (expressions : List Expr) (places : List ℕ) (kinds :
       out = declared + place
 
       abbrev query : Query
-      query = record { name = []; stream = out; hidden = next; expr = e }
+      query = record { name = []; stream = out; hidden = next; expr = e; birth = None }
 
       abbrev last : ℕ
       last = (parts_of e next).next

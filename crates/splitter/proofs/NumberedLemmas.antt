@@ -1,6 +1,6 @@
 -- Queries that have the next numbers one after another.
 use Rattle.std.proofs.Common.{◌≡◌, ap, refl, ℕ, ◌+◌, ◌<◌, ◌≤◌, length, List, [], ◌∷◌, map, subst, ◌⊎◌, inl, inr, arith}
-use Rattle.std.specs.Prelude.{⊤}
+use Rattle.std.specs.Prelude.{⊤, None}
 use Rattle.std.specs.List.{All}
 use Rattle.std.proofs.lemmas.List.{length-map}
 use Rattle.std.proofs.lemmas.List.Elements.{All-nil, All-cons, All-head, All-tail}
@@ -60,7 +60,7 @@ from_each P number hidden (e ∷ xs) all stream above below =
     go (is_below number stream) (λ more. from_each P (number + 1) (parts_of e hidden).next xs (All-tail (λ (q : Query). P q.stream) query later all) stream (omega arith) (omega (arith, below)))
   where
     query : Query
-    query = record { name = []; stream = number; hidden = hidden; expr = e }
+    query = record { name = []; stream = number; hidden = hidden; expr = e; birth = None }
 
     later : List Query
     later = queries_from (number + 1) (parts_of e hidden).next xs

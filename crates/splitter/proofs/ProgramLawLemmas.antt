@@ -10,7 +10,7 @@ use Rattle.event_types.specs.declared.kind.Kind.{Kind}
 use Rattle.semantics.proofs.StatementLemmas.{declared_there}
 use Rattle.semantics.specs.Denotation.{Streams}
 use Rattle.semantics.specs.Histories.{Event}
-use Rattle.semantics.specs.Programs.{Program, Query, declared_streams, env}
+use Rattle.semantics.specs.Programs.{IsUnborn, Program, Query, declared_streams, env}
 use Rattle.semantics.specs.TypedPrograms.{HaveTheirKinds, IsProgram}
 use Rattle.expressions.proofs.ProgramLemmas.{declared_kinds}
 use Rattle.automaton.specs.Work.{IsInOrder, completed}
@@ -22,12 +22,13 @@ use Rattle.splitter.proofs.ChainLemmas.{chain_means, chain_ordered}
 pub ordered : (kinds : ℕ → List Kind) (program : Program) → IsProgram kinds program → HideApart program.order → IsInOrder (lines_of program) (work_order program)
 ordered kinds program typed apart = chain_ordered kinds (range_with_len 0 program.declared) program.order typed.in_turn apart
 
-stream_among : (order : List Query) (query : Query) → Contains order query → Contains (map (λ q. q.stream) order) query.stream
+-- the stream of a query is one of theirs
+pub stream_among : (order : List Query) (query : Query) → Contains order query → Contains (map (λ q. q.stream) order) query.stream
 stream_among order query has =
     let stream_of : Query → ℕ = λ q. q.stream in
     (has.0, subst (λ n. has.0 < n) (sym (length-map order stream_of)) has.1, get_or-map stream_of order has.0 query query.stream has.1 ∙ ap stream_of has.2)
 
-module _ (kinds : ℕ → List Kind) (program : Program) (history : List Event) (is : IsWideProgram kinds program) (all : HaveTheirKinds kinds history) where
+module _ (kinds : ℕ → List Kind) (program : Program) (history : List Event) (is : IsWideProgram kinds program) (unborn : All IsUnborn program.order) (all : HaveTheirKinds kinds history) where
   abbrev made : Streams
   made = completed (lines_of program) (work_order program) (declared_streams program.declared history)
 
@@ -40,7 +41,7 @@ module _ (kinds : ℕ → List Kind) (program : Program) (history : List Event) 
   each_meant : (stream : ℕ) → Contains (numbers ++ map (λ q. q.stream) program.order) stream → made stream ≡ env program history stream
   each_meant =
       let streams = declared_streams program.declared history in
-      chain_means kinds numbers program.order streams streams is.typed.in_turn is.apart is.wide (declared_kinds kinds program.declared history all) (λ s has. refl)
+      chain_means kinds numbers program.order streams streams is.typed.in_turn is.apart unborn is.wide (declared_kinds kinds program.declared history all) (λ s has. refl)
 
   -- each query's stream is what its expression denotes, and the declared ones are as they were heard
   pub meant : ((stream : ℕ) → stream < program.declared → made stream ≡ env program history stream) × All IsMade program.queries

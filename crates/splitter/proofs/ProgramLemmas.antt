@@ -1,6 +1,6 @@
 -- The queries of a program by their expressions.
 use Rattle.std.proofs.Common.{◌≡◌, ◌∙◌, sym, ap, refl, subst, ℕ, ◌+◌, ◌<◌, ◌≤◌, ◌*◌, length, List, [], ◌∷◌, ◌++◌, map, arith}
-use Rattle.std.specs.Prelude.{Contains}
+use Rattle.std.specs.Prelude.{Contains, None}
 use Rattle.std.specs.List.{All, range_with_len}
 use Rattle.std.proofs.lemmas.List.{length-map}
 use Rattle.std.proofs.lemmas.List.Elements.{All-nil, All-cons, All-head, All-tail}
@@ -46,7 +46,7 @@ module _ (kinds : ℕ → List Kind) where
   wide_from number hidden [] all = All-nil (λ (q : Query). HasWidths kinds q.expr)
   wide_from number hidden (query ∷ order) all =
       let next = (parts_of query.expr hidden).next in
-      All-cons (λ (q : Query). HasWidths kinds q.expr) (record { name = []; stream = number; hidden = hidden; expr = query.expr }) (queries_from (number + 1) next (expressions_of order))
+      All-cons (λ (q : Query). HasWidths kinds q.expr) (record { name = []; stream = number; hidden = hidden; expr = query.expr; birth = None }) (queries_from (number + 1) next (expressions_of order))
       (All-head (λ (q : Query). HasWidths kinds q.expr) query order all) (wide_from (number + 1) next order (All-tail (λ (q : Query). HasWidths kinds q.expr) query order all))
 
 lines_from : (number hidden : ℕ) (order : List Query) → AreNumbered number hidden order → chain_lines (queries_from number hidden (expressions_of order)) ≡ chain_lines order

@@ -4,7 +4,7 @@ use Rattle.std.specs.List.{All}
 use Rattle.std.specs.List.Sorted.{IsPermutation}
 use Rattle.event_types.specs.declared.kind.Kind.{Kind}
 use Rattle.semantics.specs.Histories.{Event}
-use Rattle.semantics.specs.Programs.{Program, declared_streams, env}
+use Rattle.semantics.specs.Programs.{IsUnborn, Program, declared_streams, env}
 use Rattle.semantics.specs.TypedPrograms.{HaveTheirKinds, IsProgram}
 use Rattle.automaton.specs.declared.layout.Layout.{Layout}
 use Rattle.automaton.specs.declared.line.Line.{Line}
@@ -26,17 +26,17 @@ pub record IsWideProgram (kinds : ℕ → List Kind) (program : Program) : Type 
 abbrev pub ChainsAreInOrder : Type 0
 ChainsAreInOrder = (kinds : ℕ → List Kind) (program : Program) → IsProgram kinds program → HideApart program.order → IsInOrder (lines_of program) (work_order program)
 
--- over events of their streams' kinds, each declared and each published stream is by the lines exactly what it is by the program
+-- where no query has a birth, over events of their streams' kinds, each declared and each published stream is by the lines exactly what it is by the program
 abbrev pub ChainsMeanTheirProgram : Type 0
 ChainsMeanTheirProgram =
-    (kinds : ℕ → List Kind) (program : Program) (history : List Event) → IsWideProgram kinds program → HaveTheirKinds kinds history
+    (kinds : ℕ → List Kind) (program : Program) (history : List Event) → IsWideProgram kinds program → All IsUnborn program.order → HaveTheirKinds kinds history
     → ((stream : ℕ) → stream < program.declared → completed (lines_of program) (work_order program) (declared_streams program.declared history) stream ≡ env program history stream)
     × All (λ query. completed (lines_of program) (work_order program) (declared_streams program.declared history) query.stream ≡ env program history query.stream) program.queries
 
 -- so each query's stream is a permutation of what it is by the program
 abbrev pub QueriesAreDerived : Type 0
 QueriesAreDerived =
-    (kinds : ℕ → List Kind) (program : Program) (history : List Event) → IsWideProgram kinds program → HaveTheirKinds kinds history
+    (kinds : ℕ → List Kind) (program : Program) (history : List Event) → IsWideProgram kinds program → All IsUnborn program.order → HaveTheirKinds kinds history
     → All (λ query. IsPermutation (completed (lines_of program) (work_order program) (declared_streams program.declared history) query.stream) (env program history query.stream)) program.queries
 
 -- a layout that fits lines fits their plain network

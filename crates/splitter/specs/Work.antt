@@ -1,5 +1,5 @@
 -- Expressions in the order of work as queries, and what is made of them.
-use Rattle.std.specs.Prelude.{◌≡◌, ℕ, ◌+◌, List, [], ◌∷◌, ◌++◌, length, map, slice_index_or}
+use Rattle.std.specs.Prelude.{◌≡◌, ℕ, ◌+◌, List, [], ◌∷◌, ◌++◌, length, map, slice_index_or, None}
 use Rattle.event_types.specs.declared.kind.Kind.{Kind}
 use Rattle.semantics.specs.Expressions.{Ex}
 use Rattle.semantics.specs.Programs.{Query}
@@ -14,10 +14,10 @@ use Rattle.splitter.specs.declared.chains.Chains.{Chains}
 abbrev pub kinds_by : List (List Kind) → ℕ → List Kind
 kinds_by kinds stream = slice_index_or kinds stream []
 
--- queries that publish the streams from a number on, by these expressions, and whose hidden streams have the numbers from another on; their names play no part in their lines
+-- queries that publish the streams from a number on, by these expressions, and whose hidden streams have the numbers from another on; their names and births play no part in their lines
 abbrev pub queries_from : ℕ → ℕ → List Ex → List Query
 queries_from number hidden [] = []
-queries_from number hidden (e ∷ expressions) = record { name = []; stream = number; hidden = hidden; expr = e } ∷ queries_from (number + 1) (parts_of e hidden).next expressions
+queries_from number hidden (e ∷ expressions) = record { name = []; stream = number; hidden = hidden; expr = e; birth = None } ∷ queries_from (number + 1) (parts_of e hidden).next expressions
 
 -- the expressions as queries behind so many declared streams, and their hidden streams behind all those
 abbrev pub work_of : ℕ → List Expr → List Query

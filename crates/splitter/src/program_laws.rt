@@ -8,7 +8,8 @@ pub fn chains_are_in_order()
 {}
 
 /// Over events of their streams' kinds the automaton lines of a typed program, whose projections are as
-/// wide as their sources, give exactly the streams of the program.
+/// wide as their sources and whose queries were there from the start, give exactly the streams of the
+/// program.
 pub fn chains_mean_their_program()
     ensures { ChainsMeanTheirProgram }
 {}
