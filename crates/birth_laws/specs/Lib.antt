@@ -1,0 +1,2 @@
+pub mod BornChains
+pub mod BornPrograms
