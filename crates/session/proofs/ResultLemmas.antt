@@ -7,31 +7,30 @@ use Rattle.std.proofs.lemmas.Bool.Decides.{nat_tests}
 use Rattle.std.proofs.lemmas.List.Elements.{All-head, All-tail, All-weaker}
 use Rattle.event_types.specs.declared.kind.Kind.{Kind}
 use Rattle.event_types.specs.Order.{sorted}
-use Rattle.event_types.specs.Tuple.{TupleView}
+use Rattle.event_types.specs.Tuple.{TupleView, IsSound}
 use Rattle.semantics.specs.Denotation.{Streams, streams_of}
 use Rattle.semantics.specs.Histories.{Event, heard_on}
-use Rattle.semantics.specs.Programs.{IsUnborn, Program, Query, declared_streams, env}
+use Rattle.semantics.specs.Programs.{Program, Query, declared_streams, env}
 use Rattle.semantics.specs.Results.{results}
 use Rattle.semantics.specs.TypedPrograms.{HaveTheirKinds}
-use Rattle.automaton.specs.Work.{completed}
 use Rattle.epoch_laws.specs.Batch.{Agree}
+use Rattle.epoch_laws.specs.InstanceFlow.{completed_after}
 use Rattle.epoch_laws.specs.Standing as standing
 use Rattle.epoch_laws.proofs.Lists.{filter_false}
-use Rattle.epoch_laws.proofs.InstanceFlows.{unborn_lines as unborn_lines_are}
+use Rattle.epoch_laws.proofs.Bags.{permuted_is}
 use Rattle.epoch_laws.proofs.Standing.{closing_is_results}
 use Rattle.epoch_engine.specs.Closes.{Closes}
 use Rattle.epoch_engine.specs.EngineStandsFor.{EngineStandsFor}
 use Rattle.epoch_engine.specs.EngineView.{EngineView, stores_in}
-use Rattle.splitter.specs.Chains.{lines_of, work_order}
+use Rattle.splitter.specs.Chains.{outs_of, work_order}
 use Rattle.splitter.specs.ProgramLaws.{IsWideProgram}
-use Rattle.splitter.specs.Layouts.{IsLayoutOf}
-use Rattle.splitter.proofs.ProgramLawLemmas.{derived_so}
-use Rattle.catalogue.specs.Chained.{kinds_of_each}
+use Rattle.birth_laws.specs.BornChains.{born_lines}
+use Rattle.birth_laws.proofs.BornLemmas.{unborn_chain}
+use Rattle.birth_laws.proofs.ProgramLemmas.{program_meant}
 use Rattle.catalogue.specs.Judgement.{program_of}
 use Rattle.cel_types.specs.SourceLaws.{kinds_in}
 use Rattle.catalogue.proofs.ProgramLemmas.{accepted_are_wide_programs}
-use Rattle.session.specs.ClosingGivesResults.{ClosingGivesResults}
-use Rattle.session.specs.UnbornLines.{unborn_lines}
+use Rattle.session.specs.ClosingGivesResults.{ClosingGivesResults, ClosingGivesResultsOfText}
 use Rattle.session.proofs.UnbornLemmas.{queries_unborn}
 
 -- an event of a declared stream is of no other stream
@@ -47,7 +46,7 @@ by_queries f g (query ∷ queries) all =
     λ i. first i ∷ rest i
 
 -- over events of the declared streams, the lines of a program give its streams up to order
-module _ (kinds : ℕ → List Kind) (program : Program) (wide : IsWideProgram kinds program) (unborn : All IsUnborn program.order) (history : List Event) (all : HaveTheirKinds kinds history) (inside : All (λ event. event.stream < program.declared) history) where
+module _ (kinds : ℕ → List Kind) (program : Program) (wide : IsWideProgram kinds program) (history : List Event) (all : HaveTheirKinds kinds history) (inside : All (λ event. event.stream < program.declared) history) where
   -- nothing is heard on another stream
   heard_none : (stream : ℕ) → nat_lt stream program.declared ≡ false → heard_on history stream ≡ []
   heard_none stream past =
@@ -62,30 +61,39 @@ module _ (kinds : ℕ → List Kind) (program : Program) (wide : IsWideProgram k
       by_test true e = refl
       by_test false e = heard_none stream e
 
-  agree : (order : List ℕ) → order ≡ work_order program → All (λ query. Agree (unborn_lines program) order program history query.stream) program.queries
-  agree order same =
-      subst (λ (made : Streams). All (λ (query : Query). IsPermutation (made query.stream) (env program history query.stream)) program.queries) (sym (unborn_lines_are (lines_of program) order (heard_on history)))
-      (subst (λ (s : Streams × List ℕ). All (λ (query : Query). IsPermutation (completed (lines_of program) s.1 s.0 query.stream) (env program history query.stream)) program.queries)
-      (λ i. (λ stream. sym (heard_declared stream) i, sym same i)) (derived_so kinds program history wide unborn all))
+  agree : All (λ event. IsSound event.tuple) history → (order : List ℕ) → order ≡ work_order program → All (λ query. Agree (born_lines program) order program history query.stream) program.queries
+  agree sound order same =
+      subst (λ (s : Streams × List ℕ). All (λ (query : Query). IsPermutation (completed_after (born_lines program) s.1 s.0 query.stream) (env program history query.stream)) program.queries)
+      (λ i. (λ stream. sym (heard_declared stream) i, sym same i))
+      (All-weaker (λ (query : Query). made query.stream ≡ env program history query.stream) (λ query. IsPermutation (made query.stream) (env program history query.stream)) (λ query. permuted_is) program.queries
+      (program_meant kinds program history wide all sound).1)
+    where
+      made : Streams
+      made = completed_after (born_lines program) (work_order program) (declared_streams program.declared history)
 
-  module _ (of_streams : List (List Kind)) (old new : EngineView) (batch : List (List TupleView)) (layout : IsLayoutOf program of_streams old.layout) (stands : EngineStandsFor old (unborn_lines program) history) (closes : Closes old new batch) where
-    open_stands : standing.PartsStandFor old.network (unborn_lines program) old.layout.order (stores_in old) (Some closes.time) (streams_of old.opened) old.closed_time history
+  module _ (old new : EngineView) (batch : List (List TupleView)) (in_order : old.layout.order ≡ work_order program) (outs : old.layout.outs ≡ outs_of program) (stands : EngineStandsFor old (born_lines program) history) (closes : Closes old new batch) where
+    open_stands : standing.PartsStandFor old.network (born_lines program) old.layout.order (stores_in old) (Some closes.time) (streams_of old.opened) old.closed_time history
     open_stands =
-        subst (λ (t : Option ℕ). standing.PartsStandFor old.network (unborn_lines program) old.layout.order (stores_in old) t (streams_of old.opened) old.closed_time history) closes.was_open stands.stands
+        subst (λ (t : Option ℕ). standing.PartsStandFor old.network (born_lines program) old.layout.order (stores_in old) t (streams_of old.opened) old.closed_time history) closes.was_open stands.stands
 
     each : All (λ query. sorted (closes.taken.news query.stream) ≡ results program history query.stream closes.time) program.queries
     each =
-        All-weaker (λ (query : Query). Agree (unborn_lines program) old.layout.order program history query.stream) (λ query. sorted (closes.taken.news query.stream) ≡ results program history query.stream closes.time)
-        (λ query. closing_is_results old.network (unborn_lines program) old.layout.order (stores_in old) closes.time (streams_of old.opened) closes.taken.news old.closed_time history stands.serves open_stands closes.taken.epoch program query.stream)
-        program.queries (agree old.layout.order layout.order)
+        All-weaker (λ (query : Query). Agree (born_lines program) old.layout.order program history query.stream) (λ query. sorted (closes.taken.news query.stream) ≡ results program history query.stream closes.time)
+        (λ query. closing_is_results old.network (born_lines program) old.layout.order (stores_in old) closes.time (streams_of old.opened) closes.taken.news old.closed_time history stands.serves open_stands closes.taken.epoch program query.stream)
+        program.queries (agree stands.stands.sound old.layout.order in_order)
 
     -- what a closing gives is the results of the queries
-    pub batch_is_results : batch ≡ map (λ query. results program history query.stream closes.time) program.queries
+    batch_is_results : batch ≡ map (λ query. results program history query.stream closes.time) program.queries
     batch_is_results =
-        closes.taken.results ∙ ap (map (λ stream. sorted (closes.taken.news stream))) layout.outs
+        closes.taken.results ∙ ap (map (λ stream. sorted (closes.taken.news stream))) outs
         ∙ by_queries (λ stream. sorted (closes.taken.news stream)) (λ query. results program history query.stream closes.time) program.queries each
 
--- a closing gives the results of each query
+-- a closing gives the results of each query of a program
 pub closing_gives_results : ClosingGivesResults
-closing_gives_results text judged old new history batch accepts layout stands are closes =
-    batch_is_results (kinds_in judged.streams) (program_of judged) (accepted_are_wide_programs text judged accepts) (queries_unborn accepts.publishes) history are.1 are.0 (kinds_of_each judged.streams) old new batch layout stands closes
+closing_gives_results kinds program old new history batch wide in_order outs stands have inside closes = batch_is_results kinds program wide history have inside old new batch in_order outs stands closes
+
+-- and of an accepted text
+pub closing_gives_results_of_text : ClosingGivesResultsOfText
+closing_gives_results_of_text text judged old new history batch accepts layout stands are closes =
+    closing_gives_results (kinds_in judged.streams) (program_of judged) old new history batch (accepted_are_wide_programs text judged accepts) layout.order layout.outs
+    (subst (λ lines. EngineStandsFor old lines history) (sym (unborn_chain judged.published (queries_unborn accepts.publishes))) stands) are.1 are.0 closes

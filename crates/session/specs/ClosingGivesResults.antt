@@ -1,9 +1,16 @@
--- Laws of what the closing of an epoch gives for the queries of an accepted text.
-use Rattle.std.specs.Prelude.{◌≡◌, ℕ, List, map}
+-- Laws of what the closing of an epoch gives for the queries of a program.
+use Rattle.std.specs.Prelude.{◌≡◌, ℕ, ◌<◌, List, map}
+use Rattle.std.specs.List.{All}
+use Rattle.event_types.specs.declared.kind.Kind.{Kind}
 use Rattle.event_types.specs.Tuple.{TupleView}
 use Rattle.semantics.specs.Histories.{Event}
+use Rattle.semantics.specs.Programs.{Program}
 use Rattle.semantics.specs.Results.{results}
+use Rattle.semantics.specs.TypedPrograms.{HaveTheirKinds}
+use Rattle.birth_laws.specs.BornChains.{born_lines}
+use Rattle.splitter.specs.Chains.{outs_of, work_order}
 use Rattle.splitter.specs.Layouts.{IsLayoutOf}
+use Rattle.splitter.specs.ProgramLaws.{IsWideProgram}
 use Rattle.catalogue.specs.Chained.{kinds_of_each}
 use Rattle.catalogue.specs.Judgement.{Accepts, Judged, program_of}
 use Rattle.epoch_engine.specs.Closes.{Closes}
@@ -12,9 +19,17 @@ use Rattle.epoch_engine.specs.EngineView.{EngineView}
 use Rattle.session.specs.SessionView.{AreDeclared}
 use Rattle.session.specs.UnbornLines.{unborn_lines}
 
--- an engine of an accepted text that stands for such events closes its epoch with the results of each query at its time, in the order of the file
+-- an engine that has the order of work and the printed streams of a program, and stands for its lines, each with the birth of its query, and for such events, closes its epoch with the results of each query at its time, in the order of the file and then of addition
 abbrev pub ClosingGivesResults : Type 0
 ClosingGivesResults =
+    (kinds : ℕ → List Kind) (program : Program) (old new : EngineView) (history : List Event) (batch : List (List TupleView)) → IsWideProgram kinds program
+    → old.layout.order ≡ work_order program → old.layout.outs ≡ outs_of program → EngineStandsFor old (born_lines program) history
+    → HaveTheirKinds kinds history → All (λ event. event.stream < program.declared) history
+    → (closes : Closes old new batch) → batch ≡ map (λ query. results program history query.stream closes.time) program.queries
+
+-- so does an engine of an accepted text, whose queries were there from the start
+abbrev pub ClosingGivesResultsOfText : Type 0
+ClosingGivesResultsOfText =
     (text : List ℕ) (judged : Judged) (old new : EngineView) (history : List Event) (batch : List (List TupleView)) → Accepts text judged
     → IsLayoutOf (program_of judged) (kinds_of_each judged.streams) old.layout → EngineStandsFor old (unborn_lines (program_of judged)) history → AreDeclared judged history
     → (closes : Closes old new batch) → batch ≡ map (λ query. results (program_of judged) history query.stream closes.time) (program_of judged).queries

@@ -1,7 +1,13 @@
 //! Laws of what the closing of an epoch gives.
-ghost use Rattle.session.specs.ClosingGivesResults.{ClosingGivesResults};
+ghost use Rattle.session.specs.ClosingGivesResults.{ClosingGivesResults, ClosingGivesResultsOfText};
 
-/// The closing of an epoch gives exactly the results of each query, in the order of the file.
+/// The closing of an epoch gives exactly the results of each query, whatever other queries share its
+/// states, came or went.
 pub fn closing_gives_results()
     ensures { ClosingGivesResults }
+{}
+
+/// For an accepted text it gives them in the order of the file.
+pub fn closing_gives_results_of_text()
+    ensures { ClosingGivesResultsOfText }
 {}

@@ -17,6 +17,6 @@ mod work;
 mod writing;
 
 pub use fault::SessionFault;
-pub use laws::closing_gives_results;
+pub use laws::{closing_gives_results, closing_gives_results_of_text};
 pub use refusal::Refusal;
 pub use session::Session;
