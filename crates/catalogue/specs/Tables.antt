@@ -1,9 +1,9 @@
 -- Tables of the statements of a file, by name and by the queries' numbers. No public clause cites this.
 use Rattle.std.specs.Prelude.{◌≡◌, ◌<◌, ℕ, List, length, map, Some, slice_get, slice_index_or}
 use Rattle.cel_grammar.specs.Trees.{Statement}
-use Rattle.stream_schema.specs.Streams.{stream_names}
+use Rattle.stream_schema.specs.Streams.{AreThere, stream_names}
 use Rattle.catalogue.specs.declared.naming.Named.{Named}
-use Rattle.catalogue.specs.Catalogued.{Catalogued, IsAccepted}
+use Rattle.catalogue.specs.Catalogued.{Catalogued, IsAccepted, judged_of}
 use Rattle.catalogue.specs.Statements.{names_in, queries_in, query_names}
 use Rattle.catalogue.specs.Typing.{query_lines}
 
@@ -22,7 +22,8 @@ pub record HasPlaces (numbers : List ℕ) (places : List ℕ) : Type 0 where
   pub long : length places ≡ length numbers
   pub there : (place : ℕ) → place < length numbers → slice_index_or places (slice_index_or numbers place 0) 0 ≡ place
 
--- the parts are accepted, and these are the places of the queries in the order of work
+-- the parts are accepted, these are the places of the queries in the order of work, and no stream is retired
 pub record AreHeld (c : Catalogued) (places : List ℕ) : Type 0 where
   pub accepted : IsAccepted c
   pub placed : HasPlaces c.order places
+  pub there : AreThere (judged_of c).streams

@@ -4,6 +4,7 @@ ghost use Rattle.std.specs.List.{All, position_or_len};
 ghost use Rattle.expressions.specs.Views.{ex_of};
 ghost use Rattle.splitter.specs.Chains.{lines_of};
 ghost use Rattle.splitter.specs.Layouts.{IsLayoutOf};
+ghost use Rattle.stream_schema.specs.Streams.{AreThere};
 ghost use Rattle.catalogue.specs.Catalogued.{IsAccepted, parts_of, judged_of};
 ghost use Rattle.catalogue.specs.Chained.{kinds_of_each};
 ghost use Rattle.catalogue.specs.Judgement.{program_of, query_at};
@@ -58,6 +59,7 @@ impl Catalogue {
     ) -> Result<Catalogue, Memory>
         requires accepted { IsAccepted (parts_of file streams order expressions) }
         requires typed { length expressions ≡ length order }
+        requires there { AreThere streams }
         ensures { IfOk result (λ catalogue. catalogue ≡ parts_of file streams order expressions) }
     {
         let places = places_in(alloc, &order)?;
@@ -86,6 +88,7 @@ impl Catalogue {
     /// that queries publish, in the order of work.
     pub fn streams(&self) -> &Streams
         ensures value { result.now ≡ (judged_of self.now).streams }
+        ensures there { AreThere result.now }
         ensures is_accepted { IsAccepted self.now }
     {
         &self.streams

@@ -3,7 +3,7 @@ ghost use Rattle.std.specs.Prelude.{◌≡◌, ◌<◌, [], IfErr, IfOk, OnOk, l
 ghost use Rattle.std.specs.List.{All};
 ghost use Rattle.cel_grammar.specs.Views.{statement_of};
 ghost use Rattle.resubscribe.specs.Order.{IsOrder};
-ghost use Rattle.stream_schema.specs.Streams.{stream_names};
+ghost use Rattle.stream_schema.specs.Streams.{AreThere, stream_names};
 ghost use Rattle.catalogue.specs.Arranging.{AreSound, FailInNames, HaveCycle};
 ghost use Rattle.catalogue.specs.First.{HaveNone};
 ghost use Rattle.catalogue.specs.Naming.{name_fault_at};
@@ -35,6 +35,7 @@ pub(crate) fn arrange(alloc: Global, file: &File) -> Result<Numbers, LoadFault>
 fn arrange_named(alloc: Global, file: &File, named: &Named) -> Result<Numbers, LoadFault>
     requires named { AreNamed (map statement_of file.now.statements) named.now }
     requires none { HaveNone (name_fault_at (map statement_of file.now.statements)) (length file.now.statements) }
+    requires there { AreThere named.now.queries }
     ensures ok { IfOk result (IsOrder (reads_in (map statement_of file.now.statements))) }
     ensures sound { OnOk result (AreSound (map statement_of file.now.statements)) }
     ensures err { IfErr result (Tells (FailInNames (map statement_of file.now.statements) file.now.lines) (HaveCycle (map statement_of file.now.statements))) }
@@ -47,6 +48,7 @@ fn arrange_named(alloc: Global, file: &File, named: &Named) -> Result<Numbers, L
 fn order_of(alloc: Global, queries: &Streams, reads: &Reads) -> Result<Numbers, LoadFault>
     requires small { All (λ numbers. All (λ number. number < length reads.now) numbers) reads.now }
     requires as_many { length reads.now ≡ length queries.now }
+    requires there { AreThere queries.now }
     ensures ok { IfOk result (IsOrder reads.now) }
     ensures err { IfErr result (TellsCycle (AreOfCycle reads.now (stream_names queries.now))) }
 {
@@ -62,7 +64,8 @@ fn order_of(alloc: Global, queries: &Streams, reads: &Reads) -> Result<Numbers, 
 
 // The names of queries with these numbers.
 fn names_of(alloc: Global, queries: &Streams, numbers: &[usize]) -> Result<Names, Memory>
-    requires { All (λ number. number < length queries.now) numbers.now }
+    requires within { All (λ number. number < length queries.now) numbers.now }
+    requires there { AreThere queries.now }
     ensures { IfOk result (λ names. names ≡ map (λ number. slice_index_or (stream_names queries.now) number []) numbers.now) }
 {
     let mut names: Names = List::new(alloc);

@@ -2,7 +2,7 @@
 ghost use Rattle.std.specs.Prelude.{◌≡◌, None, IfErr, IfOk, OnOk, map};
 ghost use Rattle.cel_grammar.specs.Views.{statement_of};
 ghost use Rattle.cel_types.specs.Statements.{FailsAsDeclaration};
-ghost use Rattle.stream_schema.specs.Streams.{number_of};
+ghost use Rattle.stream_schema.specs.Streams.{AreThere, number_of};
 ghost use Rattle.catalogue.specs.Arranging.{AreSound};
 ghost use Rattle.catalogue.specs.Faults.{IsOfTypes};
 ghost use Rattle.catalogue.specs.Statements.{name_of};
@@ -20,6 +20,7 @@ use stream_schema::Streams;
 pub(crate) fn declare_all(alloc: Global, file: &File) -> Result<Streams, LoadFault>
     requires { AreSound (map statement_of file.now.statements) }
     ensures ok { IfOk result (FileDeclares (map statement_of file.now.statements)) }
+    ensures there { IfOk result AreThere }
     ensures err { IfErr result (TellsBad (FailsInDeclarations (map statement_of file.now.statements) file.now.lines)) }
 {
     let mut streams = Streams::new(alloc);
@@ -39,6 +40,7 @@ fn declare_one(
 ) -> Result<(), LoadFault>
     requires { number_of (name_of (statement_of statement.now)) streams.old ≡ None }
     ensures ok { OnOk result (Adds (statement_of statement.now) streams.old streams.new) }
+    ensures there { OnOk result (AreThere streams.old → AreThere streams.new) }
     ensures err { IfErr result (TellsBad (FailsOn line (FailsAsDeclaration (statement_of statement.now)))) }
 {
     match statement {

@@ -1,5 +1,6 @@
 //! From a query text to its catalogue.
 ghost use Rattle.std.specs.Prelude.{◌≡◌, IfErr, IfOk, length};
+ghost use Rattle.stream_schema.specs.Streams.{AreThere};
 ghost use Rattle.catalogue.specs.Catalogued.{parts_of, judged_of};
 ghost use Rattle.catalogue.specs.Judgement.{Accepts, Circles, Refuses};
 ghost use Rattle.catalogue.specs.Loading.{AcceptsFile, RefusesFile};
@@ -40,6 +41,7 @@ struct Typed {
 fn type_file(alloc: Global, file: &File) -> Result<Typed, LoadFault>
     ensures ok { IfOk result (λ typed. AcceptsFile file.now (judged_of (parts_of file.now typed.streams typed.order typed.expressions))) }
     ensures typed { IfOk result (λ typed. length typed.expressions ≡ length typed.order) }
+    ensures there { IfOk result (λ typed. AreThere typed.streams) }
     ensures err { IfErr result (RefusesFile file.now) }
 {
     let order = arrange(alloc, file)?;

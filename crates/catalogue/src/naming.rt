@@ -1,7 +1,7 @@
 //! The names of statements: none is reserved, and no two are the same.
 ghost use Rattle.std.specs.Prelude.{◌≡◌, ◌++◌, ◌∷◌, [], None, IfErr, IfOk, OnOk, length, map};
 ghost use Rattle.cel_grammar.specs.Views.{statement_of};
-ghost use Rattle.stream_schema.specs.Streams.{number_of, stream_names};
+ghost use Rattle.stream_schema.specs.Streams.{AreThere, number_of, stream_names};
 ghost use Rattle.catalogue.specs.First.{HaveNone, IsFirst};
 ghost use Rattle.catalogue.specs.Naming.{name_fault, name_fault_at};
 ghost use Rattle.catalogue.specs.Statements.{name_of, published_by};
@@ -28,6 +28,7 @@ pub struct Named {
 pub fn name_all(alloc: Global, file: &File) -> Result<Named, LoadFault>
     ensures ok { IfOk result (AreNamed (map statement_of file.now.statements)) }
     ensures none { OnOk result (HaveNone (name_fault_at (map statement_of file.now.statements)) (length file.now.statements)) }
+    ensures there { IfOk result (λ named. AreThere named.queries) }
     ensures err { IfErr result (TellsBad (IsFirst (name_fault_at (map statement_of file.now.statements)) file.now.lines)) }
 {
     let mut named = Named {
@@ -68,6 +69,7 @@ fn admit(alloc: Global, named: &mut Named, statement: &Statement) -> Result<(), 
     requires new_query { number_of (name_of (statement_of statement.now)) named.old.queries ≡ None }
     ensures all { OnOk result (stream_names named.new.all ≡ stream_names named.old.all ++ name_of (statement_of statement.now) ∷ []) }
     ensures queries { OnOk result (stream_names named.new.queries ≡ stream_names named.old.queries ++ published_by (statement_of statement.now)) }
+    ensures there { OnOk result (AreThere named.old.queries → AreThere named.new.queries) }
 {
     named.all.add(name(statement), Schema::new(alloc), true)?;
     if is_a_query(statement) {

@@ -4,7 +4,7 @@ ghost use Rattle.expressions.specs.Views.{ex_of};
 ghost use Rattle.cel_grammar.specs.Views.{statement_of};
 ghost use Rattle.cel_types.specs.Statements.{FailsAsQuery, IsQueryOver};
 ghost use Rattle.resubscribe.specs.Order.{IsOrder};
-ghost use Rattle.stream_schema.specs.Streams.{number_of};
+ghost use Rattle.stream_schema.specs.Streams.{AreThere, number_of};
 ghost use Rattle.catalogue.specs.Arranging.{AreSound};
 ghost use Rattle.catalogue.specs.Reading.{reads_in};
 ghost use Rattle.catalogue.specs.Statements.{is_query, name_of};
@@ -35,6 +35,7 @@ pub(crate) fn publish_all(
     requires in_order { IsOrder (reads_in (map statement_of file.now.statements)) order.now }
     requires declared { FileDeclares (map statement_of file.now.statements) streams.old }
     ensures ok { IfOk result (ArePublished (map statement_of file.now.statements) streams.old order.now streams.new) }
+    ensures there { OnOk result (AreThere streams.old → AreThere streams.new) }
     ensures err { IfErr result (TellsBad (FailsInQueries (map statement_of file.now.statements) file.now.lines streams.old order.now)) }
 {
     let places = places_of(alloc, file)?;
@@ -58,6 +59,7 @@ fn publish_one(
     requires over { IsQueryOver streams.old (statement_of statement.now) }
     requires new { number_of (name_of (statement_of statement.now)) streams.old ≡ None }
     ensures ok { IfOk result (λ expression. AddsQuery (statement_of statement.now) streams.old streams.new (ex_of expression)) }
+    ensures there { OnOk result (AreThere streams.old → AreThere streams.new) }
     ensures err { IfErr result (TellsBad (FailsOn line (FailsAsQuery streams.old (statement_of statement.now)))) }
 {
     match elaborate(alloc, streams, statement) {

@@ -1,6 +1,8 @@
 pub mod JoinLemmas
 pub mod NameLemmas
 pub mod PlaceLemmas
+pub mod RetiredLemmas
 pub mod SchemaLemmas
 pub mod SuffixLemmas
 pub mod TableLemmas
+pub mod TextLemmas

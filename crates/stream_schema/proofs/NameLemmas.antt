@@ -11,13 +11,13 @@ use Rattle.std.proofs.lemmas.Slice.Eq.{bytes_eq-Decides}
 use Rattle.stream_schema.proofs.PlaceLemmas.{is_some-position, missing, position-found, position-here, position-past}
 
 -- what holds of all items holds of the one at a place
-all-at : {Y : Type 0} (P : Y → Type 0) (ys : List Y) (place : ℕ) (y : Y) → AllByRecursion P ys → slice_get ys place ≡ Some y → P y
+pub all-at : {Y : Type 0} (P : Y → Type 0) (ys : List Y) (place : ℕ) (y : Y) → AllByRecursion P ys → slice_get ys place ≡ Some y → P y
 all-at P [] place y all at = cc
 all-at P (x ∷ ys) zero y all at = let same : x ≡ y = cc in subst P same all.0
 all-at P (x ∷ ys) (suc place) y all at = all-at P ys place y all.1 at
 
 -- a name that isn't another one's
-other-name : (x y : List ℕ) → bytes_eq x y ≡ false → bytes_eq y x ≡ false
+pub other-name : (x y : List ℕ) → bytes_eq x y ≡ false → bytes_eq y x ≡ false
 other-name x y apart = sym (nat_list_eq_equiv.symm x y) ∙ apart
 
 module _ {X : Type 0} (name_of : X → List ℕ) (name : List ℕ) where

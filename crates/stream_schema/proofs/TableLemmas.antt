@@ -1,74 +1,77 @@
--- The streams of a table: look-ups, and one more stream.
-use Rattle.std.proofs.Common.{◌≡◌, ◌∙◌, ℕ, zero, suc, ◌≢◌, List, [], ◌∷◌, ◌++◌, Bool, false, not, refl, sym, ap, map}
-use Rattle.std.specs.Prelude.{Some, None, String, AllPairs, slice_get, is_some, position, string_bytes}
-use Rattle.std.specs.List.{AllByRecursion, IsDistinct, prefix_len}
-use Rattle.std.specs.Map.{keys_of, values_of, lookup}
+-- The streams of a list by number: one more stream, and what stands at a number.
+use Rattle.std.proofs.Common.{◌≡◌, ℕ, zero, suc, ◌+◌, List, [], ◌∷◌, ◌++◌, Bool, length, false, refl, sym, ap, map, arith}
+use Rattle.std.specs.Prelude.{Option, Some, None, String, slice_get, slice_set, string_bytes}
+use Rattle.std.specs.List.{AllByRecursion, prefix_len}
 use Rattle.std.specs.Str.{bytes_eq}
-use Rattle.std.specs.String.{string_eq}
-use Rattle.std.proofs.lemmas.List.{length-map, map-append}
-use Rattle.std.proofs.lemmas.Map.Made.{AllPairs-from_IsDistinct, is_some-lookup}
+use Rattle.std.proofs.lemmas.Bool.{false_from_ne_true}
 use Rattle.std.proofs.lemmas.Slice.Eq.{bytes_eq-Decides}
-use Rattle.stream_schema.specs.Streams.{Entry, declared_of, number_of, schemas_of, stream_names}
-use Rattle.stream_schema.specs.Table.{streams_of}
+use Rattle.stream_schema.specs.Streams.{declared_of, renamed, retired_name, schemas_of, stream_names}
+use Rattle.stream_schema.specs.Table.{name_at, streams_from}
 use Rattle.stream_schema.specs.declared.streams.Stream.{Stream}
-use Rattle.stream_schema.proofs.PlaceLemmas.{is_some-position, missing}
+use Rattle.stream_schema.proofs.TextLemmas.{own-string}
 
 -- the items before the first that passes, in a list of images
 pub prefix_len-map : {X Y : Type 0} (f : X → Y) (p : Y → Bool) (xs : List X) → prefix_len p (map f xs) ≡ prefix_len (λ x. p (f x)) xs
 prefix_len-map f p [] = refl
 prefix_len-map f p (x ∷ xs) = rw (prefix_len-map f p xs) refl
 
--- the first place in a list of images
-position-map : {X Y : Type 0} (f : X → Y) (p : Y → Bool) (xs : List X) → position p (map f xs) ≡ position (λ x. p (f x)) xs
-position-map f p xs = rw (prefix_len-map f (λ y. not (p y)) xs, length-map xs f) refl
+-- as many streams as items
+pub length-streams_from : (n : ℕ) (xs : List Stream) → length (streams_from n xs) ≡ length xs
+length-streams_from n [] = refl
+length-streams_from n (x ∷ xs) = ap suc (length-streams_from (n + 1) xs)
 
-module _ {A : Type 0} where
-  -- the number of a name is its place among the keys
-  pub number_of-keys : (name : List ℕ) (entries : List (String A × Stream)) → number_of name (streams_of entries) ≡ position (λ k. bytes_eq name (string_bytes k)) (keys_of entries)
-  number_of-keys name entries =
-      position-map _ (λ (s : Entry). bytes_eq name s.name) entries ∙ sym (position-map (λ (e : String A × Stream). e.0) (λ k. bytes_eq name (string_bytes k)) entries)
+-- one more stream, which has a name
+pub streams_from-push : (n : ℕ) (xs : List Stream) (x : Stream) (name : List ℕ) → ((k : ℕ) → name_at k x.name ≡ name)
+    → streams_from n (xs ++ x ∷ []) ≡ streams_from n xs ++ record { name = name; schema = x.schema; declared = x.declared } ∷ []
+streams_from-push n [] x name named = rw (named n) refl
+streams_from-push n (y ∷ xs) x name named = rw (streams_from-push (n + 1) xs x name named) refl
 
-  -- a look-up of an absent name, by a key that spells it
-  pub lookup-absent : (key : String A) (entries : List (String A × Stream)) → number_of (string_bytes key) (streams_of entries) ≡ None → lookup (string_eq key) entries ≡ None
-  lookup-absent key entries none =
-      let test : String A → Bool = string_eq key in
-      let placed : is_some (position test (keys_of entries)) ≡ false = ap is_some (sym (number_of-keys (string_bytes key) entries) ∙ none) in
-      missing (lookup test entries) (is_some-lookup test entries ∙ sym (is_some-position test (keys_of entries)) ∙ placed)
+-- the schema of the stream at a place
+pub schema-at : (n : ℕ) (xs : List Stream) (i : ℕ) (x : Stream) → slice_get xs i ≡ Some x → slice_get (schemas_of (streams_from n xs)) i ≡ Some x.schema
+schema-at n [] i x e = cc
+schema-at n (y ∷ xs) zero x e = cc
+schema-at n (y ∷ xs) (suc i) x e = schema-at (n + 1) xs i x e
 
-  -- one more entry is one more stream
-  pub streams_of-push : (entries : List (String A × Stream)) (key : String A) (v : Stream) (streams : List Entry) (name : List ℕ) → streams_of entries ≡ streams → string_bytes key ≡ name
-      → streams_of (entries ++ (key, v) ∷ []) ≡ streams ++ record { name = name; schema = v.schema; declared = v.declared } ∷ []
-  streams_of-push entries key v streams name same spelled = map-append _ entries ((key, v) ∷ []) ∙ rw (same, spelled) refl
+-- whether the stream at a place is declared
+pub declared-at : (n : ℕ) (xs : List Stream) (i : ℕ) (x : Stream) → slice_get xs i ≡ Some x → slice_get (declared_of (streams_from n xs)) i ≡ Some x.declared
+declared-at n [] i x e = cc
+declared-at n (y ∷ xs) zero x e = cc
+declared-at n (y ∷ xs) (suc i) x e = declared-at (n + 1) xs i x e
 
-  -- the schema, the name and whether it is declared, of the entry at a number
-  pub schema-at : (entries : List (String A × Stream)) (i : ℕ) (v : Stream) → slice_get (values_of entries) i ≡ Some v → slice_get (schemas_of (streams_of entries)) i ≡ Some v.schema
-  schema-at [] i v e = cc
-  schema-at (x ∷ entries) zero v e = cc
-  schema-at (x ∷ entries) (suc i) v e = schema-at entries i v e
+-- the name of the stream at a place
+pub name-at : (n : ℕ) (xs : List Stream) (i : ℕ) (x : Stream) → slice_get xs i ≡ Some x → slice_get (stream_names (streams_from n xs)) i ≡ Some (name_at (n + i) x.name)
+name-at n [] i x e = cc
+name-at n (y ∷ xs) zero x e = let same : n + 0 ≡ n = omega arith in rw same cc
+name-at n (y ∷ xs) (suc i) x e = let same : n + suc i ≡ n + 1 + i = omega arith in rw same (name-at (n + 1) xs i x e)
 
-  -- whether the stream of an entry is declared
-  pub declared-at : (entries : List (String A × Stream)) (i : ℕ) (v : Stream) → slice_get (values_of entries) i ≡ Some v → slice_get (declared_of (streams_of entries)) i ≡ Some v.declared
-  declared-at [] i v e = cc
-  declared-at (x ∷ entries) zero v e = cc
-  declared-at (x ∷ entries) (suc i) v e = declared-at entries i v e
+-- names that differ
+pub apart-names : (x y : List ℕ) → (x ≡ y → ⊥) → bytes_eq x y ≡ false
+apart-names x y apart = false_from_ne_true _ (λ same. apart ((bytes_eq-Decides x y).0 same))
 
-  -- the name of the stream of an entry is its key
-  pub name-at : (entries : List (String A × Stream)) (i : ℕ) (k : String A) (v : Stream) → slice_get entries i ≡ Some (k, v) → slice_get (stream_names (streams_of entries)) i ≡ Some (string_bytes k)
-  name-at [] i k v e = cc
-  name-at (x ∷ entries) zero k v e = cc
-  name-at (x ∷ entries) (suc i) k v e = name-at entries i k v e
+-- a retired stream's name isn't that of a stream with a name or another number
+not-here : {A : Type 0} (n i : ℕ) (name : Option (String A)) → (n ≡ i → name ≡ None → ⊥) → bytes_eq (retired_name i) (name_at n name) ≡ false
+not-here n i (Some k) apart = apart-names (retired_name i) (string_bytes k) (λ same. own-string k i (sym same))
+not-here n i None apart = apart-names (retired_name i) (retired_name n) (λ same. let number : n ≡ i = cc in apart number refl)
 
-  -- a key that differs from others is a name that does
-  others-apart : (k : String A) (entries : List (String A × Stream)) → AllByRecursion (λ y. string_eq k y ≡ false) (keys_of entries) → AllByRecursion (λ y. bytes_eq (string_bytes k) y ≡ false) (stream_names (streams_of entries))
-  others-apart k [] h = tt
-  others-apart k (x ∷ entries) h = (h.0, others-apart k entries h.1)
+-- a stream that isn't retired has the number of none that is, by induction on the streams
+pub retired-apart : (n i : ℕ) (xs : List Stream) → ((j : ℕ) (x : Stream) → slice_get xs j ≡ Some x → n + j ≡ i → x.name ≡ None → ⊥) → AllByRecursion (λ y. bytes_eq (retired_name i) y ≡ false) (stream_names (streams_from n xs))
+retired-apart n i [] none = tt
+retired-apart n i (x ∷ xs) none = (
+  not-here n i x.name (λ same. let at : n + 0 ≡ i = omega (arith, same) in none 0 x refl at),
+  retired-apart (n + 1) i xs (λ j y at same. let further : n + suc j ≡ i = omega (arith, same) in none (suc j) y at further),
+)
 
-  -- where the keys are distinct, so are the names
-  pub names-apart : (entries : List (String A × Stream)) → IsDistinct string_eq (keys_of entries) → IsDistinct bytes_eq (stream_names (streams_of entries))
-  unfolding IsDistinct
-  names-apart [] h = tt
-  names-apart (x ∷ entries) h = (others-apart x.0 entries h.0, names-apart entries h.1)
+-- the streams, where that at a place loses its name
+pub streams_from-retired : (n : ℕ) (xs : List Stream) (i : ℕ) (x y : Stream) → slice_get xs i ≡ Some x → y.name ≡ None → y.schema ≡ x.schema → y.declared ≡ x.declared
+    → streams_from n (slice_set xs i y) ≡ renamed (streams_from n xs) i (retired_name (n + i))
+streams_from-retired n [] i x y at no_name schema declared = cc
+streams_from-retired n (z ∷ xs) zero x y at no_name schema declared =
+    let same : z ≡ x = cc in let here : n + 0 ≡ n = omega arith in rw (no_name, schema, declared, here, same) refl
+streams_from-retired n (z ∷ xs) (suc i) x y at no_name schema declared =
+    let further : n + suc i ≡ n + 1 + i = omega arith in rw (further, streams_from-retired (n + 1) xs i x y at no_name schema declared) refl
 
-  -- keys that differ are names that differ
-  pub distinct-names : (entries : List (String A × Stream)) → IsDistinct string_eq (keys_of entries) → AllPairs (λ x y. x ≢ y) (stream_names (streams_of entries))
-  distinct-names entries h = AllPairs-from_IsDistinct bytes_eq-Decides (stream_names (streams_of entries)) (names-apart entries h)
+-- an item that is put where it stands
+pub set-same : {X : Type 0} (xs : List X) (i : ℕ) (x : X) → slice_get xs i ≡ Some x → slice_set xs i x ≡ xs
+set-same [] i x at = cc
+set-same (y ∷ xs) zero x at = let same : y ≡ x = cc in rw same refl
+set-same (y ∷ xs) (suc i) x at = rw (set-same xs i x at) refl

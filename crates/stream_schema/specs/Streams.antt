@@ -1,5 +1,5 @@
 -- The table of streams: a list of names, each with a schema.
-use Rattle.std.specs.Prelude.{ℕ, Bool, List, Option, map, position}
+use Rattle.std.specs.Prelude.{◌≡◌, ℕ, zero, suc, Bool, List, [], ◌∷◌, Option, Some, map, position, slice_get}
 use Rattle.std.specs.Str.{bytes_eq}
 use Rattle.stream_schema.specs.Schema.{Attr}
 
@@ -24,3 +24,25 @@ schemas_of streams = map (λ s. s.schema) streams
 -- whether each stream is declared, by number
 abbrev pub declared_of : List Entry → List Bool
 declared_of streams = map (λ s. s.declared) streams
+
+-- the name of a retired stream by its number, which no text has: 256 is no byte
+abbrev pub retired_name : ℕ → List ℕ
+retired_name number = 256 ∷ number ∷ []
+
+-- the streams, where that of a number has another name
+abbrev pub renamed : List Entry → ℕ → List ℕ → List Entry
+renamed [] number name = []
+renamed (s ∷ streams) zero name = record { name = name; schema = s.schema; declared = s.declared } ∷ streams
+renamed (s ∷ streams) (suc number) name = s ∷ renamed streams number name
+
+-- the streams, where that of a number is retired
+abbrev pub retired : List Entry → ℕ → List Entry
+retired streams number = renamed streams number (retired_name number)
+
+-- the stream of this number is retired
+abbrev pub IsRetired : List Entry → ℕ → Type 0
+IsRetired streams number = slice_get (stream_names streams) number ≡ Some (retired_name number)
+
+-- none of the streams is retired
+abbrev pub AreThere : List Entry → Type 0
+AreThere streams = (number : ℕ) → IsRetired streams number → ⊥

@@ -1,19 +1,22 @@
 //! The table of streams by name.
-ghost use Rattle.std.specs.Prelude.{◌≡◌, ◌<◌, ◌≤◌, ◌↔◌, [], ◌∷◌, ◌++◌, length, slice_get, Some, None, IfOk, OnOk, OnErr, IfSome, Contains, AllPairs, ◌≢◌};
-ghost use Rattle.stream_schema.specs.Streams.{declared_of, number_of, schemas_of, stream_names};
+ghost use Rattle.std.specs.Prelude.{◌≡◌, ◌<◌, ◌≤◌, ◌↔◌, ◌⊎◌, [], ◌∷◌, ◌++◌, false, length, slice_get, Some, None, IfOk, OnOk, OnErr, IfSome, Contains, AllPairs, ◌≢◌};
+ghost use Rattle.stream_schema.specs.Streams.{AreThere, IsRetired, declared_of, number_of, retired, schemas_of, stream_names};
 
 use crate::schema::Schema;
-use event_types::{Memory, StreamId};
+use event_types::{List, Memory, StreamId};
 use indexmap::IndexMap;
 use std::alloc::Global;
 use std::marker::Model;
 
 /// The streams by name, each with its schema. A stream's number is its place in the order in which they
-/// were added, from 0.
+/// were added, from 0. A retired stream keeps its number and its schema, and has no name: contracts see as its name
+/// one that no text has.
 #[derive(Drop)]
 pub struct Streams {
     alloc: Global,
-    table: IndexMap<String, Stream>,
+    streams: List<Stream>,
+    // For each name its stream.
+    numbers: IndexMap<String, StreamId>,
 }
 
 impl Model for Streams {
@@ -22,9 +25,11 @@ impl Model for Streams {
 
     ghost Value = { List Entry };
 
-    ghost use Rattle.stream_schema.specs.Table.{streams_of};
+    ghost use Rattle.stream_schema.specs.Table.{IsTable, streams_of};
 
-    ghost view = { λ s. streams_of s.table.entries };
+    ghost view = { λ s. streams_of s.streams };
+
+    ghost invariant = { λ s. IsTable s.streams s.numbers };
 }
 
 impl Streams {
@@ -34,7 +39,8 @@ impl Streams {
     {
         Streams {
             alloc,
-            table: IndexMap::new(alloc),
+            streams: List::new(alloc),
+            numbers: IndexMap::new(alloc),
         }
     }
 
@@ -44,11 +50,35 @@ impl Streams {
         ensures number { IfOk result (λ number. number ≡ length self.old) }
         ensures ok { OnOk result (self.new ≡ self.old ++ record { name = name.now; schema = schema; declared = declared } ∷ []) }
         ensures kept { OnErr result (self.new ≡ self.old) }
+        ensures there { OnOk result (AreThere self.old → AreThere self.new) }
     {
-        let number = self.table.len();
+        let number = self.streams.len();
         let key = String::from_str(self.alloc, name)?;
-        self.table.insert(key, Stream { schema, declared })?;
-        Ok(number)
+        let name = Some(String::from_str(self.alloc, name)?);
+        self.streams.add(Stream {
+            name,
+            schema,
+            declared,
+        })?;
+        match self.numbers.insert(key, number) {
+            Ok(_) => Ok(number),
+            Err(_) => {
+                self.streams.truncate(number);
+                Err(Memory)
+            }
+        }
+    }
+
+    /// Takes its name from a stream that no STREAM statement declares: no name finds it from then on, a later stream may
+    /// have the name, and its number isn't used again. Takes no memory.
+    pub fn retire(&mut self, stream: StreamId)
+        requires within { stream < length self.old }
+        requires published { slice_get (declared_of self.old) stream ≡ Some false }
+        ensures { self.new ≡ retired self.old stream }
+    {
+        if let Some(name) = self.streams.get_mut(stream).name.take() {
+            self.numbers.swap_remove(name.as_str());
+        }
     }
 
     /// The number of the stream of this name, by a look-up of its hash. Takes no memory.
@@ -59,7 +89,7 @@ impl Streams {
         ensures absent { (result ≡ None) ↔ ¬ Contains (stream_names self.now) name.now }
         ensures distinct { AllPairs (λ x y. x ≢ y) (stream_names self.now) }
     {
-        self.table.get_index_of(name)
+        self.numbers.get(name).copied()
     }
 
     /// The same, by one comparison where the name is that of the stream `near`, which may be any number.
@@ -71,20 +101,27 @@ impl Streams {
         ensures absent { (result ≡ None) ↔ ¬ Contains (stream_names self.now) name.now }
         ensures distinct { AllPairs (λ x y. x ≢ y) (stream_names self.now) }
     {
-        if near < self.table.len() && self.name(near) == name {
-            return Some(near);
+        if let Some(known) = self.named(near) {
+            if known == name {
+                return Some(near);
+            }
         }
         self.find(name)
     }
 
-    /// The name of the stream of this number, if there is one. Takes no memory.
+    /// The name of the stream of this number, if there is one and it isn't retired. Takes no memory.
     pub fn named(&self, stream: StreamId) -> Option<&str>
         ensures number { IfSome result (λ name. number_of name.now self.now ≡ Some stream) }
         ensures within { IfSome result (λ name. stream < length self.now) }
-        ensures absent { (result ≡ None) ↔ (length self.now ≤ stream) }
+        ensures found { IfSome result (λ name. slice_get (stream_names self.now) stream ≡ Some name.now) }
+        ensures absent { (result ≡ None) ↔ ((length self.now ≤ stream) ⊎ IsRetired self.now stream) }
+        ensures distinct { AllPairs (λ x y. x ≢ y) (stream_names self.now) }
     {
-        if stream < self.table.len() {
-            Some(self.name(stream))
+        if stream < self.streams.len() {
+            match &self.streams.get(stream).name {
+                Some(name) => Some(name.as_str()),
+                None => None,
+            }
         } else {
             None
         }
@@ -95,16 +132,16 @@ impl Streams {
         requires { stream < length self.now }
         ensures { slice_get (schemas_of self.now) stream ≡ Some result.now }
     {
-        &self.table[stream].schema
+        &self.streams.get(stream).schema
     }
 
     /// The name of the stream of this number, counted from 0. Takes no memory.
     pub fn name(&self, stream: StreamId) -> &str
-        requires { stream < length self.now }
+        requires within { stream < length self.now }
+        requires there { ¬ IsRetired self.now stream }
         ensures { slice_get (stream_names self.now) stream ≡ Some result.now }
     {
-        let (name, _) = self.table.get_index(stream).unwrap();
-        name.as_str()
+        self.named(stream).unwrap()
     }
 
     /// Whether a STREAM statement declares the stream; else a query publishes it.
@@ -112,13 +149,14 @@ impl Streams {
         requires { stream < length self.now }
         ensures { slice_get (declared_of self.now) stream ≡ Some result }
     {
-        self.table[stream].declared
+        self.streams.get(stream).declared
     }
 }
 
-// What the table has beside a name.
+// A stream; where it is retired it has no name.
 #[derive(Drop)]
 struct Stream {
+    name: Option<String>,
     schema: Schema,
     declared: bool,
 }

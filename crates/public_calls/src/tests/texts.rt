@@ -1,4 +1,4 @@
-//! A statement's canonical line, and a result line that is read as an event again.
+//! A statement's canonical line, a result line that is read as an event again, and a stream that is retired.
 use cel_lexer::lex;
 use cel_parser::parse;
 use cel_print::print_one;
@@ -50,5 +50,19 @@ fn a_result_line_is_read_as_an_event(rt: HostRuntime) -> Result<(), Fail> {
     let event = next_event(&rt, alloc, &streams, &mut feed);
     let line = row(alloc, "S", &event)?;
     assert_eq!(rt; line.as_str(), "S,3,4,-5\n");
+    Ok(())
+}
+
+#[test]
+fn a_retired_name_is_free_again(rt: HostRuntime) -> Result<(), Fail> {
+    let alloc = rt.alloc();
+    let mut streams = Streams::new(alloc);
+    let first = streams.add("Q", Schema::new(alloc), false)?;
+    streams.retire(first);
+    assert!(rt; streams.named(first).is_none());
+    assert!(rt; streams.find("Q").is_none());
+    let second = streams.add("Q", Schema::new(alloc), false)?;
+    assert!(rt; second == 1);
+    assert!(rt; streams.find_near(first, "Q") == Some(1));
     Ok(())
 }

@@ -54,4 +54,5 @@ loop-place-preserved c =
           ∙ sym (query_names-with (map statement_of c.args.file.now.statements) c.loop-place.place (statement_of c.statement-statement.result.now) there);
       none = HaveNone-more (name_fault_at (map statement_of c.args.file.now.statements)) c.loop-place.place c.loop-place.invariant.none
           (name_fault-at (map statement_of c.args.file.now.statements) c.loop-place.place (statement_of c.statement-statement.result.now) there (stream_names c.loop-place.named.all) c.in_ok-why.field-0 c.loop-place.invariant.all fault ∙ none);
+      there = c.in_ok-admit.ensures.there c.loop-place.invariant.there;
     }

@@ -1,6 +1,6 @@
 use Rattle.std.proofs.Common.{◌≡◌, take, map}
 use Rattle.cel_grammar.specs.Views.{statement_of}
-use Rattle.stream_schema.specs.Streams.{stream_names}
+use Rattle.stream_schema.specs.Streams.{AreThere, stream_names}
 use Rattle.catalogue.specs.First.{HaveNone}
 use Rattle.catalogue.specs.Naming.{name_fault_at}
 use Rattle.catalogue.specs.Statements.{names_in, query_names}
@@ -12,4 +12,5 @@ invariant-loop-place l = record {
   all : stream_names l.named.all ≡ take l.place (names_in (map statement_of l.file.statements));
   queries : stream_names l.named.queries ≡ query_names (take l.place (map statement_of l.file.statements));
   none : HaveNone (name_fault_at (map statement_of l.file.statements)) l.place;
+  there : AreThere l.named.queries;
 }

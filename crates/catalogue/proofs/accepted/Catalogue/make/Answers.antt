@@ -2,6 +2,7 @@ use Rattle.std.proofs.Common.{◌≡◌, ◌∙◌, ℕ, ◌-◌, ◌<◌, List,
 use Rattle.std.specs.List.{All}
 use Rattle.std.proofs.lemmas.List.Elements.{Contains-get_or}
 use Rattle.splitter.specs.Work.{AreChains}
+use Rattle.stream_schema.specs.Streams.{AreThere}
 use Rattle.catalogue.specs.Catalogued.{parts_of}
 use Rattle.catalogue.specs.Chained.{kinds_of_each}
 use Rattle.catalogue.proofs.ChainedLemmas.{Asks, asks, chained, many_streams, streams_whole}
@@ -66,7 +67,7 @@ invariant_of-result c =
     let kinds : c.in_ok-kinds.kinds ≡ kinds_of_each c.args.streams = c.in_ok-kinds.ensures in
     let made : AreChains (c.size.result - c.len.result) c.args.expressions c.in_ok-places.places.items c.in_ok-kinds.kinds c.in_ok-chains.chains =
     subst (λ (places : List ℕ). AreChains (c.size.result - c.len.result) c.args.expressions places c.in_ok-kinds.kinds c.in_ok-chains.chains) c.deref.ensures.value c.in_ok-chains.ensures in (
-      record { accepted = c.requires.accepted; placed = c.in_ok-places.ensures },
+      record { accepted = c.requires.accepted; placed = c.in_ok-places.ensures; there = subst AreThere (sym (streams_whole (length c.args.file.statements - length c.args.order) c.args.streams)) c.requires.there },
       chained (parts_of c.args.file c.args.streams c.args.order c.args.expressions) c.requires.accepted c.requires.typed c.in_ok-places.places.items c.in_ok-places.ensures (c.size.result - c.len.result) c.in_ok-kinds.kinds
           (omega (arith, sum, size, queries)) (kinds ∙ ap kinds_of_each (sym (streams_whole (length c.args.file.statements - length c.args.order) c.args.streams))) c.in_ok-chains.chains made,
     )

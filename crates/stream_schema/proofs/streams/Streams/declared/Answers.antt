@@ -1,5 +1,8 @@
-use Rattle.stream_schema.proofs.TableLemmas.{declared-at}
+use Rattle.stream_schema.proofs.TableLemmas.{declared-at, length-streams_from}
 use Rattle.stream_schema.proofs.streams.Streams.declared.Goals as goal
 
+pub get-requires : goal.get-requires
+get-requires c = rw (← length-streams_from 0 c.self.inside.streams, c.self.view_is) c.requires
+
 pub returns : goal.returns
-returns c = rw (← c.self.view_is) (declared-at c.self.inside.table.entries c.args.stream c.index.result.now c.index.ensures)
+returns c = rw (← c.self.view_is) (declared-at 0 c.self.inside.streams c.args.stream c.get.result.now c.get.ensures)
