@@ -7,3 +7,4 @@ pub mod WalkLemmas
 pub mod OrderLemmas
 pub mod CycleLemmas
 pub mod TotalLemmas
+pub mod ChangeLemmas

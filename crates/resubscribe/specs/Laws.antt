@@ -1,7 +1,7 @@
 -- What follows of the order and of the cycle.
-use Rattle.std.specs.Prelude.{◌≡◌, ◌≢◌, ◌<◌, ◌↔◌, ◌⊎◌, ℕ, ⊤, List, [], ◌∷◌, length, take, slice_index, AllPairs, Contains}
-use Rattle.std.specs.List.{All}
-use Rattle.resubscribe.specs.Order.{IsOrder, reads_of}
+use Rattle.std.specs.Prelude.{◌≡◌, ◌≢◌, ◌<◌, ◌↔◌, ◌⊎◌, ◌-◌, ◌==◌, ℕ, ⊤, false, nat_lt, not, if◌then◌else◌, List, [], ◌∷◌, ◌++◌, length, map, remove, take, slice_index, AllPairs, Contains}
+use Rattle.std.specs.List.{All, filter}
+use Rattle.resubscribe.specs.Order.{IsOrder, is_among, reads_of}
 use Rattle.resubscribe.specs.Cycle.{IsCycle}
 
 -- each query stands in the order exactly once
@@ -38,3 +38,24 @@ NotBoth = (reads : List (List ℕ)) (order cycle : List ℕ) → IsOrder reads o
 -- queries that read queries have an order or a cycle
 abbrev pub SomeOutcome : Type 0
 SomeOutcome = (reads : List (List ℕ)) → All (λ numbers. All (λ number. number < length reads) numbers) reads → ((order : List ℕ) × IsOrder reads order) ⊎ ((cycle : List ℕ) × IsCycle reads cycle)
+
+-- the number of a query once another one has left: those behind that one move up
+abbrev pub number_without : ℕ → ℕ → ℕ
+number_without gone query = if nat_lt gone query then query - 1 else query
+
+-- what the queries read once one that none reads has left
+abbrev pub reads_without : ℕ → List (List ℕ) → List (List ℕ)
+reads_without gone reads = map (map (number_without gone)) (remove reads gone)
+
+-- queries without one of them
+abbrev pub order_without : ℕ → List ℕ → List ℕ
+order_without gone queries = map (number_without gone) (filter (λ query. not (query == gone)) queries)
+
+-- a query that none reads leaves the others in their order
+abbrev pub LeavingKeepsOrder : Type 0
+LeavingKeepsOrder =
+    (reads : List (List ℕ)) (order : List ℕ) (gone : ℕ) → gone < length reads → All (λ numbers. is_among numbers gone ≡ false) reads → IsOrder reads order → IsOrder (reads_without gone reads) (order_without gone order)
+
+-- a query that is added comes last
+abbrev pub AddedComesLast : Type 0
+AddedComesLast = (reads : List (List ℕ)) (order numbers : List ℕ) → All (λ number. number < length reads) numbers → IsOrder reads order → IsOrder (reads ++ numbers ∷ []) (order ++ length reads ∷ [])

@@ -12,5 +12,5 @@ mod ordering;
 mod walking;
 
 pub use fault::OrderFault;
-pub use laws::{one_outcome, some_outcome};
+pub use laws::{one_outcome, others_keep_their_order, some_outcome};
 pub use ordering::{Reads, order};
