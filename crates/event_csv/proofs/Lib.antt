@@ -14,4 +14,5 @@ pub mod QuickFacts
 pub mod ReadBackFacts
 pub mod RecordFacts
 pub mod RoundFacts
+pub mod UndeclaredFacts
 pub mod ValueFacts

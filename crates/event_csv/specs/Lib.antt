@@ -9,3 +9,4 @@ pub mod Place
 pub mod Quick
 pub mod ReadBack
 pub mod Rounds
+pub mod Undeclared

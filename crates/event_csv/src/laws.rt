@@ -3,6 +3,7 @@ ghost use Rattle.event_csv.specs.Faults.{LinesHaveTheirFirstFault};
 ghost use Rattle.event_csv.specs.Fed.{LinesStay};
 ghost use Rattle.event_csv.specs.ReadBack.{DecimalsAreReadAsTheyAreWritten, NumbersAreReadAsTheyAreWritten, TimesAreReadAsTheyAreWritten};
 ghost use Rattle.event_csv.specs.Rounds.{PiecesGiveTheLines, RoundsGiveTheLines};
+ghost use Rattle.event_csv.specs.Undeclared.{UndeclaredChangeNoEvent};
 
 /// The lines that are left stay as more bytes come, and where the text ends: no byte takes a line back.
 pub fn lines_stay()
@@ -26,4 +27,9 @@ pub fn numbers_are_read_as_they_are_written()
     ensures times { TimesAreReadAsTheyAreWritten }
     ensures numbers { NumbersAreReadAsTheyAreWritten }
     ensures decimals { DecimalsAreReadAsTheyAreWritten }
+{}
+
+/// Streams that are added and not declared change what no line says.
+pub fn undeclared_streams_change_no_event()
+    ensures { UndeclaredChangeNoEvent }
 {}

@@ -22,5 +22,5 @@ pub use feed::Feed;
 pub use got::Got;
 pub use laws::{
     lines_have_their_first_fault, lines_stay, numbers_are_read_as_they_are_written,
-    pieces_give_the_lines_of_the_text,
+    pieces_give_the_lines_of_the_text, undeclared_streams_change_no_event,
 };
