@@ -1,5 +1,5 @@
 //! Deadlines by place.
-ghost use Rattle.std.specs.Prelude.{◌≡◌, ◌<◌, ◌≤◌, ◌++◌, ℕ, All, IfNone, IfOk, IfSome, OnErr, OnOk, length, replicate, slice_index, slice_set};
+ghost use Rattle.std.specs.Prelude.{◌≡◌, ◌<◌, ◌≤◌, ◌++◌, ℕ, All, IfNone, IfOk, IfSome, OnErr, OnOk, length, replicate, slice_index, slice_set, take};
 ghost use Rattle.std.specs.List.{swap};
 
 use crate::tournament::{first_leaf, set_leaf};
@@ -104,6 +104,14 @@ impl Deadlines {
         }
         *self = grown;
         Ok(())
+    }
+
+    /// Forgets the places behind the first so many. Takes no memory.
+    pub fn truncate(&mut self, places: usize)
+        requires { places ≤ length self.old }
+        ensures { self.new ≡ take places self.old }
+    {
+        self.places = places;
     }
 
     /// The first place whose deadline is at most this time. Where there is none, one comparison tells so, which no
