@@ -52,3 +52,7 @@ pub record AreTidied (stores : List (Option Store)) (old new : KeyTable) : Type 
 -- keys lead exactly to those states where they led and are ready
 abbrev pub IsSwept : List (Option Store) → Entries → Entries → Type 0
 IsSwept stores old new = (key : Value) (number : ℕ) → Leads new key number ↔ (Leads old key number × (is_ready_at stores number key ≡ true))
+
+-- the same of each attribute of each stream
+abbrev pub AreSwept : List (Option Store) → KeyTable → KeyTable → Type 0
+AreSwept stores old new = (stream attribute : ℕ) → IsSwept stores (entries_at old stream attribute) (entries_at new stream attribute)

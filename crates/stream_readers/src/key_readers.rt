@@ -5,7 +5,7 @@ ghost use Rattle.binding_index.specs.Leads.{Leads};
 ghost use Rattle.automaton.specs.States.{is_used};
 ghost use Rattle.static_index.specs.FixedParts.{all_hold};
 ghost use Rattle.stream_readers.specs.Finding.{FindsKeyed, LeadOnce, led_by};
-ghost use Rattle.stream_readers.specs.KeyTables.{AreTidied, IsNoted, LeadSame, LeadsFit};
+ghost use Rattle.stream_readers.specs.KeyTables.{AreSwept, AreTidied, IsNoted, LeadSame, LeadsFit};
 ghost use Rattle.stream_readers.specs.Ways.{parts_at};
 
 use crate::readers::Found;
@@ -100,10 +100,17 @@ impl KeyReaders {
         ensures { AreTidied stores.now self.old self.new }
     {
         if self.came > self.most {
-            let left = sweep_all(&mut self.streams, stores);
-            self.came = 0;
-            self.most = left;
+            self.sweep(stores);
         }
+    }
+
+    /// Lets no key lead to a state whose store isn't ready for it. Takes no memory.
+    pub fn sweep(&mut self, stores: &[Option<Store>])
+        ensures { AreSwept stores.now self.old self.new }
+    {
+        let left = sweep_all(&mut self.streams, stores);
+        self.came = 0;
+        self.most = left;
     }
 }
 

@@ -1,5 +1,5 @@
 //! What reads each stream, and what a tuple finds of it.
-ghost use Rattle.std.specs.Prelude.{◌≡◌, ◌<◌, IfOk, OnOk, length};
+ghost use Rattle.std.specs.Prelude.{◌≡◌, ◌<◌, [], IfOk, OnOk, length};
 ghost use Rattle.automaton.specs.Networks.{IsNetwork};
 ghost use Rattle.automaton.specs.States.{Net};
 ghost use Rattle.stream_readers.specs.Finding.{FindsPlain, FindsWays};
@@ -50,6 +50,15 @@ impl Model for Readers {
 }
 
 impl Readers {
+    /// The readers of no streams. Takes no memory.
+    pub fn new(alloc: Global) -> Readers
+        ensures { result ≡ [] }
+    {
+        Readers {
+            streams: List::new(alloc),
+        }
+    }
+
     /// The readers of the first so many streams of a network. What reads other streams is left out.
     pub fn make(alloc: Global, network: &Network, streams: usize) -> Result<Readers, Memory>
         ensures made { IfOk result (λ readers. AreReadersOf network.now readers) }
