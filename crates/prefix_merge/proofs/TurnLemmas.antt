@@ -3,13 +3,14 @@ use Rattle.std.proofs.Common.{◌≡◌, ◌≢◌, ◌⊎◌, ◌∙◌, ◌↔
 use Rattle.std.specs.Prelude.{AllPairs, Contains, Option, Some, is_some, slice_get}
 use Rattle.std.specs.List.{filter}
 use Rattle.std.proofs.Math.Seq.{drop-cons}
+use Rattle.std.proofs.lemmas.Bool.{cases_lt}
 use Rattle.std.proofs.lemmas.List.{drop_all, get_or-take, get_or_default, length-take, take_all}
 use Rattle.std.proofs.lemmas.Option.{get_or_from_slice_get, slice_get_within}
 use Rattle.automaton.specs.declared.line.Line.{Line}
 use Rattle.automaton.specs.NetworkLines.{Ending, HasEndings}
 use Rattle.automaton.specs.States.{Net, entrance_at, is_used, state_at}
 use Rattle.automaton.proofs.EqualityLemmas.{take_read}
-use Rattle.automaton.proofs.SlotLemmas.{entry_there}
+use Rattle.automaton.proofs.SlotLemmas.{entry_there, used_below}
 use Rattle.event_types.proofs.NumberLemmas.{is_other, other_number}
 use Rattle.prefix_merge.specs.Insertion.{Inserts}
 use Rattle.prefix_merge.specs.Merging.{EndsInState, HasEnd, IsSettled}
@@ -18,9 +19,21 @@ use Rattle.prefix_merge.specs.Turns.{InsertsAll, InsertsFirst, RemovesAll, endin
 use Rattle.prefix_merge.proofs.BackLemmas.{taken_back_is_before}
 use Rattle.prefix_merge.proofs.ContainLemmas.{in_cases, first_in, later_in, none_in}
 
+-- a network isn't longer than one in which its states are
+no_shorter : (net more : Net) → EndsInState net → ((number : ℕ) → IsTrue (is_used net number) → entrance_at more number ≡ entrance_at net number) → length net ≤ length more
+no_shorter net more last stay = by_order (cases_lt (length more) (length net))
+  where
+    by_order : (length more < length net) ⊎ (length net ≤ length more) → length net ≤ length more
+    by_order (inr le) = le
+    by_order (inl past) =
+        let used = last (omega (arith, past)) in
+        let there : is_used more (length net - 1) ≡ true = sym (entry_there (state_at more (length net - 1))) ∙ ap is_some (stay (length net - 1) used) ∙ entry_there (state_at net (length net - 1)) ∙ used in
+        let below = used_below more (length net - 1) there in absurd (omega (arith, past, below))
+
 -- lines that came so far, with what follows of it
 pub record HasInserted (lines : List Line) (ends : List ℕ) (birth : Option ℕ) (place : ℕ) (old new : Net) : Type 0 where
   pub turns : InsertsFirst lines ends birth place old new
+  pub longer : length old ≤ length new
   pub stay : (number : ℕ) → IsTrue (is_used old number) → entrance_at new number ≡ entrance_at old number
   pub endings : (endings : List Ending) → HasEndings old endings → HasEndings new (endings ++ endings_with birth (take place lines) (take place ends))
   pub ends_are : (other : ℕ) → HasEnd new other ↔ (HasEnd old other ⊎ Contains (take place ends) other)
@@ -29,6 +42,7 @@ pub record HasInserted (lines : List Line) (ends : List ℕ) (birth : Option ℕ
 pub none_inserted : (lines : List Line) (ends : List ℕ) (birth : Option ℕ) (net : Net) → HasInserted lines ends birth 0 net net
 none_inserted lines ends birth net = record {
   turns = refl;
+  longer = omega arith;
   stay = λ number used. refl;
   endings = λ endings had. subst (HasEndings net) (sym (append-nil endings)) had;
   ends_are = λ other. ((λ has. inl has), λ has. elim has [ inl was ↦ was | inr among ↦ absurd (none_in other among) ]);
@@ -64,6 +78,7 @@ pub next_inserted : (lines : List Line) (ends : List ℕ) (birth : Option ℕ) (
 next_inserted lines ends birth place line end old middle new as_many line_there end_there before after inserts so_far = record {
   turns = subst (λ p. InsertsFirst lines ends birth p old new) next
       (middle, so_far.turns, record { line = line; end = end; line_there = line_there; end_there = end_there; inserts = inserts; before = before; after = after });
+  longer = (let so_long = so_far.longer in let more = no_shorter middle new before.last (λ number used. inserts.stay number used) in omega (arith, so_long, more));
   stay = λ number used.
       (let was = so_far.stay number used in
       inserts.stay number (sym (entry_there (state_at middle number)) ∙ ap is_some was ∙ entry_there (state_at old number) ∙ used) ∙ was);
@@ -105,6 +120,7 @@ next_inserted lines ends birth place line end old middle new as_many line_there 
 pub all_inserted : (lines : List Line) (ends : List ℕ) (birth : Option ℕ) (old new : Net) → length ends ≡ length lines → HasInserted lines ends birth (length lines) old new → InsertsAll lines ends birth old new
 all_inserted lines ends birth old new as_many came = record {
   turns = came.turns;
+  longer = came.longer;
   stay = came.stay;
   endings = λ endings had. subst (λ es. HasEndings new (endings ++ es)) (λ i. endings_with birth (take_all (length lines) lines (omega arith) i) (whole i)) (came.endings endings had);
   ends_are = λ other. (
@@ -142,6 +158,7 @@ those_there lines ends birth place old new came k d lt =
 -- ends that left so far, the last first
 pub record HasRemoved (ends : List ℕ) (count left : ℕ) (old new : Net) : Type 0 where
   pub within : left ≤ count
+  pub shorter : length new ≤ length old
   pub stay : (number : ℕ) → IsTrue (is_used new number) → entrance_at new number ≡ entrance_at old number
   pub endings : (endings : List Ending) → HasEndings old endings → HasEndings new (filter (λ ending. not (is_among (drop left (take count ends)) ending.number)) endings)
   pub ends_are : (other : ℕ) → HasEnd new other ↔ (HasEnd old other × (is_among (drop left (take count ends)) other ≡ false))
@@ -155,6 +172,7 @@ all_kept (x ∷ xs) = ap (λ ys. x ∷ ys) (all_kept xs)
 pub none_removed : (ends : List ℕ) (count : ℕ) (net : Net) → count ≤ length ends → HasRemoved ends count count net net
 none_removed ends count net within = record {
   within = omega arith;
+  shorter = omega arith;
   stay = λ number used. refl;
   endings = λ endings had. subst (HasEndings net) (sym (all_kept endings) ∙ (λ i. filter (λ (ending : Ending). not (is_among (sym nothing i) ending.number)) endings)) had;
   ends_are = λ other. ((λ has. (has, ap (λ ns. is_among ns other) nothing)), λ has. has.0);
@@ -191,6 +209,7 @@ pub next_removed : (ends : List ℕ) (count left end : ℕ) (old middle new : Ne
     → HasRemoved ends count (left - 1) old new
 next_removed ends count left end old middle new within some there last removes so_far = record {
   within = (let le = so_far.within in omega (arith, le));
+  shorter = (let so_short = so_far.shorter in let less = no_shorter new middle last (λ number used. sym (removes.stay number used)) in omega (arith, so_short, less));
   stay = λ number used.
       (let step = removes.stay number used in
       step ∙ so_far.stay number (sym (entry_there (state_at middle number)) ∙ ap is_some (sym step) ∙ entry_there (state_at new number) ∙ used));
@@ -236,7 +255,7 @@ next_removed ends count left end old middle new within some there last removes s
 
 -- all left
 pub all_removed : (ends : List ℕ) (count : ℕ) (old new : Net) → HasRemoved ends count 0 old new → RemovesAll (take count ends) old new
-all_removed ends count old new left = record { stay = left.stay; endings = left.endings; ends_are = left.ends_are }
+all_removed ends count old new left = record { shorter = left.shorter; stay = left.stay; endings = left.endings; ends_are = left.ends_are }
 
 -- those before the one that leaves are there still
 pub others_there : (ends : List ℕ) (count left end : ℕ) (middle new : Net) → count ≤ length ends → left ≤ count → 0 < left → AllPairs (λ one other. one ≢ other) ends → slice_get ends (left - 1) ≡ Some end → Removes end middle new

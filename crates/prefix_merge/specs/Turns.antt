@@ -1,5 +1,5 @@
 -- Lines that come to a merged network one after another, and ends that leave it.
-use Rattle.std.specs.Prelude.{◌≡◌, ◌↔◌, ◌⊎◌, ◌==◌, ℕ, zero, suc, Bool, not, false, IsTrue, List, [], ◌∷◌, ◌++◌, Contains, Option, Some, length, slice_get}
+use Rattle.std.specs.Prelude.{◌≡◌, ◌≤◌, ◌↔◌, ◌⊎◌, ◌==◌, ℕ, zero, suc, Bool, not, false, IsTrue, List, [], ◌∷◌, ◌++◌, Contains, Option, Some, length, slice_get}
 use Rattle.std.specs.List.{filter, list_any}
 use Rattle.automaton.specs.declared.line.Line.{Line}
 use Rattle.automaton.specs.NetworkLines.{Ending, HasEndings}
@@ -31,6 +31,7 @@ endings_with birth (line ∷ lines) (end ∷ ends) = record { line = line; numbe
 -- the lines came one after another: each state keeps its number and how it is entered, and the endings are the old ones and these
 pub record InsertsAll (lines : List Line) (ends : List ℕ) (birth : Option ℕ) (old new : Net) : Type 0 where
   pub turns : InsertsFirst lines ends birth (length lines) old new
+  pub longer : length old ≤ length new
   pub stay : (number : ℕ) → IsTrue (is_used old number) → entrance_at new number ≡ entrance_at old number
   pub endings : (endings : List Ending) → HasEndings old endings → HasEndings new (endings ++ endings_with birth lines ends)
   pub ends_are : (other : ℕ) → HasEnd new other ↔ (HasEnd old other ⊎ Contains ends other)
@@ -41,6 +42,7 @@ is_among numbers number = list_any (λ one. number == one) numbers
 
 -- the states that are left keep their numbers and how they are entered, and the endings are the old ones but those of these numbers
 pub record RemovesAll (ends : List ℕ) (old new : Net) : Type 0 where
+  pub shorter : length new ≤ length old
   pub stay : (number : ℕ) → IsTrue (is_used new number) → entrance_at new number ≡ entrance_at old number
   pub endings : (endings : List Ending) → HasEndings old endings → HasEndings new (filter (λ ending. not (is_among ends ending.number)) endings)
   pub ends_are : (other : ℕ) → HasEnd new other ↔ (HasEnd old other × (is_among ends other ≡ false))
