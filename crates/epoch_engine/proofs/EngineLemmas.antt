@@ -1,5 +1,5 @@
 -- Engines that are made, take a tuple and close an epoch.
-use Rattle.std.proofs.Common.{◌≡◌, ◌∙◌, sym, ap, refl, subst, inl, inr, ℕ, zero, suc, ◌==◌, ◌<◌, ◌⊎◌, Bool, true, false, ◌||◌, length, get_or, set, take, drop, drop-cons, List, [], ◌∷◌, ◌++◌, map, arith, ◌≤◌, ◌+◌}
+use Rattle.std.proofs.Common.{Box, Global, ◌≡◌, ◌∙◌, sym, ap, refl, subst, inl, inr, ℕ, zero, suc, ◌==◌, ◌<◌, ◌⊎◌, Bool, true, false, ◌||◌, length, get_or, set, take, drop, drop-cons, List, [], ◌∷◌, ◌++◌, map, arith, ◌≤◌, ◌+◌}
 use Rattle.std.specs.Prelude.{Contains, IfSome, IsSome, IsTrue, Option, Some, None, slice_get}
 use Rattle.std.specs.Option.{option_map, unwrap_or}
 use Rattle.std.specs.List.{All, list_any}
@@ -29,7 +29,9 @@ use Rattle.automaton.specs.declared.wait.Wait.{Wait}
 use Rattle.automaton.proofs.NumberLemmas.{are_same_or_not}
 use Rattle.epoch_laws.specs.Closing.{Stores}
 use Rattle.epoch_laws.proofs.Lists.{every}
-use Rattle.epoch_draft.specs.Deriving.{AreOpened}
+use Rattle.epoch_draft.specs.Deriving.{AreOpened, CanDraw}
+use Rattle.epoch_draft.specs.Drawings.{IsStill}
+use Rattle.epoch_draft.specs.Led.{AreLed}
 use Rattle.epoch_draft.specs.Drafts.{EndsBelow}
 use Rattle.epoch_draft.specs.Held.{SameStored, held, instances_in, shape_for, shape_of}
 use Rattle.epoch_draft.specs.Kindings.{EndFits}
@@ -45,8 +47,10 @@ use Rattle.epoch_draft.specs.EpochWork.{epoch_work}
 use Rattle.epoch_engine.proofs.BornLemmas.{their_births}
 use Rattle.epoch_engine.specs.Closes.{Closes, IsTaken}
 use Rattle.epoch_engine.specs.EngineView.{EngineView, stores_in}
-use Rattle.epoch_engine.specs.Running.{AreTouched, IsPlan, IsRunning}
+use Rattle.epoch_engine.specs.Running.{AreTouched, IsEngine, IsPlan, IsRunning}
 use Rattle.epoch_engine.specs.declared.epoch.Epoch.{Epoch}
+use Rattle.epoch_engine.specs.declared.holdings.Holdings.{Holdings}
+use Rattle.epoch_engine.specs.declared.room.Room.{Room}
 use Rattle.epoch_engine.specs.declared.plan.Plan.{Plan}
 use Rattle.epoch_engine.proofs.KindingLemmas.{AreStatesTyped, fitting_typed}
 use Rattle.epoch_engine.specs.Taking.{closing_work}
@@ -121,7 +125,7 @@ outs_inside plan is below bound same outs e =
     subst (λ (m : ℕ). All (λ s. s < m) outs) (sym same) (subst (All (λ s. s < length plan.layout.kinds)) (sym e) (printed_below (length plan.layout.kinds) plan.layout.order plan.layout.outs below is.printed))
 
 -- the streams of the ends of a typed network have kinds
-ends_below : (kinds : List (List Kind)) (net : Net) → AreStatesTyped kinds net → EndsBelow net (length kinds)
+pub ends_below : (kinds : List (List Kind)) (net : Net) → AreStatesTyped kinds net → EndsBelow net (length kinds)
 ends_below kinds net typed n = go (state_at net n) refl
   where
     go : (o : Option State) → state_at net n ≡ o → All (λ (e : End). e.out < length kinds) (ends_at net n)
@@ -131,11 +135,11 @@ ends_below kinds net typed n = go (state_at net n) refl
         (All-weaker (EndFits kinds (typed.0.leaving n)) (λ (e : End). e.out < length kinds) (λ e fit. slice_get_within kinds e.out fit.0 fit.2) state.ends (typed.1 n state found).1)
 
 -- where no stream has tuples, they have whatever kinds
-none_have : (kinds : List (List Kind)) (tuples : List (List TupleView)) → ((s : ℕ) → get_or tuples s [] ≡ []) → HaveKinds kinds (streams_of tuples)
+pub none_have : (kinds : List (List Kind)) (tuples : List (List TupleView)) → ((s : ℕ) → get_or tuples s [] ≡ []) → HaveKinds kinds (streams_of tuples)
 none_have kinds tuples none s known is = subst (All (HasKinds known)) (sym (none s)) (All-nil (HasKinds known))
 
 -- a new store is that of its wait
-new_typed : (w : Wait) (kinds : List Kind) (slot : Option Store) → shape_of slot ≡ Some (shape_for w.choose) → instances_in slot ≡ [] → (store : Store) × (slot ≡ Some store) × IsStoreOf w kinds store
+pub new_typed : (w : Wait) (kinds : List Kind) (slot : Option Store) → shape_of slot ≡ Some (shape_for w.choose) → instances_in slot ≡ [] → (store : Store) × (slot ≡ Some store) × IsStoreOf w kinds store
 new_typed w kinds slot shape none =
     let new = has_store slot (shape_for w.choose) shape in (
       new.0,
@@ -324,3 +328,24 @@ pub closes_ticks : (plan : Plan) (stores : List (Option Store)) (epoch : Epoch) 
     → end ≤ start + epoch_work plan.merged plan.layout (stores_in (view_of plan stores epoch closed_time)) (streams_of epoch.tuples)
 closes_ticks plan stores epoch closed_time start end ticks =
     let same = ap (λ (st : Stores). epoch_work plan.merged plan.layout st (streams_of epoch.tuples)) (held_in stores) in omega (arith, ticks, same)
+
+-- the same of a plan whose network and layout are the same
+module _ (plan fresh : Plan) (merged : fresh.merged ≡ plan.merged) (layout : fresh.layout ≡ plan.layout) where
+  pub running_fresh : (stores : List (Option Store)) (epoch : Epoch) → IsPlan fresh → IsRunning plan stores epoch → IsRunning fresh stores epoch
+  running_fresh stores epoch is running = record {
+    plan_is = is;
+    can_draw = subst (λ (x : Net × Layout). CanDraw x.0 x.1 stores epoch.tuples) (λ i. (sym merged i, sym layout i)) running.can_draw;
+    touched = running.touched;
+  }
+
+  pub engine_fresh : (holdings : Holdings) (epoch : Epoch) (kept : Option (Box Room Global)) → IsPlan fresh → IsEngine plan holdings epoch kept → IsEngine fresh holdings epoch kept
+  engine_fresh holdings epoch kept is engine = record {
+    fits = subst (λ (x : Net × Layout). NetworkFits x.0 x.1) (λ i. (sym merged i, sym layout i)) engine.fits;
+    running = running_fresh holdings.stores epoch is engine.running;
+    led = subst (λ (net : Net). AreLed net holdings.keys holdings.stores) (sym merged) engine.led;
+    watches = engine.watches;
+    still = subst (λ (x : Net × Layout). IfSome kept (λ room. IsStill (length x.1.kinds) (length x.0) room.value.drawing)) (λ i. (sym merged i, sym layout i)) engine.still;
+  }
+
+  pub view_fresh : (stores : List (Option Store)) (epoch : Epoch) (closed_time : Option ℕ) → view_of fresh stores epoch closed_time ≡ view_of plan stores epoch closed_time
+  view_fresh stores epoch closed_time = λ i. record (view_of plan stores epoch closed_time) { network = merged i; layout = layout i }

@@ -40,11 +40,11 @@ stage_kinds : Stage → List Kind → List Kind
 stage_kinds (Keep condition) kinds = kinds
 stage_kinds (Make m) kinds = map (λ s. sc_kind s kinds None) m.parts
 
-step_kinds : List Stage → List Kind → List Kind
+pub step_kinds : List Stage → List Kind → List Kind
 step_kinds [] kinds = kinds
 step_kinds (stage ∷ step) kinds = step_kinds step (stage_kinds stage kinds)
 
-turn_kinds : Option Turn → List Kind → List Kind → List Kind
+pub turn_kinds : Option Turn → List Kind → List Kind → List Kind
 turn_kinds None binding event = binding ++ event
 turn_kinds (Some turn) binding event = binding
 
@@ -53,12 +53,12 @@ unfolding stage_kinds
 stage_kinds_are (Keep condition) kinds out gives = gives.1
 stage_kinds_are (Make m) kinds out gives = sym (kinds_are m.parts kinds None out gives)
 
-step_kinds_are : (step : List Stage) (kinds out : List Kind) → StepGives step kinds out → step_kinds step kinds ≡ out
+pub step_kinds_are : (step : List Stage) (kinds out : List Kind) → StepGives step kinds out → step_kinds step kinds ≡ out
 unfolding step_kinds
 step_kinds_are [] kinds out gives = gives
 step_kinds_are (stage ∷ step) kinds out gives = ap (step_kinds step) (stage_kinds_are stage kinds gives.0 gives.1) ∙ step_kinds_are step gives.0 out gives.2
 
-turn_kinds_are : (turn : Option Turn) (binding event out : List Kind) → TurnGives turn binding event out → turn_kinds turn binding event ≡ out
+pub turn_kinds_are : (turn : Option Turn) (binding event out : List Kind) → TurnGives turn binding event out → turn_kinds turn binding event ≡ out
 unfolding turn_kinds
 turn_kinds_are None binding event out gives = gives
 turn_kinds_are (Some turn) binding event out gives = gives.2

@@ -5,8 +5,12 @@ pub mod ClosingTests
 pub mod ConsistentLemmas
 pub mod EngineLemmas
 pub mod EpochTests
+pub mod FitLemmas
 pub mod KindingLemmas
+pub mod LeaveLemmas
+pub mod LineLemmas
 pub mod NetworkTests
+pub mod OverLemmas
 pub mod PrintedLemmas
 pub mod PurgeLemmas
 pub mod PurgedLemmas

@@ -13,7 +13,7 @@ use Rattle.semantics.specs.Denotation.{Streams, streams_of}
 use Rattle.semantics.specs.Histories.{Event, heard_on}
 use Rattle.automaton.specs.States.{Net, wait_at}
 use Rattle.automaton.specs.declared.layout.Layout.{Layout}
-use Rattle.epoch_laws.specs.BornLines.{BornLine, lines_in}
+use Rattle.epoch_laws.specs.BornLines.{BornLine}
 use Rattle.epoch_laws.specs.Closing.{ArePurged, Stores, stores_after}
 use Rattle.epoch_laws.specs.Histories.{streams_over}
 use Rattle.epoch_laws.specs.Standing as standing

@@ -1,9 +1,11 @@
+pub mod Adding
 pub mod Batches
 pub mod Closes
 pub mod Counts
 pub mod EngineStandsFor
 pub mod EngineView
 pub mod Entries
+pub mod Fitting
 pub mod Laws
 pub mod Offers
 pub mod Running

@@ -1,9 +1,10 @@
 -- What holds of the parts of an engine. No public clause cites this module.
-use Rattle.std.specs.Prelude.{◌≡◌, ℕ, ◌⊎◌, Box, IfSome, IsTrue, List, [], Contains, length, Option, slice_index_or}
+use Rattle.std.specs.Prelude.{◌≡◌, ℕ, ◌⊎◌, false, Box, IfSome, IsTrue, List, [], Contains, length, Option, slice_index_or}
 use Rattle.std.specs.List.{All}
 use Rattle.std.specs.declared.alloc.Global.{Global}
 use Rattle.event_types.specs.Tuple.{TupleView}
 use Rattle.binding_index.specs.declared.store.Store.{Store}
+use Rattle.automaton.specs.NetworkLines.{NetworkFits}
 use Rattle.automaton.specs.Work.{is_in}
 use Rattle.epoch_draft.specs.Agenda.{ArePlaces}
 use Rattle.epoch_draft.specs.Deriving.{AreReadersOfAll, CanDraw}
@@ -20,13 +21,16 @@ use Rattle.epoch_engine.specs.declared.holdings.Holdings.{Holdings}
 use Rattle.epoch_engine.specs.declared.plan.Plan.{Plan}
 use Rattle.epoch_engine.specs.declared.room.Room.{Room}
 
--- the readers are the network's, each stream has its place in the order of work, all printed streams are derived,
--- and each stream with kinds has at least the places at which it is printed
-pub record IsPlan (plan : Plan) : Type 0 where
+-- the readers are the network's, each stream has its place in the order of work, and each stream with kinds has at least the places at which it is printed
+pub record FindsStreams (plan : Plan) : Type 0 where
   pub readers : AreReadersOfAll plan.merged plan.layout plan.readers
   pub places : ArePlaces plan.merged plan.layout.order (length plan.layout.kinds) plan.places
-  pub printed : All (λ stream. IsTrue (is_in plan.layout.order stream)) plan.layout.outs
   pub places_printed : HasPlaces plan.layout.outs (length plan.layout.kinds) plan.out_places
+
+-- all printed streams are derived, and unless the plan is stale streams are found by it
+pub record IsPlan (plan : Plan) : Type 0 where
+  pub printed : All (λ stream. IsTrue (is_in plan.layout.order stream)) plan.layout.outs
+  pub finds : plan.is_stale ≡ false → FindsStreams plan
 
 -- at least those streams that have tuples are marked, maybe some more
 pub record AreTouched (tuples : List (List TupleView)) (touched : Marks) : Type 0 where
@@ -48,8 +52,9 @@ IsStillFor plan drawing = IsStill (length plan.layout.kinds) (length plan.merged
 abbrev pub FitsPlan : Plan → Drawing → Type 0
 FitsPlan plan drawing = DraftFits (length plan.layout.kinds) (length plan.merged) drawing.draft
 
--- the parts of an engine: they fit one another, keys lead to the states where they are ready, no instance expires before its state's deadline, and in a room that is kept nothing is drawn
+-- the parts of an engine: the layout fits the network, they fit one another, keys lead to the states where they are ready, no instance expires before its state's deadline, and in a room that is kept nothing is drawn
 pub record IsEngine (plan : Plan) (holdings : Holdings) (epoch : Epoch) (kept : Option (Box Room Global)) : Type 0 where
+  pub fits : NetworkFits plan.merged plan.layout
   pub running : IsRunning plan holdings.stores epoch
   pub led : AreLed plan.merged holdings.keys holdings.stores
   pub watches : Watches holdings.deadlines holdings.stores

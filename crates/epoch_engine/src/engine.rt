@@ -30,11 +30,11 @@ use steps::{Ledger, Steps};
 /// The bindings that wait at the states of a network, and the tuples of the open epoch.
 #[derive(Drop)]
 pub struct Engine {
-    plan: Plan,
-    holdings: Holdings,
-    epoch: Epoch,
-    // None while a batch is lent, and after a closing was refused.
-    room: Option<Box<Room>>,
+    pub(crate) plan: Plan,
+    pub(crate) holdings: Holdings,
+    pub(crate) epoch: Epoch,
+    // None while a batch is lent, after a closing was refused, and after lines came or left.
+    pub(crate) room: Option<Box<Room>>,
     closed_time: Option<u64>,
 }
 
@@ -81,6 +81,13 @@ impl Engine {
         ensures { result ≡ self.now.time }
     {
         self.epoch.time
+    }
+
+    /// The last closed time, if an epoch was closed. Takes no memory.
+    pub fn last_closed(&self) -> Option<u64>
+        ensures { result ≡ self.now.closed_time }
+    {
+        self.closed_time
     }
 
     /// The merged network. Takes no memory.
@@ -155,6 +162,7 @@ impl Engine {
         ensures ticks { steps.new ≤ steps.old + epoch_work self.old.network self.old.layout (stores_in self.old) (streams_of self.old.opened) }
         ensures work { RisesByWork self.old steps.old steps.new }
     {
+        self.plan.refresh(alloc)?;
         let mut room = match self.room.take() {
             Some(room) => room,
             None => Room::make(alloc, &self.plan)?,

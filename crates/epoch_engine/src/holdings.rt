@@ -1,11 +1,14 @@
 //! What an engine keeps from epoch to epoch.
-ghost use Rattle.std.specs.Prelude.{IfOk};
+ghost use Rattle.std.specs.Prelude.{◌≡◌, ◌≤◌, ◌-◌, ◌++◌, IfOk, OnErr, OnOk, length, replicate, take};
+ghost use Rattle.stream_readers.specs.KeyTables.{AreSwept};
 ghost use Rattle.epoch_draft.specs.Led.{AreLed};
 ghost use Rattle.epoch_draft.specs.Stores.{AreNewStores};
 ghost use Rattle.epoch_draft.specs.Watching.{Watches};
+ghost use Rattle.epoch_engine.specs.Fitting.{AreGrown, AreLeft, KeepStores};
 
+use crate::fitting::{add_stores, drop_stores};
 use automaton::Network;
-use deadlines::Deadlines;
+use deadlines::{Deadlines, NEVER};
 use epoch_draft::{Stores, empty_stores};
 use event_types::Memory;
 use std::alloc::Global;
@@ -34,5 +37,34 @@ impl Holdings {
             keys: KeyReaders::new(alloc),
             deadlines,
         })
+    }
+
+    /// Empty stores for the waiting states that came to a network. Want of memory leaves the stores that were there,
+    /// and maybe some of these.
+    pub(crate) fn grow(&mut self, alloc: Global, network: &Network) -> Result<(), Memory>
+        requires stores { length self.old.stores ≤ length network.now }
+        requires deadlines { length self.old.deadlines ≡ length self.old.stores }
+        ensures grown { OnOk result (AreGrown network.now self.old.stores self.new.stores) }
+        ensures kept { OnErr result (KeepStores network.now self.old.stores self.new.stores) }
+        ensures deadlines { OnOk result (self.new.deadlines ≡ self.old.deadlines ++ replicate (length network.now - length self.old.deadlines) NEVER) }
+        ensures same { OnErr result (self.new.deadlines ≡ self.old.deadlines) }
+        ensures keys { self.new.keys ≡ self.old.keys }
+    {
+        add_stores(alloc, network, &mut self.stores)?;
+        let more = network.places() - self.deadlines.len();
+        self.deadlines.grow(alloc, more)
+    }
+
+    /// Drops what is held at states that left a network. Takes no memory.
+    pub(crate) fn shrink(&mut self, network: &Network)
+        requires stores { length network.now ≤ length self.old.stores }
+        requires deadlines { length self.old.deadlines ≡ length self.old.stores }
+        ensures stores { AreLeft network.now self.old.stores self.new.stores }
+        ensures deadlines { self.new.deadlines ≡ take (length network.now) self.old.deadlines }
+        ensures keys { AreSwept self.new.stores self.old.keys self.new.keys }
+    {
+        drop_stores(network, &mut self.stores);
+        self.deadlines.truncate(network.places());
+        self.keys.sweep(self.stores.as_slice());
     }
 }

@@ -5,15 +5,18 @@
 //! each printed stream. An `Entry` and `Printed` are seen as their fields.
 #![tactic(auto)]
 
+mod adding;
 mod batch;
 mod closing;
 mod engine;
 mod entry;
 mod epoch;
 mod fault;
+mod fitting;
 mod holdings;
 mod laws;
 mod plan;
+mod removing;
 mod room;
 mod spare;
 

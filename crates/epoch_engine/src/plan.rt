@@ -1,5 +1,5 @@
 //! What an engine closes its epochs by.
-ghost use Rattle.std.specs.Prelude.{◌≡◌, ◌<◌, IfOk, length};
+ghost use Rattle.std.specs.Prelude.{◌≡◌, ◌<◌, IfOk, OnOk, false, length};
 ghost use Rattle.std.specs.List.{All};
 ghost use Rattle.automaton.specs.NetworkLines.{NetworkFits};
 ghost use Rattle.epoch_engine.specs.Batches.{HasPlaces};
@@ -13,7 +13,8 @@ use std::alloc::Global;
 use stream_readers::Readers;
 
 /// A merged network and its layout, what reads each stream and its place in the order of work, and for each stream
-/// the places at which it is printed. Places are counted from 0. No closing changes it.
+/// the places at which it is printed. Places are counted from 0. A stale plan is that of other lines, but for its
+/// network and its layout.
 #[derive(Drop)]
 pub struct Plan {
     pub merged: Merged,
@@ -21,6 +22,7 @@ pub struct Plan {
     pub readers: Readers,
     pub places: Numbers,
     pub out_places: List<Numbers>,
+    pub is_stale: bool,
 }
 
 impl Plan {
@@ -30,22 +32,42 @@ impl Plan {
         ensures merged { IfOk result (λ plan. plan.merged ≡ merged) }
         ensures layout { IfOk result (λ plan. plan.layout ≡ layout) }
         ensures is { IfOk result IsPlan }
+        ensures fresh { IfOk result (λ plan. plan.is_stale ≡ false) }
     {
-        let readers = Readers::make(alloc, merged.network(), layout.kinds.len())?;
-        let places = places_of(
-            alloc,
-            merged.network(),
-            layout.order.as_slice(),
-            layout.kinds.len(),
-        )?;
-        let out_places = printed_places(alloc, &layout.outs, layout.kinds.len())?;
-        Ok(Plan {
+        let mut plan = Plan {
             merged,
             layout,
-            readers,
-            places,
-            out_places,
-        })
+            readers: Readers::new(alloc),
+            places: List::new(alloc),
+            out_places: List::new(alloc),
+            is_stale: true,
+        };
+        plan.refresh(alloc)?;
+        Ok(plan)
+    }
+
+    /// Makes anew by what streams are found, if the plan is stale. Want of memory leaves it so.
+    pub(crate) fn refresh(&mut self, alloc: Global) -> Result<(), Memory>
+        requires fits { NetworkFits self.old.merged self.old.layout }
+        requires is { IsPlan self.old }
+        ensures is { IsPlan self.new }
+        ensures fresh { OnOk result (self.new.is_stale ≡ false) }
+        ensures merged { self.new.merged ≡ self.old.merged }
+        ensures layout { self.new.layout ≡ self.old.layout }
+    {
+        if !self.is_stale {
+            return Ok(());
+        }
+        let streams = self.layout.kinds.len();
+        let network = self.merged.network();
+        let readers = Readers::make(alloc, network, streams)?;
+        let places = places_of(alloc, network, self.layout.order.as_slice(), streams)?;
+        let out_places = printed_places(alloc, &self.layout.outs, streams)?;
+        self.readers = readers;
+        self.places = places;
+        self.out_places = out_places;
+        self.is_stale = false;
+        Ok(())
     }
 }
 

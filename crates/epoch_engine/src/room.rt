@@ -4,7 +4,7 @@ ghost use Rattle.std.specs.List.{All};
 ghost use Rattle.automaton.specs.Networks.{IsNetwork};
 ghost use Rattle.epoch_draft.specs.Drafts.{DraftFits};
 ghost use Rattle.epoch_engine.specs.Batches.{AreListed, ArePlacesOf, ArePrinted};
-ghost use Rattle.epoch_engine.specs.Running.{FitsPlan, IsPlan, IsStillFor};
+ghost use Rattle.epoch_engine.specs.Running.{FindsStreams, FitsPlan, IsStillFor};
 
 use crate::entry::{Entries, Entry};
 use crate::plan::Plan;
@@ -63,7 +63,7 @@ impl Room {
     /// Lists an entry for each place at which a stream is printed that is due. After want of memory the entries are of
     /// no more use.
     pub(crate) fn list(&mut self, plan: &Plan) -> Result<(), Memory>
-        requires plan { IsPlan plan.now }
+        requires plan { FindsStreams plan.now }
         requires fits { FitsPlan plan.now self.old.drawing }
         ensures listed { OnOk result (ArePrinted plan.now.layout.outs self.old.drawing.draft.made self.new.entries) }
         ensures same { self.new.drawing ≡ self.old.drawing }

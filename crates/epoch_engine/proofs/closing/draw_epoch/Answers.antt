@@ -1,6 +1,4 @@
-use Rattle.std.proofs.Common.{◌≡◌, ◌∙◌, ap, refl, sym, subst, ℕ, ◌+◌, ◌<◌, ◌≤◌, ◌⊎◌, List, [], get_or, length}
-use Rattle.std.specs.Prelude.{Contains}
-use Rattle.std.specs.List.{All}
+use Rattle.std.proofs.Common.{◌∙◌, ap, sym, subst, ℕ, ◌+◌, ◌≤◌, List, length}
 use Rattle.semantics.specs.Denotation.{streams_of}
 use Rattle.automaton.specs.States.{Net}
 use Rattle.epoch_laws.specs.Closing.{Stores}
@@ -8,7 +6,6 @@ use Rattle.epoch_draft.specs.Agenda.{ArePlaces}
 use Rattle.epoch_draft.specs.Deriving.{AreReadersOfAll, DrawnUpTo, news_of}
 use Rattle.epoch_draft.specs.Drafts.{DraftFits}
 use Rattle.epoch_draft.specs.declared.drawing.Drawing.{Drawing}
-use Rattle.epoch_draft.proofs.MarkLemmas.{all_below}
 use Rattle.epoch_draft.proofs.StoreLemmas.{drawn_same, held_same, stored_same, typed_has}
 use Rattle.epoch_draft.specs.EpochWork.{draw_work, pairs_work, taking_work}
 use Rattle.epoch_draft.specs.Held.{held}
@@ -17,7 +14,7 @@ use Rattle.epoch_draft.specs.Stores.{HasStores}
 use Rattle.epoch_draft.specs.Takes.{takes_work}
 use Rattle.epoch_draft.proofs.WatchLemmas.{watches_same}
 use Rattle.epoch_engine.specs.Batches.{ArePrinted}
-use Rattle.epoch_engine.proofs.EngineLemmas.{opened_streams, outs_inside}
+use Rattle.epoch_engine.proofs.EngineLemmas.{opened_streams}
 use Rattle.epoch_engine.proofs.closing.draw_epoch.Goals as goal
 
 pub draw-requires-clause-touched : goal.draw-requires-clause-touched
@@ -26,7 +23,7 @@ draw-requires-clause-touched g c = opened_streams c.args.epoch.now.tuples c.args
 pub draw-requires-clause-can_read : goal.draw-requires-clause-can_read
 draw-requires-clause-can_read g c =
     let plan = c.args.plan.now in
-    let is = c.requires.running.plan_is in
+    let is = c.requires.running.plan_is.finds c.requires.fresh in
     record {
       readers = subst (λ (net : Net). AreReadersOfAll net plan.layout plan.readers) (sym c.network.ensures.value) is.readers;
       places =

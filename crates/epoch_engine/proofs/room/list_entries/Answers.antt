@@ -1,4 +1,4 @@
-use Rattle.std.proofs.Common.{◌≡◌, sym, refl, subst, ℕ, ◌+◌, ◌≤◌, List, [], length, get_or, take, arith}
+use Rattle.std.proofs.Common.{sym, refl, subst, ℕ, ◌+◌, ◌≤◌, List, [], length, get_or, take, arith}
 use Rattle.std.proofs.lemmas.Option.{get_or_from_slice_get}
 use Rattle.epoch_draft.proofs.Lists.{taken_all}
 use Rattle.epoch_engine.specs.Batches.{AreListed}

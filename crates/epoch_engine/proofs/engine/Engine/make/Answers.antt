@@ -16,6 +16,7 @@ invariant_of-result c =
     let epoch = c.in_ok-epoch.epoch in
     let network = c.network.ensures.value in
     let fits : NetworkFits plan.merged plan.layout = subst (λ (l : Layout). NetworkFits plan.merged l) (sym c.in_ok-plan.ensures.layout) (subst (λ (net : Net). NetworkFits net c.args.layout) (sym c.in_ok-plan.ensures.merged) c.requires) in record {
+      fits = fits;
       running =
           made_running plan holdings.stores epoch fits c.make-4.ensures.network c.in_ok-plan.ensures.is (subst (λ (net : Net). AreNewStores net holdings.stores) network c.in_ok-holdings.ensures.stores)
           (c.in_ok-epoch.ensures.as_many ∙ c.len.ensures) c.in_ok-epoch.ensures.empty c.in_ok-epoch.ensures.touched;

@@ -23,6 +23,7 @@ invariant_of-self c =
     let e = c.self.inside in
     let known = ap (λ (v : EngineView). slice_get v.layout.kinds c.args.stream) c.self.view_is ∙ c.requires.heard.known in
     let declared = ap (λ (v : EngineView). is_in v.layout.order c.args.stream) c.self.view_is ∙ c.requires.heard.declared in record {
+      fits = c.self.invariant.fits;
       running = offered_running e.plan e.holdings.stores e.epoch (record c.add.new.self { time = Some c.at-at.result }) c.args.stream c.requires.heard.kinds c.args.tuple c.self.invariant.running known declared c.requires.heard.of_kinds c.in-Ok.ensures.ok c.add.ensures.touched;
       led = c.self.invariant.led;
       watches = c.self.invariant.watches;
@@ -32,7 +33,7 @@ invariant_of-self c =
 -- nothing was changed
 pub invariant_of-self-in-Err : goal.invariant_of-self-in-Err
 invariant_of-self-in-Err c =
-    let e = c.self.inside in record { running = kept_running e.plan e.holdings.stores e.epoch c.add.new.self c.self.invariant.running c.in-Err.ensures.kept c.add.ensures.touched; led = c.self.invariant.led; watches = c.self.invariant.watches; still = c.self.invariant.still }
+    let e = c.self.inside in record { fits = c.self.invariant.fits; running = kept_running e.plan e.holdings.stores e.epoch c.add.new.self c.self.invariant.running c.in-Err.ensures.kept c.add.ensures.touched; led = c.self.invariant.led; watches = c.self.invariant.watches; still = c.self.invariant.still }
 
 -- the tuple is late
 pub returns-in-Some-clause-answer : goal.returns-in-Some-clause-answer

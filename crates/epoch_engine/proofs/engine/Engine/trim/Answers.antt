@@ -15,6 +15,7 @@ pub invariant_of-self : goal.invariant_of-self
 invariant_of-self c =
     let e = c.self.inside in
     let purged = c.purge_all.new.stores in record {
+      fits = c.self.invariant.fits;
       running =
           purged_running (c.in-Some.time + 1) e.plan e.holdings.stores purged e.epoch c.self.invariant.running
           (subst (λ (net : Net). AreAllPurged net (c.in-Some.time + 1) e.holdings.stores purged) c.network.ensures.value c.purge_all.ensures);

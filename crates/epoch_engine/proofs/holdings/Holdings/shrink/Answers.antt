@@ -1,0 +1,9 @@
+use Rattle.std.proofs.Common.{List, subst}
+use Rattle.std.specs.Prelude.{Option}
+use Rattle.binding_index.specs.declared.store.Store.{Store}
+use Rattle.stream_readers.specs.KeyTables.{AreSwept}
+use Rattle.epoch_engine.proofs.holdings.Holdings.shrink.Goals as goal
+
+-- keys lead to the stores that are left
+pub returns-clause-keys : goal.returns-clause-keys
+returns-clause-keys c = subst (λ (stores : List (Option Store)). AreSwept stores c.args.self.now.keys c.sweep.new.self) c.as_slice.ensures c.sweep.ensures
