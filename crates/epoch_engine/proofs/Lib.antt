@@ -1,3 +1,4 @@
+pub mod AddingLawLemmas
 pub mod BatchLemmas
 pub mod BornLemmas
 pub mod ClosedLemmas

@@ -1,4 +1,5 @@
 pub mod Adding
+pub mod AddingLaws
 pub mod Batches
 pub mod Closes
 pub mod Counts

@@ -1,4 +1,5 @@
 //! Laws of engines over the histories for which they stand.
+ghost use Rattle.epoch_engine.specs.AddingLaws.{AddedLinesAreThere, BornLinesAreItsOwn, OtherLinesStay};
 ghost use Rattle.epoch_engine.specs.Laws.{BatchIsStreams, ClosedStands, NewStands, OfferedStands, TrimmedIsCounted, TrimmedStands};
 ghost use Rattle.epoch_engine.specs.WorkLaws.{FewerAskForLess, StoredAskForAll, WaitingAskForAll};
 
@@ -47,4 +48,19 @@ pub fn stored_ask_for_all()
 /// And no more than it asks for with all that waits.
 pub fn waiting_ask_for_all()
     ensures { WaitingAskForAll }
+{}
+
+/// A merged network has the lines of its ends with their births.
+pub fn born_lines_are_its_own()
+    ensures { BornLinesAreItsOwn }
+{}
+
+/// An engine to which lines came has them beside those that it had.
+pub fn added_lines_are_there()
+    ensures { AddedLinesAreThere }
+{}
+
+/// An engine that ends left has the lines of the other ends.
+pub fn other_lines_stay()
+    ensures { OtherLinesStay }
 {}

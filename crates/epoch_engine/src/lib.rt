@@ -25,6 +25,7 @@ pub use engine::Engine;
 pub use entry::Entry;
 pub use fault::OfferFault;
 pub use laws::{
-    batch_is_streams, closed_stands, fewer_ask_for_less, new_stands, offered_stands,
-    stored_ask_for_all, trimmed_is_counted, trimmed_stands, waiting_ask_for_all,
+    added_lines_are_there, batch_is_streams, born_lines_are_its_own, closed_stands,
+    fewer_ask_for_less, new_stands, offered_stands, other_lines_stay, stored_ask_for_all,
+    trimmed_is_counted, trimmed_stands, waiting_ask_for_all,
 };
