@@ -14,12 +14,13 @@ use Rattle.automaton.specs.declared.network.Entrance.TheVariants.{Root, Waiting}
 use Rattle.automaton.specs.declared.layout.Layout.{Layout}
 use Rattle.instances.specs.declared.instance.Instance.{Instance}
 use Rattle.epoch_laws.specs.Closing.{Stores, given_by_end, given_by_ends, given_by_ends_at, leaving_by, leaving_state}
-use Rattle.epoch_laws.specs.Epochs.{taken, taken_from}
-use Rattle.epoch_laws.specs.Instances.{began, begins}
+use Rattle.semantics.specs.Births.{is_after}
+use Rattle.epoch_laws.specs.Instances.{begins}
+use Rattle.scalar_expr.proofs.Bags.{filter_permuted}
 use Rattle.epoch_laws.proofs.Bags.{flat_map_alike}
 use Rattle.epoch_laws.proofs.Lists.{every}
 use Rattle.epoch_laws.proofs.Networks.{passing_permuted}
-use Rattle.epoch_laws.proofs.Purges.{taken_permuted}
+use Rattle.epoch_laws.proofs.Purges.{took_permuted}
 use Rattle.epoch_draft.specs.Deriving.{AreOpened}
 use Rattle.epoch_draft.specs.EpochWork.{derived_tests, heard_tests}
 use Rattle.epoch_draft.proofs.SumLemmas.{once_sum}
@@ -49,9 +50,7 @@ module _ (net : Net) (stores : Stores) (news later : Streams) (alike : AreAlike 
           let p = hop.wait.choose in
           let turn = hop.wait.fold in
           let s = hop.wait.stream in
-          flat_map_alike (taken_from p turn (news s)) (taken_from p turn (later s)) (stores n)
-          (every (λ (i : Instance). IsPermutation (taken_from p turn (news s) i) (taken_from p turn (later s) i))
-          (λ i. IsPermutation-map (began i.first) (taken p turn (news s) i.tuple) (taken p turn (later s) i.tuple) (taken_permuted 0 p turn (news s) (later s) (alike s) i.tuple)) (stores n))
+          took_permuted p turn (news s) (later s) (alike s) (stores n)
 
   -- what the ends of a stream give over them
   pub given_alike : (s : ℕ) → IsPermutation (given_by_ends net news stores s) (given_by_ends net later stores s)
@@ -65,7 +64,7 @@ module _ (net : Net) (stores : Stores) (news later : Streams) (alike : AreAlike 
           let was = leaving_state net news stores n in
           let is = leaving_state net later stores n in
           flat_map_alike (given_by_end was) (given_by_end is) ends
-          (every (λ (e : End). IsPermutation (given_by_end was e) (given_by_end is e)) (λ e. passing_permuted e.step e.birth was is (leaving_alike n)) ends)
+          (every (λ (e : End). IsPermutation (given_by_end was e) (given_by_end is e)) (λ e. passing_permuted e.step e.birth was is (filter_permuted (λ (i : Instance). is_after e.birth i.first) was is (leaving_alike n))) ends)
 
 module _ (tests : ℕ → TupleView → ℕ) (net : Net) (stores : Stores) where
   -- the same tests over the same tuples, by induction on the order of work

@@ -1,4 +1,5 @@
 pub mod AgendaLemmas
+pub mod BehindLemmas
 pub mod ClearLemmas
 pub mod Comes
 pub mod Concats
@@ -12,6 +13,7 @@ pub mod FoundLemmas
 pub mod GoingLemmas
 pub mod KeyLemmas
 pub mod LeadLemmas
+pub mod LeastLemmas
 pub mod LedLemmas
 pub mod Lists
 pub mod MarkLemmas

@@ -8,6 +8,7 @@ use Rattle.std.proofs.lemmas.List.Elements.{All-contains_itself, All-weaker, Con
 use Rattle.semantics.proofs.ReportLemmas.{filter_all}
 use Rattle.semantics.specs.Scalars.{Pr}
 use Rattle.event_types.specs.declared.value.Value.{Value}
+use Rattle.instances.proofs.BirthLemmas.{began_unborn}
 use Rattle.instances.specs.Alive.{is_alive}
 use Rattle.instances.specs.Bounds.{alive_instances}
 use Rattle.instances.specs.Keys.{HasKey, KeepsUsedKeys, Key}
@@ -20,7 +21,7 @@ use Rattle.automaton.specs.declared.wait.Wait.{Wait}
 use Rattle.automaton.proofs.NumberLemmas.{are_same_or_not}
 use Rattle.epoch_draft.specs.Held.{SameShapes, Shape, held, instances_in, shape_of}
 use Rattle.epoch_draft.specs.Led.{StayReady, StaysReady}
-use Rattle.epoch_draft.specs.Purging.{AreAllPurged, AreUsedIn, ForgetUnusedIn, IsPurgedAt, alive_in}
+use Rattle.epoch_draft.specs.Purging.{AreAllPurged, AreUsedIn, ForgetUnusedIn, IsLeftAt, IsPurgedAt, alive_in, left_in}
 use Rattle.epoch_draft.specs.declared.draft.Pair.{Pair}
 use Rattle.epoch_draft.proofs.DrawnLemmas.{entry_below}
 use Rattle.epoch_draft.proofs.Lists.{below_or_last, map_more, some_is}
@@ -58,6 +59,11 @@ purged_twice time (Some old) (Some new) same is =
   where
     shape : Store → Shape
     shape store = record { condition = condition_of store; key = key_of store }
+
+-- without a birth a purge leaves what is alive
+pub left_unborn : (time : ℕ) (slot : Option Store) → left_in time None slot ≡ alive_in time slot
+left_unborn time None = refl
+left_unborn time (Some store) = ap (alive_instances time (condition_of store)) (began_unborn (instances_of store))
 
 -- what is kept of the keys that are ready are the keys of instances
 pub kept_used : (old new : Option Key) (instances : List Instance) (before after : List Value) → new ≡ old → KeepsUsedKeys old instances before after → All (λ v. Any (λ (i : Instance). HasKey new i.tuple v) instances) after
@@ -102,11 +108,11 @@ forget_pair pairs i d first old slot lt below is shape used stays h =
     (forget_push (map (λ (pair : Pair). pair.state) (take i pairs)) (get_or pairs i d).state first old slot below is shape used stays h)
 
 -- the store of a waiting state was purged
-pub purged_there : (net : Net) (time n : ℕ) (stores : List (Option Store)) (slot : Option Store) → n < length stores → is_some (wait_at net n) ≡ true → instances_in slot ≡ alive_in time (get_or stores n None) → shape_of slot ≡ shape_of (get_or stores n None) → AreUsedIn slot
+pub purged_there : (net : Net) (time n : ℕ) (stores : List (Option Store)) (slot : Option Store) → n < length stores → is_some (wait_at net n) ≡ true → IsLeftAt net time n (get_or stores n None) (instances_in slot) → shape_of slot ≡ shape_of (get_or stores n None) → AreUsedIn slot
     → StaysReady (get_or stores n None) slot → IsPurgedAt net time n stores (set stores n slot)
 purged_there net time n stores slot below waits is shape used stays = record {
   same = shapes_set stores n slot below shape;
-  purged = λ w at. ap instances_in here ∙ is;
+  purged = λ w at. subst (IsLeftAt net time n (get_or stores n None)) (sym (ap instances_in here)) is;
   used = λ w at. subst AreUsedIn (sym here) used;
   stay = stay_set stores stores n slot below (stay_same stores) stays;
   none = λ at. absurd (let no : true ≡ false = sym waits ∙ ap is_some at in cc);
@@ -119,7 +125,7 @@ purged_there net time n stores slot below waits is shape used stays = record {
 -- the stores of the waiting states below a number were purged
 pub record ArePurgedBelow (net : Net) (bound time : ℕ) (old new : List (Option Store)) : Type 0 where
   pub same : SameShapes old new
-  pub purged : (n : ℕ) (w : Wait) → n < bound → wait_at net n ≡ Some w → held new n ≡ alive_in time (get_or old n None)
+  pub purged : (n : ℕ) (w : Wait) → n < bound → wait_at net n ≡ Some w → IsLeftAt net time n (get_or old n None) (held new n)
   pub used : (n : ℕ) (w : Wait) → n < bound → wait_at net n ≡ Some w → AreUsedIn (get_or new n None)
   pub stay : StayReady old new
   pub others : (n : ℕ) → (n < bound → wait_at net n ≡ None) → get_or new n None ≡ get_or old n None
@@ -144,10 +150,11 @@ purged_next net n time old mid new was one = record {
     smaller : (k : ℕ) → k < n → k ≡ n → ⊥
     smaller k lt same = omega (arith, lt, same)
 
-    purged : (k : ℕ) (w : Wait) → wait_at net k ≡ Some w → (k < n) ⊎ (k ≡ n) → held new k ≡ alive_in time (get_or old k None)
-    purged k w at (inl lt) = ap instances_in (one.others k (smaller k lt)) ∙ was.purged k w lt at
+    purged : (k : ℕ) (w : Wait) → wait_at net k ≡ Some w → (k < n) ⊎ (k ≡ n) → IsLeftAt net time k (get_or old k None) (held new k)
+    purged k w at (inl lt) = subst (IsLeftAt net time k (get_or old k None)) (sym (ap instances_in (one.others k (smaller k lt)))) (was.purged k w lt at)
     purged k w at (inr same) =
-        ap (held new) same ∙ one.purged w (ap (wait_at net) (sym same) ∙ at) ∙ ap (alive_in time) (was.others n (λ lt. absurd (not_below lt))) ∙ ap (λ (m : ℕ). alive_in time (get_or old m None)) (sym same)
+        subst (λ (m : ℕ). IsLeftAt net time m (get_or old m None) (held new m)) (sym same)
+        (subst (λ (o : Option Store). IsLeftAt net time n o (held new n)) (was.others n (λ lt. absurd (not_below lt))) (one.purged w (ap (wait_at net) (sym same) ∙ at)))
 
     used : (k : ℕ) (w : Wait) → wait_at net k ≡ Some w → (k < n) ⊎ (k ≡ n) → AreUsedIn (get_or new k None)
     used k w at (inl lt) = subst AreUsedIn (sym (one.others k (smaller k lt))) (was.used k w lt at)

@@ -10,6 +10,8 @@ use Rattle.std.proofs.lemmas.List.Sorted.{All-permutation, IsPermutation-sym}
 use Rattle.std.proofs.lemmas.List.Folds.{list_any-from_Any}
 use Rattle.event_types.specs.declared.value.Value.{Value}
 use Rattle.instances.specs.Alive.{is_alive}
+use Rattle.semantics.specs.Births.{is_after}
+use Rattle.instances.specs.Births.{began_after}
 use Rattle.instances.specs.Bounds.{alive_instances}
 use Rattle.instances.specs.Keys.{IsKeyReady, KeepsUsedKeys, Key}
 use Rattle.instances.specs.declared.instance.Instance.{Instance}
@@ -63,8 +65,8 @@ used_ready None instances before after keeps i c ready = tt
 used_ready (Some key) instances before after keeps i c ready = (keeps (value_at i.tuple key.binding)).1 (ready, (c.0, i, c.1, c.2, refl))
 
 -- a purge keeps the keys of the instances that it keeps
-pub purge_stays : (old new : Store) (time : ℕ) → instances_of new ≡ alive_instances time (condition_of old) (instances_of old) → KeepsUsedKeys (key_of old) (instances_of new) (ready_of old) (ready_of new) → key_of new ≡ key_of old → StaysReady (Some old) (Some new)
-purge_stays old new time is keeps same = record {
+pub purge_stays : (old new : Store) (time : ℕ) (since : Option ℕ) → instances_of new ≡ alive_instances time (condition_of old) (began_after since (instances_of old)) → KeepsUsedKeys (key_of old) (instances_of new) (ready_of old) (ready_of new) → key_of new ≡ key_of old → StaysReady (Some old) (Some new)
+purge_stays old new time since is keeps same = record {
   instances = λ ready.
       subst (λ (k : Option Key). All (λ (i : Instance). IsKeyReady k (ready_of new) i.tuple) (instances_of new)) (sym same)
       (All-weaker (Contains (instances_of new)) (λ (i : Instance). IsKeyReady (key_of old) (ready_of new) i.tuple)
@@ -76,7 +78,8 @@ purge_stays old new time is keeps same = record {
     kept : AreReadyIn (Some old) → All (λ (i : Instance). IsKeyReady (key_of old) (ready_of old) i.tuple) (instances_of new)
     kept ready =
         subst (All (λ (i : Instance). IsKeyReady (key_of old) (ready_of old) i.tuple)) (sym is)
-        (All-filter (λ (i : Instance). is_alive time (condition_of old) i.tuple) (λ (i : Instance). IsKeyReady (key_of old) (ready_of old) i.tuple) (instances_of old) ready)
+        (All-filter (λ (i : Instance). is_alive time (condition_of old) i.tuple) (λ (i : Instance). IsKeyReady (key_of old) (ready_of old) i.tuple) (began_after since (instances_of old))
+        (All-filter (λ (i : Instance). is_after since i.first) (λ (i : Instance). IsKeyReady (key_of old) (ready_of old) i.tuple) (instances_of old) ready))
 
 -- a store that forgets keys keeps those of its instances
 pub forget_stays : (old new : Store) → instances_of new ≡ instances_of old → KeepsUsedKeys (key_of old) (instances_of new) (ready_of old) (ready_of new) → key_of new ≡ key_of old → StaysReady (Some old) (Some new)

@@ -1,5 +1,5 @@
 -- Stores that are purged when their deadlines pass.
-use Rattle.std.proofs.Common.{◌≡◌, ◌∙◌, sym, ap, refl, subst, inl, inr, ℕ, ◌<◌, ◌≤◌, ◌⊎◌, Bool, true, cond, length, get_or, nat_le, nat_lt, set, List, [], ◌∷◌, ◌++◌, arith}
+use Rattle.std.proofs.Common.{◌≡◌, ◌∙◌, sym, ap, refl, subst, inl, inr, ℕ, ◌<◌, ◌≤◌, ◌⊎◌, Bool, true, ◌&&◌, cond, length, get_or, nat_le, nat_lt, set, List, [], ◌∷◌, ◌++◌, arith}
 use Rattle.std.specs.List.{All, count_by, filter}
 use Rattle.std.specs.List.Sorted.{IsPermutation}
 use Rattle.std.specs.Prelude.{Option, Some, None}
@@ -8,6 +8,8 @@ use Rattle.std.proofs.lemmas.List.Sorted.{All-permutation, IsPermutation-sym}
 use Rattle.semantics.specs.Scalars.{Pr}
 use Rattle.semantics.proofs.ReportLemmas.{filter_all}
 use Rattle.instances.specs.Alive.{is_alive}
+use Rattle.semantics.specs.Births.{is_after}
+use Rattle.epoch_laws.proofs.Lists.{filter-filter}
 use Rattle.instances.specs.Bounds.{AreAliveUntil, alive_instances, started}
 use Rattle.instances.proofs.BoundLemmas.{started_is}
 use Rattle.instances.specs.declared.instance.Instance.{Instance}
@@ -24,7 +26,7 @@ use Rattle.semantics.specs.Denotation.{Streams}
 use Rattle.epoch_laws.specs.Epochs.{is_unmet}
 use Rattle.epoch_draft.specs.Held.{SameShapes, SameStored, Shape, instances_in, shape_of}
 use Rattle.epoch_draft.specs.Led.{StayReady, StaysReady}
-use Rattle.epoch_draft.specs.Purging.{AreAllPurged, ForgetUnusedIn, alive_in}
+use Rattle.epoch_draft.specs.Purging.{AreAllPurged, ForgetUnusedIn, alive_in, left_in}
 use Rattle.epoch_draft.specs.Settling.{AreTaken, listed_tuples}
 use Rattle.epoch_draft.specs.Stores.{AreNewStores, HasStores}
 use Rattle.epoch_draft.specs.declared.draft.Pair.{Pair}
@@ -162,10 +164,11 @@ HasFewer old new = (keep : Instance → Bool) × (instances_in new ≡ filter ke
 fewer_same : (old new : Option Store) → instances_in new ≡ instances_in old → HasFewer old new
 fewer_same old new same = ((λ (i : Instance). true), same ∙ sym (filter_all (λ (i : Instance). true) (instances_in old) (λ _ _ _. refl)))
 
--- or those that are alive
-fewer_alive : (time : ℕ) (old new : Option Store) → instances_in new ≡ alive_in time old → HasFewer old new
-fewer_alive time None new is = ((λ (i : Instance). true), is)
-fewer_alive time (Some store) new is = ((λ (i : Instance). is_alive time (condition_of store) i.tuple), is)
+-- or those that a purge leaves
+fewer_left : (time : ℕ) (since : Option ℕ) (old new : Option Store) → instances_in new ≡ left_in time since old → HasFewer old new
+fewer_left time since None new is = ((λ (i : Instance). true), is)
+fewer_left time since (Some store) new is =
+    ((λ (i : Instance). is_after since i.first && is_alive time (condition_of store) i.tuple), is ∙ filter-filter (λ (i : Instance). is_alive time (condition_of store) i.tuple) (λ (i : Instance). is_after since i.first) (instances_of store))
 
 -- where each store does, its deadline is right still
 watches_fewer : (deadlines : List ℕ) (old new : List (Option Store)) → SameShapes old new → ((n : ℕ) → HasFewer (get_or old n None) (get_or new n None)) → Watches deadlines old → Watches deadlines new
@@ -192,7 +195,7 @@ watches_all time net deadlines old new purged = watches_fewer deadlines old new 
   where
     go : (n : ℕ) (o : Option Wait) → wait_at net n ≡ o → HasFewer (get_or old n None) (get_or new n None)
     go n None at = fewer_same (get_or old n None) (get_or new n None) (ap instances_in (purged.others n at))
-    go n (Some w) at = fewer_alive time (get_or old n None) (get_or new n None) (purged.purged n w at)
+    go n (Some w) at = let left = purged.purged n w at in fewer_left time left.0 (get_or old n None) (get_or new n None) left.2
 
 -- new stores have no instance that may expire
 pub watches_new : (net : Net) (deadlines : List ℕ) (stores : List (Option Store)) → AreNewStores net stores → length deadlines ≡ length net → Watches deadlines stores

@@ -1,4 +1,6 @@
 pub mod Agenda
+pub mod Behind
+pub mod BirthLists
 pub mod Candidates
 pub mod Comes
 pub mod Deriving
@@ -10,7 +12,6 @@ pub mod Found
 pub mod Held
 pub mod Kindings
 pub mod Led
-pub mod StoredNetworks
 pub mod Marks
 pub mod Meeting
 pub mod Moves
@@ -18,6 +19,7 @@ pub mod Pairs
 pub mod Purging
 pub mod Readying
 pub mod Settling
+pub mod StoredNetworks
 pub mod Stores
 pub mod Suits
 pub mod Takes

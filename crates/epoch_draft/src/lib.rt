@@ -17,6 +17,7 @@
 #![tactic(auto)]
 
 mod agenda;
+mod behind;
 mod draft;
 mod drawing;
 mod filling;

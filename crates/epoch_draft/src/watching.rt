@@ -22,7 +22,7 @@ pub(crate) fn purge_due(stores: &mut Stores, deadlines: &mut Deadlines, time: u6
     ensures later { All (λ deadline. time + 1 < deadline) deadlines.new }
 {
     while let Some(number) = deadlines.first_until(time as u128 + 1) {
-        let deadline = purge(stores.get_mut(number), time);
+        let deadline = purge(stores.get_mut(number), time, None);
         deadlines.set(number, deadline);
     }
 }

@@ -1,5 +1,5 @@
 -- The tests that the closing of an epoch takes are no more than it asks for.
-use Rattle.std.proofs.Common.{◌≡◌, ◌∙◌, sym, ap, refl, subst, ℕ, ◌+◌, ◌≤◌, Bool, true, false, cond, length, List, arith}
+use Rattle.std.proofs.Common.{◌≡◌, ◌∙◌, sym, ap, refl, subst, ℕ, ◌+◌, ◌≤◌, Bool, true, false, cond, length, length-append, List, arith}
 use Rattle.std.specs.Prelude.{Option, Some, None, is_some, sum_by}
 use Rattle.std.specs.Option.{option_and_then, option_map}
 use Rattle.std.specs.List.{filter, range_with_len}
@@ -46,7 +46,7 @@ use Rattle.epoch_engine.specs.WorkLaws.{IsConsistent, StandsOpen, closing_tests}
 use Rattle.epoch_engine.proofs.EpochTests.{finished, finished_epoch, rows_told, told, whole, whole_many, whole_plus, whole_told}
 use Rattle.epoch_engine.proofs.NetworkTests.{edge_into, net_sum}
 use Rattle.epoch_engine.proofs.StateTests.{out_all, root_less, root_tests, wait_less, with_bindings}
-use Rattle.epoch_engine.proofs.TestSums.{sum_even, sum_flat, sum_less, sum_plus, sum_same, sum_tested}
+use Rattle.epoch_engine.proofs.TestSums.{sum_fewer, sum_flat, sum_less, sum_plus, sum_same, sum_tested}
 use Rattle.epoch_engine.proofs.TrimLemmas.{free_waits, root_waits}
 use Rattle.epoch_engine.proofs.WaitTests.{wait_fewer}
 
@@ -122,8 +122,8 @@ module _ (engine : EngineView) (lines : List BornLine) (states : List Prefix) (h
   gives : (s : ℕ) → IsPermutation (news s) (during time (full s))
   gives = epoch_gives net lines order stores time heard news engine.closed_time history has.stands.serves stands epoch
 
-  flows : (k : ℕ) (p : Prefix) → IsAt net k p → IsPermutation (bindings_of (leaving_state net news stores k)) (during time (flow full p))
-  flows = epoch_flows net lines order stores time heard news engine.closed_time history has.stands.serves stands epoch
+  flows : (k : ℕ) (p : Prefix) → IsAt net k p → IsWithin (bindings_of (leaving_state net news stores k)) (during time (flow full p))
+  flows k p at = (epoch_flows net lines order stores time heard news engine.closed_time history has.stands.serves stands epoch k p at).within
 
   -- the tests of the epoch at a state
   abbrev root_all : ℕ → ℕ
@@ -200,8 +200,12 @@ module _ (engine : EngineView) (lines : List BornLine) (states : List Prefix) (h
         let fewer = wait_fewer time full w (bindings_of (stores k)) (stored (After p h)) (within k p h at) in
         let left : leaving_state net news stores k ≡ took w.choose w.fold rows (stores k) = ap (λ (o : Option Entrance). leaving_by o news (stores k)) at.1 in
         let len = length-map (leaving_state net news stores k) (λ (i : Instance). i.tuple) in
-        let as_many : length (took w.choose w.fold rows (stores k)) ≡ length (during time (flow full (After p h))) = sym (ap length left) ∙ sym len ∙ sym (length_permutation _ _ (flows k (After p h) at)) in
-        let even = sum_even (ways_work net (ways_at net k)) (took w.choose w.fold rows (stores k)) (during time (flow full (After p h))) as_many in
+        let flown = flows k (After p h) at in
+        let whole = length_permutation _ _ flown.1 in
+        let parts = length-append (bindings_of (leaving_state net news stores k)) flown.0 in
+        let same_left = ap length left in
+        let no_more : length (took w.choose w.fold rows (stores k)) ≤ length (during time (flow full (After p h))) = omega (arith, whole, parts, len, same_left) in
+        let even = sum_fewer (ways_work net (ways_at net k)) (took w.choose w.fold rows (stores k)) (during time (flow full (After p h))) no_more in
         let out = out_all net k (during time (flow full (After p h))) in
         omega (arith, first, second, third, asked, same, fewer, even, out)
 

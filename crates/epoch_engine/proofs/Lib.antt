@@ -15,6 +15,7 @@ pub mod OverLemmas
 pub mod PrintedLemmas
 pub mod PurgeLemmas
 pub mod PurgedLemmas
+pub mod ReadLemmas
 pub mod StandsLemmas
 pub mod StateTests
 pub mod SumLemmas

@@ -1,35 +1,59 @@
 -- Stores that were purged in whole.
-use Rattle.std.proofs.Common.{ℕ, Bool, true, false, not, cond, List, [], ◌∷◌, ◌++◌, append-nil}
-use Rattle.std.specs.List.{filter}
+use Rattle.std.proofs.Common.{◌≡◌, ◌∙◌, refl, sym, ap, subst, ℕ, ◌&&◌, nat_lt, ◌≤◌, List, arith}
+use Rattle.std.specs.Prelude.{Option, Some, None}
+use Rattle.std.specs.Option.{option_and_then}
 use Rattle.std.specs.List.Sorted.{IsPermutation}
-use Rattle.std.proofs.lemmas.List.Sorted.{IsPermutation-append_left, IsPermutation-cons, IsPermutation-middle, IsPermutation-refl, IsPermutation-sym, IsPermutation-trans}
-use Rattle.scalar_expr.proofs.Bags.{permuted_from}
+use Rattle.std.proofs.lemmas.Bool.Decides.{nat_tests}
+use Rattle.std.proofs.lemmas.List.Elements.{filter_agree}
+use Rattle.std.proofs.lemmas.List.Sorted.{IsPermutation-sym}
+use Rattle.semantics.specs.Births.{is_after}
 use Rattle.semantics.specs.Scalars.{Pr}
 use Rattle.instances.specs.Alive.{is_alive}
+use Rattle.instances.specs.Births.{began_after}
 use Rattle.instances.specs.Bounds.{alive_instances}
 use Rattle.instances.specs.declared.instance.Instance.{Instance}
-use Rattle.automaton.specs.States.{Net}
+use Rattle.instances.proofs.BirthLemmas.{began_unborn}
+use Rattle.automaton.specs.Prefixes.{After}
+use Rattle.automaton.specs.States.{Net, wait_by}
+use Rattle.epoch_laws.specs.Births.{IsNoLater}
+use Rattle.epoch_laws.specs.BornLines.{BornLine, IsReadAfter}
 use Rattle.epoch_laws.specs.Closing.{ArePurged, Stores}
-use Rattle.epoch_laws.specs.Stores.{Purged}
+use Rattle.epoch_laws.specs.Stores.{IsWithin, Purged}
+use Rattle.epoch_laws.proofs.Bags.{filter_inside, filter_within, within_permuted, within_through, within_to}
+use Rattle.epoch_laws.proofs.Lists.{filter-filter}
 use Rattle.epoch_engine.specs.Closes.{ArePurgedWhole}
 
--- what a filter keeps and what it leaves out are the whole
-parted : {X : Type 0} (p : X → Bool) (xs : List X) → IsPermutation (filter p xs ++ filter (λ x. not (p x)) xs) xs
-parted p [] = IsPermutation-refl []
-parted {X} p (x ∷ xs) = go (parted p xs) (p x)
+-- what began after a birth began after each that is no later
+later_within : (since birth : Option ℕ) (store : List Instance) → IsNoLater since birth → IsWithin (began_after birth store) (began_after since store)
+later_within since birth store le =
+    subst (λ xs. IsWithin xs (began_after since store)) twice (filter_inside (λ (n : Instance). is_after birth n.first) (began_after since store))
   where
-    go : IsPermutation (filter p xs ++ filter (λ x. not (p x)) xs) xs → (b : Bool) → IsPermutation (cond b (x ∷ filter p xs) (filter p xs) ++ cond (not b) (x ∷ filter (λ x. not (p x)) xs) (filter (λ x. not (p x)) xs)) (x ∷ xs)
-    go rest true = IsPermutation-cons x _ _ rest
-    go rest false = IsPermutation-trans _ _ _ (IsPermutation-middle (filter p xs) x (filter (λ x. not (p x)) xs)) (IsPermutation-cons x _ _ rest)
+    both : (a b : Option ℕ) → IsNoLater a b → (time : ℕ) → (is_after a time && is_after b time) ≡ is_after b time
+    both None b le time = refl
+    both (Some a) None le time = absurd le
+    both (Some a) (Some b) le time = go a b le time
+      where
+        go : (a b : ℕ) → a ≤ b → (time : ℕ) → (nat_lt a time && nat_lt b time) ≡ nat_lt b time
+        go a b le time = grind (arith, nat_tests)
 
-purged_whole : (time : ℕ) (choose : List Pr) (store kept : List Instance) → IsPermutation kept (alive_instances time choose store) → Purged time choose store kept
-purged_whole time choose store kept h =
-    let p = λ (n : Instance). is_alive time choose n.tuple in
-    let dead = filter (λ (n : Instance). not (p n)) store in record {
-      at_least = ([], permuted_from (append-nil (filter p store)) (IsPermutation-sym _ _ h));
-      at_most = (dead, IsPermutation-trans _ _ _ (IsPermutation-append_left dead kept (filter p store) h) (parted p store));
-    }
+    twice : began_after birth (began_after since store) ≡ began_after birth store
+    twice =
+        filter-filter (λ (n : Instance). is_after birth n.first) (λ (n : Instance). is_after since n.first) store
+        ∙ filter_agree (λ (n : Instance). is_after since n.first && is_after birth n.first) (λ (n : Instance). is_after birth n.first) (λ n. both since birth le n.first) store
+
+-- a store that was purged for a time and a birth that is no later than those that count
+pub purged_whole : (time : ℕ) (IsRead : Option ℕ → Type 0) (since : Option ℕ) (choose : List Pr) (store kept : List Instance) → ((birth : Option ℕ) → IsRead birth → IsNoLater since birth)
+    → IsPermutation kept (alive_instances time choose (began_after since store)) → Purged time IsRead choose store kept
+purged_whole time IsRead since choose store kept least h = record {
+  at_least = λ birth read.
+      within_to _ _ _ (filter_within (λ (n : Instance). is_alive time choose n.tuple) (began_after birth store) (began_after since store) (later_within since birth store (least birth read))) (IsPermutation-sym _ _ h);
+  at_most =
+      within_permuted _ _ _ h
+      (within_through _ _ _ (filter_inside (λ (n : Instance). is_alive time choose n.tuple) (began_after since store)) (filter_inside (λ (n : Instance). is_after since n.first) store));
+}
 
 -- they were purged
-pub are_purged : (time : ℕ) (net : Net) (stores kept : Stores) → ArePurgedWhole time net stores kept → ArePurged time net stores kept
-are_purged time net stores kept whole number wait at = purged_whole time wait.choose (stores number) (kept number) (whole number wait at)
+pub are_purged : (time : ℕ) (lines : List BornLine) (net : Net) (stores kept : Stores) → ArePurgedWhole time net stores kept → ArePurged time lines net stores kept
+are_purged time lines net stores kept whole number p h at =
+    purged_whole time (IsReadAfter lines (After p h)) None h.wait.choose (stores number) (kept number) (λ birth read. tt)
+    (subst (λ xs. IsPermutation (kept number) (alive_instances time h.wait.choose xs)) (sym (began_unborn (stores number))) (whole number h.wait (ap (option_and_then wait_by) at.1)))

@@ -97,8 +97,8 @@ module _ (old new : EngineView) (lines : List BornLine) (history : List Event) (
   open_stands : Standing old.network lines old.layout.order (stores_in old) (Some closes.time) (streams_of old.opened) old.closed_time history
   open_stands = subst (λ (t : Option ℕ). Standing old.network lines old.layout.order (stores_in old) t (streams_of old.opened) old.closed_time history) closes.was_open stands.stands
 
-  purged : ArePurged (closes.time + 1) old.network (stores_after old.network closes.taken.news (stores_in old)) (stores_in new)
-  purged = are_purged (closes.time + 1) old.network (stores_after old.network closes.taken.news (stores_in old)) (stores_in new) closes.taken.purged
+  purged : ArePurged (closes.time + 1) lines old.network (stores_after old.network closes.taken.news (stores_in old)) (stores_in new)
+  purged = are_purged (closes.time + 1) lines old.network (stores_after old.network closes.taken.news (stores_in old)) (stores_in new) closes.taken.purged
 
   -- what the batch has
   pub batch_is_streams : batch ≡ map (λ s. sorted (during closes.time (streams_over lines old.layout.order history s))) old.layout.outs

@@ -55,13 +55,14 @@ module _ {X : Type 0} where
       go true rest = let one = sum_by-cons f x (filter p xs) in let two = sum_by-cons f x xs in omega (arith, one, two, rest)
       go false rest = let two = sum_by-cons f x xs in omega (arith, two, rest)
 
-  -- as many items of one size each
-  pub sum_even : {Y : Type 0} (c : ℕ) (xs : List X) (ys : List Y) → length xs ≡ length ys → sum_by (λ x. c) xs ≡ sum_by (λ y. c) ys
-  sum_even c [] [] same = refl
-  sum_even c [] (y ∷ ys) same = absurd (omega (arith, same))
-  sum_even c (x ∷ xs) [] same = absurd (omega (arith, same))
-  sum_even c (x ∷ xs) (y ∷ ys) same =
-      let rest = sum_even c xs ys (omega (arith, same)) in sum_by-cons (λ x. c) x xs ∙ ap (λ n. c + n) rest ∙ sym (sum_by-cons (λ y. c) y ys)
+  -- no more items of one size each
+  pub sum_fewer : {Y : Type 0} (c : ℕ) (xs : List X) (ys : List Y) → length xs ≤ length ys → sum_by (λ x. c) xs ≤ sum_by (λ y. c) ys
+  sum_fewer c [] ys few = omega arith
+  sum_fewer c (x ∷ xs) [] few = absurd (omega (arith, few))
+  sum_fewer c (x ∷ xs) (y ∷ ys) few =
+      let rest = sum_fewer c xs ys (omega (arith, few)) in
+      let one = sum_by-cons (λ x. c) x xs in
+      let other = sum_by-cons (λ y. c) y ys in omega (arith, rest, one, other)
 
   -- where as many pass as one or none, they have what one has or nothing
   pub sum_counted : (p : X → Bool) (c : ℕ) (b : Bool) (xs : List X) → count_by p xs ≡ cond b 1 0 → sum_by (λ x. cond (p x) c 0) xs ≡ cond b c 0

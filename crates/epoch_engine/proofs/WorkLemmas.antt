@@ -10,7 +10,7 @@ use Rattle.automaton.specs.Networks.{IsAt}
 use Rattle.automaton.specs.Prefixes.{Prefix, Root, After}
 use Rattle.automaton.specs.Waiting.{waiting}
 use Rattle.automaton.specs.declared.line.Hop.{Hop}
-use Rattle.epoch_laws.specs.BornLines.{BornLine, lines_in}
+use Rattle.epoch_laws.specs.BornLines.{BornLine, IsReadAfter, lines_in}
 use Rattle.epoch_laws.specs.Histories.{events_before, streams_over}
 use Rattle.epoch_laws.specs.Instances.{bindings_of}
 use Rattle.epoch_laws.specs.Standing.{closed_part, last_time, next_time}
@@ -64,7 +64,7 @@ waiting_ask_for_all engine lines states history time is has =
     let order = engine.layout.order in
     let closed : closed_part engine.time history ≡ events_before time history = ap (λ (o : Option ℕ). closed_part o history) has.is_open in
     closing_within engine lines states history time (waiting_over lines order (events_before time history)) is has
-    (λ k p h at. subst (λ (events : List Event). IsWithin (bindings_of (stores_in engine k)) (waiting (streams_over lines order events) p h)) closed (stored_wait (next_time engine.closed_time) (streams_over lines order (closed_part engine.time history)) p h (stores_in engine k) (has.stands.stands.stores_stand.holds k p h at)))
+    (λ k p h at. subst (λ (events : List Event). IsWithin (bindings_of (stores_in engine k)) (waiting (streams_over lines order events) p h)) closed (stored_wait (next_time engine.closed_time) (IsReadAfter lines (After p h)) (streams_over lines order (closed_part engine.time history)) p h (stores_in engine k) (has.stands.stands.stores_stand.holds k p h at)))
 
 -- tests that are no more than those of the closing
 pub rises_by_work : (engine : EngineView) (old new : ℕ) → IsConsistent engine → new ≤ old + closing_tests engine → RisesByWork engine old new

@@ -1,5 +1,5 @@
 -- Laws of engines over the histories for which they stand.
-use Rattle.std.specs.Prelude.{◌≡◌, ℕ, ◌-◌, ◌^◌, List, [], ◌∷◌, ◌++◌, map, min}
+use Rattle.std.specs.Prelude.{◌≡◌, ℕ, ◌-◌, ◌^◌, List, [], ◌∷◌, ◌++◌, Option, map, min}
 use Rattle.std.specs.List.Sorted.{IsPermutation}
 use Rattle.event_types.specs.Order.{sorted}
 use Rattle.event_types.specs.Tuple.{TupleView, IsSound}
@@ -9,9 +9,9 @@ use Rattle.automaton.specs.Prefixes.{Prefix, After}
 use Rattle.automaton.specs.States.{Net}
 use Rattle.automaton.specs.declared.layout.Layout.{Layout}
 use Rattle.automaton.specs.declared.line.Hop.{Hop}
-use Rattle.epoch_laws.specs.BornLines.{BornLine}
+use Rattle.epoch_laws.specs.Births.{IsLeastBirth}
+use Rattle.epoch_laws.specs.BornLines.{BornLine, IsReadAfter}
 use Rattle.epoch_laws.specs.Histories.{streams_over}
-use Rattle.epoch_laws.specs.Instances.{bindings_of}
 use Rattle.epoch_laws.specs.Standing.{closed_part}
 use Rattle.epoch_laws.specs.StoresStandFor.{Serves}
 use Rattle.epoch_laws.specs.Times.{during}
@@ -43,15 +43,15 @@ BatchIsStreams =
     (old new : EngineView) (lines : List BornLine) (history : List Event) (batch : List (List TupleView)) → EngineStandsFor old lines history → (closes : Closes old new batch)
     → batch ≡ map (λ stream. sorted (during closes.time (streams_over lines old.layout.order history stream))) old.layout.outs
 
--- an engine whose stores were purged stands for the same history, and each store has, up to order, exactly the bindings that wait and are alive after the closed part of the history
+-- an engine whose stores were purged stands for the same history, and each store has, up to order, exactly the instances that wait, are alive after the closed part of the history, and began after the least birth of the lines that use its state
 pub record TrimmedStands : Type 0 where
   pub stands : (old new : EngineView) (lines : List BornLine) (history : List Event) → EngineStandsFor old lines history → Trims old new → EngineStandsFor new lines history
   pub exact :
       (old new : EngineView) (lines : List BornLine) (history : List Event) → EngineStandsFor old lines history → Trims old new
-      → (number : ℕ) (prefix : Prefix) (hop : Hop) → IsAt new.network number (After prefix hop)
-      → IsPermutation (bindings_of (stores_in new number)) (alive_over lines old.layout.order (closed_part old.time history) (After prefix hop))
+      → (number : ℕ) (prefix : Prefix) (hop : Hop) → IsAt new.network number (After prefix hop) → (since : Option ℕ) → IsLeastBirth (IsReadAfter lines (After prefix hop)) since
+      → IsPermutation (stores_in new number) (alive_over lines old.layout.order (closed_part old.time history) since (After prefix hop))
 
--- an engine whose stores were purged has as many instances as bindings wait and are alive
+-- an engine whose stores were purged has as many instances as wait, are alive and began after the least births
 abbrev pub TrimmedIsCounted : Type 0
 TrimmedIsCounted =
     (old new : EngineView) (lines : List BornLine) (history : List Event) → EngineStandsFor old lines history → Trims old new

@@ -113,7 +113,7 @@ impl Engine {
     }
 
     /// Takes out each instance that no event after the last closed epoch can match, as far as the bounds on
-    /// DUR tell. Takes no memory.
+    /// DUR tell, and each that began too early for every end that uses its state. Takes no memory.
     pub fn trim(&mut self)
         ensures { Trims self.old self.new }
     {

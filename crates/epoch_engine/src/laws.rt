@@ -23,13 +23,13 @@ pub fn batch_is_streams()
     ensures { BatchIsStreams }
 {}
 
-/// An engine whose stores were purged stands for the same history, and each store has exactly the bindings that
-/// wait and are alive.
+/// An engine whose stores were purged stands for the same history, and each store has exactly the instances that
+/// wait, are alive and began after the least birth of the lines that use its state.
 pub fn trimmed_stands()
     ensures { TrimmedStands }
 {}
 
-/// The instances of an engine whose stores were purged are as many as the bindings that wait and are alive.
+/// The instances of an engine whose stores were purged are as many as wait, are alive and are of use.
 pub fn trimmed_is_counted()
     ensures { TrimmedIsCounted }
 {}

@@ -1,12 +1,13 @@
 -- Lists up to order, and lists within others.
-use Rattle.std.proofs.Common.{◌≡◌, sym, ap, refl, subst, ◌≤◌, length, List, [], ◌∷◌, ◌++◌, map, append_assoc, arith}
+use Rattle.std.proofs.Common.{◌≡◌, sym, ap, refl, subst, ◌≤◌, Bool, not, length, List, [], ◌∷◌, ◌++◌, map, append-nil, append_assoc, arith}
 use Rattle.std.specs.Prelude.{Option, Some, None}
-use Rattle.std.specs.List.{All, filter_map, flat_map, cons_option}
+use Rattle.std.specs.List.{All, filter, filter_map, flat_map, cons_option}
+use Rattle.std.proofs.lemmas.Grind.{flat_map-append}
 use Rattle.std.specs.List.Sorted.{IsPermutation}
-use Rattle.std.proofs.lemmas.List.Elements.{All-head, All-tail}
-use Rattle.std.proofs.lemmas.List.Sorted.{IsPermutation-refl, IsPermutation-trans, IsPermutation-append, IsPermutation-append_left, IsPermutation-append_right, IsPermutation-append_comm, IsPermutation-map}
+use Rattle.std.proofs.lemmas.List.Elements.{All-head, All-tail, filter-append, filter_map-append}
+use Rattle.std.proofs.lemmas.List.Sorted.{IsPermutation-refl, IsPermutation-trans, IsPermutation-append, IsPermutation-append_left, IsPermutation-append_right, IsPermutation-append_comm, IsPermutation-filter_both, IsPermutation-map, IsPermutation-sym}
 use Rattle.std.proofs.lemmas.List.{map-append}
-use Rattle.scalar_expr.proofs.Bags.{permuted_from, permuted_to, flat_map_permuted}
+use Rattle.scalar_expr.proofs.Bags.{permuted_from, permuted_to, filter_permuted, flat_map_permuted}
 use Rattle.epoch_laws.specs.Stores.{IsWithin}
 
 module _ {X : Type 0} where
@@ -37,7 +38,31 @@ module _ {X : Type 0} where
   pub within_permuted : (xs ys zs : List X) → IsPermutation xs ys → IsWithin ys zs → IsWithin xs zs
   within_permuted xs ys zs h g = (g.0, IsPermutation-trans _ _ _ (IsPermutation-append_left g.0 xs ys h) g.1)
 
+  -- what lies within a list lies within its permutation
+  pub within_to : (xs ys zs : List X) → IsWithin xs ys → IsPermutation ys zs → IsWithin xs zs
+  within_to xs ys zs h g = (h.0, IsPermutation-trans _ _ _ h.1 g)
+
+  -- a permutation lies within
+  pub within_whole : (xs ys : List X) → IsPermutation xs ys → IsWithin xs ys
+  within_whole xs ys h = ([], permuted_from (append-nil xs) h)
+
+  -- what a test keeps of a list lies within it
+  pub filter_inside : (test : X → Bool) (xs : List X) → IsWithin (filter test xs) xs
+  filter_inside test xs = (filter (λ x. not (test x)) xs, IsPermutation-sym _ _ (IsPermutation-filter_both test (λ x. not (test x)) (λ _. refl) xs))
+
+  -- and what it keeps of a list within another lies within what it keeps of that
+  pub filter_within : (test : X → Bool) (xs ys : List X) → IsWithin xs ys → IsWithin (filter test xs) (filter test ys)
+  filter_within test xs ys h = (filter test h.0, permuted_from (sym (filter-append test xs h.0)) (filter_permuted test (xs ++ h.0) ys h.1))
+
+  -- two lists within two others
+  pub append_within : (xs ys us vs : List X) → IsWithin xs ys → IsWithin us vs → IsWithin (xs ++ us) (ys ++ vs)
+  append_within xs ys us vs h g = (h.0 ++ g.0, IsPermutation-trans _ _ _ (swap_four xs us h.0 g.0) (IsPermutation-append (xs ++ h.0) ys (us ++ g.0) vs h.1 g.1))
+
 module _ {X Y : Type 0} where
+  -- what items give lies within what those give among which they are
+  pub flat_within : (f : X → List Y) (xs ys : List X) → IsWithin xs ys → IsWithin (flat_map f xs) (flat_map f ys)
+  flat_within f xs ys h = (flat_map f h.0, permuted_from (sym (flat_map-append f xs h.0)) (flat_map_permuted f (xs ++ h.0) ys h.1))
+
   -- the images of what is within a list are within its images
   pub map_within : (f : X → Y) (xs ys : List X) → IsWithin xs ys → IsWithin (map f xs) (map f ys)
   map_within f xs ys h = (map f h.0, permuted_from (sym (map-append f xs h.0)) (IsPermutation-map f (xs ++ h.0) ys h.1))
@@ -74,3 +99,7 @@ module _ {X Y : Type 0} where
   pub filter_map_permuted : (f : X → Option Y) (xs ys : List X) → IsPermutation xs ys → IsPermutation (filter_map f xs) (filter_map f ys)
   filter_map_permuted f xs ys h =
       permuted_from (filter_map_flat f xs) (permuted_to (flat_map_permuted (λ x. cons_option (f x) []) xs ys h) (sym (filter_map_flat f ys)))
+
+  -- and what is kept of a list lies within what is kept of one among whose items it is
+  pub filter_map_within : (f : X → Option Y) (xs ys : List X) → IsWithin xs ys → IsWithin (filter_map f xs) (filter_map f ys)
+  filter_map_within f xs ys h = (filter_map f h.0, permuted_from (sym (filter_map-append f xs h.0)) (filter_map_permuted f (xs ++ h.0) ys h.1))

@@ -7,6 +7,7 @@ use Rattle.std.proofs.lemmas.List.Elements.{All-nil, All-cons}
 use Rattle.std.proofs.lemmas.List.Sorted.{IsPermutation-trans, IsPermutation-append_right}
 use Rattle.event_types.specs.Tuple.{TupleView}
 use Rattle.instances.specs.declared.instance.Instance.{Instance}
+use Rattle.semantics.specs.Births.{streams_after}
 use Rattle.semantics.specs.Denotation.{Streams}
 use Rattle.semantics.specs.Runs.{runs}
 use Rattle.semantics.specs.Scalars.{Pr}
@@ -30,7 +31,7 @@ use Rattle.epoch_laws.specs.Times.{ArePast, IsPast, before, during, streams_befo
 use Rattle.epoch_laws.proofs.Each.{IsEach, Made, each_after, each_alike, each_begins, each_bindings, each_each, each_gives, each_keeps, each_kept, each_parts, each_passes, each_passing, each_same, each_took, each_twice}
 use Rattle.epoch_laws.proofs.Flows.{flow_past, pass_cut, pass_past}
 use Rattle.epoch_laws.proofs.Folds.{sound_past}
-use Rattle.epoch_laws.proofs.InstanceFlows.{each_leaving, instances_flow}
+use Rattle.epoch_laws.proofs.InstanceFlows.{each_leaving, instances_flow, later_flow}
 use Rattle.epoch_laws.proofs.Lists.{flat_map_each, map_all}
 use Rattle.epoch_laws.proofs.Purges.{rest_of}
 use Rattle.epoch_laws.proofs.Waits.{chosen_before, few_of, rows_give, rows_keep}
@@ -194,3 +195,12 @@ module _ (time : ℕ) (env : Streams) (past : ArePast time env) where
   -- what flows in the epoch without the times at which it began
   pub flow_bindings : (p : Prefix) → bindings_of (flow_now now early p) ≡ during time (flow env p)
   flow_bindings p = ap bindings_of (sym (flow_gives p)) ∙ each_bindings (during time) (each_keeps (λ t. t.at == time)) (flow_instances env p) ∙ ap (during time) (instances_flow env p)
+
+  -- and what of it began after a birth is what flows in the epoch over the streams cut there
+  pub cut_bindings : (birth : Option ℕ) (p : Prefix) → bindings_of (began_after birth (flow_now now early p)) ≡ during time (flow (streams_after birth env) p)
+  cut_bindings birth p =
+      ap (λ xs. bindings_of (began_after birth xs)) (sym (flow_gives p))
+      ∙ ap bindings_of (each_after birth (during time) (flow_instances env p))
+      ∙ each_bindings (during time) (each_keeps (λ t. t.at == time)) (began_after birth (flow_instances env p))
+      ∙ ap (λ xs. during time (bindings_of xs)) (later_flow env (λ s. sound_past time (env s) (past s)) birth p)
+      ∙ ap (during time) (instances_flow (streams_after birth env) p)

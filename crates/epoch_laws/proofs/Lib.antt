@@ -3,6 +3,7 @@ pub mod Batches
 pub mod Bindings
 pub mod Births
 pub mod Completed
+pub mod CutStores
 pub mod Cuts
 pub mod Each
 pub mod Events

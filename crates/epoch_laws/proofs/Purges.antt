@@ -190,6 +190,29 @@ module _ (now : ℕ) (p : List Pr) where
         (IsPermutation-sym _ _ (IsPermutation-filter_both lives (λ i. not (lives i)) (λ _. refl) store)),
   )
 
+-- over the same tuples, up to order
+module _ (p : List Pr) (turn : Option Turn) (news new : List TupleView) (h : IsPermutation news new) where
+  -- what a binding gives
+  pub taken_permuted : (b : TupleView) → IsPermutation (taken p turn news b) (taken p turn new b)
+  taken_permuted b = go turn
+    where
+      found : IsPermutation (filter (is_eligible p b) news) (filter (is_eligible p b) new)
+      found = filter_permuted (is_eligible p b) news new h
+
+      go : (turn : Option Turn) → IsPermutation (taken p turn news b) (taken p turn new b)
+      go None = IsPermutation-map (joined b) _ _ found
+      go (Some t) = IsPermutation-map (rebound t.set.parts b) _ _ (filter_permuted (λ r. all_true t.on r (Some b)) _ _ found)
+
+  -- and what the instances of a store give
+  pub took_permuted : (store : List Instance) → IsPermutation (took p turn news store) (took p turn new store)
+  took_permuted store =
+      flat_map_alike (taken_from p turn news) (taken_from p turn new) store
+      (every (λ i. IsPermutation (taken_from p turn news i) (taken_from p turn new i)) (λ i. IsPermutation-map (began i.first) (taken p turn news i.tuple) (taken p turn new i.tuple) (taken_permuted i.tuple)) store)
+
+  -- what is left of a store
+  pub left_alike : (xs : List Instance) → unmatched_after p news xs ≡ unmatched_after p new xs
+  left_alike xs = filter_agree (λ i. is_unmet p news i.tuple) (λ i. is_unmet p new i.tuple) (λ i. empty_permuted _ _ (filter_permuted (is_eligible p i.tuple) news new h)) xs
+
 -- what a store gives
 module _ (now : ℕ) (p : List Pr) (turn : Option Turn) where
   -- instances that aren't alive give nothing
@@ -203,23 +226,11 @@ module _ (now : ℕ) (p : List Pr) (turn : Option Turn) where
       none b e None = ap (map (joined b)) (unmet b e)
       none b e (Some t) = ap (λ rs. map (rebound t.set.parts b) (filter (λ r. all_true t.on r (Some b)) rs)) (unmet b e)
 
-  -- what a binding gives over the same tuples, up to order
-  pub taken_permuted : (news new : List TupleView) → IsPermutation news new → (b : TupleView) → IsPermutation (taken p turn news b) (taken p turn new b)
-  taken_permuted news new h b = go turn
-    where
-      found : IsPermutation (filter (is_eligible p b) news) (filter (is_eligible p b) new)
-      found = filter_permuted (is_eligible p b) news new h
-
-      go : (turn : Option Turn) → IsPermutation (taken p turn news b) (taken p turn new b)
-      go None = IsPermutation-map (joined b) _ _ found
-      go (Some t) = IsPermutation-map (rebound t.set.parts b) _ _ (filter_permuted (λ r. all_true t.on r (Some b)) _ _ found)
-
   -- a store gives what the waiting instances give
   pub store_gives : (new news : List TupleView) (store waits : List Instance) → All (λ r. now ≤ r.at) new → IsPermutation news new → IsStored now p store waits → IsPermutation (took p turn news store) (took p turn new waits)
   store_gives new news store waits late h holds =
       IsPermutation-trans _ _ _
-      (flat_map_alike (taken_from p turn news) (taken_from p turn new) store
-      (every (λ i. IsPermutation (taken_from p turn news i) (taken_from p turn new i)) (λ i. IsPermutation-map (began i.first) (taken p turn news i.tuple) (taken p turn new i.tuple) (taken_permuted news new h i.tuple)) store))
+      (took_permuted p turn news new h store)
       (permuted_from (took_alive new store late)
       (permuted_to (flat_map_permuted (taken_from p turn new) (alive_instances now p store) (alive_instances now p waits) holds.alive_same) (sym (took_alive new waits late))))
 
@@ -229,10 +240,6 @@ module _ (now : ℕ) (p : List Pr) (turn : Option Turn) where
       go : (turn : Option Turn) → IsPermutation (again turn xs) (again turn ys)
       go None = IsPermutation-refl []
       go (Some t) = h
-
-  left_alike : (news new : List TupleView) (xs : List Instance) → IsPermutation news new → unmatched_after p news xs ≡ unmatched_after p new xs
-  left_alike news new xs h =
-      filter_agree (λ i. is_unmet p news i.tuple) (λ i. is_unmet p new i.tuple) (λ i. empty_permuted _ _ (filter_permuted (is_eligible p i.tuple) news new h)) xs
 
   -- what is left of such a store is such a store of what is left
   left_alive : (later : ℕ) → now ≤ later → (new : List TupleView) (store waits : List Instance) → IsStored now p store waits
@@ -261,7 +268,7 @@ module _ (now : ℕ) (p : List Pr) (turn : Option Turn) where
         (permuted_from (filter-append (lives later p) (unmatched_after p news store) (enters ++ again turn (took p turn news store)))
         (permuted_to
         (IsPermutation-append _ _ _ _
-        (permuted_from (ap (alive_instances later p) (left_alike news new store h)) (left_alive later le new store waits holds))
+        (permuted_from (ap (alive_instances later p) (left_alike p turn news new h store)) (left_alive later le new store waits holds))
         (filter_permuted (lives later p) _ _ comes))
         (sym (filter-append (lives later p) (unmatched_after p new waits) (entered ++ again turn (took p turn new waits))))))
         (filter_permuted (lives later p) _ _ (IsPermutation-sym _ _ is));
@@ -272,7 +279,7 @@ module _ (now : ℕ) (p : List Pr) (turn : Option Turn) where
 
       parts : IsPermutation (unmatched_after p new holds.within.0 ++ unmatched_after p news store) (unmatched_after p new waits)
       parts =
-          permuted_from (ap (λ ys. unmatched_after p new holds.within.0 ++ ys) (left_alike news new store h))
+          permuted_from (ap (λ ys. unmatched_after p new holds.within.0 ++ ys) (left_alike p turn news new h store))
           (IsPermutation-trans _ _ _ (IsPermutation-append_comm (unmatched_after p new holds.within.0) (unmatched_after p new store))
           (permuted_from (sym (filter-append (λ i. is_unmet p new i.tuple) store holds.within.0))
           (filter_permuted (λ i. is_unmet p new i.tuple) (store ++ holds.within.0) waits holds.within.1)))

@@ -5,40 +5,36 @@ use Rattle.std.specs.List.{All, filter}
 use Rattle.std.specs.List.Sorted.{IsPermutation}
 use Rattle.std.proofs.lemmas.Bool.Decides.{nat_tests}
 use Rattle.std.proofs.lemmas.List.Elements.{filter-append, filter_passes, All-nil, All-cons, All-head, All-tail, All-append, All-filter, All-weaker}
-use Rattle.std.proofs.lemmas.List.Sorted.{IsPermutation-refl, IsPermutation-trans, IsPermutation-append_left, IsPermutation-map}
+use Rattle.std.proofs.lemmas.List.Sorted.{IsPermutation-refl, IsPermutation-trans, IsPermutation-append_left}
 use Rattle.std.proofs.lemmas.List.{map-append}
 use Rattle.event_types.specs.Order.{sorted}
 use Rattle.event_types.specs.Tuple.{IsSound}
+use Rattle.instances.specs.Births.{began_after}
 use Rattle.instances.specs.Bounds.{alive_instances}
-use Rattle.instances.specs.declared.instance.Instance.{Instance}
 use Rattle.semantics.specs.Denotation.{Streams}
 use Rattle.semantics.specs.Histories.{Event, heard_on, upto}
 use Rattle.semantics.specs.Laws.{NeverFalls}
 use Rattle.semantics.specs.Programs.{Program}
 use Rattle.semantics.specs.Results.{results}
 use Rattle.semantics.proofs.ReportLemmas.{filter_all}
-use Rattle.instances.specs.Alive.{alive}
 use Rattle.scalar_expr.proofs.Bags.{permuted_to}
-use Rattle.automaton.specs.Flow.{flow}
 use Rattle.automaton.specs.Networks.{IsAt}
 use Rattle.automaton.specs.Prefixes.{Prefix, After}
 use Rattle.automaton.specs.States.{Net}
-use Rattle.automaton.specs.Waiting.{waiting}
 use Rattle.automaton.specs.declared.line.Hop.{Hop}
-use Rattle.epoch_laws.specs.BornLines.{BornLine}
+use Rattle.epoch_laws.specs.BornLines.{BornLine, IsReadAfter}
 use Rattle.epoch_laws.specs.Batch.{Agree}
 use Rattle.epoch_laws.specs.Closing.{ArePurged, IsEpoch, Stores, leaving_state, stores_after}
 use Rattle.epoch_laws.specs.Histories.{events_before, events_during, streams_over}
 use Rattle.epoch_laws.specs.InstanceFlow.{waiting_instances}
-use Rattle.epoch_laws.specs.Instances.{bindings_of}
+use Rattle.epoch_laws.specs.StandingLaws.{EpochFlow}
 use Rattle.epoch_laws.specs.Standing.{MayFollow, PartsStandFor, closed_part, last_time, next_time, open_part}
 use Rattle.epoch_laws.specs.StoresStandFor.{Serves, StoresStandFor}
 use Rattle.epoch_laws.specs.Times.{IsPast, during}
 use Rattle.epoch_laws.proofs.Batches.{batch_is_results}
-use Rattle.epoch_laws.proofs.InstanceEpochs.{instances_wait}
+use Rattle.epoch_laws.proofs.CutStores.{cut_holds}
 use Rattle.epoch_laws.proofs.Lists.{filter_false}
-use Rattle.epoch_laws.proofs.Networks.{is_stored}
-use Rattle.epoch_laws.proofs.StoresStandFor.{alive_bindings, net_flows, net_gives, stands_at_start, stands_closed, stands_purged}
+use Rattle.epoch_laws.proofs.StoresStandFor.{net_flows, net_gives, stands_at_start, stands_closed, stands_purged}
 
 -- the last time of a history
 last_of : (history : List Event) (event : Event) → last_time (history ++ event ∷ []) ≡ Some event.tuple.at
@@ -225,12 +221,12 @@ module _ (net : Net) (lines : List BornLine) (order : List ℕ) (stores : Stores
   pub epoch_gives : (s : ℕ) → IsPermutation (news s) (during time (streams_over lines order history s))
   epoch_gives = net_gives net lines order history time (next_time closed_time) stores news serves past_now in_time stands.stores_stand.holds heard_epoch
 
-  -- and what leaves a state in it is what flows out of the state's prefix then
-  pub epoch_flows : (number : ℕ) (p : Prefix) → IsAt net number p → IsPermutation (bindings_of (leaving_state net news stores number)) (during time (flow (streams_over lines order history) p))
+  -- and what leaves a state in it comes of what flows out of the state's prefix then
+  pub epoch_flows : (number : ℕ) (p : Prefix) → IsAt net number p → EpochFlow lines (streams_over lines order history) time p (leaving_state net news stores number)
   epoch_flows = net_flows net lines order history time (next_time closed_time) stores news serves past_now in_time stands.stores_stand.holds heard_epoch
 
   -- after a closing they stand for the same events
-  pub close_stands : (kept : Stores) → ArePurged (time + 1) net (stores_after net news stores) kept
+  pub close_stands : (kept : Stores) → ArePurged (time + 1) lines net (stores_after net news stores) kept
       → ((s : ℕ) → IsPermutation (news s) (during time (streams_over lines order history s))) × PartsStandFor net lines order kept None (λ _. []) (Some time) history
   close_stands kept purged =
       let closed = stands_closed net lines order (next_time closed_time) time stores kept (events_before time history) (events_during time history) news serves stands.stores_stand in_time events_now heard_epoch purged in (
@@ -253,7 +249,7 @@ module _ (net : Net) (lines : List BornLine) (order : List ℕ) (stores : Stores
 
 -- a purge
 pub purge_stands : (net : Net) (lines : List BornLine) (order : List ℕ) (stores kept : Stores) (open_time : Option ℕ) (tuples : Streams) (closed_time : Option ℕ) (history : List Event)
-    → PartsStandFor net lines order stores open_time tuples closed_time history → ArePurged (next_time closed_time) net stores kept → PartsStandFor net lines order kept open_time tuples closed_time history
+    → PartsStandFor net lines order stores open_time tuples closed_time history → ArePurged (next_time closed_time) lines net stores kept → PartsStandFor net lines order kept open_time tuples closed_time history
 purge_stands net lines order stores kept open_time tuples closed_time history stands purged = record {
   sound = stands.sound;
   never_falls = stands.never_falls;
@@ -265,16 +261,8 @@ purge_stands net lines order stores kept open_time tuples closed_time history st
 
 -- what a purge leaves is what is alive
 pub trimmed_is_alive : (net : Net) (lines : List BornLine) (order : List ℕ) (stores : Stores) (open_time : Option ℕ) (tuples : Streams) (closed_time : Option ℕ) (history : List Event)
-    → PartsStandFor net lines order stores open_time tuples closed_time history → (number : ℕ) (p : Prefix) (h : Hop) → IsAt net number (After p h)
-    → IsPermutation (bindings_of (alive_instances (next_time closed_time) h.wait.choose (stores number))) (alive (next_time closed_time) h.wait.choose (waiting (streams_over lines order (closed_part open_time history)) p h))
-trimmed_is_alive net lines order stores open_time tuples closed_time history stands number p h at =
-    permuted_to
-    (IsPermutation-map (λ (i : Instance). i.tuple) (alive_instances time h.wait.choose (stores number)) (alive_instances time h.wait.choose (waiting_instances env p h))
-    (is_stored time h.wait.choose (stores number) (waiting_instances env p h) (stands.stores_stand.holds number p h at)).alive_same)
-    (alive_bindings time h.wait.choose (waiting_instances env p h) ∙ ap (alive time h.wait.choose) (instances_wait env p h))
-  where
-    time : ℕ
-    time = next_time closed_time
-
-    env : Streams
-    env = streams_over lines order (closed_part open_time history)
+    → PartsStandFor net lines order stores open_time tuples closed_time history → (number : ℕ) (p : Prefix) (h : Hop) → IsAt net number (After p h) → (birth : Option ℕ) → IsReadAfter lines (After p h) birth
+    → IsPermutation (alive_instances (next_time closed_time) h.wait.choose (began_after birth (stores number)))
+    (alive_instances (next_time closed_time) h.wait.choose (began_after birth (waiting_instances (streams_over lines order (closed_part open_time history)) p h)))
+trimmed_is_alive net lines order stores open_time tuples closed_time history stands number p h at birth used =
+    (cut_holds birth (next_time closed_time) (IsReadAfter lines (After p h)) h.wait.choose (waiting_instances (streams_over lines order (closed_part open_time history)) p h) (stores number) (stands.stores_stand.holds number p h at) used).alive_same

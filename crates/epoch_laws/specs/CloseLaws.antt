@@ -21,14 +21,14 @@ StandsAtStart = (net : Net) (lines : List BornLine) (order : List ℕ) → Store
 abbrev pub StandsPurged : Type 0
 StandsPurged =
     (net : Net) (lines : List BornLine) (order : List ℕ) (time : ℕ) (stores kept : Stores) (history : List Event)
-    → StoresStandFor net lines order time stores history → ArePurged time net stores kept → StoresStandFor net lines order time kept history
+    → StoresStandFor net lines order time stores history → ArePurged time lines net stores kept → StoresStandFor net lines order time kept history
 
 -- one epoch: its tuples are what the streams have at its time, and the stores after it, purged or not, stand for the longer history
 abbrev pub StandsClosed : Type 0
 StandsClosed =
     (net : Net) (lines : List BornLine) (order : List ℕ) (now time : ℕ) (stores kept : Stores) (past events : List Event) (news : Streams)
     → Serves net lines order → StoresStandFor net lines order now stores past → now ≤ time → All (λ event. IsSound event.tuple × (event.tuple.at ≡ time)) events
-    → IsEpoch net order stores (heard_on events) news → ArePurged (time + 1) net (stores_after net news stores) kept
+    → IsEpoch net order stores (heard_on events) news → ArePurged (time + 1) lines net (stores_after net news stores) kept
     → ((stream : ℕ) → IsPermutation (news stream) (during time (streams_over lines order (past ++ events) stream))) × StoresStandFor net lines order (time + 1) kept (past ++ events)
 
 -- before the first derived stream is made, the tuples of an epoch are those that were heard

@@ -5,14 +5,17 @@ use Rattle.std.specs.List.Sorted.{IsPermutation}
 use Rattle.event_types.specs.Tuple.{TupleView}
 use Rattle.instances.specs.declared.instance.Instance.{Instance}
 use Rattle.semantics.specs.Denotation.{Streams}
-use Rattle.automaton.specs.States.{Net, ends_at, entrance_at, wait_at}
+use Rattle.automaton.specs.Networks.{IsAt}
+use Rattle.automaton.specs.Prefixes.{Prefix, After}
+use Rattle.automaton.specs.States.{Net, ends_at, entrance_at}
+use Rattle.automaton.specs.declared.line.Hop.{Hop}
 use Rattle.automaton.specs.Work.{is_in}
 use Rattle.automaton.specs.declared.network.End.{End}
 use Rattle.automaton.specs.declared.network.Entrance.{Entrance}
 use Rattle.automaton.specs.declared.network.Entrance.TheVariants.{Root, Waiting}
-use Rattle.automaton.specs.declared.wait.Wait.{Wait}
 use Rattle.epoch_laws.specs.Epochs.{stepped, took}
 use Rattle.epoch_laws.specs.Births.{passing_after}
+use Rattle.epoch_laws.specs.BornLines.{BornLine, IsReadAfter}
 use Rattle.epoch_laws.specs.Instances.{begins, instances_entering}
 use Rattle.epoch_laws.specs.Stores.{Purged}
 
@@ -57,6 +60,7 @@ pub record IsEpoch (net : Net) (order : List ℕ) (stores : Stores) (heard news 
   pub declared : (stream : ℕ) → is_in order stream ≡ false → IsPermutation (news stream) (heard stream)
   pub derived : All (λ stream. IsPermutation (news stream) (given_by_ends net news stores stream)) order
 
--- each store was purged for a time, in whole, in part or not at all
-abbrev pub ArePurged : ℕ → Net → Stores → Stores → Type 0
-ArePurged time net stores kept = (number : ℕ) (wait : Wait) → wait_at net number ≡ Some wait → Purged time wait.choose (stores number) (kept number)
+-- each store was purged for a time and for the births of the lines that use its state, in whole, in part or not at all
+abbrev pub ArePurged : ℕ → List BornLine → Net → Stores → Stores → Type 0
+ArePurged time lines net stores kept =
+    (number : ℕ) (prefix : Prefix) (hop : Hop) → IsAt net number (After prefix hop) → Purged time (IsReadAfter lines (After prefix hop)) hop.wait.choose (stores number) (kept number)

@@ -3,24 +3,27 @@ use Rattle.std.specs.Prelude.{◌≡◌, ℕ, ◌+◌, List, [], ◌∷◌, ◌+
 use Rattle.std.specs.List.Sorted.{IsPermutation}
 use Rattle.event_types.specs.Order.{sorted}
 use Rattle.event_types.specs.Tuple.{IsSound}
+use Rattle.instances.specs.Births.{began_after}
 use Rattle.instances.specs.Bounds.{alive_instances}
+use Rattle.instances.specs.declared.instance.Instance.{Instance}
+use Rattle.semantics.specs.Births.{streams_after}
 use Rattle.semantics.specs.Denotation.{Streams}
 use Rattle.semantics.specs.Histories.{Event, heard_on, upto}
 use Rattle.semantics.specs.Programs.{Program}
 use Rattle.semantics.specs.Results.{results}
-use Rattle.instances.specs.Alive.{alive}
 use Rattle.automaton.specs.Flow.{flow}
 use Rattle.automaton.specs.Networks.{IsAt}
 use Rattle.automaton.specs.Prefixes.{Prefix, After}
 use Rattle.automaton.specs.States.{Net}
-use Rattle.automaton.specs.Waiting.{waiting}
 use Rattle.automaton.specs.declared.line.Hop.{Hop}
-use Rattle.epoch_laws.specs.BornLines.{BornLine}
+use Rattle.epoch_laws.specs.BornLines.{BornLine, IsReadAfter}
 use Rattle.epoch_laws.specs.Batch.{Agree}
 use Rattle.epoch_laws.specs.Closing.{ArePurged, IsEpoch, Stores, leaving_state, stores_after}
 use Rattle.epoch_laws.specs.Histories.{streams_over}
+use Rattle.epoch_laws.specs.InstanceFlow.{waiting_instances}
 use Rattle.epoch_laws.specs.Instances.{bindings_of}
 use Rattle.epoch_laws.specs.Standing.{MayFollow, PartsStandFor, closed_part, next_time}
+use Rattle.epoch_laws.specs.Stores.{IsWithin}
 use Rattle.epoch_laws.specs.StoresStandFor.{Serves}
 use Rattle.epoch_laws.specs.Times.{during}
 
@@ -41,7 +44,7 @@ abbrev pub CloseStands : Type 0
 CloseStands =
     (net : Net) (lines : List BornLine) (order : List ℕ) (stores kept : Stores) (time : ℕ) (tuples news : Streams) (closed_time : Option ℕ) (history : List Event)
     → Serves net lines order → PartsStandFor net lines order stores (Some time) tuples closed_time history
-    → IsEpoch net order stores tuples news → ArePurged (time + 1) net (stores_after net news stores) kept
+    → IsEpoch net order stores tuples news → ArePurged (time + 1) lines net (stores_after net news stores) kept
     → ((stream : ℕ) → IsPermutation (news stream) (during time (streams_over lines order history stream))) × PartsStandFor net lines order kept None (λ _. []) (Some time) history
 
 -- an epoch that is open is that of the last time of its history, so it has no later events
@@ -50,13 +53,18 @@ OpenIsLast =
     (net : Net) (lines : List BornLine) (order : List ℕ) (stores : Stores) (time : ℕ) (tuples : Streams) (closed_time : Option ℕ) (history : List Event)
     → PartsStandFor net lines order stores (Some time) tuples closed_time history → upto time history ≡ history
 
--- what leaves a state in the epoch is what flows out of the state's prefix at the open time
+-- what leaves a state in the epoch is within what flows out of the state's prefix at the open time; what of it began after the birth of a line that uses the state is what flows over the streams cut at that birth
+pub record EpochFlow (lines : List BornLine) (streams : Streams) (time : ℕ) (prefix : Prefix) (leaving : List Instance) : Type 0 where
+  pub within : IsWithin (bindings_of leaving) (during time (flow streams prefix))
+  pub later : (birth : Option ℕ) → IsReadAfter lines prefix birth → IsPermutation (bindings_of (began_after birth leaving)) (during time (flow (streams_after birth streams) prefix))
+
+-- so it is at each state
 abbrev pub EpochFlows : Type 0
 EpochFlows =
     (net : Net) (lines : List BornLine) (order : List ℕ) (stores : Stores) (time : ℕ) (tuples news : Streams) (closed_time : Option ℕ) (history : List Event)
     → Serves net lines order → PartsStandFor net lines order stores (Some time) tuples closed_time history → IsEpoch net order stores tuples news
     → (number : ℕ) (prefix : Prefix) → IsAt net number prefix
-    → IsPermutation (bindings_of (leaving_state net news stores number)) (during time (flow (streams_over lines order history) prefix))
+    → EpochFlow lines (streams_over lines order history) time prefix (leaving_state net news stores number)
 
 -- these tuples, put in order, are the results of each query whose stream the lines agree on
 abbrev pub ClosingIsResults : Type 0
@@ -70,14 +78,14 @@ ClosingIsResults =
 abbrev pub PurgeStands : Type 0
 PurgeStands =
     (net : Net) (lines : List BornLine) (order : List ℕ) (stores kept : Stores) (open_time : Option ℕ) (tuples : Streams) (closed_time : Option ℕ) (history : List Event)
-    → PartsStandFor net lines order stores open_time tuples closed_time history → ArePurged (next_time closed_time) net stores kept
+    → PartsStandFor net lines order stores open_time tuples closed_time history → ArePurged (next_time closed_time) lines net stores kept
     → PartsStandFor net lines order kept open_time tuples closed_time history
 
--- purged whole, each store has exactly the waiting bindings that are alive
+-- purged whole, also for the birth of a line that uses the state, each store has exactly the waiting instances that are alive and began after the birth
 abbrev pub TrimmedIsAlive : Type 0
 TrimmedIsAlive =
     (net : Net) (lines : List BornLine) (order : List ℕ) (stores : Stores) (open_time : Option ℕ) (tuples : Streams) (closed_time : Option ℕ) (history : List Event)
     → PartsStandFor net lines order stores open_time tuples closed_time history
-    → (number : ℕ) (prefix : Prefix) (hop : Hop) → IsAt net number (After prefix hop)
-    → IsPermutation (bindings_of (alive_instances (next_time closed_time) hop.wait.choose (stores number)))
-    (alive (next_time closed_time) hop.wait.choose (waiting (streams_over lines order (closed_part open_time history)) prefix hop))
+    → (number : ℕ) (prefix : Prefix) (hop : Hop) → IsAt net number (After prefix hop) → (birth : Option ℕ) → IsReadAfter lines (After prefix hop) birth
+    → IsPermutation (alive_instances (next_time closed_time) hop.wait.choose (began_after birth (stores number)))
+    (alive_instances (next_time closed_time) hop.wait.choose (began_after birth (waiting_instances (streams_over lines order (closed_part open_time history)) prefix hop)))

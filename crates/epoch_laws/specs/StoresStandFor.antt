@@ -8,7 +8,7 @@ use Rattle.automaton.specs.Prefixes.{Prefix, After}
 use Rattle.automaton.specs.States.{Net}
 use Rattle.automaton.specs.Work.{IsInOrder}
 use Rattle.automaton.specs.declared.line.Hop.{Hop}
-use Rattle.epoch_laws.specs.BornLines.{BornLine, HasBornLines, lines_in}
+use Rattle.epoch_laws.specs.BornLines.{BornLine, HasBornLines, IsReadAfter, lines_in}
 use Rattle.epoch_laws.specs.Closing.{Stores}
 use Rattle.epoch_laws.specs.Histories.{streams_over}
 use Rattle.epoch_laws.specs.InstanceFlow.{waiting_instances}
@@ -19,7 +19,9 @@ pub record Serves (net : Net) (lines : List BornLine) (order : List ℕ) : Type 
   pub has_lines : HasBornLines net lines
   pub in_order : IsInOrder (lines_in lines) order
 
--- all events of a history are detected before a time; at each waiting state the store has the instances that wait, purged for that time in whole, in part or not at all
+-- all events of a history are detected before a time; at each waiting state the store has the instances that wait, purged for that time and for the births of the lines that use the state, in whole, in part or not at all
 pub record StoresStandFor (net : Net) (lines : List BornLine) (order : List ℕ) (time : ℕ) (stores : Stores) (history : List Event) : Type 0 where
   pub before : All (λ event. IsSound event.tuple × (event.tuple.at < time)) history
-  pub holds : (number : ℕ) (prefix : Prefix) (hop : Hop) → IsAt net number (After prefix hop) → Purged time hop.wait.choose (waiting_instances (streams_over lines order history) prefix hop) (stores number)
+  pub holds :
+      (number : ℕ) (prefix : Prefix) (hop : Hop) → IsAt net number (After prefix hop)
+      → Purged time (IsReadAfter lines (After prefix hop)) hop.wait.choose (waiting_instances (streams_over lines order history) prefix hop) (stores number)

@@ -29,7 +29,7 @@ an_end [] has = let no : false ≡ true = has in cc
 an_end (end ∷ ends) has = (end, first_in end ends)
 
 -- an end's place is used
-end_used : (net : Net) (number : ℕ) (end : End) → Contains (ends_at net number) end → is_used net number ≡ true
+pub end_used : (net : Net) (number : ℕ) (end : End) → Contains (ends_at net number) end → is_used net number ≡ true
 end_used net number end has = by_use (is_used net number) refl
   where
     by_use : (b : Bool) → is_used net number ≡ b → b ≡ true
@@ -40,7 +40,8 @@ module _ (net : Net) (endings : List Ending) (merged : IsMerged net) (had : HasE
   abbrev lines : List Line
   lines = map (λ ending. ending.line) endings
 
-  its_ending : (number : ℕ) (end : End) → Contains (ends_at net number) end → Contains endings (ending_at (had.places number) end)
+  -- each end's line is among them
+  pub its_ending : (number : ℕ) (end : End) → Contains (ends_at net number) end → Contains endings (ending_at (had.places number) end)
   its_ending number end has =
       let used = end_used net number end has in
       let lt = used_below net number used in
