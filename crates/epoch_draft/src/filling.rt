@@ -28,7 +28,7 @@ pub fn empty_lists<T: Drop>(alloc: Global, count: usize) -> Result<List<List<T>>
 }
 
 /// Drops the items of the lists at these places, and keeps their room. Takes no memory.
-pub fn clear_lists<T: Drop>(lists: &mut List<List<T>>, numbers: &[usize])
+pub(crate) fn clear_lists<T: Drop>(lists: &mut List<List<T>>, numbers: &[usize])
     requires numbers { All (λ number. number < length lists.old) numbers.now }
     requires others { (place : ℕ) → (slice_index_or lists.old place [] ≡ []) ⊎ Contains numbers.now place }
     ensures as_many { length lists.new ≡ length lists.old }

@@ -38,7 +38,7 @@ mod watching;
 pub use agenda::places_of;
 pub use draft::{Draft, Lists, Pair, Pairs};
 pub use drawing::Drawing;
-pub use filling::{clear_lists, empty_lists, filled};
+pub use filling::{empty_lists, filled};
 pub use making::draw;
 pub use marks::Marks;
 pub use purging::purge_all;
