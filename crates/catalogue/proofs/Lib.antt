@@ -1,5 +1,6 @@
 pub mod ArrangeLemmas
 pub mod ChainedLemmas
+pub mod ChangeLemmas
 pub mod CountLemmas
 pub mod DeclareLemmas
 pub mod FewLemmas

@@ -42,7 +42,7 @@ stands_behind (next {streams = streams} {s = s} schema x there typed rest) =
     }
 
 -- an expression that is typed over the first streams is so over others of the same kinds
-gives_alike : (count : ℕ) (kinds others : ℕ → List Kind) → ((stream : ℕ) → stream < count → kinds stream ≡ others stream) → (e : Ex) (out : List Kind) → IsTypedOver e count kinds out → IsTypedOver e count others out
+pub gives_alike : (count : ℕ) (kinds others : ℕ → List Kind) → ((stream : ℕ) → stream < count → kinds stream ≡ others stream) → (e : Ex) (out : List Kind) → IsTypedOver e count kinds out → IsTypedOver e count others out
 gives_alike count kinds others alike (Read stream) out gives = (gives.0, sym (alike stream gives.0) ∙ gives.1)
 gives_alike count kinds others alike (Filter p e) out gives = (gives_alike count kinds others alike e out gives.0, gives.1)
 gives_alike count kinds others alike (Select m e) out gives = (gives.0, gives_alike count kinds others alike e gives.0 gives.1, gives.2)

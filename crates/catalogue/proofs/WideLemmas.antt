@@ -39,7 +39,7 @@ query_wide streams (tree.Query items e name) schema x q = gives_wide q
 
 -- over streams of the same kinds where it reads
 module _ (kinds others : ℕ → List Kind) where
-  abbrev IsAlike : ℕ → Type 0
+  abbrev pub IsAlike : ℕ → Type 0
   IsAlike stream = kinds stream ≡ others stream
 
   width_alike : (e : Ex) → ReadsOnly IsAlike e → width_of kinds e ≡ width_of others e
@@ -50,7 +50,7 @@ module _ (kinds others : ℕ → List Kind) where
   width_alike (Next p e f) alike = λ i. width_alike e alike.0 i + width_alike f alike.1 i
   width_alike (Fold p q m e f) alike = width_alike e alike.0
 
-  wide_alike : (e : Ex) → ReadsOnly IsAlike e → HasWidths kinds e → HasWidths others e
+  pub wide_alike : (e : Ex) → ReadsOnly IsAlike e → HasWidths kinds e → HasWidths others e
   wide_alike (Read stream) alike wide = tt
   wide_alike (Filter p e) alike wide = wide_alike e alike wide
   wide_alike (Select m e) alike wide = (wide_alike e alike wide.0, sym (width_alike e alike) ∙ wide.1)

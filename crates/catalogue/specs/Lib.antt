@@ -15,3 +15,4 @@ pub mod Loading
 pub mod Laws
 pub mod Verdicts
 pub mod Programs
+pub mod Changes

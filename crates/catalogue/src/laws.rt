@@ -1,4 +1,5 @@
 //! Laws of the passes. The functions do nothing: their contracts say what follows from the definitions.
+ghost use Rattle.catalogue.specs.Changes.{ProgramsKeepKinds, ProgramsLoseQueries, ProgramsTakeQueries};
 ghost use Rattle.catalogue.specs.Laws.{FileOrFault, OneCycleOfNames, OneFile, OneFileFault, OneNameFault, OrderOrCycle, SoundOrFault};
 ghost use Rattle.catalogue.specs.Programs.{AcceptedArePrograms, AcceptedAreWidePrograms, AllAreWorkedOn, DeclaredAreTold, DeclaredComeFirst, NumbersAreQueries, QueriesHaveTheirNames, StreamsHaveTheirNames, WorkIsInOrder};
 ghost use Rattle.catalogue.specs.Verdicts.{DeclaredOrFault, OneDeclaration, OneDeclareFault, OnePublication, OnePublishFault, OneVerdict, PublishedOrFault, SomeVerdict};
@@ -70,4 +71,12 @@ pub fn names_are_those_of_statements()
 pub fn declared_streams_come_first()
     ensures first { DeclaredComeFirst }
     ensures told { DeclaredAreTold }
+{}
+
+/// A program to which a query comes is one, and so is one from which a query leaves whose stream none
+/// reads. Streams behind those of a program may have any kinds.
+pub fn queries_come_and_leave()
+    ensures come { ProgramsTakeQueries }
+    ensures leave { ProgramsLoseQueries }
+    ensures kinds { ProgramsKeepKinds }
 {}
