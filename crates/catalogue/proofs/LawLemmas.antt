@@ -65,12 +65,13 @@ pub one_file : OneFile
 one_file text ss others lines other_lines h k = let same = one-reading text ss others lines other_lines h.reads k.reads in record { statements_are = same.statements; lines_are = same.lines }
 
 -- a fault of tokens is one fault of the text
-tokens_same : {f : LexFault} {line other_line : ℕ} {why other : QueryFault} → IsOfTokens f line why → IsOfTokens f other_line other → SameFault line other_line why other
+pub tokens_same : {f : LexFault} {line other_line : ℕ} {why other : QueryFault} → IsOfTokens f line why → IsOfTokens f other_line other → SameFault line other_line why other
 tokens_same not_utf8 not_utf8 = record { lines = refl; faults = refl }
 tokens_same bad_token bad_token = record { lines = refl; faults = refl }
 tokens_same number number = record { lines = refl; faults = refl }
 
-syntax_same : {f : SyntaxFault} {line other_line : ℕ} {why other : QueryFault} → IsOfSyntax f line why → IsOfSyntax f other_line other → SameFault line other_line why other
+-- a fault of statements is one fault of the text
+pub syntax_same : {f : SyntaxFault} {line other_line : ℕ} {why other : QueryFault} → IsOfSyntax f line why → IsOfSyntax f other_line other → SameFault line other_line why other
 syntax_same many many = record { lines = refl; faults = refl }
 syntax_same deep deep = record { lines = refl; faults = refl }
 syntax_same bad bad = record { lines = refl; faults = refl }

@@ -1,3 +1,4 @@
+pub mod AddingLemmas
 pub mod ArrangeLemmas
 pub mod ChainedLemmas
 pub mod ChangeLemmas

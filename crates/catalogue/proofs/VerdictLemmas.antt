@@ -21,7 +21,8 @@ use Rattle.catalogue.specs.Verdicts.{OneVerdict}
 use Rattle.catalogue.proofs.LawLemmas.{file_or_fault, one_cycle_of_names, one_file, one_file_fault, one_name_fault, order_or_cycle, sound_or_fault}
 use Rattle.catalogue.proofs.TypingLaws.{declared_or_fault, one_declaration, one_declare_fault, one_publication, one_publish_fault, published_or_fault}
 
-types_same : {f : TypeFault} {why other : QueryFault} → IsOfTypes f why → IsOfTypes f other → why ≡ other
+-- a fault of types is one fault of the text
+pub types_same : {f : TypeFault} {why other : QueryFault} → IsOfTypes f why → IsOfTypes f other → why ≡ other
 types_same unknown unknown = refl
 types_same kinds kinds = refl
 types_same absent absent = refl

@@ -16,3 +16,4 @@ pub mod Laws
 pub mod Verdicts
 pub mod Programs
 pub mod Changes
+pub mod Adding

@@ -1,4 +1,5 @@
 //! Laws of the passes. The functions do nothing: their contracts say what follows from the definitions.
+ghost use Rattle.catalogue.specs.Adding.{OneAddedVerdict, SomeAddedVerdict};
 ghost use Rattle.catalogue.specs.Changes.{ProgramsKeepKinds, ProgramsLoseQueries, ProgramsTakeQueries};
 ghost use Rattle.catalogue.specs.Laws.{FileOrFault, OneCycleOfNames, OneFile, OneFileFault, OneNameFault, OrderOrCycle, SoundOrFault};
 ghost use Rattle.catalogue.specs.Programs.{AcceptedArePrograms, AcceptedAreWidePrograms, AllAreWorkedOn, DeclaredAreTold, DeclaredComeFirst, NumbersAreQueries, QueriesHaveTheirNames, StreamsHaveTheirNames, WorkIsInOrder};
@@ -79,4 +80,11 @@ pub fn queries_come_and_leave()
     ensures come { ProgramsTakeQueries }
     ensures leave { ProgramsLoseQueries }
     ensures kinds { ProgramsKeepKinds }
+{}
+
+/// The text of a query that is to be added is accepted as one query, typed over the streams that are there, or refused
+/// with one fault on one line.
+pub fn added_text_has_one_verdict()
+    ensures one { OneAddedVerdict }
+    ensures some { SomeAddedVerdict }
 {}

@@ -21,7 +21,7 @@ not-missing : {b : Bool} → b ≡ true → b ≡ false → ⊥
 not-missing there missing = absurd cc
 
 -- a sentence has at most one fault
-one-fault : {number : ℕ} {sentence : Sentence} {e other : SyntaxFault} → IsFaulty number sentence e → IsFaulty number sentence other → e ≡ other
+pub one-fault : {number : ℕ} {sentence : Sentence} {e other : SyntaxFault} → IsFaulty number sentence e → IsFaulty number sentence other → e ≡ other
 one-fault (many _ _) (many _ _) = refl
 one-fault (many _ long) (deep _ few _) = absurd (omega arith)
 one-fault (many _ long) (bad _ small _) = absurd (omega (arith, small.few))
@@ -40,7 +40,7 @@ one-fault (unended _) (bad _ _ _) = refl
 one-fault (unended _) (unended _) = refl
 
 -- a sentence that is a statement has no fault
-no-fault : {number : ℕ} {sentence : Sentence} {s : Statement} {e : SyntaxFault} → IsSentenceOf sentence s → IsFaulty number sentence e → ⊥
+pub no-fault : {number : ℕ} {sentence : Sentence} {s : Statement} {e : SyntaxFault} → IsSentenceOf sentence s → IsFaulty number sentence e → ⊥
 no-fault says (many _ long) = absurd (omega (arith, says.small.few))
 no-fault says (deep _ _ steep) = not-missing steep says.small.shallow
 no-fault says (bad _ _ not) = not _ says.read
@@ -106,7 +106,7 @@ ended-told number sentence ended = elim (cases_lt 1024 (length sentence.symbols)
 ]
 
 -- a sentence is a statement, or has a fault
-sentence-told : (number : ℕ) (sentence : Sentence) → ((s : Statement) × IsSentenceOf sentence s) ⊎ ((e : SyntaxFault) × IsFaulty number sentence e)
+pub sentence-told : (number : ℕ) (sentence : Sentence) → ((s : Statement) × IsSentenceOf sentence s) ⊎ ((e : SyntaxFault) × IsFaulty number sentence e)
 sentence-told number sentence = elim (cases_Bool sentence.ended) [
   | inl there ↦ ended-told number sentence there
   | inr missing ↦ inr (_, unended missing)
