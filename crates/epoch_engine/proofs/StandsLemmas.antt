@@ -1,9 +1,11 @@
 -- Engines stand for histories.
 use Rattle.std.proofs.Common.{◌≡◌, ◌∙◌, sym, ap, refl, subst, ℕ, ◌+◌, ◌==◌, ◌<◌, ◌≤◌, Bool, true, false, cond, length, get_or, set, List, [], ◌∷◌, ◌++◌, map, append-nil, arith}
 use Rattle.std.specs.Prelude.{Option, Some, None}
+use Rattle.std.specs.List.{All}
 use Rattle.std.specs.List.Sorted.{IsPermutation}
 use Rattle.std.proofs.lemmas.Grind.{get_or-set_at}
 use Rattle.std.proofs.lemmas.List.{get_or-set_other, length-set}
+use Rattle.std.proofs.lemmas.List.Elements.{All-weaker}
 use Rattle.std.proofs.lemmas.Option.{slice_get_within}
 use Rattle.event_types.specs.Order.{sorted, tuple_cmp}
 use Rattle.event_types.specs.OrderLaws.{tuple_exact, tuple_total}
@@ -13,15 +15,16 @@ use Rattle.semantics.specs.Denotation.{Streams, streams_of}
 use Rattle.semantics.specs.Histories.{Event, heard_on}
 use Rattle.automaton.specs.States.{Net, wait_at}
 use Rattle.automaton.specs.declared.layout.Layout.{Layout}
+use Rattle.epoch_laws.specs.Births.{IsNoLater}
 use Rattle.epoch_laws.specs.BornLines.{BornLine}
 use Rattle.epoch_laws.specs.Closing.{ArePurged, Stores, stores_after}
 use Rattle.epoch_laws.specs.Histories.{streams_over}
 use Rattle.epoch_laws.specs.Standing as standing
-use Rattle.epoch_laws.specs.Standing.{MayFollow}
+use Rattle.epoch_laws.specs.Standing.{MayFollow, next_time}
 use Rattle.epoch_laws.specs.StoresStandFor.{Serves}
 use Rattle.epoch_laws.specs.Times.{during}
 use Rattle.epoch_laws.proofs.Bags.{permuted_is}
-use Rattle.epoch_laws.proofs.Standing.{close_stands, offer_stands, start_stands}
+use Rattle.epoch_laws.proofs.Standing.{close_stands, in_time, offer_stands, start_stands}
 use Rattle.prefix_merge.specs.Merging.{IsMerged}
 use Rattle.event_types.proofs.NumberLemmas.{same_number, other_number}
 use Rattle.epoch_engine.specs.Closes.{Closes, KeepsPlan}
@@ -35,13 +38,20 @@ use Rattle.epoch_engine.proofs.PurgeLemmas.{are_purged}
 abbrev Standing : Net → List BornLine → List ℕ → Stores → Option ℕ → Streams → Option ℕ → List Event → Type 0
 Standing net lines order stores time opened closed_time history = standing.PartsStandFor net lines order stores time opened closed_time history
 
+-- what was born by the last closed time was born by a later one
+still_earlier : (birth closed_time : Option ℕ) (time : ℕ) → next_time closed_time ≤ time → IsNoLater birth closed_time → IsNoLater birth (Some time)
+still_earlier None closed_time time le h = tt
+still_earlier (Some b) None time le h = absurd h
+still_earlier (Some b) (Some c) time le h = omega (arith, le, h)
+
 -- a new engine
-pub new_stands : (net : Net) (layout : Layout) (lines : List BornLine) (engine : EngineView) → Serves net lines layout.order → IsNew net layout engine → EngineStandsFor engine lines []
-new_stands net layout lines engine serves new =
+pub new_stands : (net : Net) (layout : Layout) (lines : List BornLine) (engine : EngineView) → Serves net lines layout.order → All (λ (b : BornLine). b.birth ≡ None) lines → IsNew net layout engine → EngineStandsFor engine lines []
+new_stands net layout lines engine serves unborn new =
     let order : engine.layout.order ≡ layout.order = ap (λ (l : Layout). l.order) new.same_layout in
     let stores : (λ _. []) ≡ stores_in engine = λ i n. sym (new.stores n) i in
     let opened : (λ _. []) ≡ streams_of engine.opened = λ i s. sym (new.opened s) i in record {
       merged = subst IsMerged (sym new.network) new.merged;
+      births = All-weaker (λ (b : BornLine). b.birth ≡ None) (λ (b : BornLine). IsNoLater b.birth engine.closed_time) (λ b none. subst (λ (o : Option ℕ). IsNoLater o engine.closed_time) (sym none) tt) lines unborn;
       none_elsewhere = λ number none. new.stores number;
       serves = subst (λ (n : Net). Serves n lines engine.layout.order) (sym new.network) (subst (Serves net lines) (sym order) serves);
       as_many = new.as_many ∙ ap (λ (l : Layout). length l.kinds) (sym new.same_layout);
@@ -69,6 +79,7 @@ pub offered_stands : (engine : EngineView) (lines : List BornLine) (history : Li
     → ((seen : ℕ) → IsLate engine.time engine.closed_time tuple.at seen → ⊥) → EngineStandsFor (with_tuple engine stream tuple) lines (history ++ record { stream = stream; tuple = tuple } ∷ [])
 offered_stands engine lines history stream tuple stands heard sound ahead late = record {
   merged = stands.merged;
+  births = stands.births;
   none_elsewhere = stands.none_elsewhere;
   serves = stands.serves;
   as_many = length-set engine.opened stream more ∙ stands.as_many;
@@ -113,6 +124,10 @@ module _ (old new : EngineView) (lines : List BornLine) (history : List Event) (
   none_there : (number : ℕ) → wait_at old.network number ≡ None → stores_in new number ≡ []
   none_there number none = closes.taken.others number none ∙ stands.none_elsewhere number none
 
+  -- its time is later than the last closed one
+  later : next_time old.closed_time ≤ closes.time
+  later = in_time old.network lines old.layout.order (stores_in old) closes.time (streams_of old.opened) closes.taken.news old.closed_time history stands.serves open_stands closes.taken.epoch
+
   -- an engine that closed its epoch
   pub closed_stands : KeepsPlan old new → EngineStandsFor new lines history
   closed_stands plan =
@@ -121,6 +136,7 @@ module _ (old new : EngineView) (lines : List BornLine) (history : List Event) (
       let after =
       (close_stands old.network lines old.layout.order (stores_in old) closes.time (streams_of old.opened) closes.taken.news old.closed_time history stands.serves open_stands closes.taken.epoch (stores_in new) purged).1 in record {
         merged = subst IsMerged (sym plan.network) stands.merged;
+        births = All-weaker (λ (b : BornLine). IsNoLater b.birth old.closed_time) (λ (b : BornLine). IsNoLater b.birth new.closed_time) (λ b le. subst (IsNoLater b.birth) (sym closes.now_closed) (still_earlier b.birth old.closed_time closes.time later le)) lines stands.births;
         none_elsewhere = λ number none. none_there number (ap (λ (n : Net). wait_at n number) (sym plan.network) ∙ none);
         serves = subst (λ (n : Net). Serves n lines new.layout.order) (sym plan.network) (subst (Serves old.network lines) order stands.serves);
         as_many = closes.as_many ∙ stands.as_many ∙ ap (λ (l : Layout). length l.kinds) (sym plan.layout);

@@ -23,7 +23,7 @@ use Rattle.automaton.specs.declared.line.Hop.{Hop}
 use Rattle.automaton.specs.declared.network.Entrance.{Entrance}
 use Rattle.automaton.specs.declared.network.Entrance.TheVariants as entrance
 use Rattle.automaton.specs.declared.network.State.{State}
-use Rattle.epoch_laws.specs.Births.{IsLeastBirth}
+use Rattle.epoch_laws.specs.Births.{IsLeastBirth, IsNoLater}
 use Rattle.epoch_laws.specs.BornLines.{BornLine, IsReadAfter, lines_in}
 use Rattle.epoch_laws.specs.Closing.{ArePurged, Stores}
 use Rattle.epoch_laws.specs.Histories.{streams_over}
@@ -127,6 +127,7 @@ module _ (old new : EngineView) (lines : List BornLine) (history : List Event) (
         merged = subst IsMerged (sym trims.plan.network) stands.merged;
         serves = subst (λ (n : Net). Serves n lines new.layout.order) (sym trims.plan.network) (subst (Serves old.network lines) same stands.serves);
         as_many = ap length trims.opened ∙ stands.as_many ∙ ap (λ (l : Layout). length l.kinds) (sym trims.plan.layout);
+        births = subst (λ (t : Option ℕ). All (λ (b : BornLine). IsNoLater b.birth t) lines) (sym trims.times.closed_time) stands.births;
         none_elsewhere = λ n none. let there = ap (λ (net : Net). wait_at net n) (sym trims.plan.network) ∙ none in trims.others n there ∙ stands.none_elsewhere n there;
         stands =
             subst (λ (n : Net). standing.PartsStandFor n lines new.layout.order (stores_in new) new.time (streams_of new.opened) new.closed_time history) (sym trims.plan.network)

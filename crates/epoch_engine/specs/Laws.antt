@@ -1,31 +1,34 @@
 -- Laws of engines over the histories for which they stand.
-use Rattle.std.specs.Prelude.{◌≡◌, ℕ, ◌-◌, ◌^◌, List, [], ◌∷◌, ◌++◌, Option, map, min}
+use Rattle.std.specs.Prelude.{◌≡◌, ℕ, All, None, ◌-◌, ◌^◌, List, [], ◌∷◌, ◌++◌, Option, length, map, min}
 use Rattle.std.specs.List.Sorted.{IsPermutation}
 use Rattle.event_types.specs.Order.{sorted}
 use Rattle.event_types.specs.Tuple.{TupleView, IsSound}
+use Rattle.instances.specs.Alive.{alive}
 use Rattle.semantics.specs.Histories.{Event}
 use Rattle.automaton.specs.Networks.{IsAt}
 use Rattle.automaton.specs.Prefixes.{Prefix, After}
 use Rattle.automaton.specs.States.{Net}
+use Rattle.automaton.specs.Waiting.{waiting}
 use Rattle.automaton.specs.declared.layout.Layout.{Layout}
 use Rattle.automaton.specs.declared.line.Hop.{Hop}
+use Rattle.automaton.specs.declared.line.Line.{Line}
 use Rattle.epoch_laws.specs.Births.{IsLeastBirth}
-use Rattle.epoch_laws.specs.BornLines.{BornLine, IsReadAfter}
+use Rattle.epoch_laws.specs.BornLines.{BornLine, IsReadAfter, unborn}
 use Rattle.epoch_laws.specs.Histories.{streams_over}
-use Rattle.epoch_laws.specs.Standing.{closed_part}
+use Rattle.epoch_laws.specs.Standing.{closed_part, last_time, next_time}
 use Rattle.epoch_laws.specs.StoresStandFor.{Serves}
 use Rattle.epoch_laws.specs.Times.{during}
 use Rattle.epoch_engine.specs.Closes.{Closes, KeepsPlan}
-use Rattle.epoch_engine.specs.Counts.{CountsAlive, alive_over, stored_in}
+use Rattle.epoch_engine.specs.Counts.{CountsAlive, CountsAliveAt, alive_over, stored_in}
 use Rattle.epoch_engine.specs.Offers.{IsHeard, IsLate, IsNotAhead, with_tuple}
 use Rattle.epoch_engine.specs.EngineStandsFor.{EngineStandsFor}
 use Rattle.epoch_engine.specs.Starts.{IsNew}
 use Rattle.epoch_engine.specs.Trims.{Trims}
 use Rattle.epoch_engine.specs.EngineView.{EngineView, stores_in}
 
--- a new engine stands for the empty history
+-- a new engine over lines without births stands for the empty history
 abbrev pub NewStands : Type 0
-NewStands = (net : Net) (layout : Layout) (lines : List BornLine) (engine : EngineView) → Serves net lines layout.order → IsNew net layout engine → EngineStandsFor engine lines []
+NewStands = (net : Net) (layout : Layout) (lines : List BornLine) (engine : EngineView) → Serves net lines layout.order → All (λ born. born.birth ≡ None) lines → IsNew net layout engine → EngineStandsFor engine lines []
 
 -- an engine that took a tuple stands for the history with that event behind
 abbrev pub OfferedStands : Type 0
@@ -56,3 +59,9 @@ abbrev pub TrimmedIsCounted : Type 0
 TrimmedIsCounted =
     (old new : EngineView) (lines : List BornLine) (history : List Event) → EngineStandsFor old lines history → Trims old new
     → CountsAlive lines old.layout.order (closed_part old.time history) (min (stored_in new) (2 ^ 64 - 1))
+
+-- of lines without births all are counted that wait and are alive, whenever they began
+abbrev pub UnbornAreCounted : Type 0
+UnbornAreCounted =
+    (lines : List Line) (order : List ℕ) (history : List Event) (prefix : Prefix) (hop : Hop) (count : ℕ) → CountsAliveAt (map unborn lines) order history (After prefix hop) count
+    → count ≡ length (alive (next_time (last_time history)) hop.wait.choose (waiting (streams_over (map unborn lines) order history) prefix hop))

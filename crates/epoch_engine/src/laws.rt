@@ -1,9 +1,9 @@
 //! Laws of engines over the histories for which they stand.
 ghost use Rattle.epoch_engine.specs.AddingLaws.{AddedLinesAreThere, BornLinesAreItsOwn, OtherLinesStay};
-ghost use Rattle.epoch_engine.specs.Laws.{BatchIsStreams, ClosedStands, NewStands, OfferedStands, TrimmedIsCounted, TrimmedStands};
+ghost use Rattle.epoch_engine.specs.Laws.{BatchIsStreams, ClosedStands, NewStands, OfferedStands, TrimmedIsCounted, TrimmedStands, UnbornAreCounted};
 ghost use Rattle.epoch_engine.specs.WorkLaws.{FewerAskForLess, StoredAskForAll, WaitingAskForAll};
 
-/// A new engine stands for the empty history.
+/// A new engine over lines without births stands for the empty history.
 pub fn new_stands()
     ensures { NewStands }
 {}
@@ -32,6 +32,11 @@ pub fn trimmed_stands()
 /// The instances of an engine whose stores were purged are as many as wait, are alive and are of use.
 pub fn trimmed_is_counted()
     ensures { TrimmedIsCounted }
+{}
+
+/// Without births all are counted that wait and are alive.
+pub fn unborn_are_counted()
+    ensures { UnbornAreCounted }
 {}
 
 /// With bindings that are among those that wait, each as often at most, an epoch asks for no more tests than with all

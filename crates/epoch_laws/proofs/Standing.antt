@@ -200,7 +200,8 @@ module _ (net : Net) (lines : List BornLine) (order : List ℕ) (stores : Stores
   past_and_now : events_before time history ++ events_during time history ≡ history
   past_and_now = parts_are history time stands.never_falls (by_last history time stands.never_falls stands.open_is_last)
 
-  in_time : next_time closed_time ≤ time
+  -- the open time is later than the last closed one
+  pub in_time : next_time closed_time ≤ time
   in_time =
       subst (λ t. next_time t ≤ time) stands.closed_is_last
       (next_below (events_before time history) time (All-weaker (λ e. nat_lt e.tuple.at time ≡ true) (λ e. e.tuple.at < time) (λ e h. is_before e.tuple.at time h) (events_before time history) (filter_passes (λ e. nat_lt e.tuple.at time) history)))

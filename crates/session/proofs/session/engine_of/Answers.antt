@@ -6,6 +6,7 @@ use Rattle.catalogue.specs.Catalogued.{judged_of}
 use Rattle.catalogue.specs.Chained.{kinds_of_each}
 use Rattle.epoch_engine.specs.EngineStandsFor as engines
 use Rattle.epoch_engine.specs.Starts.{IsNew}
+use Rattle.epoch_engine.proofs.BornLemmas.{all_unborn}
 use Rattle.epoch_engine.proofs.StandsLemmas.{new_stands}
 use Rattle.session.specs.EngineStandsWithLastOpen.{IsPlanned, lines_over, program_over}
 use Rattle.session.proofs.PlanLemmas.{lines_serve, new_planned}
@@ -40,4 +41,4 @@ returns-clause-stands c =
     let layout = subst (IsLayoutOf (program_over now) (kinds_of_each (judged_of now).streams)) (sym c.in_ok-layout.ensures) c.layout.ensures in
     let serves = lines_serve now c.in_ok-merged.merged c.in_ok-layout.layout lines layout in
     IfOk-weaker c.make.result (IsNew c.in_ok-merged.merged c.in_ok-layout.layout) (λ engine. engines.EngineStandsFor engine (lines_over now) [])
-    (λ engine new. new_stands c.in_ok-merged.merged c.in_ok-layout.layout (lines_over now) engine serves new) c.make.ensures
+    (λ engine new. new_stands c.in_ok-merged.merged c.in_ok-layout.layout (lines_over now) engine serves (all_unborn (lines_of (program_over now))) new) c.make.ensures
