@@ -1,5 +1,5 @@
 -- The streams that are due are made in the order of work.
-use Rattle.std.proofs.Common.{◌≡◌, ◌∙◌, sym, ap, refl, subst, inl, inr, ℕ, Bool, true, false, zero, suc, ◌+◌, ◌-◌, ◌<◌, ◌≤◌, ◌⊎◌, length, get_or, set, take, drop, List, [], ◌∷◌, ◌++◌, arith}
+use Rattle.std.proofs.Common.{◌≡◌, ◌∙◌, sym, ap, refl, subst, inl, inr, ℕ, Bool, true, false, zero, suc, ◌+◌, ◌-◌, ◌^◌, ◌<◌, ◌≤◌, ◌⊎◌, length, get_or, map, set, take, drop, List, [], ◌∷◌, ◌++◌, arith}
 use Rattle.std.specs.Prelude.{Contains, Option, Some, None}
 use Rattle.std.specs.Option.{option_map}
 use Rattle.std.specs.List.{All}
@@ -11,7 +11,7 @@ use Rattle.std.specs.BTreeMap.Range.{IsLtBy}
 use Rattle.std.specs.Cmp.{ranks}
 use Rattle.std.proofs.Math.Seq.{drop-append_seam}
 use Rattle.std.proofs.lemmas.Grind.{get_or-set_at}
-use Rattle.std.proofs.lemmas.List.{get_or-set_other, length-drop, length-set, take_more}
+use Rattle.std.proofs.lemmas.List.{get_or-map, get_or-set_other, length-drop, length-map, length-set, take_more}
 use Rattle.std.proofs.lemmas.List.Elements.{All-contains, All-contains_itself, All-head, All-push, All-tail, All-weaker, Contains-append_cases, Contains-append_left, Contains-append_right, Contains-push, Contains-push_cases}
 use Rattle.std.proofs.lemmas.Bool.{true≢false}
 use Rattle.event_types.specs.Order.{sorted}
@@ -21,7 +21,7 @@ use Rattle.automaton.specs.States.{Net, entrance_at}
 use Rattle.automaton.specs.declared.network.Entrance.{Entrance}
 use Rattle.automaton.specs.declared.layout.Layout.{Layout}
 use Rattle.automaton.proofs.NumberLemmas.{are_same_or_not}
-use Rattle.epoch_draft.specs.Agenda.{AreFrom, ArePlaces, AreRead, IsPlanned, IsUnread, read_at, read_by}
+use Rattle.epoch_draft.specs.Agenda.{AreFrom, ArePlaces, AreRead, IsPlanned, IsUnread, far_place, read_at, read_by}
 use Rattle.epoch_draft.specs.Deriving.{CanDraw, news_of}
 use Rattle.epoch_draft.specs.Drafts.{DraftFits}
 use Rattle.epoch_draft.specs.Marks.{MarksMore}
@@ -217,11 +217,12 @@ module _ (net : Net) (layout : Layout) (stores : List (Option Store)) (opened : 
       late k (inl c) = absurd (none (filled_list keys k c))
       late k (inr unread) = unread
 
--- the streams so far have their places, or no state reads them, and the others the order's length
+-- the streams so far have their places, or no state reads them, and the others at least the order's length
 pub record ArePlacesUpTo (net : Net) (order : List ℕ) (streams : ℕ) (i : ℕ) (places : List ℕ) : Type 0 where
   pub as_many : length places ≡ streams
   pub each : (k : ℕ) → k < i → (get_or places (get_or order k 0) 0 ≡ k) ⊎ IsUnread net (get_or order k 0)
-  pub others : (s : ℕ) → s < streams → (get_or places s 0 ≡ length order) ⊎ Contains (take i order) s
+  pub others : (s : ℕ) → s < streams → (length order ≤ get_or places s 0) ⊎ Contains (take i order) s
+  pub unread : (s : ℕ) → s < streams → length order < get_or places s 0 → IsUnread net s
 
 contains_taken : (order : List ℕ) (i k : ℕ) → k < i → i ≤ length order → Contains (take i order) (get_or order k 0)
 contains_taken order zero k lt below = absurd (omega (arith, lt))
@@ -241,6 +242,7 @@ places_more net order streams i places lt below once was = record {
   as_many = length-set places s i ∙ was.as_many;
   each = λ k less. each k (below_or_last k i less);
   others = λ t there. others t (are_same_or_not t s) (was.others t there);
+  unread = λ t there. unread t there (are_same_or_not t s);
 }
   where
     s : ℕ
@@ -257,10 +259,14 @@ places_more net order streams i places lt below once was = record {
     each k (inl less) = earlier k less (was.each k less)
     each k (inr last) = inl (get_or-set_at places s (get_or order k 0) i 0 (ap (λ (m : ℕ). get_or order m 0) last) there ∙ sym last)
 
-    others : (t : ℕ) → (t ≡ s) ⊎ (t ≡ s → ⊥) → (get_or places t 0 ≡ length order) ⊎ Contains (take i order) t → (get_or (set places s i) t 0 ≡ length order) ⊎ Contains (take (i + 1) order) t
+    others : (t : ℕ) → (t ≡ s) ⊎ (t ≡ s → ⊥) → (length order ≤ get_or places t 0) ⊎ Contains (take i order) t → (length order ≤ get_or (set places s i) t 0) ⊎ Contains (take (i + 1) order) t
     others t (inl same) h = inr (subst (Contains (take (i + 1) order)) (sym same) (contains_this order i 0 lt))
-    others t (inr other) (inl none) = inl (get_or-set_other places s t i 0 other ∙ none)
+    others t (inr other) (inl far) = inl (subst (λ (n : ℕ). length order ≤ n) (sym (get_or-set_other places s t i 0 other)) far)
     others t (inr other) (inr c) = inr (contains_more order i 0 t lt c)
+
+    unread : (t : ℕ) → t < streams → (t ≡ s) ⊎ (t ≡ s → ⊥) → length order < get_or (set places s i) t 0 → IsUnread net t
+    unread t below (inl same) past = let at = get_or-set_at places s t i 0 same there in absurd (omega (arith, past, at, lt))
+    unread t below (inr other) past = was.unread t below (subst (λ (n : ℕ). length order < n) (get_or-set_other places s t i 0 other) past)
 
 -- or no state reads it
 pub places_skip : (net : Net) (order : List ℕ) (streams i : ℕ) (places : List ℕ) → i < length order → IsUnread net (get_or order i 0) → ArePlacesUpTo net order streams i places → ArePlacesUpTo net order streams (i + 1) places
@@ -268,15 +274,36 @@ places_skip net order streams i places lt unread was = record {
   as_many = was.as_many;
   each = λ k less. each k (below_or_last k i less);
   others = λ t there. others t (was.others t there);
+  unread = was.unread;
 }
   where
     each : (k : ℕ) → (k < i) ⊎ (k ≡ i) → (get_or places (get_or order k 0) 0 ≡ k) ⊎ IsUnread net (get_or order k 0)
     each k (inl less) = was.each k less
     each k (inr last) = inr (subst (λ (m : ℕ). IsUnread net (get_or order m 0)) (sym last) unread)
 
-    others : (t : ℕ) → (get_or places t 0 ≡ length order) ⊎ Contains (take i order) t → (get_or places t 0 ≡ length order) ⊎ Contains (take (i + 1) order) t
-    others t (inl none) = inl none
+    others : (t : ℕ) → (length order ≤ get_or places t 0) ⊎ Contains (take i order) t → (length order ≤ get_or places t 0) ⊎ Contains (take (i + 1) order) t
+    others t (inl far) = inl far
     others t (inr c) = inr (contains_more order i 0 t lt c)
+
+-- no stream of the order has its place yet
+pub places_none : (net : Net) (order : List ℕ) (streams : ℕ) (read : List Bool) (places : List ℕ) → length order < 2 ^ 64 → AreRead net streams read → places ≡ map (far_place (length order)) read → ArePlacesUpTo net order streams 0 places
+places_none net order streams read places few are is = record {
+  as_many = ap length is ∙ length-map read (far_place (length order)) ∙ are.as_many;
+  each = λ k lt. absurd (omega (arith, lt));
+  others = λ s below. inl (far s (get_or read s false) refl (at s below));
+  unread = λ s below past. are.unread s below (missed s (get_or read s false) refl (at s below) past);
+}
+  where
+    at : (s : ℕ) → s < streams → get_or places s 0 ≡ far_place (length order) (get_or read s false)
+    at s below = ap (λ (ps : List ℕ). get_or ps s 0) is ∙ get_or-map (far_place (length order)) read s false 0 (let long = are.as_many in omega (arith, below, long))
+
+    far : (s : ℕ) (b : Bool) → get_or read s false ≡ b → get_or places s 0 ≡ far_place (length order) (get_or read s false) → length order ≤ get_or places s 0
+    far s true told placed = let same : get_or places s 0 ≡ length order = placed ∙ ap (far_place (length order)) told in omega (arith, same)
+    far s false told placed = let same : get_or places s 0 ≡ 2 ^ 64 - 1 = placed ∙ ap (far_place (length order)) told in omega (arith, same, few)
+
+    missed : (s : ℕ) (b : Bool) → get_or read s false ≡ b → get_or places s 0 ≡ far_place (length order) (get_or read s false) → length order < get_or places s 0 → get_or read s false ≡ false
+    missed s true told placed past = let same : get_or places s 0 ≡ length order = placed ∙ ap (far_place (length order)) told in absurd (omega (arith, same, past))
+    missed s false told placed past = told
 
 -- all streams have their places
 pub places_all : (net : Net) (order : List ℕ) (streams i : ℕ) (places : List ℕ) → length order ≤ i → ArePlacesUpTo net order streams i places → ArePlaces net order streams places
@@ -284,10 +311,11 @@ places_all net order streams i places all was = record {
   as_many = was.as_many;
   each = λ k lt. was.each k (omega (arith, lt, all));
   others = λ s lt. others s (was.others s lt);
+  unread = was.unread;
 }
   where
-    others : (s : ℕ) → (get_or places s 0 ≡ length order) ⊎ Contains (take i order) s → (get_or places s 0 ≡ length order) ⊎ Contains order s
-    others s (inl none) = inl none
+    others : (s : ℕ) → (length order ≤ get_or places s 0) ⊎ Contains (take i order) s → (length order ≤ get_or places s 0) ⊎ Contains order s
+    others s (inl far) = inl far
     others s (inr c) = inr (subst (λ (ns : List ℕ). Contains ns s) (taken_all order i all) c)
 
 -- the states so far are told

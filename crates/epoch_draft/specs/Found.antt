@@ -1,4 +1,4 @@
--- What is left of a step for a tuple by whose fixed parts it was found.
+-- What is left of a step for a tuple by whose fixed parts it was found. No public clause cites this module.
 use Rattle.std.specs.Prelude.{◌≡◌, ◌≤◌, true, IsTrue, List}
 use Rattle.event_types.specs.Tuple.{TupleView}
 use Rattle.scalar_expr.specs.Classes.{are_fixed}

@@ -9,6 +9,7 @@ pub mod Drawings
 pub mod Drawn
 pub mod EpochWork
 pub mod Found
+pub mod Going
 pub mod Held
 pub mod Kindings
 pub mod Led

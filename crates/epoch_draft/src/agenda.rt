@@ -1,9 +1,9 @@
 //! The places of streams in the order of work, and those that are to come.
-ghost use Rattle.std.specs.Prelude.{◌≡◌, ◌<◌, ℕ, true, Contains, IfOk, OnOk, length, slice_index_or, slice_set, take};
+ghost use Rattle.std.specs.Prelude.{◌≡◌, ◌<◌, ℕ, true, Contains, IfOk, OnOk, length, map, slice_index_or, slice_set, take};
 ghost use Rattle.std.specs.List.{All};
 ghost use Rattle.std.specs.Ordering.{nat_cmp};
 ghost use Rattle.std.specs.BTreeSet.{insert_key};
-ghost use Rattle.epoch_draft.specs.Agenda.{AreFrom, ArePlaces, AreRead, IsPlanned, read_at};
+ghost use Rattle.epoch_draft.specs.Agenda.{AreFrom, ArePlaces, AreRead, IsPlanned, far_place, read_at};
 
 use crate::filling::filled;
 use automaton::Network;
@@ -15,7 +15,7 @@ use std::collections::BTreeSet;
 pub(crate) type Agenda = BTreeSet<usize>;
 
 /// The place of each of so many streams in an order of work, by the stream's number, counted from 0. A
-/// stream that isn't of the order, or that no state reads, has the order's length.
+/// stream that isn't of the order has the order's length, and one that no state reads more.
 pub fn places_of(
     alloc: Global,
     network: &Network,
@@ -27,11 +27,22 @@ pub fn places_of(
     ensures { IfOk result (ArePlaces network.now order.now streams) }
 {
     let read = read_streams(alloc, network, streams)?;
-    let mut places = filled(alloc, streams, order.len())?;
+    let mut places = far_places(alloc, &read, order.len())?;
     for (place, stream) in order.iter().enumerate() {
         if *read.get(*stream) {
             *places.get_mut(*stream) = place;
         }
+    }
+    Ok(places)
+}
+
+// The places behind an order of streams that are read or aren't.
+fn far_places(alloc: Global, read: &List<bool>, end: usize) -> Result<Numbers, Memory>
+    ensures { IfOk result (λ places. places ≡ map (far_place end) read.now) }
+{
+    let mut places = List::new(alloc);
+    for is_read in read.as_slice() {
+        places.add(if *is_read { end } else { usize::MAX })?;
     }
     Ok(places)
 }

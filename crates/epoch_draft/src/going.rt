@@ -1,5 +1,5 @@
 //! Instances on their ways out of a state.
-ghost use Rattle.std.specs.Prelude.{◌≡◌, ◌+◌, ◌<◌, ◌≤◌, ◌∷◌, [], ℕ, IsTrue, OnOk, Some, length, map};
+ghost use Rattle.std.specs.Prelude.{◌≡◌, ◌+◌, ◌<◌, ◌≤◌, ◌∷◌, [], IsTrue, OnOk, Some, length, map};
 ghost use Rattle.std.specs.List.{All};
 ghost use Rattle.automaton.specs.States.{Net, is_used, step_at};
 ghost use Rattle.automaton.specs.Steps.{pass};
@@ -7,6 +7,7 @@ ghost use Rattle.stream_readers.specs.Ways.{Into, Out, ways_at};
 ghost use Rattle.semantics.specs.Births.{is_after};
 ghost use Rattle.epoch_laws.specs.Instances.{began};
 ghost use Rattle.epoch_draft.specs.Drafts.{DraftFits, Grows, IsDraftOf};
+ghost use Rattle.epoch_draft.specs.Going.{GoesInto};
 ghost use Rattle.epoch_draft.specs.StoredNetworks.{IsWaitingState};
 ghost use Rattle.epoch_draft.specs.Moves.{moves_on};
 ghost use Rattle.epoch_draft.specs.Suits.{LeavingSuits, StepSuits};
@@ -92,7 +93,7 @@ pub(crate) fn go_into<L: Ledger>(
     requires fits { DraftFits (length draft.old.made) (length draft.old.beads) draft.old }
     requires below { state < length draft.old.beads }
     requires suits { StepSuits step.now tuple.now }
-    ensures grows { OnOk result ((net : Net) → length draft.old.beads ≡ length net → pass step.now tuple.now ≡ pass (step_at net state) tuple.now → Grows net (moves_on (Into state ∷ []) (began first tuple.now)) draft.old draft.new) }
+    ensures grows { OnOk result (GoesInto state step.now (began first tuple.now) draft.old draft.new) }
     ensures ticks { steps.new ≤ steps.old + keeps step.now }
 {
     match pass_on(draft.alloc, step, tuple, steps)? {

@@ -1,12 +1,14 @@
 //! The tuples of an epoch, stream by stream.
-ghost use Rattle.std.specs.Prelude.{◌≡◌, ◌+◌, ◌<◌, ◌≤◌, ℕ, [], OnOk, length, slice_index_or};
+ghost use Rattle.std.specs.Prelude.{◌≡◌, ◌+◌, ◌<◌, ◌≤◌, [], OnOk, length, slice_index_or};
 ghost use Rattle.std.specs.List.{All};
 ghost use Rattle.semantics.specs.Denotation.{streams_of};
 ghost use Rattle.epoch_draft.specs.Deriving.{AreOpened, CanDraw, Derives, DrawnUpTo};
-ghost use Rattle.epoch_draft.specs.Drafts.{IsDraftOf};
+ghost use Rattle.epoch_draft.specs.Agenda.{ArePlaces};
+ghost use Rattle.epoch_draft.specs.Drafts.{Grows, IsDraftOf};
 ghost use Rattle.epoch_draft.specs.Drawings.{IsStill};
 ghost use Rattle.epoch_draft.specs.Held.{held};
 ghost use Rattle.epoch_draft.specs.StoredNetworks.{CanRead, IsStoredNetwork};
+ghost use Rattle.epoch_draft.specs.Meeting.{ListsAll, moves_of_all};
 ghost use Rattle.epoch_draft.specs.Readying.{HaveKeys};
 ghost use Rattle.epoch_draft.specs.Suits.{TupleSuits};
 ghost use Rattle.epoch_draft.specs.EpochWork.{HeardTakesNoMore, TakesNoMore, derived_work, draw_work};
@@ -17,7 +19,7 @@ use crate::draft::Lists;
 use crate::drawing::Drawing;
 use crate::meeting::meet_stream;
 use crate::stored_network::StoredNetwork;
-use event_types::{Memory, StreamId, put_in_order};
+use event_types::{Memory, StreamId, Tuple, put_in_order};
 use steps::{Ledger, Steps};
 
 /// Makes all that comes of the open tuples of an epoch. Nothing but the drawing is changed, and after want of
@@ -60,7 +62,7 @@ fn meet_opened<L: Ledger>(
     ensures ticks { steps.new ≤ steps.old + streams_work stored.now.network.now (held stored.now.stores.now) opened.now touched.now }
 {
     for stream in touched {
-        meet_stream(
+        meet_read(
             stored,
             drawing,
             *stream,
@@ -69,6 +71,30 @@ fn meet_opened<L: Ledger>(
         )?;
     }
     Ok(())
+}
+
+// Makes what comes of the open tuples of a stream; nothing comes of them where no state reads it.
+fn meet_read<L: Ledger>(
+    stored: &StoredNetwork<'_>,
+    drawing: &mut Drawing,
+    stream: StreamId,
+    tuples: &[Tuple],
+    steps: &mut Steps<L>,
+) -> Result<(), Memory>
+    requires stored { IsStoredNetwork stored.now }
+    requires places { ArePlaces stored.now.network.now stored.now.layout.now.order (length stored.now.readers.now) stored.now.places.now }
+    requires stream { stream < length stored.now.readers.now }
+    requires draft { IsDraftOf stored.now.network.now drawing.old.draft }
+    requires suits { All (TupleSuits stored.now.network.now (held stored.now.stores.now) stream) tuples.now }
+    ensures grows { OnOk result (Grows stored.now.network.now (moves_of_all stored.now.network.now (held stored.now.stores.now) stream tuples.now) drawing.old.draft drawing.new.draft) }
+    ensures lists { OnOk result (ListsAll stored.now.network.now (held stored.now.stores.now) stream tuples.now drawing.old.pairs drawing.new.pairs) }
+    ensures agenda { drawing.new.agenda.keys ≡ drawing.old.agenda.keys }
+    ensures ticks { steps.new ≤ steps.old + stream_work stored.now.network.now (held stored.now.stores.now) stream tuples.now }
+{
+    if stored.layout.order.len() < stored.places[stream] {
+        return Ok(());
+    }
+    meet_stream(stored, drawing, stream, tuples, steps)
 }
 
 // Puts the tuples of each derived stream that is due and read in order, in the order of work, and makes what comes of

@@ -1,9 +1,13 @@
-use Rattle.std.proofs.Common.{◌∙◌, sym, subst, ◌+◌, ◌<◌, false, get_or}
+use Rattle.std.proofs.Common.{◌∙◌, sym, subst, ◌+◌, ◌<◌, false, get_or, arith}
 use Rattle.std.proofs.lemmas.List.Elements.{All-get_or}
 use Rattle.std.proofs.lemmas.Option.{get_or_from_slice_get}
-use Rattle.epoch_draft.proofs.AgendaLemmas.{ArePlacesUpTo, places_more, places_skip}
+use Rattle.epoch_draft.proofs.AgendaLemmas.{ArePlacesUpTo, places_more, places_none, places_skip}
 use Rattle.epoch_draft.proofs.agenda.places_of.Goals.{then-get, else-get}
 use Rattle.epoch_draft.proofs.agenda.places_of.Goals as goal
+
+-- those that aren't of the order have their places
+pub loop-place-init : goal.loop-place-init
+loop-place-init c = places_none c.args.network.now c.args.order.now c.args.streams c.in_ok-read.read c.in_ok-places.places (omega arith) c.in_ok-read.ensures c.in_ok-places.ensures
 
 -- one stream more has its place, or no state reads it
 pub loop-place-preserved : goal.loop-place-preserved

@@ -33,19 +33,19 @@ loop-stream-init g c = record {
   ticks = omega arith;
 }
 
-pub meet_stream-requires-clause-stored : goal.meet_stream-requires-clause-stored
-meet_stream-requires-clause-stored g c = record {
+pub meet_read-requires-clause-stored : goal.meet_read-requires-clause-stored
+meet_read-requires-clause-stored g c = record {
   network = c.requires.can_draw.network;
   readers = c.requires.can_read.readers.are;
   stores = typed_has c.args.stored.now.network.now c.args.stored.now.layout.now.kinds c.args.stored.now.stores.now c.requires.can_draw.typed;
   led = c.requires.can_read.led;
 }
 
-pub meet_stream-requires-clause-draft : goal.meet_stream-requires-clause-draft
-meet_stream-requires-clause-draft g c = drawn_of c.args.stored.now.network.now c.args.stored.now.layout.now c.args.stored.now.stores.now c.args.opened.now c.loop-stream.drawing.draft c.requires.can_draw c.loop-stream.invariant.fits
+pub meet_read-requires-clause-draft : goal.meet_read-requires-clause-draft
+meet_read-requires-clause-draft g c = drawn_of c.args.stored.now.network.now c.args.stored.now.layout.now c.args.stored.now.stores.now c.args.opened.now c.loop-stream.drawing.draft c.requires.can_draw c.loop-stream.invariant.fits
 
-pub meet_stream-requires-clause-suits : goal.meet_stream-requires-clause-suits
-meet_stream-requires-clause-suits g c =
+pub meet_read-requires-clause-suits : goal.meet_read-requires-clause-suits
+meet_read-requires-clause-suits g c =
     let can = c.requires.can_draw in
     let net = c.args.stored.now.network.now in
     let stores = c.args.stored.now.stores.now in
@@ -66,25 +66,25 @@ loop-stream-preserved g c =
     let i = c.loop-stream.stream-index in
     let s = get_or touched i 0 in
     let old = c.loop-stream.drawing.draft in
-    let new = c.meet_stream.new.drawing.draft in
+    let new = c.meet_read.new.drawing.draft in
     let is : c.as_slice.result.now ≡ get_or opened s [] = c.as_slice.ensures ∙ sym (get_or_from_slice_get opened s c.get.result.now [] c.get.ensures) in
-    let grows : Grows net (moves_of_all net stores s (get_or opened s [])) old new = subst (λ (ts : List TupleView). Grows net (moves_of_all net stores s ts) old new) is c.in_ok-meet_stream.ensures.grows in
-    let lists : ListsAll net stores s (get_or opened s []) c.loop-stream.drawing.pairs c.meet_stream.new.drawing.pairs = subst (λ (ts : List TupleView). ListsAll net stores s ts c.loop-stream.drawing.pairs c.meet_stream.new.drawing.pairs) is c.in_ok-meet_stream.ensures.lists in
+    let grows : Grows net (moves_of_all net stores s (get_or opened s [])) old new = subst (λ (ts : List TupleView). Grows net (moves_of_all net stores s ts) old new) is c.in_ok-meet_read.ensures.grows in
+    let lists : ListsAll net stores s (get_or opened s []) c.loop-stream.drawing.pairs c.meet_read.new.drawing.pairs = subst (λ (ts : List TupleView). ListsAll net stores s ts c.loop-stream.drawing.pairs c.meet_read.new.drawing.pairs) is c.in_ok-meet_read.ensures.lists in
     let both =
-    opened_more net stores opened touched i old new c.loop-stream.drawing.pairs c.meet_stream.new.drawing.pairs c.requires.can_draw.network c.loop-stream-test.true (c.requires.touched.once i c.loop-stream-test.true) c.loop-stream.invariant.drawn
+    opened_more net stores opened touched i old new c.loop-stream.drawing.pairs c.meet_read.new.drawing.pairs c.requires.can_draw.network c.loop-stream-test.true (c.requires.touched.once i c.loop-stream-test.true) c.loop-stream.invariant.drawn
     c.loop-stream.invariant.paired grows lists in
     record {
       fits = subst (λ (m : ℕ). DraftFits m (length net) new) c.loop-stream.invariant.fits.made grows.fits;
       drawn = both.0;
       paired = both.1;
-      agenda = c.meet_stream.ensures.agenda ∙ c.loop-stream.invariant.agenda;
+      agenda = c.meet_read.ensures.agenda ∙ c.loop-stream.invariant.agenda;
       takes =
           let was = c.loop-stream.invariant.takes in
-          let one = takes_grow net stores (streams_of opened) s (get_or opened s []) c.loop-stream.drawing.pairs c.meet_stream.new.drawing.pairs refl lists in
+          let one = takes_grow net stores (streams_of opened) s (get_or opened s []) c.loop-stream.drawing.pairs c.meet_read.new.drawing.pairs refl lists in
           let more = sum_by_more (λ s. sum_by (take_work net stores s) (get_or opened s [])) touched i 0 c.loop-stream-test.true in omega (arith, was, one, more);
       ticks =
           let was = c.loop-stream.invariant.ticks in
-          let one = subst (λ (ts : List TupleView). c.meet_stream.new.steps ≤ c.loop-stream.steps + stream_work net stores s ts) is c.in_ok-meet_stream.ensures.ticks in
+          let one = subst (λ (ts : List TupleView). c.meet_read.new.steps ≤ c.loop-stream.steps + stream_work net stores s ts) is c.in_ok-meet_read.ensures.ticks in
           let more = sum_by_more (λ s. stream_work net stores s (get_or opened s [])) touched i 0 c.loop-stream-test.true in omega (arith, was, one, more);
     }
 
@@ -115,8 +115,8 @@ returns-clause-takes g c =
     let many = ap (λ (n : ℕ). heard_tests work n (streams_of opened)) c.requires.can_draw.as_many in omega (arith, was, most, many)
 
 -- want of memory comes after some of the tests
-pub returns-in_err-meet_stream-clause-ticks : goal.returns-in_err-meet_stream-clause-ticks
-returns-in_err-meet_stream-clause-ticks g c =
+pub returns-in_err-meet_read-clause-ticks : goal.returns-in_err-meet_read-clause-ticks
+returns-in_err-meet_read-clause-ticks g c =
     let net = c.args.stored.now.network.now in
     let stores = held c.args.stored.now.stores.now in
     let opened = c.args.opened.now in
@@ -126,4 +126,4 @@ returns-in_err-meet_stream-clause-ticks g c =
     let is : c.as_slice.result.now ≡ get_or opened s [] = c.as_slice.ensures ∙ sym (get_or_from_slice_get opened s c.get.result.now [] c.get.ensures) in
     let part = sum_by_more_le (λ s. stream_work net stores s (get_or opened s [])) touched i 0 c.loop-stream-test.true in
     let was = c.loop-stream.invariant.ticks in
-    let one = subst (λ (ts : List TupleView). c.meet_stream.new.steps ≤ c.loop-stream.steps + stream_work net stores s ts) is c.meet_stream.ensures.ticks in omega (arith, part, was, one)
+    let one = subst (λ (ts : List TupleView). c.meet_read.new.steps ≤ c.loop-stream.steps + stream_work net stores s ts) is c.meet_read.ensures.ticks in omega (arith, part, was, one)
