@@ -12,7 +12,7 @@ use Rattle.prefix_merge.specs.Merging.{IsMerged}
 use Rattle.prefix_merge.specs.Turns.{InsertsAll, RemovesAll, is_among}
 use Rattle.epoch_engine.specs.EngineView.{EngineView, stores_in}
 
--- the kinds of streams begin as others do
+-- the new kinds of streams begin with all the old ones
 abbrev pub BeginAs : List (List Kind) → List (List Kind) → Type 0
 BeginAs old new = (stream : ℕ) (known : List Kind) → slice_get old stream ≡ Some known → slice_get new stream ≡ Some known
 
@@ -24,7 +24,7 @@ FitsWith net lines layout = (held : List Line) × HasLines net held × LayoutFit
 abbrev pub FitsWithout : Net → List ℕ → Layout → Type 0
 FitsWithout net ends layout = (held : List Ending) × HasEndings net held × LayoutFits (map (λ ending. ending.line) (filter (λ ending. not (is_among ends ending.number)) held)) layout
 
--- what an engine and a layout have in common before and after: the last closed time, and no open epoch and tuples
+-- an engine goes over to a layout that fits its network, with no open epoch and no open tuples, and its last closed time stays
 pub record GoesOver (layout : Layout) (old new : EngineView) : Type 0 where
   pub merged : IsMerged new.network
   pub same_layout : new.layout ≡ layout

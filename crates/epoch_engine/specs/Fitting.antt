@@ -1,4 +1,4 @@
--- Stores that are made to fit a network.
+-- Stores that are made to fit a network. No public clause cites this module.
 use Rattle.std.specs.Prelude.{◌≡◌, ⊤, ◌≤◌, ℕ, if◌then◌else◌, List, [], length, Option, Some, None, is_some, slice_index_or}
 use Rattle.std.specs.Option.{option_map}
 use Rattle.binding_index.specs.Leads.{ready_in}

@@ -17,7 +17,7 @@ AreTrimmed time net stores kept =
     (number : ℕ) (wait : Wait) → wait_at net number ≡ Some wait
     → (since : Option ℕ) × IsLeastBirth (IsBirthBehind net number) since × IsPermutation (kept number) (alive_instances time wait.choose (began_after since (stores number)))
 
--- each store was purged for the time after the last closed one, and where no epoch was closed the stores are the same; so is all else
+-- each store was purged for the time after the last closed one, and of what began too early for all lines that use its state; where no epoch was closed the stores are the same; so is all else
 pub record Trims (old new : EngineView) : Type 0 where
   pub plan : KeepsPlan old new
   pub times : KeepsTimes old new

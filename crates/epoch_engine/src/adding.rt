@@ -16,8 +16,7 @@ use std::alloc::Global;
 
 impl Engine {
     /// Adds lines whose queries were born at the last closed time, each with the end number at its place. The layout
-    /// is one for all lines then; an out stream that comes into its order has no kinds before. Want of memory drops the
-    /// layout and leaves the engine as it was.
+    /// is one for all lines then. Want of memory drops the layout and leaves the engine as it was.
     pub fn add(
         &mut self,
         alloc: Global,

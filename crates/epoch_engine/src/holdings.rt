@@ -39,7 +39,7 @@ impl Holdings {
         })
     }
 
-    /// Empty stores for the waiting states that came to a network. Want of memory leaves the stores that were there,
+    /// Adds empty stores for the waiting states that came to a network. Want of memory leaves the stores that were there,
     /// and maybe some of these.
     pub(crate) fn grow(&mut self, alloc: Global, network: &Network) -> Result<(), Memory>
         requires stores { length self.old.stores ≤ length network.now }

@@ -1,5 +1,5 @@
 //! What an engine closes its epochs by.
-ghost use Rattle.std.specs.Prelude.{◌≡◌, ◌<◌, IfOk, OnOk, false, length};
+ghost use Rattle.std.specs.Prelude.{◌≡◌, ◌<◌, IfOk, OnOk, false};
 ghost use Rattle.std.specs.List.{All};
 ghost use Rattle.automaton.specs.NetworkLines.{NetworkFits};
 ghost use Rattle.epoch_engine.specs.Batches.{HasPlaces};
@@ -46,7 +46,7 @@ impl Plan {
         Ok(plan)
     }
 
-    /// Makes anew by what streams are found, if the plan is stale. Want of memory leaves it so.
+    /// Makes the readers and the places of streams anew, if the plan is stale. Want of memory leaves it so.
     pub(crate) fn refresh(&mut self, alloc: Global) -> Result<(), Memory>
         requires fits { NetworkFits self.old.merged self.old.layout }
         requires is { IsPlan self.old }

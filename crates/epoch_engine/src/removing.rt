@@ -9,7 +9,7 @@ use event_types::Numbers;
 
 impl Engine {
     /// Takes the lines of these ends away, with what waits at states that no other line has. The layout is one for the
-    /// lines that stay, none of which may read an out stream of a line that goes. Takes no memory.
+    /// lines that stay. Takes no memory.
     pub fn remove(&mut self, ends: &Numbers, layout: Layout)
         requires closed { self.old.time ≡ None }
         requires apart { AllPairs (λ end other. end ≢ other) ends.now }

@@ -22,7 +22,7 @@ IsNoLater None other = ⊤
 IsNoLater (Some birth) None = ⊥
 IsNoLater (Some birth) (Some other) = birth ≤ other
 
--- the least of some births, where there is one
+-- the least of some births, where there is one; where there is none, any value meets this
 pub record IsLeastBirth (IsBirth : Option ℕ → Type 0) (least : Option ℕ) : Type 0 where
   pub no_later : (birth : Option ℕ) → IsBirth birth → IsNoLater least birth
   pub is_one : (birth : Option ℕ) → IsBirth birth → IsBirth least

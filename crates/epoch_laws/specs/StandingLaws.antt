@@ -58,7 +58,7 @@ pub record EpochFlow (lines : List BornLine) (streams : Streams) (time : ℕ) (p
   pub within : IsWithin (bindings_of leaving) (during time (flow streams prefix))
   pub later : (birth : Option ℕ) → IsReadAfter lines prefix birth → IsPermutation (bindings_of (began_after birth leaving)) (during time (flow (streams_after birth streams) prefix))
 
--- so it is at each state
+-- in an engine's open epoch what leaves each state is such a part of what flows out of the state's prefix
 abbrev pub EpochFlows : Type 0
 EpochFlows =
     (net : Net) (lines : List BornLine) (order : List ℕ) (stores : Stores) (time : ℕ) (tuples news : Streams) (closed_time : Option ℕ) (history : List Event)

@@ -115,7 +115,8 @@ pub fn open_is_last()
     ensures { OpenIsLast }
 {}
 
-/// What leaves a state in an epoch is what flows out of the state's prefix at its time.
+/// What leaves a state in an epoch is within what flows out of the state's prefix at its time; of what began
+/// after the birth of a line that uses the state it is all.
 pub fn epoch_flows()
     ensures { EpochFlows }
 {}
@@ -125,7 +126,8 @@ pub fn purge_stands()
     ensures { PurgeStands }
 {}
 
-/// Purged whole, the stores have exactly the waiting bindings that are alive.
+/// Purged whole, the stores have, of what began after the birth of a line that uses their state, exactly the
+/// waiting instances that are alive.
 pub fn trimmed_is_alive()
     ensures { TrimmedIsAlive }
 {}

@@ -29,7 +29,7 @@ pub fn numbers_are_read_as_they_are_written()
     ensures decimals { DecimalsAreReadAsTheyAreWritten }
 {}
 
-/// Streams that are added and not declared change what no line says.
+/// Streams that are added and not declared change the reading of no line.
 pub fn undeclared_streams_change_no_event()
     ensures { UndeclaredChangeNoEvent }
 {}

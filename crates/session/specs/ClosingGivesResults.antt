@@ -19,7 +19,7 @@ use Rattle.epoch_engine.specs.EngineView.{EngineView}
 use Rattle.session.specs.SessionView.{AreDeclared}
 use Rattle.session.specs.UnbornLines.{unborn_lines}
 
--- an engine that has the order of work and the printed streams of a program, and stands for its lines, each with the birth of its query, and for such events, closes its epoch with the results of each query at its time, in the order of the file and then of addition
+-- an engine that has the order of work and the printed streams of a program, and stands for its lines, each with the birth of its query, and for events of their streams' kinds on declared streams, closes its epoch with the results of each query at its time, in the order of the file and then of addition
 abbrev pub ClosingGivesResults : Type 0
 ClosingGivesResults =
     (kinds : ℕ → List Kind) (program : Program) (old new : EngineView) (history : List Event) (batch : List (List TupleView)) → IsWideProgram kinds program

@@ -2,7 +2,7 @@
 ghost use Rattle.session.specs.ClosingGivesResults.{ClosingGivesResults, ClosingGivesResultsOfText};
 
 /// The closing of an epoch gives exactly the results of each query, whatever other queries share its
-/// states, came or went.
+/// states and whenever it came.
 pub fn closing_gives_results()
     ensures { ClosingGivesResults }
 {}
