@@ -1,9 +1,11 @@
+pub mod AddedLemmas
 pub mod AddingLawLemmas
 pub mod BatchLemmas
 pub mod BornLemmas
 pub mod ClosedLemmas
 pub mod ClosingTests
 pub mod ConsistentLemmas
+pub mod DroppedLemmas
 pub mod EngineLemmas
 pub mod EpochTests
 pub mod FitLemmas
@@ -12,12 +14,14 @@ pub mod LeaveLemmas
 pub mod LineLemmas
 pub mod NetworkTests
 pub mod OverLemmas
+pub mod OverStandsLemmas
 pub mod PrintedLemmas
 pub mod PurgeLemmas
 pub mod PurgedLemmas
 pub mod ReadLemmas
 pub mod StandsLemmas
 pub mod StateTests
+pub mod StreamLemmas
 pub mod SumLemmas
 pub mod TestSums
 pub mod TrimLemmas

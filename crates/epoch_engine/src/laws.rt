@@ -1,5 +1,5 @@
 //! Laws of engines over the histories for which they stand.
-ghost use Rattle.epoch_engine.specs.AddingLaws.{AddedLinesAreThere, BornLinesAreItsOwn, OtherLinesStay};
+ghost use Rattle.epoch_engine.specs.AddingLaws.{AddedLinesAreThere, AddedStands, BornLinesAreItsOwn, DroppedStands, OtherLinesStay};
 ghost use Rattle.epoch_engine.specs.Laws.{BatchIsStreams, ClosedStands, NewStands, OfferedStands, TrimmedIsCounted, TrimmedStands, UnbornAreCounted};
 ghost use Rattle.epoch_engine.specs.WorkLaws.{FewerAskForLess, StoredAskForAll, WaitingAskForAll};
 
@@ -68,4 +68,14 @@ pub fn added_lines_are_there()
 /// An engine that ends left has the lines of the other ends.
 pub fn other_lines_stay()
     ensures { OtherLinesStay }
+{}
+
+/// An engine to which lines came, born at its last closed time, stands for these beside those that it had.
+pub fn added_stands()
+    ensures { AddedStands }
+{}
+
+/// An engine that lines left, whose out streams no other line reads, stands for those that stay.
+pub fn dropped_stands()
+    ensures { DroppedStands }
 {}
