@@ -1,5 +1,5 @@
 //! The room in which an epoch is closed.
-ghost use Rattle.std.specs.Prelude.{◌≡◌, ◌==◌, ◌<◌, ◌&&◌, IfOk, IsTrue, OnOk, length};
+ghost use Rattle.std.specs.Prelude.{◌≡◌, ◌==◌, ◌<◌, ◌&&◌, ◌++◌, IfOk, IsTrue, OnOk, length};
 ghost use Rattle.std.specs.List.{All};
 ghost use Rattle.automaton.specs.Networks.{IsNetwork};
 ghost use Rattle.epoch_draft.specs.Drafts.{DraftFits};
@@ -85,10 +85,22 @@ fn list_places(
 {
     places.clear();
     for stream in due {
-        places.extend_from_slice(printed.get(*stream).as_slice())?;
+        append_places(places, printed.get(*stream).as_slice())?;
     }
     places.sort_unstable();
     places.dedup();
+    Ok(())
+}
+
+// Puts places behind those that are there; most often it is one.
+#[inline(always)]
+fn append_places(places: &mut Vec<usize>, more: &[usize]) -> Result<(), Memory>
+    ensures { OnOk result (places.new.items ≡ places.old.items ++ more.now) }
+{
+    match more {
+        [place] => places.push(*place)?,
+        _ => places.extend_from_slice(more)?,
+    }
     Ok(())
 }
 

@@ -53,12 +53,14 @@ impl Spare {
         }
     }
 
-    // Drops the tuples of a list, and keeps the room of their values.
+    // Drops the tuples of a list, and keeps the room of values that no other tuple shares.
     fn empty(&mut self, tuples: &mut Tuples)
         ensures { tuples.new ≡ [] }
     {
         while let Some(tuple) = tuples.pop() {
-            self.put(tuple.into_vals());
+            if let Some(vals) = tuple.into_vals() {
+                self.put(vals);
+            }
         }
     }
 

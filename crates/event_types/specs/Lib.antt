@@ -1,4 +1,5 @@
 pub mod Held
+pub mod Kept
 pub mod KindWord
 pub mod Lending
 pub mod Order

@@ -1,5 +1,5 @@
 //! Tuples: values with a start and a detection time.
-ghost use Rattle.std.specs.Prelude.{◌≡◌, ◌<◌, ◌≤◌, ◌↔◌, IsErr, IsOk, IfOk, IfErr};
+ghost use Rattle.std.specs.Prelude.{◌≡◌, ◌<◌, ◌≤◌, ◌↔◌, IsErr, IsOk, IfOk, IfErr, IfSome};
 ghost use Rattle.std.specs.Cmp.{partial_order_from_total, partial_equiv_from_equiv};
 ghost use Rattle.std.specs.Ordering.{as_partial_cmp, eq_by_cmp};
 ghost use Rattle.std.specs.Cmp.Rules.{comparing};
@@ -14,6 +14,7 @@ use crate::value::Vals;
 use std::alloc::Global;
 use std::cmp::Ordering;
 use std::marker::Model;
+use std::rc::Rc;
 
 /// A tuple: values with a start and a detection time. Times are whole numbers of the event file.
 ///
@@ -21,18 +22,26 @@ use std::marker::Model;
 /// detection.
 #[derive(Drop)]
 pub struct Tuple {
-    vals: Vals,
+    kept: Kept,
     from: u64,
     at: u64,
+}
+
+// How a tuple keeps its values: as its own, or shared with its copies.
+#[derive(Drop)]
+enum Kept {
+    Own(Vals),
+    Shared(Rc<Vals>),
 }
 
 impl Model for Tuple {
     ghost use Rattle.std.specs.Prelude.{◌≤◌};
     ghost use Rattle.event_types.specs.Tuple.{TupleView};
+    ghost use Rattle.event_types.specs.Kept.{kept_vals};
 
     ghost Value = { TupleView };
 
-    ghost view = { λ t. record { vals = t.vals; from = t.from; at = t.at } };
+    ghost view = { λ t. record { vals = kept_vals t.kept; from = t.from; at = t.at } };
 
     ghost invariant = { λ t. t.from ≤ t.at };
 }
@@ -60,21 +69,31 @@ impl Tuple {
         if at < from {
             return Err(BadSpan { vals });
         }
-        Ok(Tuple { vals, from, at })
+        Ok(Tuple {
+            kept: Kept::Own(vals),
+            from,
+            at,
+        })
     }
 
     /// The values, in the order of the schema's attributes.
     pub fn vals(&self) -> &Vals
         ensures { result.now ≡ self.now.vals }
     {
-        &self.vals
+        match &self.kept {
+            Kept::Own(vals) => vals,
+            Kept::Shared(vals) => vals.as_ref(),
+        }
     }
 
-    /// The values, taken out of the tuple. Takes no memory.
-    pub fn into_vals(self) -> Vals
-        ensures { result ≡ self.vals }
+    /// The values, taken out of the tuple, unless others share them. Takes no memory.
+    pub fn into_vals(self) -> Option<Vals>
+        ensures { IfSome result (λ vals. vals ≡ self.vals) }
     {
-        self.vals
+        match self.kept {
+            Kept::Own(vals) => Some(vals),
+            Kept::Shared(vals) => Rc::into_inner(vals),
+        }
     }
 
     /// The start.
@@ -97,8 +116,27 @@ impl Tuple {
     pub fn copy(&self, alloc: Global) -> Result<Tuple, Memory>
         ensures { IfOk result (λ copy. copy ≡ self.now) }
     {
+        let kept = match &self.kept {
+            Kept::Own(vals) => Kept::Own(vals.copied(alloc)?),
+            Kept::Shared(vals) => Kept::Shared(vals.clone()?),
+        };
         Ok(Tuple {
-            vals: self.vals.copied(alloc)?,
+            kept,
+            from: self.from,
+            at: self.at,
+        })
+    }
+
+    /// An equal tuple, whose copies share its values and take no memory.
+    pub fn shared(&self, alloc: Global) -> Result<Tuple, Memory>
+        ensures { IfOk result (λ copy. copy ≡ self.now) }
+    {
+        let vals = match &self.kept {
+            Kept::Own(vals) => Rc::new(alloc, vals.copied(alloc)?)?,
+            Kept::Shared(vals) => vals.clone()?,
+        };
+        Ok(Tuple {
+            kept: Kept::Shared(vals),
             from: self.from,
             at: self.at,
         })
@@ -117,7 +155,7 @@ impl PartialEq for Tuple {
     ghost laws = { partial_equiv_from_equiv (eq_by_cmp_equiv tuple_total) };
 
     fn eq(&self, other: &Tuple) -> bool {
-        self.cmp(other).is_eq()
+        self.from == other.from && self.at == other.at && self.vals() == other.vals()
     }
 }
 
@@ -149,13 +187,16 @@ impl Ord for Tuple {
         if starts.is_ne() {
             return starts;
         }
-        self.vals.cmp(&other.vals).then(self.at.cmp(&other.at))
+        self.vals().cmp(other.vals()).then(self.at.cmp(&other.at))
     }
 }
 
 /// Puts tuples in their order. Takes no memory.
+#[inline]
 pub fn put_in_order(tuples: &mut Tuples)
     ensures { tuples.new ≡ sorted tuples.old }
 {
-    tuples.sort();
+    if 1 < tuples.len() {
+        tuples.sort();
+    }
 }

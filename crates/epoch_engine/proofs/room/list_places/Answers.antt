@@ -13,7 +13,7 @@ loop-stream-preserved c =
     let due = c.args.due.now in
     let i = c.loop-stream.stream-index in
     let got = c.as_slice.ensures ∙ sym (get_or_from_slice_get printed (get_or due i 0) c.get.result.now [] c.get.ensures) in
-    all_places_more printed due i c.loop-stream.places.items c.extend_from_slice.new.self.items (omega arith) (c.in_ok-extend_from_slice.ensures.items ∙ ap (λ ps. c.loop-stream.places.items ++ ps) got) c.loop-stream.invariant
+    all_places_more printed due i c.loop-stream.places.items c.append_places.new.places.items (omega arith) (c.in_ok-append_places.ensures ∙ ap (λ ps. c.loop-stream.places.items ++ ps) got) c.loop-stream.invariant
 
 -- all places, in order and each once
 pub returns : goal.returns
