@@ -8,3 +8,4 @@ pub mod SpanLemmas
 pub mod FaultLemmas
 pub mod AscentLemmas
 pub mod MemoryLemmas
+pub mod NameLemmas

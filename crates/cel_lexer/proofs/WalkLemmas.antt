@@ -60,7 +60,7 @@ gap zero line at k (b ∷ s) e some h lines = absurd (omega arith)
 gap (suc n) line at k (b ∷ s) e some h lines = rw e (rw sub-one (skip (suc n) line at (b ∷ s) h ∙ rw lines refl))
 
 -- a token at the front comes before what follows it
-lexeme : (w : What) (n line at : ℕ) (s : List ℕ) → piece_of s ≡ piece.Lexeme w n → 0 < n → n ≤ length s → lines_in (take n s) ≡ 0
+pub lexeme : (w : What) (n line at : ℕ) (s : List ℕ) → piece_of s ≡ piece.Lexeme w n → 0 < n → n ≤ length s → lines_in (take n s) ≡ 0
     → tokens_from 0 line at s ≡ before (record { what = w; line = line; begin = at; end = at + n }) (tokens_from 0 line (at + n) (drop n s))
 unfolding tokens_from
 lexeme w n line at [] e some h lines = absurd (omega arith)

@@ -7,3 +7,4 @@ pub mod Pieces
 pub mod Tokens
 pub mod Listing
 pub mod Faults
+pub mod Names

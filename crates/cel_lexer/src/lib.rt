@@ -7,6 +7,7 @@
 mod bytes;
 mod fault;
 mod literals;
+mod names;
 mod numbers;
 mod pieces;
 mod scanner;
@@ -16,6 +17,7 @@ mod tokens;
 mod words;
 
 pub use fault::LexFault;
+pub use names::is_name;
 pub use scanner::lex;
 pub use token::{Token, What};
 pub use tokens::Tokens;
