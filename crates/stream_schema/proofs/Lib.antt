@@ -1,3 +1,4 @@
+pub mod HiddenLemmas
 pub mod JoinLemmas
 pub mod NameLemmas
 pub mod PlaceLemmas

@@ -45,7 +45,7 @@ position-push p (x ∷ xs) y none =
     ]
 
 -- the first place with one more item, which fails, by induction on the list
-position-kept : {X : Type 0} (p : X → Bool) (xs : List X) (y : X) → p y ≡ false → position p (xs ++ y ∷ []) ≡ position p xs
+pub position-kept : {X : Type 0} (p : X → Bool) (xs : List X) (y : X) → p y ≡ false → position p (xs ++ y ∷ []) ≡ position p xs
 position-kept p [] y past = position-past p y [] past
 position-kept p (x ∷ xs) y past =
     elim (cases_Bool (p x)) [
@@ -88,7 +88,7 @@ there-push streams s own there number is =
     ]
 
 -- a name that is none of these has no place among them
-none-from_apart : (name : List ℕ) (streams : List Entry) → AllByRecursion (λ y. bytes_eq name y ≡ false) (stream_names streams) → number_of name streams ≡ None
+pub none-from_apart : (name : List ℕ) (streams : List Entry) → AllByRecursion (λ y. bytes_eq name y ≡ false) (stream_names streams) → number_of name streams ≡ None
 none-from_apart name [] apart = refl
 none-from_apart name (s ∷ streams) apart = position-past (λ (t : Entry). bytes_eq name t.name) s streams apart.0 ∙ ap (option_map suc) (none-from_apart name streams apart.1)
 

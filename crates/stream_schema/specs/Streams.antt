@@ -1,5 +1,6 @@
 -- The table of streams: a list of names, each with a schema.
-use Rattle.std.specs.Prelude.{◌≡◌, ℕ, zero, suc, Bool, List, [], ◌∷◌, Option, Some, map, position, slice_get}
+use Rattle.std.specs.Prelude.{◌≡◌, ℕ, zero, suc, Bool, false, List, [], ◌∷◌, ◌++◌, Option, Some, length, map, position, slice_get}
+use Rattle.std.specs.List.{range_with_len}
 use Rattle.std.specs.Str.{bytes_eq}
 use Rattle.stream_schema.specs.Schema.{Attr}
 
@@ -39,7 +40,19 @@ renamed (s ∷ streams) (suc number) name = s ∷ renamed streams number name
 abbrev pub retired : List Entry → ℕ → List Entry
 retired streams number = renamed streams number (retired_name number)
 
--- the stream of this number is retired
+-- a hidden stream of this number, which lines publish for lines of their own query: no text says its name, and it tells no attributes
+abbrev pub hidden_entry : ℕ → Entry
+hidden_entry number = record { name = retired_name number; schema = []; declared = false }
+
+-- so many hidden streams, which have the numbers from one on
+abbrev pub hidden_entries : ℕ → ℕ → List Entry
+hidden_entries first many = map hidden_entry (range_with_len first many)
+
+-- the streams with one hidden stream more, which is the last one
+abbrev pub with_hidden : List Entry → List Entry
+with_hidden streams = streams ++ hidden_entry (length streams) ∷ []
+
+-- the stream of this number is retired, or hidden
 abbrev pub IsRetired : List Entry → ℕ → Type 0
 IsRetired streams number = slice_get (stream_names streams) number ≡ Some (retired_name number)
 

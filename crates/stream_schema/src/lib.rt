@@ -2,7 +2,8 @@
 //!
 //! Contracts see an `Attribute` as its name and its kind, and a `Schema` as the list of its attributes, where
 //! the names are distinct and at most 256. They see `Streams` as the list of its streams by number, each a name, a
-//! schema and whether it is declared, where the names are distinct.
+//! schema and whether it is declared, where the names are distinct. The name of a stream that is retired or hidden
+//! is one that no text has.
 #![tactic(auto)]
 
 mod attribute;

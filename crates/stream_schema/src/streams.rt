@@ -1,6 +1,6 @@
 //! The table of streams by name.
 ghost use Rattle.std.specs.Prelude.{◌≡◌, ◌<◌, ◌≤◌, ◌↔◌, ◌⊎◌, [], ◌∷◌, ◌++◌, false, length, slice_get, Some, None, IfOk, OnOk, OnErr, IfSome, Contains, AllPairs, ◌≢◌};
-ghost use Rattle.stream_schema.specs.Streams.{AreThere, IsRetired, declared_of, number_of, retired, schemas_of, stream_names};
+ghost use Rattle.stream_schema.specs.Streams.{AreThere, IsRetired, declared_of, number_of, retired, schemas_of, stream_names, with_hidden};
 
 use crate::schema::Schema;
 use event_types::{List, Memory, StreamId};
@@ -10,7 +10,7 @@ use std::marker::Model;
 
 /// The streams by name, each with its schema. A stream's number is its place in the order in which they
 /// were added, from 0. A retired stream keeps its number and its schema, and has no name: contracts see as its name
-/// one that no text has.
+/// one that no text has. A hidden stream has none from the start.
 #[derive(Drop)]
 pub struct Streams {
     alloc: Global,
@@ -69,6 +69,22 @@ impl Streams {
         }
     }
 
+    /// Puts a hidden stream at the end, which the lines of a query publish for one another: no name finds it, and no
+    /// attributes are told of it.
+    pub fn hide(&mut self) -> Result<StreamId, Memory>
+        ensures number { IfOk result (λ number. number ≡ length self.old) }
+        ensures ok { OnOk result (self.new ≡ with_hidden self.old) }
+        ensures kept { OnErr result (self.new ≡ self.old) }
+    {
+        let number = self.streams.len();
+        self.streams.add(Stream {
+            name: None,
+            schema: Schema::new(self.alloc),
+            declared: false,
+        })?;
+        Ok(number)
+    }
+
     /// Takes its name from a stream that no STREAM statement declares: no name finds it from then on, a later stream may
     /// have the name, and its number isn't used again. Takes no memory.
     pub fn retire(&mut self, stream: StreamId)
@@ -109,7 +125,7 @@ impl Streams {
         self.find(name)
     }
 
-    /// The name of the stream of this number, if there is one and it isn't retired. Takes no memory.
+    /// The name of the stream of this number, if there is one and it is neither retired nor hidden. Takes no memory.
     pub fn named(&self, stream: StreamId) -> Option<&str>
         ensures number { IfSome result (λ name. number_of name.now self.now ≡ Some stream) }
         ensures within { IfSome result (λ name. stream < length self.now) }
@@ -153,7 +169,7 @@ impl Streams {
     }
 }
 
-// A stream; where it is retired it has no name.
+// A stream; where it is retired or hidden it has no name.
 #[derive(Drop)]
 struct Stream {
     name: Option<String>,
