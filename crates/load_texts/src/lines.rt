@@ -1,12 +1,14 @@
 //! The lines of the event text, made one after another.
-ghost use Rattle.std.specs.Prelude.{◌≡◌, ◌++◌, ◌<◌, ◌^◌, [], decimal, false, length, true, IfOk, OnOk};
-ghost use Rattle.load_texts.specs.EventText.{lines_from, stock_line};
+ghost use Rattle.std.specs.Prelude.{◌≡◌, ◌+◌, ◌++◌, ◌<◌, ◌≤◌, ◌^◌, [], drop, false, length, true, IfOk};
+ghost use Rattle.load_texts.specs.EventText.{lines_from, marked, stock_line};
 
 use crate::draws::{drawn, given};
 use event_types::Memory;
-use itoa::Buffer;
-use std::alloc::Global;
+use itoa::write_digits;
 use std::marker::Model;
+
+// The room of a line: its marks, its LF and four numbers of at most 20 digits.
+const ROOM: usize = 92;
 
 /// The lines that are still to be made.
 #[derive(Drop)]
@@ -15,7 +17,7 @@ pub struct Lines {
     number: u64,
     made: u64,
     events: u64,
-    line: Vec<u8>,
+    line: [u8; ROOM],
 }
 
 impl Model for Lines {
@@ -32,7 +34,7 @@ impl Model for Lines {
 
 impl Lines {
     /// All lines of so many events. Takes no memory.
-    pub fn of(alloc: Global, seed: u64, events: u64) -> Lines
+    pub fn of(seed: u64, events: u64) -> Lines
         requires { seed < 2 ^ 31 }
         ensures { result ≡ lines_from seed 0 events }
     {
@@ -41,7 +43,7 @@ impl Lines {
             number: seed,
             made: 0,
             events,
-            line: Vec::new(alloc),
+            line: [0; ROOM],
         }
     }
 
@@ -60,38 +62,36 @@ impl Lines {
         let name = given(first) % 1000;
         let price = given(second) % 10000;
         let volume = given(third) % 1000;
-        self.line.clear();
-        append_line(&mut self.line, 1 + self.made / 2, name, price, volume)?;
-        text.extend_from_slice(&self.line)?;
+        let begin = write_line(&mut self.line, 1 + self.made / 2, name, price, volume);
+        text.extend_from_slice(&self.line[begin..])?;
         self.number = third;
         self.made += 1;
         Ok(true)
     }
 }
 
-// Puts the line of an event behind a text.
-fn append_line(
-    text: &mut Vec<u8>,
-    at: u64,
-    name: u64,
-    price: u64,
-    volume: u64,
-) -> Result<(), Memory>
-    ensures { OnOk result (text.new.items ≡ text.old.items ++ stock_line at name price volume) }
+// Writes the line of an event at the end of the room, and gives where it begins.
+#[inline(always)]
+fn write_line(room: &mut [u8; ROOM], at: u64, name: u64, price: u64, volume: u64) -> usize
+    ensures begins { result ≤ 92 }
+    ensures written { drop result room.new ≡ stock_line at name price volume }
 {
-    append(text, b"Stock,,", at)?;
-    append(text, b",S", name)?;
-    append(text, b",", price)?;
-    append(text, b",", volume)?;
-    text.push(b'\n')?;
-    Ok(())
+    room[ROOM - 1] = b'\n';
+    let begin = write_marked(b",", volume, room, ROOM - 1);
+    let begin = write_marked(b",", price, room, begin);
+    let begin = write_marked(b",S", name, room, begin);
+    write_marked(b"Stock,,", at, room, begin)
 }
 
-// Puts a mark and a number behind a text.
-fn append(text: &mut Vec<u8>, mark: &[u8], number: u64) -> Result<(), Memory>
-    ensures { OnOk result (text.new.items ≡ text.old.items ++ (mark.now ++ decimal number)) }
+// Writes a mark and a number so that they end where `end` says, and gives where they begin.
+#[inline(always)]
+fn write_marked(mark: &[u8], number: u64, room: &mut [u8], end: usize) -> usize
+    requires { (length mark.now + 20 ≤ end) × (end ≤ length room.old) }
+    ensures begins { (result ≤ end) × (end ≤ result + (length mark.now + 20)) }
+    ensures written { drop result room.new ≡ marked mark.now number ++ drop end room.old }
 {
-    text.extend_from_slice(mark)?;
-    text.extend_from_slice(Buffer::new().format(number).as_bytes())?;
-    Ok(())
+    let behind = write_digits(number, room, end);
+    let begin = behind - mark.len();
+    room[begin..behind].copy_from_slice(mark);
+    begin
 }

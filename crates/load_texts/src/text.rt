@@ -33,7 +33,7 @@ impl EventText {
         ensures { result ≡ event_text seed events }
     {
         EventText {
-            lines: Lines::of(alloc, seed, events),
+            lines: Lines::of(seed, events),
             rest: Vec::new(alloc),
         }
     }
@@ -77,7 +77,7 @@ pub fn event_text(alloc: Global, seed: u64, events: u64) -> Result<Text, Memory>
     requires { seed < 2 ^ 31 }
     ensures { IfOk result (λ text. text ≡ event_text seed events) }
 {
-    let mut lines = Lines::of(alloc, seed, events);
+    let mut lines = Lines::of(seed, events);
     let mut text = Vec::new(alloc);
     'lines: while lines.append_next(&mut text)? {}
     match str::from_utf8(&text) {

@@ -1,4 +1,5 @@
-use Rattle.std.proofs.Common.{◌≡◌, ◌+◌, ◌*◌, ◌∙◌, ◌++◌, ap, arith, refl}
+use Rattle.std.proofs.Common.{◌≡◌, ◌+◌, ◌*◌, ◌∙◌, ap, arith, refl, drop, take, ◌-◌}
+use Rattle.std.proofs.lemmas.List.{length-drop, take_all}
 use Rattle.load_texts.specs.Draws.{drawn}
 use Rattle.load_texts.specs.EventText.{event_line}
 use Rattle.load_texts.proofs.LineLemmas.{three-draws, moves-line, next-fewer}
@@ -20,11 +21,11 @@ returns-clause-moved c =
     let seed = c.self.inside.seed in
     let draws = three-draws seed made c.drawn-first.result c.drawn-second.result c.drawn-third.result
     (c.drawn-first.ensures.value ∙ ap drawn c.self.invariant.2) c.drawn-second.ensures.value c.drawn-third.ensures.value in
-    let line : c.append_line.new.text.items ≡ event_line seed made =
-    rw (c.in_ok-append_line.ensures, c.clear.ensures.items, c.given-name.ensures, c.given-price.ensures, c.given-volume.ensures, draws.0, draws.1, draws.2) refl in
-    let appended : c.extend_from_slice.new.self.items ≡ c.args.text.now.items ++ c.append_line.new.text.items =
-    c.in_ok-extend_from_slice.ensures.items ∙ ap (λ bytes. c.args.text.now.items ++ bytes) c.deref.ensures.value in
-    rw (appended, ← c.self.view_is) (moves-line seed made c.self.inside.events c.args.text.now.items c.append_line.new.text.items (omega arith) line)
+    let text = drop c.write_line-begin.result c.write_line-begin.new.room in
+    let line : text ≡ event_line seed made =
+    rw (c.write_line-begin.ensures.written, c.given-name.ensures, c.given-price.ensures, c.given-volume.ensures, draws.0, draws.1, draws.2) refl in
+    let all : take (92 - c.write_line-begin.result) text ≡ text = take_all (92 - c.write_line-begin.result) text (omega (arith, length-drop c.write_line-begin.result c.write_line-begin.new.room)) in
+    rw (c.in_ok-extend_from_slice.ensures.items, all, ← c.self.view_is) (moves-line seed made c.self.inside.events c.args.text.now.items text (omega arith) line)
 
 -- the lines that are left are shorter
 pub returns-clause-fewer : goal.returns-clause-fewer
