@@ -1,10 +1,12 @@
--- Examples of the decimals that fields write, and of lines with two faults, each worked out by hand. No contract
--- cites them.
+-- Examples of the decimals that fields write, of lines with two faults, and of control lines, each worked out by hand.
+-- No contract cites them.
 use Rattle.std.proofs.Common.{◌≡◌, refl, pos, negsuc, List, [], ◌∷◌}
 use Rattle.std.specs.Prelude.{Some, None, Ok, Err, codes}
 use Rattle.event_types.specs.declared.kind.Kind.{Kind}
 use Rattle.event_types.specs.declared.kind.Kind.TheVariants as kind
 use Rattle.event_types.specs.declared.value.Value.TheVariants as value
+use Rattle.event_csv.specs.Control.{Asked, control_of_text}
+use Rattle.event_csv.specs.declared.control.ControlError.TheVariants as refused
 use Rattle.event_csv.specs.Decimals.{units_of}
 use Rattle.event_csv.specs.Event.{values_of, counted_event, known_event}
 use Rattle.event_csv.specs.Faults.{first_fault, value_faults}
@@ -129,3 +131,20 @@ detection_before_a_value = refl
 
 start_after_detection_before_a_value : counted_event 0 kinds (codes "8" ∷ codes "7" ∷ codes "x" ∷ codes "1" ∷ []) ≡ Err fault.StartAfterDetection
 start_after_detection_before_a_value = refl
+
+-- what stands behind the word and one space is the text of a query, or a name
+query_comes : control_of_text (codes ">ADD SELECT * FROM Stock PUBLISH All;") ≡ Ok (Asked.Adding (codes "SELECT * FROM Stock PUBLISH All;"))
+query_comes = refl
+
+query_leaves : control_of_text (codes ">DROP Pair ") ≡ Ok (Asked.Removing (codes "Pair "))
+query_leaves = refl
+
+-- another word, small letters, and no space behind the word
+other_word : control_of_text (codes ">STOP") ≡ Err refused.BadForm
+other_word = refl
+
+small_letters : control_of_text (codes ">add S") ≡ Err refused.BadForm
+small_letters = refl
+
+no_space : control_of_text (codes ">DROP") ≡ Err refused.BadForm
+no_space = refl

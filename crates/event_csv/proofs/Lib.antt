@@ -1,3 +1,4 @@
+pub mod ControlFacts
 pub mod CutFacts
 pub mod DecimalFacts
 pub mod DigitFacts

@@ -1,3 +1,4 @@
+pub mod Control
 pub mod Decimals
 pub mod Event
 pub mod Faults

@@ -4,6 +4,7 @@
 //! whether a line that isn't empty was met, and the bytes that are left.
 #![tactic(auto)]
 
+mod control;
 mod decimals;
 mod event;
 mod fault;
@@ -16,6 +17,7 @@ mod numbers;
 mod place;
 mod quick;
 
+pub use control::{Control, ControlError, read_control};
 pub use event::{Seen, read_event, read_event_near};
 pub use fault::{LineFault, ReadFail};
 pub use feed::Feed;

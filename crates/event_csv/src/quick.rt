@@ -163,7 +163,7 @@ fn put_value(alloc: Global, kind: Kind, text: &[u8], vals: Vals) -> Option<(Vals
     match kind {
         Kind::Int => {
             let (number, rest) = take_int(text)?;
-            match vals.push(Value::Int(number)) {
+            match vals.add(Value::Int(number)) {
                 Err(_) => None,
                 Ok(()) => Some((vals, rest)),
             }
@@ -173,14 +173,14 @@ fn put_value(alloc: Global, kind: Kind, text: &[u8], vals: Vals) -> Option<(Vals
             let Ok(made) = Text::make(alloc, field) else {
                 return None;
             };
-            match vals.push(Value::Text(made)) {
+            match vals.add(Value::Text(made)) {
                 Err(_) => None,
                 Ok(()) => Some((vals, rest)),
             }
         }
         Kind::Dec(places) => {
             let (units, rest) = take_decimal(places, text)?;
-            match vals.push(Value::Dec {
+            match vals.add(Value::Dec {
                 scale: places,
                 units,
             }) {
