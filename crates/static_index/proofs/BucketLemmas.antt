@@ -1,11 +1,11 @@
 -- Buckets of ids, one of which has changed.
-use Rattle.std.proofs.Common.{◌≡◌, ◌∙◌, ap, refl, sym, subst, ℕ, Bool, true, false, cond, List, Contains}
+use Rattle.std.proofs.Common.{◌≡◌, ◌∙◌, ap, refl, sym, subst, ℕ, ℤ, Bool, true, false, cond, List, Contains}
 use Rattle.std.specs.Prelude.{Option}
 use Rattle.std.specs.declared.cmp.Ordering.{Ordering}
 use Rattle.std.specs.declared.cmp.Ordering.TheVariants.{Less, Equal, Greater}
-use Rattle.std.specs.Ordering.{is_eq, nat_cmp}
+use Rattle.std.specs.Ordering.{int_cmp, is_eq, nat_cmp}
 use Rattle.std.specs.BTreeMap.{is_at}
-use Rattle.std.proofs.lemmas.Map.Lookups.{exact_unsigned}
+use Rattle.std.proofs.lemmas.Map.Lookups.{exact_signed, exact_unsigned}
 use Rattle.event_types.specs.declared.value.Value.{Value}
 use Rattle.event_types.specs.OrderLaws.{tied_values, value_exact}
 use Rattle.static_index.specs.Buckets.{equals, ordered}
@@ -23,6 +23,10 @@ tie Greater e = absurd (cc)
 -- numbers that an ordered map counts as one key are one
 pub nat_exact : (x y : ℕ) → is_at (nat_cmp x) y ≡ true → x ≡ y
 nat_exact x y e = exact_unsigned x y (tie (nat_cmp x y) e)
+
+-- numbers of either sign that an ordered map counts as one key are one
+pub int_exact : (x y : ℤ) → is_at (int_cmp x) y ≡ true → x ≡ y
+int_exact x y e = exact_signed x y (tie (int_cmp x y) e)
 
 -- literals that an ordered map counts as one key are one
 pub ordered_exact : (x y : Value) → is_at (ordered x) y ≡ true → x ≡ y

@@ -12,9 +12,10 @@ use Rattle.event_types.specs.declared.comparison.Cmp.TheVariants as cmp
 use Rattle.event_types.specs.declared.value.Value.{Value}
 use Rattle.event_types.specs.declared.value.Value.TheVariants.{Int, Text, Dec}
 use Rattle.semantics.specs.Truth.{is_met, order_of}
-use Rattle.static_index.specs.Buckets.{hashed_ids, ordered_ids}
+use Rattle.static_index.specs.Buckets.{hashed_ids}
 use Rattle.static_index.specs.Columns.{ids_compared, ids_under}
 use Rattle.static_index.specs.Headings.{IsMetBy, Label, Part, Within}
+use Rattle.static_index.specs.Limits.{limit_ids}
 use Rattle.static_index.specs.Spans.{LiesIn, span_ids}
 use Rattle.static_index.specs.declared.column.Column.{Column}
 use Rattle.static_index.specs.declared.span.Span.{Span}
@@ -22,8 +23,8 @@ use Rattle.static_index.proofs.BucketLemmas.{tie}
 
 -- an id stays in a column where each part of it keeps the id
 pub column_kept : (old new : Column) (n : ℕ) → ((l : Value) → Contains (hashed_ids old.equal l) n → Contains (hashed_ids new.equal l) n)
-    → ((l : Value) → Contains (ordered_ids old.above l) n → Contains (ordered_ids new.above l) n)
-    → ((l : Value) → Contains (ordered_ids old.below l) n → Contains (ordered_ids new.below l) n)
+    → ((l : Value) → Contains (limit_ids old.above l) n → Contains (limit_ids new.above l) n)
+    → ((l : Value) → Contains (limit_ids old.below l) n → Contains (limit_ids new.below l) n)
     → (Contains old.unequal n → Contains new.unequal n)
     → ((span : Span) → Contains (span_ids old.spans span) n → Contains (span_ids new.spans span) n)
     → (label : Label) → Contains (ids_under old label) n → Contains (ids_under new label) n
@@ -64,8 +65,8 @@ below_at (Some Greater) e = absurd (cc)
 
 -- what a column's five steps find
 module _ (column : Column) (value : Value) (n : ℕ) (none equal above below within all : List ℕ) (first : equal ≡ none ++ hashed_ids column.equal value)
-    (kept : Contains equal n → Contains above n) (second : (l : Value) → is_met cmp.Ge (order_of value l) ≡ true → Contains (ordered_ids column.above l) n → Contains above n)
-    (kept_on : Contains above n → Contains below n) (third : (l : Value) → is_met cmp.Le (order_of value l) ≡ true → Contains (ordered_ids column.below l) n → Contains below n)
+    (kept : Contains equal n → Contains above n) (second : (l : Value) → is_met cmp.Ge (order_of value l) ≡ true → Contains (limit_ids column.above l) n → Contains above n)
+    (kept_on : Contains above n → Contains below n) (third : (l : Value) → is_met cmp.Le (order_of value l) ≡ true → Contains (limit_ids column.below l) n → Contains below n)
     (kept_within : Contains below n → Contains within n) (fourth : (span : Span) → LiesIn span value → Contains (span_ids column.spans span) n → Contains within n)
     (last : all ≡ within ++ column.unequal) where
   at_last : Contains within n → Contains all n

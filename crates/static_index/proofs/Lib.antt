@@ -6,6 +6,7 @@ pub mod HoldingLemmas
 pub mod IdLemmas
 pub mod KeepsLemmas
 pub mod LawLemmas
+pub mod LimitLemmas
 pub mod NarrowLemmas
 pub mod RangeLemmas
 pub mod ScanLemmas

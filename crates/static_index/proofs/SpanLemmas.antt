@@ -3,7 +3,7 @@ use Rattle.std.proofs.Common.{◌≡◌, refl, sym, subst, ℕ, ℤ, pos, negsuc
 use Rattle.std.specs.Prelude.{IfSome, Option, Some, None, slice_get}
 use Rattle.std.specs.BTreeMap.{BTreeMap, btree_map_len, get, is_at}
 use Rattle.std.specs.Map.{lookup}
-use Rattle.std.specs.Ordering.{nat_cmp}
+use Rattle.std.specs.Ordering.{int_cmp, nat_cmp}
 use Rattle.std.proofs.lemmas.Int.{ints}
 use Rattle.std.proofs.lemmas.List.Elements.{Contains-push_cases}
 use Rattle.std.proofs.lemmas.Map.Views.{Contains-from_lookup}
@@ -11,7 +11,7 @@ use Rattle.event_types.specs.Tuple.{TupleView}
 use Rattle.event_types.specs.declared.value.Value.{Value}
 use Rattle.semantics.specs.Values.{value_at}
 use Rattle.event_types.specs.declared.value.Value.TheVariants.{Int}
-use Rattle.static_index.specs.Buckets.{ids_in, ordered, ordered_ids}
+use Rattle.static_index.specs.Buckets.{ids_in, numbered_ids}
 use Rattle.static_index.specs.Choosing.{LiesWithin}
 use Rattle.static_index.specs.FixedParts.{all_hold, holds_if_any, part_holds}
 use Rattle.static_index.specs.Spans.{FindsNear, FindsSpans, IsFrom, IsUpTo, LiesIn, low_ids}
@@ -22,32 +22,32 @@ use Rattle.static_index.proofs.HoldingLemmas.{part_given}
 use Rattle.static_index.proofs.IdLemmas.{none_of_nil}
 
 -- what is found among the low ends of several reaches for a value
-abbrev pub FoundAmong : Value → List (ℕ × BTreeMap Value (List ℕ)) → List ℕ → Type 0
-FoundAmong value reaches found = (reach : ℕ) (lows : BTreeMap Value (List ℕ)) → Contains reaches (reach, lows) → FindsNear reach value lows found
+abbrev pub FoundAmong : Value → List (ℕ × BTreeMap ℤ (List ℕ)) → List ℕ → Type 0
+FoundAmong value reaches found = (reach : ℕ) (lows : BTreeMap ℤ (List ℕ)) → Contains reaches (reach, lows) → FindsNear reach value lows found
 
 -- one reach more
-pub FoundAmong-more : (value : Value) (reaches : List (ℕ × BTreeMap Value (List ℕ))) (one : ℕ × BTreeMap Value (List ℕ)) (old new : List ℕ) → ((n : ℕ) → Contains old n → Contains new n)
+pub FoundAmong-more : (value : Value) (reaches : List (ℕ × BTreeMap ℤ (List ℕ))) (one : ℕ × BTreeMap ℤ (List ℕ)) (old new : List ℕ) → ((n : ℕ) → Contains old n → Contains new n)
     → FindsNear one.0 value one.1 new → FoundAmong value reaches old → FoundAmong value (reaches ++ one ∷ []) new
 FoundAmong-more value reaches one old new kept found before reach lows there =
     elim (Contains-push_cases reaches one (reach, lows) there) [
       | inl earlier ↦ λ low n near has. kept n (before reach lows earlier low n near has)
-      | inr same ↦ subst (λ (p : ℕ × BTreeMap Value (List ℕ)). FindsNear p.0 value p.1 new) same found
+      | inr same ↦ subst (λ (p : ℕ × BTreeMap ℤ (List ℕ)). FindsNear p.0 value p.1 new) same found
     ]
 
 -- what is found among all reaches
-pub found_spans : (value : Value) (spans : BTreeMap ℕ (BTreeMap Value (List ℕ))) (found : List ℕ) → FoundAmong value spans.entries found → FindsSpans value spans found
+pub found_spans : (value : Value) (spans : BTreeMap ℕ (BTreeMap ℤ (List ℕ))) (found : List ℕ) → FoundAmong value spans.entries found → FindsSpans value spans found
 found_spans value spans found all span n lies has = go (get nat_cmp spans span.reach) refl has
   where
-    go : (o : Option (BTreeMap Value (List ℕ))) → get nat_cmp spans span.reach ≡ o → Contains (low_ids o span.low) n → Contains found n
+    go : (o : Option (BTreeMap ℤ (List ℕ))) → get nat_cmp spans span.reach ≡ o → Contains (low_ids o span.low) n → Contains found n
     go None is there = absurd (none_of_nil n there)
     go (Some lows) is there =
         all span.reach lows (Contains-from_lookup {eq = λ x y. is_at (nat_cmp x) y} nat_exact span.reach lows spans.entries is) span.low n lies there
 
 -- an empty map has no low ends
-pub none_low : (lows : BTreeMap Value (List ℕ)) (low : ℤ) (n : ℕ) → btree_map_len lows ≡ 0 → Contains (ordered_ids lows (Int low)) n → ⊥
+pub none_low : (lows : BTreeMap ℤ (List ℕ)) (low : ℤ) (n : ℕ) → btree_map_len lows ≡ 0 → Contains (numbered_ids lows low) n → ⊥
 none_low lows low n empty has = go lows.entries empty has
   where
-    go : (es : List (Value × List ℕ)) → length es ≡ 0 → Contains (ids_in (lookup (is_at (ordered (Int low))) es)) n → ⊥
+    go : (es : List (ℤ × List ℕ)) → length es ≡ 0 → Contains (ids_in (lookup (is_at (int_cmp low)) es)) n → ⊥
     go [] empty there = none_of_nil n there
     go (e ∷ es) empty there = omega (arith, empty)
 

@@ -1,7 +1,7 @@
 -- Ids in buckets by a literal. No public clause cites it.
-use Rattle.std.specs.Prelude.{◌≡◌, ◌≢◌, ◌⊎◌, ℕ, Bool, true, List, [], Option, Contains, if◌then◌else◌}
+use Rattle.std.specs.Prelude.{◌≡◌, ◌≢◌, ◌⊎◌, ℕ, ℤ, Bool, true, List, [], Option, Contains, if◌then◌else◌}
 use Rattle.std.specs.declared.cmp.Ordering.{Ordering}
-use Rattle.std.specs.Ordering.{eq_by_cmp}
+use Rattle.std.specs.Ordering.{eq_by_cmp, int_cmp}
 use Rattle.std.specs.BTreeMap as tree
 use Rattle.std.specs.HashMap as hash
 use Rattle.std.specs.BTreeMap.{BTreeMap}
@@ -58,12 +58,16 @@ abbrev pub FindsOnlyMet : Cmp → Value → BTreeMap Value (List ℕ) → List �
 FindsOnlyMet cmp value buckets old new = (n : ℕ) → Contains new n → Contains old n ⊎ IsAmongMet cmp value buckets.entries n
 
 -- a bound that is looked at in place
-abbrev pub value_bound : Bound (Bor Value) → Bound Value
-value_bound bound = bound_map (λ x. x.now) bound
+abbrev pub seen_bound : {K : Type 0} → Bound (Bor K) → Bound K
+seen_bound bound = bound_map (λ x. x.now) bound
 
--- the ids of the literals between two bounds, by ascending literals
-abbrev pub ids_between : Bound Value → Bound Value → BTreeMap Value (List ℕ) → List ℕ
-ids_between low high buckets = flat_map (λ e. e.1) (entries_between ordered low high buckets.entries)
+-- the ids of a number that is found by its place in the order
+abbrev pub numbered_ids : BTreeMap ℤ (List ℕ) → ℤ → List ℕ
+numbered_ids buckets number = ids_in (tree.get int_cmp buckets number)
+
+-- the ids of the numbers between two bounds, by ascending numbers
+abbrev pub ids_between : Bound ℤ → Bound ℤ → BTreeMap ℤ (List ℕ) → List ℕ
+ids_between low high buckets = flat_map (λ e. e.1) (entries_between int_cmp low high buckets.entries)
 
 -- the ids of a literal with which a value meets a comparison, and none of any other
 abbrev pub ids_if_met : Cmp → Value → Value × List ℕ → List ℕ

@@ -3,8 +3,9 @@ use Rattle.std.specs.Prelude.{ℕ, List, Contains}
 use Rattle.event_types.specs.declared.comparison.Cmp.{Cmp}
 use Rattle.event_types.specs.declared.comparison.Cmp.TheVariants as cmp
 use Rattle.event_types.specs.declared.value.Value.{Value}
-use Rattle.static_index.specs.Buckets.{hashed_ids, ordered_ids}
+use Rattle.static_index.specs.Buckets.{hashed_ids}
 use Rattle.static_index.specs.Headings.{IsMetBy, Label, Part, Within}
+use Rattle.static_index.specs.Limits.{limit_ids}
 use Rattle.static_index.specs.Spans.{span_ids}
 use Rattle.static_index.specs.declared.column.Column.{Column}
 
@@ -12,10 +13,10 @@ use Rattle.static_index.specs.declared.column.Column.{Column}
 abbrev pub ids_compared : Column → Cmp → Value → List ℕ
 ids_compared column cmp.Eq lit = hashed_ids column.equal lit
 ids_compared column cmp.Ne lit = column.unequal
-ids_compared column cmp.Lt lit = ordered_ids column.below lit
-ids_compared column cmp.Le lit = ordered_ids column.below lit
-ids_compared column cmp.Gt lit = ordered_ids column.above lit
-ids_compared column cmp.Ge lit = ordered_ids column.above lit
+ids_compared column cmp.Lt lit = limit_ids column.below lit
+ids_compared column cmp.Le lit = limit_ids column.below lit
+ids_compared column cmp.Gt lit = limit_ids column.above lit
+ids_compared column cmp.Ge lit = limit_ids column.above lit
 
 -- the ids under a label
 abbrev pub ids_under : Column → Label → List ℕ

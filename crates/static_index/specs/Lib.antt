@@ -7,6 +7,7 @@ pub mod Filing
 pub mod FixedParts
 pub mod Headings
 pub mod Laws
+pub mod Limits
 pub mod Narrowing
 pub mod Spans
 pub mod Table

@@ -9,7 +9,7 @@ ghost use Rattle.static_index.specs.Headings.{Label, label};
 use crate::appending::{append, put, take_out};
 use crate::hashed::{Hashed, collect_hashed, put_hashed, take_hashed};
 use crate::heading::Heading;
-use crate::ordered::{Ordered, collect_from, collect_up_to, put_ordered, take_ordered};
+use crate::limits::Limits;
 use crate::spans::{Spans, collect_spans, put_span, take_span};
 use event_types::{Cmp, List, Memory, Numbers, Tuple, Value};
 use indexmap::IndexMap;
@@ -22,9 +22,9 @@ use std::collections::BTreeMap;
 pub(crate) struct Column {
     equal: Hashed,
     // under `>` and `>=`
-    above: Ordered,
+    above: Limits,
     // under `<` and `<=`
-    below: Ordered,
+    below: Limits,
     // under `<>`, whatever the literal
     unequal: Numbers,
     // in ranges of numbers that are bounded on both sides
@@ -35,8 +35,8 @@ impl Column {
     pub(crate) fn new(alloc: Global) -> Column {
         Column {
             equal: IndexMap::new(alloc),
-            above: BTreeMap::new(alloc),
-            below: BTreeMap::new(alloc),
+            above: Limits::new(alloc),
+            below: Limits::new(alloc),
             unequal: List::new(alloc),
             spans: BTreeMap::new(alloc),
         }
@@ -71,8 +71,8 @@ impl Column {
     {
         match cmp {
             Cmp::Eq => put_hashed(alloc, &mut self.equal, lit, id),
-            Cmp::Gt | Cmp::Ge => put_ordered(alloc, &mut self.above, lit, id),
-            Cmp::Lt | Cmp::Le => put_ordered(alloc, &mut self.below, lit, id),
+            Cmp::Gt | Cmp::Ge => self.above.put(alloc, lit, id),
+            Cmp::Lt | Cmp::Le => self.below.put(alloc, lit, id),
             Cmp::Ne => put(&mut self.unequal, id),
         }
     }
@@ -93,8 +93,8 @@ impl Column {
     {
         match cmp {
             Cmp::Eq => take_hashed(&mut self.equal, lit, id),
-            Cmp::Gt | Cmp::Ge => take_ordered(&mut self.above, lit, id),
-            Cmp::Lt | Cmp::Le => take_ordered(&mut self.below, lit, id),
+            Cmp::Gt | Cmp::Ge => self.above.take(lit, id),
+            Cmp::Lt | Cmp::Le => self.below.take(lit, id),
             Cmp::Ne => take_out(&mut self.unequal, id),
         }
     }
@@ -132,8 +132,8 @@ impl Column {
         ensures found { OnOk result (FindsUnder value.now self.now found.new) }
     {
         collect_hashed(&self.equal, value, found)?;
-        collect_up_to(&self.above, value, found)?;
-        collect_from(&self.below, value, found)?;
+        self.above.collect_up_to(value, found)?;
+        self.below.collect_from(value, found)?;
         collect_spans(&self.spans, value, found)?;
         append(found, &self.unequal)
     }

@@ -1,12 +1,13 @@
 //! Whether fixed parts hold for an event.
 ghost use Rattle.std.specs.Prelude.{◌≡◌};
-ghost use Rattle.semantics.specs.Truth.{is_met, order_of};
+ghost use Rattle.std.specs.Ordering.{int_cmp};
+ghost use Rattle.semantics.specs.Truth.{is_accepted, is_met, order_of};
 ghost use Rattle.static_index.specs.FixedParts.{all_hold, first_holds, part_holds};
 ghost use Rattle.static_index.specs.Table.{holds_as};
 
 use crate::entry::Asked;
 use crate::fixed_part::{FixedPart, FixedParts};
-use event_types::{Cmp, Tuple, Value, ValueRef};
+use event_types::{Cmp, Tuple, Value};
 use scalar_expr::compares;
 
 // Whether the parts that are asked hold for an event.
@@ -52,9 +53,29 @@ fn is_compared(cmp: Cmp, value: &Value, lit: &Value) -> bool
     ensures { result ≡ is_met cmp (order_of value.now lit.now) }
 {
     match (value, lit) {
-        (Value::Int(number), Value::Int(other)) => {
-            compares(cmp, ValueRef::Int(*number), ValueRef::Int(*other))
-        }
-        _ => compares(cmp, value.look(), lit.look()),
+        (Value::Int(number), Value::Int(other)) => numbers_compare(cmp, *number, *other),
+        _ => any_compare(cmp, value, lit),
     }
+}
+
+// Whether a number compares with another.
+fn numbers_compare(cmp: Cmp, number: i128, other: i128) -> bool
+    ensures { result ≡ is_accepted cmp (int_cmp number other) }
+{
+    match cmp {
+        Cmp::Eq => number == other,
+        Cmp::Ne => number != other,
+        Cmp::Lt => number < other,
+        Cmp::Le => number <= other,
+        Cmp::Gt => number > other,
+        Cmp::Ge => number >= other,
+    }
+}
+
+// Whether a value of any kind compares with a literal.
+#[inline(never)]
+fn any_compare(cmp: Cmp, value: &Value, lit: &Value) -> bool
+    ensures { result ≡ is_met cmp (order_of value.now lit.now) }
+{
+    compares(cmp, value.look(), lit.look())
 }

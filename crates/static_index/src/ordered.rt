@@ -1,10 +1,9 @@
-//! Ids by the literal that bounds an attribute, found by its place in the order.
-ghost use Rattle.std.specs.Prelude.{◌≡◌, ◌++◌, pos, ◌-ℤ◌, Contains, IfSome, OnOk};
+//! Ids by the literal that bounds an attribute and is no number, found by its place in the order.
+ghost use Rattle.std.specs.Prelude.{◌≡◌, ◌++◌, Contains, OnOk};
 ghost use Rattle.event_types.specs.declared.value.Value.{Value};
 ghost use Rattle.std.specs.BTreeMap.Range.{IsLeBy, IsLtBy};
 ghost use Rattle.std.specs.Bound.{IsForward};
-ghost use Rattle.static_index.specs.Buckets.{FindsMet, FindsOnlyMet, KeepsIds, KeepsOtherIds, value_bound, ids_between, met_ids_between, ordered, ordered_ids};
-ghost use Rattle.static_index.specs.Spans.{FindsNear};
+ghost use Rattle.static_index.specs.Buckets.{FindsMet, FindsOnlyMet, KeepsIds, KeepsOtherIds, seen_bound, met_ids_between, ordered, ordered_ids};
 ghost use Rattle.event_types.specs.declared.comparison.Cmp.TheVariants.{Ge, Le};
 
 use crate::appending::{append, put, take_out};
@@ -51,7 +50,8 @@ pub(crate) fn take_ordered(buckets: &mut Ordered, lit: &Value, id: usize)
 }
 
 // Puts the ids of the literals up to a value and of its kind behind those that are there.
-pub(crate) fn collect_up_to(
+#[inline(always)]
+pub(crate) fn collect_lower(
     buckets: &Ordered,
     value: &Value,
     found: &mut Numbers,
@@ -71,7 +71,8 @@ pub(crate) fn collect_up_to(
 }
 
 // Puts the ids of the literals from a value on and of its kind behind those that are there.
-pub(crate) fn collect_from(
+#[inline(always)]
+pub(crate) fn collect_higher(
     buckets: &Ordered,
     value: &Value,
     found: &mut Numbers,
@@ -92,6 +93,7 @@ pub(crate) fn collect_from(
 
 // Puts the ids of the literals between two bounds with which a value meets a comparison behind those that are there. An
 // attribute has one kind, so that hardly any other literal is looked at.
+#[inline(always)]
 fn collect_met(
     buckets: &Ordered,
     low: Bound<&Value>,
@@ -100,67 +102,33 @@ fn collect_met(
     value: &Value,
     found: &mut Numbers,
 ) -> Result<(), Memory>
-    requires { IsForward (IsLeBy ordered) (IsLtBy ordered) (value_bound low) (value_bound high) }
-    ensures { OnOk result (found.new ≡ found.old ++ met_ids_between cmp value.now (value_bound low.entry) (value_bound high.entry) buckets.now) }
+    requires { IsForward (IsLeBy ordered) (IsLtBy ordered) (seen_bound low) (seen_bound high) }
+    ensures { OnOk result (found.new ≡ found.old ++ met_ids_between cmp value.now (seen_bound low.entry) (seen_bound high.entry) buckets.now) }
 {
     if buckets.is_empty() {
-        return Ok(());
+        Ok(())
+    } else {
+        walk_met(buckets, low, high, cmp, value, found)
     }
+}
+
+// The same, with a walk also where there is no bucket.
+#[inline(never)]
+fn walk_met(
+    buckets: &Ordered,
+    low: Bound<&Value>,
+    high: Bound<&Value>,
+    cmp: Cmp,
+    value: &Value,
+    found: &mut Numbers,
+) -> Result<(), Memory>
+    requires { IsForward (IsLeBy ordered) (IsLtBy ordered) (seen_bound low) (seen_bound high) }
+    ensures { OnOk result (found.new ≡ found.old ++ met_ids_between cmp value.now (seen_bound low.entry) (seen_bound high.entry) buckets.now) }
+{
     'buckets: for (lit, ids) in buckets.range((low, high)) {
         if compares(cmp, value.look(), lit.look()) {
             append(found, ids)?;
         }
-    }
-    Ok(())
-}
-
-// Puts the ids of the numbers from a reach below a number up to it behind those that are there.
-pub(crate) fn collect_near(
-    buckets: &Ordered,
-    reach: u128,
-    value: &Value,
-    found: &mut Numbers,
-) -> Result<(), Memory>
-    ensures kept { OnOk result (KeepsIds found.old found.new) }
-    ensures found { OnOk result (FindsNear reach value.now buckets.now found.new) }
-{
-    let Value::Int(number) = value else {
-        return Ok(());
-    };
-    let Some(low) = below(number, reach) else {
-        return collect_range(buckets, Bound::Unbounded, Bound::Included(value), found);
-    };
-    let low = Value::Int(low);
-    collect_range(
-        buckets,
-        Bound::Included(&low),
-        Bound::Included(value),
-        found,
-    )
-}
-
-// The number that lies a reach below another; none, where that is no number of 128 bits.
-fn below(number: &i128, reach: u128) -> Option<i128>
-    ensures { IfSome result (λ low. low ≡ number.now -ℤ pos reach) }
-{
-    match i128::try_from(reach) {
-        Ok(reach) => number.checked_sub(reach),
-        Err(_) => None,
-    }
-}
-
-// Puts the ids of the literals between two bounds behind those that are there.
-fn collect_range(
-    buckets: &Ordered,
-    low: Bound<&Value>,
-    high: Bound<&Value>,
-    found: &mut Numbers,
-) -> Result<(), Memory>
-    requires { IsForward (IsLeBy ordered) (IsLtBy ordered) (value_bound low) (value_bound high) }
-    ensures { OnOk result (found.new ≡ found.old ++ ids_between (value_bound low.entry) (value_bound high.entry) buckets.now) }
-{
-    'buckets: for (_, ids) in buckets.range((low, high)) {
-        append(found, ids)?;
     }
     Ok(())
 }

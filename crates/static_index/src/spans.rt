@@ -4,14 +4,14 @@ ghost use Rattle.static_index.specs.Buckets.{KeepsIds, KeepsOtherIds};
 ghost use Rattle.static_index.specs.Spans.{FindsSpans, span_ids};
 ghost use Rattle.static_index.specs.declared.span.Span.{Span};
 
-use crate::ordered::{Ordered, collect_near, put_ordered, take_ordered};
+use crate::numbered::{Numbered, collect_near, put_numbered, take_numbered};
 use crate::span::Span;
 use event_types::{Memory, Numbers, Value};
 use std::alloc::Global;
 use std::collections::BTreeMap;
 
 // The low ends of the spans of each reach.
-pub(crate) type Spans = BTreeMap<u128, Ordered>;
+pub(crate) type Spans = BTreeMap<u128, Numbered>;
 
 // Puts an id under a span.
 pub(crate) fn put_span(
@@ -23,12 +23,11 @@ pub(crate) fn put_span(
     ensures ok { OnOk result (Contains (span_ids spans.new span) id) }
     ensures kept { (other : Span) → KeepsIds (span_ids spans.old other) (span_ids spans.new other) }
 {
-    let low = Value::Int(span.low);
     if let Some(lows) = spans.get_mut(&span.reach) {
-        return put_ordered(alloc, lows, &low, id);
+        return put_numbered(alloc, lows, span.low, id);
     }
     let mut lows = BTreeMap::new(alloc);
-    put_ordered(alloc, &mut lows, &low, id)?;
+    put_numbered(alloc, &mut lows, span.low, id)?;
     spans.insert(span.reach, lows)?;
     Ok(())
 }
@@ -40,7 +39,7 @@ pub(crate) fn take_span(spans: &mut Spans, span: Span, id: usize)
     let Some(lows) = spans.get_mut(&span.reach) else {
         return;
     };
-    take_ordered(lows, &Value::Int(span.low), id);
+    take_numbered(lows, span.low, id);
     if lows.is_empty() {
         let _ = spans.remove(&span.reach);
     }

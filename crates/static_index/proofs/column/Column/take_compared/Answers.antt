@@ -10,13 +10,13 @@ returns-in-Eq c = λ label n apart has.
 
 pub returns-in-Gt : goal.returns-in-Gt
 returns-in-Gt c = λ label n apart has.
-    let new : Column = record { equal = c.args.self.now.equal; above = c.take_ordered.new.buckets; below = c.args.self.now.below; unequal = c.args.self.now.unequal; spans = c.args.self.now.spans } in
-    column_kept c.args.self.now new n (λ k h. h) (λ k h. c.take_ordered.ensures k n apart h) (λ k h. h) (λ h. h) (λ span h. h) label has
+    let new : Column = record { equal = c.args.self.now.equal; above = c.take.new.self; below = c.args.self.now.below; unequal = c.args.self.now.unequal; spans = c.args.self.now.spans } in
+    column_kept c.args.self.now new n (λ k h. h) (λ k h. c.take.ensures k n apart h) (λ k h. h) (λ h. h) (λ span h. h) label has
 
 pub returns-in-Lt : goal.returns-in-Lt
 returns-in-Lt c = λ label n apart has.
-    let new : Column = record { equal = c.args.self.now.equal; above = c.args.self.now.above; below = c.take_ordered-in-Lt.new.buckets; unequal = c.args.self.now.unequal; spans = c.args.self.now.spans } in
-    column_kept c.args.self.now new n (λ k h. h) (λ k h. h) (λ k h. c.take_ordered-in-Lt.ensures k n apart h) (λ h. h) (λ span h. h) label has
+    let new : Column = record { equal = c.args.self.now.equal; above = c.args.self.now.above; below = c.take-in-Lt.new.self; unequal = c.args.self.now.unequal; spans = c.args.self.now.spans } in
+    column_kept c.args.self.now new n (λ k h. h) (λ k h. h) (λ k h. c.take-in-Lt.ensures k n apart h) (λ h. h) (λ span h. h) label has
 
 pub returns-in-Ne : goal.returns-in-Ne
 returns-in-Ne c = λ label n apart has.
