@@ -1,11 +1,13 @@
 //! The lines of a query's results.
-ghost use Rattle.std.specs.Prelude.{◌≡◌, ◌++◌, ◌∷◌, [], IfOk, OnErr, OnOk};
-ghost use Rattle.std.specs.List.{flat_map, list_any};
+ghost use Rattle.std.specs.Prelude.{◌≡◌, ◌++◌, [], ℕ, List, IfOk, OnErr, OnOk};
+ghost use Rattle.std.specs.List.{flat_map};
+ghost use Rattle.result_text.specs.Front.{front_of};
 ghost use Rattle.result_text.specs.Tails.{AreIn, tail_text};
-ghost use Rattle.semantics.specs.Report.{is_special, line};
+ghost use Rattle.semantics.specs.Report.{line};
 
+use crate::front::Front;
 use crate::lately::{Lately, place_of};
-use crate::tails::{Tails, quote};
+use crate::tails::Tails;
 use event_types::{Memory, Text, Tuple};
 use std::alloc::Global;
 use std::marker::Model;
@@ -14,7 +16,6 @@ use std::{slice, str};
 /// Result lines, one behind another.
 #[derive(Drop)]
 pub struct Rows {
-    alloc: Global,
     bytes: Vec<u8>,
 }
 
@@ -32,7 +33,6 @@ impl Rows {
         ensures { result ≡ [] }
     {
         Rows {
-            alloc,
             bytes: Vec::new(alloc),
         }
     }
@@ -44,22 +44,22 @@ impl Rows {
         self.bytes.as_slice()
     }
 
-    /// Puts the line of each result of the query `name` behind the lines that are there. What stands behind
-    /// the name is written once for equal tuples that come one after another, or every second time. Want of
-    /// memory drops all lines.
+    /// Puts the line of each result behind the lines that are there, under the name that `front` is made of. What
+    /// stands behind the name is written once for equal tuples that come one after another, or every second time.
+    /// Want of memory drops all lines.
     pub fn append<'a>(
         &mut self,
-        name: &str,
+        front: &Front,
         tuples: &'a [Tuple],
         tails: &mut Tails,
         lately: &mut Lately<'a>,
     ) -> Result<(), Memory>
         requires { AreIn tails.old lately.old }
-        ensures appended { OnOk result (self.new ≡ self.old ++ flat_map (λ tuple. line name.now tuple) tuples.now) }
+        ensures appended { OnOk result ((name : List ℕ) → front.now ≡ front_of name → self.new ≡ self.old ++ flat_map (λ tuple. line name tuple) tuples.now) }
         ensures lately { OnOk result (AreIn tails.new lately.new) }
         ensures emptied { OnErr result (self.new ≡ []) }
     {
-        match self.put_named(name, tuples, tails, lately) {
+        match self.put_all(front.as_slice(), tuples, tails, lately) {
             Ok(()) => Ok(()),
             Err(_) => {
                 self.clear();
@@ -68,59 +68,39 @@ impl Rows {
         }
     }
 
-    // Puts the line of each result, under the name as it stands where no byte of it calls for quotes.
-    fn put_named<'a>(
-        &mut self,
-        name: &str,
-        tuples: &'a [Tuple],
-        tails: &mut Tails,
-        lately: &mut Lately<'a>,
-    ) -> Result<(), Memory>
-        requires { AreIn tails.old lately.old }
-        ensures appended { OnOk result (self.new ≡ self.old ++ flat_map (λ tuple. line name.now tuple) tuples.now) }
-        ensures lately { OnOk result (AreIn tails.new lately.new) }
-    {
-        if needs_quotes(name.as_bytes()) {
-            let field = quote(self.alloc, name.as_bytes())?;
-            self.put_all(field.as_slice(), tuples, tails, lately)
-        } else {
-            self.put_all(name.as_bytes(), tuples, tails, lately)
-        }
-    }
-
-    // Puts the line of each result behind a name that is quoted as it has to be.
+    // Puts the line of each result behind a front.
     fn put_all<'a>(
         &mut self,
-        field: &[u8],
+        front: &[u8],
         tuples: &'a [Tuple],
         tails: &mut Tails,
         lately: &mut Lately<'a>,
     ) -> Result<(), Memory>
         requires { AreIn tails.old lately.old }
-        ensures appended { OnOk result (self.new ≡ self.old ++ flat_map (λ tuple. field.now ++ 44 ∷ tail_text tuple) tuples.now) }
+        ensures appended { OnOk result (self.new ≡ self.old ++ flat_map (λ tuple. front.now ++ tail_text tuple) tuples.now) }
         ensures lately { OnOk result (AreIn tails.new lately.new) }
     {
         for tuple in tuples {
-            self.put(field, tuple, tails, lately)?;
+            self.put(front, tuple, tails, lately)?;
         }
         Ok(())
     }
 
     // Puts the line of one result.
+    #[inline(always)]
     fn put<'a>(
         &mut self,
-        field: &[u8],
+        front: &[u8],
         tuple: &'a Tuple,
         tails: &mut Tails,
         lately: &mut Lately<'a>,
     ) -> Result<(), Memory>
         requires { AreIn tails.old lately.old }
-        ensures appended { OnOk result (self.new ≡ self.old ++ field.now ++ 44 ∷ tail_text tuple.now) }
+        ensures appended { OnOk result (self.new ≡ self.old ++ (front.now ++ tail_text tuple.now)) }
         ensures lately { OnOk result (AreIn tails.new lately.new) }
     {
         let (begin, end) = place_of(tuple, tails, lately)?;
-        self.bytes.extend_from_slice(field)?;
-        self.bytes.push(b',')?;
+        self.bytes.extend_from_slice(front)?;
         self.bytes.extend_from_slice(&tails.as_slice()[begin..end])?;
         Ok(())
     }
@@ -137,19 +117,13 @@ impl Rows {
 pub fn row(alloc: Global, name: &str, tuple: &Tuple) -> Result<Text, Memory>
     ensures { IfOk result (λ text. text ≡ line name.now tuple.now) }
 {
+    let front = Front::of(alloc, name)?;
     let mut rows = Rows::new(alloc);
     let mut tails = Tails::new(alloc);
     let mut lately = Lately::none();
-    rows.append(name, slice::from_ref(tuple), &mut tails, &mut lately)?;
+    rows.append(&front, slice::from_ref(tuple), &mut tails, &mut lately)?;
     match str::from_utf8(rows.as_slice()) {
         Ok(text) => Text::make(alloc, text),
         Err(_) => Err(Memory),
     }
-}
-
-// Whether a text as a field needs quotes.
-fn needs_quotes(text: &[u8]) -> bool
-    ensures { result ≡ list_any is_special text.now }
-{
-    text.iter().any(|byte| *byte == b',' || *byte == b'"' || *byte == b'\r' || *byte == b'\n')
 }

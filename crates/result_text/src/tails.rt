@@ -53,7 +53,8 @@ impl Tails {
         self.writer.get_ref().as_slice()
     }
 
-    /// Puts the tail of a tuple's line behind the others.
+    /// Puts the tail of a tuple's line behind the others. Out of line, since a writer holds a long buffer.
+    #[inline(never)]
     pub(crate) fn put(&mut self, tuple: &Tuple) -> Result<(), Memory>
         ensures { OnOk result (self.new ≡ self.old ++ tail_text tuple.now) }
     {

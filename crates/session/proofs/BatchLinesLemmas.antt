@@ -1,12 +1,14 @@
 -- The result lines of an epoch, entry by entry.
-use Rattle.std.proofs.Common.{◌≡◌, ◌∙◌, sym, ap, refl, subst, ℕ, ◌+◌, ◌==◌, ◌<◌, ◌≤◌, zero, suc, zero-add, Bool, true, false, cond, List, [], ◌∷◌, ◌++◌, map, get_or, length, take, append_assoc, append-nil, Option, Some, slice_get, arith}
+use Rattle.std.proofs.Common.{◌≡◌, ◌∙◌, sym, ap, refl, subst, ℕ, ◌+◌, ◌==◌, ◌<◌, ◌≤◌, zero, suc, zero-add, Bool, true, false, cond, List, [], ◌∷◌, ◌++◌, map, get_or, length, take, append_assoc, append-nil, Option, Some, slice_get, arith, inl, inr}
 use Rattle.std.specs.Prelude.{⊤, AllPairs}
 use Rattle.std.specs.List.{All, flat_map, range_with_len}
 use Rattle.std.specs.Option.{option_map}
 use Rattle.std.proofs.lemmas.Bool.Decides.{nat_tests}
 use Rattle.std.proofs.lemmas.Grind.{flat_map-append}
-use Rattle.std.proofs.lemmas.Option.{slice_get-map, slice_get_read, slice_get_within}
-use Rattle.std.proofs.lemmas.List.{get_or-map, length-map, take_more}
+use Rattle.std.proofs.Math.Seq.{get_or-append_seam}
+use Rattle.std.proofs.lemmas.Bool.{cases_lt}
+use Rattle.std.proofs.lemmas.Option.{get_or_from_slice_get, slice_get-map, slice_get_read, slice_get_within}
+use Rattle.std.proofs.lemmas.List.{get_or-map, get_or_append_left, length-append, length-map, take_more}
 use Rattle.std.proofs.lemmas.List.Elements.{All-get_or, All-head, All-tail}
 use Rattle.std.proofs.lemmas.List.FromFn.{get_or-range_with_len, length-map-range_with_len, length-range_with_len}
 use Rattle.std.proofs.lemmas.List.Kept.{AllPairs-from_increasing}
@@ -22,7 +24,8 @@ use Rattle.catalogue.proofs.ProgramLemmas.{streams_have_their_names}
 use Rattle.epoch_engine.specs.Entries.{AreEntriesOf, places_in, tuples_at, tuples_in}
 use Rattle.epoch_engine.specs.declared.entry.Entry.{Entry}
 use Rattle.session.specs.BatchLines.{batch_lines}
-use Rattle.session.specs.EngineStandsWithLastOpen.{program_over}
+use Rattle.session.specs.EngineStandsWithLastOpen.{AreFronts, program_over}
+use Rattle.result_text.specs.Front.{front_of}
 
 -- the tuples of each query at a time
 abbrev pub batch_at : Program → List Event → ℕ → List Query → List (List TupleView)
@@ -173,3 +176,30 @@ module _ (c : Catalogued) where
       e ∙ ap (λ rows. rows ++ flat_map (line name) (tuples_in made entry)) was ∙ append_assoc old before (flat_map (line name) (tuples_in made entry))
       ∙ ap (λ n. old ++ (before ++ flat_map (line n) (tuples_in made entry))) (sym named) ∙ ap (λ rows. old ++ (before ++ rows)) (sym (append-nil (entry_lines made entry)))
       ∙ ap (λ rows. old ++ rows) (sym (flat_map-append (entry_lines made) (take i entries) (entry ∷ [])) ∙ ap (flat_map (entry_lines made)) (ap (λ x. take i entries ++ x ∷ []) (sym at) ∙ sym (take_more entries i entry lt)))
+
+  -- where there are no fronts, all are those of the queries
+  pub no_fronts : AreFronts c []
+  no_fronts place less = absurd (omega (arith, less))
+
+  -- so are they with the front of the next query
+  pub fronts_more : (fronts new : List (List ℕ)) (front name : List ℕ) → AreFronts c fronts → front ≡ front_of name → (query_at (judged_of c) (length fronts)).name ≡ name → new ≡ fronts ++ front ∷ [] → AreFronts c new
+  fronts_more fronts new front name are is named e = subst (AreFronts c) (sym e) each
+    where
+      more : List (List ℕ)
+      more = fronts ++ front ∷ []
+
+      last : get_or more (length fronts) [] ≡ front_of (query_at (judged_of c) (length fronts)).name
+      last = get_or-append_seam fronts front [] [] ∙ is ∙ ap front_of (sym named)
+
+      each : AreFronts c more
+      each place less =
+          elim (cases_lt place (length fronts)) [
+            | inl before ↦ get_or_append_left fronts (front ∷ []) [] place before ∙ are place before
+            | inr past ↦
+                let same : length fronts ≡ place = omega (arith, past, less, length-append fronts (front ∷ [])) in
+                subst (λ n. get_or more n [] ≡ front_of (query_at (judged_of c) n).name) same last
+          ]
+
+  -- the front at a place
+  pub front_at : (fronts : List (List ℕ)) (place : ℕ) (front : List ℕ) → AreFronts c fronts → slice_get fronts place ≡ Some front → front ≡ front_of (query_at (judged_of c) place).name
+  front_at fronts place front are found = sym (get_or_from_slice_get fronts place front [] found) ∙ are place (slice_get_within fronts place front found)

@@ -94,6 +94,7 @@ pub going_still : (c : Catalogued) (limit : ℕ) (feed : Fed) (fed : ℕ) (work 
 going_still c limit feed fed work now trims going = record {
   at_work = record {
     planned = planned_still c work.engine now trims.plan going.at_work.planned;
+    fronts = going.at_work.fronts;
     opened = λ none. trims.times.closed_time ∙ going.at_work.opened (sym trims.times.time ∙ none);
   };
   none_owed = going.none_owed;

@@ -18,7 +18,7 @@ use Rattle.session.specs.declared.work.Work.{Work}
 use Rattle.session.specs.Fits.{Fits}
 use Rattle.session.specs.Heard.{disorder}
 use Rattle.session.specs.Readings.{heard_of}
-use Rattle.session.specs.EngineStandsWithLastOpen.{HasClosed, IsAtWork, IsPlanned, IsReadyForEvent, EngineStandsWithLastOpen, lines_over}
+use Rattle.session.specs.EngineStandsWithLastOpen.{AreFronts, HasClosed, IsAtWork, IsPlanned, IsReadyForEvent, EngineStandsWithLastOpen, lines_over}
 use Rattle.session.proofs.PlanLemmas.{is_declared, may_hear, of_its_kinds, planned_still}
 
 -- the last time of a history with an event at its end
@@ -79,11 +79,12 @@ module _ (c : Catalogued) (accepted : IsAccepted c) (event : Seen) (fits : Fits 
 
   module _ (new : Work) (took : new.engine ≡ with_tuple mid event.stream event.tuple) where
     -- once it took the event, the work may go on
-    pub at_work_more : IsAtWork c new
-    at_work_more =
+    pub at_work_more : AreFronts c new.fronts → IsAtWork c new
+    at_work_more fronts =
         let still = planned_still c old mid ready.plan planned in
         record {
           planned = subst (IsPlanned c) (sym took) (record { lines = still.lines; layout = still.layout });
+          fronts = fronts;
           opened = λ none. let some : new.engine.time ≡ Some event.tuple.at = ap (λ (now : engine.EngineView). now.time) took in absurd (cc);
         }
 

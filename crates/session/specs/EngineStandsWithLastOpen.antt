@@ -1,5 +1,5 @@
 -- The events that the work stands for, and what holds of the work whatever was heard. No public clause cites this module.
-use Rattle.std.specs.Prelude.{◌≡◌, ◌≤◌, ℕ, List, [], None}
+use Rattle.std.specs.Prelude.{◌≡◌, ◌<◌, ◌≤◌, ℕ, List, [], None, length, slice_index_or}
 use Rattle.semantics.specs.Histories.{Event}
 use Rattle.semantics.specs.Programs.{Program}
 use Rattle.splitter.specs.Layouts.{IsLayoutOf}
@@ -12,7 +12,8 @@ use Rattle.epoch_engine.specs.EngineView as engine
 use Rattle.event_csv.specs.Fed.{Fed, IsPart, line_feeds_so_far}
 use Rattle.catalogue.specs.Catalogued.{Catalogued, judged_of}
 use Rattle.catalogue.specs.Chained.{kinds_of_each}
-use Rattle.catalogue.specs.Judgement.{program_of}
+use Rattle.catalogue.specs.Judgement.{program_of, query_at}
+use Rattle.result_text.specs.Front.{front_of}
 use Rattle.session.specs.SessionView.{AreDeclared}
 use Rattle.session.specs.UnbornLines.{unborn_lines}
 use Rattle.session.specs.declared.work.Work.{Work}
@@ -36,9 +37,14 @@ pub record IsPlanned (c : Catalogued) (now : engine.EngineView) : Type 0 where
   pub lines : HasBornLines now.network (lines_over c)
   pub layout : IsLayoutOf (program_over c) (kinds_of_each (judged_of c).streams) now.layout
 
--- the engine is planned, and where no epoch is open, none was closed
+-- the fronts of rows that were made are those of the first queries
+abbrev pub AreFronts : Catalogued → List (List ℕ) → Type 0
+AreFronts c fronts = (place : ℕ) → place < length fronts → slice_index_or fronts place [] ≡ front_of (query_at (judged_of c) place).name
+
+-- the engine is planned, the fronts are those of the queries, and where no epoch is open, none was closed
 pub record IsAtWork (c : Catalogued) (work : Work) : Type 0 where
   pub planned : IsPlanned c work.engine
+  pub fronts : AreFronts c work.fronts
   pub opened : work.engine.time ≡ None → work.engine.closed_time ≡ None
 
 -- the open epoch was closed, and the engine stands for the same events

@@ -3,7 +3,7 @@ ghost use Rattle.std.specs.Prelude.{◌≡◌, None, ℕ, IsSome, IfErr, OnOk};
 ghost use Rattle.cay_host.specs.Output.{SameButOutput};
 ghost use Rattle.session.specs.Feeds.{BlamesWriting};
 ghost use Rattle.session.specs.Heard.{disorder};
-ghost use Rattle.session.specs.EngineStandsWithLastOpen.{HasClosed, IsAtWork, IsReadyForEvent};
+ghost use Rattle.session.specs.EngineStandsWithLastOpen.{AreFronts, HasClosed, IsAtWork, IsReadyForEvent};
 ghost use Rattle.session.specs.ForEachHistory.{EndsAtLast, FailsInClosing, OwesClosing, PutsOpenRows};
 ghost use Rattle.session.specs.TestsLeft.{RisesByClosing, RisesByOpen};
 
@@ -27,11 +27,19 @@ fn close_epoch<L: Ledger>(
     requires at_work { IsAtWork catalogue.now work.old }
     requires opened { IsSome work.old.engine.time }
     ensures rows { OnOk result (PutsOpenRows catalogue.now work.old work.new) }
+    ensures fronts { OnOk result (AreFronts catalogue.now work.new.fronts) }
     ensures closed { OnOk result (HasClosed catalogue.now work.old.engine work.new.engine) }
     ensures tests { RisesByOpen catalogue.now work.old.engine steps.old steps.new }
 {
     let batch = work.engine.close(alloc, steps)?;
-    put_batch(catalogue, &batch, &mut work.rows, &mut work.tails)?;
+    put_batch(
+        alloc,
+        catalogue,
+        &batch,
+        &mut work.fronts,
+        &mut work.rows,
+        &mut work.tails,
+    )?;
     work.engine.take_back(batch);
     Ok(())
 }
@@ -50,6 +58,7 @@ pub fn close_before<H: Host, L: Ledger>(
     requires timely { (number : ℕ) → disorder number work.old.engine.time at ≡ None }
     ensures owes { OnOk result (OwesClosing catalogue.now at work.old work.new (H.told host.old) (H.told host.new)) }
     ensures ready { OnOk result (IsReadyForEvent catalogue.now at work.old.engine work.new.engine) }
+    ensures fronts { OnOk result (AreFronts catalogue.now work.new.fronts) }
     ensures fails { IfErr result (FailsInClosing catalogue.now at work.old (H.told host.old) (H.told host.new)) }
     ensures quiet { BlamesWriting result (H.told host.old) (H.told host.new) }
     ensures same { SameButOutput (H.told host.old) (H.told host.new) }

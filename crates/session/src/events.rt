@@ -45,6 +45,7 @@ fn offer_event(work: &mut Work, event: Seen) -> Result<(), Memory>
     requires in_time { (seen : ℕ) → IsLate work.old.engine.time work.old.engine.closed_time event.tuple.at seen → ⊥ }
     ensures heard { OnOk result (work.new.engine ≡ with_tuple work.old.engine event.stream event.tuple) }
     ensures rows { work.new.rows ≡ work.old.rows }
+    ensures fronts { work.new.fronts ≡ work.old.fronts }
 {
     work.near = event.stream;
     match work.engine.offer(event.stream, event.tuple) {

@@ -26,7 +26,7 @@ use epoch_engine::Engine;
 use event_csv::Feed;
 use event_types::Memory;
 use prefix_merge::Merged;
-use result_text::{Rows, Tails};
+use result_text::{Fronts, Rows, Tails};
 use std::alloc::Global;
 use std::marker::Model;
 
@@ -88,6 +88,7 @@ impl Session {
                 engine,
                 rows: Rows::new(alloc),
                 tails: Tails::new(alloc),
+                fronts: Fronts::new(alloc),
                 near: 0,
             },
             limit,

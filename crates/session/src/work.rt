@@ -1,14 +1,16 @@
 //! The work on the events.
 use epoch_engine::Engine;
 use event_types::StreamId;
-use result_text::{Rows, Tails};
+use result_text::{Fronts, Rows, Tails};
 
-/// What was heard, the rows of closed epochs that aren't written yet, the tails of rows, and the stream of the event
-/// that was taken last, where the next line's name is looked for first. Before any event, that is stream 0.
+/// What was heard, the rows of closed epochs that aren't written yet, the tails of rows and their fronts, which the
+/// first closing makes, and the stream of the event that was taken last, where the next line's name is looked for
+/// first. Before any event, that is stream 0.
 #[derive(Drop)]
 pub struct Work {
     pub engine: Engine,
     pub rows: Rows,
     pub tails: Tails,
+    pub fronts: Fronts,
     pub near: StreamId,
 }

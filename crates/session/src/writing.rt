@@ -1,40 +1,66 @@
 //! The rows of closed epochs, on their way to the output.
-ghost use Rattle.std.specs.Prelude.{◌≡◌, ◌++◌, [], ℕ, List, length, OnOk, OnErr};
+ghost use Rattle.std.specs.Prelude.{◌≡◌, ◌≤◌, ◌++◌, [], ℕ, List, length, OnOk, OnErr};
 ghost use Rattle.cay_host.specs.Faults.{Rose};
 ghost use Rattle.cay_host.specs.Output.{Wrote, WrotePart, SameButOutput};
 ghost use Rattle.catalogue.specs.Catalogued.{IsAccepted};
 ghost use Rattle.session.specs.BatchLines.{batch_lines};
-ghost use Rattle.session.specs.EngineStandsWithLastOpen.{program_over};
+ghost use Rattle.session.specs.EngineStandsWithLastOpen.{AreFronts, program_over};
 ghost use Rattle.session.specs.Owes.{Owes};
 
 use catalogue::Catalogue;
 use cay_host::{Failed, Host, write_whole};
 use epoch_engine::Batch;
 use event_types::Memory;
-use result_text::{Lately, Rows, Tails};
+use result_text::{Front, Fronts, Lately, Rows, Tails};
+use std::alloc::Global;
 
 /// Rows are written once there are so many bytes of them.
 const FULL: usize = 65536;
 
-/// Appends the result lines of each query's tuples.
-pub fn put_batch(
-    catalogue: &Catalogue,
-    batch: &Batch,
-    rows: &mut Rows,
-    tails: &mut Tails,
-) -> Result<(), Memory>
-    requires { length batch.now ≡ length catalogue.now.order }
-    ensures put { OnOk result (rows.new ≡ rows.old ++ batch_lines (program_over catalogue.now).queries batch.now) }
+// Makes the fronts of the queries that have none yet.
+fn make_fronts(alloc: Global, catalogue: &Catalogue, fronts: &mut Fronts) -> Result<(), Memory>
+    requires { AreFronts catalogue.now fronts.old }
+    ensures fronts { OnOk result (AreFronts catalogue.now fronts.new) }
+    ensures all { OnOk result (length catalogue.now.order ≤ length fronts.new) }
     ensures accepted { IsAccepted catalogue.now }
 {
     let streams = catalogue.streams();
+    'queries: while fronts.len() < catalogue.queries() {
+        let query = fronts.len();
+        let stream = catalogue.stream_of(query);
+        let front = Front::of(alloc, streams.name(stream))?;
+        if fronts.push(front).is_err() {
+            return Err(Memory);
+        }
+    }
+    Ok(())
+}
+
+/// Appends the result lines of each query's tuples, behind fronts that are made where there are none yet. Out of line,
+/// so that its loop stands alone.
+#[inline(never)]
+pub fn put_batch(
+    alloc: Global,
+    catalogue: &Catalogue,
+    batch: &Batch,
+    fronts: &mut Fronts,
+    rows: &mut Rows,
+    tails: &mut Tails,
+) -> Result<(), Memory>
+    requires count { length batch.now ≡ length catalogue.now.order }
+    requires fronts { AreFronts catalogue.now fronts.old }
+    ensures put { OnOk result (rows.new ≡ rows.old ++ batch_lines (program_over catalogue.now).queries batch.now) }
+    ensures fronts { OnOk result (AreFronts catalogue.now fronts.new) }
+    ensures accepted { IsAccepted catalogue.now }
+{
+    make_fronts(alloc, catalogue, fronts)?;
     tails.clear_if_full();
     let mut lately = Lately::none();
     let printed = batch.printed();
     for entry in printed.entries {
-        let name = streams.name(catalogue.stream_of(entry.place));
+        let front = fronts.get(entry.place);
         let tuples = printed.made.get(entry.stream).as_slice();
-        rows.append(name, tuples, tails, &mut lately)?;
+        rows.append(front, tuples, tails, &mut lately)?;
     }
     Ok(())
 }

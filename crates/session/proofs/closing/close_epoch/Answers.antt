@@ -6,8 +6,8 @@ use Rattle.session.proofs.TestsLemmas.{open_rises}
 use Rattle.session.proofs.closing.close_epoch.Goals as goal
 
 -- the batch has a list for each query
-pub put_batch-requires : goal.put_batch-requires
-put_batch-requires g c = batch_count c.args.catalogue.now c.args.work.now.engine c.close.new.self c.in_ok-batch.batch c.requires.at_work.planned c.in_ok-batch.ensures.closed
+pub put_batch-requires-clause-count : goal.put_batch-requires-clause-count
+put_batch-requires-clause-count g c = batch_count c.args.catalogue.now c.args.work.now.engine c.close.new.self c.in_ok-batch.batch c.requires.at_work.planned c.in_ok-batch.ensures.closed
 
 -- the rows of the epoch were put
 pub returns-clause-rows : goal.returns-clause-rows

@@ -1,7 +1,7 @@
-use Rattle.std.proofs.Common.{ap}
+use Rattle.std.proofs.Common.{ap, subst, sym}
 use Rattle.std.proofs.lemmas.Result.{err_from_is_err_and}
 use Rattle.epoch_engine.specs.EngineView as engine
-use Rattle.session.specs.EngineStandsWithLastOpen.{program_over}
+use Rattle.session.specs.EngineStandsWithLastOpen.{AreFronts, program_over}
 use Rattle.session.proofs.StandsLemmas.{at_work_more, may_offer, stands_more}
 use Rattle.session.proofs.OwesLemmas.{fails, goes_on, no_memory}
 use Rattle.session.proofs.events.close_and_offer.Goals as goal
@@ -42,7 +42,7 @@ returns-clause-more g c = λ history stands.
 pub returns-clause-at_work : goal.returns-clause-at_work
 returns-clause-at_work g c =
     at_work_more c.args.catalogue.now c.requires.accepted c.args.line.event c.requires.fits c.args.work.now.engine c.close_before.new.work.engine (rw c.at-at.ensures.value at c.in_ok-close_before.ensures.ready) c.requires.at_work.planned
-    c.offer_event.new.work c.in_ok-offer_event.ensures.heard
+    c.offer_event.new.work c.in_ok-offer_event.ensures.heard (subst (AreFronts c.args.catalogue.now) (sym c.in_ok-offer_event.ensures.fronts) c.in_ok-close_before.ensures.fronts)
 
 -- its closing tests no more than the open epoch asks for
 pub returns-in_err-close_before-clause-tests : goal.returns-in_err-close_before-clause-tests
