@@ -76,6 +76,7 @@ impl Draft {
     }
 
     /// Puts a tuple behind those of a stream. After want of memory the draft is of no more use.
+    #[inline(always)]
     pub(crate) fn add_made(&mut self, stream: StreamId, tuple: Tuple) -> Result<(), Memory>
         requires fits { DraftFits (length self.old.made) (length self.old.beads) self.old }
         requires stream { stream < length self.old.made }
@@ -85,10 +86,7 @@ impl Draft {
         ensures fits { OnOk result (DraftFits (length self.old.made) (length self.old.beads) self.new) }
     {
         self.due.mark(stream)?;
-        match self.made.get_mut(stream).push(tuple) {
-            Ok(()) => Ok(()),
-            Err(_) => Err(Memory),
-        }
+        self.made.get_mut(stream).add(tuple)
     }
 
     /// Takes the tuples of a stream out. Takes no memory.

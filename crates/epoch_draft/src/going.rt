@@ -23,6 +23,7 @@ use steps::{Ledger, Steps};
 
 /// A tuple that began at the time `first` goes out by an end, where that is after the end's birth. It passes these
 /// stages, which do with it what those of the end do. After want of memory the draft is of no more use.
+#[inline(always)]
 pub(crate) fn go_out<L: Ledger>(
     draft: &mut Draft,
     end: &End,

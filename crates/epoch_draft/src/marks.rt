@@ -29,6 +29,7 @@ impl Marks {
     }
 
     /// Marks a number. After want of memory all that were marked still are.
+    #[inline(always)]
     pub fn mark(&mut self, number: usize) -> Result<(), Memory>
         requires marks { AreMarks self.old }
         requires number { number < length self.old.flags }

@@ -67,8 +67,31 @@ fn meet_waits<L: Ledger>(
     Ok(())
 }
 
-// A tuple, which begins here, goes to each of these targets, by which it was found.
+// A tuple, which begins here, goes to each of these targets, by which it was found. What goes to several of them shares
+// its values.
 fn go_all<L: Ledger>(
+    network: &Network,
+    draft: &mut Draft,
+    targets: &[Target],
+    tuple: &Tuple,
+    steps: &mut Steps<L>,
+) -> Result<(), Memory>
+    requires targets { All (IsTarget network.now) targets.now }
+    requires draft { IsDraftOf network.now draft.old }
+    requires suits { All (λ target. All (WaySuits network.now tuple.now) (way_of network.now target)) targets.now }
+    requires met { All (λ target. All (MeetsParts network.now tuple.now) (way_of network.now target)) targets.now }
+    ensures grows { OnOk result (Grows network.now (moves_on (flat_map (way_of network.now) targets.now) (begins tuple.now)) draft.old draft.new) }
+    ensures ticks { steps.new ≤ steps.old + ways_work network.now (flat_map (way_of network.now) targets.now) }
+{
+    if targets.len() < 2 {
+        return go_each(network, draft, targets, tuple, steps);
+    }
+    let shared = tuple.shared(draft.alloc)?;
+    go_each(network, draft, targets, &shared, steps)
+}
+
+// The same, whether its values are shared or not.
+fn go_each<L: Ledger>(
     network: &Network,
     draft: &mut Draft,
     targets: &[Target],

@@ -11,8 +11,27 @@ use scalar_expr::{apply, holds};
 use std::alloc::Global;
 use steps::{Ledger, Steps};
 
-/// What the tuple is after the stages, or nothing where one of them doesn't let it pass.
+/// What the tuple is after the stages, or nothing where one of them doesn't let it pass. Where there are none, which
+/// is often so, it is copied at once.
+#[inline(always)]
 pub(crate) fn pass_on<L: Ledger>(
+    alloc: Global,
+    step: &[Stage],
+    tuple: &Tuple,
+    steps: &mut Steps<L>,
+) -> Result<Option<Tuple>, Memory>
+    requires { StepSuits step.now tuple.now }
+    ensures value { IfOk result (λ passed. passed ≡ pass step.now tuple.now) }
+    ensures ticks { steps.new ≤ steps.old + keeps step.now }
+{
+    if step.is_empty() {
+        return Ok(Some(tuple.copy(alloc)?));
+    }
+    pass_stages(alloc, step, tuple, steps)
+}
+
+// The same of any stages.
+fn pass_stages<L: Ledger>(
     alloc: Global,
     step: &[Stage],
     tuple: &Tuple,
@@ -26,7 +45,7 @@ pub(crate) fn pass_on<L: Ledger>(
         [] => Ok(Some(tuple.copy(alloc)?)),
         [Stage::Keep(condition), rest @ ..] => {
             if holds(condition, tuple, None, steps) {
-                pass_on(alloc, rest, tuple, steps)
+                pass_stages(alloc, rest, tuple, steps)
             } else {
                 Ok(None)
             }

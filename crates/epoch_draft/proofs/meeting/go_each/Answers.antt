@@ -5,7 +5,7 @@ use Rattle.epoch_laws.specs.Instances.{begins}
 use Rattle.epoch_draft.proofs.DraftLemmas.{draft_of}
 use Rattle.epoch_draft.proofs.MeetLemmas.{targets_more}
 use Rattle.epoch_draft.proofs.WorkLemmas.{flat_more, flat_part}
-use Rattle.epoch_draft.proofs.meeting.go_all.Goals as goal
+use Rattle.epoch_draft.proofs.meeting.go_each.Goals as goal
 
 pub go-requires-clause-draft : goal.go-requires-clause-draft
 go-requires-clause-draft g c = draft_of c.args.network.now c.args.draft.now c.loop-target.draft c.requires.draft c.loop-target.invariant.grows.fits

@@ -5,7 +5,7 @@ use Rattle.epoch_laws.specs.Instances.{begins}
 use Rattle.epoch_draft.specs.Drafts.{Grows}
 use Rattle.epoch_draft.specs.Moves.{moves_on}
 use Rattle.epoch_draft.specs.Work.{ways_work}
-use Rattle.epoch_draft.proofs.meeting.go_all.Given as goal
+use Rattle.epoch_draft.proofs.meeting.go_each.Given as goal
 
 -- the tuple went to the targets so far
 abbrev pub invariant-loop-target : goal.invariant-loop-target
