@@ -2,7 +2,7 @@
 use Rattle.std.proofs.Common.{◌≡◌, ◌∙◌, sym, ap, refl, subst, inl, inr, ℕ, ◌+◌, ◌<◌, ◌==◌, ◌||◌, ◌⊎◌, Bool, true, false, cond, length, get_or, take, drop, List, [], ◌∷◌, ◌++◌, add-one, arith, ◌≤◌}
 use Rattle.std.specs.Prelude.{Contains, Option, Some, slice_get, sum_by, option_to_list}
 use Rattle.std.specs.List.{All}
-use Rattle.std.specs.List.Sorted.{IsPermutation}
+use Rattle.std.specs.List.Sorted.{IsPermutation, IsSorted}
 use Rattle.std.proofs.Math.Seq.{drop-cons}
 use Rattle.std.proofs.lemmas.Bool.Decides.{nat_tests}
 use Rattle.std.proofs.lemmas.Grind.{get_or-set_at}
@@ -17,7 +17,7 @@ use Rattle.event_types.specs.declared.kind.Kind.{Kind}
 use Rattle.event_types.specs.Order.{put, sorted, tuple_cmp}
 use Rattle.event_types.specs.OrderLaws.{tuple_exact, tuple_total}
 use Rattle.event_types.specs.Tuple.{TupleView}
-use Rattle.event_types.proofs.SortLemmas.{sort_permuted}
+use Rattle.event_types.proofs.SortLemmas.{sort_permuted, sorted_is}
 use Rattle.binding_index.specs.declared.store.Store.{Store}
 use Rattle.instances.specs.declared.instance.Instance.{Instance}
 use Rattle.semantics.specs.Denotation.{Streams, streams_of}
@@ -155,6 +155,10 @@ sort_permutes (x ∷ xs) = IsPermutation-trans _ _ _ (put_permutes tuple_cmp x (
 -- tuples in order stay as they are
 pub sort_twice : (xs : List TupleView) → sorted (sorted xs) ≡ sorted xs
 sort_twice xs = sort_permuted tuple_cmp tuple_total tuple_exact (sorted xs) xs (sort_permutes xs)
+
+-- what a sort makes of tuples
+pub in_order : (rows old new : List TupleView) → old ≡ rows → IsPermutation old new → IsSorted tuple_cmp new → new ≡ sorted rows
+in_order rows old new is permuted up = sorted_is tuple_cmp tuple_total tuple_exact old new permuted up ∙ ap sorted is
 
 -- tuples of a stream's kinds are suited
 pub rows_suit : (net : Net) → IsNetwork net → (kinds : List (List Kind)) (stores : List (Option Store)) → IsTyped net kinds stores → (s : ℕ) → s < length kinds → (rows : List TupleView) → ((known : List Kind) → slice_get kinds s ≡ Some known → All (HasKinds known) rows)

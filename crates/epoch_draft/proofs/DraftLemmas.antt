@@ -8,6 +8,7 @@ use Rattle.std.proofs.lemmas.Bool.Decides.{nat_tests}
 use Rattle.std.proofs.lemmas.Grind.{flat_map-append, get_or-set_at}
 use Rattle.std.proofs.lemmas.List.{append-nil, get_or-set_other, length-set}
 use Rattle.std.proofs.lemmas.List.Sorted.{IsPermutation-append, IsPermutation-append_left, IsPermutation-append_right, IsPermutation-refl, IsPermutation-sym, IsPermutation-to_front, IsPermutation-trans}
+use Rattle.event_types.specs.Order.{sorted}
 use Rattle.event_types.specs.Tuple.{TupleView}
 use Rattle.instances.specs.declared.instance.Instance.{Instance}
 use Rattle.scalar_expr.proofs.Bags.{flat_map_permuted, permuted_from, permuted_to}
@@ -30,7 +31,7 @@ use Rattle.epoch_draft.proofs.Lists.{contains_or_not}
 use Rattle.epoch_draft.proofs.MarkLemmas.{marks_kept, marks_same, marks_trans}
 
 -- tuples of one stream
-pub made_fits : (old : Draft) (s : ℕ) (rows : List TupleView) (due : Marks) → DraftFits (length old.made) (length old.beads) old → MarksMore old.due due → Contains due.numbers s
+made_fits : (old : Draft) (s : ℕ) (rows : List TupleView) (due : Marks) → DraftFits (length old.made) (length old.beads) old → MarksMore old.due due → Contains due.numbers s
     → DraftFits (length old.made) (length old.beads) (record { alloc = old.alloc; made = set old.made s rows; beads = old.beads; due = due; reached = old.reached })
 made_fits old s rows due fits more marked = record {
   made = length-set old.made s rows;
@@ -50,6 +51,30 @@ made_fits old s rows due fits more marked = record {
     go : (t : ℕ) → (t ≡ s) ⊎ (t ≡ s → ⊥) → (get_or (set old.made s rows) t [] ≡ []) ⊎ Contains due.numbers t
     go t (inl same) = inr (subst (Contains due.numbers) (sym same) marked)
     go t (inr other) = kept t other (fits.due_all t)
+
+-- the same where the lists are these
+pub set_fits : (old : Draft) (s : ℕ) (rows : List TupleView) (made : List (List TupleView)) (due : Marks) → DraftFits (length old.made) (length old.beads) old → MarksMore old.due due → Contains due.numbers s → made ≡ set old.made s rows
+    → DraftFits (length old.made) (length old.beads) (record { alloc = old.alloc; made = made; beads = old.beads; due = due; reached = old.reached })
+set_fits old s rows made due fits more marked is =
+    subst (λ (lists : List (List TupleView)). DraftFits (length old.made) (length old.beads) (record { alloc = old.alloc; made = lists; beads = old.beads; due = due; reached = old.reached })) (sym is) (made_fits old s rows due fits more marked)
+
+-- tuples that are put in order
+pub ordered_fits : (old : Draft) (made : List (List TupleView)) → DraftFits (length old.made) (length old.beads) old → length made ≡ length old.made → ((s : ℕ) → get_or made s [] ≡ sorted (get_or old.made s []))
+    → DraftFits (length old.made) (length old.beads) (record { alloc = old.alloc; made = made; beads = old.beads; due = old.due; reached = old.reached })
+ordered_fits old made fits as_many ordered = record {
+  made = as_many;
+  beads = refl;
+  due = fits.due;
+  due_below = fits.due_below;
+  reached = fits.reached;
+  reached_below = fits.reached_below;
+  due_all = λ s. go s (fits.due_all s);
+  reached_all = fits.reached_all;
+}
+  where
+    go : (s : ℕ) → (get_or old.made s [] ≡ []) ⊎ Contains old.due.numbers s → (get_or made s [] ≡ []) ⊎ Contains old.due.numbers s
+    go s (inl none) = inl (ordered s ∙ ap sorted none)
+    go s (inr there) = inr there
 
 -- beads of one state
 pub beads_fit : (old : Draft) (w : ℕ) (beads : List Instance) (reached : Marks) → DraftFits (length old.made) (length old.beads) old → MarksMore old.reached reached → Contains reached.numbers w

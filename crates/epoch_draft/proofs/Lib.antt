@@ -15,6 +15,7 @@ pub mod KeyLemmas
 pub mod LeadLemmas
 pub mod LeastLemmas
 pub mod LedLemmas
+pub mod MadeLemmas
 pub mod Lists
 pub mod MarkLemmas
 pub mod MeetLemmas

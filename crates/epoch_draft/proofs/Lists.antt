@@ -102,6 +102,21 @@ pub on_err : {T E : Type 0} (r : Result T E) (P : Type 0) → P → OnErr r P
 on_err (Ok x) P holds = tt
 on_err (Err e) P holds = holds
 
+-- what follows both from what is promised of an Ok and from what is of an Err
+pub on_both : {T E : Type 0} (r : Result T E) (P Q R : Type 0) → (P → R) → (Q → R) → OnOk r P → OnErr r Q → R
+on_both (Ok x) P Q R f g h k = f h
+on_both (Err e) P Q R f g h k = g k
+
+-- what is promised of an Ok by two clauses
+pub on_ok_two : {T E : Type 0} (r : Result T E) (P Q R : Type 0) → (P → Q → R) → OnOk r P → OnOk r Q → OnOk r R
+on_ok_two (Ok x) P Q R f p q = f p q
+on_ok_two (Err e) P Q R f p q = p
+
+-- what is promised of an Ok by three clauses
+pub on_ok_three : {T E : Type 0} (r : Result T E) (P Q R S : Type 0) → (P → Q → R → S) → OnOk r P → OnOk r Q → OnOk r R → OnOk r S
+on_ok_three (Ok x) P Q R S f p q r = f p q r
+on_ok_three (Err e) P Q R S f p q r = p
+
 -- what is promised of an Ok by four clauses
 pub on_ok_four : {T E : Type 0} (r : Result T E) (P Q R S U : Type 0) → (P → Q → R → S → U) → OnOk r P → OnOk r Q → OnOk r R → OnOk r S → OnOk r U
 on_ok_four (Ok x) P Q R S U f p q s u = f p q s u

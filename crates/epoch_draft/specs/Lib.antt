@@ -13,6 +13,7 @@ pub mod Going
 pub mod Held
 pub mod Kindings
 pub mod Led
+pub mod Made
 pub mod Marks
 pub mod Meeting
 pub mod Moves

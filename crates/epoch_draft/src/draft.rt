@@ -3,11 +3,12 @@ ghost use Rattle.std.specs.Prelude.{◌≡◌, ◌<◌, ◌⊎◌, ◌++◌, ◌
 ghost use Rattle.std.specs.List.{All};
 ghost use Rattle.event_types.specs.Order.{sorted};
 ghost use Rattle.epoch_draft.specs.Drafts.{DraftFits, without};
+ghost use Rattle.epoch_draft.specs.Made.{IsLastIn};
 ghost use Rattle.epoch_draft.specs.Marks.{MarksMore};
 
-use crate::filling::{clear_lists, empty_lists};
+use crate::made::Made;
 use crate::marks::Marks;
-use event_types::{List, Memory, StreamId, Tuple, Tuples, put_in_order};
+use event_types::{List, Memory, StreamId, Tuple, Tuples};
 use inst_chain::{Bead, Chain};
 use instances::Instance;
 use std::alloc::Global;
@@ -24,7 +25,7 @@ pub type Beads = List<Chain<Instance>>;
 #[derive(Drop)]
 pub struct Draft {
     pub alloc: Global,
-    pub made: Lists,
+    pub made: Made,
     pub beads: Beads,
     pub due: Marks,
     pub reached: Marks,
@@ -49,7 +50,7 @@ impl Draft {
         ensures none_made { IfOk result (λ draft. (stream : ℕ) → slice_index_or draft.made stream [] ≡ []) }
         ensures no_beads { IfOk result (λ draft. (state : ℕ) → slice_index_or draft.beads state [] ≡ []) }
     {
-        let made = empty_lists(alloc, streams)?;
+        let made = Made::make(alloc, streams)?;
         let beads = empty_chains(alloc, states)?;
         let due = Marks::make(alloc, streams)?;
         let reached = Marks::make(alloc, states)?;
@@ -69,7 +70,7 @@ impl Draft {
         ensures none_made { (stream : ℕ) → slice_index_or self.new.made stream [] ≡ [] }
         ensures no_beads { (state : ℕ) → slice_index_or self.new.beads state [] ≡ [] }
     {
-        clear_lists(&mut self.made, self.due.numbers.as_slice());
+        self.made.clear(self.due.numbers.as_slice());
         clear_chains(&mut self.beads, self.reached.numbers.as_slice());
         self.due.clear();
         self.reached.clear();
@@ -86,42 +87,65 @@ impl Draft {
         ensures fits { OnOk result (DraftFits (length self.old.made) (length self.old.beads) self.new) }
     {
         self.due.mark(stream)?;
-        self.made.get_mut(stream).add(tuple)
+        self.made.add(stream, tuple)
     }
 
-    /// Takes the tuples of a stream out. Takes no memory.
-    pub(crate) fn take_made(&mut self, stream: StreamId) -> Tuples
+    /// Puts a tuple behind those of a stream. Where `last` is a stream that ends with it, it stands already and isn't copied.
+    /// After want of memory the draft is of no more use.
+    #[inline(always)]
+    pub(crate) fn add_copy(
+        &mut self,
+        stream: StreamId,
+        tuple: &Tuple,
+        last: Option<StreamId>,
+    ) -> Result<(), Memory>
         requires fits { DraftFits (length self.old.made) (length self.old.beads) self.old }
         requires stream { stream < length self.old.made }
-        ensures value { result ≡ slice_index_or self.old.made stream [] }
-        ensures taken { self.new ≡ without self.old stream }
-        ensures fits { DraftFits (length self.old.made) (length self.old.beads) self.new }
-    {
-        std::mem::replace(self.made.get_mut(stream), List::new(self.alloc))
-    }
-
-    /// Makes these the tuples of a stream. After want of memory the draft is of no more use.
-    pub(crate) fn put_made(&mut self, stream: StreamId, tuples: Tuples) -> Result<(), Memory>
-        requires fits { DraftFits (length self.old.made) (length self.old.beads) self.old }
-        requires stream { stream < length self.old.made }
-        ensures made { OnOk result (self.new.made ≡ slice_set self.old.made stream tuples) }
+        requires last { IsLastIn self.old.made tuple.now last }
+        ensures made { OnOk result (self.new.made ≡ slice_set self.old.made stream (slice_index_or self.old.made stream [] ++ tuple.now ∷ [])) }
         ensures beads { OnOk result (self.new.beads ≡ self.old.beads) }
         ensures due { OnOk result (MarksMore self.old.due self.new.due) }
         ensures fits { OnOk result (DraftFits (length self.old.made) (length self.old.beads) self.new) }
     {
         self.due.mark(stream)?;
-        *self.made.get_mut(stream) = tuples;
-        Ok(())
+        match last {
+            Some(last) => self.made.add_again(stream, last),
+            None => self.made.add(stream, tuple.copy(self.alloc)?),
+        }
     }
 
-    /// Puts the tuples of each stream in order. Takes no memory.
-    pub(crate) fn put_in_order(&mut self)
-        requires { DraftFits (length self.old.made) (length self.old.beads) self.old }
-        ensures made { (stream : ℕ) → slice_index_or self.new.made stream [] ≡ sorted (slice_index_or self.old.made stream []) }
-        ensures beads { self.new.beads ≡ self.old.beads }
-        ensures fits { DraftFits (length self.old.made) (length self.old.beads) self.new }
+    /// Takes the tuples of a stream out, as copies. After want of memory the draft is of no more use.
+    pub(crate) fn take_made(&mut self, stream: StreamId) -> Result<Vec<Tuple>, Memory>
+        requires fits { DraftFits (length self.old.made) (length self.old.beads) self.old }
+        requires stream { stream < length self.old.made }
+        ensures value { IfOk result (λ tuples. tuples.items ≡ slice_index_or self.old.made stream []) }
+        ensures taken { OnOk result (self.new ≡ without self.old stream) }
+        ensures fits { OnOk result (DraftFits (length self.old.made) (length self.old.beads) self.new) }
     {
-        put_all_in_order(&mut self.made, self.due.numbers.as_slice());
+        self.made.take(stream)
+    }
+
+    /// Makes these the tuples of a stream. After want of memory the draft is of no more use.
+    pub(crate) fn put_made(&mut self, stream: StreamId, tuples: Vec<Tuple>) -> Result<(), Memory>
+        requires fits { DraftFits (length self.old.made) (length self.old.beads) self.old }
+        requires stream { stream < length self.old.made }
+        ensures made { OnOk result (self.new.made ≡ slice_set self.old.made stream tuples.items) }
+        ensures beads { OnOk result (self.new.beads ≡ self.old.beads) }
+        ensures due { OnOk result (MarksMore self.old.due self.new.due) }
+        ensures fits { OnOk result (DraftFits (length self.old.made) (length self.old.beads) self.new) }
+    {
+        self.due.mark(stream)?;
+        self.made.put(stream, tuples)
+    }
+
+    /// Puts the tuples of each stream in order. After want of memory the draft is of no more use.
+    pub(crate) fn put_in_order(&mut self) -> Result<(), Memory>
+        requires { DraftFits (length self.old.made) (length self.old.beads) self.old }
+        ensures made { OnOk result ((stream : ℕ) → slice_index_or self.new.made stream [] ≡ sorted (slice_index_or self.old.made stream [])) }
+        ensures beads { OnOk result (self.new.beads ≡ self.old.beads) }
+        ensures fits { OnOk result (DraftFits (length self.old.made) (length self.old.beads) self.new) }
+    {
+        self.made.put_in_order(self.due.numbers.as_slice())
     }
 
     /// Makes a bead of an instance for a state. After want of memory the draft is of no more use.
@@ -152,18 +176,6 @@ fn put_first(chain: &mut Chain<Instance>, bead: Bead<Instance>)
     whole.link(bead);
     whole.append(chain);
     std::mem::swap(chain, &mut whole);
-}
-
-// Puts the tuples of the lists at these places in order.
-fn put_all_in_order(lists: &mut Lists, numbers: &[usize])
-    requires numbers { All (λ number. number < length lists.old) numbers.now }
-    requires others { (place : ℕ) → (slice_index_or lists.old place [] ≡ []) ⊎ Contains numbers.now place }
-    ensures as_many { length lists.new ≡ length lists.old }
-    ensures ordered { (place : ℕ) → slice_index_or lists.new place [] ≡ sorted (slice_index_or lists.old place []) }
-{
-    for number in numbers {
-        put_in_order(lists.get_mut(*number));
-    }
 }
 
 // So many empty chains.

@@ -1,5 +1,5 @@
 //! Instances on their ways out of a state.
-ghost use Rattle.std.specs.Prelude.{◌≡◌, ◌+◌, ◌<◌, ◌≤◌, ◌∷◌, [], IsTrue, OnOk, Some, length, map};
+ghost use Rattle.std.specs.Prelude.{◌≡◌, ◌+◌, ◌<◌, ◌≤◌, ◌∷◌, [], IfOk, IfSome, IsTrue, OnOk, Some, length, map};
 ghost use Rattle.std.specs.List.{All};
 ghost use Rattle.automaton.specs.States.{Net, is_used, step_at};
 ghost use Rattle.automaton.specs.Steps.{pass};
@@ -8,43 +8,72 @@ ghost use Rattle.semantics.specs.Births.{is_after};
 ghost use Rattle.epoch_laws.specs.Instances.{began};
 ghost use Rattle.epoch_draft.specs.Drafts.{DraftFits, Grows, IsDraftOf};
 ghost use Rattle.epoch_draft.specs.Going.{GoesInto};
+ghost use Rattle.epoch_draft.specs.Made.{IsLastIn};
 ghost use Rattle.epoch_draft.specs.StoredNetworks.{IsWaitingState};
 ghost use Rattle.epoch_draft.specs.Moves.{moves_on};
 ghost use Rattle.epoch_draft.specs.Suits.{LeavingSuits, StepSuits};
 ghost use Rattle.epoch_draft.specs.Work.{keeps, ways_work};
 
 use crate::draft::Draft;
-use crate::passing::{pass_made, pass_on};
+use crate::passing::{pass_made, pass_on, pass_stages};
 use crate::waiting_state::WaitingState;
 use automaton::{End, Network, Stage};
-use event_types::{Memory, Tuple};
+use event_types::{Memory, StreamId, Tuple};
 use instances::Instance;
 use steps::{Ledger, Steps};
 
-/// A tuple that began at the time `first` goes out by an end, where that is after the end's birth. It passes these
-/// stages, which do with it what those of the end do. After want of memory the draft is of no more use.
+/// An end, and the stages through which a tuple goes out by it; they do with it what those of the end's step do.
+#[derive(Drop)]
+pub(crate) struct WayOut<'a> {
+    pub(crate) end: &'a End,
+    pub(crate) step: &'a [Stage],
+}
+
+/// A tuple that began at the time `first` goes out by an end, where that is after the end's birth. Where a stream ends
+/// with the tuple, `last` may be that; the result may be such a stream again. After want of memory the draft is of no
+/// more use.
 #[inline(always)]
 pub(crate) fn go_out<L: Ledger>(
     draft: &mut Draft,
-    end: &End,
-    step: &[Stage],
+    way: &WayOut<'_>,
     tuple: &Tuple,
     first: u64,
+    last: Option<StreamId>,
     steps: &mut Steps<L>,
-) -> Result<(), Memory>
+) -> Result<Option<StreamId>, Memory>
     requires fits { DraftFits (length draft.old.made) (length draft.old.beads) draft.old }
-    requires below { end.now.out < length draft.old.made }
-    requires suits { StepSuits step.now tuple.now }
-    requires passes { pass step.now tuple.now ≡ pass end.now.step tuple.now }
-    ensures grows { OnOk result ((net : Net) → length draft.old.beads ≡ length net → Grows net (moves_on (Out end.now ∷ []) (began first tuple.now)) draft.old draft.new) }
-    ensures ticks { steps.new ≤ steps.old + keeps step.now }
+    requires below { way.now.end.now.out < length draft.old.made }
+    requires suits { StepSuits way.now.step.now tuple.now }
+    requires passes { pass way.now.step.now tuple.now ≡ pass way.now.end.now.step tuple.now }
+    requires last { IsLastIn draft.old.made tuple.now last }
+    ensures grows { OnOk result ((net : Net) → length draft.old.beads ≡ length net → Grows net (moves_on (Out way.now.end.now ∷ []) (began first tuple.now)) draft.old draft.new) }
+    ensures last { IfOk result (λ last. IsLastIn draft.new.made tuple.now last) }
+    ensures ticks { steps.new ≤ steps.old + keeps way.now.step.now }
 {
-    if !is_read(end.birth, first) {
-        return Ok(());
+    if !is_read(way.end.birth, first) {
+        return Ok(last);
     }
-    match pass_on(draft.alloc, step, tuple, steps)? {
-        Some(passed) => draft.add_made(end.out, passed),
-        None => Ok(()),
+    let stream = way.end.out;
+    if way.step.is_empty() {
+        draft.add_copy(stream, tuple, last)?;
+        return Ok(Some(stream));
+    }
+    match pass_stages(draft.alloc, way.step, tuple, steps)? {
+        Some(passed) => {
+            draft.add_made(stream, passed)?;
+            Ok(other_than(stream, last))
+        }
+        None => Ok(last),
+    }
+}
+
+// A stream, if there is one and it isn't this one.
+fn other_than(stream: StreamId, last: Option<StreamId>) -> Option<StreamId>
+    ensures { IfSome result (λ other. (last ≡ Some other) × (other ≡ stream → ⊥)) }
+{
+    match last {
+        Some(other) if other != stream => last,
+        _ => None,
     }
 }
 
@@ -95,6 +124,7 @@ pub(crate) fn go_into<L: Ledger>(
     requires below { state < length draft.old.beads }
     requires suits { StepSuits step.now tuple.now }
     ensures grows { OnOk result (GoesInto state step.now (began first tuple.now) draft.old draft.new) }
+    ensures made { OnOk result (draft.new.made ≡ draft.old.made) }
     ensures ticks { steps.new ≤ steps.old + keeps step.now }
 {
     match pass_on(draft.alloc, step, tuple, steps)? {
@@ -150,15 +180,13 @@ fn go_out_all<L: Ledger>(
     ensures grows { OnOk result (Grows network.now (moves_on (map Out ends.now) instance.now) draft.old draft.new) }
     ensures ticks { steps.new ≤ steps.old + ways_work network.now (map Out ends.now) }
 {
+    let mut last = None;
     for end in ends {
-        go_out(
-            draft,
+        let way = WayOut {
             end,
-            end.step.as_slice(),
-            &instance.tuple,
-            instance.first,
-            steps,
-        )?;
+            step: end.step.as_slice(),
+        };
+        last = go_out(draft, &way, &instance.tuple, instance.first, last, steps)?;
     }
     Ok(())
 }

@@ -6,11 +6,12 @@
 //!
 //! `draw` reads a `StoredNetwork` and changes a `Drawing` alone, and the count of steps; `settle` goes by a `ClosingEpoch`.
 //!
-//! Contracts see each public type as its fields. A `Drawing` is a `Draft`, its pairs, and lists that are used
-//! anew. A `Draft` is the tuples made for each derived stream, the beads made for each state as a list of
-//! instances, and the `Marks` of the streams and the states that have some. `Marks` are flags by number and the
-//! numbers whose flags are up, each once. A `Pair` is the number of a waiting state and a tuple by its stream and
-//! its place there.
+//! Contracts see a `Made` as the list of the streams' lists of tuples, and each other public type as its fields. A
+//! `Drawing` is a `Draft`, its pairs, and lists that are used anew. A `Draft` is the tuples made for each derived
+//! stream, the beads made for each state as a list of instances, and the `Marks` of the streams and the states that have
+//! some. `Marks` are flags by number and the numbers whose flags are up, each once. A `Pair` is the number of a waiting
+//! state and a tuple by its stream and its place there. A `PlacedTuples` shows what a `Made` keeps: tuples, and for each
+//! stream the places of its own.
 //!
 //! Each half states a bound on its tests of conditions, whatever it answers. Both together test no more than
 //! `epoch_work` says of the tuples of the epoch.
@@ -22,6 +23,7 @@ mod draft;
 mod drawing;
 mod filling;
 mod going;
+mod made;
 mod making;
 mod marks;
 mod matching;
@@ -39,6 +41,7 @@ pub use agenda::places_of;
 pub use draft::{Draft, Lists, Pair, Pairs};
 pub use drawing::Drawing;
 pub use filling::{empty_lists, filled};
+pub use made::{Made, PlacedTuples};
 pub use making::draw;
 pub use marks::Marks;
 pub use purging::purge_all;

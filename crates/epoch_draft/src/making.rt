@@ -19,7 +19,7 @@ use crate::draft::Lists;
 use crate::drawing::Drawing;
 use crate::meeting::meet_stream;
 use crate::stored_network::StoredNetwork;
-use event_types::{Memory, StreamId, Tuple, put_in_order};
+use event_types::{Memory, StreamId, Tuple};
 use steps::{Ledger, Steps};
 
 /// Makes all that comes of the open tuples of an epoch. Nothing but the drawing is changed, and after want of
@@ -131,8 +131,7 @@ fn derive<L: Ledger>(
         let fresh = &drawing.draft.due.numbers.as_slice()[known..];
         plan(&mut drawing.agenda, stored.places, fresh, next, end)?;
     }
-    drawing.draft.put_in_order();
-    Ok(())
+    drawing.draft.put_in_order()
 }
 
 // Puts the tuples of a derived stream in order, and makes what comes of them.
@@ -151,8 +150,8 @@ fn derive_stream<L: Ledger>(
     ensures agenda { drawing.new.agenda.keys ≡ drawing.old.agenda.keys }
     ensures ticks { steps.new ≤ steps.old + stream_work stored.now.network.now (held stored.now.stores.now) stream (slice_index_or drawing.old.draft.made stream []) }
 {
-    let mut tuples = drawing.draft.take_made(stream);
-    put_in_order(&mut tuples);
+    let mut tuples = drawing.draft.take_made(stream)?;
+    tuples.sort_unstable();
     meet_stream(stored, drawing, stream, tuples.as_slice(), steps)?;
     drawing.draft.put_made(stream, tuples)
 }

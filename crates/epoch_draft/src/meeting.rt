@@ -1,5 +1,5 @@
 //! What comes of the tuples of a stream in an epoch.
-ghost use Rattle.std.specs.Prelude.{◌≡◌, ◌+◌, ◌<◌, ◌≤◌, ◌++◌, IsTrue, OnOk, length, map, sum_by};
+ghost use Rattle.std.specs.Prelude.{◌≡◌, ◌+◌, ◌<◌, ◌≤◌, ◌++◌, IfOk, IsTrue, OnOk, length, map, sum_by};
 ghost use Rattle.std.specs.List.{All, flat_map};
 ghost use Rattle.automaton.specs.Networks.{IsNetwork};
 ghost use Rattle.automaton.specs.States.{is_used};
@@ -8,6 +8,7 @@ ghost use Rattle.stream_readers.specs.Ways.{MeetsParts};
 ghost use Rattle.epoch_laws.specs.Instances.{begins};
 ghost use Rattle.epoch_draft.specs.Drafts.{Grows, IsDraftOf};
 ghost use Rattle.epoch_draft.specs.Held.{held};
+ghost use Rattle.epoch_draft.specs.Made.{IsLastIn};
 ghost use Rattle.epoch_draft.specs.StoredNetworks.{IsStoredNetwork};
 ghost use Rattle.epoch_draft.specs.Meeting.{GrowsByMet, Lists, ListsAll, moves_of, moves_of_all, pair_of};
 ghost use Rattle.epoch_draft.specs.Moves.{moves_on};
@@ -18,7 +19,7 @@ ghost use Rattle.epoch_draft.specs.Work.{state_work, ways_work};
 
 use crate::draft::{Draft, Pair};
 use crate::drawing::Drawing;
-use crate::going::{go_into, go_out};
+use crate::going::{WayOut, go_into, go_out};
 use crate::matching::meet_wait;
 use crate::passing::left_of;
 use crate::stored_network::StoredNetwork;
@@ -105,36 +106,42 @@ fn go_each<L: Ledger>(
     ensures grows { OnOk result (Grows network.now (moves_on (flat_map (way_of network.now) targets.now) (begins tuple.now)) draft.old draft.new) }
     ensures ticks { steps.new ≤ steps.old + ways_work network.now (flat_map (way_of network.now) targets.now) }
 {
+    let mut last = None;
     for target in targets {
-        go(network, draft, *target, tuple, steps)?;
+        last = go(network, draft, *target, tuple, last, steps)?;
     }
     Ok(())
 }
 
-// A tuple, which begins here, goes to a target by which it was found.
+// A tuple, which begins here, goes to a target by which it was found. Where a stream ends with the tuple, `last` may be
+// that; the result may be such a stream again.
 fn go<L: Ledger>(
     network: &Network,
     draft: &mut Draft,
     target: Target,
     tuple: &Tuple,
+    last: Option<StreamId>,
     steps: &mut Steps<L>,
-) -> Result<(), Memory>
+) -> Result<Option<StreamId>, Memory>
     requires target { IsTarget network.now target }
     requires draft { IsDraftOf network.now draft.old }
     requires suits { All (WaySuits network.now tuple.now) (way_of network.now target) }
     requires met { All (MeetsParts network.now tuple.now) (way_of network.now target) }
+    requires last { IsLastIn draft.old.made tuple.now last }
     ensures grows { OnOk result (Grows network.now (moves_on (way_of network.now target) (begins tuple.now)) draft.old draft.new) }
+    ensures last { IfOk result (λ last. IsLastIn draft.new.made tuple.now last) }
     ensures ticks { steps.new ≤ steps.old + ways_work network.now (way_of network.now target) }
 {
     match target {
         Target::Edge(state) => {
             let step = left_of(network.step(state).as_slice());
-            go_into(draft, state, step, tuple, tuple.at(), steps)
+            go_into(draft, state, step, tuple, tuple.at(), steps)?;
+            Ok(last)
         }
         Target::End(place) => {
             let end = network.ends(place.state).get(place.place);
             let step = left_of(end.step.as_slice());
-            go_out(draft, end, step, tuple, tuple.at(), steps)
+            go_out(draft, &WayOut { end, step }, tuple, tuple.at(), last, steps)
         }
     }
 }

@@ -30,8 +30,8 @@ pub(crate) fn pass_on<L: Ledger>(
     pass_stages(alloc, step, tuple, steps)
 }
 
-// The same of any stages.
-fn pass_stages<L: Ledger>(
+/// The same of any stages.
+pub(crate) fn pass_stages<L: Ledger>(
     alloc: Global,
     step: &[Stage],
     tuple: &Tuple,

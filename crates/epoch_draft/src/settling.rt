@@ -1,5 +1,5 @@
 //! The second half of the closing: what was made of an epoch is put in place. Nothing here takes memory.
-ghost use Rattle.std.specs.Prelude.{◌≡◌, ◌+◌, ◌<◌, ◌≤◌, ◌++◌, [], ℕ, None, Some, Contains, IsPermutation, IsTrue, filter, length, not, slice_index_or, take};
+ghost use Rattle.std.specs.Prelude.{◌≡◌, ◌+◌, ◌<◌, ◌≤◌, ◌++◌, [], ℕ, None, Some, Contains, IsPermutation, IsTrue, filter, length, not, slice_get, slice_index_or, take};
 ghost use Rattle.std.specs.List.{All};
 ghost use Rattle.instances.specs.Keys.{EventFits, candidates_of};
 ghost use Rattle.semantics.specs.Nexts.{is_eligible};
@@ -26,13 +26,14 @@ ghost use Rattle.epoch_draft.specs.Watching.{Watches};
 
 use crate::draft::{Beads, Lists, Pair};
 use crate::drawing::Drawing;
+use crate::made::Made;
 use crate::purging::forget_paired;
 use crate::stores::Stores;
 use crate::watching::{lower_at, purge_due};
 use automaton::{Layout, Network};
 use binding_index::Store;
 use deadlines::Deadlines;
-use event_types::{StreamId, Tuple, Tuples};
+use event_types::Tuple;
 use inst_chain::Chain;
 use instances::{Instance, Waiting};
 use scalar_expr::Conj;
@@ -119,7 +120,7 @@ fn take_all<L: Ledger>(
     network: &Network,
     stores: &mut Stores,
     opened: &Lists,
-    made: &Lists,
+    made: &Made,
     pairs: &[Pair],
     steps: &mut Steps<L>,
 )
@@ -130,22 +131,22 @@ fn take_all<L: Ledger>(
     ensures ticks { steps.new ≤ steps.old + takes_work network.now (tuples_in opened.now made.now) (held stores.old) pairs.now }
 {
     for pair in pairs {
-        let tuples = tuples_on(opened, made, pair.stream);
-        take_at(network, stores, pair.state, tuples.get(pair.place), steps);
+        let tuple = tuple_of(opened, made, *pair);
+        take_at(network, stores, pair.state, tuple, steps);
     }
 }
 
-// The tuples of a stream in the epoch: the open ones, or else those that were made.
-fn tuples_on<'a>(opened: &'a Lists, made: &'a Lists, stream: StreamId) -> &'a Tuples
-    requires opened { stream < length opened.now }
-    requires made { stream < length made.now }
-    ensures { result.now ≡ tuples_in opened.now made.now stream }
+// The tuple of a pair: one of the open ones of its stream, or else of those that were made.
+fn tuple_of<'a>(opened: &'a Lists, made: &'a Made, pair: Pair) -> &'a Tuple
+    requires stream { pair.stream < length opened.now }
+    requires place { pair.place < length (tuples_in opened.now made.now pair.stream) }
+    ensures { slice_get (tuples_in opened.now made.now pair.stream) pair.place ≡ Some result.now }
 {
-    let tuples = opened.get(stream);
+    let tuples = opened.get(pair.stream);
     if tuples.len() == 0 {
-        made.get(stream)
+        made.get(pair.stream, pair.place)
     } else {
-        tuples
+        tuples.get(pair.place)
     }
 }
 

@@ -3,18 +3,19 @@ use Rattle.std.specs.Prelude.{Contains}
 use Rattle.std.specs.List.{All}
 use Rattle.std.proofs.lemmas.List.Elements.{All-nil}
 use Rattle.std.proofs.lemmas.Option.{get_or_from_slice_get}
+use Rattle.event_types.specs.Order.{sorted}
 use Rattle.semantics.specs.Denotation.{streams_of}
 use Rattle.epoch_draft.specs.Agenda.{AreFrom, IsPlanned}
-use Rattle.epoch_draft.specs.Deriving.{Derives}
+use Rattle.epoch_draft.specs.Deriving.{Derives, DrawnUpTo}
 use Rattle.epoch_draft.specs.Drafts.{DraftFits}
-use Rattle.epoch_draft.specs.EpochWork.{derived_tests, derived_work, pairs_work}
+use Rattle.epoch_draft.specs.EpochWork.{TakesNoMore, derived_tests, derived_work, pairs_work}
 use Rattle.epoch_draft.specs.Held.{held}
 use Rattle.epoch_draft.specs.Suits.{TupleSuits}
 use Rattle.epoch_draft.specs.Takes.{take_work}
 use Rattle.epoch_draft.specs.Tests.{stream_work, tuple_work}
 use Rattle.epoch_draft.proofs.AgendaLemmas.{ended_until, first_within, fresh_below, fresh_part, planned_first, planned_next, popped_until, rest_within, takes_left, work_left}
 use Rattle.epoch_draft.proofs.DeriveLemmas.{below, derived_rest, derived_step, derived_takes, drawn_of, made_suits, made_within, order_stays}
-use Rattle.epoch_draft.proofs.Lists.{taken_all}
+use Rattle.epoch_draft.proofs.Lists.{on_ok, on_ok_three, taken_all}
 use Rattle.epoch_draft.proofs.MarkLemmas.{all_below}
 use Rattle.epoch_draft.proofs.DeriveLemmas.{AreReadInOrder, MadeUpTo, drawn_made}
 use Rattle.epoch_draft.proofs.OrderLemmas.{drawn_in_order, takes_in_order}
@@ -153,7 +154,9 @@ returns-clause-drawn g c =
     let all = taken_all layout.order (length layout.order) (omega arith) in
     let until = subst (λ (done : List ℕ). MadeUpTo net layout stores opened done old pairs) all made.until in
     let in_order = subst (AreReadInOrder net old.made) all made.in_order in
-    drawn_in_order net layout stores opened old c.put_in_order.new.self pairs until in_order c.put_in_order.ensures.made c.put_in_order.ensures.beads c.put_in_order.ensures.fits
+    let new = c.put_in_order.new.self in
+    on_ok_three c.put_in_order.result ((s : ℕ) → get_or new.made s [] ≡ sorted (get_or old.made s [])) (new.beads ≡ old.beads) (DraftFits (length old.made) (length old.beads) new) (DrawnUpTo net layout stores opened layout.order new pairs)
+    (λ made beads fits. drawn_in_order net layout stores opened old new pairs until in_order made beads fits) c.put_in_order.ensures.made c.put_in_order.ensures.beads c.put_in_order.ensures.fits
 
 -- what all pairs take out
 pub returns-clause-takes : goal.returns-clause-takes
@@ -170,7 +173,9 @@ returns-clause-takes g c =
     let in_order = subst (AreReadInOrder net old.made) all made.in_order in
     let was = made.takes in
     let before = ap (λ (done : List ℕ). pairs_work net done stores opened old.made pairs) all in
-    let same = takes_in_order net layout stores opened old c.put_in_order.new.self pairs until in_order c.put_in_order.ensures.made in omega (arith, was, before, same)
+    let new = c.put_in_order.new.self in
+    on_ok c.put_in_order.result ((s : ℕ) → get_or new.made s [] ≡ sorted (get_or old.made s [])) (TakesNoMore net layout stores opened new.made pairs)
+    (λ in_order_now. let same = takes_in_order net layout stores opened old new pairs until in_order in_order_now in omega (arith, was, before, same)) c.put_in_order.ensures.made
 
 -- want of memory comes after some of the tests
 pub returns-in_err-derive_stream-clause-ticks : goal.returns-in_err-derive_stream-clause-ticks

@@ -2,8 +2,7 @@ use Rattle.std.proofs.Common.{◌≡◌, ◌∙◌, sym, ap, subst, ℕ, ◌<◌
 use Rattle.std.specs.Prelude.{Option, Some, slice_get}
 use Rattle.std.specs.List.{All}
 use Rattle.std.proofs.lemmas.List.Elements.{All-head}
-use Rattle.automaton.specs.States.{Net, ends_at, step_at}
-use Rattle.automaton.specs.Steps.{pass}
+use Rattle.automaton.specs.States.{Net, ends_at}
 use Rattle.automaton.specs.declared.network.End.{End}
 use Rattle.automaton.specs.declared.step.Stage.{Stage}
 use Rattle.stream_readers.specs.Targets.{out_by, way_of}
@@ -58,8 +57,8 @@ go_out-requires-clause-passes g c =
     (subst (λ (o : Option End). All (MeetsParts net x) (out_by o)) got (subst (λ (t : Target). All (MeetsParts net x) (way_of net t)) c.in-End.is c.requires.met)))
 
 -- the tuple begins at its detection
-pub returns-in-Edge-clause-grows : goal.returns-in-Edge-clause-grows
-returns-in-Edge-clause-grows g c =
+pub returns-in_ok-go_into-in-Edge-clause-grows : goal.returns-in_ok-go_into-in-Edge-clause-grows
+returns-in_ok-go_into-in-Edge-clause-grows g c =
     let net = c.args.network.now in
     let x = c.args.tuple.now in
     let old = c.args.draft.now in
@@ -67,10 +66,8 @@ returns-in-Edge-clause-grows g c =
     let next = c.in-Edge.state in
     let left = subst (λ (step : List Stage). IsLeftOf step c.left_of-step.result.now) (c.as_slice.ensures ∙ c.step.ensures) c.left_of-step.ensures in
     let passes = left.passes x (All-head (MeetsParts net x) (Into next) [] (subst (λ (t : Target). All (MeetsParts net x) (way_of net t)) c.in-Edge.is c.requires.met)) in
-    on_ok c.go_into.result ((any : Net) → length old.beads ≡ length any → pass c.left_of-step.result.now x ≡ pass (step_at any next) x → Grows any (moves_on (Into next ∷ []) (began c.at.result x)) old new)
-    (Grows net (moves_on (way_of net c.args.target) (begins x)) old new)
-    (λ grows. subst (λ (ws : List Way). Grows net (moves_on ws (begins x)) old new) (sym (ap (way_of net) c.in-Edge.is))
-    (subst (λ (at : ℕ). Grows net (moves_on (Into next ∷ []) (began at x)) old new) c.at.ensures.value (grows net c.requires.draft.fits.beads passes))) c.go_into.ensures.grows
+    subst (λ (ws : List Way). Grows net (moves_on ws (begins x)) old new) (sym (ap (way_of net) c.in-Edge.is))
+    (subst (λ (at : ℕ). Grows net (moves_on (Into next ∷ []) (began at x)) old new) c.at.ensures.value (c.in_ok-go_into-in-Edge.ensures.grows net c.requires.draft.fits.beads passes))
 
 pub returns-in-End-clause-grows : goal.returns-in-End-clause-grows
 returns-in-End-clause-grows g c =

@@ -19,15 +19,16 @@ loop-target-preserved g c =
     let lt = c.loop-target-test.true in
     let more = flat_more (way_of net) net targets i (Edge 0) lt in
     let was = c.loop-target.invariant.ticks in
-    let one = c.in_ok-go.ensures.ticks in
+    let one = c.in_ok-last.ensures.ticks in
     record {
-      grows = targets_more (way_of net) net targets i (Edge 0) (begins c.args.tuple.now) c.args.draft.now c.loop-target.draft c.go.new.draft lt c.loop-target.invariant.grows c.in_ok-go.ensures.grows;
+      grows = targets_more (way_of net) net targets i (Edge 0) (begins c.args.tuple.now) c.args.draft.now c.loop-target.draft c.go.new.draft lt c.loop-target.invariant.grows c.in_ok-last.ensures.grows;
+      last = c.in_ok-last.ensures.last;
       ticks = omega (arith, more, was, one);
     }
 
 -- want of memory comes after some of the tests
-pub returns-in_err-go-clause-ticks : goal.returns-in_err-go-clause-ticks
-returns-in_err-go-clause-ticks g c =
+pub returns-in_err-last-clause-ticks : goal.returns-in_err-last-clause-ticks
+returns-in_err-last-clause-ticks g c =
     let net = c.args.network.now in
     let part = flat_part (way_of net) net c.args.targets.now c.loop-target.target-index (Edge 0) c.loop-target-test.true in
     let was = c.loop-target.invariant.ticks in

@@ -1,7 +1,6 @@
-use Rattle.std.proofs.Common.{◌≡◌, ◌∙◌, sym, ap, length, get_or, take, List, arith}
+use Rattle.std.proofs.Common.{◌≡◌, length, get_or, take, arith}
 use Rattle.std.specs.Prelude.{Some, slice_get}
 use Rattle.std.proofs.lemmas.List.Elements.{All-get_or}
-use Rattle.event_types.specs.Tuple.{TupleView}
 use Rattle.epoch_draft.specs.Held.{held}
 use Rattle.epoch_draft.specs.Settling.{PairSuits, tuples_in}
 use Rattle.epoch_draft.specs.declared.draft.Pair.{Pair}
@@ -23,8 +22,8 @@ take_at-requires-clause-fits g c =
     let i = c.loop-pair.pair-index in
     let p = get_or pairs i nowhere in
     let suits = All-get_or (PairSuits net news (length c.args.opened.now) (held c.args.stores.now)) pairs i nowhere c.loop-pair-test.true c.requires.pairs in
-    let got : slice_get (news p.stream) p.place ≡ Some c.get.result.now = ap (λ (ts : List TupleView). slice_get ts p.place) (sym c.tuples_on-tuples.ensures) ∙ c.get.ensures in
-    taken_fits net news (length c.args.opened.now) pairs (take i pairs) p c.args.stores.now c.loop-pair.stores c.loop-pair.invariant.taken suits c.get.result.now got
+    let got : slice_get (news p.stream) p.place ≡ Some c.tuple_of-tuple.result.now = c.tuple_of-tuple.ensures in
+    taken_fits net news (length c.args.opened.now) pairs (take i pairs) p c.args.stores.now c.loop-pair.stores c.loop-pair.invariant.taken suits c.tuple_of-tuple.result.now got
 
 pub take_at-requires-clause-stores : goal.take_at-requires-clause-stores
 take_at-requires-clause-stores g c = same_has c.args.network.now c.args.stores.now c.loop-pair.stores c.loop-pair.invariant.taken.same c.requires.stores
@@ -36,7 +35,7 @@ take_at-requires-clause-key g c = λ w at.
     let i = c.loop-pair.pair-index in
     let p = get_or pairs i nowhere in
     let suits = All-get_or (PairSuits c.args.network.now news (length c.args.opened.now) (held c.args.stores.now)) pairs i nowhere c.loop-pair-test.true c.requires.pairs in
-    suits.key w c.get.result.now at (ap (λ (ts : List TupleView). slice_get ts p.place) (sym c.tuples_on-tuples.ensures) ∙ c.get.ensures)
+    suits.key w c.tuple_of-tuple.result.now at c.tuple_of-tuple.ensures
 
 -- one pair more
 pub loop-pair-preserved : goal.loop-pair-preserved
@@ -46,12 +45,12 @@ loop-pair-preserved g c =
     let pairs = c.args.pairs.now in
     let i = c.loop-pair.pair-index in
     let p = get_or pairs i nowhere in
-    let got : slice_get (news p.stream) p.place ≡ Some c.get.result.now = ap (λ (ts : List TupleView). slice_get ts p.place) (sym c.tuples_on-tuples.ensures) ∙ c.get.ensures in
-    let more = takes_more net news (held c.args.stores.now) pairs i nowhere c.get.result.now c.loop-pair-test.true got in
-    let fewer = taken_fewer net news (take i pairs) c.args.stores.now c.loop-pair.stores c.loop-pair.invariant.taken p.state c.get.result.now in
+    let got : slice_get (news p.stream) p.place ≡ Some c.tuple_of-tuple.result.now = c.tuple_of-tuple.ensures in
+    let more = takes_more net news (held c.args.stores.now) pairs i nowhere c.tuple_of-tuple.result.now c.loop-pair-test.true got in
+    let fewer = taken_fewer net news (take i pairs) c.args.stores.now c.loop-pair.stores c.loop-pair.invariant.taken p.state c.tuple_of-tuple.result.now in
     let was = c.loop-pair.invariant.ticks in
     let one = c.take_at.ensures.ticks in
     record {
-      taken = taken_more net news pairs i nowhere c.get.result.now c.args.stores.now c.loop-pair.stores c.take_at.new.stores c.loop-pair-test.true got c.loop-pair.invariant.taken c.take_at.ensures.taken;
+      taken = taken_more net news pairs i nowhere c.tuple_of-tuple.result.now c.args.stores.now c.loop-pair.stores c.take_at.new.stores c.loop-pair-test.true got c.loop-pair.invariant.taken c.take_at.ensures.taken;
       ticks = omega (arith, more, fewer, was, one);
     }

@@ -6,10 +6,10 @@ use Rattle.epoch_draft.proofs.MarkLemmas.{all_below}
 use Rattle.epoch_draft.proofs.draft.Draft.clear.Goals as goal
 
 -- the streams that have tuples are due
-pub clear_lists-requires : goal.clear_lists-requires
-clear_lists-requires c =
+pub clear-requires : goal.clear-requires
+clear-requires c =
     let old = c.args.self.now in record {
-      numbers = subst (λ (m : ℕ). All (λ n. n < m) c.as_slice.result.now) (c.requires.due_below) (all_below old.due c.requires.due c.as_slice.result.now c.as_slice.ensures);
+      streams = subst (λ (m : ℕ). All (λ n. n < m) c.as_slice.result.now) (c.requires.due_below) (all_below old.due c.requires.due c.as_slice.result.now c.as_slice.ensures);
       others = λ s. subst (λ (ns : List ℕ). (get_or old.made s [] ≡ []) ⊎ Contains ns s) (sym c.as_slice.ensures) (c.requires.due_all s);
     }
 
@@ -25,5 +25,5 @@ clear_chains-requires c =
 pub returns-clause-fits : goal.returns-clause-fits
 returns-clause-fits c =
     let old = c.args.self.now in
-    cleared_fits (length old.made) (length old.beads) _ c.clear_lists.ensures.as_many c.clear_chains.ensures.as_many c.clear.ensures.are (c.clear.ensures.as_many ∙ c.requires.due_below) c.clear-2.ensures.are (c.clear-2.ensures.as_many ∙ c.requires.reached_below)
-    c.clear_lists.ensures.empty c.clear_chains.ensures.empty
+    cleared_fits (length old.made) (length old.beads) _ c.clear.ensures.as_many c.clear_chains.ensures.as_many c.clear-2.ensures.are (c.clear-2.ensures.as_many ∙ c.requires.due_below) c.clear-3.ensures.are (c.clear-3.ensures.as_many ∙ c.requires.reached_below)
+    c.clear.ensures.empty c.clear_chains.ensures.empty

@@ -1,5 +1,14 @@
-use Rattle.epoch_draft.proofs.DraftLemmas.{made_fits}
+use Rattle.std.proofs.Common.{◌≡◌, length, set}
+use Rattle.epoch_draft.specs.Drafts.{DraftFits}
+use Rattle.epoch_draft.proofs.DraftLemmas.{set_fits}
+use Rattle.epoch_draft.proofs.Lists.{on_ok}
 use Rattle.epoch_draft.proofs.draft.Draft.put_made.Goals as goal
 
 pub returns-clause-fits : goal.returns-clause-fits
-returns-clause-fits c = made_fits c.args.self.now c.args.stream c.args.tuples c.mark.new.self c.requires.fits c.mark.ensures.more c.in_ok-mark.ensures.marked
+returns-clause-fits c =
+    let old = c.args.self.now in
+    let rows = c.args.tuples.items in
+    let new = c.put.new.self in
+    let due = c.mark.new.self in
+    on_ok c.put.result (new ≡ set old.made c.args.stream rows) (DraftFits (length old.made) (length old.beads) (record { alloc = old.alloc; made = new; beads = old.beads; due = due; reached = old.reached }))
+    (set_fits old c.args.stream rows new due c.requires.fits c.mark.ensures.more c.in_ok-mark.ensures.marked) c.put.ensures

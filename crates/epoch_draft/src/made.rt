@@ -1,0 +1,217 @@
+//! The tuples that an epoch brings, by stream.
+//!
+//! Contracts see a `Made` as the list of the streams' lists of tuples.
+ghost use Rattle.std.specs.Prelude.{◌≡◌, ◌<◌, ◌⊎◌, ◌++◌, ◌∷◌, [], Contains, IfOk, OnOk, Some, ℕ, length, map, slice_get, slice_index_or, slice_set, take};
+ghost use Rattle.std.specs.List.{All};
+ghost use Rattle.event_types.specs.Order.{sorted};
+ghost use Rattle.event_types.specs.Tuple.{TupleView};
+ghost use Rattle.epoch_draft.specs.Made.{ArePlaced, EndsWith, place_cmp, placed};
+
+use crate::filling::{clear_lists, empty_lists};
+use event_types::{List, Memory, Numbers, StreamId, Tuple, Tuples};
+use std::alloc::Global;
+use std::cmp::Ordering;
+use std::marker::Model;
+
+/// Tuples by stream. They stand in one list, and each stream has the places of its own there, so that a tuple that
+/// several streams have can stand once. `sorting` is room in which places are sorted.
+#[derive(Drop)]
+pub struct Made {
+    alloc: Global,
+    tuples: Tuples,
+    places: List<Numbers>,
+    sorting: Vec<usize>,
+}
+
+/// Tuples, and for each stream the places of its own among them, in the order in which it has them; places are counted
+/// from 0.
+#[derive(Clone, Copy, Drop)]
+pub struct PlacedTuples<'a> {
+    pub tuples: &'a [Tuple],
+    pub places: &'a [Numbers],
+}
+
+impl Model for Made {
+    ghost use Rattle.std.specs.Prelude.{List, map};
+    ghost use Rattle.event_types.specs.Tuple.{TupleView};
+    ghost use Rattle.epoch_draft.specs.Made.{ArePlaced, placed};
+
+    ghost Value = { List (List TupleView) };
+
+    ghost view = { λ made. map (placed made.tuples) made.places };
+
+    ghost invariant = { λ made. ArePlaced made.tuples made.places };
+}
+
+impl Made {
+    /// So many streams without tuples.
+    pub(crate) fn make(alloc: Global, streams: usize) -> Result<Made, Memory>
+        ensures as_many { IfOk result (λ made. length made ≡ streams) }
+        ensures empty { IfOk result (λ made. (stream : ℕ) → slice_index_or made stream [] ≡ []) }
+    {
+        let places = empty_lists(alloc, streams)?;
+        Ok(Made {
+            alloc,
+            tuples: List::new(alloc),
+            places,
+            sorting: Vec::new(alloc),
+        })
+    }
+
+    /// The number of streams.
+    pub fn len(&self) -> usize
+        ensures { result ≡ length self.now }
+    {
+        self.places.len()
+    }
+
+    /// The tuple of a stream at a place among its own, counted from 0.
+    pub(crate) fn get(&self, stream: StreamId, place: usize) -> &Tuple
+        requires { place < length (slice_index_or self.now stream []) }
+        ensures { slice_get (slice_index_or self.now stream []) place ≡ Some result.now }
+    {
+        self.tuples.get(*self.places.get(stream).get(place))
+    }
+
+    /// All tuples, and the places of each stream. Takes no memory.
+    pub fn show(&self) -> PlacedTuples<'_>
+        ensures value { self.now ≡ map (placed result.tuples.now) result.places.now }
+        ensures below { ArePlaced result.tuples.now result.places.now }
+    {
+        PlacedTuples {
+            tuples: self.tuples.as_slice(),
+            places: self.places.as_slice(),
+        }
+    }
+
+    /// Puts a tuple behind those of a stream. After want of memory the tuples are of no more use.
+    #[inline(always)]
+    pub(crate) fn add(&mut self, stream: StreamId, tuple: Tuple) -> Result<(), Memory>
+        requires { stream < length self.old }
+        ensures { OnOk result (self.new ≡ slice_set self.old stream (slice_index_or self.old stream [] ++ tuple ∷ [])) }
+    {
+        let place = self.tuples.len();
+        self.tuples.add(tuple)?;
+        self.places.get_mut(stream).add(place)
+    }
+
+    /// Puts the last tuple of a stream, `other`, behind those of a stream too. After want of memory the tuples are of no
+    /// more use.
+    #[inline(always)]
+    pub(crate) fn add_again(&mut self, stream: StreamId, other: StreamId) -> Result<(), Memory>
+        requires stream { stream < length self.old }
+        requires other { 0 < length (slice_index_or self.old other []) }
+        ensures { (tuple : TupleView) → EndsWith (slice_index_or self.old other []) tuple → OnOk result (self.new ≡ slice_set self.old stream (slice_index_or self.old stream [] ++ tuple ∷ [])) }
+    {
+        let places = self.places.get(other);
+        let place = *places.get(places.len() - 1);
+        self.places.get_mut(stream).add(place)
+    }
+
+    /// Takes the tuples of a stream out, as copies. After want of memory the tuples are of no more use.
+    pub(crate) fn take(&mut self, stream: StreamId) -> Result<Vec<Tuple>, Memory>
+        requires { stream < length self.old }
+        ensures value { IfOk result (λ tuples. tuples.items ≡ slice_index_or self.old stream []) }
+        ensures taken { OnOk result (self.new ≡ slice_set self.old stream []) }
+    {
+        let places = self.places.get(stream).as_slice();
+        let tuples = copies(self.alloc, self.tuples.as_slice(), places)?;
+        self.places.get_mut(stream).clear();
+        Ok(tuples)
+    }
+
+    /// Makes these the tuples of a stream. After want of memory the tuples are of no more use.
+    pub(crate) fn put(&mut self, stream: StreamId, tuples: Vec<Tuple>) -> Result<(), Memory>
+        requires { stream < length self.old }
+        ensures { OnOk result (self.new ≡ slice_set self.old stream tuples.items) }
+    {
+        self.places.get_mut(stream).clear();
+        for tuple in tuples {
+            self.add(stream, tuple)?;
+        }
+        Ok(())
+    }
+
+    /// Puts the tuples of these streams, which are all that there are, in order. After want of memory the tuples are of no
+    /// more use.
+    pub(crate) fn put_in_order(&mut self, streams: &[usize]) -> Result<(), Memory>
+        requires streams { All (λ stream. stream < length self.old) streams.now }
+        requires others { (stream : ℕ) → (slice_index_or self.old stream [] ≡ []) ⊎ Contains streams.now stream }
+        ensures as_many { OnOk result (length self.new ≡ length self.old) }
+        ensures ordered { OnOk result ((stream : ℕ) → slice_index_or self.new stream [] ≡ sorted (slice_index_or self.old stream [])) }
+    {
+        for stream in streams {
+            self.put_one_in_order(*stream)?;
+        }
+        Ok(())
+    }
+
+    // Puts the tuples of a stream in order; most often it has one alone. It is their places that are sorted.
+    fn put_one_in_order(&mut self, stream: StreamId) -> Result<(), Memory>
+        requires { stream < length self.old }
+        ensures { OnOk result (self.new ≡ slice_set self.old stream (sorted (slice_index_or self.old stream []))) }
+    {
+        let places = self.places.get(stream).as_slice();
+        if places.len() < 2 {
+            return Ok(());
+        }
+        self.sorting.clear();
+        self.sorting.extend_from_slice(places)?;
+        sort_places(&mut self.sorting, self.tuples.as_slice());
+        fill(self.places.get_mut(stream), self.sorting.as_slice())
+    }
+
+    /// Takes the tuples of these streams away, which are all that there are, and keeps the room. Takes no memory.
+    pub(crate) fn clear(&mut self, streams: &[usize])
+        requires streams { All (λ stream. stream < length self.old) streams.now }
+        requires others { (stream : ℕ) → (slice_index_or self.old stream [] ≡ []) ⊎ Contains streams.now stream }
+        ensures as_many { length self.new ≡ length self.old }
+        ensures empty { (stream : ℕ) → slice_index_or self.new stream [] ≡ [] }
+    {
+        clear_lists(&mut self.places, streams);
+        self.tuples.clear();
+    }
+}
+
+// Copies of the tuples at these places.
+fn copies(alloc: Global, tuples: &[Tuple], places: &[usize]) -> Result<Vec<Tuple>, Memory>
+    requires { All (λ place. place < length tuples.now) places.now }
+    ensures { IfOk result (λ copies. copies.items ≡ placed tuples.now places.now) }
+{
+    let mut copies = Vec::with_capacity(alloc, places.len())?;
+    for place in places {
+        copies.push(tuples[*place].copy(alloc)?)?;
+    }
+    Ok(copies)
+}
+
+// Sorts places by the tuples there. Takes no memory.
+fn sort_places(places: &mut Vec<usize>, tuples: &[Tuple])
+    requires { All (λ place. place < length tuples.now) places.old.items }
+    ensures below { All (λ place. place < length tuples.now) places.new.items }
+    ensures sorted { placed tuples.now places.new.items ≡ sorted (placed tuples.now places.old.items) }
+{
+    places.sort_unstable_by(|one, other| compare(tuples, *one, *other));
+}
+
+// The order of the tuples at two places; a place that has none is before those that have one.
+fn compare(tuples: &[Tuple], one: usize, other: usize) -> Ordering
+    ensures { result ≡ place_cmp tuples.now one other }
+{
+    match (tuples.get(one), tuples.get(other)) {
+        (Some(one), Some(other)) => one.cmp(other),
+        (one, other) => one.is_some().cmp(&other.is_some()),
+    }
+}
+
+// Makes these the numbers of a list, or after want of memory some of them.
+fn fill(list: &mut Numbers, numbers: &[usize]) -> Result<(), Memory>
+    ensures filled { OnOk result (list.new ≡ numbers.now) }
+    ensures part { (count : ℕ) × (list.new ≡ take count numbers.now) }
+{
+    list.clear();
+    for number in numbers {
+        list.add(*number)?;
+    }
+    Ok(())
+}
