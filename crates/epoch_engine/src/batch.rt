@@ -1,20 +1,23 @@
 //! The results of an epoch.
-ghost use Rattle.std.specs.Prelude.{◌≡◌, length};
+ghost use Rattle.std.specs.Prelude.{◌≡◌, length, map};
 ghost use Rattle.epoch_draft.specs.Drafts.{DraftFits};
+ghost use Rattle.epoch_draft.specs.Made.{ArePlaced, placed};
 ghost use Rattle.epoch_engine.specs.Batches.{IsBatch};
 ghost use Rattle.epoch_engine.specs.Entries.{AreEntriesOf, lists_of};
 
 use crate::entry::Entry;
 use crate::room::Room;
-use epoch_draft::Lists;
+use event_types::{Numbers, Tuple};
 use std::marker::Model;
 
-/// What a batch shows: entries by ascending places, and the tuples of each stream, by its number, in their order.
-/// Each printed stream that has tuples has an entry, and some that have one may have none.
+/// What a batch shows: entries by ascending places, tuples, and for each stream, by its number, the places of its own
+/// among these, in their order and counted from 0. A tuple that several streams have stands once. Each printed stream
+/// that has tuples has an entry, and some that have one may have none.
 #[derive(Clone, Copy, Drop)]
 pub struct Printed<'a> {
     pub entries: &'a [Entry],
-    pub made: &'a Lists,
+    pub tuples: &'a [Tuple],
+    pub places: &'a [Numbers],
 }
 
 /// The results of an epoch: for each stream that is printed its tuples in their order. They stand in the room in
@@ -49,11 +52,14 @@ impl Batch {
 
     /// The printed streams with their tuples. Takes no memory.
     pub fn printed(&self) -> Printed<'_>
-        ensures { AreEntriesOf self.now result.made.now result.entries.now }
+        ensures entries { AreEntriesOf self.now (map (placed result.tuples.now) result.places.now) result.entries.now }
+        ensures below { ArePlaced result.tuples.now result.places.now }
     {
+        let made = self.room.drawing.draft.made.show();
         Printed {
             entries: self.room.entries.as_slice(),
-            made: &self.room.drawing.draft.made,
+            tuples: made.tuples,
+            places: made.places,
         }
     }
 

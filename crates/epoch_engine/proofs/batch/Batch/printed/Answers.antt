@@ -5,10 +5,10 @@ use Rattle.epoch_engine.specs.declared.room.Room.{Room}
 use Rattle.epoch_engine.proofs.BatchLemmas.{entries_of}
 use Rattle.epoch_engine.proofs.batch.Batch.printed.Goals as goal
 
-pub returns : goal.returns
-returns c =
+pub returns-clause-entries : goal.returns-clause-entries
+returns-clause-entries c =
     let room = c.self.inside.room.value in
     let is = c.self.invariant in
-    let entries = c.as_slice.ensures ∙ ap (λ (r : Room). r.entries) c.deref.ensures in
+    let entries = c.as_slice.ensures ∙ ap (λ (r : Room). r.entries) c.deref-2.ensures in
     let all = subst (λ (lists : List (List TupleView)). AreEntriesOf lists room.drawing.draft.made room.entries) c.self.view_is (entries_of c.self.inside.printed room.drawing.draft.made room.entries is.in_order is.within) in
-    subst (λ (r : Room). AreEntriesOf c.args.self.now r.drawing.draft.made c.as_slice.result.now) (sym c.deref-2.ensures) (subst (AreEntriesOf c.args.self.now room.drawing.draft.made) (sym entries) all)
+    subst (λ (made : List (List TupleView)). AreEntriesOf c.args.self.now made c.as_slice.result.now) (ap (λ (r : Room). r.drawing.draft.made) (sym c.deref.ensures) ∙ c.show-made.ensures.value) (subst (AreEntriesOf c.args.self.now room.drawing.draft.made) (sym entries) all)
