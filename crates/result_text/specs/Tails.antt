@@ -1,5 +1,5 @@
 -- The tails of result lines: what stands behind a name and its comma, and where it stands among other tails.
-use Rattle.std.specs.Prelude.{◌≡◌, ◌≤◌, ℕ, List, [], ◌∷◌, ◌++◌, length, map, slice_range, decimal, IfSome}
+use Rattle.std.specs.Prelude.{◌≡◌, ◌≤◌, ℕ, List, [], ◌∷◌, ◌++◌, length, map, option_map, slice_get, slice_range, decimal, IfSome, Some}
 use Rattle.std.specs.List.{join_with_byte}
 use Rattle.event_types.specs.Tuple.{TupleView}
 use Rattle.semantics.specs.Report.{value_text}
@@ -10,17 +10,17 @@ use Rattle.result_text.specs.declared.lately.Shown.{Shown}
 abbrev pub tail_text : TupleView → List ℕ
 tail_text tuple = join_with_byte 44 (decimal tuple.from ∷ decimal tuple.at ∷ map value_text tuple.vals) ++ 10 ∷ []
 
--- a tuple's tail stands among the tails, from the one place up to the other
-pub record IsTailAt (tails : List ℕ) (begin end : ℕ) (tuple : TupleView) : Type 0 where
+-- the tail of the tuple at a place stands among the tails, from the one number up to the other
+pub record IsTailOf (tails : List ℕ) (begin end : ℕ) (tuples : List TupleView) (place : ℕ) : Type 0 where
   pub in_order : begin ≤ end
   pub within : end ≤ length tails
-  pub tail : slice_range tails begin end ≡ tail_text tuple
+  pub tail : option_map tail_text (slice_get tuples place) ≡ Some (slice_range tails begin end)
 
 -- it does so where the tuple is said to be shown
-abbrev pub StandsIn : List ℕ → Shown → Type 0
-StandsIn tails shown = IsTailAt tails shown.begin shown.end shown.tuple.now
+abbrev pub StandsIn : List ℕ → List TupleView → Shown → Type 0
+StandsIn tails tuples shown = IsTailOf tails shown.begin shown.end tuples shown.place
 
 -- the tails of both tuples stand there
-pub record AreIn (tails : List ℕ) (lately : Lately) : Type 0 where
-  pub last : IfSome lately.last (StandsIn tails)
-  pub before : IfSome lately.before (StandsIn tails)
+pub record AreIn (tails : List ℕ) (tuples : List TupleView) (lately : Lately) : Type 0 where
+  pub last : IfSome lately.last (StandsIn tails tuples)
+  pub before : IfSome lately.before (StandsIn tails tuples)

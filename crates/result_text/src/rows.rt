@@ -1,12 +1,12 @@
 //! The lines of a query's results.
-ghost use Rattle.std.specs.Prelude.{◌≡◌, ◌++◌, [], ℕ, List, IfOk, OnErr, OnOk};
-ghost use Rattle.std.specs.List.{flat_map};
+ghost use Rattle.std.specs.Prelude.{◌≡◌, ◌<◌, ◌++◌, [], ℕ, List, length, slice_get, IfOk, OnErr, OnOk, Some};
+ghost use Rattle.event_types.specs.Tuple.{TupleView};
 ghost use Rattle.result_text.specs.Front.{front_of};
 ghost use Rattle.result_text.specs.Tails.{AreIn, tail_text};
 ghost use Rattle.semantics.specs.Report.{line};
 
 use crate::front::Front;
-use crate::lately::{Lately, place_of};
+use crate::lately::{Lately, tail_of};
 use crate::tails::Tails;
 use event_types::{Memory, Text, Tuple};
 use std::alloc::Global;
@@ -44,22 +44,25 @@ impl Rows {
         self.bytes.as_slice()
     }
 
-    /// Puts the line of each result behind the lines that are there, under the name that `front` is made of. What
-    /// stands behind the name is written once for equal tuples that come one after another, or every second time.
+    /// Puts the line of the result at a place behind the lines that are there, under the name that `front` is made of.
+    /// What stands behind the name is written once for results at one place, where each comes next or next but one.
     /// Want of memory drops all lines.
-    pub fn append<'a>(
+    #[inline(always)]
+    pub fn append(
         &mut self,
         front: &Front,
-        tuples: &'a [Tuple],
+        tuples: &[Tuple],
+        place: usize,
         tails: &mut Tails,
-        lately: &mut Lately<'a>,
+        lately: &mut Lately,
     ) -> Result<(), Memory>
-        requires { AreIn tails.old lately.old }
-        ensures appended { OnOk result ((name : List ℕ) → front.now ≡ front_of name → self.new ≡ self.old ++ flat_map (λ tuple. line name tuple) tuples.now) }
-        ensures lately { OnOk result (AreIn tails.new lately.new) }
+        requires in_range { place < length tuples.now }
+        requires lately { AreIn tails.old tuples.now lately.old }
+        ensures appended { OnOk result ((name : List ℕ) (tuple : TupleView) → front.now ≡ front_of name → slice_get tuples.now place ≡ Some tuple → self.new ≡ self.old ++ line name tuple) }
+        ensures lately { OnOk result (AreIn tails.new tuples.now lately.new) }
         ensures emptied { OnErr result (self.new ≡ []) }
     {
-        match self.put_all(front.as_slice(), tuples, tails, lately) {
+        match self.put(front.as_slice(), tuples, place, tails, lately) {
             Ok(()) => Ok(()),
             Err(_) => {
                 self.clear();
@@ -68,38 +71,22 @@ impl Rows {
         }
     }
 
-    // Puts the line of each result behind a front.
-    fn put_all<'a>(
-        &mut self,
-        front: &[u8],
-        tuples: &'a [Tuple],
-        tails: &mut Tails,
-        lately: &mut Lately<'a>,
-    ) -> Result<(), Memory>
-        requires { AreIn tails.old lately.old }
-        ensures appended { OnOk result (self.new ≡ self.old ++ flat_map (λ tuple. front.now ++ tail_text tuple) tuples.now) }
-        ensures lately { OnOk result (AreIn tails.new lately.new) }
-    {
-        for tuple in tuples {
-            self.put(front, tuple, tails, lately)?;
-        }
-        Ok(())
-    }
-
-    // Puts the line of one result.
+    // Puts the line of the result at a place behind a front.
     #[inline(always)]
-    fn put<'a>(
+    fn put(
         &mut self,
         front: &[u8],
-        tuple: &'a Tuple,
+        tuples: &[Tuple],
+        place: usize,
         tails: &mut Tails,
-        lately: &mut Lately<'a>,
+        lately: &mut Lately,
     ) -> Result<(), Memory>
-        requires { AreIn tails.old lately.old }
-        ensures appended { OnOk result (self.new ≡ self.old ++ (front.now ++ tail_text tuple.now)) }
-        ensures lately { OnOk result (AreIn tails.new lately.new) }
+        requires in_range { place < length tuples.now }
+        requires lately { AreIn tails.old tuples.now lately.old }
+        ensures appended { OnOk result ((tuple : TupleView) → slice_get tuples.now place ≡ Some tuple → self.new ≡ self.old ++ (front.now ++ tail_text tuple)) }
+        ensures lately { OnOk result (AreIn tails.new tuples.now lately.new) }
     {
-        let (begin, end) = place_of(tuple, tails, lately)?;
+        let (begin, end) = tail_of(tuples, place, tails, lately)?;
         self.bytes.extend_from_slice(front)?;
         self.bytes.extend_from_slice(&tails.as_slice()[begin..end])?;
         Ok(())
@@ -121,7 +108,7 @@ pub fn row(alloc: Global, name: &str, tuple: &Tuple) -> Result<Text, Memory>
     let mut rows = Rows::new(alloc);
     let mut tails = Tails::new(alloc);
     let mut lately = Lately::none();
-    rows.append(&front, slice::from_ref(tuple), &mut tails, &mut lately)?;
+    rows.append(&front, slice::from_ref(tuple), 0, &mut tails, &mut lately)?;
     match str::from_utf8(rows.as_slice()) {
         Ok(text) => Text::make(alloc, text),
         Err(_) => Err(Memory),
