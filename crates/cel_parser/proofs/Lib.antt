@@ -15,6 +15,7 @@ pub mod StatementSound
 pub mod SentenceLemmas
 pub mod CutLemmas
 pub mod PassedLemmas
+pub mod QueryLemmas
 pub mod FaultLemmas
 pub mod ColumnNext
 pub mod ListNext

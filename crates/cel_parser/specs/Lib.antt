@@ -8,8 +8,10 @@ pub mod Laws
 pub mod Links
 pub mod Lists
 pub mod Numbers
+pub mod OneQuery
 pub mod Operations
 pub mod PredicateReader
+pub mod QueryLaws
 pub mod ReturnsReading
 pub mod ScalarReader
 pub mod SourceReader

@@ -13,6 +13,7 @@ mod laws;
 mod links;
 mod literals;
 mod numbers;
+mod one_query;
 mod parsing;
 mod predicates;
 mod reading;
@@ -29,5 +30,6 @@ pub use cel_grammar::{Agg, Aggs, Attr, Attrs, Item, Items, Mark, Raw, RawPred, S
 pub use fault::SyntaxFault;
 pub use file::File;
 pub use grammar_laws::{one_reading, parentheses_tell, sentences_are_a_file};
-pub use laws::one_answer;
+pub use laws::{one_answer, one_query_answer};
+pub use one_query::{OneQuery, parse_one};
 pub use parsing::parse;

@@ -5,7 +5,7 @@ ghost use Rattle.cel_parser.specs.Filed.{Reads};
 
 use crate::fault::SyntaxFault;
 use crate::file::File;
-use crate::sentences::{cut, read};
+use crate::sentences::read_sentence;
 use cel_lexer::Tokens;
 use event_types::List;
 use std::alloc::Global;
@@ -22,10 +22,10 @@ pub fn parse(alloc: Global, tokens: &Tokens<'_>) -> Result<File, SyntaxFault>
     while at < tokens.size() {
         let number = statements.len() as u64 + 1;
         let line = tokens.get(at).line;
-        at = cut(tokens, at, number, line, &mut symbols)?;
-        let statement = read(alloc, &symbols, number, line)?;
+        let (statement, next) = read_sentence(alloc, tokens, at, number, line, &mut symbols)?;
         statements.add(statement)?;
         lines.add(line)?;
+        at = next;
     }
     Ok(File::of(statements, lines))
 }

@@ -4,8 +4,8 @@ ghost use Rattle.cel_grammar.specs.Sentences.{IsSentenceOf, is_deep};
 ghost use Rattle.cel_grammar.specs.Spellings.{symbol_of};
 ghost use Rattle.cel_grammar.specs.Views.{statement_of};
 ghost use Rattle.cel_lexer.specs.Listing.{spelling};
-ghost use Rattle.cel_parser.specs.Cutting.{ended_on, left_at};
-ghost use Rattle.cel_parser.specs.Faults.{Explains, IsFaulty};
+ghost use Rattle.cel_parser.specs.Cutting.{Begins, BeginsFaulty, ended_on, left_at};
+ghost use Rattle.cel_parser.specs.Faults.{IsFaulty};
 ghost use Rattle.cel_parser.specs.GrammarSymbols.{grammar_symbol_of};
 
 use crate::fault::SyntaxFault;
@@ -23,9 +23,30 @@ const MOST: usize = 1024;
 // The most parentheses and braces that are open at once.
 const DEEPEST: usize = 64;
 
-/// Puts the symbols of the sentence that begins at a place into `symbols`, in place of what was there,
-/// and gives the place behind its semicolon. The sentence has this number and line.
-pub(crate) fn cut<'a>(
+/// The statement of the sentence that begins at a place, and the place behind its semicolon. The sentence has
+/// this number and line, and `symbols` is room for its symbols.
+pub(crate) fn read_sentence<'a>(
+    alloc: Global,
+    tokens: &Tokens<'a>,
+    at: usize,
+    number: u64,
+    line: u64,
+    symbols: &mut Vec<Symbol<'a>>,
+) -> Result<(Statement, usize), SyntaxFault>
+    requires first { option_map (λ token. token.line) (slice_get tokens.now.items at) ≡ Some line }
+    ensures ok { IfOk result (λ read. Begins (left_at tokens.now at) line (statement_of read.0) (left_at tokens.now read.1)) }
+    ensures further { IfOk result (λ read. at < read.1) }
+    ensures within { IfOk result (λ read. read.1 ≤ length tokens.now.items) }
+    ensures err { IfErr result (λ fault. fault ≢ SyntaxFault.Memory → BeginsFaulty number (left_at tokens.now at) fault) }
+{
+    let next = cut(tokens, at, number, line, symbols)?;
+    let statement = read(alloc, symbols, number, line)?;
+    Ok((statement, next))
+}
+
+// Puts the symbols of the sentence that begins at a place into `symbols`, in place of what was there,
+// and gives the place behind its semicolon. The sentence has this number and line.
+fn cut<'a>(
     tokens: &Tokens<'a>,
     at: usize,
     number: u64,
@@ -36,7 +57,7 @@ pub(crate) fn cut<'a>(
     ensures ok { IfOk result (λ next. left_at tokens.now at ≡ ended_on line (map grammar_symbol_of symbols.new.items) ∷ left_at tokens.now next) }
     ensures further { IfOk result (λ next. at < next) }
     ensures within { IfOk result (λ next. next ≤ length tokens.now.items) }
-    ensures err { IfErr result (λ fault. fault ≢ SyntaxFault.Memory → Explains number (left_at tokens.now at) fault) }
+    ensures err { IfErr result (λ fault. fault ≢ SyntaxFault.Memory → BeginsFaulty number (left_at tokens.now at) fault) }
 {
     symbols.clear();
     let mut end = at;
@@ -51,8 +72,8 @@ pub(crate) fn cut<'a>(
     Err(SyntaxFault::BadStatement { number, line })
 }
 
-/// The statement that a sentence is, which has these symbols and a semicolon.
-pub(crate) fn read(
+// The statement that a sentence is, which has these symbols and a semicolon.
+fn read(
     alloc: Global,
     symbols: &[Symbol<'_>],
     number: u64,

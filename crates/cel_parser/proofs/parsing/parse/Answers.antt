@@ -7,23 +7,20 @@ use Rattle.cel_parser.proofs.parsing.parse.Goals as goal
 
 pub returns-in_err-statement-clause-err : goal.returns-in_err-statement-clause-err
 returns-in_err-statement-clause-err c =
-    let p = err_from_is_err_and c.from_residual-in_err-statement.result c.from_residual-in_err-statement.ensures.1 in
+    let p = err_from_is_err_and c.from_residual.result c.from_residual.ensures.1 in
     rw (p.1, p.2) (λ other.
-    let fault = rw c.deref.ensures.value at c.in_err-statement.ensures.err other in
     record {
       tokens = c.args.tokens.now.items;
       all = c.size.ensures.all;
-      explained = faulty (left_at c.args.tokens.now 0) _ _ _ c.in_ok-at.ensures.ok c.loop-at.statements c.loop-at.lines c.loop-at.invariant.passed _ _ (omega (arith, c.len.ensures)) fault;
+      explained = faulty (left_at c.args.tokens.now 0) _ c.loop-at.statements c.loop-at.lines c.loop-at.invariant.passed _ _ (omega (arith, c.len.ensures)) (c.in_err-statement.ensures.err other);
     })
 
 pub loop-at-preserved : goal.loop-at-preserved
-loop-at-preserved c =
-    let says = rw c.deref.ensures.value at c.in_ok-statement.ensures.ok in
-    record {
-      within = c.in_ok-at.ensures.within;
-      fewer = omega (arith, ap length c.in_ok-add.ensures.ok, length-append c.loop-at.statements (c.in_ok-statement.statement ∷ []), c.loop-at.invariant.fewer, c.in_ok-at.ensures.further);
-      passed = rw (c.in_ok-add.ensures.ok, c.in_ok-add-2.ensures.ok) (read (left_at c.args.tokens.now 0) _ _ _ c.in_ok-at.ensures.ok c.loop-at.statements c.loop-at.lines c.loop-at.invariant.passed c.in_ok-statement.statement says);
-    }
+loop-at-preserved c = record {
+  within = c.in_ok-statement.ensures.within;
+  fewer = omega (arith, ap length c.in_ok-add.ensures.ok, length-append c.loop-at.statements (c.in_ok-statement.statement ∷ []), c.loop-at.invariant.fewer, c.in_ok-statement.ensures.further);
+  passed = rw (c.in_ok-add.ensures.ok, c.in_ok-add-2.ensures.ok) (read (left_at c.args.tokens.now 0) _ c.loop-at.statements c.loop-at.lines c.loop-at.invariant.passed _ c.in_ok-statement.statement _ c.in_ok-statement.ensures.ok);
+}
 
 pub of-requires : goal.of-requires
 of-requires c =

@@ -1,6 +1,6 @@
 use Rattle.std.proofs.Common.{◌≡◌, true, arith, rules, refl}
 use Rattle.std.specs.Result.{is_ok}
-use Rattle.cel_parser.specs.Faults.{here, unended}
+use Rattle.cel_parser.specs.Faults.{unended}
 use Rattle.cel_parser.proofs.CutLemmas.{ends, first, first-within, lacks, more}
 use Rattle.cel_parser.proofs.sentences.cut.Goals as goal
 
@@ -28,4 +28,4 @@ loop-end-preserved c =
 pub returns-clause-err : goal.returns-clause-err
 returns-clause-err c _ =
     let last = lacks c.args.tokens.now c.args.at c.loop-end.end c.args.line c.loop-end.symbols.items c.loop-end.invariant.front (omega (arith, c.loop-end-test.false, c.size.ensures.value)) in
-    rw last (here (unended refl))
+    record { sentence = _; later = _; front = last; faulty = unended refl }
