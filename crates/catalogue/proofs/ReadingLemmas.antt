@@ -1,7 +1,7 @@
 -- The names that are read: their fault, and the numbers of their queries.
 use Rattle.std.proofs.Common.{◌≡◌, ◌∙◌, ℕ, suc, ◌+◌, ◌<◌, List, [], ◌∷◌, ◌++◌, Bool, true, false, not, cond, length, take, drop, get_or, refl, sym, ap, inl, inr}
 use Rattle.std.specs.Prelude.{Option, Some, None, position}
-use Rattle.std.specs.List.{find, prefix_len}
+use Rattle.std.specs.List.{find}
 use Rattle.std.specs.Option.{option_map}
 use Rattle.std.specs.Str.{bytes_eq}
 use Rattle.std.proofs.lemmas.Bool.{cases_Bool}

@@ -9,6 +9,7 @@ use Rattle.cel_grammar.specs.Views.{statement_of}
 use Rattle.cel_grammar.specs.declared.statement.Statement as code
 use Rattle.cel_parser.specs.Cutting.{Begins, BeginsFaulty}
 use Rattle.cel_parser.specs.OneQuery.{AreNotOneQuery, AreTooMany, IsNotAlone, IsNotOneQuery, IsOneQuery, IsQuery, declared, first, followed, not_alone, query}
+use Rattle.cel_parser.specs.Faults.{IsFaulty}
 use Rattle.cel_parser.specs.OneQuery as one
 use Rattle.cel_parser.specs.QueryLaws.{OneQueryFault, OneQueryReading, QueryNotBoth, QueryOrFault}
 use Rattle.cel_parser.specs.declared.fault.SyntaxFault.{SyntaxFault}
@@ -135,3 +136,15 @@ query-or-fault text tokens all = elim (told (sentences_of text tokens)) [
   | inl is ↦ inl (is.0, is.1, record { reads = record { tokens = tokens; all = all; said = is.2 }; query = is.3 })
   | inr not ↦ inr (not.0, record { tokens = tokens; all = all; explained = not.1 })
 ]
+
+-- want of memory is no fault of a sentence
+faulty-memory : {number : ℕ} {sentence : Sentence} → IsFaulty number sentence fault.Memory → ⊥
+faulty-memory h = elim h [ ]
+
+-- nor of a text that is not one query
+pub query-no-memory : (text : List ℕ) → IsNotOneQuery text fault.Memory → ⊥
+query-no-memory text h = sentences-memory h.explained
+  where
+    sentences-memory : {all : List Sentence} → AreNotOneQuery all fault.Memory → ⊥
+    sentences-memory (first k) = faulty-memory k
+    sentences-memory (not_alone _ (followed _ (one.faulty k))) = faulty-memory k
