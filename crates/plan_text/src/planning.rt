@@ -1,7 +1,8 @@
 //! The text of a plan.
-ghost use Rattle.std.specs.Prelude.{◌≡◌, ◌<◌, ◌++◌, IfOk, OnOk, length, string_bytes};
-ghost use Rattle.catalogue.specs.Catalogued.{judged_of};
-ghost use Rattle.plan_text.specs.Plan.{plan_line_at, plan_of};
+ghost use Rattle.std.specs.Prelude.{◌≡◌, ◌<◌, IfOk, OnOk, length, map, string_bytes};
+ghost use Rattle.cel_grammar.specs.Views.{statement_of};
+ghost use Rattle.plan_text.specs.Parts.{GoesOnByLine};
+ghost use Rattle.plan_text.specs.Plan.{IsLoaded, IsPlanOf};
 ghost use Rattle.plan_text.specs.Reads.{reads_once};
 
 use crate::lines::append_line;
@@ -13,7 +14,8 @@ use std::alloc::Global;
 /// The plan of the queries: for each one, in the order of work, a line with the name and the schema of
 /// the stream that it publishes and the names that it reads, as `Cheap (Name TEXT, Price INT) <- Stock`.
 pub fn plan(alloc: Global, catalogue: &Catalogue) -> Result<Text, Memory>
-    ensures { IfOk result (λ text. text ≡ plan_of (judged_of catalogue.now)) }
+    requires { IsLoaded catalogue.now }
+    ensures { IfOk result (IsPlanOf catalogue.now) }
 {
     let reads = reads_in(alloc, catalogue.file())?;
     let order = catalogue.order();
@@ -32,8 +34,9 @@ fn append_query(
     query: usize,
 ) -> Result<(), Memory>
     requires within { query < length catalogue.now.order }
-    requires reads { reads.now ≡ reads_once (judged_of catalogue.now).statements }
-    ensures { OnOk result (string_bytes text.new ≡ string_bytes text.old ++ plan_line_at (judged_of catalogue.now) query) }
+    requires loaded { IsLoaded catalogue.now }
+    requires reads { reads.now ≡ reads_once (map statement_of catalogue.now.file.statements) }
+    ensures { OnOk result (GoesOnByLine catalogue.now query (string_bytes text.old) (string_bytes text.new)) }
 {
     let stream = catalogue.stream_of(query);
     let streams = catalogue.streams();
