@@ -22,18 +22,18 @@ use Rattle.splitter.specs.Work.{AreChains, kinds_by, work_of}
 use Rattle.splitter.proofs.NumberedLemmas.{AreNumbered}
 use Rattle.splitter.proofs.ProgramLemmas.{expressions_of, layout_made, lines_made, work_end, work_typed, work_wide}
 use Rattle.cel_types.specs.SourceLaws.{kinds_in}
-use Rattle.catalogue.specs.Catalogued.{Catalogued, IsAccepted, judged_of, queries_by}
+use Rattle.catalogue.specs.Parts.{Parts, IsAccepted, judged_of, queries_by}
 use Rattle.catalogue.specs.Chained.{AreChained, kinds_of_each}
 use Rattle.catalogue.specs.Judgement.{program_of, query_at}
 use Rattle.catalogue.specs.Tables.{HasPlaces}
 use Rattle.catalogue.specs.Typing.{Publish, none, next, published_by}
 use Rattle.catalogue.proofs.FewLemmas.{numbers_left}
-use Rattle.catalogue.proofs.HeldLemmas.{place_is, place_small, queries_long, sizes, stream_at}
+use Rattle.catalogue.proofs.HeldLemmas.{order_numbers, place_is, place_small, queries_long, sizes, stream_at}
 use Rattle.catalogue.proofs.TurnLemmas.{in_turn, numbered}
 use Rattle.catalogue.proofs.WideLemmas.{published_wide}
 
 -- each query publishes a stream
-all_count : {queries : List Statement} {streams all : List Entry} {hidden : ℕ} {order : List ℕ} {done : List Query} → Publish queries streams hidden order all done → length all ≡ length streams + length order
+pub all_count : {queries : List Statement} {streams all : List Entry} {hidden : ℕ} {order : List ℕ} {done : List Query} → Publish queries streams hidden order all done → length all ≡ length streams + length order
 all_count (none {streams = streams}) = let e : length streams ≡ length streams + 0 = omega arith in e
 all_count (next {streams = streams} {order = order} {s = s} schema x there typed rest) = let later = all_count rest in omega (arith, later, length_push streams (published_by s schema))
 
@@ -44,7 +44,8 @@ by_expressions number hidden [] (x ∷ xs) same = absurd (omega (arith, same))
 by_expressions number hidden (s ∷ streams) [] same = refl
 by_expressions number hidden (s ∷ streams) (x ∷ xs) same = let rest = by_expressions (number + 1) (parts_of (ex_of x) hidden).next streams xs (omega (arith, same)) in λ i. ex_of x ∷ rest i
 
-kinds_mapped : (schemas : List (List Attr)) (stream : ℕ) → get_or (map kinds_of schemas) stream [] ≡ kinds_of (get_or schemas stream [])
+-- the kinds of a stream by its schema
+pub kinds_mapped : (schemas : List (List Attr)) (stream : ℕ) → get_or (map kinds_of schemas) stream [] ≡ kinds_of (get_or schemas stream [])
 kinds_mapped [] stream = refl
 kinds_mapped (s ∷ schemas) zero = refl
 kinds_mapped (s ∷ schemas) (suc stream) = kinds_mapped schemas stream
@@ -62,7 +63,7 @@ streams_whole (suc many) [] = refl
 streams_whole (suc many) (s ∷ streams) = ap (λ ss. s ∷ ss) (streams_whole many streams)
 
 -- each statement has a stream
-pub many_streams : (c : Catalogued) → IsAccepted c → length (c.declared ++ c.published) ≡ length c.file.statements
+pub many_streams : (c : Parts) → IsAccepted c → length (c.declared ++ c.published) ≡ length c.file.statements
 many_streams c accepted = all_count accepted.accepts.publishes ∙ sizes c accepted
 
 -- what the making of lines asks
@@ -73,7 +74,7 @@ pub record Asks (expressions : List Expr) (places : List ℕ) (declared : ℕ) (
   pub placed : All (λ place. place < length expressions) places
   pub room : chain_end (work_of declared expressions) declared < 2 ^ 64
 
-module _ (c : Catalogued) (accepted : IsAccepted c) (typed : length c.expressions ≡ length c.order) (places : List ℕ) (placed : HasPlaces c.order places) where
+module _ (c : Parts) (accepted : IsAccepted c) (typed : length c.expressions ≡ length c.order) (places : List ℕ) (placed : HasPlaces c.order places) where
   abbrev program : Program
   program = program_of (judged_of c)
 
@@ -104,8 +105,12 @@ module _ (c : Catalogued) (accepted : IsAccepted c) (typed : length c.expression
       let all = all_count accepted.accepts.publishes in
       let schemas = length-map (schemas_of (c.declared ++ c.published)) kinds_of ∙ length-map (c.declared ++ c.published) (λ s. s.schema) in omega (arith, all, schemas, typed)
 
+  -- numbers are left behind their hidden streams
+  pub work_room : chain_end (work_of (length c.declared) c.expressions) (length c.declared) < 2 ^ 64
+  work_room = let end = work_end lists program c.expressions same turned in omega (arith, numbers_left c accepted, end)
+
   place_within : (query : ℕ) → query < length places → get_or places query 0 < length c.expressions
-  place_within query within = let small = place_small c accepted places placed query (omega (arith, within, placed.long)) in omega (arith, small, typed)
+  place_within query within = let small = place_small c.order places (order_numbers c accepted) placed query (omega (arith, within, placed.long)) in omega (arith, small, typed)
 
   asked : Asks c.expressions places (length c.declared) lists
   asked = record {
@@ -113,7 +118,7 @@ module _ (c : Catalogued) (accepted : IsAccepted c) (typed : length c.expression
     wide = work_wide lists program c.expressions same turned widths;
     given = long;
     placed = All-from_get_or (λ place. place < length c.expressions) places 0 place_within;
-    room = let end = work_end lists program c.expressions same turned in omega (arith, numbers_left c accepted, end);
+    room = work_room;
   }
 
   -- each query's stream stands at its place behind the declared ones
@@ -134,7 +139,7 @@ module _ (c : Catalogued) (accepted : IsAccepted c) (typed : length c.expression
           let small : query < length c.order = omega (arith, within, placed.long) in
           let place = get_or places query 0 in
           get_or-map (λ place. length c.declared + place) places query 0 0 within
-          ∙ stream_at c accepted query place (sym (place_is c accepted places placed query small)) (place_small c accepted places placed query small) ∙ sym (query_there query small)
+          ∙ stream_at c accepted query place (sym (place_is c.order places (order_numbers c accepted) placed query small)) (place_small c.order places (order_numbers c accepted) placed query small) ∙ sym (query_there query small)
 
   module _ (declared : ℕ) (kinds : List (List Kind)) (declared_is : declared ≡ length c.declared) (kinds_are : kinds ≡ lists) where
     -- the chains are asked for the catalogue's expressions

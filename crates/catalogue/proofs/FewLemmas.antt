@@ -8,14 +8,14 @@ use Rattle.splitter.specs.Chains.{end_of, lines_of}
 use Rattle.splitter.proofs.ProgramLemmas.{IsShort, few_lines, few_taken}
 use Rattle.cel_grammar.specs.Trees.{Statement}
 use Rattle.cel_grammar.specs.Views.{statement_of}
-use Rattle.catalogue.specs.Catalogued.{Catalogued, IsAccepted, judged_of}
+use Rattle.catalogue.specs.Parts.{Parts, IsAccepted, judged_of}
 use Rattle.catalogue.specs.Filing.{most_bytes}
 use Rattle.catalogue.specs.Judgement.{program_of}
 use Rattle.catalogue.proofs.HeldLemmas.{queries_long, sizes}
 use Rattle.catalogue.proofs.RoomLemmas.{file_few, published_short, queries_few}
 use Rattle.catalogue.proofs.TurnLemmas.{numbered}
 
-module _ (c : Catalogued) (accepted : IsAccepted c) where
+module _ (c : Parts) (accepted : IsAccepted c) where
   abbrev program : Program
   program = program_of (judged_of c)
 

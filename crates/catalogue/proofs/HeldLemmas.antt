@@ -1,23 +1,22 @@
 -- The places of queries in the order of work, and what stands there.
-use Rattle.std.proofs.Common.{◌≡◌, ◌≢◌, ◌∙◌, ℕ, ◌+◌, ◌<◌, ◌≤◌, List, [], ◌++◌, length, get_or, set, map, sym, ap, subst, inl, inr, arith, length-set, get_or-set_same, get_or-set_other}
-use Rattle.std.specs.Prelude.{◌==◌, AllPairs, Contains, Some, slice_get, None}
+use Rattle.std.proofs.Common.{◌≡◌, ◌≢◌, ◌∙◌, ℕ, ◌+◌, ◌<◌, List, [], length, get_or, set, map, sym, ap, subst, inl, inr, arith, length-set, get_or-set_same, get_or-set_other}
+use Rattle.std.specs.Prelude.{◌==◌, ◌↔◌, AllPairs, Contains, None}
 use Rattle.std.specs.List.{position_or_len}
 use Rattle.std.proofs.lemmas.Bool.{cases_eq}
-use Rattle.std.proofs.lemmas.List.{get_or_default, length-append, length-map}
+use Rattle.std.proofs.lemmas.List.{get_or_default, length-map}
 use Rattle.std.proofs.lemmas.List.Sums.{position_or_len_is}
-use Rattle.expressions.specs.declared.expression.Expr.{Expr}
-use Rattle.expressions.specs.Views.{ex_of}
 use Rattle.semantics.specs.Expressions.{Read}
 use Rattle.cel_grammar.specs.Views.{statement_of}
 use Rattle.resubscribe.specs.Laws.{HasEachOnce}
 use Rattle.event_types.proofs.NumberLemmas.{is_other, self_equal}
 use Rattle.resubscribe.proofs.OrderLemmas.{HasEachOnce-order}
-use Rattle.catalogue.specs.Catalogued.{Catalogued, IsAccepted, judged_of, queries_by}
+use Rattle.catalogue.specs.Parts.{Parts, IsAccepted, judged_of, queries_by}
 use Rattle.catalogue.specs.Judgement.{query_at}
 use Rattle.catalogue.specs.Reading.{reads_in}
+use Rattle.catalogue.specs.Standing.{AreNumbers}
 use Rattle.catalogue.specs.Tables.{HasPlaces}
 use Rattle.catalogue.proofs.CountLemmas.{order_count, statement_count}
-use Rattle.catalogue.proofs.PartLemmas.{expr_by, expressions_reach, published_count, stream_by, streams_reach}
+use Rattle.catalogue.proofs.PartLemmas.{published_count, stream_by}
 
 -- the first so many of these numbers have their places
 pub record HasFirstPlaces (numbers places : List ℕ) (many : ℕ) : Type 0 where
@@ -44,17 +43,39 @@ HasFirstPlaces-set numbers places many number distinct within is small was = rec
 pub all_placed : (numbers places : List ℕ) (many : ℕ) → many ≡ length numbers → HasFirstPlaces numbers places many → HasPlaces numbers places
 all_placed numbers places many all was = record { long = was.long; there = λ place within. was.there place (omega arith) }
 
-module _ (c : Catalogued) (accepted : IsAccepted c) where
+module _ (order places : List ℕ) (are : AreNumbers order) (placed : HasPlaces order places) (query : ℕ) (small : query < length order) where
+  -- the query stands at its place
+  at_place : (get_or places query 0 < length order) × (get_or order (get_or places query 0) 0 ≡ query)
+  at_place =
+      let (k, within, same) = (are.all query).1 small in
+      let here : get_or order k 0 ≡ query = sym (get_or_default order k query 0 within) ∙ same in
+      let is : get_or places query 0 ≡ k = ap (λ q. get_or places q 0) (sym here) ∙ placed.there k within in
+      (subst (λ p. p < length order) (sym is) within, ap (λ p. get_or order p 0) is ∙ here)
+
+  -- a query is worked on at one of the places
+  pub place_small : get_or places query 0 < length order
+  place_small = at_place.0
+
+  -- and at no other
+  pub place_is : position_or_len (λ other. query == other) order ≡ get_or places query 0
+  place_is =
+      let small_place : get_or places query 0 < length order = at_place.0 in
+      position_or_len_is (λ other. query == other) order (get_or places query 0) 0 (omega arith)
+      (λ k before. is_other query (get_or order k 0) (λ same. are.distinct k (get_or places query 0) 0 before at_place.0 (sym same ∙ sym at_place.1)))
+      (λ within. ap (λ n. query == n) at_place.1 ∙ self_equal query)
+
+module _ (c : Parts) (accepted : IsAccepted c) where
   once : HasEachOnce (reads_in (map statement_of c.file.statements)) c.order
   once = HasEachOnce-order (reads_in (map statement_of c.file.statements)) c.order accepted.accepts.in_order
 
-  -- no query stands twice in the order
-  pub order_distinct : AllPairs (λ x y. x ≢ y) c.order
-  order_distinct = once.distinct
-
-  -- the order has numbers of queries alone
-  pub order_small : (number : ℕ) → Contains c.order number → number < length c.order
-  order_small number stands = subst (λ (n : ℕ). number < n) (sym (order_count (reads_in (map statement_of c.file.statements)) c.order accepted.accepts.in_order)) ((once.all number).0 stands)
+  -- the order has each number once
+  pub order_numbers : AreNumbers c.order
+  order_numbers = record {
+    distinct = once.distinct;
+    all = λ number.
+        let many : length c.order ≡ length (reads_in (map statement_of c.file.statements)) = order_count (reads_in (map statement_of c.file.statements)) c.order accepted.accepts.in_order in
+        subst (λ (n : ℕ). Contains c.order number ↔ (number < n)) (sym many) (once.all number);
+  }
 
   -- the statements are declarations and queries
   pub sizes : length c.declared + length c.order ≡ length c.file.statements
@@ -67,54 +88,9 @@ module _ (c : Catalogued) (accepted : IsAccepted c) where
   typed_there : (place : ℕ) → place < length c.order → place < length (queries_by (length c.declared) (length c.file.statements) c.published c.expressions)
   typed_there place within = subst (λ n. place < n) (sym queries_long) within
 
-  -- each query that is worked on publishes a stream
-  pub stream_small : (place : ℕ) → place < length c.order → length c.declared + place < length (c.declared ++ c.published)
-  stream_small place within =
-      let reach : length (queries_by (length c.declared) (length c.file.statements) c.published c.expressions) ≤ length c.published = streams_reach (length c.declared) (length c.file.statements) c.published c.expressions in
-      let there : place < length (queries_by (length c.declared) (length c.file.statements) c.published c.expressions) = typed_there place within in
-      let long : length (c.declared ++ c.published) ≡ length c.declared + length c.published = length-append c.declared c.published in
-      omega arith
-
-  -- and has an expression
-  pub expression_small : (place : ℕ) → place < length c.order → place < length c.expressions
-  expression_small place within =
-      let reach : length (queries_by (length c.declared) (length c.file.statements) c.published c.expressions) ≤ length c.expressions = expressions_reach (length c.declared) (length c.file.statements) c.published c.expressions in
-      let there : place < length (queries_by (length c.declared) (length c.file.statements) c.published c.expressions) = typed_there place within in
-      omega arith
-
-  module _ (places : List ℕ) (placed : HasPlaces c.order places) (query : ℕ) (small : query < length c.order) where
-    stands : Contains c.order query
-    stands = (once.all query).1 (subst (λ (n : ℕ). query < n) (order_count (reads_in (map statement_of c.file.statements)) c.order accepted.accepts.in_order) small)
-
-    -- the query stands at its place
-    at_place : (get_or places query 0 < length c.order) × (get_or c.order (get_or places query 0) 0 ≡ query)
-    at_place =
-        let (k, within, same) = stands in
-        let here : get_or c.order k 0 ≡ query = sym (get_or_default c.order k query 0 within) ∙ same in
-        let is : get_or places query 0 ≡ k = ap (λ q. get_or places q 0) (sym here) ∙ placed.there k within in
-        (subst (λ p. p < length c.order) (sym is) within, ap (λ p. get_or c.order p 0) is ∙ here)
-
-    -- a query is published at one of the places
-    pub place_small : get_or places query 0 < length c.order
-    place_small = at_place.0
-
-    -- and at no other
-    pub place_is : position_or_len (λ other. query == other) c.order ≡ get_or places query 0
-    place_is =
-        let small_place : get_or places query 0 < length c.order = at_place.0 in
-        position_or_len_is (λ other. query == other) c.order (get_or places query 0) 0 (omega arith)
-        (λ k before. is_other query (get_or c.order k 0) (λ same. order_distinct k (get_or places query 0) 0 before at_place.0 (sym same ∙ sym at_place.1)))
-        (λ within. ap (λ n. query == n) at_place.1 ∙ self_equal query)
-
   module _ (query place : ℕ) (is : place ≡ position_or_len (λ other. query == other) c.order) (within : place < length c.order) where
     -- the query's stream stands at its place among those that are published
     pub stream_at : length c.declared + place ≡ (query_at (judged_of c) query).stream
     stream_at =
         sym (ap (λ p. (get_or (queries_by (length c.declared) (length c.file.statements) c.published c.expressions) p (record { name = []; stream = 0; hidden = 0; expr = Read 0; birth = None })).stream) (sym is)
         ∙ stream_by (length c.declared) (length c.file.statements) c.published c.expressions place (record { name = []; stream = 0; hidden = 0; expr = Read 0; birth = None }) (typed_there place within))
-
-    -- and so does its expression
-    pub expression_at : (x : Expr) → slice_get c.expressions place ≡ Some x → ex_of x ≡ (query_at (judged_of c) query).expr
-    expression_at x at =
-        expr_by (length c.declared) (length c.file.statements) c.published c.expressions place (record { name = []; stream = 0; hidden = 0; expr = Read 0; birth = None }) x (typed_there place within) at
-        ∙ ap (λ p. (get_or (queries_by (length c.declared) (length c.file.statements) c.published c.expressions) p (record { name = []; stream = 0; hidden = 0; expr = Read 0; birth = None })).expr) is

@@ -9,8 +9,10 @@ pub mod FilingLemmas
 pub mod HeldLemmas
 pub mod LawLemmas
 pub mod LoadLemmas
+pub mod LoadedLemmas
 pub mod NameLemmas
 pub mod NamingLemmas
+pub mod NumberedLemmas
 pub mod PartLemmas
 pub mod PermutationLemmas
 pub mod PlaceLemmas
@@ -22,6 +24,7 @@ pub mod ReadsLemmas
 pub mod RoomLemmas
 pub mod SmallLemmas
 pub mod StandLemmas
+pub mod StandingLemmas
 pub mod TotalDeclarations
 pub mod TotalQueries
 pub mod TotalTypes

@@ -1,6 +1,6 @@
 -- What typed queries are judged to be, by parts.
 use Rattle.std.proofs.Common.{◌≡◌, ◌∙◌, ℕ, zero, suc, ◌+◌, ◌-◌, ◌<◌, ◌≤◌, List, [], ◌∷◌, ◌++◌, length, take, drop, get_or, map, refl, sym, ap, subst, arith, append_assoc}
-use Rattle.std.specs.Prelude.{Some, slice_get, None}
+use Rattle.std.specs.Prelude.{None}
 use Rattle.std.proofs.Math.Seq.{take-append_seam, drop-append_seam}
 use Rattle.std.proofs.lemmas.List.{append-nil, length-map, length_push}
 use Rattle.expressions.specs.declared.expression.Expr.{Expr}
@@ -13,7 +13,7 @@ use Rattle.cel_grammar.specs.Views.{statement_of}
 use Rattle.cel_parser.specs.Filed.{Filed}
 use Rattle.resubscribe.specs.Order.{IsOrder}
 use Rattle.catalogue.specs.Arranging.{AreSound}
-use Rattle.catalogue.specs.Catalogued.{parts_of, judged_of, queries_by}
+use Rattle.catalogue.specs.Parts.{parts_of, judged_of, queries_by}
 use Rattle.catalogue.specs.Filing.{IsFileWithinLimit}
 use Rattle.catalogue.specs.Judgement.{Accepts}
 use Rattle.catalogue.specs.Reading.{reads_in}
@@ -94,26 +94,10 @@ stream_by number hidden (s ∷ streams) (x ∷ xs) (suc place) d within =
     let past : (number + 1) + place ≡ number + suc place = omega arith in
     later ∙ past
 
--- and its expression
-pub expr_by : (number hidden : ℕ) (streams : List Entry) (expressions : List Expr) (place : ℕ) (d : Query) (x : Expr) → place < length (queries_by number hidden streams expressions) → slice_get expressions place ≡ Some x
-    → ex_of x ≡ (get_or (queries_by number hidden streams expressions) place d).expr
-expr_by number hidden [] xs place d x within at = absurd (omega arith)
-expr_by number hidden (s ∷ streams) [] place d x within at = absurd (omega arith)
-expr_by number hidden (s ∷ streams) (y ∷ xs) zero d x within at = let same : y ≡ x = cc in sym (ap ex_of same)
-expr_by number hidden (s ∷ streams) (y ∷ xs) (suc place) d x within at = expr_by (number + 1) (split.parts_of (ex_of y) hidden).next streams xs place d x (omega arith) at
-
--- each has a stream and an expression
+-- each has a stream
 pub streams_reach : (number hidden : ℕ) (streams : List Entry) (expressions : List Expr) → length (queries_by number hidden streams expressions) ≤ length streams
 streams_reach number hidden [] xs = omega arith
 streams_reach number hidden (s ∷ streams) [] = omega arith
 streams_reach number hidden (s ∷ streams) (x ∷ xs) =
     let after = (split.parts_of (ex_of x) hidden).next in
     let later : length (queries_by (number + 1) after streams xs) ≤ length streams = streams_reach (number + 1) after streams xs in omega arith
-
--- and an expression
-pub expressions_reach : (number hidden : ℕ) (streams : List Entry) (expressions : List Expr) → length (queries_by number hidden streams expressions) ≤ length expressions
-expressions_reach number hidden [] xs = omega arith
-expressions_reach number hidden (s ∷ streams) [] = omega arith
-expressions_reach number hidden (s ∷ streams) (x ∷ xs) =
-    let after = (split.parts_of (ex_of x) hidden).next in
-    let later : length (queries_by (number + 1) after streams xs) ≤ length xs = expressions_reach (number + 1) after streams xs in omega arith

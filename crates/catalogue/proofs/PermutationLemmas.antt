@@ -48,21 +48,23 @@ permutes (x ∷ xs) ys apart others_apart to from =
     (λ q stands. later_stands x xs q (from q (Contains-permutation (x ∷ remove ys k) ys q (IsPermutation-sym ys (x ∷ remove ys k) front) (Contains-append_right (x ∷ []) (remove ys k) q stands))) (first_apart x (remove ys k) front_apart q stands)) in
     IsPermutation-trans (x ∷ xs) (x ∷ remove ys k) ys (IsPermutation-cons x xs (remove ys k) later) (IsPermutation-sym ys (x ∷ remove ys k) front)
 
--- the first so many numbers
-from_range : (n q : ℕ) → Contains (range_with_len 0 n) q → q < n
+-- the first so many numbers are those below
+pub from_range : (n q : ℕ) → Contains (range_with_len 0 n) q → q < n
 from_range n q (k, within, there) =
     let small : k < n = subst (λ m. k < m) (length-range_with_len 0 n) within in
     let is : get_or (range_with_len 0 n) k q ≡ 0 + k = get_or-range_with_len 0 n k q small in
     let same : q ≡ 0 + k = sym there ∙ is in
     omega arith
 
-to_range : (n q : ℕ) → q < n → Contains (range_with_len 0 n) q
+-- and all of those
+pub to_range : (n q : ℕ) → q < n → Contains (range_with_len 0 n) q
 to_range n q small =
     let is : get_or (range_with_len 0 n) q q ≡ 0 + q = get_or-range_with_len 0 n q q small in
     let zero_first : 0 + q ≡ q = omega arith in
     (q, subst (λ m. q < m) (sym (length-range_with_len 0 n)) small, is ∙ zero_first)
 
-range_apart : (n : ℕ) → AllPairs (λ x y. x ≢ y) (range_with_len 0 n)
+-- no two of them are the same
+pub range_apart : (n : ℕ) → AllPairs (λ x y. x ≢ y) (range_with_len 0 n)
 range_apart n i j d before within same =
     let small : j < n = subst (λ m. j < m) (length-range_with_len 0 n) within in
     let first : get_or (range_with_len 0 n) i d ≡ 0 + i = get_or-range_with_len 0 n i d (omega arith) in

@@ -7,6 +7,8 @@ pub mod Faults
 pub mod Filing
 pub mod Typing
 pub mod Judgement
+pub mod Parts
+pub mod Numbering
 pub mod Catalogued
 pub mod Chained
 pub mod Tables
@@ -16,4 +18,6 @@ pub mod Laws
 pub mod Verdicts
 pub mod Programs
 pub mod Changes
+pub mod Standing
+pub mod Loaded
 pub mod Adding

@@ -1,9 +1,12 @@
 -- Tables of the statements of a file, by name and by the queries' numbers. No public clause cites this.
 use Rattle.std.specs.Prelude.{◌≡◌, ◌<◌, ℕ, List, length, map, Some, slice_get, slice_index_or}
+use Rattle.automaton.specs.declared.line.Line.{Line}
+use Rattle.splitter.specs.Chains.{lines_of}
 use Rattle.cel_grammar.specs.Trees.{Statement}
-use Rattle.stream_schema.specs.Streams.{AreThere, stream_names}
+use Rattle.stream_schema.specs.Streams.{stream_names}
 use Rattle.catalogue.specs.declared.naming.Named.{Named}
-use Rattle.catalogue.specs.Catalogued.{Catalogued, IsAccepted, judged_of}
+use Rattle.catalogue.specs.Catalogued.{Catalogued, program_in}
+use Rattle.catalogue.specs.Standing.{StandsInOrder}
 use Rattle.catalogue.specs.Statements.{names_in, queries_in, query_names}
 use Rattle.catalogue.specs.Typing.{query_lines}
 
@@ -22,8 +25,8 @@ pub record HasPlaces (numbers : List ℕ) (places : List ℕ) : Type 0 where
   pub long : length places ≡ length numbers
   pub there : (place : ℕ) → place < length numbers → slice_index_or places (slice_index_or numbers place 0) 0 ≡ place
 
--- the parts are accepted, these are the places of the queries in the order of work, and no stream is retired
-pub record AreHeld (c : Catalogued) (places : List ℕ) : Type 0 where
-  pub accepted : IsAccepted c
+-- the catalogue stands in order, these are the places of its queries in the order of work, and these are its lines
+pub record IsHeld (c : Catalogued) (places : List ℕ) (lines : List Line) : Type 0 where
+  pub stands : StandsInOrder c
   pub placed : HasPlaces c.order places
-  pub there : AreThere (judged_of c).streams
+  pub lines_are : lines ≡ lines_of (program_in c)

@@ -1,15 +1,17 @@
-//! Catalogues: query texts that are accepted.
-ghost use Rattle.std.specs.Prelude.{◌≡◌, ◌≢◌, ◌<◌, ◌+◌, ◌^◌, ◌==◌, ◌++◌, ◌∷◌, [], AllPairs, IfOk, OnOk, length, sum_by};
+//! Catalogues: query texts that are accepted, and their queries.
+ghost use Rattle.std.specs.Prelude.{◌≡◌, ◌≢◌, ◌<◌, ◌+◌, ◌^◌, ◌==◌, AllPairs, IfOk, length, sum_by};
 ghost use Rattle.std.specs.List.{All, position_or_len};
 ghost use Rattle.expressions.specs.Views.{ex_of};
 ghost use Rattle.splitter.specs.Chains.{lines_of};
-ghost use Rattle.splitter.specs.Layouts.{IsLayoutOf};
-ghost use Rattle.stream_schema.specs.Streams.{AreThere};
-ghost use Rattle.catalogue.specs.Catalogued.{IsAccepted, parts_of, judged_of};
-ghost use Rattle.catalogue.specs.Chained.{kinds_of_each};
-ghost use Rattle.catalogue.specs.Judgement.{program_of, query_at};
+ghost use Rattle.stream_schema.specs.Streams.{AreThere, IsRetired};
+ghost use Rattle.catalogue.specs.Catalogued.{program_in, query_in};
+ghost use Rattle.catalogue.specs.Chained.{AreChained, kinds_of_each};
+ghost use Rattle.catalogue.specs.Loaded.{HoldsJudged, IsUnchanged};
+ghost use Rattle.catalogue.specs.Parts.{IsAccepted, parts_of, judged_of};
+ghost use Rattle.catalogue.specs.Standing.{IsLayoutOver, StandsInOrder};
 ghost use Rattle.catalogue.specs.Tables.{HasPlaces};
 
+use crate::numbering::{Published, hide_up_to, number_all, numbers_below};
 use automaton::{Layout, Lines};
 use cel_parser::File;
 use event_types::{KindLists, List, Memory, Numbers, StreamId};
@@ -24,28 +26,34 @@ use stream_schema::Streams;
 #[derive(Drop)]
 pub struct Catalogue {
     file: File,
+    declared: usize,
+    // By number: those that STREAM declares, those of the queries, and hidden ones.
     streams: Streams,
+    // The numbers of the queries in the order of work.
     order: Numbers,
     // In the order of work.
+    published: List<Published>,
     expressions: List<Expr>,
     // For each query by its number its place in the order of work.
     places: Vec<usize>,
+    // For each line the number of its end.
+    ends: Numbers,
+    next_end: usize,
     chains: Chains,
 }
 
 impl Model for Catalogue {
-    ghost use Rattle.catalogue.specs.Catalogued.{Catalogued, parts_of, catalogued_code};
+    ghost use Rattle.catalogue.specs.Catalogued.{Catalogued, catalogued_code};
 
     ghost Value = { Catalogued };
 
     ghost coded = { catalogued_code };
 
-    ghost use Rattle.catalogue.specs.Chained.{AreChained};
-    ghost use Rattle.catalogue.specs.Tables.{AreHeld};
+    ghost use Rattle.catalogue.specs.Tables.{IsHeld};
 
-    ghost view = { λ c. parts_of c.file c.streams c.order c.expressions };
+    ghost view = { λ c. record { file = c.file; declared = c.declared; streams = c.streams; order = c.order; published = c.published; expressions = c.expressions; ends = c.ends; next_end = c.next_end; layout = c.chains.layout } };
 
-    ghost invariant = { λ c. AreHeld (parts_of c.file c.streams c.order c.expressions) c.places.items × AreChained (parts_of c.file c.streams c.order c.expressions) c.chains };
+    ghost invariant = { λ c. IsHeld (record { file = c.file; declared = c.declared; streams = c.streams; order = c.order; published = c.published; expressions = c.expressions; ends = c.ends; next_end = c.next_end; layout = c.chains.layout }) c.places.items c.chains.lines };
 }
 
 impl Catalogue {
@@ -60,18 +68,27 @@ impl Catalogue {
         requires accepted { IsAccepted (parts_of file streams order expressions) }
         requires typed { length expressions ≡ length order }
         requires there { AreThere streams }
-        ensures { IfOk result (λ catalogue. catalogue ≡ parts_of file streams order expressions) }
+        ensures holds { IfOk result (HoldsJudged (judged_of (parts_of file streams order expressions))) }
+        ensures unchanged { IfOk result IsUnchanged }
     {
         let places = places_in(alloc, &order)?;
+        let chains = chains_of(alloc, &file, &streams, &order, &expressions, &places)?;
         let declared = file.size() - order.len();
-        let kinds = stream_kinds(alloc, &streams, file.size())?;
-        let chains = Chains::make(alloc, declared, &expressions, &places, kinds)?;
+        let published = number_all(alloc, declared, &expressions)?;
+        let mut streams = streams;
+        hide_up_to(&mut streams, file.size(), chains.layout.kinds.len())?;
+        let ends = numbers_below(alloc, chains.lines.len())?;
+        let next_end = ends.len();
         Ok(Catalogue {
             file,
+            declared,
             streams,
             order,
+            published,
             expressions,
             places,
+            ends,
+            next_end,
             chains,
         })
     }
@@ -79,32 +96,32 @@ impl Catalogue {
     /// The statements of the text and their lines.
     pub fn file(&self) -> &File
         ensures value { result.now ≡ self.now.file }
-        ensures is_accepted { IsAccepted self.now }
+        ensures stands { StandsInOrder self.now }
     {
         &self.file
     }
 
     /// The streams by number: first those that STREAM declares, in the order of the file, and then those
-    /// that queries publish, in the order of work.
+    /// that queries publish, in the order of work, and hidden ones.
     pub fn streams(&self) -> &Streams
-        ensures value { result.now ≡ (judged_of self.now).streams }
-        ensures there { AreThere result.now }
-        ensures is_accepted { IsAccepted self.now }
+        ensures value { result.now ≡ self.now.streams }
+        ensures stands { StandsInOrder self.now }
     {
         &self.streams
     }
 
     /// How many streams STREAM declares.
     pub fn declared(&self) -> usize
-        ensures value { result ≡ length (judged_of self.now).declared }
+        ensures value { result ≡ self.now.declared }
+        ensures stands { StandsInOrder self.now }
     {
-        self.file.size() - self.order.len()
+        self.declared
     }
 
     /// How many queries there are.
     pub fn queries(&self) -> usize
         ensures value { result ≡ length self.now.order }
-        ensures is_accepted { IsAccepted self.now }
+        ensures stands { StandsInOrder self.now }
     {
         self.order.len()
     }
@@ -112,31 +129,32 @@ impl Catalogue {
     /// The stream that the query with this number publishes.
     pub fn stream_of(&self, query: usize) -> StreamId
         requires { query < length self.now.order }
-        ensures value { result ≡ (query_at (judged_of self.now) query).stream }
-        ensures within { result < length (judged_of self.now).streams }
+        ensures value { result ≡ (query_in self.now query).stream }
+        ensures within { result < length self.now.streams }
+        ensures named { ¬ IsRetired self.now.streams result }
     {
-        self.file.size() - self.order.len() + self.place(query)
+        self.published.get(self.place(query)).stream
     }
 
     /// The expression of the query with this number.
     pub fn expr(&self, query: usize) -> &Expr
         requires { query < length self.now.order }
-        ensures { ex_of result.now ≡ (query_at (judged_of self.now) query).expr }
+        ensures { ex_of result.now ≡ (query_in self.now query).expr }
     {
         self.expressions.get(self.place(query))
     }
 
     /// The numbers of the queries in the order of work.
     pub fn order(&self) -> &Numbers
-        ensures value { result.now ≡ (judged_of self.now).order }
-        ensures is_accepted { IsAccepted self.now }
+        ensures value { result.now ≡ self.now.order }
+        ensures stands { StandsInOrder self.now }
     {
         &self.order
     }
 
     /// The automaton lines of the queries, those of a stream before those that read it.
     pub fn lines(&self) -> &Lines
-        ensures value { result.now ≡ lines_of (program_of (judged_of self.now)) }
+        ensures value { result.now ≡ lines_of (program_in self.now) }
         ensures few { sum_by (λ line. 1 + length line.hops) result.now < 2 ^ 64 }
     {
         &self.chains.lines
@@ -144,7 +162,8 @@ impl Catalogue {
 
     /// The streams of the lines. Printed are those of the queries, in the order of the file.
     pub fn layout(&self) -> &Layout
-        ensures { IsLayoutOf (program_of (judged_of self.now)) (kinds_of_each (judged_of self.now).streams) result.now }
+        ensures value { result.now ≡ self.now.layout }
+        ensures laid { IsLayoutOver self.now.streams (program_in self.now) result.now }
     {
         &self.chains.layout
     }
@@ -170,6 +189,25 @@ fn places_in(alloc: Global, numbers: &Numbers) -> Result<Vec<usize>, Memory>
         places[*numbers.get(place)] = place;
     }
     Ok(places)
+}
+
+// The lines and the layout of the queries of these parts, which have these places in the order of work.
+fn chains_of(
+    alloc: Global,
+    file: &File,
+    streams: &Streams,
+    order: &Numbers,
+    expressions: &List<Expr>,
+    places: &[usize],
+) -> Result<Chains, Memory>
+    requires accepted { IsAccepted (parts_of file.now streams.now order.now expressions.now) }
+    requires typed { length expressions.now ≡ length order.now }
+    requires placed { HasPlaces order.now places.now }
+    ensures { IfOk result (AreChained (parts_of file.now streams.now order.now expressions.now)) }
+{
+    let declared = file.size() - order.len();
+    let kinds = stream_kinds(alloc, streams, file.size())?;
+    Chains::make(alloc, declared, expressions, places, kinds)
 }
 
 // The kinds of each of so many streams, by its number.

@@ -1,8 +1,8 @@
 //! Query texts: which are accepted, as which queries over which streams, and why others are refused.
 //!
-//! Contracts see a `Catalogue` as its file, its declared streams, the streams that its queries publish,
-//! the numbers of its queries in the order of work, and their expressions in this order (`judged_of`
-//! says what a text with these parts is judged to be).
+//! Contracts see a `Catalogue` as its file, its streams by number, the numbers of its queries in the order of
+//! work, what these publish and their expressions in this order, the ends of their automaton lines, and the
+//! layout of these (`program_in` is its program, and `StandsInOrder` what holds of each catalogue).
 #![tactic(auto)]
 
 mod accepted;
@@ -13,6 +13,7 @@ mod filing;
 mod laws;
 mod loading;
 mod naming;
+mod numbering;
 mod publishing;
 mod reading;
 mod statements;

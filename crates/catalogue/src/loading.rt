@@ -1,9 +1,10 @@
 //! From a query text to its catalogue.
 ghost use Rattle.std.specs.Prelude.{◌≡◌, IfErr, IfOk, length};
 ghost use Rattle.stream_schema.specs.Streams.{AreThere};
-ghost use Rattle.catalogue.specs.Catalogued.{parts_of, judged_of};
-ghost use Rattle.catalogue.specs.Judgement.{Accepts, Circles, Refuses};
+ghost use Rattle.catalogue.specs.Judgement.{Circles, Refuses};
+ghost use Rattle.catalogue.specs.Loaded.{IsLoadedFrom};
 ghost use Rattle.catalogue.specs.Loading.{AcceptsFile, RefusesFile};
+ghost use Rattle.catalogue.specs.Parts.{parts_of, judged_of};
 ghost use Rattle.catalogue.specs.Telling.{Tells};
 
 use crate::accepted::Catalogue;
@@ -21,7 +22,7 @@ use stream_schema::Streams;
 /// The catalogue of a query text, or its first fault: of its length, its tokens, its statements, their
 /// names, the names that they read, a cycle, the types of its declarations, or those of its queries.
 pub fn load(alloc: Global, text: &[u8]) -> Result<Catalogue, LoadFault>
-    ensures ok { IfOk result (λ catalogue. Accepts text.now (judged_of catalogue)) }
+    ensures ok { IfOk result (IsLoadedFrom text.now) }
     ensures err { IfErr result (Tells (Refuses text.now) (Circles text.now)) }
 {
     let file = file_of(alloc, text)?;

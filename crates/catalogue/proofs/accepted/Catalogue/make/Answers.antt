@@ -1,22 +1,25 @@
-use Rattle.std.proofs.Common.{◌≡◌, ◌∙◌, ℕ, ◌-◌, ◌<◌, List, length, get_or, sym, ap, subst, arith}
-use Rattle.std.specs.List.{All}
+use Rattle.std.proofs.Common.{◌≡◌, ◌∙◌, ℕ, ◌-◌, ◌<◌, ◌^◌, ◌++◌, length, get_or, sym, ap, subst, arith}
 use Rattle.std.proofs.lemmas.List.Elements.{Contains-get_or}
-use Rattle.splitter.specs.Work.{AreChains}
+use Rattle.splitter.specs.Work.{work_of}
 use Rattle.stream_schema.specs.Streams.{AreThere}
-use Rattle.catalogue.specs.Catalogued.{parts_of}
-use Rattle.catalogue.specs.Chained.{kinds_of_each}
-use Rattle.catalogue.proofs.ChainedLemmas.{Asks, asks, chained, many_streams, streams_whole}
-use Rattle.catalogue.proofs.HeldLemmas.{order_distinct, order_small, sizes}
+use Rattle.catalogue.specs.Parts.{judged_of, parts_of}
+use Rattle.splitter.specs.Chains.{chain_end, lines_of}
+use Rattle.catalogue.specs.Catalogued.{Catalogued}
+use Rattle.catalogue.specs.Loaded.{HoldsJudged, IsUnchanged}
+use Rattle.catalogue.specs.Tables.{IsHeld}
+use Rattle.catalogue.proofs.ChainedLemmas.{many_streams, streams_whole, work_room}
+use Rattle.catalogue.proofs.HeldLemmas.{order_numbers, sizes}
+use Rattle.catalogue.proofs.LoadedLemmas.{loaded_holds, loaded_of, loaded_stands, loaded_unchanged, made_is, program_is, room_up}
 use Rattle.catalogue.proofs.accepted.Catalogue.make.Goals as goal
 
 -- the numbers are those of queries
 pub places_in-requires-clause-small : goal.places_in-requires-clause-small
 places_in-requires-clause-small c k d within =
-    order_small (parts_of c.args.file c.args.streams c.args.order c.args.expressions) c.requires.accepted (get_or c.args.order k d) (Contains-get_or c.args.order k d within)
+    ((order_numbers (parts_of c.args.file c.args.streams c.args.order c.args.expressions) c.requires.accepted).all (get_or c.args.order k d)).0 (Contains-get_or c.args.order k d within)
 
 -- no two are the same
 pub places_in-requires-clause-distinct : goal.places_in-requires-clause-distinct
-places_in-requires-clause-distinct c = order_distinct (parts_of c.args.file c.args.streams c.args.order c.args.expressions) c.requires.accepted
+places_in-requires-clause-distinct c = (order_numbers (parts_of c.args.file c.args.streams c.args.order c.args.expressions) c.requires.accepted).distinct
 
 -- there are as many statements as declared streams and queries
 pub overflow_sub-declared : goal.overflow_sub-declared
@@ -26,48 +29,76 @@ overflow_sub-declared c =
     let queries : c.len.result ≡ length c.args.order = c.len.ensures in
     omega (arith, sum, size, queries)
 
--- and each has a stream
-pub stream_kinds-requires : goal.stream_kinds-requires
-stream_kinds-requires c =
-    let size : c.size-2.result ≡ length c.args.file.statements = c.size-2.ensures.value in
-    size ∙ sym (many_streams (parts_of c.args.file c.args.streams c.args.order c.args.expressions) c.requires.accepted)
-    ∙ ap length (streams_whole (length c.args.file.statements - length c.args.order) c.args.streams)
+-- the streams that are there are those of the statements
+pub hide_up_to-requires-clause-there : goal.hide_up_to-requires-clause-there
+hide_up_to-requires-clause-there c =
+    ap length (sym (streams_whole (length c.args.file.statements - length c.args.order) c.args.streams)) ∙ many_streams (parts_of c.args.file c.args.streams c.args.order c.args.expressions) c.requires.accepted ∙ sym c.size-2.ensures.value
 
--- the queries are typed, and few numbers are taken for hidden streams
-asked : (c : goal.After-deref) → Asks c.args.expressions c.in_ok-places.places.items (c.size.result - c.len.result) c.in_ok-kinds.kinds
-asked c =
+-- numbers are left for hidden streams
+pub number_all-requires-clause-room : goal.number_all-requires-clause-room
+number_all-requires-clause-room c =
+    let parts = parts_of c.args.file c.args.streams c.args.order c.args.expressions in
+    let sum = sizes parts c.requires.accepted in
+    let size : c.size.result ≡ length c.args.file.statements = c.size.ensures.value in
+    let queries : c.len.result ≡ length c.args.order = c.len.ensures in
+    let declared : length parts.declared ≡ c.size.result - c.len.result = omega (arith, sum, size, queries) in
+    subst (λ (n : ℕ). chain_end (work_of n c.args.expressions) n < 2 ^ 64) declared (work_room parts c.requires.accepted c.requires.typed c.in_ok-places.places.items c.in_ok-places.ensures)
+
+-- and for the streams of the statements
+pub number_all-requires-clause-given : goal.number_all-requires-clause-given
+number_all-requires-clause-given c =
     let sum = sizes (parts_of c.args.file c.args.streams c.args.order c.args.expressions) c.requires.accepted in
     let size : c.size.result ≡ length c.args.file.statements = c.size.ensures.value in
     let queries : c.len.result ≡ length c.args.order = c.len.ensures in
-    let kinds : c.in_ok-kinds.kinds ≡ kinds_of_each c.args.streams = c.in_ok-kinds.ensures in
-    asks (parts_of c.args.file c.args.streams c.args.order c.args.expressions) c.requires.accepted c.requires.typed c.in_ok-places.places.items c.in_ok-places.ensures (c.size.result - c.len.result) c.in_ok-kinds.kinds
-    (omega (arith, sum, size, queries)) (kinds ∙ ap kinds_of_each (sym (streams_whole (length c.args.file.statements - length c.args.order) c.args.streams)))
+    omega (arith, sum, size, queries, c.requires.typed, c.size.type_inv)
 
-pub make-requires-clause-typed : goal.make-requires-clause-typed
-make-requires-clause-typed c = (asked c).typed
+-- its layout has them all
+pub hide_up_to-requires-clause-up : goal.hide_up_to-requires-clause-up
+hide_up_to-requires-clause-up c =
+    room_up c.args.file c.args.streams c.args.order c.args.expressions c.requires.accepted c.requires.typed c.in_ok-chains.chains c.in_ok-chains.ensures c.size-2.result c.len-2.result c.size-2.ensures.value c.len-2.ensures
 
-pub make-requires-clause-wide : goal.make-requires-clause-wide
-make-requires-clause-wide c = (asked c).wide
+-- it is the loaded catalogue
+module _ (c : goal.After-len-next_end) where
+  abbrev loaded : Catalogued
+  loaded = loaded_of (parts_of c.args.file c.args.streams c.args.order c.args.expressions) c.requires.accepted c.requires.typed c.in_ok-chains.chains.layout c.in_ok-chains.ensures.layout
 
-pub make-requires-clause-given : goal.make-requires-clause-given
-make-requires-clause-given c = (asked c).given
+  made_loaded : (record {
+    file = c.args.file;
+    declared = c.size.result - c.len.result;
+    streams = c.hide_up_to.new.streams;
+    order = c.args.order;
+    published = c.in_ok-published.published;
+    expressions = c.args.expressions;
+    ends = c.in_ok-ends.ends;
+    next_end = c.len-next_end.result;
+    layout = c.in_ok-chains.chains.layout;
+  }) ≡ loaded
+  made_loaded =
+      let size : c.size.result ≡ length c.args.file.statements = c.size.ensures.value in
+      let queries : c.len.result ≡ length c.args.order = c.len.ensures in
+      made_is c.args.file c.args.streams c.args.order c.args.expressions c.requires.accepted c.requires.typed c.in_ok-chains.chains c.in_ok-chains.ensures (c.size.result - c.len.result) c.size-2.result c.len-2.result c.len-3.result c.len-next_end.result
+      c.hide_up_to.new.streams c.in_ok-published.published c.in_ok-ends.ends (omega (arith, size, queries)) c.size-2.ensures.value c.len-2.ensures c.len-3.ensures c.in_ok-hide_up_to.ensures c.in_ok-published.ensures c.in_ok-ends.ensures c.len-next_end.ensures
 
-pub make-requires-clause-placed : goal.make-requires-clause-placed
-make-requires-clause-placed c = subst (All (λ place. place < length c.args.expressions)) (sym c.deref.ensures.value) (asked c).placed
-
-pub make-requires-clause-room : goal.make-requires-clause-room
-make-requires-clause-room c = (asked c).room
-
--- the places are those of the queries, and the lines those of the program
+-- so it stands in order
 pub invariant_of-result : goal.invariant_of-result
 invariant_of-result c =
-    let sum = sizes (parts_of c.args.file c.args.streams c.args.order c.args.expressions) c.requires.accepted in
-    let size : c.size.result ≡ length c.args.file.statements = c.size.ensures.value in
-    let queries : c.len.result ≡ length c.args.order = c.len.ensures in
-    let kinds : c.in_ok-kinds.kinds ≡ kinds_of_each c.args.streams = c.in_ok-kinds.ensures in
-    let made : AreChains (c.size.result - c.len.result) c.args.expressions c.in_ok-places.places.items c.in_ok-kinds.kinds c.in_ok-chains.chains =
-    subst (λ (places : List ℕ). AreChains (c.size.result - c.len.result) c.args.expressions places c.in_ok-kinds.kinds c.in_ok-chains.chains) c.deref.ensures.value c.in_ok-chains.ensures in (
-      record { accepted = c.requires.accepted; placed = c.in_ok-places.ensures; there = subst AreThere (sym (streams_whole (length c.args.file.statements - length c.args.order) c.args.streams)) c.requires.there },
-      chained (parts_of c.args.file c.args.streams c.args.order c.args.expressions) c.requires.accepted c.requires.typed c.in_ok-places.places.items c.in_ok-places.ensures (c.size.result - c.len.result) c.in_ok-kinds.kinds
-          (omega (arith, sum, size, queries)) (kinds ∙ ap kinds_of_each (sym (streams_whole (length c.args.file.statements - length c.args.order) c.args.streams))) c.in_ok-chains.chains made,
-    )
+    let parts = parts_of c.args.file c.args.streams c.args.order c.args.expressions in
+    let layout = c.in_ok-chains.chains.layout in
+    let there : AreThere (parts.declared ++ parts.published) = subst AreThere (sym (streams_whole (length c.args.file.statements - length c.args.order) c.args.streams)) c.requires.there in
+    subst (λ (v : Catalogued). IsHeld v c.in_ok-places.places.items c.in_ok-chains.chains.lines) (sym (made_loaded c)) (record {
+      stands = loaded_stands parts c.requires.accepted c.requires.typed layout c.in_ok-chains.ensures.layout there;
+      placed = c.in_ok-places.ensures;
+      lines_are = c.in_ok-chains.ensures.lines ∙ ap lines_of (sym (program_is parts c.requires.accepted c.requires.typed layout c.in_ok-chains.ensures.layout));
+    })
+
+-- holds what the text is judged to be
+pub returns-clause-holds : goal.returns-clause-holds
+returns-clause-holds c =
+    let parts = parts_of c.args.file c.args.streams c.args.order c.args.expressions in
+    subst (HoldsJudged (judged_of parts)) (sym (made_loaded c)) (loaded_holds parts c.requires.accepted c.requires.typed c.in_ok-chains.chains.layout c.in_ok-chains.ensures.layout)
+
+-- and no query came or left
+pub returns-clause-unchanged : goal.returns-clause-unchanged
+returns-clause-unchanged c =
+    let parts = parts_of c.args.file c.args.streams c.args.order c.args.expressions in
+    subst IsUnchanged (sym (made_loaded c)) (loaded_unchanged parts c.requires.accepted c.requires.typed c.in_ok-chains.chains.layout c.in_ok-chains.ensures.layout)

@@ -1,43 +1,16 @@
-use Rattle.std.proofs.Common.{◌≡◌, ◌∙◌, ◌++◌, ◌+◌, ◌-◌, ◌<◌, Fits, w64, length, ap, subst, arith, rules}
+use Rattle.std.proofs.Common.{◌≡◌, ◌∙◌, sym, ap, subst}
+use Rattle.std.specs.Prelude.{Some, slice_get}
 use Rattle.catalogue.specs.Catalogued.{Catalogued}
-use Rattle.catalogue.specs.Tables.{AreHeld}
-use Rattle.catalogue.proofs.HeldLemmas.{sizes, stream_at, stream_small}
+use Rattle.catalogue.specs.Standing.{IsKnown}
+use Rattle.catalogue.specs.Tables.{IsHeld}
+use Rattle.catalogue.proofs.StandingLemmas.{stream_at, stream_known}
 use Rattle.catalogue.proofs.accepted.Catalogue.stream_of.Goals as goal
 
--- there are as many statements as declared streams and queries
-pub overflow_sub-result : goal.overflow_sub-result
-overflow_sub-result c =
-    let held : AreHeld c.args.self.now c.self.inside.places.items = subst (λ (v : Catalogued). AreHeld v c.self.inside.places.items) c.self.view_is c.self.invariant.0 in
-    let sum : length c.args.self.now.declared + length c.args.self.now.order ≡ length c.args.self.now.file.statements = sizes c.args.self.now held.accepted in
-    let size : c.size.result ≡ length c.args.self.now.file.statements = c.size.ensures.value ∙ ap (λ (v : Catalogued). length v.file.statements) c.self.view_is in
-    let queries : c.len.result ≡ length c.args.self.now.order = c.len.ensures ∙ ap (λ (v : Catalogued). length v.order) c.self.view_is in
-    omega arith
-
--- the stream is one of them
-pub overflow_add-result : goal.overflow_add-result
-overflow_add-result c =
-    let held : AreHeld c.args.self.now c.self.inside.places.items = subst (λ (v : Catalogued). AreHeld v c.self.inside.places.items) c.self.view_is c.self.invariant.0 in
-    let sum : length c.args.self.now.declared + length c.args.self.now.order ≡ length c.args.self.now.file.statements = sizes c.args.self.now held.accepted in
-    let size : c.size.result ≡ length c.args.self.now.file.statements = c.size.ensures.value ∙ ap (λ (v : Catalogued). length v.file.statements) c.self.view_is in
-    let queries : c.len.result ≡ length c.args.self.now.order = c.len.ensures ∙ ap (λ (v : Catalogued). length v.order) c.self.view_is in
-    let inside : c.place.result < length c.args.self.now.order = c.place.ensures.within in
-    let fits : Fits w64 c.size.result = search rules in
-    omega arith
-
-pub returns-clause-value : goal.returns-clause-value
-returns-clause-value c =
-    let held : AreHeld c.args.self.now c.self.inside.places.items = subst (λ (v : Catalogued). AreHeld v c.self.inside.places.items) c.self.view_is c.self.invariant.0 in
-    let sum : length c.args.self.now.declared + length c.args.self.now.order ≡ length c.args.self.now.file.statements = sizes c.args.self.now held.accepted in
-    let size : c.size.result ≡ length c.args.self.now.file.statements = c.size.ensures.value ∙ ap (λ (v : Catalogued). length v.file.statements) c.self.view_is in
-    let queries : c.len.result ≡ length c.args.self.now.order = c.len.ensures ∙ ap (λ (v : Catalogued). length v.order) c.self.view_is in
-    let declared : c.size.result - c.len.result + c.place.result ≡ length c.args.self.now.declared + c.place.result = omega arith in
-    declared ∙ stream_at c.args.self.now held.accepted c.args.query c.place.result c.place.ensures.value c.place.ensures.within
-
-pub returns-clause-within : goal.returns-clause-within
-returns-clause-within c =
-    let held : AreHeld c.args.self.now c.self.inside.places.items = subst (λ (v : Catalogued). AreHeld v c.self.inside.places.items) c.self.view_is c.self.invariant.0 in
-    let sum : length c.args.self.now.declared + length c.args.self.now.order ≡ length c.args.self.now.file.statements = sizes c.args.self.now held.accepted in
-    let size : c.size.result ≡ length c.args.self.now.file.statements = c.size.ensures.value ∙ ap (λ (v : Catalogued). length v.file.statements) c.self.view_is in
-    let queries : c.len.result ≡ length c.args.self.now.order = c.len.ensures ∙ ap (λ (v : Catalogued). length v.order) c.self.view_is in
-    let small : length c.args.self.now.declared + c.place.result < length (c.args.self.now.declared ++ c.args.self.now.published) = stream_small c.args.self.now held.accepted c.place.result c.place.ensures.within in
-    omega arith
+-- the query publishes the stream at its place
+pub returns : goal.returns
+returns c =
+    let held : IsHeld c.args.self.now c.self.inside.places.items c.self.inside.chains.lines = subst (λ (v : Catalogued). IsHeld v c.self.inside.places.items c.self.inside.chains.lines) c.self.view_is c.self.invariant in
+    let there : slice_get c.args.self.now.published c.place.result ≡ Some c.get.result.now = ap (λ (v : Catalogued). slice_get v.published c.place.result) (sym c.self.view_is) ∙ c.get.ensures in
+    let own = stream_at c.args.self.now held.stands c.args.query c.place.result c.place.ensures.value c.place.ensures.within c.get.result.now there in
+    let known = subst (IsKnown c.args.self.now.streams) (sym own) (stream_known c.args.self.now held.stands c.args.query c.place.result c.place.ensures.value c.place.ensures.within) in
+    record { value = own; within = known.within; named = known.named }
