@@ -18,11 +18,11 @@ use Rattle.semantics.specs.Programs.{Program, Query}
 use Rattle.semantics.specs.Report.{line, lines_at}
 use Rattle.semantics.specs.Results.{results}
 use Rattle.stream_schema.specs.Streams.{stream_names}
-use Rattle.catalogue.specs.Catalogued.{Catalogued, IsAccepted, judged_of}
-use Rattle.catalogue.specs.Judgement.{query_at}
-use Rattle.catalogue.proofs.ProgramLemmas.{streams_have_their_names}
+use Rattle.catalogue.specs.Catalogued.{Catalogued, query_in}
+use Rattle.catalogue.specs.Standing.{StandsInOrder}
 use Rattle.epoch_engine.specs.Entries.{AreEntriesOf, places_in, tuples_at, tuples_in}
 use Rattle.epoch_engine.specs.declared.entry.Entry.{Entry}
+use Rattle.session.proofs.NamesLemmas.{named_by_stream}
 use Rattle.session.specs.BatchLines.{batch_lines}
 use Rattle.session.specs.EngineStandsWithLastOpen.{AreFronts, program_over}
 use Rattle.result_text.specs.Front.{front_of}
@@ -131,45 +131,42 @@ number_at many number less =
 module _ (c : Catalogued) where
   -- there are as many queries in the program as numbers of queries
   pub as_many : length (program_over c).queries ≡ length c.order
-  as_many = length-map-range_with_len (query_at (judged_of c)) 0 (length c.order)
+  as_many = length-map-range_with_len (query_in c) 0 (length c.order)
 
   -- the query with a number stands at that place
-  pub query_there : (number : ℕ) → number < length c.order → slice_get (program_over c).queries number ≡ Some (query_at (judged_of c) number)
-  query_there number less = slice_get-map (query_at (judged_of c)) (range_with_len 0 (length c.order)) number ∙ ap (option_map (query_at (judged_of c))) (number_at (length c.order) number less)
+  pub query_there : (number : ℕ) → number < length c.order → slice_get (program_over c).queries number ≡ Some (query_in c number)
+  query_there number less = slice_get-map (query_in c) (range_with_len 0 (length c.order)) number ∙ ap (option_map (query_in c)) (number_at (length c.order) number less)
 
   -- the stream of the query with a number has the name of that query
-  pub name_is : (accepted : IsAccepted c) (number stream : ℕ) (name : List ℕ) → number < length c.order → stream ≡ (query_at (judged_of c) number).stream
-      → slice_get (stream_names (judged_of c).streams) stream ≡ Some name → (query_at (judged_of c) number).name ≡ name
-  name_is accepted number stream name less here is = some_is
-      (sym (streams_have_their_names accepted.text (judged_of c) accepted.accepts number less) ∙ ap (slice_get (stream_names (judged_of c).streams)) (sym here) ∙ is)
-    where
-      some_is : {X : Type 0} {x y : X} → ◌≡◌ {A = Option X} (Some x) (Some y) → x ≡ y
-      some_is e = cc
+  pub name_is : (standing : StandsInOrder c) (number stream : ℕ) (name : List ℕ) → number < length c.order → stream ≡ (query_in c number).stream
+      → slice_get (stream_names c.streams) stream ≡ Some name → (query_in c number).name ≡ name
+  name_is standing number stream name less here is =
+      named_by_stream c standing number less ∙ ap (λ s. get_or (stream_names c.streams) s []) (sym here) ∙ get_or_from_slice_get (stream_names c.streams) stream name [] is
 
   -- the result lines of an entry
   abbrev pub entry_lines : List (List TupleView) → Entry → List ℕ
-  entry_lines made = lines_by made (λ place. (query_at (judged_of c) place).name)
+  entry_lines made = lines_by made (λ place. (query_in c place).name)
 
   -- the lines of the queries are those of the entries
   pub lines_by_entries : (lists made : List (List TupleView)) (entries : List Entry) → length lists ≡ length c.order → AreEntriesOf lists made entries → batch_lines (program_over c).queries lists ≡ flat_map (entry_lines made) entries
   lines_by_entries lists made entries many are =
       let queries = (program_over c).queries in
-      let names : ℕ → List ℕ = λ place. (query_at (judged_of c) place).name in
+      let names : ℕ → List ℕ = λ place. (query_in c place).name in
       let same : length lists ≡ length queries = many ∙ sym as_many in
       ap (batch_lines queries) (are.all ∙ ap (λ n. map (tuples_at made entries) (range_with_len 0 n)) same)
       ∙ lines_from names made queries 0 (length queries) entries (zero-add (length queries)) (are_names names 0 queries named)
       (rise_from 0 entries (λ k d lt. omega arith) (AllPairs-from_increasing (places_in entries) are.in_order.rise)) (subst (λ n. All (λ place. place < n) (places_in entries)) same are.in_order.below)
     where
-      named : (place : ℕ) (query : Query) → slice_get (program_over c).queries place ≡ Some query → (query_at (judged_of c) (0 + place)).name ≡ query.name
+      named : (place : ℕ) (query : Query) → slice_get (program_over c).queries place ≡ Some query → (query_in c (0 + place)).name ≡ query.name
       named place query found =
-          ap (λ n. (query_at (judged_of c) n).name) (zero-add place)
+          ap (λ n. (query_in c n).name) (zero-add place)
           ∙ ap (λ (q : Query). q.name) (some_is (sym (query_there place (subst (λ n. place < n) as_many (slice_get_within (program_over c).queries place query found))) ∙ found))
         where
           some_is : {x y : Query} → ◌≡◌ {A = Option Query} (Some x) (Some y) → x ≡ y
           some_is e = cc
 
   -- the lines of one entry more
-  pub entry_more : (made : List (List TupleView)) (entries : List Entry) (i : ℕ) (entry : Entry) (old now new name : List ℕ) → i < length entries → get_or entries i entry ≡ entry → (query_at (judged_of c) entry.place).name ≡ name
+  pub entry_more : (made : List (List TupleView)) (entries : List Entry) (i : ℕ) (entry : Entry) (old now new name : List ℕ) → i < length entries → get_or entries i entry ≡ entry → (query_in c entry.place).name ≡ name
       → new ≡ now ++ flat_map (line name) (tuples_in made entry) → now ≡ old ++ flat_map (entry_lines made) (take i entries) → new ≡ old ++ flat_map (entry_lines made) (take (i + 1) entries)
   entry_more made entries i entry old now new name lt at named e was =
       let before = flat_map (entry_lines made) (take i entries) in
@@ -182,13 +179,13 @@ module _ (c : Catalogued) where
   no_fronts place less = absurd (omega (arith, less))
 
   -- so are they with the front of the next query
-  pub fronts_more : (fronts new : List (List ℕ)) (front name : List ℕ) → AreFronts c fronts → front ≡ front_of name → (query_at (judged_of c) (length fronts)).name ≡ name → new ≡ fronts ++ front ∷ [] → AreFronts c new
+  pub fronts_more : (fronts new : List (List ℕ)) (front name : List ℕ) → AreFronts c fronts → front ≡ front_of name → (query_in c (length fronts)).name ≡ name → new ≡ fronts ++ front ∷ [] → AreFronts c new
   fronts_more fronts new front name are is named e = subst (AreFronts c) (sym e) each
     where
       more : List (List ℕ)
       more = fronts ++ front ∷ []
 
-      last : get_or more (length fronts) [] ≡ front_of (query_at (judged_of c) (length fronts)).name
+      last : get_or more (length fronts) [] ≡ front_of (query_in c (length fronts)).name
       last = get_or-append_seam fronts front [] [] ∙ is ∙ ap front_of (sym named)
 
       each : AreFronts c more
@@ -197,9 +194,9 @@ module _ (c : Catalogued) where
             | inl before ↦ get_or_append_left fronts (front ∷ []) [] place before ∙ are place before
             | inr past ↦
                 let same : length fronts ≡ place = omega (arith, past, less, length-append fronts (front ∷ [])) in
-                subst (λ n. get_or more n [] ≡ front_of (query_at (judged_of c) n).name) same last
+                subst (λ n. get_or more n [] ≡ front_of (query_in c n).name) same last
           ]
 
   -- the front at a place
-  pub front_at : (fronts : List (List ℕ)) (place : ℕ) (front : List ℕ) → AreFronts c fronts → slice_get fronts place ≡ Some front → front ≡ front_of (query_at (judged_of c) place).name
+  pub front_at : (fronts : List (List ℕ)) (place : ℕ) (front : List ℕ) → AreFronts c fronts → slice_get fronts place ≡ Some front → front ≡ front_of (query_in c place).name
   front_at fronts place front are found = sym (get_or_from_slice_get fronts place front [] found) ∙ are place (slice_get_within fronts place front found)

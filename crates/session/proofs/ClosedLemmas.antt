@@ -9,17 +9,18 @@ use Rattle.epoch_engine.specs.Closes.{Closes, KeepsPlan}
 use Rattle.epoch_engine.specs.EngineStandsFor as engines
 use Rattle.epoch_engine.specs.EngineView as engine
 use Rattle.epoch_engine.proofs.StandsLemmas.{closed_stands}
-use Rattle.catalogue.specs.Catalogued.{Catalogued, IsAccepted, judged_of}
+use Rattle.catalogue.specs.Catalogued.{Catalogued}
+use Rattle.catalogue.specs.Standing.{StandsInOrder}
 use Rattle.session.specs.BatchLines.{batch_lines}
 use Rattle.session.specs.EngineStandsWithLastOpen.{IsPlanned, EngineStandsWithLastOpen, lines_over, program_over}
 use Rattle.session.specs.Owes.{Owes, closing, is_later, open_rows}
 use Rattle.session.proofs.BatchLinesLemmas.{batch_at, lines_are}
-use Rattle.session.proofs.ResultLemmas.{closing_gives_results_of_text}
+use Rattle.session.proofs.ResultLemmas.{closing_gives_results_of_catalogue}
 
-module _ (c : Catalogued) (accepted : IsAccepted c) (old new : engine.EngineView) (batch : List (List TupleView)) (planned : IsPlanned c old) (closes : Closes old new batch) (history : List Event) (stands : EngineStandsWithLastOpen c history old) where
+module _ (c : Catalogued) (standing : StandsInOrder c) (old new : engine.EngineView) (batch : List (List TupleView)) (planned : IsPlanned c old) (closes : Closes old new batch) (history : List Event) (stands : EngineStandsWithLastOpen c history old) where
   -- the batch has the results of the queries over what was heard
   batch_is : batch ≡ batch_at (program_over c) history closes.time (program_over c).queries
-  batch_is = closing_gives_results_of_text accepted.text (judged_of c) old new history batch accepted.accepts planned.layout stands.engine stands.declared closes
+  batch_is = closing_gives_results_of_catalogue c old new history batch standing planned.layout stands.engine stands.declared closes
 
   -- its lines are the rows of the open epoch
   pub rows_closed : (rows put : List ℕ) → put ≡ rows ++ batch_lines (program_over c).queries batch → put ≡ rows ++ open_rows (program_over c) history old.time

@@ -8,28 +8,27 @@ use Rattle.prefix_merge.specs.Laws.{ListsStates}
 use Rattle.prefix_merge.proofs.CountLemmas.{states_are_listed}
 use Rattle.prefix_merge.proofs.RootLemmas.{plain_few}
 use Rattle.splitter.specs.Chains.{lines_of, work_order}
-use Rattle.splitter.specs.Layouts.{IsLayoutOf}
 use Rattle.epoch_laws.specs.Standing.{closed_part}
 use Rattle.epoch_engine.specs.Counts.{CountsAlive, stored_in}
 use Rattle.epoch_engine.specs.Trims.{Trims}
 use Rattle.epoch_engine.specs.EngineView as engine
 use Rattle.epoch_engine.proofs.TrimLemmas.{trimmed_is_counted, trimmed_stands}
-use Rattle.catalogue.specs.Catalogued.{Catalogued, judged_of}
-use Rattle.catalogue.specs.Chained.{kinds_of_each}
+use Rattle.catalogue.specs.Catalogued.{Catalogued}
+use Rattle.catalogue.specs.Standing.{IsLayoutOver}
 use Rattle.event_csv.specs.Fed.{Fed}
 use Rattle.session.specs.declared.work.Work.{Work}
 use Rattle.session.specs.SessionView.{SessionStandsFor, TrimsEngine, SessionView, WorksFor, program_in}
 use Rattle.session.specs.EngineStandsWithLastOpen.{IsGoing}
 use Rattle.session.proofs.PlanLemmas.{planned_still}
-use Rattle.session.specs.UnbornLines.{unborn_lines}
-use Rattle.session.proofs.UnbornLemmas.{plainly}
+use Rattle.birth_laws.specs.BornChains.{born_lines}
+use Rattle.birth_laws.proofs.BornLemmas.{plain_chain}
 use Rattle.automaton.specs.NetworkLines.{HasLines}
 use Rattle.epoch_engine.proofs.BornLemmas.{plain_lines}
 
 module _ (session : SessionView) (history : List Event) (works : WorksFor session history) where
   -- the distinct prefixes of the lines
   listed : ListsStates session.engine.network (lines_of (program_in session))
-  listed = states_are_listed session.engine.network (lines_of (program_in session)) works.engine.merged (subst (HasLines session.engine.network) (plainly (lines_of (program_in session))) (plain_lines session.engine.network (unborn_lines (program_in session)) works.engine.serves.has_lines))
+  listed = states_are_listed session.engine.network (lines_of (program_in session)) works.engine.merged (subst (HasLines session.engine.network) (plain_chain (program_in session).order) (plain_lines session.engine.network (born_lines (program_in session)) works.engine.serves.has_lines))
 
   -- the states of the network are as many
   pub states_counted : (states : ℕ) → states ≡ count_by is_some session.engine.network → CountsStates (lines_of (program_in session)) states
@@ -58,17 +57,17 @@ module _ (old new : SessionView) (trims : TrimsEngine old new) where
   module _ (history : List Event) (works : WorksFor old history) where
     -- what is stored then are the bindings that wait and are alive
     pub alive_counted : (live : ℕ) → live ≡ min (stored_in new.engine) (2 ^ 64 - 1)
-        → CountsAlive (unborn_lines (program_in old)) (work_order (program_in old)) (closed_part old.engine.time history) live
+        → CountsAlive (born_lines (program_in old)) (work_order (program_in old)) (closed_part old.engine.time history) live
     alive_counted live same =
         let program = program_in old in
-        let counted = trimmed_is_counted old.engine new.engine (unborn_lines program) history works.engine trims.engine in
-        subst (λ n. CountsAlive (unborn_lines program) (work_order program) (closed_part old.engine.time history) n) (sym same)
-        (subst (λ order. CountsAlive (unborn_lines program) order (closed_part old.engine.time history) (min (stored_in new.engine) (2 ^ 64 - 1))) works.layout.order counted)
+        let counted = trimmed_is_counted old.engine new.engine (born_lines program) history works.engine trims.engine in
+        subst (λ n. CountsAlive (born_lines program) (work_order program) (closed_part old.engine.time history) n) (sym same)
+        (subst (λ order. CountsAlive (born_lines program) order (closed_part old.engine.time history) (min (stored_in new.engine) (2 ^ 64 - 1))) works.layout.order counted)
 
     mid_works : WorksFor mid history
     mid_works = record {
-      layout = subst (IsLayoutOf (program_in old) (kinds_of_each (judged_of old.catalogue).streams)) (sym trims.engine.plan.layout) works.layout;
-      engine = trimmed_stands.stands old.engine new.engine (unborn_lines (program_in old)) history works.engine trims.engine;
+      layout = subst (IsLayoutOver old.catalogue.streams (program_in old)) (sym trims.engine.plan.layout) works.layout;
+      engine = trimmed_stands.stands old.engine new.engine (born_lines (program_in old)) history works.engine trims.engine;
     }
 
     -- the engine works for the same events

@@ -6,7 +6,6 @@ use Rattle.std.proofs.Math.Seq.{take-length}
 use Rattle.semantics.specs.Histories.{Event}
 use Rattle.cay_host.specs.Output.{Wrote}
 use Rattle.cay_host.specs.Told.{Told}
-use Rattle.catalogue.specs.Catalogued.{judged_of}
 use Rattle.epoch_engine.specs.EngineStandsFor as engines
 use Rattle.event_csv.specs.Fed.{Fed, IsPart, fed_more}
 use Rattle.session.specs.declared.fault.SessionFault.{SessionFault}
@@ -107,11 +106,11 @@ module _ (session : SessionView) (past : List Event) (text : List ℕ) (stands :
 
     -- the engine works for all that was heard
     has_finished : IsThrough session.catalogue worked.engine
-        → engines.EngineStandsFor worked.engine (lines_over session.catalogue) (so_far session past text stands ++ heard_from work.engine.time (readings_left (judged_of session.catalogue).streams session.feed true))
+        → engines.EngineStandsFor worked.engine (lines_over session.catalogue) (so_far session past text stands ++ heard_from work.engine.time (readings_left session.catalogue.streams session.feed true))
         → HasFinished finished_session past text
     has_finished through now =
-        let left = ap (map (reading_of (judged_of session.catalogue).streams)) (same_left session.feed true) in
-        let all : so_far session past text stands ++ heard_from work.engine.time (readings_left (judged_of session.catalogue).streams session.feed true) ≡ heard_after past (readings_in session text true) =
+        let left = ap (map (reading_of session.catalogue.streams)) (same_left session.feed true) in
+        let all : so_far session past text stands ++ heard_from work.engine.time (readings_left session.catalogue.streams session.feed true) ≡ heard_after past (readings_in session text true) =
         ap (λ ls. so_far session past text stands ++ heard_from work.engine.time ls) (sym left)
         ∙ ap (λ e. so_far session past text stands ++ heard_from e.time (later session past text stands [] true)) same
         ∙ sym (heard_on session past text stands [] true)
@@ -122,16 +121,16 @@ module _ (session : SessionView) (past : List Event) (text : List ℕ) (stands :
         }
 
     -- the text has ended
-    pub finishes : (end : Result (Unit {0}) SessionFault) → StoppedBy (program_in session) true (readings_left (judged_of session.catalogue).streams session.feed true) (so_far session past text stands) work a b end
+    pub finishes : (end : Result (Unit {0}) SessionFault) → StoppedBy (program_in session) true (readings_left session.catalogue.streams session.feed true) (so_far session past text stands) work a b end
         → OnOk end (IsThrough session.catalogue worked.engine)
-        → OnOk end (engines.EngineStandsFor worked.engine (lines_over session.catalogue) (so_far session past text stands ++ heard_from work.engine.time (readings_left (judged_of session.catalogue).streams session.feed true)))
+        → OnOk end (engines.EngineStandsFor worked.engine (lines_over session.catalogue) (so_far session past text stands ++ heard_from work.engine.time (readings_left session.catalogue.streams session.feed true)))
         → Finishes session finished_session past text a b end
-    finishes end ends through now = cases end (ends_same (program_in session) true (readings_left (judged_of session.catalogue).streams session.feed true) (later session past text stands [] true) (so_far session past text stands) work a b end
-        (ap (map (reading_of (judged_of session.catalogue).streams)) (same_left session.feed true)) ends) through now
+    finishes end ends through now = cases end (ends_same (program_in session) true (readings_left session.catalogue.streams session.feed true) (later session past text stands [] true) (so_far session past text stands) work a b end
+        (ap (map (reading_of session.catalogue.streams)) (same_left session.feed true)) ends) through now
       where
         cases : (end : Result (Unit {0}) SessionFault) → StoppedBy (program_in session) true (later session past text stands [] true) (so_far session past text stands) work a b end
             → OnOk end (IsThrough session.catalogue worked.engine)
-            → OnOk end (engines.EngineStandsFor worked.engine (lines_over session.catalogue) (so_far session past text stands ++ heard_from work.engine.time (readings_left (judged_of session.catalogue).streams session.feed true)))
+            → OnOk end (engines.EngineStandsFor worked.engine (lines_over session.catalogue) (so_far session past text stands ++ heard_from work.engine.time (readings_left session.catalogue.streams session.feed true)))
             → Finishes session finished_session past text a b end
         cases (Ok done) ends through now =
             let at_end = subst (λ t. (refused_after past (readings_in session t true) ≡ None) × Beyond Wrote (report_in session past text false) (report_in session past t true) a b) (append-nil text)

@@ -6,6 +6,7 @@ pub mod FeedsLemmas
 pub mod FitsLemmas
 pub mod HeardLemmas
 pub mod LinesLemmas
+pub mod NamesLemmas
 pub mod OwesLemmas
 pub mod PlanLemmas
 pub mod ReadingLemmas

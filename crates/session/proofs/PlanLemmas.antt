@@ -1,5 +1,5 @@
 -- The network and the layout of an engine as those of a catalogue.
-use Rattle.std.proofs.Common.{◌≡◌, ◌∙◌, sym, ap, refl, subst, ℕ, ◌-◌, ◌<◌, ◌==◌, ◌||◌, false, List, [], ◌∷◌, ◌++◌, length, Some, slice_get, arith}
+use Rattle.std.proofs.Common.{◌≡◌, ◌∙◌, sym, ap, refl, subst, ℕ, ◌-◌, ◌<◌, ◌==◌, ◌||◌, false, List, [], ◌∷◌, ◌++◌, length, map, Some, slice_get, arith}
 use Rattle.std.specs.Prelude.{Contains}
 use Rattle.std.specs.List.{All, range_with_len}
 use Rattle.std.specs.Option.{option_map}
@@ -21,10 +21,8 @@ use Rattle.automaton.specs.States.{Net}
 use Rattle.automaton.specs.Work.{IsInOrder, is_in}
 use Rattle.splitter.specs.Laws.{hidden_streams, split_order}
 use Rattle.cel_types.specs.SourceLaws.{kinds_in}
-use Rattle.splitter.specs.Chains.{HideApart, chain_order, hidden_end, lines_of, work_order}
-use Rattle.splitter.specs.Layouts.{IsLayoutOf}
+use Rattle.splitter.specs.Chains.{HideApart, chain_order, hidden_end, work_order}
 use Rattle.splitter.proofs.ApartLemmas.{range_all}
-use Rattle.splitter.proofs.LineLemmas.{get_more}
 use Rattle.automaton.specs.declared.line.Line.{Line}
 use Rattle.epoch_laws.specs.BornLines.{HasBornLines}
 use Rattle.epoch_laws.specs.StoresStandFor.{Serves}
@@ -32,14 +30,14 @@ use Rattle.epoch_engine.specs.Closes.{Closes, KeepsPlan}
 use Rattle.epoch_engine.specs.Offers.{IsHeard}
 use Rattle.epoch_engine.specs.Starts.{IsNew}
 use Rattle.epoch_engine.specs.EngineView as engine
-use Rattle.catalogue.specs.Catalogued.{Catalogued, IsAccepted, judged_of}
-use Rattle.catalogue.specs.Chained.{kinds_of_each}
-use Rattle.catalogue.proofs.ProgramLemmas.{accepted_are_wide_programs, declared_are_told}
+use Rattle.catalogue.specs.Catalogued.{Catalogued}
+use Rattle.catalogue.specs.Changes.{streams_there}
+use Rattle.catalogue.specs.Standing.{IsLayoutOver, StandsInOrder}
 use Rattle.event_csv.specs.declared.event.Seen.{Seen}
 use Rattle.session.specs.Fits.{Fits}
 use Rattle.session.specs.EngineStandsWithLastOpen.{IsPlanned, lines_over, program_over}
 use Rattle.session.proofs.BatchLinesLemmas.{as_many}
-use Rattle.session.proofs.UnbornLemmas.{plainly}
+use Rattle.birth_laws.proofs.BornLemmas.{plain_chain}
 
 -- the derived streams of queries have greater numbers than a stream that is there, by induction on the queries
 order_above : (kinds : ℕ → List Kind) (stream : ℕ) (there : List ℕ) (order : List Query) → Contains there stream → PublishInTurn kinds there order → HideApart order → All (λ number. stream < number) (chain_order order)
@@ -60,36 +58,40 @@ none_is stream [] all = refl
 none_is stream (number ∷ numbers) all =
     λ i. other_number stream number (All-head (λ n. stream < n) number numbers all) i || none_is stream numbers (All-tail (λ n. stream < n) number numbers all) i
 
-module _ (c : Catalogued) (accepted : IsAccepted c) where
+module _ (c : Catalogued) (standing : StandsInOrder c) where
   -- a declared stream isn't derived
-  not_derived : (stream : ℕ) → stream < length (judged_of c).declared → is_in (work_order (program_over c)) stream ≡ false
+  not_derived : (stream : ℕ) → stream < c.declared → is_in (work_order (program_over c)) stream ≡ false
   not_derived stream less =
       let program = program_over c in
-      let wide = accepted_are_wide_programs accepted.text (judged_of c) accepted.accepts in
       none_is stream (work_order program)
-      (order_above (kinds_in (judged_of c).streams) stream (range_with_len 0 program.declared) program.order (declared_there program.declared stream less) wide.typed.in_turn wide.apart)
+      (order_above (kinds_in c.streams) stream (range_with_len 0 program.declared) program.order (declared_there program.declared stream less) standing.wide.typed.in_turn standing.wide.apart)
 
-  module _ (event : Seen) (fits : Fits (judged_of c).streams event) where
+  module _ (event : Seen) (fits : Fits c.streams event) where
     -- the event's stream is declared
-    pub is_declared : event.stream < length (judged_of c).declared
-    is_declared = (declared_are_told accepted.text (judged_of c) accepted.accepts event.stream fits.entry fits.there).0 fits.declared
+    pub is_declared : event.stream < c.declared
+    is_declared = (standing.told event.stream fits.entry fits.there).0 fits.declared
 
-    schema_there : slice_get (schemas_of (judged_of c).streams) event.stream ≡ Some fits.entry.schema
-    schema_there = slice_get-map (λ (entry : Entry). entry.schema) (judged_of c).streams event.stream ∙ ap (option_map (λ (entry : Entry). entry.schema)) fits.there
+    schema_there : slice_get (schemas_of c.streams) event.stream ≡ Some fits.entry.schema
+    schema_there = slice_get-map (λ (entry : Entry). entry.schema) c.streams event.stream ∙ ap (option_map (λ (entry : Entry). entry.schema)) fits.there
+
+    kinds_there : kinds_in c.streams event.stream ≡ kinds_of fits.entry.schema
+    kinds_there = ap kinds_of (get_or_from_slice_get (schemas_of c.streams) event.stream fits.entry.schema [] schema_there)
 
     -- it has the kinds of its stream
-    pub of_its_kinds : HasKinds (kinds_in (judged_of c).streams event.stream) event.tuple
-    of_its_kinds =
-        subst (λ kinds. HasKinds kinds event.tuple) (ap kinds_of (sym (get_or_from_slice_get (schemas_of (judged_of c).streams) event.stream fits.entry.schema [] schema_there))) fits.kinds
+    pub of_its_kinds : HasKinds (kinds_in c.streams event.stream) event.tuple
+    of_its_kinds = subst (λ kinds. HasKinds kinds event.tuple) (sym kinds_there) fits.kinds
+
+    -- its stream is one of those that are there
+    heard : Contains (streams_there (program_over c)) event.stream
+    heard =
+        let program = program_over c in
+        Contains-append_left (range_with_len 0 program.declared) (map (λ (query : Query). query.stream) program.order) event.stream (declared_there program.declared event.stream is_declared)
 
     -- an engine of the catalogue may be offered the event
     pub may_hear : (now : engine.EngineView) → IsPlanned c now → IsHeard now.layout event.stream event.tuple
     may_hear now planned = record {
       kinds = kinds_of fits.entry.schema;
-      known =
-          ap (λ kinds. slice_get kinds event.stream) planned.layout.kinds_are
-          ∙ get_more (kinds_of_each (judged_of c).streams) planned.layout.hidden event.stream (kinds_of fits.entry.schema)
-          (slice_get-map kinds_of (schemas_of (judged_of c).streams) event.stream ∙ ap (option_map kinds_of) schema_there);
+      known = All-contains (λ stream. slice_get now.layout.kinds stream ≡ Some (kinds_in c.streams stream)) (streams_there (program_over c)) event.stream planned.layout.kinds heard ∙ ap Some kinds_there;
       declared = ap (λ order. is_in order event.stream) planned.layout.order ∙ not_derived event.stream is_declared;
       of_kinds = fits.kinds;
     }
@@ -104,19 +106,19 @@ batch_count c old new batch planned closes =
 pub planned_still : (c : Catalogued) (old new : engine.EngineView) → KeepsPlan old new → IsPlanned c old → IsPlanned c new
 planned_still c old new plan planned = record {
   lines = subst (λ (net : Net). HasBornLines net (lines_over c)) (sym plan.network) planned.lines;
-  layout = subst (IsLayoutOf (program_over c) (kinds_of_each (judged_of c).streams)) (sym plan.layout) planned.layout;
+  layout = subst (IsLayoutOver c.streams (program_over c)) (sym plan.layout) planned.layout;
 }
 
 -- a network that has the lines of a catalogue, and a layout of it, serve them
-pub lines_serve : (c : Catalogued) (net : Net) (layout : Layout) → HasBornLines net (lines_over c) → IsLayoutOf (program_over c) (kinds_of_each (judged_of c).streams) layout → Serves net (lines_over c) layout.order
+pub lines_serve : (c : Catalogued) (net : Net) (layout : Layout) → HasBornLines net (lines_over c) → IsLayoutOver c.streams (program_over c) layout → Serves net (lines_over c) layout.order
 lines_serve c net layout lines fits = record {
   has_lines = lines;
-  in_order = subst (λ (ls : List Line). IsInOrder ls layout.order) (sym (plainly (lines_of (program_over c)))) fits.fits.in_order;
+  in_order = subst (λ (ls : List Line). IsInOrder ls layout.order) (sym (plain_chain (program_over c).order)) fits.fits.in_order;
 }
 
 -- an engine that was made over them has them
-pub new_planned : (c : Catalogued) (net : Net) (layout : Layout) (now : engine.EngineView) → HasBornLines net (lines_over c) → IsLayoutOf (program_over c) (kinds_of_each (judged_of c).streams) layout → IsNew net layout now → IsPlanned c now
+pub new_planned : (c : Catalogued) (net : Net) (layout : Layout) (now : engine.EngineView) → HasBornLines net (lines_over c) → IsLayoutOver c.streams (program_over c) layout → IsNew net layout now → IsPlanned c now
 new_planned c net layout now lines fits new = record {
   lines = subst (λ (n : Net). HasBornLines n (lines_over c)) (sym new.network) lines;
-  layout = subst (IsLayoutOf (program_over c) (kinds_of_each (judged_of c).streams)) (sym new.same_layout) fits;
+  layout = subst (IsLayoutOver c.streams (program_over c)) (sym new.same_layout) fits;
 }

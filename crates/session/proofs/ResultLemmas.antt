@@ -27,10 +27,11 @@ use Rattle.splitter.specs.ProgramLaws.{IsWideProgram}
 use Rattle.birth_laws.specs.BornChains.{born_lines}
 use Rattle.birth_laws.proofs.BornLemmas.{unborn_chain}
 use Rattle.birth_laws.proofs.ProgramLemmas.{program_meant}
+use Rattle.catalogue.specs.Catalogued.{program_in}
 use Rattle.catalogue.specs.Judgement.{program_of}
 use Rattle.cel_types.specs.SourceLaws.{kinds_in}
 use Rattle.catalogue.proofs.ProgramLemmas.{accepted_are_wide_programs}
-use Rattle.session.specs.ClosingGivesResults.{ClosingGivesResults, ClosingGivesResultsOfText}
+use Rattle.session.specs.ClosingGivesResults.{ClosingGivesResults, ClosingGivesResultsOfCatalogue, ClosingGivesResultsOfText}
 use Rattle.session.proofs.UnbornLemmas.{queries_unborn}
 
 -- an event of a declared stream is of no other stream
@@ -92,8 +93,13 @@ module _ (kinds : ℕ → List Kind) (program : Program) (wide : IsWideProgram k
 pub closing_gives_results : ClosingGivesResults
 closing_gives_results kinds program old new history batch wide in_order outs stands have inside closes = batch_is_results kinds program wide history have inside old new batch in_order outs stands closes
 
+-- of a catalogue
+pub closing_gives_results_of_catalogue : ClosingGivesResultsOfCatalogue
+closing_gives_results_of_catalogue c old new history batch standing layout stands are closes =
+    closing_gives_results (kinds_in c.streams) (program_in c) old new history batch standing.wide layout.order layout.outs stands are.1 are.0 closes
+
 -- and of an accepted text
 pub closing_gives_results_of_text : ClosingGivesResultsOfText
-closing_gives_results_of_text text judged old new history batch accepts layout stands are closes =
-    closing_gives_results (kinds_in judged.streams) (program_of judged) old new history batch (accepted_are_wide_programs text judged accepts) layout.order layout.outs
-    (subst (λ lines. EngineStandsFor old lines history) (sym (unborn_chain judged.published (queries_unborn accepts.publishes))) stands) are.1 are.0 closes
+closing_gives_results_of_text text judged old new history batch accepts in_order outs stands have inside closes =
+    closing_gives_results (kinds_in judged.streams) (program_of judged) old new history batch (accepted_are_wide_programs text judged accepts) in_order outs
+    (subst (λ lines. EngineStandsFor old lines history) (sym (unborn_chain judged.published (queries_unborn accepts.publishes))) stands) have inside closes

@@ -10,7 +10,7 @@ use Rattle.semantics.specs.Histories.{Event, times, upto}
 use Rattle.semantics.specs.Laws.{NeverFalls}
 use Rattle.semantics.specs.Programs.{Program}
 use Rattle.semantics.proofs.ReportLemmas.{filter_none, times-append, times_of_one}
-use Rattle.splitter.specs.Chains.{lines_of, work_order}
+use Rattle.splitter.specs.Chains.{work_order}
 use Rattle.epoch_laws.specs.BornLines.{lines_in}
 use Rattle.epoch_laws.specs.Histories.{events_before, streams_over}
 use Rattle.epoch_laws.specs.Standing.{last_time}
@@ -20,7 +20,7 @@ use Rattle.session.specs.Owes.{closes}
 use Rattle.session.specs.RunWork.{epoch_tests, run_work}
 use Rattle.session.specs.TestsLeft.{tests_left}
 use Rattle.session.proofs.ClosingLemmas.{Standing, brought, brought_after}
-use Rattle.session.specs.UnbornLines.{unborn_lines}
+use Rattle.birth_laws.specs.BornChains.{born_lines}
 
 -- later events aren't before a time
 before_later : (time : ℕ) (history later : List Event) → All (λ event. time < event.tuple.at) later → events_before time (history ++ later) ≡ events_before time history
@@ -44,7 +44,7 @@ by_later time history later all =
 -- what an epoch asks for is unchanged by later events
 tests_stand : (states : List Prefix) (program : Program) (history later : List Event) (time : ℕ) → All (λ event. time < event.tuple.at) later → epoch_tests states program (history ++ later) time ≡ epoch_tests states program history time
 tests_stand states program history later time all =
-    let lines = unborn_lines program in
+    let lines = born_lines program in
     let order = work_order program in
     let by = by_later time history later all in
     let early = before_later time history later all in

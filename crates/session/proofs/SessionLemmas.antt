@@ -8,17 +8,14 @@ use Rattle.std.proofs.lemmas.List.{map-append}
 use Rattle.std.proofs.lemmas.List.Sums.{sum_by-append}
 use Rattle.semantics.specs.Histories.{Event}
 use Rattle.semantics.specs.Kinds.{HasKinds}
-use Rattle.automaton.specs.declared.line.Line as automaton
 use Rattle.cel_types.specs.SourceLaws.{kinds_in}
-use Rattle.splitter.specs.Chains.{lines_of}
-use Rattle.splitter.specs.Layouts.{IsLayoutOf}
 use Rattle.epoch_engine.specs.EngineStandsFor as engines
 use Rattle.epoch_engine.specs.EngineView as engine
-use Rattle.catalogue.specs.Chained.{kinds_of_each}
 use Rattle.semantics.specs.Report.{report}
 use Rattle.cay_host.specs.Output.{Wrote, WrotePart}
 use Rattle.cay_host.specs.Told.{Told}
-use Rattle.catalogue.specs.Catalogued.{Catalogued, IsAccepted, judged_of}
+use Rattle.catalogue.specs.Catalogued.{Catalogued}
+use Rattle.catalogue.specs.Standing.{IsLayoutOver, StandsInOrder}
 use Rattle.epoch_laws.specs.Standing.{closed_part, last_time}
 use Rattle.event_csv.specs.declared.event.Seen.{Seen}
 use Rattle.event_csv.specs.declared.fault.LineFault.{LineFault}
@@ -42,7 +39,7 @@ use Rattle.session.proofs.ClosingLemmas.{rows_left_after}
 use Rattle.session.proofs.FitsLemmas.{event_fits}
 use Rattle.session.proofs.HeardLemmas.{GoOn, closed_on, go_on}
 use Rattle.session.proofs.PlanLemmas.{is_declared, of_its_kinds}
-use Rattle.session.specs.UnbornLines.{unborn_lines}
+use Rattle.birth_laws.specs.BornChains.{born_lines}
 use Rattle.epoch_laws.specs.BornLines.{BornLine}
 
 -- a limit cuts the later bytes
@@ -83,40 +80,40 @@ module _ (text piece : List ℕ) (feed new : Fed) (given : HasGiven text feed) (
   }
 
 -- the events that are heard of lines that were read are on declared streams, and have their kinds
-module _ (c : Catalogued) (accepted : IsAccepted c) where
+module _ (c : Catalogued) (standing : StandsInOrder c) where
   abbrev IsDeclared : Event → Type 0
-  IsDeclared event = (event.stream < length (judged_of c).declared) × HasKinds (kinds_in (judged_of c).streams event.stream) event.tuple
+  IsDeclared event = (event.stream < c.declared) × HasKinds (kinds_in c.streams event.stream) event.tuple
 
   -- one more line
-  line_declared : (seen : Option ℕ) (line : Line) (ls : List Line) → ((time : Option ℕ) → All IsDeclared (heard_from time (map (reading_of (judged_of c).streams) ls)))
-      → All IsDeclared (heard_from seen (map (reading_of (judged_of c).streams) (line ∷ ls)))
-  line_declared seen line ls rest = by_event (event (judged_of c).streams line.bytes) refl
+  line_declared : (seen : Option ℕ) (line : Line) (ls : List Line) → ((time : Option ℕ) → All IsDeclared (heard_from time (map (reading_of c.streams) ls)))
+      → All IsDeclared (heard_from seen (map (reading_of c.streams) (line ∷ ls)))
+  line_declared seen line ls rest = by_event (event c.streams line.bytes) refl
     where
-      by_refusal : (read : Seen) → event (judged_of c).streams line.bytes ≡ Ok read → (o : Option Refusal)
-          → All IsDeclared (cond (is_some o) [] (heard_of read ∷ heard_from (Some read.tuple.at) (map (reading_of (judged_of c).streams) ls)))
+      by_refusal : (read : Seen) → event c.streams line.bytes ≡ Ok read → (o : Option Refusal)
+          → All IsDeclared (cond (is_some o) [] (heard_of read ∷ heard_from (Some read.tuple.at) (map (reading_of c.streams) ls)))
       by_refusal read e (Some refusal) = All-nil IsDeclared
       by_refusal read e None =
-          let fits = event_fits (judged_of c).streams line.bytes read e in
-          All-cons IsDeclared (heard_of read) (heard_from (Some read.tuple.at) (map (reading_of (judged_of c).streams) ls))
-          (is_declared c accepted read fits, of_its_kinds c accepted read fits) (rest (Some read.tuple.at))
+          let fits = event_fits c.streams line.bytes read e in
+          All-cons IsDeclared (heard_of read) (heard_from (Some read.tuple.at) (map (reading_of c.streams) ls))
+          (is_declared c standing read fits, of_its_kinds c standing read fits) (rest (Some read.tuple.at))
 
-      by_event : (r : Result Seen LineFault) → event (judged_of c).streams line.bytes ≡ r
-          → All IsDeclared (heard_from seen (record { number = line.number; found = found_of r } ∷ map (reading_of (judged_of c).streams) ls))
+      by_event : (r : Result Seen LineFault) → event c.streams line.bytes ≡ r
+          → All IsDeclared (heard_from seen (record { number = line.number; found = found_of r } ∷ map (reading_of c.streams) ls))
       by_event (Ok read) e = by_refusal read e (disorder line.number seen read.tuple.at)
       by_event (Err why) e = All-nil IsDeclared
 
   -- by induction on the lines
-  heard_declared : (ls : List Line) (seen : Option ℕ) → All IsDeclared (heard_from seen (map (reading_of (judged_of c).streams) ls))
+  heard_declared : (ls : List Line) (seen : Option ℕ) → All IsDeclared (heard_from seen (map (reading_of c.streams) ls))
   heard_declared [] seen = All-nil IsDeclared
   heard_declared (line ∷ ls) seen = line_declared seen line ls (heard_declared ls)
 
   -- the same of those that were heard before too
-  declared_more : (past : List Event) (seen : Option ℕ) (ls : List Line) → AreDeclared (judged_of c) past → AreDeclared (judged_of c) (past ++ heard_from seen (map (reading_of (judged_of c).streams) ls))
+  declared_more : (past : List Event) (seen : Option ℕ) (ls : List Line) → AreDeclared c past → AreDeclared c (past ++ heard_from seen (map (reading_of c.streams) ls))
   declared_more past seen ls are =
-      let more = heard_from seen (map (reading_of (judged_of c).streams) ls) in (
-        All-append (λ event. event.stream < length (judged_of c).declared) past more are.0 (All-weaker IsDeclared (λ event. event.stream < length (judged_of c).declared) (λ event h. h.0) more (heard_declared ls seen)),
-        All-append (λ event. HasKinds (kinds_in (judged_of c).streams event.stream) event.tuple) past more are.1
-            (All-weaker IsDeclared (λ event. HasKinds (kinds_in (judged_of c).streams event.stream) event.tuple) (λ event h. h.1) more (heard_declared ls seen)),
+      let more = heard_from seen (map (reading_of c.streams) ls) in (
+        All-append (λ event. event.stream < c.declared) past more are.0 (All-weaker IsDeclared (λ event. event.stream < c.declared) (λ event h. h.0) more (heard_declared ls seen)),
+        All-append (λ event. HasKinds (kinds_in c.streams event.stream) event.tuple) past more are.1
+            (All-weaker IsDeclared (λ event. HasKinds (kinds_in c.streams event.stream) event.tuple) (λ event h. h.1) more (heard_declared ls seen)),
       )
 
 module _ (session : SessionView) (past : List Event) (text : List ℕ) (stands : SessionStandsFor session past text) where
@@ -129,9 +126,9 @@ module _ (session : SessionView) (past : List Event) (text : List ℕ) (stands :
   so_far = heard_after past before
 
   -- the engine stands for it
-  pub engine_stands : IsAccepted session.catalogue → EngineStandsWithLastOpen session.catalogue so_far session.engine
-  engine_stands accepted = record {
-    declared = declared_more session.catalogue accepted past (last_time past) (lines text false) stands.declared;
+  pub engine_stands : StandsInOrder session.catalogue → EngineStandsWithLastOpen session.catalogue so_far session.engine
+  engine_stands standing = record {
+    declared = declared_more session.catalogue standing past (last_time past) (lines text false) stands.declared;
     engine = stands.works.engine;
     last_is_open = stands.last_is_open;
   }
@@ -139,11 +136,11 @@ module _ (session : SessionView) (past : List Event) (text : List ℕ) (stands :
   module _ (piece : List ℕ) (ended : Bool) where
     -- the lines that are left once more bytes have come
     abbrev pub later : List Reading
-    later = readings_left (judged_of session.catalogue).streams (fed_more session.feed piece) ended
+    later = readings_left session.catalogue.streams (fed_more session.feed piece) ended
 
     readings_on : readings_in session (text ++ piece) ended ≡ before ++ later
     readings_on =
-        let read = reading_of (judged_of session.catalogue).streams in
+        let read = reading_of session.catalogue.streams in
         ap (map read) (stands.feed.gives piece ended) ∙ map-append read (lines text false) (unread_lines (fed_more session.feed piece) ended)
 
     on : GoOn past before later
@@ -210,19 +207,19 @@ last_open now ls past stands opened = by_time now.time refl
     by_time None e = e ∙ sym (opened e) ∙ sym (subst (λ o. last_time (closed_part o past) ≡ now.closed_time) e stands.stands.closed_is_last)
 
 -- a session that was fed nothing stands for what its engine stands for
-pub begins : (session : SessionView) (past : List Event) → session.ended ≡ false → session.fed ≡ 0 → session.feed ≡ unfed → AreDeclared (judged_of session.catalogue) past
-    → IsLayoutOf (program_in session) (kinds_of_each (judged_of session.catalogue).streams) session.engine.layout
-    → (session.engine.time ≡ None → session.engine.closed_time ≡ None) → engines.EngineStandsFor session.engine (unborn_lines (program_in session)) past → SessionStandsFor session past []
+pub begins : (session : SessionView) (past : List Event) → session.ended ≡ false → session.fed ≡ 0 → session.feed ≡ unfed → AreDeclared session.catalogue past
+    → IsLayoutOver session.catalogue.streams (program_in session) session.engine.layout
+    → (session.engine.time ≡ None → session.engine.closed_time ≡ None) → engines.EngineStandsFor session.engine (born_lines (program_in session)) past → SessionStandsFor session past []
 begins session past going fed feed declared layout opened stands =
-    let read = reading_of (judged_of session.catalogue).streams in
+    let read = reading_of session.catalogue.streams in
     let same = sym (append-nil past) ∙ ap (λ ls. heard_after past (map read ls)) (sym (no_lines false)) in
     record {
       going = going;
       within = omega arith;
       none_refused = ap (λ ls. refused_after past (map read ls)) (no_lines false);
       declared = declared;
-      works = record { layout = layout; engine = subst (engines.EngineStandsFor session.engine (unborn_lines (program_in session))) same stands };
-      last_is_open = last_open session.engine (unborn_lines (program_in session)) past stands opened ∙ ap last_time same;
+      works = record { layout = layout; engine = subst (engines.EngineStandsFor session.engine (born_lines (program_in session))) same stands };
+      last_is_open = last_open session.engine (born_lines (program_in session)) past stands opened ∙ ap last_time same;
       counted = fed;
       feed = subst (HasGiven []) (sym feed) (record { gives = λ more ended. ap (λ ls. ls ++ unread_lines (fed_more unfed more) ended) (sym (no_lines false)); line_feeds = refl; none_held = refl });
     }

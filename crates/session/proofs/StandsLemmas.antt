@@ -1,12 +1,13 @@
 -- The events that the work stands for, before and after one more.
-use Rattle.std.proofs.Common.{◌≡◌, ◌∙◌, sym, refl, ap, subst, ℕ, ◌<◌, ◌≤◌, Bool, true, false, cond, nat_lt, length, List, [], ◌∷◌, ◌++◌, Option, Some, None, arith}
+use Rattle.std.proofs.Common.{◌≡◌, ◌∙◌, sym, refl, ap, subst, ℕ, ◌<◌, ◌≤◌, Bool, true, false, cond, nat_lt, List, [], ◌∷◌, ◌++◌, Option, Some, None, arith}
 use Rattle.std.proofs.lemmas.Bool.{le-ltb, ltb-false}
 use Rattle.std.proofs.lemmas.List.Elements.{All-nil, All-cons, All-append}
 use Rattle.event_types.specs.Tuple.{IsSound}
 use Rattle.semantics.specs.Histories.{Event}
 use Rattle.semantics.specs.Kinds.{HasKinds}
 use Rattle.cel_types.specs.SourceLaws.{kinds_in}
-use Rattle.catalogue.specs.Catalogued.{Catalogued, IsAccepted, judged_of}
+use Rattle.catalogue.specs.Catalogued.{Catalogued}
+use Rattle.catalogue.specs.Standing.{StandsInOrder}
 use Rattle.epoch_laws.specs.Standing.{last_time}
 use Rattle.epoch_engine.specs.Offers.{IsHeard, IsLate, IsNotAhead, with_tuple}
 use Rattle.epoch_engine.specs.EngineStandsFor as engines
@@ -72,10 +73,10 @@ ready_later c seen at old new closed was_open less = record {
     not_late : (other : ℕ) → IsLate None (Some seen) at other → ⊥
     not_late other late = let high : at ≤ seen = late.0 in omega (arith, less, high)
 
-module _ (c : Catalogued) (accepted : IsAccepted c) (event : Seen) (fits : Fits (judged_of c).streams event) (old mid : engine.EngineView) (ready : IsReadyForEvent c event.tuple.at old mid) (planned : IsPlanned c old) where
+module _ (c : Catalogued) (standing : StandsInOrder c) (event : Seen) (fits : Fits c.streams event) (old mid : engine.EngineView) (ready : IsReadyForEvent c event.tuple.at old mid) (planned : IsPlanned c old) where
   -- the engine may be offered the event
   pub may_offer : IsHeard mid.layout event.stream event.tuple
-  may_offer = may_hear c accepted event fits mid (planned_still c old mid ready.plan planned)
+  may_offer = may_hear c standing event fits mid (planned_still c old mid ready.plan planned)
 
   module _ (new : Work) (took : new.engine ≡ with_tuple mid event.stream event.tuple) where
     -- once it took the event, the work may go on
@@ -92,10 +93,10 @@ module _ (c : Catalogued) (accepted : IsAccepted c) (event : Seen) (fits : Fits 
     pub stands_more : (history : List Event) → IsSound event.tuple → EngineStandsWithLastOpen c history old → EngineStandsWithLastOpen c (history ++ heard_of event ∷ []) new.engine
     stands_more history sound stands = record {
       declared = (
-        All-append (λ other. other.stream < length (judged_of c).declared) history (heard_of event ∷ []) stands.declared.0
-            (All-cons (λ other. other.stream < length (judged_of c).declared) (heard_of event) [] (is_declared c accepted event fits) (All-nil _)),
-        All-append (λ other. HasKinds (kinds_in (judged_of c).streams other.stream) other.tuple) history (heard_of event ∷ []) stands.declared.1
-            (All-cons (λ other. HasKinds (kinds_in (judged_of c).streams other.stream) other.tuple) (heard_of event) [] (of_its_kinds c accepted event fits) (All-nil _)),
+        All-append (λ other. other.stream < c.declared) history (heard_of event ∷ []) stands.declared.0
+            (All-cons (λ other. other.stream < c.declared) (heard_of event) [] (is_declared c standing event fits) (All-nil _)),
+        All-append (λ other. HasKinds (kinds_in c.streams other.stream) other.tuple) history (heard_of event ∷ []) stands.declared.1
+            (All-cons (λ other. HasKinds (kinds_in c.streams other.stream) other.tuple) (heard_of event) [] (of_its_kinds c standing event fits) (All-nil _)),
       );
       engine = subst (λ (now : engine.EngineView). engines.EngineStandsFor now (lines_over c) (history ++ heard_of event ∷ [])) (sym took)
           (offered_stands mid (lines_over c) history event.stream event.tuple (ready.stands history stands) may_offer sound ready.not_ahead ready.in_time);

@@ -2,7 +2,6 @@
 use Rattle.std.proofs.Common.{◌≡◌, ◌∙◌, sym, ap, subst, ℕ, ◌+◌, ◌-◌, ◌≤◌, Bool, true, false, List, ◌++◌, [], map, take, append-nil, arith}
 use Rattle.semantics.specs.Histories.{Event}
 use Rattle.automaton.specs.Prefixes.{Prefix}
-use Rattle.catalogue.specs.Catalogued.{judged_of}
 use Rattle.session.specs.Feeds.{within_limit}
 use Rattle.session.specs.Readings.{reading_of, readings_left}
 use Rattle.session.specs.RunWork.{run_work, work_in}
@@ -36,9 +35,9 @@ module _ (session : SessionView) (past : List Event) (text : List ℕ) (stands :
       subst (λ (bytes : List ℕ). new + work_in states session past text false ≤ old + work_in states session past bytes false) heard (stays within false few)
 
   -- the same of the end of the text
-  pub finishes_within : new ≤ old + tests_left states (program_in session) true (readings_left (judged_of session.catalogue).streams session.feed true) session.engine.time (so_far session past text stands)
+  pub finishes_within : new ≤ old + tests_left states (program_in session) true (readings_left session.catalogue.streams session.feed true) session.engine.time (so_far session past text stands)
       → new + work_in states session past text false ≤ old + work_in states session past text true
   finishes_within few =
-      let left = ap (map (reading_of (judged_of session.catalogue).streams)) (same_left session.feed true) in
+      let left = ap (map (reading_of session.catalogue.streams)) (same_left session.feed true) in
       let same = ap (λ ls. tests_left states (program_in session) true ls session.engine.time (so_far session past text stands)) left in
       subst (λ (bytes : List ℕ). new + work_in states session past text false ≤ old + work_in states session past bytes true) (append-nil text) (stays [] true (omega (arith, few, same)))

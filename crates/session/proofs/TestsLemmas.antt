@@ -22,7 +22,7 @@ use Rattle.session.specs.Readings.{heard_of}
 use Rattle.session.specs.TestsLeft.{RisesByClosing, RisesByLines, RisesByOpen, TestsGoOn, tests_of_closing, open_tests, tests_left}
 use Rattle.session.proofs.HeardLemmas.{first_none}
 use Rattle.session.proofs.StandsLemmas.{last_of}
-use Rattle.session.proofs.UnbornLemmas.{plainly}
+use Rattle.birth_laws.proofs.BornLemmas.{plain_chain}
 use Rattle.splitter.specs.Chains.{lines_of}
 use Rattle.automaton.specs.declared.line.Line.{Line}
 
@@ -34,7 +34,7 @@ open_rises c engine old new planned opened rises history states stands listed = 
     go None is some = absurd (cc)
     go (Some time) is some =
         subst (λ (order : List ℕ). new ≤ old + work states (lines_over c) order history time) planned.layout.order
-        (rises.waiting (lines_over c) states history time (record { stands = stands.engine; is_open = is; listed = subst (λ (ls : List Line). ListPrefixes ls states) (sym (plainly (lines_of (program_over c)))) listed }))
+        (rises.waiting (lines_over c) states history time (record { stands = stands.engine; is_open = is; listed = subst (λ (ls : List Line). ListPrefixes ls states) (sym (plain_chain (program_over c).order)) listed }))
 
 -- no tests are few enough
 pub rises_none : (c : Catalogued) (engine : EngineView) (old : ℕ) → RisesByOpen c engine old old

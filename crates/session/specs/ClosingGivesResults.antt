@@ -1,5 +1,5 @@
 -- Laws of what the closing of an epoch gives for the queries of a program.
-use Rattle.std.specs.Prelude.{◌≡◌, ℕ, ◌<◌, List, map}
+use Rattle.std.specs.Prelude.{◌≡◌, ℕ, ◌<◌, List, length, map}
 use Rattle.std.specs.List.{All}
 use Rattle.event_types.specs.declared.kind.Kind.{Kind}
 use Rattle.event_types.specs.Tuple.{TupleView}
@@ -9,10 +9,11 @@ use Rattle.semantics.specs.Results.{results}
 use Rattle.semantics.specs.TypedPrograms.{HaveTheirKinds}
 use Rattle.birth_laws.specs.BornChains.{born_lines}
 use Rattle.splitter.specs.Chains.{outs_of, work_order}
-use Rattle.splitter.specs.Layouts.{IsLayoutOf}
 use Rattle.splitter.specs.ProgramLaws.{IsWideProgram}
-use Rattle.catalogue.specs.Chained.{kinds_of_each}
+use Rattle.cel_types.specs.SourceLaws.{kinds_in}
+use Rattle.catalogue.specs.Catalogued.{Catalogued, program_in}
 use Rattle.catalogue.specs.Judgement.{Accepts, Judged, program_of}
+use Rattle.catalogue.specs.Standing.{IsLayoutOver, StandsInOrder}
 use Rattle.epoch_engine.specs.Closes.{Closes}
 use Rattle.epoch_engine.specs.EngineStandsFor.{EngineStandsFor}
 use Rattle.epoch_engine.specs.EngineView.{EngineView}
@@ -27,9 +28,17 @@ ClosingGivesResults =
     → HaveTheirKinds kinds history → All (λ event. event.stream < program.declared) history
     → (closes : Closes old new batch) → batch ≡ map (λ query. results program history query.stream closes.time) program.queries
 
--- so does an engine of an accepted text, whose queries were there from the start
+-- so does an engine of a catalogue, whatever queries came and left
+abbrev pub ClosingGivesResultsOfCatalogue : Type 0
+ClosingGivesResultsOfCatalogue =
+    (c : Catalogued) (old new : EngineView) (history : List Event) (batch : List (List TupleView)) → StandsInOrder c
+    → IsLayoutOver c.streams (program_in c) old.layout → EngineStandsFor old (born_lines (program_in c)) history → AreDeclared c history
+    → (closes : Closes old new batch) → batch ≡ map (λ query. results (program_in c) history query.stream closes.time) (program_in c).queries
+
+-- and so does an engine of an accepted text, whose queries were there from the start
 abbrev pub ClosingGivesResultsOfText : Type 0
 ClosingGivesResultsOfText =
     (text : List ℕ) (judged : Judged) (old new : EngineView) (history : List Event) (batch : List (List TupleView)) → Accepts text judged
-    → IsLayoutOf (program_of judged) (kinds_of_each judged.streams) old.layout → EngineStandsFor old (unborn_lines (program_of judged)) history → AreDeclared judged history
+    → old.layout.order ≡ work_order (program_of judged) → old.layout.outs ≡ outs_of (program_of judged) → EngineStandsFor old (unborn_lines (program_of judged)) history
+    → HaveTheirKinds (kinds_in judged.streams) history → All (λ event. event.stream < length judged.declared) history
     → (closes : Closes old new batch) → batch ≡ map (λ query. results (program_of judged) history query.stream closes.time) (program_of judged).queries

@@ -2,7 +2,7 @@
 use Rattle.std.specs.Prelude.{◌≡◌, ◌<◌, ◌≤◌, ℕ, List, [], None, length, slice_index_or}
 use Rattle.semantics.specs.Histories.{Event}
 use Rattle.semantics.specs.Programs.{Program}
-use Rattle.splitter.specs.Layouts.{IsLayoutOf}
+use Rattle.birth_laws.specs.BornChains.{born_lines}
 use Rattle.epoch_laws.specs.BornLines.{BornLine, HasBornLines}
 use Rattle.epoch_laws.specs.Standing.{last_time}
 use Rattle.epoch_engine.specs.Closes.{KeepsPlan}
@@ -10,36 +10,34 @@ use Rattle.epoch_engine.specs.Offers.{IsLate, IsNotAhead}
 use Rattle.epoch_engine.specs.EngineStandsFor as engines
 use Rattle.epoch_engine.specs.EngineView as engine
 use Rattle.event_csv.specs.Fed.{Fed, IsPart, line_feeds_so_far}
-use Rattle.catalogue.specs.Catalogued.{Catalogued, judged_of}
-use Rattle.catalogue.specs.Chained.{kinds_of_each}
-use Rattle.catalogue.specs.Judgement.{program_of, query_at}
+use Rattle.catalogue.specs.Catalogued.{Catalogued, program_in, query_in}
+use Rattle.catalogue.specs.Standing.{IsLayoutOver}
 use Rattle.result_text.specs.Front.{front_of}
 use Rattle.session.specs.SessionView.{AreDeclared}
-use Rattle.session.specs.UnbornLines.{unborn_lines}
 use Rattle.session.specs.declared.work.Work.{Work}
 
--- the program of a catalogue
+-- the program of a catalogue, whose queries have their births
 abbrev pub program_over : Catalogued → Program
-program_over c = program_of (judged_of c)
+program_over c = program_in c
 
--- its automaton lines, whose queries have no births
+-- its automaton lines, each with the birth of its query
 abbrev pub lines_over : Catalogued → List BornLine
-lines_over c = unborn_lines (program_over c)
+lines_over c = born_lines (program_over c)
 
 -- the engine stands for events on declared streams, with the last of their epochs open
 pub record EngineStandsWithLastOpen (c : Catalogued) (history : List Event) (now : engine.EngineView) : Type 0 where
-  pub declared : AreDeclared (judged_of c) history
+  pub declared : AreDeclared c history
   pub engine : engines.EngineStandsFor now (lines_over c) history
   pub last_is_open : now.time ≡ last_time history
 
--- the engine's network has the lines of the catalogue's program, without births, and its layout is one of it
+-- the engine's network has the lines of the catalogue's program, with the births of their queries, and its layout is one of it
 pub record IsPlanned (c : Catalogued) (now : engine.EngineView) : Type 0 where
   pub lines : HasBornLines now.network (lines_over c)
-  pub layout : IsLayoutOf (program_over c) (kinds_of_each (judged_of c).streams) now.layout
+  pub layout : IsLayoutOver c.streams (program_over c) now.layout
 
 -- the fronts of rows that were made are those of the first queries
 abbrev pub AreFronts : Catalogued → List (List ℕ) → Type 0
-AreFronts c fronts = (place : ℕ) → place < length fronts → slice_index_or fronts place [] ≡ front_of (query_at (judged_of c) place).name
+AreFronts c fronts = (place : ℕ) → place < length fronts → slice_index_or fronts place [] ≡ front_of (query_in c place).name
 
 -- the engine is planned, the fronts are those of the queries, and where no epoch is open, none was closed
 pub record IsAtWork (c : Catalogued) (work : Work) : Type 0 where

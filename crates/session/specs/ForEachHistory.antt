@@ -2,7 +2,7 @@
 use Rattle.std.specs.Prelude.{◌≡◌, ℕ, Bool, false, true, List, [], ◌∷◌, ◌++◌, Result}
 use Rattle.cay_host.specs.Told.{Told}
 use Rattle.semantics.specs.Histories.{Event}
-use Rattle.catalogue.specs.Catalogued.{Catalogued, judged_of}
+use Rattle.catalogue.specs.Catalogued.{Catalogued}
 use Rattle.epoch_engine.specs.EngineStandsFor as engines
 use Rattle.event_csv.specs.declared.event.Seen.{Seen}
 use Rattle.event_csv.specs.Fed.{Fed}
@@ -40,7 +40,7 @@ StopsAtEvent c number event work before after fault =
 
 -- the lines that are left in a feed, as they are read over the streams of the queries
 abbrev pub lines_in : Catalogued → Fed → Bool → List Reading
-lines_in c feed ended = readings_left (judged_of c).streams feed ended
+lines_in c feed ended = readings_left c.streams feed ended
 
 -- how the work on the lines of a feed ended, of a text that has ended or not
 abbrev pub EndsOver : Catalogued → Fed → Bool → Work → Told → Told → Result (Unit {0}) SessionFault → Type 0

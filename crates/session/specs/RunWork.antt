@@ -4,16 +4,16 @@ use Rattle.semantics.specs.Histories.{Event, times}
 use Rattle.semantics.specs.Programs.{Program}
 use Rattle.automaton.specs.Prefixes.{Prefix}
 use Rattle.splitter.specs.Chains.{lines_of, work_order}
+use Rattle.birth_laws.specs.BornChains.{born_lines}
 use Rattle.prefix_merge.specs.Counts.{ListPrefixes}
 use Rattle.epoch_engine.specs.Work.{work}
 use Rattle.session.specs.Feeds.{within_limit}
 use Rattle.session.specs.Heard.{closed_after}
 use Rattle.session.specs.SessionView.{SessionStandsFor, SessionView, program_in, readings_in}
-use Rattle.session.specs.UnbornLines.{unborn_lines}
 
 -- the tests that the epoch of a time asks for, of a program over a history; its states are the prefixes of its lines, each once
 abbrev pub epoch_tests : List Prefix → Program → List Event → ℕ → ℕ
-epoch_tests states program history time = work states (unborn_lines program) (work_order program) history time
+epoch_tests states program history time = work states (born_lines program) (work_order program) history time
 
 -- those of all epochs of a history
 abbrev pub run_work : List Prefix → Program → List Event → ℕ

@@ -1,7 +1,7 @@
 //! The work on one event, or on a line that is refused.
 ghost use Rattle.std.specs.Prelude.{◌≡◌, ℕ, None, IfErr, OnOk};
 ghost use Rattle.cay_host.specs.Output.{SameButOutput};
-ghost use Rattle.catalogue.specs.Catalogued.{IsAccepted, judged_of};
+ghost use Rattle.catalogue.specs.Standing.{StandsInOrder};
 ghost use Rattle.epoch_engine.specs.Offers.{IsHeard, IsLate, IsNotAhead, with_tuple};
 ghost use Rattle.session.specs.Feeds.{BlamesWriting};
 ghost use Rattle.session.specs.Fits.{Fits};
@@ -66,8 +66,8 @@ fn close_and_offer<H: Host, L: Ledger>(
     steps: &mut Steps<L>,
 ) -> Result<(), SessionFault>
     requires at_work { IsAtWork catalogue.now work.old }
-    requires accepted { IsAccepted catalogue.now }
-    requires fits { Fits (judged_of catalogue.now).streams line.event }
+    requires in_order { StandsInOrder catalogue.now }
+    requires fits { Fits catalogue.now.streams line.event }
     requires timely { (number : ℕ) → disorder number work.old.engine.time line.event.tuple.at ≡ None }
     ensures more { OnOk result (TakesEvent catalogue.now line.number line.event work.old work.new (H.told host.old) (H.told host.new)) }
     ensures at_work { OnOk result (IsAtWork catalogue.now work.new) }
@@ -93,8 +93,8 @@ pub fn work_on_event<H: Host, L: Ledger>(
     steps: &mut Steps<L>,
 ) -> Result<(), SessionFault>
     requires at_work { IsAtWork catalogue.now work.old }
-    requires accepted { IsAccepted catalogue.now }
-    requires fits { Fits (judged_of catalogue.now).streams line.event }
+    requires in_order { StandsInOrder catalogue.now }
+    requires fits { Fits catalogue.now.streams line.event }
     ensures more { OnOk result (TakesEvent catalogue.now line.number line.event work.old work.new (H.told host.old) (H.told host.new)) }
     ensures at_work { OnOk result (IsAtWork catalogue.now work.new) }
     ensures stops { IfErr result (StopsAtEvent catalogue.now line.number line.event work.old (H.told host.old) (H.told host.new)) }

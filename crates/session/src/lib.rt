@@ -17,6 +17,8 @@ mod work;
 mod writing;
 
 pub use fault::SessionFault;
-pub use laws::{closing_gives_results, closing_gives_results_of_text};
+pub use laws::{
+    closing_gives_results, closing_gives_results_of_catalogue, closing_gives_results_of_text,
+};
 pub use refusal::Refusal;
 pub use session::Session;

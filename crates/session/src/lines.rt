@@ -1,7 +1,7 @@
 //! The work on the lines of an event text.
 ghost use Rattle.std.specs.Prelude.{◌≡◌, false, true, [], IfErr, IfOk, OnOk};
 ghost use Rattle.cay_host.specs.Output.{SameButOutput};
-ghost use Rattle.catalogue.specs.Catalogued.{IsAccepted};
+ghost use Rattle.catalogue.specs.Standing.{StandsInOrder};
 ghost use Rattle.event_csv.specs.Fed.{IsPart, unread_lines};
 ghost use Rattle.session.specs.Feeds.{BlamesWriting};
 ghost use Rattle.session.specs.EngineStandsWithLastOpen.{IsAtWork, IsThrough};
@@ -38,7 +38,7 @@ pub fn work_on_lines<H: Host, L: Ledger>(
     ensures none_owed { OnOk result (work.new.rows ≡ []) }
     ensures gone { OnOk result (HandsOutSomeLines feed.old feed.new) }
     ensures part { OnOk result (IsPart feed.new) }
-    ensures accepted { IsAccepted catalogue.now }
+    ensures in_order { StandsInOrder catalogue.now }
     ensures quiet { BlamesWriting result (H.told host.old) (H.told host.new) }
     ensures same { SameButOutput (H.told host.old) (H.told host.new) }
     ensures tests { RisesByLines catalogue.now feed.old false work.old.engine steps.old steps.new }
@@ -64,7 +64,7 @@ fn work_through<H: Host, L: Ledger>(
     ensures gone { OnOk result (HandsOutSomeLines feed.old feed.new) }
     ensures part { OnOk result (IsPart feed.new) }
     ensures stops { IfErr result (StopsOver catalogue.now feed.old work.old (H.told host.old) (H.told host.new)) }
-    ensures accepted { IsAccepted catalogue.now }
+    ensures in_order { StandsInOrder catalogue.now }
     ensures quiet { BlamesWriting result (H.told host.old) (H.told host.new) }
     ensures same { SameButOutput (H.told host.old) (H.told host.new) }
     ensures tests { RisesByLines catalogue.now feed.old false work.old.engine steps.old steps.new }
@@ -90,7 +90,7 @@ fn work_on_line<H: Host, L: Ledger>(
     ensures progress { IfOk result (Progresses catalogue.now feed.old feed.new work.old work.new (H.told host.old) (H.told host.new)) }
     ensures at_work { OnOk result (IsAtWork catalogue.now work.new) }
     ensures gone { HandsOutSomeLines feed.old feed.new }
-    ensures accepted { IsAccepted catalogue.now }
+    ensures in_order { StandsInOrder catalogue.now }
     ensures stops { IfErr result (StopsOver catalogue.now feed.old work.old (H.told host.old) (H.told host.new)) }
     ensures quiet { OnOk result ((H.told host.new).write_faults ≡ (H.told host.old).write_faults) }
     ensures blames { IfErr result (λ fault. Blames fault (H.told host.old) (H.told host.new)) }
@@ -124,7 +124,7 @@ pub fn work_on_rest<H: Host, L: Ledger>(
     ensures ends { EndsOver catalogue.now feed.now true work.old (H.told host.old) (H.told host.new) result }
     ensures stands { OnOk result (HearsRest catalogue.now feed.now work.old work.new) }
     ensures through { OnOk result (IsThrough catalogue.now work.new.engine) }
-    ensures accepted { IsAccepted catalogue.now }
+    ensures in_order { StandsInOrder catalogue.now }
     ensures quiet { BlamesWriting result (H.told host.old) (H.told host.new) }
     ensures same { SameButOutput (H.told host.old) (H.told host.new) }
     ensures tests { RisesByLines catalogue.now feed.now true work.old.engine steps.old steps.new }

@@ -3,14 +3,13 @@ ghost use Rattle.std.specs.Prelude.{◌≡◌, ℕ, [], List, None, false, true,
 ghost use Rattle.semantics.specs.Histories.{Event};
 ghost use Rattle.splitter.specs.Chains.{lines_of};
 ghost use Rattle.epoch_laws.specs.BornLines.{HasBornLines};
-ghost use Rattle.session.specs.UnbornLines.{unborn_lines};
-ghost use Rattle.splitter.specs.Layouts.{IsLayoutOf};
+ghost use Rattle.birth_laws.specs.BornChains.{born_lines};
 ghost use Rattle.cay_host.specs.Output.{SameButOutput};
 ghost use Rattle.prefix_merge.specs.Counts.{CountsPlain, CountsStates};
 ghost use Rattle.epoch_engine.specs.EngineStandsFor as engines;
-ghost use Rattle.catalogue.specs.Catalogued.{judged_of};
-ghost use Rattle.catalogue.specs.Chained.{kinds_of_each};
-ghost use Rattle.catalogue.specs.Judgement.{program_of};
+ghost use Rattle.catalogue.specs.Catalogued as catalogues;
+ghost use Rattle.catalogue.specs.Loaded.{IsUnchanged};
+ghost use Rattle.catalogue.specs.Standing.{IsLayoutOver};
 ghost use Rattle.session.specs.Feeds.{BlamesWriting, BreaksAtPiece, Feeds, Finishes};
 ghost use Rattle.session.specs.RunWork.{FinishesWithin, FeedsWithin};
 ghost use Rattle.session.specs.SessionView.{CountsWaiting, KeepsQueries, SessionStandsFor, StandsForPast, TrimsEngine, WorksFor, program_in};
@@ -63,6 +62,7 @@ impl Session {
     /// A session of these queries, which takes at most so many bytes of an event text. Want of memory
     /// drops the catalogue.
     pub fn make(alloc: Global, catalogue: Catalogue, limit: u64) -> Result<Session, Memory>
+        requires { IsUnchanged catalogue }
         ensures queries { IfOk result (λ session. session.catalogue ≡ catalogue) }
         ensures limit { IfOk result (λ session. session.limit ≡ limit) }
         ensures stands { IfOk result (λ session. SessionStandsFor session [] []) }
@@ -71,10 +71,11 @@ impl Session {
         Ok(Session::over(alloc, catalogue, engine, limit))
     }
 
-    /// Goes on with an engine that may have been offered events before. Takes no memory.
+    /// Goes on with an engine that may have been offered events before, whenever the queries came. Takes no
+    /// memory.
     pub fn over(alloc: Global, catalogue: Catalogue, engine: Engine, limit: u64) -> Session
-        requires lines { HasBornLines engine.network (unborn_lines (program_of (judged_of catalogue))) }
-        requires layout { IsLayoutOf (program_of (judged_of catalogue)) (kinds_of_each (judged_of catalogue).streams) engine.layout }
+        requires lines { HasBornLines engine.network (born_lines (catalogues.program_in catalogue)) }
+        requires layout { IsLayoutOver catalogue.streams (catalogues.program_in catalogue) engine.layout }
         requires opened { engine.time ≡ None → engine.closed_time ≡ None }
         ensures queries { result.catalogue ≡ catalogue }
         ensures limit { result.limit ≡ limit }
@@ -203,6 +204,7 @@ impl Session {
 
 /// An engine over the merged network of the queries, which has heard nothing.
 pub(crate) fn engine_of(alloc: Global, catalogue: &Catalogue) -> Result<Engine, Memory>
+    requires { IsUnchanged catalogue.now }
     ensures planned { IfOk result (IsPlanned catalogue.now) }
     ensures none_closed { IfOk result (λ engine. engine.closed_time ≡ None) }
     ensures stands { IfOk result (λ engine. engines.EngineStandsFor engine (lines_over catalogue.now) []) }

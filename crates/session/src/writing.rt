@@ -2,7 +2,7 @@
 ghost use Rattle.std.specs.Prelude.{◌≡◌, ◌≤◌, ◌++◌, [], ℕ, List, length, OnOk, OnErr};
 ghost use Rattle.cay_host.specs.Faults.{Rose};
 ghost use Rattle.cay_host.specs.Output.{Wrote, WrotePart, SameButOutput};
-ghost use Rattle.catalogue.specs.Catalogued.{IsAccepted};
+ghost use Rattle.catalogue.specs.Standing.{StandsInOrder};
 ghost use Rattle.session.specs.BatchLines.{batch_lines};
 ghost use Rattle.session.specs.EngineStandsWithLastOpen.{AreFronts, program_over};
 ghost use Rattle.session.specs.Owes.{Owes};
@@ -22,7 +22,7 @@ fn make_fronts(alloc: Global, catalogue: &Catalogue, fronts: &mut Fronts) -> Res
     requires { AreFronts catalogue.now fronts.old }
     ensures fronts { OnOk result (AreFronts catalogue.now fronts.new) }
     ensures all { OnOk result (length catalogue.now.order ≤ length fronts.new) }
-    ensures accepted { IsAccepted catalogue.now }
+    ensures in_order { StandsInOrder catalogue.now }
 {
     let streams = catalogue.streams();
     'queries: while fronts.len() < catalogue.queries() {
@@ -51,7 +51,7 @@ pub fn put_batch(
     requires fronts { AreFronts catalogue.now fronts.old }
     ensures put { OnOk result (rows.new ≡ rows.old ++ batch_lines (program_over catalogue.now).queries batch.now) }
     ensures fronts { OnOk result (AreFronts catalogue.now fronts.new) }
-    ensures accepted { IsAccepted catalogue.now }
+    ensures in_order { StandsInOrder catalogue.now }
 {
     make_fronts(alloc, catalogue, fronts)?;
     tails.clear_if_full();

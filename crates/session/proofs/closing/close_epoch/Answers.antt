@@ -12,7 +12,7 @@ put_batch-requires-clause-count g c = batch_count c.args.catalogue.now c.args.wo
 -- the rows of the epoch were put
 pub returns-clause-rows : goal.returns-clause-rows
 returns-clause-rows g c = λ history stands.
-    rows_closed c.args.catalogue.now c.put_batch.ensures.accepted c.args.work.now.engine c.close.new.self c.in_ok-batch.batch c.requires.at_work.planned c.in_ok-batch.ensures.closed history stands
+    rows_closed c.args.catalogue.now c.put_batch.ensures.in_order c.args.work.now.engine c.close.new.self c.in_ok-batch.batch c.requires.at_work.planned c.in_ok-batch.ensures.closed history stands
     c.args.work.now.rows c.put_batch.new.rows c.in_ok-put_batch.ensures.put
 
 -- the epoch is closed
@@ -23,7 +23,7 @@ returns-clause-closed g c =
       plan = c.in_ok-batch.ensures.plan;
       none_open = closes.none_open;
       now_closed = closes.now_closed ∙ sym closes.was_open;
-      stands = λ history stands. still_stands c.args.catalogue.now c.put_batch.ensures.accepted c.args.work.now.engine c.close.new.self c.in_ok-batch.batch c.requires.at_work.planned closes history stands c.in_ok-batch.ensures.plan;
+      stands = λ history stands. still_stands c.args.catalogue.now c.put_batch.ensures.in_order c.args.work.now.engine c.close.new.self c.in_ok-batch.batch c.requires.at_work.planned closes history stands c.in_ok-batch.ensures.plan;
     })
 
 -- it tests no more than the epoch asks for

@@ -9,7 +9,7 @@ use Rattle.session.proofs.events.close_and_offer.Goals as goal
 -- the engine may be offered the event
 pub offer_event-requires-clause-heard : goal.offer_event-requires-clause-heard
 offer_event-requires-clause-heard g c =
-    may_offer c.args.catalogue.now c.requires.accepted c.args.line.event c.requires.fits c.args.work.now.engine c.close_before.new.work.engine (rw c.at-at.ensures.value at c.in_ok-close_before.ensures.ready) c.requires.at_work.planned
+    may_offer c.args.catalogue.now c.requires.in_order c.args.line.event c.requires.fits c.args.work.now.engine c.close_before.new.work.engine (rw c.at-at.ensures.value at c.in_ok-close_before.ensures.ready) c.requires.at_work.planned
 
 -- the open epoch was closed, and then there was no memory for the event
 pub returns-in_err-offer_event-clause-stops : goal.returns-in_err-offer_event-clause-stops
@@ -33,7 +33,7 @@ returns-clause-more g c = λ history stands.
     let ready = rw c.at-at.ensures.value at c.in_ok-close_before.ensures.ready in
     let owes = rw c.at-at.ensures.value at c.in_ok-close_before.ensures.owes history stands in
     record {
-      stands = stands_more c.args.catalogue.now c.requires.accepted c.args.line.event c.requires.fits old.engine mid.engine ready c.requires.at_work.planned c.offer_event.new.work c.in_ok-offer_event.ensures.heard history c.at-at.ensures.in_order stands;
+      stands = stands_more c.args.catalogue.now c.requires.in_order c.args.line.event c.requires.fits old.engine mid.engine ready c.requires.at_work.planned c.offer_event.new.work c.in_ok-offer_event.ensures.heard history c.at-at.ensures.in_order stands;
       advances = λ ended lines. goes_on (program_over c.args.catalogue.now) ended lines history c.args.line.number c.args.line.event old c.offer_event.new.work mid.rows _ _ (c.requires.timely c.args.line.number) owes
           c.in_ok-offer_event.ensures.rows (ap (λ (now : engine.EngineView). now.time) c.in_ok-offer_event.ensures.heard);
     }
@@ -41,7 +41,7 @@ returns-clause-more g c = λ history stands.
 -- the work may go on
 pub returns-clause-at_work : goal.returns-clause-at_work
 returns-clause-at_work g c =
-    at_work_more c.args.catalogue.now c.requires.accepted c.args.line.event c.requires.fits c.args.work.now.engine c.close_before.new.work.engine (rw c.at-at.ensures.value at c.in_ok-close_before.ensures.ready) c.requires.at_work.planned
+    at_work_more c.args.catalogue.now c.requires.in_order c.args.line.event c.requires.fits c.args.work.now.engine c.close_before.new.work.engine (rw c.at-at.ensures.value at c.in_ok-close_before.ensures.ready) c.requires.at_work.planned
     c.offer_event.new.work c.in_ok-offer_event.ensures.heard (subst (AreFronts c.args.catalogue.now) (sym c.in_ok-offer_event.ensures.fronts) c.in_ok-close_before.ensures.fronts)
 
 -- its closing tests no more than the open epoch asks for

@@ -1,6 +1,5 @@
 use Rattle.std.proofs.Common.{ap, length, false, arith, Err, refl}
 use Rattle.std.proofs.lemmas.Result.{err_from_is_err_and}
-use Rattle.catalogue.specs.Catalogued.{judged_of}
 use Rattle.session.specs.Readings.{readings_left}
 use Rattle.session.specs.EngineStandsWithLastOpen.{program_over}
 use Rattle.session.proofs.OwesLemmas.{refuses, stops_same, took}
@@ -23,7 +22,7 @@ pub returns-in_ok-work_on_event-in-Ok-Event-clause-progress : goal.returns-in_ok
 returns-in_ok-work_on_event-in-Ok-Event-clause-progress g c =
     let shows = rw (c.in-Ok-Event.field-0-is, c.streams.ensures.value) at c.in-Ok-Event.ensures.shows in
     let more = rw c.take_spare-spare.ensures.kept at c.in_ok-work_on_event-in-Ok-Event.ensures.more in
-    let streams = (judged_of c.args.catalogue.now).streams in (
+    let streams = c.args.catalogue.now.streams in (
       λ history stands. took (readings_left streams c.args.feed.now false) (readings_left streams c.next_reading.new.feed false) (shows false) (more history stands),
       let fewer = ap length (shows false) in omega (arith, fewer),
     )

@@ -1,7 +1,6 @@
 use Rattle.std.proofs.Common.{◌∙◌, false, refl}
 use Rattle.std.proofs.lemmas.Result.{err_from_is_err_and}
 use Rattle.cay_host.proofs.OutputLemmas.{SameButOutput-trans}
-use Rattle.catalogue.specs.Catalogued.{judged_of}
 use Rattle.session.specs.Readings.{readings_left}
 use Rattle.session.specs.EngineStandsWithLastOpen.{program_over}
 use Rattle.session.proofs.LinesLemmas.{Gone-trans}
@@ -28,7 +27,7 @@ returns-then-not-branch-clause-gone g c = Gone-trans c.lines.invariant.gone c.wo
 pub returns-in_err-work_on_line-clause-stops : goal.returns-in_err-work_on_line-clause-stops
 returns-in_err-work_on_line-clause-stops g c =
     let told = g.H.Host.told in
-    let streams = (judged_of c.args.catalogue.now).streams in
+    let streams = c.args.catalogue.now.streams in
     let p = err_from_is_err_and c.from_residual.result c.from_residual.ensures.1 in
     rw (p.1, p.2) (λ history stands. let gone = c.lines.invariant.goes_on history stands in
     advances_stops (program_over c.args.catalogue.now) false (readings_left streams c.args.feed.now false) (readings_left streams c.lines.feed false) history gone.heard

@@ -3,8 +3,7 @@ use Rattle.std.specs.List.{flat_map}
 use Rattle.std.proofs.lemmas.List.{get_or_default, take_all}
 use Rattle.std.proofs.lemmas.Option.{get_or_from_slice_get}
 use Rattle.semantics.specs.Report.{line}
-use Rattle.catalogue.specs.Catalogued.{judged_of}
-use Rattle.catalogue.specs.Judgement.{query_at}
+use Rattle.catalogue.specs.Catalogued.{query_in}
 use Rattle.epoch_engine.specs.declared.entry.Entry.{Entry}
 use Rattle.session.proofs.BatchLinesLemmas.{entry_lines, entry_more, front_at, lines_by_entries, place_below}
 use Rattle.session.proofs.writing.put_batch.Goals as goal
@@ -30,7 +29,7 @@ loop-entry-preserved c =
     let none : Entry = record { place = 0; stream = 0 } in
     let entry : Entry = slice_index_or entries i none in
     let at : slice_index_or entries i entry ≡ entry = get_or_default entries i entry none (omega arith) in
-    let name = (query_at (judged_of now) entry.place).name in
+    let name = (query_in now entry.place).name in
     let front = front_at now c.make_fronts.new.fronts entry.place c.get-front.result.now c.in_ok-make_fronts.ensures.fronts c.get-front.ensures in
     let lt : i < length entries = omega arith in
     let shown : c.get.result.now ≡ slice_index_or made entry.stream [] = sym (get_or_from_slice_get made entry.stream c.get.result.now [] c.get.ensures) in

@@ -30,7 +30,7 @@ returns-in_err-work_on_lines-clause-broken g c =
     let pushed = of_ok c.push.result (sym c.is_err.ensures.value ∙ c.if-is_err.false) c.push.ensures.ok in
     rw (p.1, p.2) (subst (λ (s : SessionView). (past : List Event) (text : List ℕ) → SessionStandsFor s past text → StopsAtPiece s past text c.args.piece.now before after stop) c.self.view_is
     (λ past text stands. stops_at_piece _ past text stands c.self.inside.work refl going.none_owed before after c.args.piece.now c.front_of-within.result.now c.front_of-within.ensures stop
-    (rw pushed at c.in_err-work_on_lines.ensures.ends (so_far _ past text stands) (engine_stands _ past text stands c.work_on_lines.ensures.accepted))))
+    (rw pushed at c.in_err-work_on_lines.ensures.ends (so_far _ past text stands) (engine_stands _ past text stands c.work_on_lines.ensures.in_order))))
 
 -- more bytes came
 pub returns-then-within-piece-clause-broken : goal.returns-then-within-piece-clause-broken
@@ -41,7 +41,7 @@ returns-then-within-piece-clause-broken g c =
     let pushed = of_ok c.push.result (sym c.is_err.ensures.value ∙ c.if-is_err.false) c.push.ensures.ok in
     subst (λ (s : SessionView). (past : List Event) (text : List ℕ) → SessionStandsFor s past text → StopsAtPiece s past text c.args.piece.now before after (fault.TooMuch c.self.inside.limit)) c.self.view_is
     (λ past text stands. too_much _ past text stands c.self.inside.work refl going.none_owed before after c.args.piece.now c.front_of-within.result.now c.front_of-within.ensures c.if-within-piece.true
-    (rw pushed at c.in_ok-work_on_lines.ensures.ends (so_far _ past text stands) (engine_stands _ past text stands c.work_on_lines.ensures.accepted)))
+    (rw pushed at c.in_ok-work_on_lines.ensures.ends (so_far _ past text stands) (engine_stands _ past text stands c.work_on_lines.ensures.in_order)))
 
 -- the session goes on
 pub returns-clause-fed : goal.returns-clause-fed
@@ -55,13 +55,13 @@ returns-clause-fed g c =
     let new : SessionView = record { catalogue = c.self.inside.catalogue; engine = c.work_on_lines.new.work.engine; limit = c.self.inside.limit; feed = c.work_on_lines.new.feed; fed = c.self.inside.fed + length within; ended = false } in
     let whole : within ≡ c.args.piece.now = all_within c.self.inside.limit c.self.inside.fed c.args.piece.now within c.front_of-within.ensures c.if-within-piece.false in
     subst (λ (s : SessionView). (past : List Event) (text : List ℕ) → SessionStandsFor s past text → Feeds s new past text c.args.piece.now before after) c.self.view_is
-    (λ past text stands. let accepted = engine_stands _ past text stands c.work_on_lines.ensures.accepted in
+    (λ past text stands. let heard = engine_stands _ past text stands c.work_on_lines.ensures.in_order in
     subst (λ (p : List ℕ). Feeds old new past text p before after) whole
     (feeds _ past text stands c.self.inside.work refl going.none_owed before after within
     (fits_within _ past text stands c.args.piece.now within c.front_of-within.ensures)
     c.work_on_lines.new.work c.work_on_lines.new.feed (rw pushed at c.in_ok-work_on_lines.ensures.gone) c.in_ok-work_on_lines.ensures.part c.in_ok-work_on_lines.ensures.at_work
-    (rw pushed at c.in_ok-work_on_lines.ensures.ends (so_far _ past text stands) accepted)
-    (rw pushed at c.in_ok-work_on_lines.ensures.stands (so_far _ past text stands) accepted)))
+    (rw pushed at c.in_ok-work_on_lines.ensures.ends (so_far _ past text stands) heard)
+    (rw pushed at c.in_ok-work_on_lines.ensures.stands (so_far _ past text stands) heard)))
 
 -- no more was tested than the epochs ask for that the bytes close
 pub returns-then-is_err-clause-tests : goal.returns-then-is_err-clause-tests
@@ -77,7 +77,7 @@ returns-in_err-work_on_lines-clause-tests g c =
     subst (λ (s : SessionView). FeedsWithin s c.args.piece.now c.args.steps.now c.work_on_lines.new.steps) c.self.view_is
     (λ past text states stands listed.
     feeds_within _ past text stands states c.args.steps.now c.work_on_lines.new.steps c.args.piece.now c.front_of-within.result.now c.front_of-within.ensures
-    (rw pushed at c.work_on_lines.ensures.tests (so_far _ past text stands) states (engine_stands _ past text stands c.work_on_lines.ensures.accepted) listed))
+    (rw pushed at c.work_on_lines.ensures.tests (so_far _ past text stands) states (engine_stands _ past text stands c.work_on_lines.ensures.in_order) listed))
 
 pub returns-then-within-piece-clause-tests : goal.returns-then-within-piece-clause-tests
 returns-then-within-piece-clause-tests g c =
@@ -85,7 +85,7 @@ returns-then-within-piece-clause-tests g c =
     subst (λ (s : SessionView). FeedsWithin s c.args.piece.now c.args.steps.now c.work_on_lines.new.steps) c.self.view_is
     (λ past text states stands listed.
     feeds_within _ past text stands states c.args.steps.now c.work_on_lines.new.steps c.args.piece.now c.front_of-within.result.now c.front_of-within.ensures
-    (rw pushed at c.work_on_lines.ensures.tests (so_far _ past text stands) states (engine_stands _ past text stands c.work_on_lines.ensures.accepted) listed))
+    (rw pushed at c.work_on_lines.ensures.tests (so_far _ past text stands) states (engine_stands _ past text stands c.work_on_lines.ensures.in_order) listed))
 
 pub returns-clause-tests : goal.returns-clause-tests
 returns-clause-tests g c =
@@ -93,4 +93,4 @@ returns-clause-tests g c =
     subst (λ (s : SessionView). FeedsWithin s c.args.piece.now c.args.steps.now c.work_on_lines.new.steps) c.self.view_is
     (λ past text states stands listed.
     feeds_within _ past text stands states c.args.steps.now c.work_on_lines.new.steps c.args.piece.now c.front_of-within.result.now c.front_of-within.ensures
-    (rw pushed at c.work_on_lines.ensures.tests (so_far _ past text stands) states (engine_stands _ past text stands c.work_on_lines.ensures.accepted) listed))
+    (rw pushed at c.work_on_lines.ensures.tests (so_far _ past text stands) states (engine_stands _ past text stands c.work_on_lines.ensures.in_order) listed))

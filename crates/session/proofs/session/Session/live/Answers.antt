@@ -1,6 +1,6 @@
 use Rattle.std.proofs.Common.{ℕ, List, refl, subst}
 use Rattle.semantics.specs.Histories.{Event}
-use Rattle.splitter.specs.Chains.{lines_of, work_order}
+use Rattle.splitter.specs.Chains.{work_order}
 use Rattle.epoch_laws.specs.Standing.{closed_part}
 use Rattle.epoch_engine.specs.Counts.{CountsAlive}
 use Rattle.epoch_engine.specs.Trims.{Trims}
@@ -8,7 +8,7 @@ use Rattle.epoch_engine.specs.EngineView as engine
 use Rattle.session.specs.SessionView.{SessionStandsFor, TrimsEngine, SessionView, WorksFor, program_in}
 use Rattle.session.proofs.CountingLemmas.{alive_counted, stands_still, works_still}
 use Rattle.session.proofs.session.Session.live.Goals as goal
-use Rattle.session.specs.UnbornLines.{unborn_lines}
+use Rattle.birth_laws.specs.BornChains.{born_lines}
 
 -- the session with another engine
 abbrev with_engine : SessionView → engine.EngineView → SessionView
@@ -23,7 +23,7 @@ returns-clause-counted c =
     let e = c.self.inside in
     let old : SessionView = record { catalogue = e.catalogue; engine = e.work.engine; limit = e.limit; feed = e.feed; fed = e.fed; ended = e.ended } in
     let now = c.trim.new.self in
-    subst (λ (s : SessionView). (history : List Event) → WorksFor s history → CountsAlive (unborn_lines (program_in s)) (work_order (program_in s)) (closed_part s.engine.time history) c.live.result) c.self.view_is
+    subst (λ (s : SessionView). (history : List Event) → WorksFor s history → CountsAlive (born_lines (program_in s)) (work_order (program_in s)) (closed_part s.engine.time history) c.live.result) c.self.view_is
     (λ history works. alive_counted old (with_engine old now) (trims_engine old now c.trim.ensures) history works c.live.result c.live.ensures)
 
 -- the engine works for the same events
