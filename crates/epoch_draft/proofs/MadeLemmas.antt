@@ -1,22 +1,22 @@
 -- Lists by the places of their items.
-use Rattle.std.proofs.Common.{◌≡◌, ◌∙◌, sym, ap, refl, subst, ℕ, zero, suc, ◌+◌, ◌<◌, length, get_or, set, take, List, [], ◌∷◌, ◌++◌, map, arith}
+use Rattle.std.proofs.Common.{◌≡◌, ◌∙◌, sym, ap, refl, subst, ℕ, zero, suc, ◌+◌, ◌<◌, length, true, false, cond, get_or, set, take, List, [], ◌∷◌, ◌++◌, map, arith}
 use Rattle.std.specs.Prelude.{Option, Some, option_to_list, slice_get}
 use Rattle.std.specs.List.{All}
 use Rattle.std.specs.List.Sorted.{IsPermutation, IsSorted, IsSortedBy}
 use Rattle.std.specs.Option.{option_cmp}
-use Rattle.std.specs.Ordering.{is_lt}
+use Rattle.std.specs.Ordering.{is_gt, is_lt}
 use Rattle.std.proofs.lemmas.Grind.{flat_map-append}
 use Rattle.std.proofs.lemmas.List.{get_or-set_same, length-append, map-set, take_more}
 use Rattle.std.proofs.lemmas.List.Elements.{All-cons, All-append, All-get_or, All-head, All-nil, All-set, All-tail}
 use Rattle.std.proofs.lemmas.List.Sorted.{All-permutation}
-use Rattle.std.proofs.lemmas.Option.{get_or_from_slice_get, slice_get-get_or}
+use Rattle.std.proofs.lemmas.Option.{get_or_from_slice_get, slice_get-get_or, slice_get_read}
 use Rattle.event_types.specs.Order.{sorted, tuple_cmp}
 use Rattle.event_types.specs.OrderLaws.{tuple_exact, tuple_total}
 use Rattle.event_types.specs.Tuple.{TupleView}
 use Rattle.event_types.proofs.SortLemmas.{sorted_is}
 use Rattle.scalar_expr.proofs.Bags.{flat_map_permuted}
 use Rattle.epoch_draft.specs.Made.{ArePlaced, EndsWith, place_cmp, placed}
-use Rattle.epoch_draft.proofs.Lists.{some_is}
+use Rattle.epoch_draft.proofs.Lists.{all_at, some_is}
 
 module _ {X : Type 0} where
   -- the item at a place that is within
@@ -192,3 +192,32 @@ module _ (tuples : List TupleView) where
       → map (placed tuples) (set lists number new) ≡ set seen number (sorted (get_or seen number []))
   ordered_is lists seen number places new is got in_order =
       map-set (placed tuples) lists number new ∙ ap (λ (xss : List (List TupleView)). set xss number (placed tuples new)) is ∙ ap (λ (xs : List TupleView). set seen number xs) (in_order ∙ ap sorted (sym (seen_at tuples lists seen number places is got)))
+
+  -- the tuples at two places
+  two_placed : (places : List ℕ) (p q : ℕ) (x y : TupleView) → length places ≡ 2 → slice_get places 0 ≡ Some p → slice_get places 1 ≡ Some q → slice_get tuples p ≡ Some x → slice_get tuples q ≡ Some y → placed tuples places ≡ x ∷ y ∷ []
+  two_placed [] p q x y two first second is_x is_y = absurd (omega arith)
+  two_placed (a ∷ []) p q x y two first second is_x is_y = absurd (omega arith)
+  two_placed (a ∷ b ∷ []) p q x y two first second is_x is_y =
+      let at_x = ap (slice_get tuples) (some_is a p first) ∙ is_x in
+      let at_y = ap (slice_get tuples) (some_is b q second) ∙ is_y in
+      ap (λ (o : Option TupleView). option_to_list o ++ (option_to_list (slice_get tuples b) ++ [])) at_x ∙ ap (λ (o : Option TupleView). x ∷ (option_to_list o ++ [])) at_y
+  two_placed (a ∷ b ∷ c ∷ places) p q x y two first second is_x is_y = absurd (omega arith)
+
+  -- they stay where they are in order
+  pub two_stay : (places : List ℕ) (p q : ℕ) (x y : TupleView) → length places ≡ 2 → slice_get places 0 ≡ Some p → slice_get places 1 ≡ Some q → slice_get tuples p ≡ Some x → slice_get tuples q ≡ Some y → is_gt (tuple_cmp x y) ≡ false
+      → placed tuples places ≡ sorted (placed tuples places)
+  two_stay places p q x y two first second is_x is_y up =
+      let now = two_placed places p q x y two first second is_x is_y in now ∙ ap (λ b. cond b (y ∷ x ∷ []) (x ∷ y ∷ [])) (sym up) ∙ ap sorted (sym now)
+
+  -- and else change their places
+  pub two_turn : (places : List ℕ) (p q : ℕ) (x y : TupleView) → length places ≡ 2 → slice_get places 0 ≡ Some p → slice_get places 1 ≡ Some q → slice_get tuples p ≡ Some x → slice_get tuples q ≡ Some y → is_gt (tuple_cmp x y) ≡ true
+      → placed tuples (set (set places 0 q) 1 p) ≡ sorted (placed tuples places)
+  two_turn [] p q x y two first second is_x is_y down = absurd (omega arith)
+  two_turn (a ∷ []) p q x y two first second is_x is_y down = absurd (omega arith)
+  two_turn (a ∷ b ∷ []) p q x y two first second is_x is_y down =
+      two_placed (q ∷ p ∷ []) q p y x refl refl refl is_y is_x ∙ ap (λ t. cond t (y ∷ x ∷ []) (x ∷ y ∷ [])) (sym down) ∙ ap sorted (sym (two_placed (a ∷ b ∷ []) p q x y two first second is_x is_y))
+  two_turn (a ∷ b ∷ c ∷ places) p q x y two first second is_x is_y down = absurd (omega arith)
+
+  -- the tuple that was read at one of the places
+  pub read_at : (places : List ℕ) (k place : ℕ) (item : TupleView) → All (λ place. place < length tuples) places → slice_get places k ≡ Some place → item ≡ get_or tuples place item → slice_get tuples place ≡ Some item
+  read_at places k place item below got read = slice_get_read tuples (length tuples) place item refl (all_at (λ place. place < length tuples) places k place below got) read

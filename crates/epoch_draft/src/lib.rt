@@ -29,6 +29,7 @@ mod marks;
 mod matching;
 mod meeting;
 mod passing;
+mod placing;
 mod purging;
 mod readying;
 mod settling;

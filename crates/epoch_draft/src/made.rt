@@ -1,16 +1,16 @@
 //! The tuples that an epoch brings, by stream.
 //!
 //! Contracts see a `Made` as the list of the streams' lists of tuples.
-ghost use Rattle.std.specs.Prelude.{◌≡◌, ◌<◌, ◌⊎◌, ◌++◌, ◌∷◌, [], Contains, IfOk, OnOk, Some, ℕ, length, map, slice_get, slice_index_or, slice_set, take};
+ghost use Rattle.std.specs.Prelude.{◌≡◌, ◌<◌, ◌⊎◌, ◌++◌, ◌∷◌, [], Contains, IfOk, OnOk, Some, ℕ, length, map, slice_get, slice_index_or, slice_set};
 ghost use Rattle.std.specs.List.{All};
 ghost use Rattle.event_types.specs.Order.{sorted};
 ghost use Rattle.event_types.specs.Tuple.{TupleView};
-ghost use Rattle.epoch_draft.specs.Made.{ArePlaced, EndsWith, place_cmp, placed};
+ghost use Rattle.epoch_draft.specs.Made.{ArePlaced, EndsWith, placed};
 
 use crate::filling::{clear_lists, empty_lists};
+use crate::placing::put_places_in_order;
 use event_types::{List, Memory, Numbers, StreamId, Tuple, Tuples};
 use std::alloc::Global;
-use std::cmp::Ordering;
 use std::marker::Model;
 
 /// Tuples by stream. They stand in one list, and each stream has the places of its own there, so that a tuple that
@@ -151,14 +151,11 @@ impl Made {
         requires { stream < length self.old }
         ensures { OnOk result (self.new ≡ slice_set self.old stream (sorted (slice_index_or self.old stream []))) }
     {
-        let places = self.places.get(stream).as_slice();
+        let places = self.places.get_mut(stream);
         if places.len() < 2 {
             return Ok(());
         }
-        self.sorting.clear();
-        self.sorting.extend_from_slice(places)?;
-        sort_places(&mut self.sorting, self.tuples.as_slice());
-        fill(self.places.get_mut(stream), self.sorting.as_slice())
+        put_places_in_order(places, self.tuples.as_slice(), &mut self.sorting)
     }
 
     /// Takes the tuples of these streams away, which are all that there are, and keeps the room. Takes no memory.
@@ -183,35 +180,4 @@ fn copies(alloc: Global, tuples: &[Tuple], places: &[usize]) -> Result<Vec<Tuple
         copies.push(tuples[*place].copy(alloc)?)?;
     }
     Ok(copies)
-}
-
-// Sorts places by the tuples there. Takes no memory.
-fn sort_places(places: &mut Vec<usize>, tuples: &[Tuple])
-    requires { All (λ place. place < length tuples.now) places.old.items }
-    ensures below { All (λ place. place < length tuples.now) places.new.items }
-    ensures sorted { placed tuples.now places.new.items ≡ sorted (placed tuples.now places.old.items) }
-{
-    places.sort_unstable_by(|one, other| compare(tuples, *one, *other));
-}
-
-// The order of the tuples at two places; a place that has none is before those that have one.
-fn compare(tuples: &[Tuple], one: usize, other: usize) -> Ordering
-    ensures { result ≡ place_cmp tuples.now one other }
-{
-    match (tuples.get(one), tuples.get(other)) {
-        (Some(one), Some(other)) => one.cmp(other),
-        (one, other) => one.is_some().cmp(&other.is_some()),
-    }
-}
-
-// Makes these the numbers of a list, or after want of memory some of them.
-fn fill(list: &mut Numbers, numbers: &[usize]) -> Result<(), Memory>
-    ensures filled { OnOk result (list.new ≡ numbers.now) }
-    ensures part { (count : ℕ) × (list.new ≡ take count numbers.now) }
-{
-    list.clear();
-    for number in numbers {
-        list.add(*number)?;
-    }
-    Ok(())
 }

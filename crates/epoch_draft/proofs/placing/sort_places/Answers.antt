@@ -7,7 +7,7 @@ use Rattle.std.proofs.lemmas.List.Sorted.{ranks_by}
 use Rattle.event_types.specs.OrderLaws.{tuple_total}
 use Rattle.epoch_draft.specs.Made.{place_cmp}
 use Rattle.epoch_draft.proofs.MadeLemmas.{placed_sorted}
-use Rattle.epoch_draft.proofs.made.sort_places.Goals as goal
+use Rattle.epoch_draft.proofs.placing.sort_places.Goals as goal
 
 pub returns-clause-sorted : goal.returns-clause-sorted
 returns-clause-sorted c =

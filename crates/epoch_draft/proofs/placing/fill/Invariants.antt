@@ -1,5 +1,5 @@
 use Rattle.std.proofs.Common.{◌≡◌, take}
-use Rattle.epoch_draft.proofs.made.fill.Given as goal
+use Rattle.epoch_draft.proofs.placing.fill.Given as goal
 
 -- the numbers so far
 abbrev pub invariant-loop-number : goal.invariant-loop-number
