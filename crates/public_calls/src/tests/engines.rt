@@ -3,7 +3,7 @@ ghost use Rattle.std.specs.Prelude.{◌≡◌, ◌<◌};
 
 use crate::tests::offering::{NEWS, Parts, STOCK, catalogue, engine, offer};
 use epoch_engine::{Batch, Engine, OfferFault};
-use event_types::{Memory, StreamId, Tuple, Tuples, Value};
+use event_types::{Memory, StreamId, Tuple, Value};
 use std::alloc::Global;
 use std::process::Abort;
 use std::sync::ledger::Blank;
@@ -73,18 +73,20 @@ fn is_printed(rt: &impl Abort, batch: &Batch, place: usize, rows: &[Row<'_>]) {
         [] => assert_eq!(rt; rows.len(), 0),
         [entry] => {
             assert_eq!(rt; entry.place, place);
-            assert!(rt; entry.stream < printed.made.len());
-            are(rt, printed.made.get(entry.stream), rows);
+            assert!(rt; entry.stream < printed.places.len());
+            let places = printed.places[entry.stream].as_slice();
+            are(rt, printed.tuples, places, rows);
         }
         _ => panic!(rt; "several streams have rows"),
     }
 }
 
-// The tuples are these rows.
-fn are(rt: &impl Abort, tuples: &Tuples, rows: &[Row<'_>]) {
-    assert_eq!(rt; tuples.len(), rows.len());
-    for (tuple, row) in tuples.as_slice().iter().zip(rows) {
-        is_row(rt, tuple, *row);
+// The tuples at these places are these rows.
+fn are(rt: &impl Abort, tuples: &[Tuple], places: &[usize], rows: &[Row<'_>]) {
+    assert_eq!(rt; places.len(), rows.len());
+    for (place, row) in places.iter().zip(rows) {
+        assert!(rt; *place < tuples.len());
+        is_row(rt, &tuples[*place], *row);
     }
 }
 
