@@ -2,12 +2,12 @@
 use Rattle.std.proofs.Common.{◌≡◌, ◌∙◌, sym, ap, refl, subst, ℕ, ◌+◌, ◌==◌, ◌<◌, ◌≤◌, zero, suc, zero-add, Bool, true, false, cond, List, [], ◌∷◌, ◌++◌, map, get_or, length, take, append_assoc, append-nil, Option, Some, slice_get, arith, inl, inr}
 use Rattle.std.specs.Prelude.{⊤, AllPairs}
 use Rattle.std.specs.List.{All, flat_map, range_with_len}
-use Rattle.std.specs.Option.{option_map}
+use Rattle.std.specs.Option.{option_map, option_to_list}
 use Rattle.std.proofs.lemmas.Bool.Decides.{nat_tests}
 use Rattle.std.proofs.lemmas.Grind.{flat_map-append}
 use Rattle.std.proofs.Math.Seq.{get_or-append_seam}
 use Rattle.std.proofs.lemmas.Bool.{cases_lt}
-use Rattle.std.proofs.lemmas.Option.{get_or_from_slice_get, slice_get-map, slice_get_read, slice_get_within}
+use Rattle.std.proofs.lemmas.Option.{get_or_from_slice_get, slice_get-get_or, slice_get-map, slice_get_read, slice_get_within}
 use Rattle.std.proofs.lemmas.List.{get_or-map, get_or_append_left, length-append, length-map, take_more}
 use Rattle.std.proofs.lemmas.List.Elements.{All-get_or, All-head, All-tail}
 use Rattle.std.proofs.lemmas.List.FromFn.{get_or-range_with_len, length-map-range_with_len, length-range_with_len}
@@ -22,6 +22,7 @@ use Rattle.catalogue.specs.Catalogued.{Catalogued, query_in}
 use Rattle.catalogue.specs.Standing.{StandsInOrder}
 use Rattle.epoch_engine.specs.Entries.{AreEntriesOf, places_in, tuples_at, tuples_in}
 use Rattle.epoch_engine.specs.declared.entry.Entry.{Entry}
+use Rattle.epoch_draft.specs.Made.{placed}
 use Rattle.session.proofs.NamesLemmas.{named_by_stream}
 use Rattle.session.specs.BatchLines.{batch_lines}
 use Rattle.session.specs.EngineStandsWithLastOpen.{AreFronts, program_over}
@@ -127,6 +128,35 @@ place_below bound entries i entry lt at below =
 number_at : (many number : ℕ) → number < many → slice_get (range_with_len 0 many) number ≡ Some number
 number_at many number less =
     slice_get_read (range_with_len 0 many) many number number (sym (length-range_with_len 0 many)) less (sym (get_or-range_with_len 0 many number number less ∙ zero-add number))
+
+-- the lines of one tuple more, which stands at the next place
+pub placed_more : (tuples : List TupleView) (places : List ℕ) (i place : ℕ) (old now new name : List ℕ) → i < length places → get_or places i 0 ≡ place → All (λ p. p < length tuples) places
+    → ((tuple : TupleView) → slice_get tuples place ≡ Some tuple → new ≡ now ++ line name tuple)
+    → now ≡ old ++ flat_map (line name) (placed tuples (take i places)) → new ≡ old ++ flat_map (line name) (placed tuples (take (i + 1) places))
+placed_more tuples places i place old now new name lt at below put was =
+    put tuple found ∙ ap (λ rows. rows ++ line name tuple) was ∙ append_assoc old (flat_map (line name) before) (line name tuple)
+    ∙ ap (λ rows. old ++ (flat_map (line name) before ++ rows)) (sym (append-nil (line name tuple)))
+    ∙ ap (λ rows. old ++ rows) (sym (flat_map-append (line name) before (tuple ∷ [])))
+    ∙ ap (λ (ts : List TupleView). old ++ flat_map (line name) ts) (sym more)
+  where
+    before : List TupleView
+    before = placed tuples (take i places)
+
+    none : TupleView
+    none = record { vals = []; from = 0; at = 0 }
+
+    tuple : TupleView
+    tuple = get_or tuples place none
+
+    found : slice_get tuples place ≡ Some tuple
+    found = slice_get-get_or tuples place none (subst (λ p. p < length tuples) at (All-get_or (λ p. p < length tuples) places i 0 lt below))
+
+    one : placed tuples (place ∷ []) ≡ tuple ∷ []
+    one = ap (λ (o : Option TupleView). option_to_list o ++ []) found
+
+    more : placed tuples (take (i + 1) places) ≡ before ++ tuple ∷ []
+    more = ap (placed tuples) (take_more places i 0 lt ∙ ap (λ p. take i places ++ p ∷ []) at)
+        ∙ flat_map-append (λ p. option_to_list (slice_get tuples p)) (take i places) (place ∷ []) ∙ ap (λ (ts : List TupleView). before ++ ts) one
 
 module _ (c : Catalogued) where
   -- there are as many queries in the program as numbers of queries

@@ -1,8 +1,13 @@
 //! The rows of closed epochs, on their way to the output.
-ghost use Rattle.std.specs.Prelude.{◌≡◌, ◌≤◌, ◌++◌, [], ℕ, List, length, OnOk, OnErr};
+ghost use Rattle.std.specs.Prelude.{◌≡◌, ◌<◌, ◌≤◌, ◌++◌, [], ℕ, List, length, OnOk, OnErr};
+ghost use Rattle.std.specs.List.{All, flat_map};
 ghost use Rattle.cay_host.specs.Faults.{Rose};
 ghost use Rattle.cay_host.specs.Output.{Wrote, WrotePart, SameButOutput};
 ghost use Rattle.catalogue.specs.Standing.{StandsInOrder};
+ghost use Rattle.semantics.specs.Report.{line};
+ghost use Rattle.epoch_draft.specs.Made.{placed};
+ghost use Rattle.result_text.specs.Front.{front_of};
+ghost use Rattle.result_text.specs.Tails.{AreIn};
 ghost use Rattle.session.specs.BatchLines.{batch_lines};
 ghost use Rattle.session.specs.EngineStandsWithLastOpen.{AreFronts, program_over};
 ghost use Rattle.session.specs.Owes.{Owes};
@@ -10,22 +15,27 @@ ghost use Rattle.session.specs.Owes.{Owes};
 use catalogue::Catalogue;
 use cay_host::{Failed, Host, write_whole};
 use epoch_engine::Batch;
-use event_types::Memory;
+use event_types::{Memory, Tuple};
 use result_text::{Front, Fronts, Lately, Rows, Tails};
 use std::alloc::Global;
 
 /// Rows are written once there are so many bytes of them.
 const FULL: usize = 65536;
 
-// Makes the fronts of the queries that have none yet.
-fn make_fronts(alloc: Global, catalogue: &Catalogue, fronts: &mut Fronts) -> Result<(), Memory>
-    requires { AreFronts catalogue.now fronts.old }
+// Makes the fronts of the first so many queries that have none yet.
+fn make_fronts(
+    alloc: Global,
+    catalogue: &Catalogue,
+    queries: usize,
+    fronts: &mut Fronts,
+) -> Result<(), Memory>
+    requires within { queries ≤ length catalogue.now.order }
+    requires fronts { AreFronts catalogue.now fronts.old }
     ensures fronts { OnOk result (AreFronts catalogue.now fronts.new) }
-    ensures all { OnOk result (length catalogue.now.order ≤ length fronts.new) }
-    ensures in_order { StandsInOrder catalogue.now }
+    ensures all { OnOk result (queries ≤ length fronts.new) }
 {
     let streams = catalogue.streams();
-    'queries: while fronts.len() < catalogue.queries() {
+    'queries: while fronts.len() < queries {
         let query = fronts.len();
         let stream = catalogue.stream_of(query);
         let front = Front::of(alloc, streams.name(stream))?;
@@ -36,8 +46,8 @@ fn make_fronts(alloc: Global, catalogue: &Catalogue, fronts: &mut Fronts) -> Res
     Ok(())
 }
 
-/// Appends the result lines of each query's tuples, behind fronts that are made where there are none yet. Out of line,
-/// so that its loop stands alone.
+/// Appends the result lines of each query's tuples, behind fronts that are made where there are none yet. Where the
+/// batch has no entry, nothing is made. Out of line, so that its loop stands alone.
 #[inline(never)]
 pub fn put_batch(
     alloc: Global,
@@ -53,14 +63,39 @@ pub fn put_batch(
     ensures fronts { OnOk result (AreFronts catalogue.now fronts.new) }
     ensures in_order { StandsInOrder catalogue.now }
 {
-    make_fronts(alloc, catalogue, fronts)?;
+    let queries = catalogue.queries();
+    let printed = batch.printed();
+    if printed.entries.is_empty() {
+        return Ok(());
+    }
+    make_fronts(alloc, catalogue, queries, fronts)?;
     tails.clear_if_full();
     let mut lately = Lately::none();
-    let printed = batch.printed();
     for entry in printed.entries {
         let front = fronts.get(entry.place);
-        let tuples = printed.made.get(entry.stream).as_slice();
-        rows.append(front, tuples, tails, &mut lately)?;
+        let places = printed.places[entry.stream].as_slice();
+        put_places(front, printed.tuples, places, rows, tails, &mut lately)?;
+    }
+    Ok(())
+}
+
+// Appends the result lines of the tuples at these places, behind a front.
+#[inline(always)]
+fn put_places(
+    front: &Front,
+    tuples: &[Tuple],
+    places: &[usize],
+    rows: &mut Rows,
+    tails: &mut Tails,
+    lately: &mut Lately,
+) -> Result<(), Memory>
+    requires below { All (λ place. place < length tuples.now) places.now }
+    requires lately { AreIn tails.old tuples.now lately.old }
+    ensures put { OnOk result ((name : List ℕ) → front.now ≡ front_of name → rows.new ≡ rows.old ++ flat_map (line name) (placed tuples.now places.now)) }
+    ensures lately { OnOk result (AreIn tails.new tuples.now lately.new) }
+{
+    for place in places {
+        rows.append(front, tuples, *place, tails, lately)?;
     }
     Ok(())
 }

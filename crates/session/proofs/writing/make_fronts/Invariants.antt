@@ -8,4 +8,4 @@ invariant-queries l = AreFronts l.catalogue l.fronts
 
 -- the queries that have none yet
 abbrev pub decreases-queries : goal.decreases-queries
-decreases-queries l = length l.catalogue.order - length l.fronts
+decreases-queries l = l.queries - length l.fronts
