@@ -84,6 +84,9 @@ fn go_all<L: Ledger>(
     ensures grows { OnOk result (Grows network.now (moves_on (flat_map (way_of network.now) targets.now) (begins tuple.now)) draft.old draft.new) }
     ensures ticks { steps.new ≤ steps.old + ways_work network.now (flat_map (way_of network.now) targets.now) }
 {
+    if targets.is_empty() {
+        return Ok(());
+    }
     if targets.len() < 2 {
         return go_each(network, draft, targets, tuple, steps);
     }

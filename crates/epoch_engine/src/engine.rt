@@ -154,6 +154,7 @@ impl Engine {
 
     /// Closes the open epoch, and gives its results. Want of memory leaves the engine as it was: the epoch is
     /// open still, and may be closed again.
+    #[inline(always)]
     pub fn close<L: Ledger>(&mut self, alloc: Global, steps: &mut Steps<L>) -> Result<Batch, Memory>
         requires opened { IsSome self.old.time }
         ensures closed { IfOk result (λ batch. Closes self.old self.new batch) }
