@@ -34,3 +34,4 @@ pub mod TypingLaws
 pub mod VerdictLemmas
 pub mod WideLemmas
 pub mod WorkLemmas
+pub mod HoldingLemmas

@@ -21,3 +21,4 @@ pub mod Changes
 pub mod Standing
 pub mod Loaded
 pub mod Adding
+pub mod Holding

@@ -1,6 +1,7 @@
 //! Laws of the passes. The functions do nothing: their contracts say what follows from the definitions.
 ghost use Rattle.catalogue.specs.Adding.{OneAddedVerdict, SomeAddedVerdict};
 ghost use Rattle.catalogue.specs.Changes.{ProgramsKeepKinds, ProgramsLoseQueries, ProgramsTakeQueries};
+ghost use Rattle.catalogue.specs.Holding.{LoadedAreAccepted};
 ghost use Rattle.catalogue.specs.Laws.{FileOrFault, OneCycleOfNames, OneFile, OneFileFault, OneNameFault, OrderOrCycle, SoundOrFault};
 ghost use Rattle.catalogue.specs.Programs.{AcceptedArePrograms, AcceptedAreWidePrograms, AllAreWorkedOn, DeclaredAreTold, DeclaredComeFirst, NumbersAreQueries, QueriesHaveTheirNames, StreamsHaveTheirNames, WorkIsInOrder};
 ghost use Rattle.catalogue.specs.Verdicts.{DeclaredOrFault, OneDeclaration, OneDeclareFault, OnePublication, OnePublishFault, OneVerdict, PublishedOrFault, SomeVerdict};
@@ -43,6 +44,11 @@ pub fn text_has_one_verdict()
 /// Each text is accepted or refused so.
 pub fn text_has_some_verdict()
     ensures { SomeVerdict }
+{}
+
+/// A text from which a catalogue was loaded is accepted as what the catalogue holds, by its parts.
+pub fn loaded_texts_are_accepted()
+    ensures { LoadedAreAccepted }
 {}
 
 /// An accepted text is a program over the kinds of its streams.

@@ -22,8 +22,9 @@ pub use accepted::Catalogue;
 pub use fault::{LoadFault, QueryFault};
 pub use laws::{
     accepted_texts_are_programs, accepted_texts_are_wide_programs, added_text_has_one_verdict,
-    declarations_have_one_answer, declared_streams_come_first, names_are_those_of_statements,
-    names_have_one_answer, queries_come_and_leave, queries_have_one_answer, text_has_one_verdict,
-    text_has_some_verdict, text_is_one_file, work_is_in_order,
+    declarations_have_one_answer, declared_streams_come_first, loaded_texts_are_accepted,
+    names_are_those_of_statements, names_have_one_answer, queries_come_and_leave,
+    queries_have_one_answer, text_has_one_verdict, text_has_some_verdict, text_is_one_file,
+    work_is_in_order,
 };
 pub use loading::load;
