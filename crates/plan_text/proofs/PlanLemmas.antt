@@ -1,25 +1,24 @@
 -- The queries of a catalogue as it was loaded, each with what it publishes and reads.
 use Rattle.std.proofs.Common.{◌≡◌, ◌∙◌, ℕ, zero, suc, ◌+◌, ◌-◌, ◌<◌, ◌≤◌, List, [], ◌∷◌, ◌++◌, inl, inr, length, map, get_or, ap, sym, subst, arith}
-use Rattle.std.specs.Prelude.{◌==◌, Contains, None, Some, option_map, slice_get, slice_index_or}
-use Rattle.std.specs.List.{position_or_len}
+use Rattle.std.specs.Prelude.{Contains, Some, option_map, slice_get}
 use Rattle.std.proofs.lemmas.Bool.{cases_lt}
 use Rattle.std.proofs.lemmas.List.{get_or-append-add, length-append, length-map, map-append}
 use Rattle.std.proofs.lemmas.List.Elements.{Contains-get_or}
 use Rattle.std.proofs.lemmas.List.FromFn.{get_or-map-range_with_len, length-map-range_with_len}
 use Rattle.std.proofs.lemmas.Option.{get_or_from_slice_get, slice_get-get_or, slice_get-map}
-use Rattle.semantics.specs.Expressions.{Read}
 use Rattle.stream_schema.specs.Schema.{Attr}
 use Rattle.stream_schema.specs.Streams.{Entry, IsRetired, hidden_entries, hidden_entry, schemas_of, stream_names}
 use Rattle.cel_grammar.specs.Views.{statement_of}
 use Rattle.cel_grammar.specs.Trees.{Statement}
 use Rattle.catalogue.specs.Catalogued.{Catalogued, query_in}
+use Rattle.catalogue.specs.Holding.{IsAsLoaded, judged_in}
 use Rattle.catalogue.specs.Judgement.{Judged, query_at}
-use Rattle.catalogue.specs.Loaded.{HoldsJudged}
 use Rattle.catalogue.specs.Standing.{StandsInOrder}
 use Rattle.catalogue.specs.Statements.{queries_in, reads_by}
 use Rattle.catalogue.proofs.CountLemmas.{query_count}
+use Rattle.catalogue.proofs.HoldingLemmas.{loaded_holds}
 use Rattle.catalogue.proofs.PlaceLemmas.{slice_get-within}
-use Rattle.plan_text.specs.Plan.{IsLoaded, plan_line, plan_line_at}
+use Rattle.plan_text.specs.Plan.{plan_line, plan_line_at}
 use Rattle.plan_text.specs.Reads.{once, reads_once}
 
 -- the numbers in the order of work are those of queries
@@ -29,7 +28,7 @@ order-within c stands place query there =
     (stands.numbered.all query).0 (subst (λ (n : ℕ). Contains c.order n) (get_or_from_slice_get c.order place query query there) contained)
 
 -- it is known of each query what it reads
-pub reads_once-within : (c : Catalogued) → IsLoaded c → (query : ℕ) → query < length c.order → query < length (reads_once (map statement_of c.file.statements))
+pub reads_once-within : (c : Catalogued) → IsAsLoaded c → (query : ℕ) → query < length c.order → query < length (reads_once (map statement_of c.file.statements))
 reads_once-within c known query within =
     let holds = known.loaded.holds in
     let statements = known.loaded.judged.statements in
@@ -82,22 +81,20 @@ plan_line-at judged query stream name schema reads published named typed read =
     ∙ ap (λ (r : List (List ℕ)). plan_line (get_or names stream []) (get_or schemas stream []) r) (sym (get_or_from_slice_get all_reads query reads [] read))
     ∙ ap (λ (s : ℕ). plan_line (get_or names s []) (get_or schemas s []) (get_or all_reads query [])) published
 
-module _ (c : Catalogued) (judged : Judged) (holds : HoldsJudged judged c) where
-  -- a query of the catalogue is the judged one
-  query-same : (query : ℕ) → query_in c query ≡ query_at judged query
-  query-same query = λ i. slice_index_or ((holds.program i).order) (position_or_len (λ other. query == other) (holds.order i)) (record { name = []; stream = 0; hidden = 0; expr = Read 0; birth = None })
-
-  -- so is its line, by what the catalogue tells of its stream
-  pub line-held : (many : ℕ) → c.streams ≡ judged.streams ++ hidden_entries (length judged.streams) many → (query stream : ℕ) (name : List ℕ) (schema : List Attr) (reads : List (List ℕ))
+module _ (c : Catalogued) (known : IsAsLoaded c) where
+  -- the line of a query, by what the catalogue tells of its stream
+  pub line-held : (query stream : ℕ) (name : List ℕ) (schema : List Attr) (reads : List (List ℕ))
       → stream ≡ (query_in c query).stream → stream < length c.streams → (IsRetired c.streams stream → ⊥)
       → slice_get (stream_names c.streams) stream ≡ Some name
       → slice_get (schemas_of c.streams) stream ≡ Some schema
       → slice_get (reads_once (map statement_of c.file.statements)) query ≡ Some reads
-      → plan_line name schema reads ≡ plan_line_at judged query
-  line-held many streams query stream name schema reads published within there named typed read =
-      let hidden = hidden_entries (length judged.streams) many in
-      let before = not-hidden judged.streams c.streams many stream streams within there in
-      plan_line-at judged query stream name schema reads (published ∙ ap (λ q. q.stream) (query-same query))
-      (map-left (λ (s : Entry). s.name) judged.streams hidden stream name before (subst (λ (all : List Entry). slice_get (stream_names all) stream ≡ Some name) streams named))
-      (map-left (λ (s : Entry). s.schema) judged.streams hidden stream schema before (subst (λ (all : List Entry). slice_get (schemas_of all) stream ≡ Some schema) streams typed))
-      (subst (λ (ss : List Statement). slice_get (reads_once ss) query ≡ Some reads) holds.statements read)
+      → plan_line name schema reads ≡ plan_line_at (judged_in c) query
+  line-held query stream name schema reads published within there named typed read =
+      let holds = loaded_holds known.text c known.loaded in
+      let streams = (judged_in c).streams in
+      let hidden = hidden_entries (length streams) _ in
+      let before = not-hidden streams c.streams _ stream holds.streams within there in
+      plan_line-at (judged_in c) query stream name schema reads published
+      (map-left (λ (s : Entry). s.name) streams hidden stream name before (subst (λ (all : List Entry). slice_get (stream_names all) stream ≡ Some name) holds.streams named))
+      (map-left (λ (s : Entry). s.schema) streams hidden stream schema before (subst (λ (all : List Entry). slice_get (schemas_of all) stream ≡ Some schema) holds.streams typed))
+      read

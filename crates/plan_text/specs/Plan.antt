@@ -1,11 +1,9 @@
 -- The plan of an accepted query text.
-use Rattle.std.specs.Prelude.{◌≡◌, ℕ, List, [], ◌++◌, codes, slice_index_or}
+use Rattle.std.specs.Prelude.{ℕ, List, [], ◌++◌, codes, slice_index_or}
 use Rattle.std.specs.List.{flat_map}
 use Rattle.stream_schema.specs.Schema.{Attr}
 use Rattle.stream_schema.specs.Streams.{schemas_of, stream_names}
-use Rattle.catalogue.specs.Catalogued.{Catalogued}
 use Rattle.catalogue.specs.Judgement.{Judged, query_at}
-use Rattle.catalogue.specs.Loaded.{HoldsJudged, IsLoadedFrom}
 use Rattle.plan_text.specs.Reads.{reads_once}
 use Rattle.plan_text.specs.Texts.{listed, schema_text}
 
@@ -22,12 +20,3 @@ plan_line_at judged number =
 -- the plan: the lines of the queries in the order of work
 abbrev pub plan_of : Judged → List ℕ
 plan_of judged = flat_map (plan_line_at judged) judged.order
-
--- the catalogue is as it was loaded from some text
-pub record IsLoaded (c : Catalogued) : Type 0 where
-  pub text : List ℕ
-  pub loaded : IsLoadedFrom text c
-
--- the text is the plan of whatever the catalogue holds as judged
-abbrev pub IsPlanOf : Catalogued → List ℕ → Type 0
-IsPlanOf c text = (judged : Judged) → HoldsJudged judged c → text ≡ plan_of judged

@@ -1,8 +1,7 @@
 //! The text of a plan.
-ghost use Rattle.std.specs.Prelude.{◌≡◌, ◌<◌, IfOk, OnOk, length, map, string_bytes};
-ghost use Rattle.cel_grammar.specs.Views.{statement_of};
-ghost use Rattle.plan_text.specs.Parts.{GoesOnByLine};
-ghost use Rattle.plan_text.specs.Plan.{IsLoaded, IsPlanOf};
+ghost use Rattle.std.specs.Prelude.{◌≡◌, ◌<◌, ◌++◌, IfOk, OnOk, length, string_bytes};
+ghost use Rattle.catalogue.specs.Holding.{IsAsLoaded, judged_in};
+ghost use Rattle.plan_text.specs.Plan.{plan_line_at, plan_of};
 ghost use Rattle.plan_text.specs.Reads.{reads_once};
 
 use crate::lines::append_line;
@@ -14,8 +13,8 @@ use std::alloc::Global;
 /// The plan of the queries: for each one, in the order of work, a line with the name and the schema of
 /// the stream that it publishes and the names that it reads, as `Cheap (Name TEXT, Price INT) <- Stock`.
 pub fn plan(alloc: Global, catalogue: &Catalogue) -> Result<Text, Memory>
-    requires { IsLoaded catalogue.now }
-    ensures { IfOk result (IsPlanOf catalogue.now) }
+    requires { IsAsLoaded catalogue.now }
+    ensures { IfOk result (λ text. text ≡ plan_of (judged_in catalogue.now)) }
 {
     let reads = reads_in(alloc, catalogue.file())?;
     let order = catalogue.order();
@@ -33,10 +32,10 @@ fn append_query(
     reads: &List<Names>,
     query: usize,
 ) -> Result<(), Memory>
+    requires loaded { IsAsLoaded catalogue.now }
     requires within { query < length catalogue.now.order }
-    requires loaded { IsLoaded catalogue.now }
-    requires reads { reads.now ≡ reads_once (map statement_of catalogue.now.file.statements) }
-    ensures { OnOk result (GoesOnByLine catalogue.now query (string_bytes text.old) (string_bytes text.new)) }
+    requires reads { reads.now ≡ reads_once (judged_in catalogue.now).statements }
+    ensures { OnOk result (string_bytes text.new ≡ string_bytes text.old ++ plan_line_at (judged_in catalogue.now) query) }
 {
     let stream = catalogue.stream_of(query);
     let streams = catalogue.streams();

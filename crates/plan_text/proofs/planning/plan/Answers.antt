@@ -1,9 +1,7 @@
-use Rattle.std.proofs.Common.{◌≡◌, ◌∙◌, ◌++◌, ℕ, List, add-one, ap, arith, length, subst, sym}
+use Rattle.std.proofs.Common.{◌≡◌, ◌∙◌, ◌++◌, ℕ, List, add-one, ap, subst, sym}
 use Rattle.std.specs.Prelude.{Some, slice_get}
-use Rattle.std.specs.List.{flat_map}
-use Rattle.std.proofs.lemmas.List.{take_all}
-use Rattle.std.proofs.lemmas.Result.{IfOk-weaker}
-use Rattle.plan_text.specs.Plan.{IsPlanOf, plan_line_at}
+use Rattle.catalogue.specs.Holding.{judged_in}
+use Rattle.plan_text.specs.Plan.{plan_line_at}
 use Rattle.plan_text.proofs.ListedLemmas.{flat_map-take}
 use Rattle.plan_text.proofs.PlanLemmas.{order-within}
 use Rattle.plan_text.proofs.planning.plan.Goals as goal
@@ -16,19 +14,10 @@ append_query-requires-clause-within c =
 
 -- the line of one more query was put behind the text
 pub loop-place-preserved : goal.loop-place-preserved
-loop-place-preserved c judged holds =
-    let there = subst (λ (order : List ℕ). slice_get order c.loop-place.place ≡ Some c.get.result.now) (c.order-order.ensures.value ∙ holds.order) c.get.ensures in
+loop-place-preserved c =
+    let judged = judged_in c.args.catalogue.now in
+    let there = subst (λ (order : List ℕ). slice_get order c.loop-place.place ≡ Some c.get.result.now) c.order-order.ensures.value c.get.ensures in
     let more = flat_map-take (plan_line_at judged) judged.order c.loop-place.place c.get.result.now there in
-    c.in_ok-append_query.ensures judged holds
-    ∙ ap (λ (bytes : List ℕ). bytes ++ plan_line_at judged c.get.result.now) (c.loop-place.invariant judged holds)
+    c.in_ok-append_query.ensures
+    ∙ ap (λ (bytes : List ℕ). bytes ++ plan_line_at judged c.get.result.now) c.loop-place.invariant
     ∙ rw add-one (sym more)
-
--- all lines were
-pub returns : goal.returns
-returns c =
-    IfOk-weaker c.make.result _ (IsPlanOf c.args.catalogue.now)
-    (λ text is judged holds.
-    let order : c.order-order.result.now ≡ judged.order = c.order-order.ensures.value ∙ holds.order in
-    let all = take_all c.loop-place.place judged.order (omega (arith, c.loop-place-test.false, c.len-place-end.ensures, ap length order)) in
-    is ∙ c.as_str.ensures.value ∙ c.loop-place.invariant judged holds ∙ ap (flat_map (plan_line_at judged)) all)
-    c.make.ensures
