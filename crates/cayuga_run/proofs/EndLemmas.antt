@@ -8,6 +8,7 @@ use Rattle.cay_host.specs.Output.{KeepsOutput, SameButOutput, Wrote, WrotePart}
 use Rattle.cay_host.specs.Told.{Told}
 use Rattle.cay_host.proofs.OutputLemmas.{Wrote-append, Wrote-nil}
 use Rattle.semantics.specs.Histories.{Event}
+use Rattle.semantics.specs.Programs.{Program}
 use Rattle.semantics.specs.Report.{report}
 use Rattle.catalogue.specs.Judgement.{Judged, program_of}
 use Rattle.session.specs.declared.refusal.Refusal.TheVariants.{HasFault, IsOutOfOrder}
@@ -30,12 +31,12 @@ pub closed_is_heard : (lines : List Reading) → refused lines ≡ None → clos
 closed_is_heard lines e = ap (λ o. cond (true && is_none o) (heard lines) (before_last (heard lines))) e
 
 -- nothing comes behind the report where no stats are asked for
-nothing_behind : (stats : Bool) (judged : Judged) (history : List Event) → stats ≡ false → ComesBehind stats judged history []
+nothing_behind : (stats : Bool) (program : Program) (history : List Event) → stats ≡ false → ComesBehind stats program history []
 nothing_behind false judged history plain = refl
 nothing_behind true judged history plain = absurd cc
 
 -- a stats line comes behind it where they are
-line_behind : (stats : Bool) {judged : Judged} {history : List Event} {line : List ℕ} → stats ≡ true → ComesBehind true judged history line → ComesBehind stats judged history line
+line_behind : (stats : Bool) {program : Program} {history : List Event} {line : List ℕ} → stats ≡ true → ComesBehind true program history line → ComesBehind stats program history line
 line_behind true asked behind = behind
 line_behind false asked behind = absurd cc
 
@@ -71,19 +72,19 @@ module _ {run : Run} {limit : ℕ} {judged : Judged} {old mid heard new : Told} 
   whole_file rest e = sym (ap (λ k. bytes ++ k) (at_end (new.left Events) rest none_left e) ∙ append-nil bytes)
 
   -- this was written behind the report
-  done_after : (more : List ℕ) → ComesBehind run.stats judged (heard_in judged bytes) more → Wrote more heard new → IsDone run limit old new
+  done_after : (more : List ℕ) → ComesBehind run.stats (program_of judged) (heard_in judged bytes) more → Wrote more heard new → IsDone run limit old new
   done_after more behind wrote = record {
     there = r.there;
     text = of_both _ _ (new.left Events) judged bytes
-        (λ c e. (length e ≤ limit) × (refused_in c e true ≡ None) × ((more : List ℕ) × ComesBehind run.stats c (heard_in c e) more × Wrote (report_of_heard c e true ++ more) old new)) r.accept (sym r.events ∙ all_taken)
+        (λ c e. (length e ≤ limit) × (refused_in c e true ≡ None) × ((more : List ℕ) × ComesBehind run.stats (program_of c) (heard_in c e) more × Wrote (report_of_heard c e true ++ more) old new)) r.accept (sym r.events ∙ all_taken)
         (λ rest e.
-        subst (λ t. (length t ≤ limit) × (refused_in judged t true ≡ None) × ((more : List ℕ) × ComesBehind run.stats judged (heard_in judged t) more × Wrote (report_of_heard judged t true ++ more) old new)) (whole_file rest e)
+        subst (λ t. (length t ≤ limit) × (refused_in judged t true ≡ None) × ((more : List ℕ) × ComesBehind run.stats (program_of judged) (heard_in judged t) more × Wrote (report_of_heard judged t true ++ more) old new)) (whole_file rest e)
         (within, none_refused, (more, behind, Wrote-append reported wrote)));
     ended = none_left;
   }
 
   -- a write of the stats line failed
-  stats_fault_after : run.stats ≡ true → HearsAlone mid new → Rose old.write_faults new.write_faults → WritesStats WrotePart judged (heard_in judged bytes) heard new → IsWriteFault run limit old new
+  stats_fault_after : run.stats ≡ true → HearsAlone mid new → Rose old.write_faults new.write_faults → WritesStats WrotePart (program_of judged) (heard_in judged bytes) heard new → IsWriteFault run limit old new
   stats_fault_after asked alone rose w = record {
     cause = rose;
     there = r.there;
@@ -121,7 +122,7 @@ module _ {run : Run} {limit : ℕ} {judged : Judged} {old mid heard new : Told} 
 
 -- the outcome where the stats line was to be written
 pub run_tells : (run : Run) (limit : ℕ) (judged : Judged) (old mid heard new : Told) (bytes : List ℕ) (status : Status) → IsRunReady run judged old mid → HearsUpTo judged limit bytes true None mid heard → HearsAlone mid heard
-    → heard.write_faults ≡ mid.write_faults → run.stats ≡ true → SameButOutput heard new → StatsOutcome judged (heard_in judged bytes) heard new status → RunOutcome run limit old new status
+    → heard.write_faults ≡ mid.write_faults → run.stats ≡ true → SameButOutput heard new → StatsOutcome (program_of judged) (heard_in judged bytes) heard new status → RunOutcome run limit old new status
 run_tells run limit judged old mid heard new bytes Done r h alone quiet asked same w =
     done_after r h same _ (line_behind run.stats asked (w.stats, w.are, refl)) w.wrote
 run_tells run limit judged old mid heard new bytes WriteFault r h alone quiet asked same w =
@@ -140,7 +141,7 @@ run_tells run limit judged old mid heard new bytes (TooMuch most) r h alone quie
 -- the outcome where none was to be written, by the status
 pub run_hears : (run : Run) (limit : ℕ) (judged : Judged) (session : SessionView) (old mid new : Told) (status : Status) → IsRunReady run judged old mid → Hears judged limit session mid new status → HearsAlone mid new
     → (status ≡ Done → run.stats ≡ false) → RunOutcome run limit old new status
-run_hears run limit judged session old mid new Done r h alone plain = done_after r h.heard (same_told new) [] (nothing_behind run.stats judged (heard_in judged h.bytes) (plain refl)) (Wrote-nil new)
+run_hears run limit judged session old mid new Done r h alone plain = done_after r h.heard (same_told new) [] (nothing_behind run.stats (program_of judged) (heard_in judged h.bytes) (plain refl)) (Wrote-nil new)
 run_hears run limit judged session old mid new Usage r h alone plain = h
 run_hears run limit judged session old mid new (BadQuery line why) r h alone plain = absurd h
 run_hears run limit judged session old mid new (Cycle names) r h alone plain = absurd h

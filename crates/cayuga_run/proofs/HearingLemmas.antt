@@ -11,7 +11,6 @@ use Rattle.cay_host.proofs.OutputLemmas.{Wrote-nil}
 use Rattle.semantics.specs.Report.{report}
 use Rattle.event_csv.specs.Lines.{Line, lines, lines_from}
 use Rattle.event_csv.proofs.LineFacts.{strip_bom-short}
-use Rattle.catalogue.specs.Catalogued.{judged_of}
 use Rattle.catalogue.specs.Judgement.{Judged, program_of}
 use Rattle.session.specs.declared.fault.SessionFault.{SessionFault}
 use Rattle.session.specs.declared.fault.SessionFault.TheVariants as fault
@@ -25,6 +24,7 @@ use Rattle.session.specs.SessionView.{HasFinished, KeepsQueries, SessionStandsFo
 use Rattle.cayuga_run.specs.declared.status.Status.TheVariants.{Done, ReadFault}
 use Rattle.cayuga_run.specs.Blaming.{BlamesHost}
 use Rattle.cayuga_run.specs.HearingOutcome.{Hears, HearsAlone, HearsUpTo, TakesEvents, status_of}
+use Rattle.cayuga_run.specs.Listening.{Listening, listening_of, listening_over, refused_by, reported_by}
 use Rattle.cayuga_run.specs.Reports.{refused_in, report_of_closed}
 use Rattle.cayuga_run.specs.StoppedWriting.{StoppedWriting}
 use Rattle.cayuga_run.proofs.BlamingLemmas.{SameFaults, blames_none}
@@ -45,7 +45,7 @@ pub record HasHeard (judged : Judged) (limit taken : ℕ) (session : SessionView
   pub bytes : List ℕ
   pub counted : length bytes ≡ taken
   pub stands : SessionStandsFor session [] bytes
-  pub queries : judged_of session.catalogue ≡ judged
+  pub queries : listening_over session.catalogue ≡ listening_of judged
   pub most : session.limit ≡ limit
   pub front : old.left Events ≡ prepend_known bytes (now.left Events)
   pub wrote : Wrote (report_of_closed judged bytes false) old now
@@ -55,7 +55,7 @@ pub record HasHeard (judged : Judged) (limit taken : ℕ) (session : SessionView
 -- one more piece was read than was heard
 pub record HasTaken (judged : Judged) (limit : ℕ) (bytes piece : List ℕ) (session : SessionView) (old now : Told) : Type 0 where
   pub stands : SessionStandsFor session [] bytes
-  pub queries : judged_of session.catalogue ≡ judged
+  pub queries : listening_over session.catalogue ≡ listening_of judged
   pub most : session.limit ≡ limit
   pub few : length piece ≤ 65536
   pub front : old.left Events ≡ prepend_known (bytes ++ piece) (now.left Events)
@@ -70,7 +70,7 @@ nothing_closed judged =
     ap (λ (found : List Line). report (program_of judged) (closed (map (reading_of judged.streams) found) false)) none
 
 -- nothing was read yet
-unfoldable pub heard_none : (judged : Judged) (limit : ℕ) (session : SessionView) (told : Told) → SessionStandsFor session [] [] → judged_of session.catalogue ≡ judged → session.limit ≡ limit → HasHeard judged limit 0 session told told
+unfoldable pub heard_none : (judged : Judged) (limit : ℕ) (session : SessionView) (told : Told) → SessionStandsFor session [] [] → listening_over session.catalogue ≡ listening_of judged → session.limit ≡ limit → HasHeard judged limit 0 session told told
 heard_none judged limit session told stands queries most = record {
   bytes = [];
   counted = refl;
@@ -118,7 +118,7 @@ module _ {judged : Judged} {limit taken : ℕ} {session : SessionView} {old now 
           subst (λ n. length h.bytes ≤ n) h.most h.stands.within,
           record {
             takes = record { front = h.front ∙ ap (λ f. prepend_known h.bytes (f Events)) (sym kept); whole = λ e. cc };
-            refused = ap (λ t. refused_in judged t false) few ∙ subst (λ j. refused_in j h.bytes false ≡ None) h.queries h.stands.none_refused;
+            refused = ap (λ t. refused_in judged t false) few ∙ subst (λ (l : Listening). refused_by l h.bytes false ≡ None) h.queries h.stands.none_refused;
             wrote = subst (λ t. Wrote (report_of_closed judged t false) old next) (sym few) (record { written = same.written ∙ h.wrote.written; lines = same.lines ∙ h.wrote.lines });
           },
         ),
@@ -156,10 +156,10 @@ module _ {judged : Judged} {limit : ℕ} {bytes piece : List ℕ} {session : Ses
     bytes = bytes ++ piece;
     counted = let both = length-append bytes piece in omega (arith, both, counted, sized);
     stands = feeds.stands;
-    queries = ap judged_of keeps.catalogue ∙ t.queries;
+    queries = ap listening_over keeps.catalogue ∙ t.queries;
     most = keeps.limit ∙ t.most;
     front = front_written;
-    wrote = wrote_beyond t.wrote (subst (λ j. Beyond Wrote (report_of_closed j bytes false) (report_of_closed j (bytes ++ piece) false) now next) t.queries feeds.wrote);
+    wrote = wrote_beyond t.wrote (subst (λ (l : Listening). Beyond Wrote (reported_by l bytes false) (reported_by l (bytes ++ piece) false) now next) t.queries feeds.wrote);
     alone = alone_written;
     faults = same_faults quiet;
   }
@@ -188,16 +188,16 @@ module _ {judged : Judged} {limit : ℕ} {bytes piece : List ℕ} {session : Ses
     takes : TakesEvents limit (bytes ++ piece) ended old next
     takes = record { front = front_written; whole = λ e. (within_all e, (all e).1) }
 
-    refusal_is : (o : Option Refusal) → refused_in (judged_of session.catalogue) text ended ≡ o → refused_in judged (take limit (bytes ++ piece)) ended ≡ o
-    refusal_is o e = subst (λ x. refused_in judged x ended ≡ o) cut (subst (λ j. refused_in j text ended ≡ o) t.queries e)
+    refusal_is : (o : Option Refusal) → refused_by (listening_over session.catalogue) text ended ≡ o → refused_in judged (take limit (bytes ++ piece)) ended ≡ o
+    refusal_is o e = subst (λ x. refused_in judged x ended ≡ o) cut (subst (λ (l : Listening). refused_by l text ended ≡ o) t.queries e)
 
     beyond : (W : List ℕ → Told → Told → Type 0) → Beyond W (report_in session [] bytes false) (report_in session [] text ended) now next
         → Beyond W (report_of_closed judged bytes false) (report_of_closed judged (take limit (bytes ++ piece)) ended) now next
     beyond W w =
         subst (λ x. Beyond W (report_of_closed judged bytes false) (report_of_closed judged x ended) now next) cut
-        (subst (λ j. Beyond W (report_of_closed j bytes false) (report_of_closed j text ended) now next) t.queries w)
+        (subst (λ (l : Listening). Beyond W (reported_by l bytes false) (reported_by l text ended) now next) t.queries w)
 
-    heard_up_to : (o : Option Refusal) → refused_in (judged_of session.catalogue) text ended ≡ o → Beyond Wrote (report_in session [] bytes false) (report_in session [] text ended) now next
+    heard_up_to : (o : Option Refusal) → refused_by (listening_over session.catalogue) text ended ≡ o → Beyond Wrote (report_in session [] bytes false) (report_in session [] text ended) now next
         → HearsUpTo judged limit (bytes ++ piece) ended o old next
     heard_up_to o e w = record { takes = takes; refused = refusal_is o e; wrote = wrote_beyond t.wrote (beyond Wrote w) }
 
@@ -260,7 +260,7 @@ module _ {judged : Judged} {limit : ℕ} {bytes piece : List ℕ} {session : Ses
     hears_all after keeps s = record {
       bytes = bytes ++ piece;
       heard = heard_up_to bytes true cut_whole (λ e. (none, nil_after)) None s.0 s.1;
-      queries = ap judged_of keeps.catalogue ∙ t.queries;
+      queries = ap listening_over keeps.catalogue ∙ t.queries;
       finished = subst (HasFinished after []) (sym (ap (λ p. bytes ++ p) none ∙ append-nil bytes)) s.2;
     }
 

@@ -4,6 +4,7 @@ pub mod EndLemmas
 pub mod GrowingLemmas
 pub mod HearingLemmas
 pub mod JudgementLemmas
+pub mod ListeningLemmas
 pub mod LoadAnswers
 pub mod LoadLemmas
 pub mod OutcomeLemmas

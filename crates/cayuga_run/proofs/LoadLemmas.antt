@@ -7,7 +7,6 @@ use Rattle.cay_host.specs.Told.{Told}
 use Rattle.cay_host.specs.declared.tally_host.TallyHost.{TallyHost}
 use Rattle.cay_host.proofs.OutputLemmas.{Wrote-nil}
 use Rattle.semantics.specs.Report.{report}
-use Rattle.catalogue.specs.Catalogued.{judged_of}
 use Rattle.catalogue.specs.Judgement.{Judged, program_of}
 use Rattle.session.specs.declared.fault.SessionFault.{SessionFault}
 use Rattle.session.specs.declared.fault.SessionFault.TheVariants as fault
@@ -25,6 +24,7 @@ use Rattle.cayuga_run.specs.LoadHearing.{FailsHearing, HearsText, HearsWhole}
 use Rattle.cayuga_run.specs.Reports.{refused_in, report_of_closed, report_of_heard}
 use Rattle.cayuga_run.specs.Tests.{RisesWithin, TestsOfText}
 use Rattle.cayuga_run.proofs.EndLemmas.{closed_is_heard}
+use Rattle.cayuga_run.specs.Listening.{Listening, listening_of, listening_over, refused_by, reported_by}
 use Rattle.cayuga_run.proofs.GrowingLemmas.{more_bytes}
 use Rattle.cayuga_run.proofs.HearingLemmas.{nothing_closed}
 use Rattle.cayuga_run.proofs.RefusedLemmas.{no_rise}
@@ -36,12 +36,12 @@ pub record HasHeardText (judged : Judged) (text left : List ℕ) (session : Sess
   pub bytes : List ℕ
   pub front : text ≡ bytes ++ left
   pub stands : SessionStandsFor session [] bytes
-  pub queries : judged_of session.catalogue ≡ judged
+  pub queries : listening_over session.catalogue ≡ listening_of judged
   pub most : session.limit ≡ 2 ^ 64 - 1
   pub wrote : Wrote (report_of_closed judged bytes false) old now
 
 -- nothing was heard yet
-unfoldable pub heard_no_text : (judged : Judged) (text : List ℕ) (session : SessionView) (told : Told) → SessionStandsFor session [] [] → judged_of session.catalogue ≡ judged → session.limit ≡ 2 ^ 64 - 1
+unfoldable pub heard_no_text : (judged : Judged) (text : List ℕ) (session : SessionView) (told : Told) → SessionStandsFor session [] [] → listening_over session.catalogue ≡ listening_of judged → session.limit ≡ 2 ^ 64 - 1
     → HasHeardText judged text text session told told
 heard_no_text judged text session told stands queries most = record {
   bytes = [];
@@ -63,9 +63,9 @@ module _ {judged : Judged} {text left : List ℕ} {session : SessionView} {old n
     bytes = h.bytes ++ piece;
     front = both;
     stands = feeds.stands;
-    queries = ap judged_of keeps.catalogue ∙ h.queries;
+    queries = ap listening_over keeps.catalogue ∙ h.queries;
     most = keeps.limit ∙ h.most;
-    wrote = wrote_beyond h.wrote (subst (λ (j : Judged). Beyond Wrote (report_of_closed j h.bytes false) (report_of_closed j (h.bytes ++ piece) false) now next) h.queries feeds.wrote);
+    wrote = wrote_beyond h.wrote (subst (λ (l : Listening). Beyond Wrote (reported_by l h.bytes false) (reported_by l (h.bytes ++ piece) false) now next) h.queries feeds.wrote);
   }
 
   module _ (short : length text ≤ 2 ^ 64 - 1) where
@@ -79,10 +79,10 @@ module _ {judged : Judged} {text left : List ℕ} {session : SessionView} {old n
     all_within = take_all session.limit (h.bytes ++ piece) few
 
     -- a refusal at the piece is that of the whole text
-    refused_text : (refusal : Refusal) → refused_in (judged_of session.catalogue) (take session.limit (h.bytes ++ piece)) false ≡ Some refusal → refused_in judged text true ≡ Some refusal
+    refused_text : (refusal : Refusal) → refused_by (listening_over session.catalogue) (take session.limit (h.bytes ++ piece)) false ≡ Some refusal → refused_in judged text true ≡ Some refusal
     refused_text refusal e =
-        let own = subst (λ (bytes : List ℕ). refused_in (judged_of session.catalogue) bytes false ≡ Some refusal) all_within e in
-        let here = subst (λ (j : Judged). refused_in j (h.bytes ++ piece) false ≡ Some refusal) h.queries own in
+        let own = subst (λ (bytes : List ℕ). refused_by (listening_over session.catalogue) bytes false ≡ Some refusal) all_within e in
+        let here = subst (λ (l : Listening). refused_by l (h.bytes ++ piece) false ≡ Some refusal) h.queries own in
         ap (λ t. refused_in judged t true) both ∙ (more_bytes judged (h.bytes ++ piece) rest true refusal here).0
 
     -- why the session stopped at the piece, where no write failed
@@ -97,7 +97,7 @@ module _ {judged : Judged} {text left : List ℕ} {session : SessionView} {old n
       -- the tests by the piece
       pub text_tests_more : RisesWithin judged (h.bytes ++ piece) false first after
       text_tests_more =
-          subst (λ (bytes : List ℕ). RisesWithin judged bytes false first after) all_within (rises_more first before after (λ bytes. take session.limit (bytes ++ piece)) false h.stands h.queries rises feeds)
+          subst (λ (bytes : List ℕ). RisesWithin judged bytes false first after) all_within (rises_more judged first before after (λ bytes. take session.limit (bytes ++ piece)) false h.stands h.queries rises feeds)
 
       -- as those of a front of the text
       pub text_tests_at_piece : TestsOfText judged text first after
@@ -137,18 +137,18 @@ module _ {judged : Judged} {text left : List ℕ} {session : SessionView} {old n
     -- the text was heard to its end
     pub hears_text : {next : Told} (after : SessionView) → KeepsQueries session after → Finishes session after [] h.bytes now next (Ok tt) → HearsText judged text after old next Done
     hears_text {next} after keeps s =
-        let own = subst (λ (j : Judged). refused_in j h.bytes true ≡ None) h.queries s.0 in
+        let own = subst (λ (l : Listening). refused_by l h.bytes true ≡ None) h.queries s.0 in
         let reported : report_of_closed judged h.bytes true ≡ report_of_heard judged h.bytes true = ap (report (program_of judged)) (closed_is_heard (readings judged.streams h.bytes true) own) in
-        let wrote = wrote_beyond h.wrote (subst (λ (j : Judged). Beyond Wrote (report_of_closed j h.bytes false) (report_of_closed j h.bytes true) now next) h.queries s.1) in
+        let wrote = wrote_beyond h.wrote (subst (λ (l : Listening). Beyond Wrote (reported_by l h.bytes false) (reported_by l h.bytes true) now next) h.queries s.1) in
         subst (λ (t : List ℕ). HearsWhole judged t after old next) (sym all) (record {
           none_refused = own;
           wrote = subst (λ (t : List ℕ). Wrote t old next) reported wrote;
-          queries = ap judged_of keeps.catalogue ∙ h.queries;
+          queries = ap listening_over keeps.catalogue ∙ h.queries;
           finished = s.2;
         })
 
-    ended_text : (refusal : Refusal) → refused_in (judged_of session.catalogue) h.bytes true ≡ Some refusal → refused_in judged text true ≡ Some refusal
-    ended_text refusal e = ap (λ t. refused_in judged t true) all ∙ subst (λ (j : Judged). refused_in j h.bytes true ≡ Some refusal) h.queries e
+    ended_text : (refusal : Refusal) → refused_by (listening_over session.catalogue) h.bytes true ≡ Some refusal → refused_in judged text true ≡ Some refusal
+    ended_text refusal e = ap (λ t. refused_in judged t true) all ∙ subst (λ (l : Listening). refused_by l h.bytes true ≡ Some refusal) h.queries e
 
     -- why the session stopped at its end, where no write failed
     pub stops_at_text_end : (next : Told) (after : SessionView) → now.write_faults ≡ 0 → next.write_faults ≡ 0 → (fault : SessionFault) → Finishes session after [] h.bytes now next (Err fault) → FailsHearing judged text (status_of fault)
@@ -161,7 +161,7 @@ module _ {judged : Judged} {text left : List ℕ} {session : SessionView} {old n
     -- the tests of the whole text
     pub text_tests_at_end : (first before after : ℕ) → RisesWithin judged h.bytes false first before → FinishesWithin session before after → TestsOfText judged text first after
     text_tests_at_end first before after rises finishes =
-        let whole = rises_more first before after (λ bytes. bytes) true h.stands h.queries rises finishes in (
+        let whole = rises_more judged first before after (λ bytes. bytes) true h.stands h.queries rises finishes in (
           [],
           record {
             taken = text;

@@ -1,5 +1,5 @@
 -- From what was heard of the events to the outcome of the run.
-use Rattle.std.proofs.Common.{◌≡◌, ◌∙◌, sym, ap, refl, subst, inl, ℕ, ◌+◌, ◌-◌, ◌<◌, ◌≤◌, List, [], ◌++◌, Bool, true, false, nat_le, ◌&&◌, Option, Some, None, IfSome, arith, length, take, length-append, append-nil}
+use Rattle.std.proofs.Common.{◌≡◌, ◌∙◌, sym, ap, refl, subst, inl, ℕ, ◌+◌, ◌-◌, ◌<◌, ◌≤◌, List, [], ◌++◌, Bool, true, false, nat_le, Option, Some, None, IfSome, arith, length, take, length-append, append-nil}
 use Rattle.std.proofs.lemmas.List.{take_all, take-append-le}
 use Rattle.std.proofs.lemmas.Bool.{le-leb, leb-false, leb-true}
 use Rattle.std.proofs.Math.Seq.{take-append-add}
@@ -10,11 +10,9 @@ use Rattle.cay_host.specs.declared.side.Side.TheVariants.{Queries, Events}
 use Rattle.cay_host.specs.Faults.{Rose}
 use Rattle.cay_host.specs.Output.{Wrote, KeepsOutput}
 use Rattle.cay_host.specs.Told.{Told}
-use Rattle.semantics.specs.Report.{report}
 use Rattle.catalogue.specs.Judgement.{Verdict, Accepted, Accepts, Judged, Judges}
 use Rattle.catalogue.proofs.VerdictLemmas.{one_verdict}
 use Rattle.session.specs.declared.refusal.Refusal.{Refusal}
-use Rattle.session.specs.Heard.{heard, refused}
 use Rattle.session.specs.WroteFront.{WroteFront}
 use Rattle.cayuga_run.specs.Accepting.{IsAcceptedWith}
 use Rattle.cayuga_run.specs.Begun.{HasAccepted}

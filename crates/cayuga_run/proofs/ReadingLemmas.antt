@@ -1,5 +1,5 @@
 -- How much of its files a job has read, from call to call.
-use Rattle.std.proofs.Common.{◌≡◌, ◌∙◌, sym, ap, subst, ℕ, ◌+◌, ◌-◌, ◌≤◌, Bool, List, [], ◌++◌, Option, Some, None, IfSome, true, false, length, length-append, length-take, take, append-nil, arith, refl}
+use Rattle.std.proofs.Common.{◌≡◌, ◌∙◌, sym, ap, subst, ℕ, ◌+◌, ◌-◌, ◌≤◌, Bool, List, [], ◌++◌, Option, Some, None, IfSome, true, false, length, length-append, length-take, take, append-nil, arith}
 use Rattle.std.specs.Io.KnownBytes.{prepend_known}
 use Rattle.cay_host.specs.declared.side.Side.TheVariants.{Queries, Events}
 use Rattle.cay_host.specs.Attaching.{Attaches, AttachFails}
@@ -14,6 +14,7 @@ use Rattle.cayuga_run.specs.Accepting.{IsAcceptedWith}
 use Rattle.cayuga_run.specs.Begun.{HasAccepted}
 use Rattle.cayuga_run.specs.HearingOutcome.{HearsAlone}
 use Rattle.cayuga_run.specs.Reading.{ReadsBoth, ReadsNoEvents, ReadsQueries, StopsInPiece, TakesAtMost}
+use Rattle.cayuga_run.specs.Listening.{Listening, refused_by}
 use Rattle.cayuga_run.specs.Reports.{refused_in}
 use Rattle.cayuga_run.proofs.HearingLemmas.{HasHeard, heard_within}
 use Rattle.cayuga_run.proofs.RunLemmas.{HasQueries}
@@ -122,7 +123,7 @@ stops_then_writes {judged} {limit} {text} stops same = subst (StopsInPiece judge
 
 module _ {judged : Judged} {limit taken : ℕ} {session : SessionView} {old now : Told} (h : HasHeard judged limit taken session old now) where
   none_refused : refused_in judged h.bytes false ≡ None
-  none_refused = subst (λ j. refused_in j h.bytes false ≡ None) h.queries h.stands.none_refused
+  none_refused = subst (λ (l : Listening). refused_by l h.bytes false ≡ None) h.queries h.stands.none_refused
 
   -- one more piece was read
   pub stops_in_piece : {rest : Option (List ℕ)} (size : ℕ) (buffer : List ℕ) → length buffer ≤ 65536 → length buffer ≤ limit - taken + 1 → Took size buffer (now.left Events) rest → StopsInPiece judged limit (old.left Events) rest

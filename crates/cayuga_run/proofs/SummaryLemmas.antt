@@ -4,15 +4,18 @@ use Rattle.semantics.specs.Histories.{Event}
 use Rattle.cay_host.specs.Output.{add_lines, count_lf}
 use Rattle.cay_host.specs.TallyHost.{silent_told}
 use Rattle.cay_host.specs.Told.{Told}
-use Rattle.catalogue.specs.Catalogued.{judged_of}
-use Rattle.catalogue.specs.Judgement.{Accepts, Judged}
+use Rattle.catalogue.specs.Catalogued.{program_in}
+use Rattle.catalogue.specs.Judgement.{Accepts, Judged, program_of}
 use Rattle.load_texts.specs.Epochs.{epoch_count}
 use Rattle.load_texts.specs.EventText.{event_text}
 use Rattle.load_texts.specs.QueryText.{query_count, query_text}
+use Rattle.session.specs.Heard.{heard}
+use Rattle.session.specs.Readings.{readings}
 use Rattle.session.specs.SessionView.{SessionView, WorksFor}
 use Rattle.cayuga_run.specs.declared.status.Status.{Status}
 use Rattle.cayuga_run.specs.declared.status.Status.TheVariants.{Done, Usage, BadQuery, Cycle, BadEvent, OutOfOrder, AttachFault, ReadFault, WriteFault, TooMuch, Memory}
 use Rattle.cayuga_run.specs.Accepting.{IsAcceptedWith}
+use Rattle.cayuga_run.specs.Listening.{Listening}
 use Rattle.cayuga_run.specs.LoadHearing.{FailsHearing, HasTotals, HearsWhole}
 use Rattle.cayuga_run.specs.LoadOutcome.{IsSummary, LoadFails, LoadOutcome, load_line}
 use Rattle.cayuga_run.specs.QueryFailing.{TextFails}
@@ -30,11 +33,11 @@ counted report old new results silent wrote lines = from_none results (count_lf 
 
 -- the line of the numbers, where the events were heard to their end
 pub sums : (judged : Judged) (load : Load) (session : SessionView) (old new : Told) (results : ℕ) (line : List ℕ) → HearsWhole judged (event_text load.seed load.events) session old new → old ≡ silent_told → new.lines ≡ Some results
-    → ((history : List Event) → WorksFor session history → HasTotals (judged_of session.catalogue) history load.events results line) → IsSummary judged load line
+    → ((history : List Event) → WorksFor session history → HasTotals (program_in session.catalogue) history load.events results line) → IsSummary judged load line
 sums judged load session old new results line hears silent lines totals =
     let text = event_text load.seed load.events in
-    let own : HasTotals (judged_of session.catalogue) (heard_in (judged_of session.catalogue) text) load.events results line = totals _ hears.finished.works in
-    let here : HasTotals judged (heard_in judged text) load.events results line = subst (λ (j : Judged). HasTotals j (heard_in j text) load.events results line) hears.queries own in
+    let own : HasTotals (program_in session.catalogue) (heard (readings session.catalogue.streams text true)) load.events results line = totals _ hears.finished.works in
+    let here : HasTotals (program_of judged) (heard_in judged text) load.events results line = subst (λ (l : Listening). HasTotals l.0 (heard (l.1 text true)) load.events results line) hears.queries own in
     record {
       none_refused = hears.none_refused;
       totals = record { states = here.states; results = results; live = here.live };

@@ -7,15 +7,15 @@ use Rattle.cay_host.specs.Attaching.{Attaches}
 use Rattle.cay_host.specs.Files.{file_of}
 use Rattle.cay_host.specs.Output.{SameButOutput}
 use Rattle.cay_host.specs.Told.{Told}
-use Rattle.catalogue.specs.Catalogued.{judged_of}
-use Rattle.catalogue.specs.Judgement.{Judged, program_of}
+use Rattle.catalogue.specs.Judgement.{Judged}
 use Rattle.prefix_merge.specs.Counts.{ListPrefixes}
 use Rattle.session.specs.RunWork.{FeedsWithin, FinishesWithin, StaysWithin}
 use Rattle.session.specs.SessionView.{SessionStandsFor, SessionView}
 use Rattle.splitter.specs.Chains.{lines_of}
 use Rattle.cayuga_run.specs.Begun.{HasAccepted}
 use Rattle.cayuga_run.specs.HearingOutcome.{HearsAlone}
-use Rattle.cayuga_run.specs.Tests.{RisesWithin, TestsOfRun, TestsOfTaken, tests_of_closed}
+use Rattle.cayuga_run.specs.Listening.{Listening, listening_of, listening_over, tests_by}
+use Rattle.cayuga_run.specs.Tests.{RisesWithin, TestsOfRun, TestsOfTaken}
 use Rattle.cayuga_run.proofs.HearingLemmas.{HasHeard, HasTaken, cut_whole, front_written, heard_within, nil_after}
 use Rattle.cayuga_run.proofs.ReadingLemmas.{accepted_as, both_ways}
 
@@ -24,12 +24,12 @@ pub rises_not : (judged : Judged) (text : List ℕ) (ended : Bool) (count : ℕ)
 rises_not judged text ended count states are = omega arith
 
 -- the tests of a session behind those that its text asks for
-pub rises_more : {judged : Judged} {session : SessionView} {bytes : List ℕ} (first before after : ℕ) (longer : List ℕ → List ℕ) (ended : Bool)
-    → SessionStandsFor session [] bytes → judged_of session.catalogue ≡ judged → RisesWithin judged bytes false first before → StaysWithin session longer ended before after
+pub rises_more : (judged : Judged) {session : SessionView} {bytes : List ℕ} (first before after : ℕ) (longer : List ℕ → List ℕ) (ended : Bool)
+    → SessionStandsFor session [] bytes → listening_over session.catalogue ≡ listening_of judged → RisesWithin judged bytes false first before → StaysWithin session longer ended before after
     → RisesWithin judged (longer bytes) ended first after
-rises_more {judged} {session} {bytes} first before after longer ended stands queries rises stays states are =
-    let own = subst (λ (j : Judged). ListPrefixes (lines_of (program_of j)) states) (sym queries) are in
-    let more = subst (λ (j : Judged). after + tests_of_closed j states bytes false ≤ before + tests_of_closed j states (longer bytes) ended) queries (stays [] bytes states stands own) in
+rises_more judged {session} {bytes} first before after longer ended stands queries rises stays states are =
+    let own = subst (λ (l : Listening). ListPrefixes (lines_of l.0) states) (sym queries) are in
+    let more = subst (λ (l : Listening). after + tests_by l states bytes false ≤ before + tests_by l states (longer bytes) ended) queries (stays [] bytes states stands own) in
     let early = rises states are in
     omega (arith, early, more)
 
@@ -37,7 +37,7 @@ module _ {judged : Judged} {limit : ℕ} {bytes piece : List ℕ} {session : Ses
   -- those of one piece more, within the limit
   rises_by_piece : FeedsWithin session piece before after → RisesWithin judged (take limit (bytes ++ piece)) false first after
   rises_by_piece feeds =
-      subst (λ (n : ℕ). RisesWithin judged (take n (bytes ++ piece)) false first after) t.most (rises_more first before after (λ text. take session.limit (text ++ piece)) false t.stands t.queries rises feeds)
+      subst (λ (n : ℕ). RisesWithin judged (take n (bytes ++ piece)) false first after) t.most (rises_more judged first before after (λ text. take session.limit (text ++ piece)) false t.stands t.queries rises feeds)
 
   -- the piece was heard
   pub tests_more : length (bytes ++ piece) ≤ limit → FeedsWithin session piece before after → RisesWithin judged (bytes ++ piece) false first after
@@ -57,7 +57,7 @@ module _ {judged : Judged} {limit : ℕ} {bytes piece : List ℕ} {session : Ses
         ended = true;
         front = front_written t same;
         whole = λ e. (few, nil_after t same none nil);
-        within = subst (λ (text : List ℕ). RisesWithin judged text true first after) (cut_whole t same none nil) (rises_more first before after (λ text. text) true t.stands t.queries rises finishes);
+        within = subst (λ (text : List ℕ). RisesWithin judged text true first after) (cut_whole t same none nil) (rises_more judged first before after (λ text. text) true t.stands t.queries rises finishes);
       }
 
 -- a read failed

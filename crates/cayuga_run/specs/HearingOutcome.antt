@@ -5,7 +5,6 @@ use Rattle.cay_host.specs.declared.side.Side.TheVariants.{Queries, Events}
 use Rattle.cay_host.specs.Faults.{Rose}
 use Rattle.cay_host.specs.Output.{Wrote}
 use Rattle.cay_host.specs.Told.{Told}
-use Rattle.catalogue.specs.Catalogued.{judged_of}
 use Rattle.catalogue.specs.Judgement.{Judged}
 use Rattle.session.specs.declared.fault.SessionFault.{SessionFault}
 use Rattle.session.specs.declared.fault.SessionFault.TheVariants as fault
@@ -15,6 +14,7 @@ use Rattle.session.specs.WroteFront.{WroteFront}
 use Rattle.session.specs.SessionView.{HasFinished, SessionView}
 use Rattle.cayuga_run.specs.declared.status.Status.{Status}
 use Rattle.cayuga_run.specs.declared.status.Status.TheVariants.{Done, BadEvent, OutOfOrder, ReadFault, WriteFault, TooMuch, Memory}
+use Rattle.cayuga_run.specs.Listening.{listening_of, listening_over}
 use Rattle.cayuga_run.specs.Reports.{refused_in, report_of_closed}
 use Rattle.cayuga_run.specs.StoppedWriting.{StoppedWriting}
 
@@ -41,7 +41,7 @@ pub record HearsUpTo (judged : Judged) (limit : ℕ) (bytes : List ℕ) (ended :
 pub record HearsAll (judged : Judged) (limit : ℕ) (session : SessionView) (old new : Told) : Type 0 where
   pub bytes : List ℕ
   pub heard : HearsUpTo judged limit bytes true None old new
-  pub queries : judged_of session.catalogue ≡ judged
+  pub queries : listening_over session.catalogue ≡ listening_of judged
   pub finished : HasFinished session [] bytes
 
 -- a line of the bytes that were taken is refused, and the report before it was written

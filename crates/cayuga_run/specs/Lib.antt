@@ -5,6 +5,7 @@ pub mod Blaming
 pub mod Expected
 pub mod HearingOutcome
 pub mod Laws
+pub mod Listening
 pub mod LoadHearing
 pub mod LoadOutcome
 pub mod Number

@@ -3,6 +3,7 @@ use Rattle.std.specs.Prelude.{◌≡◌, ⊤, ℕ, ◌-◌, ◌^◌, List, ◌�
 use Rattle.cay_host.specs.Faults.{Rose}
 use Rattle.cay_host.specs.Output.{KeepsOutput, Wrote, WrotePart, count_lf}
 use Rattle.cay_host.specs.Told.{Told}
+use Rattle.birth_laws.specs.BornChains.{born_lines}
 use Rattle.catalogue.specs.Judgement.{Circles, Judged, Refuses, program_of}
 use Rattle.epoch_engine.specs.Counts.{CountsAlive}
 use Rattle.load_texts.specs.Epochs.{epoch_count}
@@ -17,7 +18,6 @@ use Rattle.cayuga_run.specs.declared.status.Status.TheVariants.{Done, BadQuery, 
 use Rattle.cayuga_run.specs.Accepting.{IsAcceptedWith}
 use Rattle.cayuga_run.specs.Reports.{heard_in, refused_in, report_of_heard}
 use Rattle.cayuga_run.specs.Works.{Load}
-use Rattle.session.specs.UnbornLines.{unborn_lines}
 
 -- what a run of accepted queries over an event text comes to: the states of the merged network, the lines of the report, and the bindings that wait and are alive
 pub record Totals : Type 0 where
@@ -29,7 +29,7 @@ pub record Totals : Type 0 where
 pub record AreTotals (judged : Judged) (events : List ℕ) (totals : Totals) : Type 0 where
   pub states : CountsStates (lines_of (program_of judged)) totals.states
   pub results : totals.results ≡ min (count_lf (report_of_heard judged events true)) (2 ^ 64 - 1)
-  pub live : CountsAlive (unborn_lines (program_of judged)) (work_order (program_of judged)) (heard_in judged events) totals.live
+  pub live : CountsAlive (born_lines (program_of judged)) (work_order (program_of judged)) (heard_in judged events) totals.live
 
 -- what stands behind the first numbers of the line: `, states 1, results 1, live 0` and an LF
 abbrev pub totals_text : Totals → List ℕ

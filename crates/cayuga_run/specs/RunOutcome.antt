@@ -11,7 +11,7 @@ use Rattle.session.specs.declared.refusal.Refusal.{Refusal}
 use Rattle.session.specs.declared.refusal.Refusal.TheVariants.{HasFault, IsOutOfOrder}
 use Rattle.cayuga_run.specs.declared.status.Status.{Status}
 use Rattle.cayuga_run.specs.declared.status.Status.TheVariants.{Done, Usage, BadQuery, Cycle, BadEvent, OutOfOrder, AttachFault, ReadFault, WriteFault, TooMuch, Memory}
-use Rattle.catalogue.specs.Judgement.{Verdict, Accepted, Refused, Circle, Judged, Judges}
+use Rattle.catalogue.specs.Judgement.{Verdict, Accepted, Refused, Circle, Judged, Judges, program_of}
 use Rattle.cayuga_run.specs.Accepting.{IsAcceptedWith}
 use Rattle.session.specs.WroteFront.{WroteFront}
 use Rattle.cayuga_run.specs.Reading.{TakesExactly}
@@ -39,7 +39,7 @@ pub record IsDone (run : Run) (limit : ℕ) (old new : Told) : Type 0 where
   pub there : AreThere run old
   pub text : OfFiles run old (λ queries events. IsAcceptedWith queries (λ judged.
       (length events ≤ limit) × (refused_in judged events true ≡ None)
-      × ((more : List ℕ) × ComesBehind run.stats judged (heard_in judged events) more × Wrote (report_of_heard judged events true ++ more) old new)))
+      × ((more : List ℕ) × ComesBehind run.stats (program_of judged) (heard_in judged events) more × Wrote (report_of_heard judged events true ++ more) old new)))
   pub ended : IfSome (new.left Events) (λ rest. rest ≡ [])
 
 -- that line of the event text, cut at the limit, is refused, and the report of the epochs closed before it was written

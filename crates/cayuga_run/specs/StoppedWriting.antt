@@ -4,7 +4,7 @@ use Rattle.std.specs.Io.KnownBytes.{prepend_known}
 use Rattle.cay_host.specs.declared.side.Side.TheVariants.{Events}
 use Rattle.cay_host.specs.Output.{Wrote}
 use Rattle.cay_host.specs.Told.{Told}
-use Rattle.catalogue.specs.Judgement.{Judged}
+use Rattle.catalogue.specs.Judgement.{Judged, program_of}
 use Rattle.cayuga_run.specs.Reports.{heard_in, refused_in, report_of_closed, report_of_heard}
 use Rattle.cayuga_run.specs.Stats.{AreStats, Stats, stats_line}
 
@@ -33,5 +33,5 @@ pub record StoppedInStats (judged : Judged) (limit : ℕ) (events : List ℕ) (o
   pub none_refused : refused_in judged events true ≡ None
   pub read : new.left Events ≡ Some []
   pub stats : Stats
-  pub are : AreStats judged (heard_in judged events) stats
+  pub are : AreStats (program_of judged) (heard_in judged events) stats
   pub wrote : WroteUpTo (report_of_heard judged events true) (report_of_heard judged events true ++ stats_line stats) old new

@@ -2,7 +2,7 @@
 ghost use Rattle.std.specs.Prelude.{◌≡◌, false, true, IfOk, IfErr};
 ghost use Rattle.cay_host.specs.declared.side.Side.TheVariants.{Queries, Events};
 ghost use Rattle.cay_host.specs.Input.{SameButRead};
-ghost use Rattle.catalogue.specs.Catalogued.{judged_of};
+ghost use Rattle.catalogue.specs.Holding.{IsAsLoaded, judged_in};
 ghost use Rattle.catalogue.specs.Judgement.{Accepts};
 ghost use Rattle.cayuga_run.specs.Begun.{HasAccepted, HasRead};
 ghost use Rattle.cayuga_run.specs.Blaming.{BlamesHost};
@@ -23,7 +23,8 @@ const MOST_QUERY_BYTES: u64 = 1_048_576;
 pub fn accept<H: Host>(alloc: Global, host: &mut H, queries: &str) -> Result<Catalogue, Status>
     requires queries { (H.told host.old).attached Queries ≡ false }
     requires events { (H.told host.old).attached Events ≡ false }
-    ensures accepted { IfOk result (λ catalogue. HasAccepted queries.now (judged_of catalogue) (H.told host.old) (H.told host.new)) }
+    ensures accepted { IfOk result (λ catalogue. HasAccepted queries.now (judged_in catalogue) (H.told host.old) (H.told host.new)) }
+    ensures loaded { IfOk result IsAsLoaded }
     ensures fails { IfErr result (AreNotAccepted queries.now (H.told host.old) (H.told host.new)) }
     ensures blames { IfErr result (BlamesHost (H.told host.old) (H.told host.new)) }
     ensures reads { ReadsNoEvents queries.now (H.told host.old) (H.told host.new) }
@@ -38,7 +39,8 @@ pub fn accept<H: Host>(alloc: Global, host: &mut H, queries: &str) -> Result<Cat
 // Reads the queries and judges them.
 fn read_queries<H: Host>(alloc: Global, host: &mut H) -> Result<Catalogue, Status>
     requires { (H.told host.old).attached Queries ≡ true }
-    ensures accepted { IfOk result (λ catalogue. HasRead (judged_of catalogue) (H.told host.old) (H.told host.new)) }
+    ensures accepted { IfOk result (λ catalogue. HasRead (judged_in catalogue) (H.told host.old) (H.told host.new)) }
+    ensures loaded { IfOk result IsAsLoaded }
     ensures fails { IfErr result (QueriesFail (H.told host.old) (H.told host.new)) }
     ensures blames { IfErr result (BlamesHost (H.told host.old) (H.told host.new)) }
     ensures taken { TakesAtMost 1048577 ((H.told host.old).left Queries) ((H.told host.new).left Queries) }
@@ -56,7 +58,8 @@ fn read_queries<H: Host>(alloc: Global, host: &mut H) -> Result<Catalogue, Statu
 
 /// Judges the bytes of the queries.
 pub fn judge_text(alloc: Global, text: &[u8]) -> Result<Catalogue, Status>
-    ensures accepted { IfOk result (λ catalogue. Accepts text.now (judged_of catalogue)) }
+    ensures accepted { IfOk result (λ catalogue. Accepts text.now (judged_in catalogue)) }
+    ensures loaded { IfOk result IsAsLoaded }
     ensures fails { IfErr result (TextFails text.now) }
 {
     match load(alloc, text) {

@@ -1,7 +1,7 @@
 //! The events of a run, heard piece by piece as they are read.
 ghost use Rattle.std.specs.Prelude.{◌≡◌, [], true};
 ghost use Rattle.cay_host.specs.declared.side.Side.TheVariants.{Events};
-ghost use Rattle.catalogue.specs.Catalogued.{judged_of};
+ghost use Rattle.catalogue.specs.Holding.{IsAsLoaded, judged_in};
 ghost use Rattle.session.specs.SessionView.{SessionStandsFor};
 ghost use Rattle.cayuga_run.specs.Blaming.{BlamesHost};
 ghost use Rattle.cayuga_run.specs.HearingOutcome.{Hears, HearsAlone, status_of};
@@ -24,13 +24,14 @@ pub fn read_events<H: Host, L: Ledger>(
     steps: &mut Steps<L>,
 ) -> Status
     requires attached { (H.told host.old).attached Events ≡ true }
+    requires loaded { IsAsLoaded session.old.catalogue }
     requires stands { SessionStandsFor session.old [] [] }
     requires limit { session.old.limit ≡ limit }
-    ensures hears { Hears (judged_of session.old.catalogue) limit session.new (H.told host.old) (H.told host.new) result }
+    ensures hears { Hears (judged_in session.old.catalogue) limit session.new (H.told host.old) (H.told host.new) result }
     ensures blames { BlamesHost (H.told host.old) (H.told host.new) result }
-    ensures stops { StopsInPiece (judged_of session.old.catalogue) limit ((H.told host.old).left Events) ((H.told host.new).left Events) }
+    ensures stops { StopsInPiece (judged_in session.old.catalogue) limit ((H.told host.old).left Events) ((H.told host.new).left Events) }
     ensures alone { HearsAlone (H.told host.old) (H.told host.new) }
-    ensures tests { TestsOfTaken (judged_of session.old.catalogue) limit ((H.told host.old).left Events) ((H.told host.new).left Events) steps.old steps.new }
+    ensures tests { TestsOfTaken (judged_in session.old.catalogue) limit ((H.told host.old).left Events) ((H.told host.new).left Events) steps.old steps.new }
 {
     let mut piece = [0u8; PIECE];
     let mut taken: u64 = 0;

@@ -1,7 +1,7 @@
 //! The run of the queries of one file over the events of another.
 ghost use Rattle.std.specs.Prelude.{◌≡◌, [], false};
 ghost use Rattle.cay_host.specs.declared.side.Side.TheVariants.{Queries, Events};
-ghost use Rattle.catalogue.specs.Catalogued.{judged_of};
+ghost use Rattle.catalogue.specs.Holding.{IsAsLoaded, judged_in};
 ghost use Rattle.session.specs.SessionView.{SessionStandsFor};
 ghost use Rattle.cayuga_run.specs.Begun.{EndsReading, EndsRun, EndsTests};
 ghost use Rattle.cayuga_run.specs.Blaming.{BlamesHost};
@@ -61,12 +61,13 @@ fn attach_and_read<H: Host, L: Ledger>(
     steps: &mut Steps<L>,
 ) -> Status
     requires free { (H.told host.old).attached Events ≡ false }
+    requires loaded { IsAsLoaded session.old.catalogue }
     requires stands { SessionStandsFor session.old [] [] }
     requires limit { session.old.limit ≡ hearing.now.limit }
-    ensures outcome { EndsRun (judged_of session.old.catalogue) hearing.now.events.now hearing.now.stats hearing.now.limit (H.told host.old) (H.told host.new) result }
+    ensures outcome { EndsRun (judged_in session.old.catalogue) hearing.now.events.now hearing.now.stats hearing.now.limit (H.told host.old) (H.told host.new) result }
     ensures blames { BlamesHost (H.told host.old) (H.told host.new) result }
-    ensures reads { EndsReading (judged_of session.old.catalogue) hearing.now.events.now hearing.now.limit (H.told host.old) (H.told host.new) }
-    ensures tests { EndsTests (judged_of session.old.catalogue) hearing.now.events.now hearing.now.limit (H.told host.old) (H.told host.new) steps.old steps.new }
+    ensures reads { EndsReading (judged_in session.old.catalogue) hearing.now.events.now hearing.now.limit (H.told host.old) (H.told host.new) }
+    ensures tests { EndsTests (judged_in session.old.catalogue) hearing.now.events.now hearing.now.limit (H.told host.old) (H.told host.new) steps.old steps.new }
 {
     if host.attach(Side::Events, hearing.events).is_err() {
         return Status::AttachFault(Side::Events);

@@ -1,7 +1,7 @@
 use Rattle.std.proofs.Common.{refl, rules}
 use Rattle.std.proofs.lemmas.Result.{IfOk-weaker, IfErr-weaker}
 use Rattle.cay_host.specs.declared.side.Side.TheVariants.{Queries}
-use Rattle.catalogue.specs.Catalogued.{judged_of}
+use Rattle.catalogue.specs.Holding.{judged_in}
 use Rattle.cayuga_run.specs.Begun.{HasAccepted, HasRead}
 use Rattle.cayuga_run.specs.QueryFailing.{QueriesFail}
 use Rattle.cayuga_run.specs.Refusing.{AreNotAccepted}
@@ -28,8 +28,8 @@ returns-clause-accepted g c =
       files = search rules;
       silent = record { written = search rules; lines = search rules };
     } in
-    IfOk-weaker c.read_queries.result (λ catalogue. HasRead (judged_of catalogue) mid (told c.read_queries.new.host)) (λ catalogue. HasAccepted queries (judged_of catalogue) old (told c.read_queries.new.host))
-    (λ catalogue accepts. queries_accepted queries (judged_of catalogue) old mid (told c.read_queries.new.host) has c.read_queries.ensures.same accepts) c.read_queries.ensures.accepted
+    IfOk-weaker c.read_queries.result (λ catalogue. HasRead (judged_in catalogue) mid (told c.read_queries.new.host)) (λ catalogue. HasAccepted queries (judged_in catalogue) old (told c.read_queries.new.host))
+    (λ catalogue accepts. queries_accepted queries (judged_in catalogue) old mid (told c.read_queries.new.host) has c.read_queries.ensures.same accepts) c.read_queries.ensures.accepted
 
 -- the queries are attached, and weren't accepted
 pub returns-clause-fails : goal.returns-clause-fails

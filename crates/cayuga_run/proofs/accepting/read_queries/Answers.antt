@@ -1,7 +1,7 @@
 use Rattle.std.proofs.Common.{◌≡◌, ◌+◌, ◌<◌, length, IfSome, arith, refl}
 use Rattle.std.proofs.lemmas.Result.{IfOk-weaker, IfErr-weaker}
 use Rattle.cay_host.specs.declared.side.Side.TheVariants.{Queries}
-use Rattle.catalogue.specs.Catalogued.{judged_of}
+use Rattle.catalogue.specs.Holding.{judged_in}
 use Rattle.catalogue.specs.Judgement.{Accepted, Accepts, Judges, Verdict}
 use Rattle.catalogue.specs.Filing.{most_bytes}
 use Rattle.cayuga_run.specs.Begun.{HasRead}
@@ -21,8 +21,8 @@ returns-in-Whole-clause-accepted g c =
     let ends = rw c.in-Whole.is at c.in-Ok.ensures.end in
     let same : (v : Verdict) → Judges bytes v → IfSome (before.left Queries) (λ t. Judges t v) =
     λ v judged. judged_whole (before.left Queries) (after.left Queries) bytes v (rw c.deref.ensures.value c.in-Ok.ensures.front) ends.1 judged in
-    IfOk-weaker c.judge_text.result (λ catalogue. Accepts bytes (judged_of catalogue)) (λ catalogue. HasRead (judged_of catalogue) before after)
-    (λ catalogue accepts. record { accepts = same (Accepted (judged_of catalogue)) accepts; read_faults = rw c.in-Whole.is at c.in-Ok.ensures.quiet; read = ends.1 }) c.judge_text.ensures.accepted
+    IfOk-weaker c.judge_text.result (λ catalogue. Accepts bytes (judged_in catalogue)) (λ catalogue. HasRead (judged_in catalogue) before after)
+    (λ catalogue accepts. record { accepts = same (Accepted (judged_in catalogue)) accepts; read_faults = rw c.in-Whole.is at c.in-Ok.ensures.quiet; read = ends.1 }) c.judge_text.ensures.accepted
 
 -- all of the queries was read, and not accepted
 pub returns-in-Whole-clause-fails : goal.returns-in-Whole-clause-fails
@@ -46,11 +46,11 @@ returns-clause-accepted g c =
     λ v judged. judged_past (before.left Queries) (after.left Queries) bytes v (rw c.deref-in-More.ensures.value c.in-Ok.ensures.front) (rw c.deref-in-More.ensures.value ends) judged in
     let size : length bytes ≡ most_bytes + 1 = rw c.deref-in-More.ensures.value ends in
     let more : most_bytes < length bytes = omega (arith, size) in
-    IfOk-weaker c.judge_text-in-More.result (λ catalogue. Accepts bytes (judged_of catalogue)) (λ catalogue. HasRead (judged_of catalogue) before after)
+    IfOk-weaker c.judge_text-in-More.result (λ catalogue. Accepts bytes (judged_in catalogue)) (λ catalogue. HasRead (judged_in catalogue) before after)
     (λ catalogue accepts. record {
-      accepts = same (Accepted (judged_of catalogue)) accepts;
+      accepts = same (Accepted (judged_in catalogue)) accepts;
       read_faults = rw c.in-More.is at c.in-Ok.ensures.quiet;
-      read = absurd (not_past bytes (judged_of catalogue) more accepts);
+      read = absurd (not_past bytes (judged_in catalogue) more accepts);
     }) c.judge_text-in-More.ensures.accepted
 
 -- the queries are past the limit

@@ -1,7 +1,8 @@
-use Rattle.std.proofs.Common.{[], false, refl, subst, sym, ◌∙◌, arith}
+use Rattle.std.proofs.Common.{[], false, subst, sym, ◌∙◌, arith}
 use Rattle.cay_host.specs.TallyHost.{tally_told}
-use Rattle.catalogue.specs.Catalogued.{judged_of}
+use Rattle.catalogue.specs.Holding.{judged_in}
 use Rattle.cayuga_run.specs.LoadHearing.{HearsText}
+use Rattle.cayuga_run.proofs.ListeningLemmas.{listening_held}
 use Rattle.cayuga_run.proofs.LoadLemmas.{fails_as, heard_no_text, heard_text_more, hears_text, less_left, none_failed, none_left, piece_and_rest, stops_at_text_end, stops_in_text, text_tests, text_tests_at_end, text_tests_at_piece, text_tests_more}
 use Rattle.cayuga_run.proofs.TestsLemmas.{rises_not}
 use Rattle.cayuga_run.proofs.load.hear_pieces.Goals as goal
@@ -10,8 +11,8 @@ use Rattle.cayuga_run.proofs.load.hear_pieces.Goals as goal
 pub pieces-init : goal.pieces-init
 unfolding heard_no_text
 pieces-init g c = (
-  heard_no_text (judged_of c.args.session.now.catalogue) c.args.text.now c.args.session.now (tally_told c.args.tally.now) c.requires.stands refl c.requires.limit,
-  rises_not (judged_of c.args.session.now.catalogue) [] false c.args.steps.now,
+  heard_no_text (judged_in c.args.session.now.catalogue) c.args.text.now c.args.session.now (tally_told c.args.tally.now) c.requires.stands (listening_held c.args.session.now.catalogue c.requires.loaded) c.requires.limit,
+  rises_not (judged_in c.args.session.now.catalogue) [] false c.args.steps.now,
 )
 
 -- there was no memory for a piece
@@ -33,7 +34,7 @@ returns-in-Ok-finish-clause-tests g c =
 
 pub returns-in-Err-finish-clause-hears : goal.returns-in-Err-finish-clause-hears
 returns-in-Err-finish-clause-hears g c =
-    let judged = judged_of c.args.session.now.catalogue in
+    let judged = judged_in c.args.session.now.catalogue in
     let h = c.pieces.invariant.0 in
     let none = none_left c.pieces.text c.as_slice-bytes.result.now (c.as_slice-bytes.ensures.value ∙ c.in-Ok.ensures.piece) c.if-size-eq0.true in
     let fault = c.in-Err-finish.fault in
@@ -69,7 +70,7 @@ pieces-smaller g c =
 -- the session stopped at a piece
 pub returns-in-Err-feed-clause-hears : goal.returns-in-Err-feed-clause-hears
 returns-in-Err-feed-clause-hears g c =
-    let judged = judged_of c.args.session.now.catalogue in
+    let judged = judged_in c.args.session.now.catalogue in
     let h = c.pieces.invariant.0 in
     let piece = c.as_slice-bytes.result.now in
     let rest = c.next_piece.new.self in

@@ -1,6 +1,7 @@
 use Rattle.std.proofs.Common.{◌∙◌, inr, List, string_bytes, subst, sym, ℕ}
 use Rattle.std.proofs.lemmas.Result.{IfOk-weaker, IfErr-weaker}
-use Rattle.catalogue.specs.Catalogued.{Catalogued, judged_of}
+use Rattle.catalogue.specs.Catalogued.{Catalogued}
+use Rattle.catalogue.specs.Holding.{judged_in}
 use Rattle.catalogue.specs.Judgement.{Accepts, Judged}
 use Rattle.load_texts.specs.EventText.{event_text}
 use Rattle.load_texts.specs.QueryText.{query_text}
@@ -22,8 +23,8 @@ returns-in-Err-clause-fails g c =
 pub returns-clause-summed : goal.returns-clause-summed
 returns-clause-summed g c =
     let load : Load = record { seed = c.args.seed; events = c.args.events } in
-    let judged = judged_of c.in-Ok-make.session.catalogue in
-    let own = subst (λ (k : Catalogued). Accepts c.as_bytes.result.now (judged_of k)) (sym c.in-Ok-make.ensures.queries) c.in-Ok-judge_text.ensures.accepted in
+    let judged = judged_in c.in-Ok-make.session.catalogue in
+    let own = subst (λ (k : Catalogued). Accepts c.as_bytes.result.now (judged_in k)) (sym c.in-Ok-make.ensures.queries) c.in-Ok-judge_text.ensures.accepted in
     let accepts = subst (λ (text : List ℕ). Accepts text judged) (c.as_bytes.ensures.value ∙ c.as_str.ensures ∙ c.in-Ok.ensures) own in
     IfOk-weaker c.hear_and_sum.result (λ line. IsSummary judged load (string_bytes line)) (λ line. IsAcceptedWith (query_text c.args.events) (λ (j : Judged). IsSummary j load (string_bytes line)))
     (λ line sums. record { judged = judged; accepts = accepts; holds = sums }) c.hear_and_sum.ensures.summed
@@ -31,14 +32,14 @@ returns-clause-summed g c =
 pub returns-clause-fails : goal.returns-clause-fails
 returns-clause-fails g c =
     let load : Load = record { seed = c.args.seed; events = c.args.events } in
-    let judged = judged_of c.in-Ok-make.session.catalogue in
-    let own = subst (λ (k : Catalogued). Accepts c.as_bytes.result.now (judged_of k)) (sym c.in-Ok-make.ensures.queries) c.in-Ok-judge_text.ensures.accepted in
+    let judged = judged_in c.in-Ok-make.session.catalogue in
+    let own = subst (λ (k : Catalogued). Accepts c.as_bytes.result.now (judged_in k)) (sym c.in-Ok-make.ensures.queries) c.in-Ok-judge_text.ensures.accepted in
     let accepts = subst (λ (text : List ℕ). Accepts text judged) (c.as_bytes.ensures.value ∙ c.as_str.ensures ∙ c.in-Ok.ensures) own in
     IfErr-weaker c.hear_and_sum.result (FailsHearing judged (event_text c.args.seed c.args.events)) (LoadFails load) (λ status f. load_unheard load judged accepts status f) c.hear_and_sum.ensures.fails
 
 pub returns-clause-tests : goal.returns-clause-tests
 returns-clause-tests g c =
-    let judged = judged_of c.in-Ok-make.session.catalogue in
-    let own = subst (λ (k : Catalogued). Accepts c.as_bytes.result.now (judged_of k)) (sym c.in-Ok-make.ensures.queries) c.in-Ok-judge_text.ensures.accepted in
+    let judged = judged_in c.in-Ok-make.session.catalogue in
+    let own = subst (λ (k : Catalogued). Accepts c.as_bytes.result.now (judged_in k)) (sym c.in-Ok-make.ensures.queries) c.in-Ok-judge_text.ensures.accepted in
     let accepts = subst (λ (text : List ℕ). Accepts text judged) (c.as_bytes.ensures.value ∙ c.as_str.ensures ∙ c.in-Ok.ensures) own in
     inr (record { judged = judged; accepts = accepts; holds = c.hear_and_sum.ensures.tests })

@@ -1,10 +1,10 @@
 use Rattle.std.proofs.Common.{◌≡◌, ◌∙◌, ap, refl, rules, subst, false, true, Result, Ok, Err}
 use Rattle.std.specs.Result.{OnErr, OnOk, is_err}
 use Rattle.cay_host.specs.declared.side.Side.TheVariants.{Events}
-use Rattle.catalogue.specs.Catalogued.{judged_of}
-use Rattle.catalogue.specs.Judgement.{Judged}
+use Rattle.catalogue.specs.Holding.{judged_in}
+use Rattle.session.specs.Heard.{heard}
 use Rattle.cayuga_run.specs.declared.status.Status.TheVariants.{Done}
-use Rattle.cayuga_run.specs.Reports.{heard_in}
+use Rattle.cayuga_run.specs.Listening.{Listening}
 use Rattle.cayuga_run.specs.StatsOutcome.{StatsOutcome}
 use Rattle.cayuga_run.specs.Works.{Run}
 use Rattle.cayuga_run.proofs.BlamingLemmas.{blames_after, none_blamed}
@@ -32,24 +32,34 @@ returns-then-is_err-clause-blames g c = record {
   write = λ other. c.attach.ensures.same.write_faults;
 }
 
+-- the events were heard, and the writing of the stats line is blamed
+pub returns-then-hearing-clause-blames : goal.returns-then-hearing-clause-blames
+returns-then-hearing-clause-blames g c =
+    let heard = none_blamed c.in-Done.ensures.blames in
+    blames_after c.write_stats.result (record {
+      attach = heard.attach ∙ from_ok c.attach.result c.if-is_err.ensures.value c.attach.ensures.quiet;
+      read = heard.read ∙ c.attach.ensures.same.read_faults;
+      write = heard.write ∙ c.attach.ensures.same.write_faults;
+    }) c.write_stats.ensures.blames
+
 -- the events were heard, and then the stats line was written
 pub returns-then-hearing-clause-outcome : goal.returns-then-hearing-clause-outcome
 returns-then-hearing-clause-outcome g c = λ queries first accepted.
     let told = g.H.Host.told in
     let run : Run = record { queries = queries; events = c.args.hearing.now.events.now; stats = c.args.hearing.now.stats } in
-    let judged = judged_of c.args.session.now.catalogue in
+    let judged = judged_in c.args.session.now.catalogue in
     let all = c.in-Done.ensures.hears in
     run_tells run c.args.hearing.now.limit judged first (told c.attach.new.self) (told c.read_events.new.host) (told c.write_stats.new.host) all.bytes c.write_stats.result
     (ready run judged first (told c.args.host.now) (told c.attach.new.self) accepted (from_ok c.attach.result c.if-is_err.ensures.value c.attach.ensures.ok) c.attach.ensures.same)
     all.heard c.read_events.ensures.alone (none_blamed c.in-Done.ensures.blames).write c.if-hearing.true c.write_stats.ensures.same
-    (subst (λ (j : Judged). StatsOutcome j (heard_in j all.bytes) (told c.read_events.new.host) (told c.write_stats.new.host) c.write_stats.result) all.queries (c.write_stats.ensures.writes _ all.finished.works))
+    (subst (λ (l : Listening). StatsOutcome l.0 (heard (l.1 all.bytes true)) (told c.read_events.new.host) (told c.write_stats.new.host) c.write_stats.result) all.queries (c.write_stats.ensures.writes _ all.finished.works))
 
 -- the events were heard, and no stats are asked for
 pub returns-else-hearing-clause-outcome : goal.returns-else-hearing-clause-outcome
 returns-else-hearing-clause-outcome g c = λ queries first accepted.
     let told = g.H.Host.told in
     let run : Run = record { queries = queries; events = c.args.hearing.now.events.now; stats = c.args.hearing.now.stats } in
-    let judged = judged_of c.args.session.now.catalogue in
+    let judged = judged_in c.args.session.now.catalogue in
     run_hears run c.args.hearing.now.limit judged c.read_events.new.session first (told c.attach.new.self) (told c.read_events.new.host) Done
     (ready run judged first (told c.args.host.now) (told c.attach.new.self) accepted (from_ok c.attach.result c.if-is_err.ensures.value c.attach.ensures.ok) c.attach.ensures.same)
     c.in-Done.ensures.hears c.read_events.ensures.alone (λ e. c.if-hearing.false)
@@ -58,7 +68,7 @@ returns-else-hearing-clause-outcome g c = λ queries first accepted.
 pub returns-in_default : goal.returns-in_default
 returns-in_default g c =
     let told = g.H.Host.told in
-    let judged = judged_of c.args.session.now.catalogue in
+    let judged = judged_in c.args.session.now.catalogue in
     record {
       outcome = λ queries first accepted.
           let run : Run = record { queries = queries; events = c.args.hearing.now.events.now; stats = c.args.hearing.now.stats } in

@@ -1,5 +1,6 @@
 use Rattle.std.proofs.Common.{sym, subst}
-use Rattle.catalogue.specs.Catalogued.{Catalogued, judged_of}
+use Rattle.catalogue.specs.Catalogued.{Catalogued}
+use Rattle.catalogue.specs.Holding.{judged_in}
 use Rattle.cayuga_run.specs.declared.status.Status.TheVariants.{Memory}
 use Rattle.cayuga_run.specs.Begun.{HasAccepted}
 use Rattle.cayuga_run.specs.Works.{Run}
@@ -30,7 +31,7 @@ pub returns-clause-outcome : goal.returns-clause-outcome
 returns-clause-outcome g c =
     let told = g.H.Host.told in
     c.attach_and_read.ensures.outcome c.args.queries.now (told c.args.host.now)
-    (subst (λ (k : Catalogued). HasAccepted c.args.queries.now (judged_of k) (told c.args.host.now) (told c.accept.new.host)) (sym c.in-Ok-make.ensures.queries) c.in-Ok.ensures.accepted)
+    (subst (λ (k : Catalogued). HasAccepted c.args.queries.now (judged_in k) (told c.args.host.now) (told c.accept.new.host)) (sym c.in-Ok-make.ensures.queries) c.in-Ok.ensures.accepted)
 
 pub returns-clause-blames : goal.returns-clause-blames
 returns-clause-blames g c =
@@ -49,7 +50,7 @@ pub returns-clause-reads : goal.returns-clause-reads
 returns-clause-reads g c =
     let told = g.H.Host.told in
     c.attach_and_read.ensures.reads c.args.queries.now (told c.args.host.now)
-    (subst (λ (k : Catalogued). HasAccepted c.args.queries.now (judged_of k) (told c.args.host.now) (told c.accept.new.host)) (sym c.in-Ok-make.ensures.queries) c.in-Ok.ensures.accepted)
+    (subst (λ (k : Catalogued). HasAccepted c.args.queries.now (judged_in k) (told c.args.host.now) (told c.accept.new.host)) (sym c.in-Ok-make.ensures.queries) c.in-Ok.ensures.accepted)
     c.accept.ensures.reads.of_queries
 
 -- what was tested, where the events weren't attached
@@ -64,4 +65,4 @@ pub returns-clause-tests : goal.returns-clause-tests
 returns-clause-tests g c =
     let told = g.H.Host.told in
     c.attach_and_read.ensures.tests c.args.queries.now (told c.args.host.now)
-    (subst (λ (k : Catalogued). HasAccepted c.args.queries.now (judged_of k) (told c.args.host.now) (told c.accept.new.host)) (sym c.in-Ok-make.ensures.queries) c.in-Ok.ensures.accepted)
+    (subst (λ (k : Catalogued). HasAccepted c.args.queries.now (judged_in k) (told c.args.host.now) (told c.accept.new.host)) (sym c.in-Ok-make.ensures.queries) c.in-Ok.ensures.accepted)

@@ -1,4 +1,4 @@
-use Rattle.std.proofs.Common.{◌+◌, ◌-◌, ◌≤◌, length, length-take, arith}
+use Rattle.std.proofs.Common.{◌+◌, ◌≤◌, length, length-take, arith}
 use Rattle.cayuga_run.proofs.ReadingLemmas.{takes_more}
 use Rattle.cayuga_run.proofs.sides.read_side.Goals as goal
 

@@ -2,7 +2,7 @@ use Rattle.std.proofs.Common.{◌∙◌, ap, map}
 use Rattle.cel_grammar.specs.Views.{statement_of}
 use Rattle.cel_parser.specs.Filed.{Filed}
 use Rattle.cel_print.specs.Spelled.{canon}
-use Rattle.catalogue.specs.Catalogued.{judged_of}
+use Rattle.catalogue.specs.Holding.{judged_in}
 use Rattle.cayuga_run.specs.Works.{Writing, canonical_of}
 use Rattle.cayuga_run.proofs.ReadingLemmas.{reads_then_writes}
 use Rattle.cayuga_run.proofs.WritingLemmas.{writing_ends, writing_fails}
@@ -20,7 +20,7 @@ pub returns-in-Ok-print-clause-outcome : goal.returns-in-Ok-print-clause-outcome
 returns-in-Ok-print-clause-outcome g c =
     let told = g.H.Host.told in
     let writing : Writing = record { queries = c.args.queries.now; text_of = canonical_of } in
-    writing_ends writing (judged_of c.in-Ok.catalogue) _ (told c.args.host.now) (told c.accept.new.host) (told c.write_text.new.host) c.write_text.result
+    writing_ends writing (judged_in c.in-Ok.catalogue) _ (told c.args.host.now) (told c.accept.new.host) (told c.write_text.new.host) c.write_text.result
     c.in-Ok.ensures.accepted (c.as_str.ensures ∙ c.in-Ok-print.ensures.text ∙ ap (λ (file : Filed). canon (map statement_of file.statements)) c.file.ensures.value) c.write_text.ensures.writes c.write_text.ensures.same
 
 pub returns-in-Ok-print-clause-reads : goal.returns-in-Ok-print-clause-reads

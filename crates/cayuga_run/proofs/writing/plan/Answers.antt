@@ -1,5 +1,5 @@
 use Rattle.std.proofs.Common.{◌∙◌}
-use Rattle.catalogue.specs.Catalogued.{judged_of}
+use Rattle.catalogue.specs.Holding.{judged_in}
 use Rattle.cayuga_run.specs.Works.{Writing}
 use Rattle.plan_text.specs.Plan.{plan_of}
 use Rattle.cayuga_run.proofs.ReadingLemmas.{reads_then_writes}
@@ -18,7 +18,7 @@ pub returns-in-Ok-plan-clause-outcome : goal.returns-in-Ok-plan-clause-outcome
 returns-in-Ok-plan-clause-outcome g c =
     let told = g.H.Host.told in
     let writing : Writing = record { queries = c.args.queries.now; text_of = plan_of } in
-    writing_ends writing (judged_of c.in-Ok.catalogue) _ (told c.args.host.now) (told c.accept.new.host) (told c.write_text.new.host) c.write_text.result
+    writing_ends writing (judged_in c.in-Ok.catalogue) _ (told c.args.host.now) (told c.accept.new.host) (told c.write_text.new.host) c.write_text.result
     c.in-Ok.ensures.accepted (c.as_str.ensures ∙ c.in-Ok-plan.ensures) c.write_text.ensures.writes c.write_text.ensures.same
 
 pub returns-in-Ok-plan-clause-reads : goal.returns-in-Ok-plan-clause-reads
