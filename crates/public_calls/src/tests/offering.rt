@@ -2,7 +2,7 @@
 ghost use Rattle.std.specs.Prelude.{◌≡◌, [], ◌∷◌, IfOk, IsTrue, None, OnOk};
 ghost use Rattle.event_types.specs.declared.kind.Kind.TheVariants as kind;
 ghost use Rattle.semantics.specs.Kinds.{HasKinds};
-ghost use Rattle.catalogue.specs.Catalogued.{IsAccepted};
+ghost use Rattle.catalogue.specs.Loaded.{IsUnchanged};
 ghost use Rattle.session.specs.EngineStandsWithLastOpen.{IsPlanned};
 
 use catalogue::{Catalogue, load};
@@ -29,7 +29,7 @@ pub type Parts = (i128, u64, u64);
 
 /// The catalogue of the queries. Nothing but want of memory refuses them.
 pub fn catalogue(alloc: Global) -> Result<Catalogue, Memory>
-    ensures { IfOk result IsAccepted }
+    ensures { IfOk result IsUnchanged }
 {
     match load(alloc, QUERIES) {
         Ok(catalogue) => Ok(catalogue),
@@ -39,6 +39,7 @@ pub fn catalogue(alloc: Global) -> Result<Catalogue, Memory>
 
 /// An engine over them, which has heard nothing.
 pub fn engine(alloc: Global, catalogue: &Catalogue) -> Result<Engine, Memory>
+    requires { IsUnchanged catalogue.now }
     ensures { IfOk result (IsPlanned catalogue.now) }
 {
     let merged = Merged::of(alloc, catalogue.lines())?;
