@@ -34,7 +34,7 @@ pub record AreEnds (lines : List Line) (ends : List ℕ) (next : ℕ) : Type 0 w
   pub distinct : AllPairs (λ x y. x ≢ y) ends
   pub below : All (λ end. end < next) ends
 
--- the layout has the program's order of work and its printed streams; it has kinds for each stream, and those of the streams that the program declares or publishes; and it fits the program's lines
+-- the layout has the program's order of work and its printed streams; it has kinds for each stream of the table, and for those that the program declares or publishes these are their own; and it fits the program's lines
 pub record IsLayoutOver (streams : List Entry) (program : Program) (layout : Layout) : Type 0 where
   pub order : layout.order ≡ work_order program
   pub outs : layout.outs ≡ outs_of program
@@ -42,7 +42,7 @@ pub record IsLayoutOver (streams : List Entry) (program : Program) (layout : Lay
   pub kinds : All (λ stream. slice_get layout.kinds stream ≡ Some (kinds_in streams stream)) (streams_there program)
   pub fits : LayoutFits (lines_of program) layout
 
--- the queries of a catalogue stand in order: they are a program over the kinds of its streams; a stream is told to be declared exactly where it is one of the first; known by name are exactly the declared streams and those of the queries; the queries are numbered; births ascend; each line has its end number; hidden streams have numbers of streams; the layout is one of the program; and the lines are few
+-- the queries of a catalogue stand in order: they are a program over the kinds of its streams; a stream is told to be declared exactly where it is one of the first; known by name are exactly the declared streams and those of the queries; each query has what it publishes and its expression; the queries are numbered; no birth is after that of a later query in the order of work; each line has its end number; the hidden streams of each query are streams of the table; the layout is one of the program; and the lines are few
 pub record StandsInOrder (c : Catalogued) : Type 0 where
   pub wide : IsWideProgram (kinds_in c.streams) (program_in c)
   pub told : (stream : ℕ) (entry : Entry) → slice_get c.streams stream ≡ Some entry → (entry.declared ≡ true) ↔ (stream < c.declared)

@@ -21,8 +21,9 @@ use std::alloc::Global;
 use std::marker::Model;
 use stream_schema::Streams;
 
-/// What a query text is accepted as: its statements, the streams that they declare and publish, and its
-/// queries, typed. A query's number is its place among the queries of the file, from 0.
+/// Queries that stand in order: the statements that they were loaded from, the streams that these declare, those that
+/// the queries publish, hidden ones too, and the queries, typed, with their lines. A query's number is its place among
+/// those that are there, from 0.
 #[derive(Drop)]
 pub struct Catalogue {
     file: File,

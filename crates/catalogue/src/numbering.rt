@@ -47,7 +47,7 @@ pub fn number_all(
     Ok(published)
 }
 
-// The first number behind the hidden streams of an expression, which have the numbers from one on.
+// The first number behind the hidden streams of an expression, which have the numbers from `next` on.
 #[cycle(hiding)]
 fn behind_hidden(expr: &Expr, next: StreamId) -> StreamId
     requires { HasNumbers (ex_of expr.now) next }

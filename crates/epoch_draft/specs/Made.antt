@@ -6,7 +6,7 @@ use Rattle.std.specs.declared.cmp.Ordering.{Ordering}
 use Rattle.event_types.specs.Order.{tuple_cmp}
 use Rattle.event_types.specs.Tuple.{TupleView}
 
--- the items at these places, in the order of the places
+-- the items at these places, in the order of the places; a place without an item gives none
 abbrev pub placed : {X : Type 0} → List X → List ℕ → List X
 placed items places = flat_map (λ place. option_to_list (slice_get items place)) places
 
@@ -18,7 +18,7 @@ ArePlaced items lists = All (λ places. All (λ place. place < length items) pla
 abbrev pub EndsWith : {X : Type 0} → List X → X → Type 0
 EndsWith items item = slice_get items (length items - 1) ≡ Some item
 
--- a list that ends with an item, by its number, or none
+-- where a number is given, the list of that number ends with the item
 abbrev pub IsLastIn : {X : Type 0} → List (List X) → X → Option ℕ → Type 0
 IsLastIn lists item last = IfSome last (λ number. EndsWith (slice_index_or lists number []) item)
 

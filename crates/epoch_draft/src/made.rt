@@ -132,7 +132,7 @@ impl Made {
         Ok(())
     }
 
-    /// Puts the tuples of these streams, which are all that there are, in order. After want of memory the tuples are of no
+    /// Puts the tuples of these streams, which are all that have some, in order. After want of memory the tuples are of no
     /// more use.
     pub(crate) fn put_in_order(&mut self, streams: &[usize]) -> Result<(), Memory>
         requires streams { All (λ stream. stream < length self.old) streams.now }
@@ -146,7 +146,7 @@ impl Made {
         Ok(())
     }
 
-    // Puts the tuples of a stream in order; most often it has one alone. It is their places that are sorted.
+    // Puts the tuples of a stream in order, by their places.
     fn put_one_in_order(&mut self, stream: StreamId) -> Result<(), Memory>
         requires { stream < length self.old }
         ensures { OnOk result (self.new ≡ slice_set self.old stream (sorted (slice_index_or self.old stream []))) }

@@ -11,8 +11,7 @@ use scalar_expr::{apply, holds};
 use std::alloc::Global;
 use steps::{Ledger, Steps};
 
-/// What the tuple is after the stages, or nothing where one of them doesn't let it pass. Where there are none, which
-/// is often so, it is copied at once.
+/// What the tuple is after the stages, or nothing where one of them doesn't let it pass.
 #[inline(always)]
 pub(crate) fn pass_on<L: Ledger>(
     alloc: Global,

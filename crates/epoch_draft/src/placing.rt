@@ -7,8 +7,8 @@ ghost use Rattle.epoch_draft.specs.Made.{place_cmp, placed};
 use event_types::{Memory, Numbers, Tuple};
 use std::cmp::Ordering;
 
-/// Puts places in the order of the tuples there; most often there are two, if not one. `room` is used for more. After
-/// want of memory the places are of no more use.
+/// Puts places in the order of the tuples there. `room` is used anew. After want of memory the places are of no more
+/// use.
 pub(crate) fn put_places_in_order(
     places: &mut Numbers,
     tuples: &[Tuple],

@@ -11,7 +11,7 @@ use event_types::{Numbers, Tuple};
 use std::marker::Model;
 
 /// What a batch shows: entries by ascending places, tuples, and for each stream, by its number, the places of its own
-/// among these, in their order and counted from 0. A tuple that several streams have stands once. Each printed stream
+/// among these, in their order and counted from 0. A tuple that several streams have may stand once. Each printed stream
 /// that has tuples has an entry, and some that have one may have none.
 #[derive(Clone, Copy, Drop)]
 pub struct Printed<'a> {

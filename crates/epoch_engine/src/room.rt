@@ -92,7 +92,7 @@ fn list_places(
     Ok(())
 }
 
-// Puts places behind those that are there; most often it is one.
+// Puts places behind those that are there.
 #[inline(always)]
 fn append_places(places: &mut Vec<usize>, more: &[usize]) -> Result<(), Memory>
     ensures { OnOk result (places.new.items ≡ places.old.items ++ more.now) }
