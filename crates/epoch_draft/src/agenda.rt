@@ -89,7 +89,28 @@ fn stream_of(network: &Network, number: usize) -> Option<StreamId>
 
 /// Puts the places of these streams on the agenda, as far as they are from `start` on and below `end`.
 /// After want of memory the agenda is of no more use.
+#[inline(always)]
 pub(crate) fn plan(
+    agenda: &mut Agenda,
+    places: &[usize],
+    due: &[StreamId],
+    start: usize,
+    end: usize,
+) -> Result<(), Memory>
+    requires below { All (λ stream. stream < length places.now) due.now }
+    requires within { AreFrom start end agenda.old.keys }
+    ensures within { OnOk result (AreFrom start end agenda.new.keys) }
+    ensures kept { OnOk result (All (Contains agenda.new.keys) agenda.old.keys) }
+    ensures planned { OnOk result (All (λ stream. IsPlanned start end agenda.new.keys (slice_index_or places.now stream 0)) due.now) }
+{
+    if due.is_empty() {
+        return Ok(());
+    }
+    plan_each(agenda, places, due, start, end)
+}
+
+// The same, with a walk also where there is no stream.
+fn plan_each(
     agenda: &mut Agenda,
     places: &[usize],
     due: &[StreamId],

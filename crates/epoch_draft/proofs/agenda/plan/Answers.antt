@@ -1,58 +1,6 @@
-use Rattle.std.proofs.Common.{◌<◌, ◌≤◌, sym, subst, ℕ, List, get_or, take, arith}
-use Rattle.std.specs.Prelude.{Contains}
-use Rattle.std.specs.Ordering.{nat_cmp}
-use Rattle.std.specs.List.{All}
-use Rattle.std.proofs.lemmas.List.Elements.{All-contains_itself, All-nil, All-weaker}
-use Rattle.std.proofs.lemmas.Map.Views.{All-insert_key}
-use Rattle.epoch_draft.specs.Agenda.{IsPlanned}
-use Rattle.epoch_draft.proofs.AgendaLemmas.{contains_inserted, inserted_keeps, planned_kept, planned_more}
-use Rattle.epoch_draft.proofs.Lists.{taken_all}
-use Rattle.epoch_draft.proofs.agenda.plan.Goals.{then-place-start-via-then-place-start, then-place-start-via-else-place-start+then-place-end}
+use Rattle.std.proofs.lemmas.List.Elements.{All-contains_itself}
 use Rattle.epoch_draft.proofs.agenda.plan.Goals as goal
 
-pub loop-stream-init : goal.loop-stream-init
-loop-stream-init c = record {
-  within = c.requires.within;
-  kept = All-contains_itself c.args.agenda.now.keys;
-  planned = All-nil (λ s. IsPlanned c.args.start c.args.end c.args.agenda.now.keys (get_or c.args.places.now s 0));
-}
-
--- a place that isn't to come
-pub loop-stream-preserved-then-place-start : goal.loop-stream-preserved-then-place-start
-loop-stream-preserved-then-place-start c = record {
-  within = c.loop-stream.invariant.within;
-  kept = c.loop-stream.invariant.kept;
-  planned =
-      planned_more c.args.places.now c.args.due.now c.loop-stream.agenda.keys c.loop-stream.stream-index c.args.start c.args.end c.loop-stream-test.true
-      (λ from below. absurd (outside from below)) c.loop-stream.invariant.planned;
-}
-  where
-    outside : c.args.start ≤ get_or c.args.places.now (get_or c.args.due.now c.loop-stream.stream-index 0) 0 → get_or c.args.places.now (get_or c.args.due.now c.loop-stream.stream-index 0) 0 < c.args.end → ⊥
-    outside from below =
-        elim c.then-place-start.branch [
-          | then-place-start-via-then-place-start w ↦ absurd (let e = w.if-place-start.true in omega (arith, e, from))
-          | then-place-start-via-else-place-start+then-place-end w ↦ absurd (let e = w.if-place-end.true in omega (arith, e, below))
-        ]
-
--- one that is
-pub loop-stream-preserved : goal.loop-stream-preserved
-loop-stream-preserved c =
-    let place = get_or c.args.places.now (get_or c.args.due.now c.loop-stream.stream-index 0) 0 in
-    let old = c.loop-stream.agenda.keys in
-    let new = c.note.new.agenda.keys in
-    let is = c.in_ok-note.ensures in
-    let keeps : (n : ℕ) → Contains old n → Contains new n = λ n h. subst (λ (ns : List ℕ). Contains ns n) (sym is) (inserted_keeps old place n h) in
-    record {
-      within =
-          let inside = λ (place : ℕ). (c.args.start ≤ place) × (place < c.args.end) in
-          subst (All inside) (sym is) (All-insert_key nat_cmp place inside old c.loop-stream.invariant.within (let s = c.if-place-start.false in omega (arith, s), let e = c.if-place-end.false in omega (arith, e)));
-      kept = All-weaker (Contains old) (Contains new) keeps c.args.agenda.now.keys c.loop-stream.invariant.kept;
-      planned =
-          planned_more c.args.places.now c.args.due.now new c.loop-stream.stream-index c.args.start c.args.end c.loop-stream-test.true
-          (λ from below. subst (λ (ns : List ℕ). Contains ns place) (sym is) (contains_inserted old place))
-          (planned_kept c.args.places.now (take c.loop-stream.stream-index c.args.due.now) old new c.args.start c.args.end keeps c.loop-stream.invariant.planned);
-    }
-
-pub returns-clause-planned : goal.returns-clause-planned
-returns-clause-planned c =
-    subst (All (λ s. IsPlanned c.args.start c.args.end c.loop-stream.agenda.keys (get_or c.args.places.now s 0))) (taken_all c.args.due.now c.loop-stream.stream-index c.loop-stream-test.false) c.loop-stream.invariant.planned
+-- where no stream is due, what was planned still is
+pub returns-then-is_empty-clause-kept : goal.returns-then-is_empty-clause-kept
+returns-then-is_empty-clause-kept c = All-contains_itself c.args.agenda.now.keys

@@ -2,7 +2,7 @@ use Rattle.std.proofs.Common.{get_or, take}
 use Rattle.std.specs.Prelude.{Contains}
 use Rattle.std.specs.List.{All}
 use Rattle.epoch_draft.specs.Agenda.{AreFrom, IsPlanned}
-use Rattle.epoch_draft.proofs.agenda.plan.Given as goal
+use Rattle.epoch_draft.proofs.agenda.plan_each.Given as goal
 
 -- the streams so far are planned
 abbrev pub invariant-loop-stream : goal.invariant-loop-stream
