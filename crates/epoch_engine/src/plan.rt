@@ -47,6 +47,7 @@ impl Plan {
     }
 
     /// Makes the readers and the places of streams anew, if the plan is stale. Want of memory leaves it so.
+    #[inline(always)]
     pub(crate) fn refresh(&mut self, alloc: Global) -> Result<(), Memory>
         requires fits { NetworkFits self.old.merged self.old.layout }
         requires is { IsPlan self.old }
@@ -55,9 +56,23 @@ impl Plan {
         ensures merged { self.new.merged ≡ self.old.merged }
         ensures layout { self.new.layout ≡ self.old.layout }
     {
-        if !self.is_stale {
-            return Ok(());
+        if self.is_stale {
+            self.renew(alloc)
+        } else {
+            Ok(())
         }
+    }
+
+    // Makes the readers and the places of streams anew. Want of memory leaves the plan as it was.
+    #[inline(never)]
+    fn renew(&mut self, alloc: Global) -> Result<(), Memory>
+        requires fits { NetworkFits self.old.merged self.old.layout }
+        requires is { IsPlan self.old }
+        ensures is { IsPlan self.new }
+        ensures fresh { OnOk result (self.new.is_stale ≡ false) }
+        ensures merged { self.new.merged ≡ self.old.merged }
+        ensures layout { self.new.layout ≡ self.old.layout }
+    {
         let streams = self.layout.kinds.len();
         let network = self.merged.network();
         let readers = Readers::make(alloc, network, streams)?;

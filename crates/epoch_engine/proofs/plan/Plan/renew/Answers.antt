@@ -6,7 +6,7 @@ use Rattle.stream_readers.specs.Readers.{AreReadersOf}
 use Rattle.epoch_draft.specs.Agenda.{ArePlaces}
 use Rattle.epoch_engine.specs.Batches.{HasPlaces}
 use Rattle.epoch_engine.proofs.EngineLemmas.{order_below, order_once, outs_below}
-use Rattle.epoch_engine.proofs.plan.Plan.refresh.Goals as goal
+use Rattle.epoch_engine.proofs.plan.Plan.renew.Goals as goal
 
 -- printed streams have kinds
 pub printed_places-requires : goal.printed_places-requires
