@@ -1,15 +1,14 @@
 -- Programs to which a query comes, and from which one leaves, are typed.
-use Rattle.std.proofs.Common.{◌≡◌, ◌≢◌, ◌∙◌, ℕ, zero, suc, ◌<◌, List, [], ◌∷◌, ◌++◌, Bool, true, false, not, length, map, refl, sym, ap, subst, inl, inr, append_assoc, append-nil, arith}
+use Rattle.std.proofs.Common.{◌≡◌, ◌≢◌, ◌∙◌, ℕ, zero, suc, ◌<◌, List, [], ◌∷◌, ◌++◌, true, false, map, refl, sym, subst, inl, inr, append_assoc, append-nil, arith}
 use Rattle.std.specs.Prelude.{◌==◌, Contains}
 use Rattle.std.specs.List.{All, filter, range_with_len}
-use Rattle.std.specs.List.Sorted.{IsPermutation}
 use Rattle.std.proofs.lemmas.Bool.{cases_eq}
 use Rattle.std.proofs.lemmas.List.Elements.{All-append, All-cons, All-contains, All-filter, All-head, All-nil, All-tail, Contains-append_cases, Contains-append_left, Contains-append_right, Contains-get_or}
 use Rattle.std.proofs.lemmas.List.Sorted.{IsPermutation-append_left}
 use Rattle.event_types.specs.declared.kind.Kind.{Kind}
 use Rattle.event_types.proofs.NumberLemmas.{self_equal, is_other}
 use Rattle.scalar_expr.proofs.Bags.{filter_permuted}
-use Rattle.semantics.specs.Programs.{Program, Query}
+use Rattle.semantics.specs.Programs.{Query}
 use Rattle.semantics.specs.Reading.{ReadsOnly}
 use Rattle.semantics.specs.TypedPrograms.{PublishInTurn}
 use Rattle.semantics.specs.Typing.{IsTypedOver}
@@ -19,7 +18,7 @@ use Rattle.splitter.specs.SourceWidths.{HasWidths}
 use Rattle.splitter.proofs.ApartLemmas.{reads_weaker}
 use Rattle.catalogue.proofs.TurnLemmas.{gives_alike}
 use Rattle.catalogue.proofs.WideLemmas.{wide_alike}
-use Rattle.catalogue.specs.Changes.{MayCome, ProgramsKeepKinds, ProgramsLoseQueries, ProgramsTakeQueries, publishes_another, streams_there}
+use Rattle.catalogue.specs.Changes.{ProgramsKeepKinds, ProgramsLoseQueries, ProgramsTakeQueries, publishes_another}
 
 -- the streams of queries
 abbrev streams_by : List Query → List ℕ

@@ -35,3 +35,12 @@ pub mod VerdictLemmas
 pub mod WideLemmas
 pub mod WorkLemmas
 pub mod HoldingLemmas
+pub mod RemovingLemmas
+pub mod MovedLemmas
+pub mod LeftProgramLemmas
+pub mod LinedLemmas
+pub mod LeftLemmas
+pub mod CountedLemmas
+pub mod LeftStreamsLemmas
+pub mod PartedLemmas
+pub mod PutLemmas

@@ -7,14 +7,14 @@ use Rattle.expressions.specs.declared.expression.Expr.{Expr}
 use Rattle.expressions.specs.Views.{ex_of}
 use Rattle.semantics.specs.Expressions.{Read}
 use Rattle.semantics.specs.Programs.{Query}
-use Rattle.stream_schema.specs.Streams.{Entry}
+use Rattle.stream_schema.specs.Streams.{Entry, stream_names}
 use Rattle.catalogue.specs.declared.numbering.Published.{Published}
 use Rattle.catalogue.specs.Catalogued.{Catalogued, queries_of, query_in, query_of, work_in}
 use Rattle.catalogue.specs.Standing.{IsKnown, StandsInOrder}
 use Rattle.catalogue.proofs.StandLemmas.{Contains-map}
 
 -- a query by its place, by induction on the place
-queries_at : (streams : List Entry) (published : List Published) (expressions : List Expr) (place : ℕ) (d : Query) (p : Published) (x : Expr) → slice_get published place ≡ Some p → slice_get expressions place ≡ Some x
+pub queries_at : (streams : List Entry) (published : List Published) (expressions : List Expr) (place : ℕ) (d : Query) (p : Published) (x : Expr) → slice_get published place ≡ Some p → slice_get expressions place ≡ Some x
     → get_or (queries_of streams published expressions) place d ≡ query_of streams p x
 queries_at streams [] xs place d p x there is = cc
 queries_at streams (q ∷ published) [] place d p x there is = cc
@@ -31,7 +31,7 @@ queries_many streams (p ∷ published) [] same = absurd (omega (arith, same))
 queries_many streams (p ∷ published) (x ∷ xs) same = let rest = queries_many streams published xs (omega (arith, same)) in omega (arith, rest)
 
 -- an item within a list
-item_there : {X : Type 0} (xs : List X) (i : ℕ) → i < length xs → (x : X) × (slice_get xs i ≡ Some x)
+pub item_there : {X : Type 0} (xs : List X) (i : ℕ) → i < length xs → (x : X) × (slice_get xs i ≡ Some x)
 item_there [] i within = absurd (omega (arith, within))
 item_there (x ∷ xs) zero within = (x, refl)
 item_there (x ∷ xs) (suc i) within = item_there xs i (omega (arith, within))
@@ -53,6 +53,18 @@ module _ (c : Catalogued) (stands : StandsInOrder c) (query place : ℕ) (is : p
   -- the query's stream
   pub stream_at : (p : Published) → slice_get c.published place ≡ Some p → p.stream ≡ (query_in c query).stream
   stream_at p there = let (x, express) = item_there c.expressions place expression_small in ap (λ (q : Query). q.stream) (query_there p x there express)
+
+  -- its name is that of its stream
+  pub name_at : (query_in c query).name ≡ get_or (stream_names c.streams) (query_in c query).stream []
+  name_at =
+      let (p, there) = item_there c.published place publication_small in
+      let (x, express) = item_there c.expressions place expression_small in
+      let is : query_of c.streams p x ≡ query_in c query = query_there p x there express in
+      sym (ap (λ (q : Query). q.name) is) ∙ ap (λ (q : Query). get_or (stream_names c.streams) q.stream []) is
+
+  -- its birth
+  pub birth_at : (p : Published) → slice_get c.published place ≡ Some p → p.birth ≡ (query_in c query).birth
+  birth_at p there = let (x, express) = item_there c.expressions place expression_small in ap (λ (q : Query). q.birth) (query_there p x there express)
 
   -- its expression
   pub expression_at : (x : Expr) → slice_get c.expressions place ≡ Some x → ex_of x ≡ (query_in c query).expr

@@ -22,3 +22,6 @@ pub mod Standing
 pub mod Loaded
 pub mod Adding
 pub mod Holding
+pub mod Leaving
+pub mod Counting
+pub mod Rest

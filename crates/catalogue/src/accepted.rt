@@ -29,18 +29,18 @@ pub struct Catalogue {
     file: File,
     declared: usize,
     // By number: those that STREAM declares, those of the queries, and hidden ones.
-    streams: Streams,
+    pub(crate) streams: Streams,
     // The numbers of the queries in the order of work.
-    order: Numbers,
+    pub(crate) order: Numbers,
     // In the order of work.
-    published: List<Published>,
-    expressions: List<Expr>,
+    pub(crate) published: List<Published>,
+    pub(crate) expressions: List<Expr>,
     // For each query by its number its place in the order of work.
-    places: Vec<usize>,
+    pub(crate) places: Vec<usize>,
     // For each line the number of its end.
-    ends: Numbers,
+    pub(crate) ends: Numbers,
     next_end: usize,
-    chains: Chains,
+    pub(crate) chains: Chains,
 }
 
 impl Model for Catalogue {
@@ -170,7 +170,7 @@ impl Catalogue {
     }
 
     // The place of the query with this number in the order of work.
-    fn place(&self, query: usize) -> usize
+    pub(crate) fn place(&self, query: usize) -> usize
         requires { query < length self.now.order }
         ensures value { result ≡ position_or_len (λ other. query == other) self.now.order }
         ensures within { result < length self.now.order }
@@ -180,7 +180,7 @@ impl Catalogue {
 }
 
 // For each number its place.
-fn places_in(alloc: Global, numbers: &Numbers) -> Result<Vec<usize>, Memory>
+pub(crate) fn places_in(alloc: Global, numbers: &Numbers) -> Result<Vec<usize>, Memory>
     requires small { All (λ number. number < length numbers.now) numbers.now }
     requires distinct { AllPairs (λ x y. x ≢ y) numbers.now }
     ensures { IfOk result (λ places. HasPlaces numbers.now places.items) }

@@ -63,3 +63,24 @@ impl From<Memory> for LoadFault {
         LoadFault::Memory
     }
 }
+
+/// Why a query does not leave a catalogue.
+#[derive(Drop)]
+pub enum DropFault {
+    /// No query has the name. A declared stream is none.
+    UnknownQuery,
+    /// Queries read the stream of the query; this is the first of them in print order.
+    InUse { reader: Text },
+    /// There was no memory.
+    Memory,
+}
+
+impl From<Memory> for DropFault {
+    ghost use Rattle.catalogue.specs.declared.fault.DropFault.TheVariants as fault;
+
+    ghost from_gives = { λ _ made. made ≡ fault.Memory };
+
+    fn from(_error: Memory) -> DropFault {
+        DropFault::Memory
+    }
+}

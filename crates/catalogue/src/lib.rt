@@ -7,10 +7,13 @@
 
 mod accepted;
 mod arranging;
+mod counting;
 mod declaring;
+mod dropping;
 mod fault;
 mod filing;
 mod laws;
+mod leaving;
 mod loading;
 mod naming;
 mod numbering;
@@ -19,7 +22,8 @@ mod reading;
 mod statements;
 
 pub use accepted::Catalogue;
-pub use fault::{LoadFault, QueryFault};
+pub use dropping::Dropped;
+pub use fault::{DropFault, LoadFault, QueryFault};
 pub use laws::{
     accepted_texts_are_programs, accepted_texts_are_wide_programs, added_text_has_one_verdict,
     declarations_have_one_answer, declared_streams_come_first, loaded_texts_are_accepted,

@@ -47,9 +47,9 @@ pub fn number_all(
     Ok(published)
 }
 
-// The first number behind the hidden streams of an expression, which have the numbers from `next` on.
+/// The first number behind the hidden streams of an expression, which have the numbers from `next` on.
 #[cycle(hiding)]
-fn behind_hidden(expr: &Expr, next: StreamId) -> StreamId
+pub fn behind_hidden(expr: &Expr, next: StreamId) -> StreamId
     requires { HasNumbers (ex_of expr.now) next }
     ensures { result ≡ (parts_of (ex_of expr.now) next).next }
 {

@@ -1,0 +1,22 @@
+use Rattle.std.proofs.Common.{◌≡◌, ◌∙◌, ◌-◌, ◌++◌, ℕ, List, take, drop, sym, ap, subst, arith}
+use Rattle.catalogue.specs.Catalogued.{Catalogued, program_in, query_in}
+use Rattle.catalogue.specs.Leaving.{catalogue_without, lines_many}
+use Rattle.catalogue.specs.Tables.{IsHeld}
+use Rattle.catalogue.proofs.LeftProgramLemmas.{program_left}
+use Rattle.catalogue.proofs.accepted.Catalogue.leave.Goals as goal
+
+-- the query has left
+pub returns-clause-ok : goal.returns-clause-ok
+returns-clause-ok c =
+    let now = c.args.self.now in
+    let held : IsHeld now c.self.inside.places.items c.self.inside.chains.lines = subst (λ (v : Catalogued). IsHeld v c.self.inside.places.items c.self.inside.chains.lines) c.self.view_is c.self.invariant in
+    let part = c.part_of-part.result in
+    let many : part.end - part.first ≡ lines_many (query_in now c.args.query) = omega (arith, c.part_of-part.ensures.first, c.part_of-part.ensures.end) in
+    let is : c.put.new.self ≡ catalogue_without now c.args.query = c.put.ensures in
+    record {
+      catalogue = is;
+      program = ap program_in is ∙ program_left now held.stands c.args.query c.requires.within;
+      ends = c.in_ok-add_part.ensures ∙ ap (λ (ns : List ℕ). ns ++ take (part.end - part.first) (drop part.first c.self.inside.ends)) c.new-ends.ensures
+          ∙ (λ t. take (many t) (drop (c.part_of-part.ensures.first t) (c.self.view_is t).ends));
+      layout = c.in_ok-layout.ensures ∙ ap (λ (v : Catalogued). v.layout) (sym is);
+    }
