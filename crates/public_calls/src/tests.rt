@@ -1,4 +1,5 @@
 //! What no clause says: that memory is had.
+mod catalogues;
 mod chains;
 mod closings;
 mod counts;
