@@ -95,7 +95,7 @@ one_added_verdict streams text _ w (adding.one {s = s} {line = line} short is ju
     (subst (λ (s : Statement). JudgesStatement streams s line w) (sym same.statements) (subst (λ (line : ℕ). JudgesStatement streams other line w) (sym same.lines) judged_too))
 
 -- names without a fault are all there, by induction on them
-names-there : (names xs : List (List ℕ)) → read_fault names xs ≡ None → (name : List ℕ) → Contains xs name → Contains names name
+pub names-there : (names xs : List (List ℕ)) → read_fault names xs ≡ None → (name : List ℕ) → Contains xs name → Contains names name
 names-there names [] none name stands = absurd (omega arith)
 names-there names (x ∷ xs) none name stands = elim (cases_Bool (is_among names x)) [
   | inl there ↦ by-place name stands

@@ -51,7 +51,7 @@ programs_take_queries kinds program query wide may = record {
 }
 
 -- the only item of a list
-one-is : (y x : ℕ) → Contains (y ∷ []) x → x ≡ y
+pub one-is : (y x : ℕ) → Contains (y ∷ []) x → x ≡ y
 one-is y x (zero, less, same) = sym same
 one-is y x (suc k, less, same) = absurd (omega (arith, less))
 

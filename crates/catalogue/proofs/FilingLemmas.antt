@@ -14,12 +14,12 @@ use Rattle.catalogue.specs.Faults.{IsOfSyntax, IsOfTokens, not_utf8, bad_token, 
 use Rattle.catalogue.specs.Filing.{FailsAsFile, most_bytes, syntax, tokens}
 use Rattle.catalogue.specs.Telling.{TellsBad}
 
-tokens_told : {f : LexFault} {line : ℕ} {why : QueryFault} → IsOfTokens f line why → f ≢ lex.Memory
+pub tokens_told : {f : LexFault} {line : ℕ} {why : QueryFault} → IsOfTokens f line why → f ≢ lex.Memory
 tokens_told not_utf8 e = cc
 tokens_told bad_token e = cc
 tokens_told number e = cc
 
-syntax_told : {f : SyntaxFault} {line : ℕ} {why : QueryFault} → IsOfSyntax f line why → f ≢ syntax_fault.Memory
+pub syntax_told : {f : SyntaxFault} {line : ℕ} {why : QueryFault} → IsOfSyntax f line why → f ≢ syntax_fault.Memory
 syntax_told many e = cc
 syntax_told deep e = cc
 syntax_told bad e = cc

@@ -44,3 +44,7 @@ pub mod CountedLemmas
 pub mod LeftStreamsLemmas
 pub mod PartedLemmas
 pub mod PutLemmas
+pub mod FittingLemmas
+pub mod OrderedLemmas
+pub mod ComingLemmas
+pub mod JudgeLemmas

@@ -86,7 +86,7 @@ streams_by number hidden (s ∷ streams) [] = refl
 streams_by number hidden (s ∷ streams) (x ∷ xs) = ap (λ ns. number ∷ ns) (streams_by (number + 1) (split.parts_of (ex_of x) hidden).next streams xs)
 
 -- the next numbers come to the first ones
-range_on : (first a b : ℕ) → range_with_len first a ++ range_with_len (first + a) b ≡ range_with_len first (a + b)
+pub range_on : (first a b : ℕ) → range_with_len first a ++ range_with_len (first + a) b ≡ range_with_len first (a + b)
 range_on first zero b =
     let e : first + 0 ≡ first = omega arith in
     let f : b ≡ 0 + b = omega arith in λ i. range_with_len (e i) (f i)

@@ -82,7 +82,7 @@ pub say_few : {said : List Sentence} {ss : List Statement} {lines : List ℕ} �
 say_few none = All-nil HasFew
 say_few (more {s = s} {ss = ss} says rest) = All-cons HasFew s ss (statement_few says.read says.small.few) (say_few rest)
 
-query_short : (streams : List Entry) (s : Statement) (schema : List Attr) (x : Ex) → HasFew s → Queries streams s schema x → IsShort x
+pub query_short : (streams : List Entry) (s : Statement) (schema : List Attr) (x : Ex) → HasFew s → Queries streams s schema x → IsShort x
 query_short streams (tree.Stream name columns) schema x few q = absurd q
 query_short streams (tree.Query items e name) schema x few q = omega (arith, gives_nodes q, few)
 

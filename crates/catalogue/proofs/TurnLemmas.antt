@@ -59,7 +59,7 @@ kinds_before streams more all is stream within =
     ap kinds_of (sym (ap (λ es. get_or (schemas_of es) stream []) is ∙ ap (λ xs. get_or xs stream []) (map-append (λ e. e.schema) streams more) ∙ get_or_append_left (schemas_of streams) (schemas_of more) [] stream (omega arith)))
 
 -- the stream behind others has its own
-kinds_at : (streams more all : List Entry) (s : Entry) → all ≡ streams ++ s ∷ more → kinds_in all (length streams) ≡ kinds_of s.schema
+pub kinds_at : (streams more all : List Entry) (s : Entry) → all ≡ streams ++ s ∷ more → kinds_in all (length streams) ≡ kinds_of s.schema
 kinds_at streams more all s is =
     ap kinds_of (ap (λ es. get_or (schemas_of es) (length streams) []) is ∙ ap (λ xs. get_or xs (length streams) []) (map-append (λ e. e.schema) streams (s ∷ more))
     ∙ ap (λ n. get_or (schemas_of streams ++ s.schema ∷ schemas_of more) n []) (sym (length-map streams (λ e. e.schema))) ∙ get_or-append_seam (schemas_of streams) s.schema (schemas_of more) [])

@@ -33,7 +33,7 @@ gives_wide (source.union g h d) = (gives_wide g, gives_wide h)
 gives_wide (source.next g h le m) = (gives_wide g, gives_wide h)
 gives_wide (source.fold g h m n a) = (gives_wide g, gives_wide h)
 
-query_wide : (streams : List Entry) (s : Statement) (schema : List Attr) (x : Ex) → Queries streams s schema x → HasWidths (kinds_in streams) x
+pub query_wide : (streams : List Entry) (s : Statement) (schema : List Attr) (x : Ex) → Queries streams s schema x → HasWidths (kinds_in streams) x
 query_wide streams (tree.Stream name columns) schema x q = absurd q
 query_wide streams (tree.Query items e name) schema x q = gives_wide q
 

@@ -25,3 +25,5 @@ pub mod Holding
 pub mod Leaving
 pub mod Counting
 pub mod Rest
+pub mod Coming
+pub mod Fitting

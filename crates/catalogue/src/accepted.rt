@@ -1,17 +1,24 @@
 //! Catalogues: query texts that are accepted, and their queries.
-ghost use Rattle.std.specs.Prelude.{◌≡◌, ◌≢◌, ◌<◌, ◌+◌, ◌^◌, ◌==◌, AllPairs, IfOk, length, sum_by};
+ghost use Rattle.std.specs.Prelude.{◌≡◌, ◌≢◌, ◌<◌, ◌+◌, ◌^◌, ◌==◌, AllPairs, IfErr, IfOk, OnErr, OnOk, length, sum_by};
 ghost use Rattle.std.specs.List.{All, position_or_len};
 ghost use Rattle.expressions.specs.Views.{ex_of};
 ghost use Rattle.splitter.specs.Chains.{lines_of};
 ghost use Rattle.stream_schema.specs.Streams.{AreThere, IsRetired};
+ghost use Rattle.catalogue.specs.Adding.{JudgesAdded, NotTaken};
 ghost use Rattle.catalogue.specs.Catalogued.{program_in, query_in};
 ghost use Rattle.catalogue.specs.Chained.{AreChained, kinds_of_each};
+ghost use Rattle.catalogue.specs.Coming.{HasCome, IsAdded, IsLatest, IsTold, TellsAdded, coming};
+ghost use Rattle.catalogue.specs.Fitting.{IsFit, IsGrowth, added_of};
 ghost use Rattle.catalogue.specs.Loaded.{HoldsJudged, IsUnchanged};
 ghost use Rattle.catalogue.specs.Parts.{IsAccepted, parts_of, judged_of};
 ghost use Rattle.catalogue.specs.Standing.{IsLayoutOver, StandsInOrder};
 ghost use Rattle.catalogue.specs.Tables.{HasPlaces};
 
+use crate::adding::{Added, Coming, Growth, as_added, judge};
+use crate::fault::AddFault;
+use crate::growing::{lines_of_one, numbers_from, put_lines, put_query, size_of};
 use crate::numbering::{Published, hide_up_to, number_all, numbers_below};
+use crate::statements::name;
 use automaton::{Layout, Lines};
 use cel_parser::File;
 use event_types::{KindLists, List, Memory, Numbers, StreamId};
@@ -21,9 +28,12 @@ use std::alloc::Global;
 use std::marker::Model;
 use stream_schema::Streams;
 
+// The most lines of a query, with the hops on them.
+const MOST_OF_ONE: usize = 1_048_576;
+
 /// Queries that stand in order: the statements that they were loaded from, the streams that these declare, those that
 /// the queries publish, hidden ones too, and the queries, typed, with their lines. A query's number is its place among
-/// those that are there, from 0.
+/// those that are there, from 0; one that was added stands behind those that were there.
 #[derive(Drop)]
 pub struct Catalogue {
     file: File,
@@ -167,6 +177,99 @@ impl Catalogue {
         ensures laid { IsLayoutOver self.now.streams (program_in self.now) result.now }
     {
         &self.chains.layout
+    }
+
+    /// Brings the query of a text, which is the last one then and reads what is detected after `since`. Else the first fault
+    /// of the text: of its length, its tokens, its statement, its name, the names that it reads, or its types.
+    pub fn add(&mut self, alloc: Global, text: &[u8], since: Option<u64>) -> Result<Added, AddFault>
+        requires { IsLatest since self.old }
+        ensures ok { IfOk result (IsAdded text.now since self.old self.new) }
+        ensures bad { IfErr result (TellsAdded (λ line why. JudgesAdded self.old.streams text.now (NotTaken line why))) }
+        ensures kept { OnErr result (self.new ≡ self.old) }
+    {
+        match judge(alloc, &self.streams, text) {
+            Ok(query) => Ok(self.take_in(alloc, query, since)?),
+            Err(fault) => Err(as_added(fault)),
+        }
+    }
+
+    // Puts a typed query behind those that are there.
+    fn take_in(&mut self, alloc: Global, query: Coming, since: Option<u64>) -> Result<Added, Memory>
+        requires fit { IsFit self.old.streams (added_of query) }
+        requires born { IsLatest since self.old }
+        ensures come { OnOk result (HasCome self.old (added_of query) since self.new) }
+        ensures told { IfOk result (IsTold self.old (coming self.old (added_of query) since) self.new) }
+        ensures kept { OnErr result (self.new ≡ self.old) }
+    {
+        let growth = self.growth(alloc, &query)?;
+        let statement = query.statement;
+        let schema = query.schema;
+        let lines = self.chains.lines.len();
+        let queries = self.order.len();
+        let stream = self.chains.layout.kinds.len();
+        let hidden = growth.layout.kinds.len() - (stream + 1);
+        let publication = Published {
+            stream,
+            hidden: stream + 1,
+            birth: since,
+        };
+        put_lines(
+            alloc,
+            &mut self.chains.lines,
+            &mut self.ends,
+            &growth.told.lines,
+            &growth.told.ends,
+        )?;
+        let put = put_query(
+            &mut self.order,
+            &mut self.places,
+            &mut self.published,
+            &mut self.expressions,
+            publication,
+            query.expr,
+        );
+        if let Err(_) = put {
+            self.chains.lines.truncate(lines);
+            self.ends.truncate(lines);
+            return Err(Memory);
+        }
+        if let Err(_) = self.streams.publish(name(&statement), schema, hidden) {
+            self.chains.lines.truncate(lines);
+            self.ends.truncate(lines);
+            self.order.truncate(queries);
+            self.places.truncate(queries);
+            self.published.truncate(queries);
+            self.expressions.truncate(queries);
+            return Err(Memory);
+        }
+        self.next_end += growth.told.lines.len();
+        self.chains.layout = growth.layout;
+        Ok(growth.told)
+    }
+
+    // What the catalogue grows by with a typed query.
+    fn growth(&self, alloc: Global, query: &Coming) -> Result<Growth, Memory>
+        requires { IsFit self.now.streams (added_of query.now) }
+        ensures { IfOk result (IsGrowth self.now (added_of query.now)) }
+    {
+        if size_of(&self.chains.lines) > usize::MAX - MOST_OF_ONE {
+            return Err(Memory);
+        }
+        let chains = lines_of_one(alloc, &self.chains.layout, &query.schema, &query.expr)?;
+        let many = chains.lines.len();
+        if self.next_end > usize::MAX - many {
+            return Err(Memory);
+        }
+        let told = Added {
+            query: self.order.len(),
+            lines: chains.lines,
+            ends: numbers_from(alloc, self.next_end, many)?,
+            layout: chains.layout.copy(alloc)?,
+        };
+        Ok(Growth {
+            told,
+            layout: chains.layout,
+        })
     }
 
     // The place of the query with this number in the order of work.

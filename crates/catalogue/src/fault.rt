@@ -84,3 +84,22 @@ impl From<Memory> for DropFault {
         DropFault::Memory
     }
 }
+
+/// Why a query does not come to a catalogue.
+#[derive(Drop)]
+pub enum AddFault {
+    /// The text is refused, with the line of the place at fault, counted from 1.
+    Bad { line: u64, why: QueryFault },
+    /// There was no memory.
+    Memory,
+}
+
+impl From<Memory> for AddFault {
+    ghost use Rattle.catalogue.specs.declared.fault.AddFault.TheVariants as fault;
+
+    ghost from_gives = { λ _ made. made ≡ fault.Memory };
+
+    fn from(_error: Memory) -> AddFault {
+        AddFault::Memory
+    }
+}

@@ -1,14 +1,16 @@
 //! From a text to its statements: its length, its tokens, its grammar.
-ghost use Rattle.std.specs.Prelude.{◌≡◌, ◌≤◌, ◌+◌, IfErr, IfOk, count_by, length, map, take};
+ghost use Rattle.std.specs.Prelude.{◌≡◌, ◌≤◌, ◌+◌, IfErr, IfOk, OnOk, count_by, length, map, take};
 ghost use Rattle.cel_grammar.specs.Views.{statement_of};
 ghost use Rattle.cel_lexer.specs.Bytes.{is_line_feed};
+ghost use Rattle.cel_parser.specs.OneQuery.{IsOneQuery};
+ghost use Rattle.catalogue.specs.Adding.{FailsAsOneQuery};
 ghost use Rattle.catalogue.specs.Faults.{IsOfSyntax, IsOfTokens};
 ghost use Rattle.catalogue.specs.Filing.{FailsAsFile, IsFileWithinLimit, most_bytes};
 ghost use Rattle.catalogue.specs.Telling.{TellsBad};
 
 use crate::fault::{LoadFault, QueryFault};
 use cel_lexer::{LexFault, lex};
-use cel_parser::{File, SyntaxFault, parse};
+use cel_parser::{File, OneQuery, SyntaxFault, parse, parse_one};
 use std::alloc::Global;
 
 // The greatest number of bytes of a query text.
@@ -28,6 +30,27 @@ pub(crate) fn file_of(alloc: Global, text: &[u8]) -> Result<File, LoadFault>
     match lex(alloc, text) {
         Ok(tokens) => match parse(alloc, &tokens) {
             Ok(file) => Ok(file),
+            Err(fault) => Err(of_syntax(fault)),
+        },
+        Err(fault) => Err(of_tokens(fault)),
+    }
+}
+
+// The query of a text that has no other statement, or the text's first fault of length, tokens or grammar.
+pub(crate) fn query_of(alloc: Global, text: &[u8]) -> Result<OneQuery, LoadFault>
+    ensures short { OnOk result (length text.now ≤ most_bytes) }
+    ensures ok { IfOk result (λ one. IsOneQuery text.now (statement_of one.statement) one.line) }
+    ensures err { IfErr result (TellsBad (FailsAsOneQuery text.now)) }
+{
+    if text.len() > MOST {
+        return Err(LoadFault::Bad {
+            line: last_line(text),
+            why: QueryFault::TooLong,
+        });
+    }
+    match lex(alloc, text) {
+        Ok(tokens) => match parse_one(alloc, &tokens) {
+            Ok(one) => Ok(one),
             Err(fault) => Err(of_syntax(fault)),
         },
         Err(fault) => Err(of_tokens(fault)),

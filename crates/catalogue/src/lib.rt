@@ -6,12 +6,14 @@
 #![tactic(auto)]
 
 mod accepted;
+mod adding;
 mod arranging;
 mod counting;
 mod declaring;
 mod dropping;
 mod fault;
 mod filing;
+mod growing;
 mod laws;
 mod leaving;
 mod loading;
@@ -22,8 +24,9 @@ mod reading;
 mod statements;
 
 pub use accepted::Catalogue;
+pub use adding::Added;
 pub use dropping::Dropped;
-pub use fault::{DropFault, LoadFault, QueryFault};
+pub use fault::{AddFault, DropFault, LoadFault, QueryFault};
 pub use laws::{
     accepted_texts_are_programs, accepted_texts_are_wide_programs, added_text_has_one_verdict,
     declarations_have_one_answer, declared_streams_come_first, loaded_texts_are_accepted,

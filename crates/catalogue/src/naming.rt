@@ -37,7 +37,7 @@ pub fn name_all(alloc: Global, file: &File) -> Result<Named, LoadFault>
     };
     for place in 0..file.size() {
         let statement = file.statement(place);
-        if let Some(why) = fault_of(alloc, &named, name(statement))? {
+        if let Some(why) = fault_of(alloc, &named.all, name(statement))? {
             return Err(LoadFault::Bad {
                 line: file.line(place),
                 why,
@@ -49,14 +49,18 @@ pub fn name_all(alloc: Global, file: &File) -> Result<Named, LoadFault>
 }
 
 // The fault of a name behind those that are there.
-fn fault_of(alloc: Global, named: &Named, name: &str) -> Result<Option<QueryFault>, Memory>
-    ensures { IfOk result (λ fault. fault ≡ name_fault (stream_names named.now.all) name.now) }
+pub(crate) fn fault_of(
+    alloc: Global,
+    there: &Streams,
+    name: &str,
+) -> Result<Option<QueryFault>, Memory>
+    ensures { IfOk result (λ fault. fault ≡ name_fault (stream_names there.now) name.now) }
 {
     if name == "stream" {
         let name = Text::make(alloc, name)?;
         return Ok(Some(QueryFault::Reserved { name }));
     }
-    if named.all.find(name).is_some() {
+    if there.find(name).is_some() {
         let name = Text::make(alloc, name)?;
         return Ok(Some(QueryFault::Duplicate { name }));
     }

@@ -1,4 +1,4 @@
--- Kinds of streams that grow by those of hidden streams, line by line. No public clause cites this.
+-- Kinds of streams that grow by those of hidden streams, line by line.
 use Rattle.std.specs.Prelude.{◌≡◌, ◌==◌, if◌then◌else◌, List, [], ◌∷◌, ◌++◌, length, Some, slice_get}
 use Rattle.event_types.specs.declared.kind.Kind.{Kind}
 use Rattle.automaton.specs.declared.line.Line.{Line}

@@ -82,8 +82,9 @@ fn streams_at(alloc: Global, declared: usize, places: &[usize]) -> Result<Number
     Ok(streams)
 }
 
-// Adds the lines of a query, and what the layout tells of its streams.
-fn add_query(
+/// Adds the lines of a query that publishes a stream, and what the layout tells of its hidden streams, and both to the order
+/// of work. The layout has the kinds of all streams below the first hidden one.
+pub fn add_query(
     alloc: Global,
     expr: &Expr,
     stream: StreamId,

@@ -14,7 +14,7 @@ mod program_laws;
 mod splitting;
 mod stages;
 
-pub use chains::Chains;
+pub use chains::{Chains, add_query};
 pub use laws::{
     added_lines_mean_their_expression, lines_are_in_order, lines_mean_their_expression,
 };

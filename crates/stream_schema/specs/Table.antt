@@ -1,5 +1,5 @@
 -- What a list of streams and a table of their numbers say. No public clause cites it.
-use Rattle.std.specs.Prelude.{◌≡◌, ℕ, ◌+◌, List, [], ◌∷◌, Option, Some, None, String, string_bytes}
+use Rattle.std.specs.Prelude.{◌≡◌, ℕ, ◌+◌, false, List, [], ◌∷◌, Option, Some, None, String, string_bytes}
 use Rattle.std.specs.HashMap.{HashMap, get_by_text}
 use Rattle.std.specs.List.{IsDistinct}
 use Rattle.std.specs.Str.{bytes_eq}
@@ -19,6 +19,10 @@ streams_from number (s ∷ streams) = record { name = name_at number s.name; sch
 -- the streams by number
 abbrev pub streams_of : List Stream → List Entry
 streams_of streams = streams_from 0 streams
+
+-- a stream without a name and without attributes
+abbrev pub unnamed : Stream
+unnamed = record { name = None; schema = []; declared = false }
 
 -- a name that isn't that of a retired stream
 abbrev pub IsOwn : List ℕ → Type 0

@@ -1,6 +1,7 @@
 //! The table of streams by name.
-ghost use Rattle.std.specs.Prelude.{◌≡◌, ◌<◌, ◌≤◌, ◌↔◌, ◌⊎◌, [], ◌∷◌, ◌++◌, false, length, slice_get, Some, None, IfOk, OnOk, OnErr, IfSome, Contains, AllPairs, ◌≢◌};
-ghost use Rattle.stream_schema.specs.Streams.{AreThere, IsRetired, declared_of, number_of, retired, schemas_of, stream_names, with_hidden};
+ghost use Rattle.std.specs.Prelude.{◌≡◌, ◌<◌, ◌≤◌, ◌+◌, ◌↔◌, ◌⊎◌, [], ◌∷◌, ◌++◌, false, length, slice_get, Some, None, IfOk, OnOk, OnErr, IfSome, Contains, AllPairs, ◌≢◌, replicate};
+ghost use Rattle.stream_schema.specs.Streams.{AreThere, IsRetired, declared_of, hidden_entries, number_of, retired, schemas_of, stream_names, with_hidden};
+ghost use Rattle.stream_schema.specs.Table.{unnamed};
 
 use crate::schema::Schema;
 use event_types::{List, Memory, StreamId};
@@ -60,6 +61,32 @@ impl Streams {
             schema,
             declared,
         })?;
+        match self.numbers.insert(key, number) {
+            Ok(_) => Ok(number),
+            Err(_) => {
+                self.streams.truncate(number);
+                Err(Memory)
+            }
+        }
+    }
+
+    /// Puts the stream at the end that a query publishes, and so many hidden ones behind it. Want of memory drops the schema.
+    pub fn publish(&mut self, name: &str, schema: Schema, hidden: usize) -> Result<StreamId, Memory>
+        requires { number_of name.now self.old ≡ None }
+        ensures number { IfOk result (λ number. number ≡ length self.old) }
+        ensures ok { OnOk result (self.new ≡ self.old ++ record { name = name.now; schema = schema; declared = false } ∷ hidden_entries (length self.old + 1) hidden) }
+        ensures kept { OnErr result (self.new ≡ self.old) }
+    {
+        let number = self.streams.len();
+        let key = String::from_str(self.alloc, name)?;
+        let name = Some(String::from_str(self.alloc, name)?);
+        let declared = false;
+        let stream = Stream {
+            name,
+            schema,
+            declared,
+        };
+        put_with_hidden(self.alloc, &mut self.streams, stream, hidden)?;
         match self.numbers.insert(key, number) {
             Ok(_) => Ok(number),
             Err(_) => {
@@ -175,4 +202,44 @@ struct Stream {
     name: Option<String>,
     schema: Schema,
     declared: bool,
+}
+
+// Puts the stream at the end, and so many behind it that have no name and no attributes.
+fn put_with_hidden(
+    alloc: Global,
+    streams: &mut List<Stream>,
+    stream: Stream,
+    hidden: usize,
+) -> Result<(), Memory>
+    ensures ok { OnOk result (streams.new ≡ (streams.old ++ stream ∷ []) ++ replicate hidden unnamed) }
+    ensures kept { OnErr result (streams.new ≡ streams.old) }
+{
+    let number = streams.len();
+    streams.add(stream)?;
+    if let Err(_) = add_unnamed(alloc, streams, hidden) {
+        streams.truncate(number);
+        return Err(Memory);
+    }
+    Ok(())
+}
+
+// Puts so many streams at the end that have no name and no attributes.
+fn add_unnamed(alloc: Global, streams: &mut List<Stream>, many: usize) -> Result<(), Memory>
+    ensures ok { OnOk result (streams.new ≡ streams.old ++ replicate many unnamed) }
+    ensures kept { OnErr result (streams.new ≡ streams.old) }
+{
+    let number = streams.len();
+    let declared = false;
+    for _ in 0..many {
+        let unnamed = Stream {
+            name: None,
+            schema: Schema::new(alloc),
+            declared,
+        };
+        if let Err(_) = streams.add(unnamed) {
+            streams.truncate(number);
+            return Err(Memory);
+        }
+    }
+    Ok(())
 }

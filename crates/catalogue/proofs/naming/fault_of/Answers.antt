@@ -13,14 +13,14 @@ use Rattle.catalogue.proofs.naming.fault_of.Goals as goal
 pub returns-then-is_some : goal.returns-then-is_some
 returns-then-is_some c =
     let free : bytes_eq c.args.name.now reserved_name ≡ false = sym c.eq.ensures ∙ c.if-eq.false in
-    let there : is_among (stream_names c.args.named.now.all) c.args.name.now ≡ true =
-    sym (is_some-number_of c.args.name.now c.args.named.now.all) ∙ ap is_some (sym c.find.ensures.value) ∙ sym c.is_some.ensures ∙ c.if-is_some.true in
-    ap (λ n. Some (Duplicate n)) c.in_ok-name-2.ensures ∙ sym (name_fault-taken (stream_names c.args.named.now.all) c.args.name.now free there)
+    let there : is_among (stream_names c.args.there.now) c.args.name.now ≡ true =
+    sym (is_some-number_of c.args.name.now c.args.there.now) ∙ ap is_some (sym c.find.ensures.value) ∙ sym c.is_some.ensures ∙ c.if-is_some.true in
+    ap (λ n. Some (Duplicate n)) c.in_ok-name-2.ensures ∙ sym (name_fault-taken (stream_names c.args.there.now) c.args.name.now free there)
 
 -- none is
 pub returns : goal.returns
 returns c =
     let free : bytes_eq c.args.name.now reserved_name ≡ false = sym c.eq.ensures ∙ c.if-eq.false in
-    let absent : is_among (stream_names c.args.named.now.all) c.args.name.now ≡ false =
-    sym (is_some-number_of c.args.name.now c.args.named.now.all) ∙ ap is_some (sym c.find.ensures.value) ∙ sym c.is_some.ensures ∙ c.if-is_some.false in
-    sym (name_fault-none (stream_names c.args.named.now.all) c.args.name.now free absent)
+    let absent : is_among (stream_names c.args.there.now) c.args.name.now ≡ false =
+    sym (is_some-number_of c.args.name.now c.args.there.now) ∙ ap is_some (sym c.find.ensures.value) ∙ sym c.is_some.ensures ∙ c.if-is_some.false in
+    sym (name_fault-none (stream_names c.args.there.now) c.args.name.now free absent)

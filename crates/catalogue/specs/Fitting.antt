@@ -1,0 +1,77 @@
+-- What an added query brings that is taken. No public clause cites this.
+use Rattle.std.specs.Prelude.{◌≡◌, ℕ, ◌+◌, ◌≤◌, ◌<◌, ◌^◌, ◌++◌, ◌∷◌, [], List, length, sum_by, Some, None}
+use Rattle.std.specs.List.{All, range_with_len}
+use Rattle.event_types.specs.declared.kind.Kind.{Kind}
+use Rattle.expressions.specs.Views.{ex_of}
+use Rattle.semantics.specs.Expressions.{Ex}
+use Rattle.automaton.specs.declared.layout.Layout.{Layout}
+use Rattle.splitter.specs.Chains.{lines_of}
+use Rattle.splitter.specs.declared.chains.Chains.{Chains}
+use Rattle.splitter.specs.Growing.{GrowInTurn}
+use Rattle.splitter.specs.Laws.{IsApart, split_order}
+use Rattle.splitter.specs.Splitting.{parts_of, split_lines}
+use Rattle.stream_schema.specs.Streams.{Entry, number_of}
+use Rattle.stream_schema.specs.Schema.{Attr, kinds_of}
+use Rattle.stream_schema.specs.Table.{IsOwn}
+use Rattle.cel_grammar.specs.Views.{statement_of}
+use Rattle.cel_types.specs.Statements.{Queries}
+use Rattle.catalogue.specs.declared.adding.Coming.{Coming}
+use Rattle.catalogue.specs.declared.adding.Growth.{Growth}
+use Rattle.catalogue.specs.declared.fault.AddFault.{AddFault}
+use Rattle.catalogue.specs.declared.fault.AddFault.TheVariants as added
+use Rattle.catalogue.specs.declared.fault.LoadFault.{LoadFault}
+use Rattle.catalogue.specs.declared.fault.LoadFault.TheVariants.{Bad, Cycle, Memory}
+use Rattle.catalogue.specs.Adding.{AddedQuery}
+use Rattle.catalogue.specs.Catalogued.{Catalogued, program_in}
+use Rattle.catalogue.specs.Standing.{IsKnown}
+use Rattle.catalogue.specs.Statements.{name_of, reads_by}
+
+-- the same fault of an added query; no cycle is one
+abbrev pub IsSameFault : LoadFault → AddFault → Type 0
+IsSameFault (Bad line why) fault = fault ≡ added.Bad line why
+IsSameFault (Cycle names) fault = ⊥
+IsSameFault Memory fault = fault ≡ added.Memory
+
+-- the added query as its parts
+abbrev pub added_of : Coming → AddedQuery
+added_of query = record { statement = statement_of query.statement; schema = query.schema; expr = ex_of query.expr }
+
+-- the stream that has the name is known
+abbrev pub IsKnownName : List Entry → List ℕ → Type 0
+IsKnownName streams name = (stream : ℕ) → number_of name streams ≡ Some stream → IsKnown streams stream
+
+-- an expression takes few numbers for hidden streams, and has few lines
+pub record IsFew (e : Ex) : Type 0 where
+  pub numbers : (next : ℕ) → (parts_of e next).next ≤ next + 1024
+  pub lines : (out next : ℕ) → sum_by (λ line. 1 + length line.hops) (split_lines e out next) ≤ 1048576
+
+-- a query that may be added over streams: it is typed over them, its name is new, it reads streams that are known, and it is small
+pub record IsFit (streams : List Entry) (added : AddedQuery) : Type 0 where
+  pub typed : Queries streams added.statement added.schema added.expr
+  pub new : number_of (name_of added.statement) streams ≡ None
+  pub own : IsOwn (name_of added.statement)
+  pub known : All (IsKnownName streams) (reads_by added.statement)
+  pub few : IsFew added.expr
+
+-- a layout has room for the streams of an expression that is typed over it, whose own has the next number and this schema
+pub record MayGrow (layout : Layout) (schema : List Attr) (e : Ex) : Type 0 where
+  pub numbers : (next : ℕ) → (parts_of e next).next ≤ next + 1024
+  pub apart : (out : ℕ) → out ≡ length layout.kinds → IsApart e out (out + 1)
+  pub typed : (all : List (List Kind)) × GrowInTurn (layout.kinds ++ kinds_of schema ∷ []) (split_lines e (length layout.kinds) (length layout.kinds + 1)) all
+
+-- these are the lines of an expression, and the layout has grown by their streams
+pub record HasGrown (layout : Layout) (schema : List Attr) (e : Ex) (chains : Chains) : Type 0 where
+  pub lines : chains.lines ≡ split_lines e (length layout.kinds) (length layout.kinds + 1)
+  pub order : chains.layout.order ≡ layout.order ++ split_order e (length layout.kinds) (length layout.kinds + 1)
+  pub outs : chains.layout.outs ≡ layout.outs ++ length layout.kinds ∷ []
+  pub kinds : GrowInTurn (layout.kinds ++ kinds_of schema ∷ []) chains.lines chains.layout.kinds
+  pub room : (parts_of e (length layout.kinds + 1)).next < 2 ^ 64
+
+-- a catalogue may grow by a typed query so: its lines come with their ends and the layout then, and all lines are few
+pub record IsGrowth (c : Catalogued) (added : AddedQuery) (growth : Growth) : Type 0 where
+  pub grown : HasGrown c.layout added.schema added.expr (record { lines = growth.told.lines; layout = growth.layout })
+  pub number : growth.told.query ≡ length c.order
+  pub ends : growth.told.ends ≡ range_with_len c.next_end (length growth.told.lines)
+  pub copy : growth.told.layout ≡ growth.layout
+  pub ends_room : c.next_end + length growth.told.lines < 2 ^ 64
+  pub few : sum_by (λ line. 1 + length line.hops) (lines_of (program_in c)) + 1048576 < 2 ^ 64
