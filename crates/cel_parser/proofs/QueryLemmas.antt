@@ -11,7 +11,7 @@ use Rattle.cel_parser.specs.Cutting.{Begins, BeginsFaulty}
 use Rattle.cel_parser.specs.OneQuery.{AreNotOneQuery, AreTooMany, IsNotAlone, IsNotOneQuery, IsOneQuery, IsQuery, declared, first, followed, not_alone, query}
 use Rattle.cel_parser.specs.Faults.{IsFaulty}
 use Rattle.cel_parser.specs.OneQuery as one
-use Rattle.cel_parser.specs.QueryLaws.{OneQueryFault, OneQueryReading, QueryNotBoth, QueryOrFault}
+use Rattle.cel_parser.specs.QueryLaws.{OneFaultOfQuery, OneQueryReading, QueryNotBoth, QueryOrFault}
 use Rattle.cel_parser.specs.declared.fault.SyntaxFault.{SyntaxFault}
 use Rattle.cel_parser.specs.declared.fault.SyntaxFault.TheVariants as fault
 use Rattle.cel_parser.proofs.FaultLemmas.{no-fault, one-fault, one-reading, sentence-told}
@@ -119,7 +119,7 @@ one-query-reading text s other line other_line h k =
     record { statements = (let statements = same.statements in cc); lines = (let lines = same.lines in cc) }
 
 -- a text is none for one fault
-pub one-query-fault : OneQueryFault
+pub one-query-fault : OneFaultOfQuery
 one-query-fault text e other h k =
     let same : h.tokens ≡ k.tokens = (let both = sym h.all ∙ k.all in cc) in
     not-one (subst (λ tokens. AreNotOneQuery (sentences_of text tokens) e) same h.explained) k.explained

@@ -16,8 +16,8 @@ abbrev pub OneQueryReading : Type 0
 OneQueryReading = (text : List ℕ) (s other : Statement) (line other_line : ℕ) → IsOneQuery text s line → IsOneQuery text other other_line → SameQuery s other line other_line
 
 -- a text has at most one fault for which it is not one query
-abbrev pub OneQueryFault : Type 0
-OneQueryFault = (text : List ℕ) (e other : SyntaxFault) → IsNotOneQuery text e → IsNotOneQuery text other → e ≡ other
+abbrev pub OneFaultOfQuery : Type 0
+OneFaultOfQuery = (text : List ℕ) (e other : SyntaxFault) → IsNotOneQuery text e → IsNotOneQuery text other → e ≡ other
 
 -- a text that is one query has no such fault
 abbrev pub QueryNotBoth : Type 0

@@ -14,7 +14,8 @@ pub enum SyntaxFault {
     #[error("line {line}: statement {number} is nested more than 64 deep")]
     TooDeep { number: u64, line: u64 },
     /// The grammar does not have it, as `SELECT * FROM Stock;`. Tokens behind the last `;` are this fault,
-    /// whatever they are.
+    /// whatever they are. Where one query is wanted, so are a text without a statement and a first statement that
+    /// declares a stream, each with the number 1, and a second statement, with the number 2.
     #[error("line {line}: statement {number} is not in the grammar")]
     BadStatement { number: u64, line: u64 },
     /// No memory for the statements.

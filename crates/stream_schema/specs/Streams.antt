@@ -26,7 +26,7 @@ schemas_of streams = map (λ s. s.schema) streams
 abbrev pub declared_of : List Entry → List Bool
 declared_of streams = map (λ s. s.declared) streams
 
--- the name of a retired stream by its number, which no text has: 256 is no byte
+-- the name of a retired or hidden stream by its number, which no text has: 256 is no byte
 abbrev pub retired_name : ℕ → List ℕ
 retired_name number = 256 ∷ number ∷ []
 
@@ -44,7 +44,7 @@ retired streams number = renamed streams number (retired_name number)
 abbrev pub hidden_entry : ℕ → Entry
 hidden_entry number = record { name = retired_name number; schema = []; declared = false }
 
--- so many hidden streams, which have the numbers from one on
+-- so many hidden streams, which have the numbers from `first` on
 abbrev pub hidden_entries : ℕ → ℕ → List Entry
 hidden_entries first many = map hidden_entry (range_with_len first many)
 
@@ -56,6 +56,6 @@ with_hidden streams = streams ++ hidden_entry (length streams) ∷ []
 abbrev pub IsRetired : List Entry → ℕ → Type 0
 IsRetired streams number = slice_get (stream_names streams) number ≡ Some (retired_name number)
 
--- none of the streams is retired
+-- none of the streams is retired or hidden
 abbrev pub AreThere : List Entry → Type 0
 AreThere streams = (number : ℕ) → IsRetired streams number → ⊥
