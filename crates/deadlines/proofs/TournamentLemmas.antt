@@ -1,5 +1,5 @@
 -- Tournament trees: what is under a node, and the way down to a leaf.
-use Rattle.std.proofs.Common.{◌≡◌, ◌∙◌, sym, ap, refl, subst, ℕ, zero, suc, ◌+◌, ◌*◌, ◌/◌, ◌-◌, ◌^◌, ◌<◌, ◌≤◌, ◌⊎◌, inl, inr, get_or, length, min, replicate, set, take, List, [], ◌∷◌, ◌++◌, length-take, arith}
+use Rattle.std.proofs.Common.{◌≡◌, ◌∙◌, sym, ap, refl, subst, ℕ, zero, suc, ◌+◌, ◌*◌, ◌/◌, ◌-◌, ◌^◌, ◌<◌, ◌≤◌, ◌⊎◌, inl, inr, get_or, length, min, replicate, set, take, List, [], ◌∷◌, ◌++◌, append_assoc, length-set, length-take, arith}
 use Rattle.std.proofs.Math.Nat.{mul-le-mul_left, pow-suc}
 use Rattle.std.proofs.lemmas.Bool.{cases_lt}
 use Rattle.std.proofs.lemmas.Grind.{get_or_default_zero}
@@ -142,3 +142,34 @@ pub next_written : (xs : List ℕ) (place rest d n v : ℕ) → place < length x
 next_written [] place rest d n v lt is = absurd (omega arith)
 next_written (x ∷ xs) zero rest d n v lt is = ap (λ y. y ∷ replicate rest n) is
 next_written (x ∷ xs) (suc place) rest d n v lt is = ap (λ ys. x ∷ ys) (next_written xs place rest d n v (omega (arith, lt)) is)
+
+-- the leaves from one place on are written up to another
+pub record FilledTo (start end number : ℕ) (old new : List ℕ) : Type 0 where
+  pub tree : IsTournament new
+  pub as_many : length (leaves_of new) ≡ length (leaves_of old)
+  pub filled : take end (leaves_of new) ≡ take start (leaves_of old) ++ replicate (end - start) number
+
+-- one place more is taken of a list in which it was written
+take_written : (xs : List ℕ) (place number : ℕ) → place < length xs → take (suc place) (set xs place number) ≡ take place xs ++ number ∷ []
+take_written [] place number lt = absurd (omega arith)
+take_written (x ∷ xs) zero number lt = refl
+take_written (x ∷ xs) (suc place) number lt = ap (λ ys. x ∷ ys) (take_written xs place number (omega (arith, lt)))
+
+-- one copy more
+one_copy : (n number : ℕ) → replicate n number ++ number ∷ [] ≡ replicate (suc n) number
+one_copy zero number = refl
+one_copy (suc n) number = ap (λ ys. number ∷ ys) (one_copy n number)
+
+-- one leaf more is written
+pub fill_next : (start end number : ℕ) (old was new : List ℕ) → start ≤ end → end < length (leaves_of old) → FilledTo start end number old was → IsTournament new → leaves_of new ≡ set (leaves_of was) end number → FilledTo start (end + 1) number old new
+fill_next start end number old was new later within filled tree is =
+    let long = filled.as_many in
+    let next : end + 1 ≡ suc end = omega arith in
+    let count : suc (end - start) ≡ end + 1 - start = omega (arith, later) in
+    record {
+      tree = tree;
+      as_many = ap length is ∙ length-set (leaves_of was) end number ∙ filled.as_many;
+      filled =
+          ap (take (end + 1)) is ∙ ap (λ n. take n (set (leaves_of was) end number)) next ∙ take_written (leaves_of was) end number (omega (arith, long, within)) ∙ ap (λ xs. xs ++ number ∷ []) filled.filled
+          ∙ append_assoc (take start (leaves_of old)) (replicate (end - start) number) (number ∷ []) ∙ ap (λ xs. take start (leaves_of old) ++ xs) (one_copy (end - start) number ∙ ap (λ n. replicate n number) count);
+    }

@@ -2,7 +2,7 @@
 ghost use Rattle.std.specs.Prelude.{◌≡◌, ◌<◌, ◌≤◌, ◌++◌, ℕ, All, IfNone, IfOk, IfSome, OnErr, OnOk, length, replicate, slice_index, slice_set, take};
 ghost use Rattle.std.specs.List.{swap};
 
-use crate::tournament::{first_leaf, set_leaf};
+use crate::tournament::{fill_leaves, first_leaf, set_leaf};
 use event_types::Memory;
 use std::alloc::Global;
 use std::marker::Model;
@@ -90,7 +90,8 @@ impl Deadlines {
         self.set(other, deadline);
     }
 
-    /// Adds so many places without a deadline, behind the others.
+    /// Adds so many places without a deadline, behind the others. The tree is made anew only where it has no leaves left
+    /// for them, with twice as many at least, which no clause says.
     pub fn grow(&mut self, alloc: Global, more: usize) -> Result<(), Memory>
         ensures ok { OnOk result (self.new ≡ self.old ++ replicate more NEVER) }
         ensures kept { OnErr result (self.new ≡ self.old) }
@@ -98,6 +99,11 @@ impl Deadlines {
         let Some(places) = self.places.checked_add(more) else {
             return Err(Memory);
         };
+        if places <= self.nodes.len() / 2 {
+            fill_leaves(&mut self.nodes, self.places, places, NEVER);
+            self.places = places;
+            return Ok(());
+        }
         let mut grown = Deadlines::make(alloc, places)?;
         for place in 0..self.places {
             grown.set(place, self.get(place));
@@ -106,11 +112,13 @@ impl Deadlines {
         Ok(())
     }
 
-    /// Forgets the places behind the first so many. Takes no memory.
+    /// Forgets the places behind the first so many, and their deadlines, so that none of these is met any more. Takes no
+    /// memory.
     pub fn truncate(&mut self, places: usize)
         requires { places ≤ length self.old }
         ensures { self.new ≡ take places self.old }
     {
+        fill_leaves(&mut self.nodes, places, self.places, NEVER);
         self.places = places;
     }
 

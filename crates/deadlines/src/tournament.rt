@@ -1,5 +1,5 @@
 //! A tournament tree: numbers behind their minima, two by two.
-ghost use Rattle.std.specs.Prelude.{◌≡◌, ◌<◌, ◌≤◌, ℕ, length, slice_index, slice_set};
+ghost use Rattle.std.specs.Prelude.{◌≡◌, ◌<◌, ◌≤◌, ◌-◌, ◌++◌, ℕ, length, replicate, slice_index, slice_set, take};
 ghost use Rattle.deadlines.specs.Tournament.{IsTournament, leaves_of};
 
 /// Writes a number into a leaf. The leaves are counted from 0. Takes no memory.
@@ -18,6 +18,20 @@ pub(crate) fn set_leaf(nodes: &mut [u128], leaf: usize, number: u128)
             return;
         }
         nodes[node] = least;
+    }
+}
+
+/// Writes a number into the leaves from one place on, up to another. Takes no memory.
+pub(crate) fn fill_leaves(nodes: &mut [u128], from: usize, to: usize, number: u128)
+    requires tournament { IsTournament nodes.old }
+    requires from { from ≤ to }
+    requires to { to ≤ length (leaves_of nodes.old) }
+    ensures tournament { IsTournament nodes.new }
+    ensures as_many { length (leaves_of nodes.new) ≡ length (leaves_of nodes.old) }
+    ensures filled { take to (leaves_of nodes.new) ≡ take from (leaves_of nodes.old) ++ replicate (to - from) number }
+{
+    for leaf in from..to {
+        set_leaf(nodes, leaf, number);
     }
 }
 
