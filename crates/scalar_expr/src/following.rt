@@ -9,7 +9,8 @@ ghost use Rattle.semantics.specs.Nexts.{is_eligible};
 use crate::conjunction::Conj;
 use crate::projection::{Map, apply};
 use crate::truth::holds;
-use event_types::{Copied, List, Memory, Tuple, Vals};
+use crate::values::add_copy;
+use event_types::{List, Memory, Tuple, Vals};
 use std::alloc::Global;
 use steps::{Ledger, Steps};
 
@@ -54,7 +55,7 @@ fn add_vals(alloc: Global, vals: &mut Vals, more: &Vals) -> Result<(), Memory>
     ensures { OnOk result (vals.new ≡ vals.old ++ more.now) }
 {
     for value in more.as_slice() {
-        vals.add(value.copied(alloc)?)?;
+        add_copy(alloc, vals, value)?;
     }
     Ok(())
 }

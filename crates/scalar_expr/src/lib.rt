@@ -20,6 +20,7 @@ mod projection;
 mod scalar;
 mod truth;
 mod valuation;
+mod values;
 
 pub use canonical::normal;
 pub use conjunction::Conj;

@@ -1,5 +1,5 @@
 //! Projections.
-ghost use Rattle.std.specs.Prelude.{◌≡◌, ◌≤◌, ◌↔◌, map, IfOk, IsTrue};
+ghost use Rattle.std.specs.Prelude.{◌≡◌, ◌≤◌, ◌↔◌, ◌++◌, ◌∷◌, [], map, IfOk, IsTrue, OnOk};
 ghost use Rattle.std.specs.List.{All};
 ghost use Rattle.std.specs.Option.{option_copied};
 ghost use Rattle.semantics.specs.Values.{applied, val};
@@ -8,8 +8,9 @@ ghost use Rattle.scalar_expr.specs.Views.{sc_of};
 
 use crate::copying::copy_scalar;
 use crate::scalar::{Scalar, Scalars};
-use crate::valuation::{computed, value_in_place};
-use event_types::{Copied, List, Memory, Tuple, Vals, Value};
+use crate::valuation::{computed, number_of, value_in_place};
+use crate::values::add_copy;
+use event_types::{List, Memory, Tuple, Vals, Value};
 use std::alloc::Global;
 use std::marker::Model;
 
@@ -101,24 +102,29 @@ fn values_of(
 {
     let mut vals = List::with_room(alloc, scalars.len())?;
     'scalars: for scalar in scalars {
-        vals.add(new_value(alloc, scalar, event, binding)?)?;
+        add_value(alloc, &mut vals, scalar, event, binding)?;
     }
     Ok(vals)
 }
 
-// The value of a scalar, to be held on its own: a copy of what stands somewhere.
-fn new_value(
+// Puts the value of a scalar at the end: a copy of what stands somewhere.
+#[inline(always)]
+fn add_value(
     alloc: Global,
+    vals: &mut Vals,
     scalar: &Scalar,
     event: &Tuple,
     binding: Option<&Tuple>,
-) -> Result<Value, Memory>
+) -> Result<(), Memory>
     requires { Fits (sc_of scalar.now) event.now (option_copied binding) }
-    ensures { IfOk result (λ value. value ≡ val (sc_of scalar.now) event.now (option_copied binding.entry)) }
+    ensures { OnOk result (vals.new ≡ vals.old ++ val (sc_of scalar.now) event.now (option_copied binding.entry) ∷ []) }
 {
     match value_in_place(scalar, event, binding) {
-        Some(value) => value.copied(alloc),
-        None => computed(scalar, event, binding).to_value(alloc),
+        Some(value) => add_copy(alloc, vals, value),
+        None => match number_of(scalar, event, binding) {
+            Some(number) => vals.add(Value::Int(number)),
+            None => vals.add(computed(scalar, event, binding).to_value(alloc)?),
+        },
     }
 }
 

@@ -2,6 +2,7 @@
 ghost use Rattle.std.specs.Prelude.{◌≡◌, pos, ◌-ℤ◌, IfNone, IfSome};
 ghost use Rattle.std.specs.Option.{option_copied};
 ghost use Rattle.event_types.specs.ValueOfRef.{value_of_ref};
+ghost use Rattle.event_types.specs.declared.value.Value.TheVariants as value;
 ghost use Rattle.semantics.specs.Values.{val, span_start};
 ghost use Rattle.scalar_expr.specs.Fits.{Fits, IsComputed};
 ghost use Rattle.scalar_expr.specs.Views.{sc_of};
@@ -71,6 +72,44 @@ pub(crate) fn computed<'a>(
         Scalar::Min(x, y) => smaller(value_of(x, event, binding), value_of(y, event, binding)),
         Scalar::Max(x, y) => larger(value_of(x, event, binding), value_of(y, event, binding)),
         _ => unreachable!(),
+    }
+}
+
+// The whole number that is the value of DUR or of an operation, if both operands are whole numbers that stand
+// somewhere.
+pub(crate) fn number_of(scalar: &Scalar, event: &Tuple, binding: Option<&Tuple>) -> Option<i128>
+    requires { Fits (sc_of scalar.now) event.now (option_copied binding) }
+    ensures { IfSome result (λ number. val (sc_of scalar.now) event.now (option_copied binding.entry) ≡ value.Int number) }
+{
+    match scalar {
+        Scalar::Dur => Some(span(event, binding)),
+        Scalar::Add(x, y) => {
+            number_at(x, event, binding)?.checked_add(number_at(y, event, binding)?)
+        }
+        Scalar::Sub(x, y) => {
+            number_at(x, event, binding)?.checked_sub(number_at(y, event, binding)?)
+        }
+        Scalar::Mul(x, y) => {
+            number_at(x, event, binding)?.checked_mul(number_at(y, event, binding)?)
+        }
+        Scalar::Min(x, y) => {
+            Some(number_at(x, event, binding)?.min(number_at(y, event, binding)?))
+        }
+        Scalar::Max(x, y) => {
+            Some(number_at(x, event, binding)?.max(number_at(y, event, binding)?))
+        }
+        _ => None,
+    }
+}
+
+// The whole number that a literal or an attribute has as its value, if it has one.
+fn number_at(scalar: &Scalar, event: &Tuple, binding: Option<&Tuple>) -> Option<i128>
+    requires { Fits (sc_of scalar.now) event.now (option_copied binding) }
+    ensures { IfSome result (λ number. val (sc_of scalar.now) event.now (option_copied binding.entry) ≡ value.Int number) }
+{
+    match value_in_place(scalar, event, binding) {
+        Some(Value::Int(number)) => Some(*number),
+        _ => None,
     }
 }
 
