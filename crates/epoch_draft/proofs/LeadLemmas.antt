@@ -5,7 +5,9 @@ use Rattle.std.specs.List.{All}
 use Rattle.std.proofs.lemmas.Grind.{get_or-set_at}
 use Rattle.std.proofs.lemmas.List.{get_or-set_other}
 use Rattle.std.proofs.lemmas.List.Elements.{All-contains, All-contains_itself, All-weaker}
-use Rattle.std.proofs.lemmas.Map.Views.{Contains-from_any}
+use Rattle.std.proofs.lemmas.Cmp.{eq_by_cmp_equiv}
+use Rattle.std.proofs.lemmas.Map.Views.{Contains-from_any, list_any-from_Contains}
+use Rattle.event_types.specs.OrderLaws.{value_total}
 use Rattle.event_types.specs.Tuple.{TupleView}
 use Rattle.event_types.specs.declared.value.Value.{Value}
 use Rattle.instances.specs.Keys.{BindingFits, HasKey, IsKeyReady, Key}
@@ -14,7 +16,7 @@ use Rattle.semantics.specs.Values.{value_at}
 use Rattle.automaton.specs.States.{Net}
 use Rattle.automaton.specs.declared.wait.Wait.{Wait}
 use Rattle.automaton.proofs.NumberLemmas.{are_same_or_not}
-use Rattle.binding_index.specs.Among.{is_among}
+use Rattle.binding_index.specs.Among.{is_among, is_key}
 use Rattle.binding_index.specs.KeyParts.{key_of_part}
 use Rattle.binding_index.specs.Leads.{Entries, Leads, ready_in}
 use Rattle.binding_index.specs.declared.store.Store.{Store}
@@ -23,6 +25,7 @@ use Rattle.stream_readers.specs.KeyTables.{IsFoundAt, IsNoted, KeyTable, LeadSam
 use Rattle.stream_readers.specs.Leading.{lead_key_at, lead_key_in}
 use Rattle.epoch_draft.specs.Held.{instances_in, key_in, shape_of}
 use Rattle.epoch_draft.specs.Led.{AreLed, AreReadyIn, HasKeyOf, IsLeadOf, LeadBy, LeadMore, LeadTo}
+use Rattle.epoch_draft.specs.Readying.{HasReadyAt, HasRoom}
 use Rattle.epoch_draft.specs.Stores.{HasStores}
 use Rattle.epoch_draft.specs.declared.readying.Lead.{Lead}
 use Rattle.epoch_draft.proofs.KeyLemmas.{key_at}
@@ -91,6 +94,16 @@ by_ready (Some lead) keys key before after binding of by leads only =
 pub room_by_ready : (lead : Lead) (key : Option Key) (ready : List Value) (binding : TupleView) (value : Value) → HasKeyOf key (Some lead) → value_at binding lead.key.binding ≡ value → is_among value ready ≡ true → IsKeyReady key ready binding
 room_by_ready lead key ready binding value of is among =
     subst (λ (k : Option Key). IsKeyReady k ready binding) (sym of) (subst (Contains ready) (sym is) (Contains-from_any (λ x y e. (key_decides x y).0 e) value ready among))
+
+-- an instance for which there is room has a key that is ready
+pub ready_at : (lead : Lead) (key : Option Key) (ready : List Value) (last : Option Instance) → HasKeyOf key (Some lead) → IfSome last (HasRoom key ready) → IfSome last (HasReadyAt lead.key.binding ready)
+ready_at lead key ready None of room = room
+ready_at lead key ready (Some last) of room =
+    (subst (λ (k : Option Key). BindingFits k last.tuple) of room.fits, subst (λ (k : Option Key). IsKeyReady k ready last.tuple) of room.is_ready)
+
+-- a value that equals one that is ready is ready
+pub among_equal : (ready : List Value) (value key : Value) → Contains ready value → is_key value key ≡ true → is_among key ready ≡ true
+among_equal ready value key there same = list_any-from_Contains (eq_by_cmp_equiv value_total) key ready (subst (Contains ready) ((key_decides value key).0 same) there)
 
 -- the binding has the attribute of the key
 pub lead_fits : (lead : Lead) (key : Option Key) (binding : TupleView) → HasKeyOf key (Some lead) → BindingFits key binding → lead.key.binding < length binding.vals

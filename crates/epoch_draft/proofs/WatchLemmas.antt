@@ -1,20 +1,19 @@
 -- Stores that are purged when their deadlines pass.
-use Rattle.std.proofs.Common.{◌≡◌, ◌∙◌, sym, ap, refl, subst, inl, inr, ℕ, ◌<◌, ◌≤◌, ◌⊎◌, Bool, true, ◌&&◌, cond, length, get_or, nat_le, nat_lt, set, List, [], ◌∷◌, ◌++◌, arith}
+use Rattle.std.proofs.Common.{◌≡◌, ◌∙◌, sym, ap, refl, subst, inl, inr, ℕ, ◌<◌, ◌≤◌, ◌⊎◌, Bool, true, ◌&&◌, cond, length, get_or, nat_le, set, List, [], ◌++◌, arith}
 use Rattle.std.specs.List.{All, count_by, filter}
 use Rattle.std.specs.List.Sorted.{IsPermutation}
 use Rattle.std.specs.Prelude.{Option, Some, None}
-use Rattle.std.proofs.lemmas.List.Elements.{All-append, All-cons, All-filter, All-same, filter_passes}
+use Rattle.std.proofs.lemmas.List.Elements.{All-append, All-filter, All-same, filter_passes}
 use Rattle.std.proofs.lemmas.List.Sorted.{All-permutation, IsPermutation-sym}
 use Rattle.semantics.specs.Scalars.{Pr}
 use Rattle.semantics.proofs.ReportLemmas.{filter_all}
 use Rattle.instances.specs.Alive.{is_alive}
 use Rattle.semantics.specs.Births.{is_after}
 use Rattle.epoch_laws.proofs.Lists.{filter-filter}
-use Rattle.instances.specs.Bounds.{AreAliveUntil, alive_instances, started}
-use Rattle.instances.proofs.BoundLemmas.{started_is}
+use Rattle.instances.specs.Bounds.{AreAliveUntil, alive_instances}
 use Rattle.instances.specs.declared.instance.Instance.{Instance}
 use Rattle.binding_index.specs.Stores.{condition_of, instances_of, key_of}
-use Rattle.std.proofs.lemmas.Bool.{cases_lt, le-leb, lt-leb, lt-ltb}
+use Rattle.std.proofs.lemmas.Bool.{cases_lt, le-leb, lt-leb}
 use Rattle.std.proofs.lemmas.Grind.{get_or-set_at}
 use Rattle.std.proofs.lemmas.List.{get_or_past, get_or-set_other, length-set}
 use Rattle.std.proofs.lemmas.List.Sums.{sum_by-set}
@@ -212,12 +211,3 @@ purged_each time numbers old mid new was after = record {
   purged = λ n. after.same.held n ∙ was.purged n;
   stay = stay_trans old mid new was.stay after.stay;
 }
-
--- where one more of a chain is alive as long, it is enough that those behind it are
-pub alive_on : (time from end : ℕ) (choose : List Pr) (first : Instance) (rest look chain : List Instance) → look ≡ first ∷ rest → from ≡ first.tuple.from → is_alive time choose (started from) ≡ nat_lt time end → time < end → (alive_instances time choose look ≡ look → alive_instances time choose chain ≡ chain)
-    → alive_instances time choose rest ≡ rest → alive_instances time choose chain ≡ chain
-alive_on time from end choose first rest look chain is starts told early so all =
-    so (ap (alive_instances time choose) is ∙ filter_all (λ (i : Instance). is_alive time choose i.tuple) (first ∷ rest) (All-cons (λ (i : Instance). is_alive time choose i.tuple ≡ true) first rest alive (alive_all time choose rest all)) ∙ sym is)
-  where
-    alive : is_alive time choose first.tuple ≡ true
-    alive = sym (started_is time choose first.tuple) ∙ ap (λ n. is_alive time choose (started n)) (sym starts) ∙ told ∙ lt-ltb time end early

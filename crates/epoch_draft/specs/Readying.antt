@@ -1,7 +1,8 @@
 -- Room in the stores for the beads of an epoch.
-use Rattle.std.specs.Prelude.{ℕ, List, [], Option, None, slice_index_or}
+use Rattle.std.specs.Prelude.{ℕ, ◌<◌, List, [], Option, None, Contains, length, slice_index_or}
 use Rattle.std.specs.List.{All}
 use Rattle.event_types.specs.declared.value.Value.{Value}
+use Rattle.semantics.specs.Values.{value_at}
 use Rattle.instances.specs.Keys.{BindingFits, IsKeyReady, Key}
 use Rattle.instances.specs.declared.instance.Instance.{Instance}
 use Rattle.binding_index.specs.Leads.{ready_in}
@@ -12,6 +13,10 @@ use Rattle.epoch_draft.specs.Held.{key_in}
 pub record HasRoom (key : Option Key) (ready : List Value) (instance : Instance) : Type 0 where
   pub fits : BindingFits key instance.tuple
   pub is_ready : IsKeyReady key ready instance.tuple
+
+-- an instance has a value at a place, and the value is one of those that are ready
+abbrev pub HasReadyAt : ℕ → List Value → Instance → Type 0
+HasReadyAt place ready instance = (place < length instance.tuple.vals) × Contains ready (value_at instance.tuple place)
 
 -- there is room for these instances in a state's store
 abbrev pub HaveRoomIn : Option Store → List Instance → Type 0

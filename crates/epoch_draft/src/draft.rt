@@ -110,7 +110,10 @@ impl Draft {
         self.due.mark(stream)?;
         match last {
             Some(last) => self.made.add_again(stream, last),
-            None => self.made.add(stream, tuple.copy(self.alloc)?),
+            None => {
+                let copy = self.made.copy(tuple)?;
+                self.made.add(stream, copy)
+            }
         }
     }
 

@@ -33,6 +33,7 @@ mod placing;
 mod purging;
 mod readying;
 mod settling;
+mod spare;
 mod stored_network;
 mod stores;
 mod waiting_state;

@@ -9,18 +9,21 @@ ghost use Rattle.epoch_draft.specs.Made.{ArePlaced, EndsWith, placed};
 
 use crate::filling::{clear_lists, empty_lists};
 use crate::placing::put_places_in_order;
+use crate::spare::Spare;
 use event_types::{List, Memory, Numbers, StreamId, Tuple, Tuples};
 use std::alloc::Global;
 use std::marker::Model;
 
 /// Tuples by stream. They stand in one list, and each stream has the places of its own there, so that a tuple that
-/// several streams have can stand once. `sorting` is room in which places are sorted.
+/// several streams have can stand once. `sorting` is room in which places are sorted, and `spare` has room for the values
+/// of copies.
 #[derive(Drop)]
 pub struct Made {
     alloc: Global,
     tuples: Tuples,
     places: List<Numbers>,
     sorting: Vec<usize>,
+    spare: Spare,
 }
 
 /// Tuples, and for each stream the places of its own among them, in the order in which it has them; places are counted
@@ -50,11 +53,13 @@ impl Made {
         ensures empty { IfOk result (λ made. (stream : ℕ) → slice_index_or made stream [] ≡ []) }
     {
         let places = empty_lists(alloc, streams)?;
+        let spare = Spare::make(alloc)?;
         Ok(Made {
             alloc,
             tuples: List::new(alloc),
             places,
             sorting: Vec::new(alloc),
+            spare,
         })
     }
 
@@ -93,6 +98,14 @@ impl Made {
         let place = self.tuples.len();
         self.tuples.add(tuple)?;
         self.places.get_mut(stream).add(place)
+    }
+
+    /// An equal tuple, in room that is kept for its values, if any is. After want of memory all tuples are still there.
+    pub(crate) fn copy(&mut self, tuple: &Tuple) -> Result<Tuple, Memory>
+        ensures value { IfOk result (λ copy. copy ≡ tuple.now) }
+        ensures same { self.new ≡ self.old }
+    {
+        self.spare.copy(self.alloc, tuple)
     }
 
     /// Puts the last tuple of a stream, `other`, behind those of a stream too. After want of memory the tuples are of no
@@ -158,7 +171,8 @@ impl Made {
         put_places_in_order(places, self.tuples.as_slice(), &mut self.sorting)
     }
 
-    /// Takes the tuples of these streams away, which are all that there are, and keeps the room. Takes no memory.
+    /// Takes the tuples of these streams away, which are all that there are, and keeps their room and that of their
+    /// values. Takes no memory.
     pub(crate) fn clear(&mut self, streams: &[usize])
         requires streams { All (λ stream. stream < length self.old) streams.now }
         requires others { (stream : ℕ) → (slice_index_or self.old stream [] ≡ []) ⊎ Contains streams.now stream }
@@ -166,7 +180,7 @@ impl Made {
         ensures empty { (stream : ℕ) → slice_index_or self.new stream [] ≡ [] }
     {
         clear_lists(&mut self.places, streams);
-        self.tuples.clear();
+        self.spare.empty(&mut self.tuples);
     }
 }
 

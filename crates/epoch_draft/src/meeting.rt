@@ -68,7 +68,7 @@ fn meet_waits<L: Ledger>(
     Ok(())
 }
 
-// A tuple, which begins here, goes to each of these targets, by which it was found. What goes to several of them shares
+// A tuple, which begins here, goes to each of these targets, by which it was found. What goes into several states shares
 // its values.
 fn go_all<L: Ledger>(
     network: &Network,
@@ -87,11 +87,25 @@ fn go_all<L: Ledger>(
     if targets.is_empty() {
         return Ok(());
     }
-    if targets.len() < 2 {
+    if !lead_into_several(targets) {
         return go_each(network, draft, targets, tuple, steps);
     }
     let shared = tuple.shared(draft.alloc)?;
     go_each(network, draft, targets, &shared, steps)
+}
+
+// Whether several of these targets lead into a state. Takes no memory.
+fn lead_into_several(targets: &[Target]) -> bool {
+    let mut leads = false;
+    for target in targets {
+        if let Target::Edge(_) = target {
+            if leads {
+                return true;
+            }
+            leads = true;
+        }
+    }
+    false
 }
 
 // The same, whether its values are shared or not.

@@ -1,21 +1,23 @@
 //! Room in the stores for what an epoch brings.
 ghost use Rattle.std.specs.Prelude.{◌≡◌, ◌<◌, [], ℕ, Contains, IfNone, IfSome, None, OnOk, length, slice_index_or};
 ghost use Rattle.std.specs.List.{All};
+ghost use Rattle.std.specs.Option.{option_copied};
 ghost use Rattle.instances.specs.Keys.{BindingFits, IsKeyReady};
+ghost use Rattle.binding_index.specs.Among.{is_among};
 ghost use Rattle.binding_index.specs.Leads.{ready_in};
 ghost use Rattle.binding_index.specs.Stores.{condition_of, instances_of, key_of, ready_of};
 ghost use Rattle.stream_readers.specs.Leading.{lead_key_at};
 ghost use Rattle.epoch_draft.specs.Drafts.{DraftFits};
 ghost use Rattle.epoch_draft.specs.Held.{SameStored, instances_in, key_in, shape_of};
 ghost use Rattle.epoch_draft.specs.Led.{AreLed, HasKeyOf, IsLeadOf, LeadBy, LeadMore};
-ghost use Rattle.epoch_draft.specs.Readying.{HasRoom, HaveKeyIn, HaveKeys, HaveRoom, HaveRoomIn};
+ghost use Rattle.epoch_draft.specs.Readying.{HasReadyAt, HasRoom, HaveKeyIn, HaveKeys, HaveRoom, HaveRoomIn};
 ghost use Rattle.epoch_draft.specs.Stores.{HasStores};
 
 use crate::draft::{Beads, Draft};
 use crate::stores::Stores;
 use automaton::Network;
 use binding_index::{KeyPart, Store};
-use event_types::{Memory, StreamId};
+use event_types::{Memory, StreamId, Value};
 use inst_chain::{Chain, Look};
 use instances::{Instance, Waiting};
 use stream_readers::{KeyReaders, lead_key};
@@ -136,20 +138,25 @@ fn make_room_for(
     ensures key { key_of store.new ≡ key_of store.old }
     ensures same { instances_of store.new ≡ instances_of store.old }
 {
+    let mut last = None;
     while let Some(instance) = instances.next() {
-        make_room_of(keys, lead, store, instance)?;
+        make_room_of(keys, lead, store, last, instance)?;
+        last = Some(instance);
     }
     Ok(())
 }
 
-// Makes room for an instance in the store, and lets its key lead to the state, unless the key is ready there.
+// Makes room for an instance in the store, and lets its key lead to the state, unless the key is ready there. For the
+// last instance, if there is one, there is room.
 fn make_room_of(
     keys: &mut KeyReaders,
     lead: &Option<Lead>,
     store: &mut Store,
+    last: Option<&Instance>,
     instance: &Instance,
 ) -> Result<(), Memory>
     requires fits { BindingFits (key_of store.old) instance.now.tuple }
+    requires last { IfSome (option_copied last) (HasRoom (key_of store.old) (ready_of store.old)) }
     requires key { HasKeyOf (key_of store.old) lead.now }
     requires led { LeadBy keys.old lead.now (ready_of store.old) }
     ensures room { OnOk result (IsKeyReady (key_of store.old) (ready_of store.new) instance.now.tuple) }
@@ -164,9 +171,20 @@ fn make_room_of(
         return store.ready(instance);
     };
     let key = instance.tuple.vals().get(lead.key.binding);
-    if store.is_ready(key) {
+    if is_ready(store, last, lead.key.binding, key) {
         return Ok(());
     }
     keys.note(lead.stream, lead.key.event, key, lead.state)?;
     store.ready(instance)
+}
+
+// Whether a key is ready in the store: where the last instance has it, it is known to be.
+fn is_ready(store: &Store, last: Option<&Instance>, place: usize, key: &Value) -> bool
+    requires { IfSome (option_copied last) (HasReadyAt place (ready_of store.now)) }
+    ensures { result ≡ is_among key.now (ready_of store.now) }
+{
+    match last {
+        Some(last) => last.tuple.vals().get(place) == key || store.is_ready(key),
+        None => store.is_ready(key),
+    }
 }

@@ -8,7 +8,7 @@ ghost use Rattle.epoch_draft.specs.Watching.{ArePurgedEach, Watches};
 use crate::purging::purge;
 use crate::stores::Stores;
 use automaton::Network;
-use deadlines::{Deadlines, NEVER};
+use deadlines::Deadlines;
 use inst_chain::Chain;
 use instances::{Instance, expires_at};
 use scalar_expr::Conj;
@@ -64,10 +64,17 @@ fn lower(deadlines: &mut Deadlines, number: usize, condition: &Conj, beads: &Cha
 fn deadline_of(condition: &Conj, beads: &Chain<Instance>) -> u128
     ensures { AreAliveUntil result condition.now beads.now }
 {
-    let mut deadline = NEVER;
+    expires_at(condition, oldest_start(beads))
+}
+
+// A time before which none of these instances starts.
+fn oldest_start(beads: &Chain<Instance>) -> u64
+    ensures { All (λ instance. result ≤ instance.tuple.from) beads.now }
+{
+    let mut oldest = u64::MAX;
     let mut look = beads.look();
     while let Some(instance) = look.next() {
-        deadline = deadline.min(expires_at(condition, instance.tuple.from()));
+        oldest = oldest.min(instance.tuple.from());
     }
-    deadline
+    oldest
 }

@@ -16,6 +16,7 @@ pub loop-instance-init : goal.loop-instance-init
 loop-instance-init c = record {
   keys = c.requires.fits;
   room = λ ready more room. room;
+  last = tt;
   more = All-contains_itself (ready_of c.args.store.now);
   condition = refl;
   key = refl;
@@ -32,6 +33,7 @@ make_room_of-requires c =
     record {
       fits = All-head fits c.in-Some.instance.now c.next.new.self (subst (All fits) c.in-Some.ensures.rest was.keys);
       key = was.found;
+      last = was.last;
       led = was.led;
     }
 
@@ -53,6 +55,7 @@ loop-instance-preserved c =
           let one : HasRoom (key_of old) (ready_of new) i = record { fits = All-head (fits (key_of old)) i rest keys; is_ready = c.in_ok-make_room_of.ensures.room } in
           let all = room_more (key_of old) (ready_of new) ready i rest more one (subst (λ (k : Option Key). All (HasRoom k ready) rest) same room) in
           subst (λ (k : Option Key). All (HasRoom k ready) c.args.instances) (sym same) (was.room ready before (subst (All (HasRoom (key_of old) ready)) (sym c.in-Some.ensures.rest) all));
+      last = subst (λ (k : Option Key). HasRoom k (ready_of new) i) (sym same) (record { fits = All-head (fits (key_of old)) i rest keys; is_ready = c.in_ok-make_room_of.ensures.room });
       more = more_trans (ready_of c.args.store.now) (ready_of old) (ready_of new) was.more c.make_room_of.ensures.more;
       condition = c.make_room_of.ensures.condition ∙ was.condition;
       key = same ∙ was.key;

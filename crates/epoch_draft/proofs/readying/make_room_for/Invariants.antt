@@ -1,5 +1,6 @@
 use Rattle.std.proofs.Common.{◌≡◌, length, List}
-use Rattle.std.specs.Prelude.{Contains}
+use Rattle.std.specs.Prelude.{Contains, IfSome}
+use Rattle.std.specs.Option.{option_copied}
 use Rattle.std.specs.List.{All}
 use Rattle.event_types.specs.declared.value.Value.{Value}
 use Rattle.instances.specs.Keys.{BindingFits}
@@ -14,6 +15,7 @@ abbrev pub invariant-loop-instance : goal.invariant-loop-instance
 invariant-loop-instance l = record {
   keys : All (λ (i : Instance). BindingFits (key_of l.store) i.tuple) l.instances;
   room : (ready : List Value) → All (Contains ready) (ready_of l.store) → All (HasRoom (key_of l.store) ready) l.instances → All (HasRoom (key_of l.store) ready) l.initial.instances;
+  last : IfSome (option_copied l.last) (HasRoom (key_of l.store) (ready_of l.store));
   more : All (Contains (ready_of l.store)) (ready_of l.initial.store);
   condition : condition_of l.store ≡ condition_of l.initial.store;
   key : key_of l.store ≡ key_of l.initial.store;

@@ -1,5 +1,6 @@
 use Rattle.std.proofs.Common.{◌≡◌, ◌∙◌, sym, ap, subst, get_or, List}
 use Rattle.std.specs.Prelude.{Option}
+use Rattle.std.specs.Option.{option_copied}
 use Rattle.std.proofs.lemmas.Option.{get_or_from_slice_get}
 use Rattle.event_types.specs.declared.value.Value.{Value}
 use Rattle.event_types.specs.declared.value.Value.TheVariants.{Over}
@@ -9,8 +10,14 @@ use Rattle.binding_index.specs.Stores.{key_of, ready_of}
 use Rattle.stream_readers.specs.KeyTables.{entries_at}
 use Rattle.epoch_draft.specs.Led.{HasKeyOf, LeadMore}
 use Rattle.epoch_draft.specs.declared.readying.Lead.{Lead}
-use Rattle.epoch_draft.proofs.LeadLemmas.{LeadsBy, by_kept, by_ready, noted_more, room_by_ready}
+use Rattle.epoch_draft.proofs.LeadLemmas.{LeadsBy, by_kept, by_ready, noted_more, ready_at, room_by_ready}
 use Rattle.epoch_draft.proofs.readying.make_room_of.Goals as goal
+
+-- the last instance has its key at the place of that of the state
+pub is_ready-requires : goal.is_ready-requires
+is_ready-requires c =
+    let lead = c.in-Some.lead in
+    ready_at lead (key_of c.args.store.now) (ready_of c.args.store.now) (option_copied c.args.last) (subst (HasKeyOf (key_of c.args.store.now)) c.in-Some.is c.requires.key) c.requires.last
 
 -- the key is ready there
 pub returns-then-is_ready-clause-room : goal.returns-then-is_ready-clause-room

@@ -1,0 +1,97 @@
+//! Room for values that is used again.
+ghost use Rattle.std.specs.Prelude.{◌≡◌, ◌++◌, [], IfOk, IfSome, OnOk};
+
+use event_types::{Copied, List, Memory, Tuple, Tuples, Vals, Value};
+use std::alloc::Global;
+use std::marker::Model;
+
+/// Lists in which values of tuples stood, each empty now, so that the next copies need no new room.
+#[derive(Drop)]
+pub(crate) struct Spare {
+    lists: List<Vals>,
+}
+
+impl Model for Spare {
+    ghost use Rattle.std.specs.Prelude.{◌≡◌, []};
+    ghost use Rattle.std.specs.List.{All};
+
+    ghost Value = { Unit {0} };
+
+    ghost view = { λ s. tt };
+
+    ghost invariant = { λ s. All (λ vals. vals ≡ []) s.lists };
+}
+
+// The most lists that are kept.
+const MOST: usize = 64;
+
+impl Spare {
+    /// None is kept yet, and there is room for all that will be.
+    pub(crate) fn make(alloc: Global) -> Result<Spare, Memory> {
+        let lists = List::with_room(alloc, MOST)?;
+        Ok(Spare { lists })
+    }
+
+    /// An equal tuple, whose values stand in one of the lists, if any is kept.
+    pub(crate) fn copy(&mut self, alloc: Global, tuple: &Tuple) -> Result<Tuple, Memory>
+        ensures { IfOk result (λ copy. copy ≡ tuple.now) }
+    {
+        match self.take() {
+            Some(vals) => copy_in(alloc, vals, tuple),
+            None => tuple.copy(alloc),
+        }
+    }
+
+    // One of the lists, if any is kept. Takes no memory.
+    fn take(&mut self) -> Option<Vals>
+        ensures { IfSome result (λ vals. vals ≡ []) }
+    {
+        self.lists.pop()
+    }
+
+    /// Drops all tuples of a list, and keeps its room and that of values that no other tuple shares. Takes no memory.
+    pub(crate) fn empty(&mut self, tuples: &mut Tuples)
+        ensures { tuples.new ≡ [] }
+    {
+        while let Some(tuple) = tuples.pop() {
+            if let Some(vals) = tuple.into_vals() {
+                self.put(vals);
+            }
+        }
+    }
+
+    // Drops the values, and keeps their room unless that of enough is kept.
+    fn put(&mut self, vals: Vals) {
+        let mut vals = vals;
+        if self.lists.len() < MOST {
+            vals.clear();
+            let _kept = self.lists.push(vals);
+        }
+    }
+}
+
+// An equal tuple, whose values stand in a list that is empty.
+fn copy_in(alloc: Global, vals: Vals, tuple: &Tuple) -> Result<Tuple, Memory>
+    requires { vals ≡ [] }
+    ensures { IfOk result (λ copy. copy ≡ tuple.now) }
+{
+    let mut vals = vals;
+    add_copies(alloc, &mut vals, tuple.vals().as_slice())?;
+    match Tuple::make(vals, tuple.from(), tuple.at()) {
+        Ok(copy) => Ok(copy),
+        Err(_) => unreachable!(),
+    }
+}
+
+// Puts equal values at the end, whole numbers without more ado.
+fn add_copies(alloc: Global, vals: &mut Vals, more: &[Value]) -> Result<(), Memory>
+    ensures { OnOk result (vals.new ≡ vals.old ++ more.now) }
+{
+    for value in more {
+        match value {
+            Value::Int(number) => vals.add(Value::Int(*number))?,
+            _ => vals.add(value.copied(alloc)?)?,
+        }
+    }
+    Ok(())
+}
