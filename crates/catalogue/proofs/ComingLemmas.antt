@@ -46,7 +46,8 @@ use Rattle.catalogue.specs.declared.numbering.Published.{Published}
 use Rattle.catalogue.specs.Catalogued.{Catalogued, program_in, queries_of, query_in, query_of, work_in}
 use Rattle.catalogue.specs.Changes.{MayCome, streams_there, with_query}
 use Rattle.catalogue.specs.Coming.{HasCome, IsLatest, IsTold, coming}
-use Rattle.catalogue.specs.Fitting.{IsFit, IsGrowth, added_of}
+use Rattle.catalogue.specs.Fitting.{IsGrowth}
+use Rattle.catalogue.specs.Taking.{IsFit, added_of}
 use Rattle.catalogue.specs.Standing.{AreEnds, IsKnown, IsLayoutOver, IsUpTo, StandsInOrder}
 use Rattle.catalogue.specs.Tables.{HasPlaces, IsHeld}
 use Rattle.catalogue.specs.Typing.{published_by}

@@ -28,7 +28,8 @@ use Rattle.cel_types.proofs.QueryLaws.{query-typed}
 use Rattle.catalogue.specs.Adding.{AddedQuery}
 use Rattle.catalogue.specs.Catalogued.{Catalogued, program_in}
 use Rattle.catalogue.specs.Changes.{streams_there}
-use Rattle.catalogue.specs.Fitting.{IsFit, IsKnownName, MayGrow}
+use Rattle.catalogue.specs.Fitting.{MayGrow}
+use Rattle.catalogue.specs.Taking.{IsFit, IsKnownName}
 use Rattle.catalogue.specs.Standing.{IsKnown, StandsInOrder}
 use Rattle.catalogue.specs.Statements.{reads_by}
 use Rattle.catalogue.proofs.WideLemmas.{query_wide, wide_alike}

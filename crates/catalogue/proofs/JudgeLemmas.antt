@@ -28,7 +28,7 @@ use Rattle.catalogue.specs.Adding as adding
 use Rattle.catalogue.specs.Faults.{IsOfSyntax, IsOfTokens, IsOfTypes}
 use Rattle.catalogue.specs.Faults as told
 use Rattle.catalogue.specs.Filing.{most_bytes}
-use Rattle.catalogue.specs.Fitting.{IsFew, IsKnownName}
+use Rattle.catalogue.specs.Taking.{IsFew, IsKnownName}
 use Rattle.catalogue.specs.Naming.{name_fault, read_fault}
 use Rattle.catalogue.specs.Statements.{name_of, reads_by}
 use Rattle.catalogue.specs.Telling.{TellsBad}

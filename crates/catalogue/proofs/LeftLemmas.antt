@@ -90,7 +90,7 @@ module _ (c : Catalogued) (stands : StandsInOrder c) (number : ℕ) (small : num
   is_work : work_in new ≡ remove (work_in c) at
   is_work = work_left c stands number small
 
-  kinds_kept : kinds_in new.streams ≡ kinds_in c.streams
+  pub kinds_kept : kinds_in new.streams ≡ kinds_in c.streams
   kinds_kept = λ t stream. kinds_of (get_or (schemas_kept c.streams query.stream (retired_name query.stream) t) stream [])
 
   many : length new.streams ≡ length c.streams
@@ -182,7 +182,7 @@ module _ (c : Catalogued) (stands : StandsInOrder c) (number : ℕ) (small : num
   }
 
   module _ (unread : (other : ℕ) → other < length c.order → LeavesUnread c query.stream other) where
-    all_unread : All (λ (q : Query). ReadsOnly (λ read. read ≢ query.stream) q.expr) (work_in c)
+    pub all_unread : All (λ (q : Query). ReadsOnly (λ read. read ≢ query.stream) q.expr) (work_in c)
     all_unread = All-from_get_or (λ (q : Query). ReadsOnly (λ read. read ≢ query.stream) q.expr) (work_in c) none (λ i inside.
         let i_inside : i < length c.order = omega (arith, inside, work_long c stands) in
         subst (λ (n : ℕ). ReadsOnly (λ read. read ≢ query.stream) (get_or (work_in c) n none).expr) (place_back c.order stands.numbered i i_inside)

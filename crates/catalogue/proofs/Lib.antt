@@ -48,3 +48,4 @@ pub mod FittingLemmas
 pub mod OrderedLemmas
 pub mod ComingLemmas
 pub mod JudgeLemmas
+pub mod NewcomerLemmas

@@ -64,6 +64,10 @@ pub record HasName (c : Catalogued) (name : List ℕ) (number : ℕ) : Type 0 wh
   pub within : number < length c.order
   pub name_is : (query_in c number).name ≡ name
 
+-- no query before the one with this number has the name
+abbrev pub IsFirstNamed : Catalogued → List ℕ → ℕ → Type 0
+IsFirstNamed c name number = (earlier : ℕ) → earlier < number → (query_in c earlier).name ≢ name
+
 -- no query that is there has the name; a declared stream is no query
 abbrev pub HasNoQuery : Catalogued → List ℕ → Type 0
 HasNoQuery c name = (number : ℕ) → number < length c.order → (query_in c number).name ≢ name
@@ -71,6 +75,10 @@ HasNoQuery c name = (number : ℕ) → number < length c.order → (query_in c n
 -- the query with this number doesn't read the stream
 abbrev pub LeavesUnread : Catalogued → ℕ → ℕ → Type 0
 LeavesUnread c stream number = ReadsOnly (λ read. read ≢ stream) (query_in c number).expr
+
+-- no query that is there reads the stream of the query with this number
+abbrev pub IsUnread : Catalogued → ℕ → Type 0
+IsUnread c number = (other : ℕ) → other < length c.order → LeavesUnread c (query_in c number).stream other
 
 -- of the queries that read the stream the one with this number is the first in print order
 pub record IsFirstReader (c : Catalogued) (stream number : ℕ) : Type 0 where
@@ -82,6 +90,7 @@ pub record IsFirstReader (c : Catalogued) (stream number : ℕ) : Type 0 where
 pub record IsInUse (c : Catalogued) (name reader : List ℕ) : Type 0 where
   pub number : ℕ
   pub named : HasName c name number
+  pub first_named : IsFirstNamed c name number
   pub other : ℕ
   pub first : IsFirstReader c (query_in c number).stream other
   pub reader_is : reader ≡ (query_in c other).name
@@ -103,5 +112,5 @@ pub record IsLeft (number : ℕ) (dropped : Dropped) (old new : Catalogued) : Ty
 pub record Leaves (name : List ℕ) (dropped : Dropped) (old new : Catalogued) : Type 0 where
   pub number : ℕ
   pub named : HasName old name number
-  pub unread : (other : ℕ) → other < length old.order → LeavesUnread old (query_in old number).stream other
+  pub unread : IsUnread old number
   pub left : IsLeft number dropped old new

@@ -27,3 +27,5 @@ pub mod Counting
 pub mod Rest
 pub mod Coming
 pub mod Fitting
+pub mod Taking
+pub mod Newcomers

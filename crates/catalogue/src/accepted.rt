@@ -1,35 +1,24 @@
 //! Catalogues: query texts that are accepted, and their queries.
-ghost use Rattle.std.specs.Prelude.{◌≡◌, ◌≢◌, ◌<◌, ◌+◌, ◌^◌, ◌==◌, AllPairs, IfErr, IfOk, OnErr, OnOk, length, sum_by};
-ghost use Rattle.std.specs.List.{All, position_or_len};
+ghost use Rattle.std.specs.Prelude.{◌≡◌, ◌<◌, ◌+◌, ◌^◌, ◌==◌, IfOk, length, sum_by};
+ghost use Rattle.std.specs.List.{position_or_len};
 ghost use Rattle.expressions.specs.Views.{ex_of};
 ghost use Rattle.splitter.specs.Chains.{lines_of};
 ghost use Rattle.stream_schema.specs.Streams.{AreThere, IsRetired};
-ghost use Rattle.catalogue.specs.Adding.{JudgesAdded, NotTaken};
 ghost use Rattle.catalogue.specs.Catalogued.{program_in, query_in};
-ghost use Rattle.catalogue.specs.Chained.{AreChained, kinds_of_each};
-ghost use Rattle.catalogue.specs.Coming.{HasCome, IsAdded, IsLatest, IsTold, TellsAdded, coming};
-ghost use Rattle.catalogue.specs.Fitting.{IsFit, IsGrowth, added_of};
 ghost use Rattle.catalogue.specs.Loaded.{HoldsJudged, IsUnchanged};
 ghost use Rattle.catalogue.specs.Parts.{IsAccepted, parts_of, judged_of};
 ghost use Rattle.catalogue.specs.Standing.{IsLayoutOver, StandsInOrder};
-ghost use Rattle.catalogue.specs.Tables.{HasPlaces};
 
-use crate::adding::{Added, Coming, Growth, as_added, judge};
-use crate::fault::AddFault;
-use crate::growing::{lines_of_one, numbers_from, put_lines, put_query, size_of};
 use crate::numbering::{Published, hide_up_to, number_all, numbers_below};
-use crate::statements::name;
+use crate::placing::{chains_of, places_in};
 use automaton::{Layout, Lines};
 use cel_parser::File;
-use event_types::{KindLists, List, Memory, Numbers, StreamId};
+use event_types::{List, Memory, Numbers, StreamId};
 use expressions::Expr;
 use splitter::Chains;
 use std::alloc::Global;
 use std::marker::Model;
 use stream_schema::Streams;
-
-// The most lines of a query, with the hops on them.
-const MOST_OF_ONE: usize = 1_048_576;
 
 /// Queries that stand in order: the statements that they were loaded from, the streams that these declare, those that
 /// the queries publish, hidden ones too, and the queries, typed, with their lines. A query's number is its place among
@@ -49,7 +38,7 @@ pub struct Catalogue {
     pub(crate) places: Vec<usize>,
     // For each line the number of its end.
     pub(crate) ends: Numbers,
-    next_end: usize,
+    pub(crate) next_end: usize,
     pub(crate) chains: Chains,
 }
 
@@ -179,99 +168,6 @@ impl Catalogue {
         &self.chains.layout
     }
 
-    /// Brings the query of a text, which is the last one then and reads what is detected after `since`. Else the first fault
-    /// of the text: of its length, its tokens, its statement, its name, the names that it reads, or its types.
-    pub fn add(&mut self, alloc: Global, text: &[u8], since: Option<u64>) -> Result<Added, AddFault>
-        requires { IsLatest since self.old }
-        ensures ok { IfOk result (IsAdded text.now since self.old self.new) }
-        ensures bad { IfErr result (TellsAdded (λ line why. JudgesAdded self.old.streams text.now (NotTaken line why))) }
-        ensures kept { OnErr result (self.new ≡ self.old) }
-    {
-        match judge(alloc, &self.streams, text) {
-            Ok(query) => Ok(self.take_in(alloc, query, since)?),
-            Err(fault) => Err(as_added(fault)),
-        }
-    }
-
-    // Puts a typed query behind those that are there.
-    fn take_in(&mut self, alloc: Global, query: Coming, since: Option<u64>) -> Result<Added, Memory>
-        requires fit { IsFit self.old.streams (added_of query) }
-        requires born { IsLatest since self.old }
-        ensures come { OnOk result (HasCome self.old (added_of query) since self.new) }
-        ensures told { IfOk result (IsTold self.old (coming self.old (added_of query) since) self.new) }
-        ensures kept { OnErr result (self.new ≡ self.old) }
-    {
-        let growth = self.growth(alloc, &query)?;
-        let statement = query.statement;
-        let schema = query.schema;
-        let lines = self.chains.lines.len();
-        let queries = self.order.len();
-        let stream = self.chains.layout.kinds.len();
-        let hidden = growth.layout.kinds.len() - (stream + 1);
-        let publication = Published {
-            stream,
-            hidden: stream + 1,
-            birth: since,
-        };
-        put_lines(
-            alloc,
-            &mut self.chains.lines,
-            &mut self.ends,
-            &growth.told.lines,
-            &growth.told.ends,
-        )?;
-        let put = put_query(
-            &mut self.order,
-            &mut self.places,
-            &mut self.published,
-            &mut self.expressions,
-            publication,
-            query.expr,
-        );
-        if let Err(_) = put {
-            self.chains.lines.truncate(lines);
-            self.ends.truncate(lines);
-            return Err(Memory);
-        }
-        if let Err(_) = self.streams.publish(name(&statement), schema, hidden) {
-            self.chains.lines.truncate(lines);
-            self.ends.truncate(lines);
-            self.order.truncate(queries);
-            self.places.truncate(queries);
-            self.published.truncate(queries);
-            self.expressions.truncate(queries);
-            return Err(Memory);
-        }
-        self.next_end += growth.told.lines.len();
-        self.chains.layout = growth.layout;
-        Ok(growth.told)
-    }
-
-    // What the catalogue grows by with a typed query.
-    fn growth(&self, alloc: Global, query: &Coming) -> Result<Growth, Memory>
-        requires { IsFit self.now.streams (added_of query.now) }
-        ensures { IfOk result (IsGrowth self.now (added_of query.now)) }
-    {
-        if size_of(&self.chains.lines) > usize::MAX - MOST_OF_ONE {
-            return Err(Memory);
-        }
-        let chains = lines_of_one(alloc, &self.chains.layout, &query.schema, &query.expr)?;
-        let many = chains.lines.len();
-        if self.next_end > usize::MAX - many {
-            return Err(Memory);
-        }
-        let told = Added {
-            query: self.order.len(),
-            lines: chains.lines,
-            ends: numbers_from(alloc, self.next_end, many)?,
-            layout: chains.layout.copy(alloc)?,
-        };
-        Ok(Growth {
-            told,
-            layout: chains.layout,
-        })
-    }
-
     // The place of the query with this number in the order of work.
     pub(crate) fn place(&self, query: usize) -> usize
         requires { query < length self.now.order }
@@ -280,49 +176,4 @@ impl Catalogue {
     {
         self.places[query]
     }
-}
-
-// For each number its place.
-pub(crate) fn places_in(alloc: Global, numbers: &Numbers) -> Result<Vec<usize>, Memory>
-    requires small { All (λ number. number < length numbers.now) numbers.now }
-    requires distinct { AllPairs (λ x y. x ≢ y) numbers.now }
-    ensures { IfOk result (λ places. HasPlaces numbers.now places.items) }
-{
-    let mut places = vec![in alloc; 0; numbers.len()]?;
-    for place in 0..numbers.len() {
-        places[*numbers.get(place)] = place;
-    }
-    Ok(places)
-}
-
-// The lines and the layout of the queries of these parts, which have these places in the order of work.
-fn chains_of(
-    alloc: Global,
-    file: &File,
-    streams: &Streams,
-    order: &Numbers,
-    expressions: &List<Expr>,
-    places: &[usize],
-) -> Result<Chains, Memory>
-    requires accepted { IsAccepted (parts_of file.now streams.now order.now expressions.now) }
-    requires typed { length expressions.now ≡ length order.now }
-    requires placed { HasPlaces order.now places.now }
-    ensures { IfOk result (AreChained (parts_of file.now streams.now order.now expressions.now)) }
-{
-    let declared = file.size() - order.len();
-    let kinds = stream_kinds(alloc, streams, file.size())?;
-    Chains::make(alloc, declared, expressions, places, kinds)
-}
-
-// The kinds of each of so many streams, by its number.
-fn stream_kinds(alloc: Global, streams: &Streams, many: usize) -> Result<KindLists, Memory>
-    requires { many ≡ length streams.now }
-    ensures { IfOk result (λ kinds. kinds ≡ kinds_of_each streams.now) }
-{
-    let mut lists: KindLists = List::new(alloc);
-    for stream in 0..many {
-        let kinds = streams.schema(stream).kinds(alloc)?;
-        lists.add(kinds)?;
-    }
-    Ok(lists)
 }

@@ -8,7 +8,8 @@ ghost use Rattle.expressions.specs.Views.{ex_of};
 ghost use Rattle.stream_schema.specs.Streams.{stream_names};
 ghost use Rattle.stream_schema.specs.Table.{IsOwn};
 ghost use Rattle.catalogue.specs.Adding.{JudgesAdded, JudgesStatement, NotTaken, Taken};
-ghost use Rattle.catalogue.specs.Fitting.{IsFew, IsFit, IsKnownName, IsSameFault, added_of};
+ghost use Rattle.catalogue.specs.Fitting.{IsSameFault};
+ghost use Rattle.catalogue.specs.Taking.{IsFew, IsFit, IsKnownName, added_of};
 ghost use Rattle.catalogue.specs.Naming.{name_fault, read_fault};
 ghost use Rattle.catalogue.specs.Statements.{name_of, reads_by};
 ghost use Rattle.catalogue.specs.Telling.{TellsBad};
@@ -36,12 +37,12 @@ pub struct Added {
     pub layout: Layout,
 }
 
-/// A query that comes: its statement, the schema of its stream, and its expression.
+/// A query that was judged and may come to a catalogue: its statement, the schema of its stream, and its expression.
 #[derive(Drop)]
 pub struct Coming {
-    pub statement: Statement,
-    pub schema: Schema,
-    pub expr: Expr,
+    pub(crate) statement: Statement,
+    pub(crate) schema: Schema,
+    pub(crate) expr: Expr,
 }
 
 /// What a catalogue grows by with a query: what is told of it, and the layout of all lines then.

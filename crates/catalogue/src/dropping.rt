@@ -1,14 +1,16 @@
 //! Queries that leave a catalogue.
-ghost use Rattle.std.specs.Prelude.{◌≡◌, ◌<◌, ◌↔◌, ℕ, Err, OnErr, IfErr, IfNone, IfOk, IfSome, length};
+ghost use Rattle.std.specs.Prelude.{◌≡◌, ◌<◌, ◌↔◌, ℕ, Err, OnErr, IfErr, IfNone, IfOk, IfSome, OnOk, length};
 ghost use Rattle.catalogue.specs.declared.fault.DropFault.TheVariants.{UnknownQuery};
 ghost use Rattle.catalogue.specs.Catalogued.{query_in};
-ghost use Rattle.catalogue.specs.Leaving.{HasName, HasNoQuery, IsFirstReader, IsLeft, Leaves, LeavesUnread, StaysFor, catalogue_without, layout_without};
+ghost use Rattle.catalogue.specs.Standing.{StandsInOrder};
+ghost use Rattle.catalogue.specs.Leaving.{HasName, IsFirstNamed, HasNoQuery, IsFirstReader, IsLeft, IsUnread, Leaves, LeavesUnread, StaysFor, catalogue_without, layout_without};
 ghost use Rattle.catalogue.specs.Rest.{IsPart, IsRest};
 
-use crate::accepted::{Catalogue, places_in};
+use crate::accepted::Catalogue;
 use crate::counting::{count, count_all, does_read};
 use crate::fault::DropFault;
 use crate::leaving::{add_part, add_streams, cut, move_down, without};
+use crate::placing::places_in;
 use automaton::Layout;
 use event_types::{List, Memory, Numbers, StreamId, Text};
 use std::alloc::Global;
@@ -53,6 +55,19 @@ impl Catalogue {
         ensures err { IfErr result (StaysFor self.old name.now) }
         ensures kept { OnErr result (self.new ≡ self.old) }
     {
+        let query = self.query_to_drop(alloc, name)?;
+        let dropped = self.drop_at(alloc, query)?;
+        Ok(dropped)
+    }
+
+    /// The number of the query of this name, which none reads.
+    pub fn query_to_drop(&self, alloc: Global, name: &str) -> Result<usize, DropFault>
+        ensures named { IfOk result (HasName self.now name.now) }
+        ensures first { IfOk result (IsFirstNamed self.now name.now) }
+        ensures unread { IfOk result (IsUnread self.now) }
+        ensures unknown { (result ≡ Err UnknownQuery) ↔ HasNoQuery self.now name.now }
+        ensures err { IfErr result (StaysFor self.now name.now) }
+    {
         match self.query_of(name) {
             None => Err(DropFault::UnknownQuery),
             Some(query) => match self.reader_of(self.stream_of(query)) {
@@ -60,17 +75,32 @@ impl Catalogue {
                     let reader = Text::make(alloc, self.streams.name(self.stream_of(reader)))?;
                     Err(DropFault::InUse { reader })
                 }
-                None => {
-                    let dropped = self.leave(alloc, query)?;
-                    Ok(dropped)
-                }
+                None => Ok(query),
             },
         }
+    }
+
+    /// Takes the query with this number out, which none reads, as `drop_query` does. Want of memory changes nothing.
+    pub fn drop_at(&mut self, alloc: Global, query: usize) -> Result<Dropped, Memory>
+        requires within { query < length self.old.order }
+        requires unread { IsUnread self.old query }
+        ensures ok { IfOk result (λ dropped. IsLeft query dropped self.old self.new) }
+        ensures stands { OnOk result (StandsInOrder self.new) }
+        ensures kept { OnErr result (self.new ≡ self.old) }
+    {
+        let part = self.part_of(query);
+        let mut ends: Numbers = List::new(alloc);
+        add_part(&mut ends, &self.ends, part.first, part.end)?;
+        let layout = self.layout_left(alloc, query)?;
+        let rest = self.rest_of(alloc, query, &part)?;
+        self.put(query, part, rest);
+        Ok(Dropped { ends, layout })
     }
 
     // The number of the query of this name.
     fn query_of(&self, name: &str) -> Option<usize>
         ensures found { IfSome result (HasName self.now name.now) }
+        ensures first { IfSome result (IsFirstNamed self.now name.now) }
         ensures none { IfNone result (HasNoQuery self.now name.now) }
     {
         for query in 0..self.order.len() {
@@ -94,26 +124,10 @@ impl Catalogue {
         None
     }
 
-    // Takes the query with this number out, which none reads. Want of memory changes nothing.
-    fn leave(&mut self, alloc: Global, query: usize) -> Result<Dropped, Memory>
-        requires within { query < length self.old.order }
-        requires unread { (other : ℕ) → other < length self.old.order → LeavesUnread self.old (query_in self.old query).stream other }
-        ensures ok { IfOk result (λ dropped. IsLeft query dropped self.old self.new) }
-        ensures kept { OnErr result (self.new ≡ self.old) }
-    {
-        let part = self.part_of(query);
-        let mut ends: Numbers = List::new(alloc);
-        add_part(&mut ends, &self.ends, part.first, part.end)?;
-        let layout = self.layout_left(alloc, query)?;
-        let rest = self.rest_of(alloc, query, &part)?;
-        self.put(query, part, rest);
-        Ok(Dropped { ends, layout })
-    }
-
     // Puts the new parts, and takes out what the query with this number has in the others.
     fn put(&mut self, query: usize, part: Part, rest: Rest)
         requires within { query < length self.old.order }
-        requires unread { (other : ℕ) → other < length self.old.order → LeavesUnread self.old (query_in self.old query).stream other }
+        requires unread { IsUnread self.old query }
         requires part { IsPart self.old query part }
         requires rest { IsRest self.old query rest }
         ensures { self.new ≡ catalogue_without self.old query }

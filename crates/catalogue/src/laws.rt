@@ -3,6 +3,7 @@ ghost use Rattle.catalogue.specs.Adding.{OneAddedVerdict, SomeAddedVerdict};
 ghost use Rattle.catalogue.specs.Changes.{ProgramsKeepKinds, ProgramsLoseQueries, ProgramsTakeQueries};
 ghost use Rattle.catalogue.specs.Holding.{LoadedAreAccepted};
 ghost use Rattle.catalogue.specs.Laws.{FileOrFault, OneCycleOfNames, OneFile, OneFileFault, OneNameFault, OrderOrCycle, SoundOrFault};
+ghost use Rattle.catalogue.specs.Newcomers.{NewcomersAreUnknown, NoneIsLatest};
 ghost use Rattle.catalogue.specs.Programs.{AcceptedArePrograms, AcceptedAreWidePrograms, AllAreWorkedOn, DeclaredAreTold, DeclaredComeFirst, NumbersAreQueries, QueriesHaveTheirNames, StreamsHaveTheirNames, WorkIsInOrder};
 ghost use Rattle.catalogue.specs.Verdicts.{DeclaredOrFault, OneDeclaration, OneDeclareFault, OnePublication, OnePublishFault, OneVerdict, PublishedOrFault, SomeVerdict};
 
@@ -93,4 +94,11 @@ pub fn queries_come_and_leave()
 pub fn added_text_has_one_verdict()
     ensures one { OneAddedVerdict }
     ensures some { SomeAddedVerdict }
+{}
+
+/// A query may come to a catalogue as it is loaded before any epoch was closed; and the streams that come with a query
+/// into the order of work are new to the layout.
+pub fn newcomers_are_new()
+    ensures latest { NoneIsLatest }
+    ensures unknown { NewcomersAreUnknown }
 {}

@@ -19,19 +19,21 @@ mod leaving;
 mod loading;
 mod naming;
 mod numbering;
+mod placing;
 mod publishing;
 mod reading;
 mod statements;
+mod taking;
 
 pub use accepted::Catalogue;
-pub use adding::Added;
+pub use adding::{Added, Coming};
 pub use dropping::Dropped;
 pub use fault::{AddFault, DropFault, LoadFault, QueryFault};
 pub use laws::{
     accepted_texts_are_programs, accepted_texts_are_wide_programs, added_text_has_one_verdict,
     declarations_have_one_answer, declared_streams_come_first, loaded_texts_are_accepted,
-    names_are_those_of_statements, names_have_one_answer, queries_come_and_leave,
-    queries_have_one_answer, text_has_one_verdict, text_has_some_verdict, text_is_one_file,
-    work_is_in_order,
+    names_are_those_of_statements, names_have_one_answer, newcomers_are_new,
+    queries_come_and_leave, queries_have_one_answer, text_has_one_verdict, text_has_some_verdict,
+    text_is_one_file, work_is_in_order,
 };
 pub use loading::load;

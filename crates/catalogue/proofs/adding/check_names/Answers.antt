@@ -4,7 +4,7 @@ use Rattle.stream_schema.specs.Streams.{stream_names}
 use Rattle.cel_grammar.specs.Views.{statement_of}
 use Rattle.cel_grammar.specs.declared.statement.Statement.{Statement}
 use Rattle.catalogue.specs.Adding as adding
-use Rattle.catalogue.specs.Fitting.{IsKnownName}
+use Rattle.catalogue.specs.Taking.{IsKnownName}
 use Rattle.catalogue.specs.Naming.{name_fault, read_fault}
 use Rattle.catalogue.specs.Statements.{reads_by}
 use Rattle.catalogue.proofs.adding.check_names.Goals as goal

@@ -4,7 +4,7 @@ use Rattle.std.specs.List.{All}
 use Rattle.std.proofs.lemmas.List.{take_all, take_more}
 use Rattle.std.proofs.lemmas.List.Elements.{All-push}
 use Rattle.stream_schema.specs.Streams.{stream_names}
-use Rattle.catalogue.specs.Fitting.{IsKnownName}
+use Rattle.catalogue.specs.Taking.{IsKnownName}
 use Rattle.catalogue.specs.Naming.{read_fault}
 use Rattle.catalogue.proofs.ReadingLemmas.{read_fault-at, read_fault-more}
 use Rattle.catalogue.proofs.adding.first_unknown.Goals as goal

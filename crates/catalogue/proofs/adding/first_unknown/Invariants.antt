@@ -2,7 +2,7 @@ use Rattle.std.proofs.Common.{◌≡◌, take}
 use Rattle.std.specs.Prelude.{None}
 use Rattle.std.specs.List.{All}
 use Rattle.stream_schema.specs.Streams.{stream_names}
-use Rattle.catalogue.specs.Fitting.{IsKnownName}
+use Rattle.catalogue.specs.Taking.{IsKnownName}
 use Rattle.catalogue.specs.Naming.{read_fault}
 use Rattle.catalogue.proofs.adding.first_unknown.Given as goal
 

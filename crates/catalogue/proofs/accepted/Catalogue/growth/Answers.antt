@@ -1,6 +1,6 @@
 use Rattle.std.proofs.Common.{subst, sym}
 use Rattle.catalogue.specs.Catalogued.{Catalogued}
-use Rattle.catalogue.specs.Fitting.{IsFit, added_of}
+use Rattle.catalogue.specs.Taking.{IsFit, added_of}
 use Rattle.catalogue.proofs.FittingLemmas.{may_grow}
 use Rattle.catalogue.proofs.accepted.Catalogue.growth.Goals as goal
 

@@ -15,6 +15,10 @@ returns-then-eq-clause-found c =
     let is = name_there c.args.self.now held.stands c.loop-query.query within c.self.inside.streams c.stream_of.result c.name.result.now (ap (λ (v : Catalogued). v.streams) c.self.view_is) c.stream_of.ensures.value c.name.ensures in
     record { within = within; name_is = is ∙ (bytes_eq-Decides c.name.result.now c.args.name.now).0 (sym c.eq.ensures ∙ c.if-eq.true) }
 
+-- none before it has the name
+pub returns-then-eq-clause-first : goal.returns-then-eq-clause-first
+returns-then-eq-clause-first c = c.loop-query.invariant
+
 -- one query more hasn't it
 pub loop-query-preserved : goal.loop-query-preserved
 loop-query-preserved c = λ number less same. elim (cases_eq number c.loop-query.query) [

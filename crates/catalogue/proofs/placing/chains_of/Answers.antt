@@ -5,7 +5,7 @@ use Rattle.catalogue.specs.Parts.{parts_of}
 use Rattle.catalogue.specs.Chained.{AreChained, kinds_of_each}
 use Rattle.catalogue.proofs.ChainedLemmas.{Asks, asks, chained, many_streams, streams_whole}
 use Rattle.catalogue.proofs.HeldLemmas.{sizes}
-use Rattle.catalogue.proofs.accepted.chains_of.Goals as goal
+use Rattle.catalogue.proofs.placing.chains_of.Goals as goal
 
 -- there are as many statements as declared streams and queries
 pub overflow_sub-declared : goal.overflow_sub-declared

@@ -2,10 +2,11 @@ use Rattle.std.proofs.Common.{◌≡◌, ◌∙◌, ℕ, ◌+◌, ◌≤◌, ◌
 use Rattle.automaton.specs.declared.line.Line.{Line}
 use Rattle.catalogue.specs.Catalogued.{Catalogued}
 use Rattle.catalogue.specs.Coming.{HasCome, IsLatest}
-use Rattle.catalogue.specs.Fitting.{IsFit, IsGrowth, added_of}
+use Rattle.catalogue.specs.Fitting.{IsGrowth}
+use Rattle.catalogue.specs.Taking.{IsFit, added_of}
 use Rattle.catalogue.specs.Tables.{IsHeld}
 use Rattle.catalogue.proofs.ComingLemmas.{come_held, come_of, has_come, held_back, kinds_up, made_is, taken_back}
-use Rattle.catalogue.proofs.accepted.Catalogue.take_in.Goals as goal
+use Rattle.catalogue.proofs.accepted.Catalogue.take.Goals as goal
 
 -- the catalogue as it was
 abbrev view_of : goal.After-len → Catalogued
@@ -145,3 +146,7 @@ pub returns-clause-come : goal.returns-clause-come
 returns-clause-come c =
     subst (λ (s : Catalogued × Catalogued). HasCome s.0 (added_of c.args.query) c.args.since s.1) (λ i. (c.self.view_is i, sym (made c) i))
     (has_come (was c) c.self.invariant.stands c.args.query (fit_then c) c.args.since (latest_then c) c.in_ok-growth.growth (grows_then c))
+
+-- and they stand in order
+pub returns-clause-stands : goal.returns-clause-stands
+returns-clause-stands c = (invariant_of-self-2 c).stands

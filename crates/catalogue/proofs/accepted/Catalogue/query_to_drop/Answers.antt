@@ -3,7 +3,7 @@ use Rattle.catalogue.specs.Catalogued.{Catalogued, query_in}
 use Rattle.catalogue.specs.Leaving.{IsFirstReader}
 use Rattle.catalogue.specs.Tables.{IsHeld}
 use Rattle.catalogue.proofs.LeftProgramLemmas.{name_there}
-use Rattle.catalogue.proofs.accepted.Catalogue.drop_query.Goals as goal
+use Rattle.catalogue.proofs.accepted.Catalogue.query_to_drop.Goals as goal
 
 -- the first query that reads it is told
 pub returns-in_ok-reader-in-Some-reader_of-clause-err :
@@ -16,6 +16,7 @@ returns-in_ok-reader-in-Some-reader_of-clause-err c =
     record {
       number = c.in-Some.query;
       named = c.in-Some.ensures.found;
+      first_named = c.in-Some.ensures.first;
       other = reader;
       first = first;
       reader_is = c.in_ok-reader-in-Some-reader_of.ensures

@@ -1,9 +1,11 @@
 use Rattle.std.proofs.Common.{◌≡◌, ◌∙◌, ◌-◌, ◌++◌, ℕ, List, take, drop, sym, ap, subst, arith}
 use Rattle.catalogue.specs.Catalogued.{Catalogued, program_in, query_in}
 use Rattle.catalogue.specs.Leaving.{catalogue_without, lines_many}
+use Rattle.catalogue.specs.Standing.{StandsInOrder}
 use Rattle.catalogue.specs.Tables.{IsHeld}
+use Rattle.catalogue.proofs.LeftLemmas.{left_stands}
 use Rattle.catalogue.proofs.LeftProgramLemmas.{program_left}
-use Rattle.catalogue.proofs.accepted.Catalogue.leave.Goals as goal
+use Rattle.catalogue.proofs.accepted.Catalogue.drop_at.Goals as goal
 
 -- the query has left
 pub returns-clause-ok : goal.returns-clause-ok
@@ -20,3 +22,10 @@ returns-clause-ok c =
           ∙ (λ t. take (many t) (drop (c.part_of-part.ensures.first t) (c.self.view_is t).ends));
       layout = c.in_ok-layout.ensures ∙ ap (λ (v : Catalogued). v.layout) (sym is);
     }
+
+-- the others stand in order
+pub returns-clause-stands : goal.returns-clause-stands
+returns-clause-stands c =
+    let now = c.args.self.now in
+    let held : IsHeld now c.self.inside.places.items c.self.inside.chains.lines = subst (λ (v : Catalogued). IsHeld v c.self.inside.places.items c.self.inside.chains.lines) c.self.view_is c.self.invariant in
+    subst StandsInOrder (sym c.put.ensures) (left_stands now held.stands c.args.query c.requires.within c.requires.unread)

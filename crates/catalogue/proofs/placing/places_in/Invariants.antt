@@ -1,5 +1,5 @@
 use Rattle.catalogue.proofs.HeldLemmas.{HasFirstPlaces}
-use Rattle.catalogue.proofs.accepted.places_in.Given as goal
+use Rattle.catalogue.proofs.placing.places_in.Given as goal
 
 -- the numbers so far have their places
 abbrev pub invariant-loop-place : goal.invariant-loop-place

@@ -3,7 +3,7 @@ use Rattle.stream_schema.specs.Schema.{kinds_of}
 use Rattle.stream_schema.specs.Streams.{schemas_of}
 use Rattle.catalogue.specs.Chained.{kinds_of_each}
 use Rattle.catalogue.proofs.ChainedLemmas.{taken_more}
-use Rattle.catalogue.proofs.accepted.stream_kinds.Goals as goal
+use Rattle.catalogue.proofs.placing.stream_kinds.Goals as goal
 
 -- one stream more
 pub loop-stream-preserved : goal.loop-stream-preserved

@@ -1,0 +1,58 @@
+//! The places of queries in the order of work, and the lines of queries that have them.
+ghost use Rattle.std.specs.Prelude.{◌≡◌, ◌≢◌, ◌<◌, AllPairs, IfOk, length};
+ghost use Rattle.std.specs.List.{All};
+ghost use Rattle.catalogue.specs.Chained.{AreChained, kinds_of_each};
+ghost use Rattle.catalogue.specs.Parts.{IsAccepted, parts_of};
+ghost use Rattle.catalogue.specs.Tables.{HasPlaces};
+
+use cel_parser::File;
+use event_types::{KindLists, List, Memory, Numbers};
+use expressions::Expr;
+use splitter::Chains;
+use std::alloc::Global;
+use stream_schema::Streams;
+
+/// For each number its place.
+pub fn places_in(alloc: Global, numbers: &Numbers) -> Result<Vec<usize>, Memory>
+    requires small { All (λ number. number < length numbers.now) numbers.now }
+    requires distinct { AllPairs (λ x y. x ≢ y) numbers.now }
+    ensures { IfOk result (λ places. HasPlaces numbers.now places.items) }
+{
+    let mut places = vec![in alloc; 0; numbers.len()]?;
+    for place in 0..numbers.len() {
+        places[*numbers.get(place)] = place;
+    }
+    Ok(places)
+}
+
+/// The lines and the layout of the queries of these parts, which have these places in the order of work.
+pub fn chains_of(
+    alloc: Global,
+    file: &File,
+    streams: &Streams,
+    order: &Numbers,
+    expressions: &List<Expr>,
+    places: &[usize],
+) -> Result<Chains, Memory>
+    requires accepted { IsAccepted (parts_of file.now streams.now order.now expressions.now) }
+    requires typed { length expressions.now ≡ length order.now }
+    requires placed { HasPlaces order.now places.now }
+    ensures { IfOk result (AreChained (parts_of file.now streams.now order.now expressions.now)) }
+{
+    let declared = file.size() - order.len();
+    let kinds = stream_kinds(alloc, streams, file.size())?;
+    Chains::make(alloc, declared, expressions, places, kinds)
+}
+
+// The kinds of each of so many streams, by its number.
+fn stream_kinds(alloc: Global, streams: &Streams, many: usize) -> Result<KindLists, Memory>
+    requires { many ≡ length streams.now }
+    ensures { IfOk result (λ kinds. kinds ≡ kinds_of_each streams.now) }
+{
+    let mut lists: KindLists = List::new(alloc);
+    for stream in 0..many {
+        let kinds = streams.schema(stream).kinds(alloc)?;
+        lists.add(kinds)?;
+    }
+    Ok(lists)
+}

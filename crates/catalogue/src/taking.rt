@@ -1,0 +1,133 @@
+//! Queries that come to a catalogue.
+ghost use Rattle.std.specs.Prelude.{◌≡◌, IfErr, IfOk, OnErr, OnOk};
+ghost use Rattle.catalogue.specs.Adding.{JudgesAdded, NotTaken, Taken};
+ghost use Rattle.catalogue.specs.Coming.{HasCome, IsAdded, IsLatest, IsTold, TellsAdded, coming};
+ghost use Rattle.catalogue.specs.Fitting.{IsGrowth};
+ghost use Rattle.catalogue.specs.Standing.{StandsInOrder};
+ghost use Rattle.catalogue.specs.Taking.{IsFit, added_of};
+
+use crate::accepted::Catalogue;
+use crate::adding::{Added, Coming, Growth, as_added, judge};
+use crate::fault::AddFault;
+use crate::growing::{lines_of_one, numbers_from, put_lines, put_query, size_of};
+use crate::numbering::Published;
+use crate::statements::name;
+use event_types::Memory;
+use std::alloc::Global;
+
+// The most lines of a query, with the hops on them.
+const MOST_OF_ONE: usize = 1_048_576;
+
+impl Catalogue {
+    /// Brings the query of a text, which is the last one then and reads what is detected after `since`. Else the first fault
+    /// of the text: of its length, its tokens, its statement, its name, the names that it reads, or its types.
+    pub fn add(&mut self, alloc: Global, text: &[u8], since: Option<u64>) -> Result<Added, AddFault>
+        requires { IsLatest since self.old }
+        ensures ok { IfOk result (IsAdded text.now since self.old self.new) }
+        ensures bad { IfErr result (TellsAdded (λ line why. JudgesAdded self.old.streams text.now (NotTaken line why))) }
+        ensures kept { OnErr result (self.new ≡ self.old) }
+    {
+        let query = self.judge(alloc, text)?;
+        let added = self.take(alloc, query, since)?;
+        Ok(added)
+    }
+
+    /// The query of a text, which may be taken as long as no query comes or leaves; or the first fault of the text, as `add`
+    /// tells it.
+    pub fn judge(&self, alloc: Global, text: &[u8]) -> Result<Coming, AddFault>
+        ensures taken { IfOk result (λ query. JudgesAdded self.now.streams text.now (Taken (added_of query))) }
+        ensures fit { IfOk result (λ query. IsFit self.now.streams (added_of query)) }
+        ensures bad { IfErr result (TellsAdded (λ line why. JudgesAdded self.now.streams text.now (NotTaken line why))) }
+    {
+        match judge(alloc, &self.streams, text) {
+            Ok(query) => Ok(query),
+            Err(fault) => Err(as_added(fault)),
+        }
+    }
+
+    /// Puts a judged query behind those that are there, of which it is the last one then and reads what is detected
+    /// after `since`. Want of memory drops the query.
+    pub fn take(
+        &mut self,
+        alloc: Global,
+        query: Coming,
+        since: Option<u64>,
+    ) -> Result<Added, Memory>
+        requires fit { IsFit self.old.streams (added_of query) }
+        requires born { IsLatest since self.old }
+        ensures come { OnOk result (HasCome self.old (added_of query) since self.new) }
+        ensures told { IfOk result (IsTold self.old (coming self.old (added_of query) since) self.new) }
+        ensures stands { OnOk result (StandsInOrder self.new) }
+        ensures kept { OnErr result (self.new ≡ self.old) }
+    {
+        let growth = self.growth(alloc, &query)?;
+        let statement = query.statement;
+        let schema = query.schema;
+        let lines = self.chains.lines.len();
+        let queries = self.order.len();
+        let stream = self.chains.layout.kinds.len();
+        let hidden = growth.layout.kinds.len() - (stream + 1);
+        let publication = Published {
+            stream,
+            hidden: stream + 1,
+            birth: since,
+        };
+        put_lines(
+            alloc,
+            &mut self.chains.lines,
+            &mut self.ends,
+            &growth.told.lines,
+            &growth.told.ends,
+        )?;
+        let put = put_query(
+            &mut self.order,
+            &mut self.places,
+            &mut self.published,
+            &mut self.expressions,
+            publication,
+            query.expr,
+        );
+        if let Err(_) = put {
+            self.chains.lines.truncate(lines);
+            self.ends.truncate(lines);
+            return Err(Memory);
+        }
+        if let Err(_) = self.streams.publish(name(&statement), schema, hidden) {
+            self.chains.lines.truncate(lines);
+            self.ends.truncate(lines);
+            self.order.truncate(queries);
+            self.places.truncate(queries);
+            self.published.truncate(queries);
+            self.expressions.truncate(queries);
+            return Err(Memory);
+        }
+        self.next_end += growth.told.lines.len();
+        self.chains.layout = growth.layout;
+        Ok(growth.told)
+    }
+
+    // What the catalogue grows by with a typed query.
+    fn growth(&self, alloc: Global, query: &Coming) -> Result<Growth, Memory>
+        requires { IsFit self.now.streams (added_of query.now) }
+        ensures { IfOk result (IsGrowth self.now (added_of query.now)) }
+    {
+        if size_of(&self.chains.lines) > usize::MAX - MOST_OF_ONE {
+            return Err(Memory);
+        }
+        let chains = lines_of_one(alloc, &self.chains.layout, &query.schema, &query.expr)?;
+        let many = chains.lines.len();
+        if self.next_end > usize::MAX - many {
+            return Err(Memory);
+        }
+        let told = Added {
+            query: self.order.len(),
+            lines: chains.lines,
+            ends: numbers_from(alloc, self.next_end, many)?,
+            layout: chains.layout.copy(alloc)?,
+        };
+        Ok(Growth {
+            told,
+            layout: chains.layout,
+        })
+    }
+}
