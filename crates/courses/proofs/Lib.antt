@@ -1,0 +1,14 @@
+pub mod ClosedLemmas
+pub mod ControlLemmas
+pub mod DeclaredLemmas
+pub mod EventLinesLemmas
+pub mod Examples
+pub mod FitsLemmas
+pub mod HeardLemmas
+pub mod MomentLemmas
+pub mod NamedLemmas
+pub mod PartedLemmas
+pub mod ReportLemmas
+pub mod SetLemmas
+pub mod SoundLemmas
+pub mod VerdictLemmas

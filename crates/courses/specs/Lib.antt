@@ -1,0 +1,10 @@
+pub mod QuerySet
+pub mod Course
+pub mod ControlLines
+pub mod Heard
+pub mod Reports
+pub mod DeclaredFirst
+pub mod Sound
+pub mod Fits
+pub mod EventLines
+pub mod Laws

@@ -1,0 +1,32 @@
+//! Laws of courses and of event texts with control lines.
+ghost use Rattle.courses.specs.Laws.{ControlEntriesAddNoLine, CourseReportGrowsByEpochs, EventLinesAreHeardAlone, EventsAloneAreAHistory, RefusedLinesStay, ReportsGrow};
+
+/// A refused line stays refused, whatever bytes follow.
+pub fn refused_lines_stay()
+    ensures { RefusedLinesStay }
+{}
+
+/// What was reported stays, whatever bytes follow.
+pub fn reports_grow()
+    ensures { ReportsGrow }
+{}
+
+/// The report of a course without control entries is that of its events.
+pub fn events_alone_are_a_history()
+    ensures { EventsAloneAreAHistory }
+{}
+
+/// A run may write its report epoch by epoch.
+pub fn course_report_grows_by_epochs()
+    ensures { CourseReportGrowsByEpochs }
+{}
+
+/// A query that comes or goes changes nothing of what was reported.
+pub fn control_entries_add_no_line()
+    ensures { ControlEntriesAddNoLine }
+{}
+
+/// Over event texts without control lines the first refused line, what is heard and what is closed are those of event lines.
+pub fn event_lines_are_heard_alone()
+    ensures { EventLinesAreHeardAlone }
+{}
