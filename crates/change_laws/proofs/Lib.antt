@@ -1,0 +1,10 @@
+pub mod EndLemmas
+pub mod EndedLemmas
+pub mod UnreadLemmas
+pub mod AtOneLemmas
+pub mod PartLemmas
+pub mod ComeLemmas
+pub mod LeaveLemmas
+pub mod StartLemmas
+pub mod CourseLemmas
+pub mod ResultLemmas

@@ -1,0 +1,4 @@
+pub mod AtOne
+pub mod Calls
+pub mod Courses
+pub mod Laws
