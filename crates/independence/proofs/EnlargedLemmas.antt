@@ -4,16 +4,12 @@ use Rattle.std.specs.Prelude.{Contains}
 use Rattle.std.proofs.lemmas.List.Elements.{All-contains}
 use Rattle.cel_types.specs.SourceLaws.{kinds_in}
 use Rattle.catalogue.specs.Judgement.{program_of}
-use Rattle.session.specs.Heard.{closed}
-use Rattle.session.specs.Readings.{readings}
 use Rattle.independence.specs.Enlarging.{AddedQueriesChangeNoEvent, AddedQueriesChangeNoLine}
-use Rattle.independence.specs.Reports.{AddedQueriesChangeNoReport}
 use Rattle.independence.proofs.AcceptedLemmas.{accepted-stands}
-use Rattle.independence.proofs.EnlargingLemmas.{hear-same, same_times}
+use Rattle.independence.proofs.EnlargingLemmas.{hear-same}
 use Rattle.independence.proofs.EventLemmas.{read-alike}
 use Rattle.independence.proofs.IndependenceLemmas.{reads_alone}
 use Rattle.catalogue.proofs.ProgramLemmas.{accepted_are_programs}
-use Rattle.independence.proofs.ReadingLemmas.{closed-so, heard-so, refused-alike}
 
 -- added queries change no event
 pub lines_are_read_alike : AddedQueriesChangeNoEvent
@@ -25,15 +21,3 @@ lines_stay text other_text judged other history other_history accepts accepts_to
     reads_alone text other_text judged other history other_history accepts accepts_too (kinds_in judged.streams) (kinds_in other.streams) (accepted_are_programs text judged accepts) (accepted_are_programs other_text other accepts_too) k d inside
     (λ s stated read. All-contains (Contains other.statements) judged.statements s adds.all_stand stated)
     (hear-same judged other (accepted-stands text judged accepts) (accepted-stands other_text other accepts_too) adds history other_history same (get_or (program_of judged).queries k d).name)
-
--- nor what the other queries report
-pub reports_stay : AddedQueriesChangeNoReport
-reports_stay text other_text judged other events ended accepts accepts_too adds =
-    let same = closed-so judged.streams other.streams (λ line. lines_are_read_alike text other_text judged other line accepts accepts_too adds) events ended in
-    record {
-      refused_is = refused-alike judged.streams other.streams (λ line. lines_are_read_alike text other_text judged other line accepts accepts_too adds) events ended;
-      heard_are = heard-so judged.streams other.streams (λ line. lines_are_read_alike text other_text judged other line accepts accepts_too adds) events ended;
-      closed_are = same;
-      epochs_are = same_times judged.streams other.streams (closed (readings judged.streams events ended) ended) (closed (readings other.streams events ended) ended) same;
-      lines_are = lines_stay text other_text judged other (closed (readings judged.streams events ended) ended) (closed (readings other.streams events ended) ended) accepts accepts_too adds same;
-    }

@@ -75,7 +75,7 @@ module _ (streams others : List Entry) (apart : AllPairs (λ x y. x ≢ y) (stre
       ]
 
   -- so the same tuples were heard there, by induction on the histories
-  heard-same : (history other_history : List Event) → AreTheSameEvents streams others history other_history → heard_on history n ≡ heard_on other_history m
+  pub heard-same : (history other_history : List Event) → AreTheSameEvents streams others history other_history → heard_on history n ≡ heard_on other_history m
   heard-same [] [] same = refl
   heard-same [] (other ∷ later) same = absurd same
   heard-same (event ∷ later) [] same = absurd same

@@ -1,8 +1,16 @@
--- An example of what a query reads from, worked out by hand. No contract cites it.
-use Rattle.std.proofs.Common.{◌≡◌, refl, true, false, List, [], ◌∷◌, arith}
-use Rattle.std.specs.Prelude.{codes}
+-- Examples of what lines depend on, worked out by hand. No contract cites them.
+use Rattle.std.proofs.Common.{◌≡◌, refl, ℕ, true, false, List, [], ◌∷◌, arith}
+use Rattle.std.specs.Prelude.{Err, None, Ok, codes}
 use Rattle.event_types.specs.declared.kind.Kind.TheVariants as kind
+use Rattle.semantics.specs.Expressions.{Read}
+use Rattle.semantics.specs.Programs.{Query as ProgramQuery}
+use Rattle.stream_schema.specs.Streams.{Entry}
 use Rattle.cel_grammar.specs.Trees.{Statement, Stream, Query, Col, All, Name}
+use Rattle.courses.specs.ControlLines.{OfControl, dropped_entry, query_named}
+use Rattle.courses.specs.declared.fault.ControlFault.TheVariants as fault
+use Rattle.courses.specs.Course.{Drops, Hears}
+use Rattle.courses.specs.QuerySet.{QuerySet}
+use Rattle.independence.specs.Courses.{AreOneEntry}
 use Rattle.independence.specs.ReadsFrom.{ReadsFrom, own, through}
 use Rattle.independence.proofs.WithinLemmas.{reads-among}
 
@@ -21,3 +29,31 @@ reads_through =
 -- and not from R, though both read from S
 reads_no_other : ReadsFrom statements (codes "Q") (codes "R") → ⊥
 reads_no_other reads = let e : false ≡ true = reads-among statements (codes "Q") (codes "Q" ∷ codes "P" ∷ codes "S" ∷ []) refl refl (codes "R") reads in cc
+
+-- two queries that read the first stream, and the sets of one of them and of both
+abbrev first_query : ProgramQuery
+first_query = record { name = codes "P"; stream = 1; hidden = 2; expr = Read 0; birth = None }
+
+abbrev second_query : ProgramQuery
+second_query = record { name = codes "R"; stream = 2; hidden = 3; expr = Read 0; birth = None }
+
+abbrev smaller : QuerySet
+smaller = record { streams = []; program = record { declared = 1; queries = first_query ∷ []; order = first_query ∷ [] } }
+
+abbrev larger : QuerySet
+larger = record { streams = []; program = record { declared = 1; queries = first_query ∷ second_query ∷ []; order = first_query ∷ second_query ∷ [] } }
+
+-- a control line that drops a query which the larger set alone has is refused with the smaller, so the law asks that no line is refused with either
+dropped_from_larger : dropped_entry larger (codes "R") (query_named larger (codes "R")) ≡ Ok (Drops second_query)
+dropped_from_larger = refl
+
+refused_with_smaller : dropped_entry smaller (codes "R") (query_named smaller (codes "R")) ≡ Err (OfControl (fault.UnknownQuery (codes "R")))
+refused_with_smaller = refl
+
+-- a declared stream without attributes
+abbrev stream : List ℕ → Entry
+stream name = record { name = name; schema = []; declared = true }
+
+-- one event, where the streams stand in another order: its stream has the same name, and not the same number
+one_event : AreOneEntry (stream (codes "S") ∷ stream (codes "T") ∷ []) (stream (codes "T") ∷ stream (codes "S") ∷ []) (Hears (record { stream = 0; tuple = record { vals = []; from = 1; at = 1 } })) (Hears (record { stream = 1; tuple = record { vals = []; from = 1; at = 1 } }))
+one_event = record { streams_are = record { name = codes "S"; first = refl; second = refl }; tuples_are = refl }

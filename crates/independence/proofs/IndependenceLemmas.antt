@@ -80,7 +80,7 @@ module _ (text other : List ℕ) (a b : Judged) (accepts : Accepts text a) (acce
     same-lines name twin_name n m time named same = λ i. flat_map (line (named i)) (same i)
 
     -- the query has its twin
-    pub has-twin : (q : Query) → Contains a.published q → q.name ≡ query → HasTwin a b history others q
+    pub has-twin : (q : Query) → Contains a.published q → q.name ≡ query → HasTwin (program_of a) (program_of b) history others q
     has-twin q published named =
         let known = All-contains (λ q. (u : Statement) × Contains (queries_in a.statements) u × IsOf a.streams u q) a.published q s.queries published in
         twin-of known.0 known.1 known.2
@@ -88,7 +88,7 @@ module _ (text other : List ℕ) (a b : Judged) (accepts : Accepts text a) (acce
         own : IsTrue (test q.name)
         own = subst (λ (y : List ℕ). IsTrue (test y)) (sym named) (into query (own-read text a accepts s.apart query))
 
-        twin-of : (u : Statement) → Contains (queries_in a.statements) u → IsOf a.streams u q → HasTwin a b history others q
+        twin-of : (u : Statement) → Contains (queries_in a.statements) u → IsOf a.streams u q → HasTwin (program_of a) (program_of b) history others q
         twin-of u stated is =
             let followed = queries-followed a b s t test shared closed accepts.publishes q u stated is own in
             let file = (λ (p : Query) (there : Contains a.published p). Contains-permutation a.published (program_of a).queries p (IsPermutation-sym (program_of a).queries a.published typed.same_queries) there) in
@@ -107,8 +107,8 @@ module _ (text other : List ℕ) (a b : Judged) (accepts : Accepts text a) (acce
 
 -- results depend on what is read alone
 pub reads_alone : (text other : List ℕ) (a b : Judged) (history others : List Event) → Accepts text a → Accepts other b → (kinds other_kinds : ℕ → List Kind) → IsProgram kinds (program_of a) → IsProgram other_kinds (program_of b)
-    → All (λ query. ReadsTheSame a.statements b.statements query.name → HearTheSame a b history others query.name → HasTwin a b history others query) (program_of a).queries
+    → All (λ query. ReadsTheSame a.statements b.statements query.name → HearTheSame a b history others query.name → HasTwin (program_of a) (program_of b) history others query) (program_of a).queries
 reads_alone text other a b history others accepts accepts_too kinds other_kinds typed typed_too =
-    All-permutation (λ query. ReadsTheSame a.statements b.statements query.name → HearTheSame a b history others query.name → HasTwin a b history others query) a.published (program_of a).queries
+    All-permutation (λ query. ReadsTheSame a.statements b.statements query.name → HearTheSame a b history others query.name → HasTwin (program_of a) (program_of b) history others query) a.published (program_of a).queries
     (IsPermutation-sym (program_of a).queries a.published typed.same_queries)
     (λ k d inside stands hear. has-twin text other a b accepts accepts_too kinds other_kinds typed typed_too (get_or a.published k d).name stands history others hear (get_or a.published k d) (Contains-get_or a.published k d inside) refl)

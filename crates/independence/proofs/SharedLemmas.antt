@@ -135,7 +135,7 @@ module _ (a b : Judged) (s : Stands a) (t : Stands b) (test : List ℕ → Bool)
 
   module _ (publishes : Publish (queries_in a.statements) a.declared (length a.statements) a.order a.streams a.published) where
     -- all streams that are shared are alike
-    all-alike : (name : List ℕ) → IsTrue (test name) → IsAlike a.streams b.streams (number_in a.streams b.streams) name
+    pub all-alike : (name : List ℕ) → IsTrue (test name) → IsAlike a.streams b.streams (number_in a.streams b.streams) name
     all-alike = follow publishes refl declared-alike
 
     -- a query that is shared, with the query of the other text, and what it reads

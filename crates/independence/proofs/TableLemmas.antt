@@ -47,7 +47,7 @@ other_name x y other = elim (cases_Bool (bytes_eq x y)) [
 ]
 
 -- a number is that of the first stream of a name
-number-is : (name : List ℕ) (streams : List Entry) (n : ℕ) (d : Entry) → n < length streams → ((k : ℕ) → k < n → bytes_eq name (get_or streams k d).name ≡ false) → bytes_eq name (get_or streams n d).name ≡ true
+pub number-is : (name : List ℕ) (streams : List Entry) (n : ℕ) (d : Entry) → n < length streams → ((k : ℕ) → k < n → bytes_eq name (get_or streams k d).name ≡ false) → bytes_eq name (get_or streams n d).name ≡ true
     → number_of name streams ≡ Some n
 number-is name streams n d lt before here =
     ap (λ i. cond (nat_lt i (length streams)) (Some i) None) (position_or_len_is (λ (s : Entry). bytes_eq name s.name) streams n d (omega arith) before (λ inside. here))

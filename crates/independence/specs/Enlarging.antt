@@ -37,4 +37,4 @@ SameEventsHaveSameTimes = (streams others : List Entry) (history other_history :
 abbrev pub AddedQueriesChangeNoLine : Type 0
 AddedQueriesChangeNoLine =
     (text other_text : List ℕ) (judged other : Judged) (history other_history : List Event) → Accepts text judged → Accepts other_text other → AddQueries judged.statements other.statements
-    → AreTheSameEvents judged.streams other.streams history other_history → All (HasTwin judged other history other_history) (program_of judged).queries
+    → AreTheSameEvents judged.streams other.streams history other_history → All (HasTwin (program_of judged) (program_of other) history other_history) (program_of judged).queries

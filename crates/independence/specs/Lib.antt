@@ -3,3 +3,4 @@ pub mod Hearing
 pub mod Independence
 pub mod Enlarging
 pub mod Reports
+pub mod Courses

@@ -1,4 +1,5 @@
 //! Laws over accepted query texts.
+ghost use Rattle.independence.specs.Courses.{AddedQueriesChangeNoCourse};
 ghost use Rattle.independence.specs.Enlarging.{AddedQueriesChangeNoEvent, AddedQueriesChangeNoLine, SameEventsHaveSameTimes};
 ghost use Rattle.independence.specs.Independence.{ResultsDependOnReadsAlone};
 ghost use Rattle.independence.specs.Reports.{AddedQueriesChangeNoReport};
@@ -24,7 +25,13 @@ pub fn added_queries_change_no_line()
     ensures { AddedQueriesChangeNoLine }
 {}
 
-/// The same of whole event texts, which are refused, heard and closed alike.
+/// The same of whole event texts without control lines, which are refused, heard and closed alike.
 pub fn added_queries_change_no_report()
     ensures { AddedQueriesChangeNoReport }
+{}
+
+/// A set of queries that is enlarged by others gives each query of the smaller set, and each that a
+/// control line adds, the same lines, where no line of the event text is refused with either.
+pub fn added_queries_change_no_course()
+    ensures { AddedQueriesChangeNoCourse }
 {}

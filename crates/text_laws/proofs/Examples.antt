@@ -1,11 +1,13 @@
 -- Examples that need the premises on texts, each worked out by hand. No contract cites them.
-use Rattle.std.proofs.Common.{◌≡◌, refl, ℕ, true, List, [], ◌∷◌}
-use Rattle.std.specs.Prelude.{Ok, Err, codes}
+use Rattle.std.proofs.Common.{◌≡◌, refl, ℕ, false, true, List, [], ◌∷◌}
+use Rattle.std.specs.Prelude.{Err, None, Ok, Some, codes}
 use Rattle.semantics.specs.Histories.{times}
 use Rattle.stream_schema.specs.Streams.{Entry}
 use Rattle.event_csv.specs.Event.{fields_event}
 use Rattle.event_csv.specs.declared.fault.LineFault.TheVariants as fault
-use Rattle.session.specs.Heard.{Reading, closed}
+use Rattle.courses.specs.declared.refusal.Refusal.TheVariants.{IsOutOfOrder}
+use Rattle.courses.specs.EventLines.{Reading, closed}
+use Rattle.courses.specs.Heard.{disorder}
 
 -- an event line that is detected at a time, and one with a fault
 abbrev detected : ℕ → ℕ → Reading
@@ -38,3 +40,10 @@ whole_hears = refl
 
 part_refuses : fields_event (stream (codes "S") ∷ []) (codes "T" ∷ [] ∷ codes "1" ∷ []) ≡ Err fault.UnknownStream
 part_refuses = refl
+
+-- behind a control line an event of the same detection time is refused, which is heard behind an event; so lines of one time that change places with a control line change what is heard
+refused_behind_control : disorder 3 false (Some 1) 1 ≡ Some (IsOutOfOrder 3 1 1)
+refused_behind_control = refl
+
+heard_behind_event : disorder 3 true (Some 1) 1 ≡ None
+heard_behind_event = refl

@@ -8,9 +8,9 @@ use Rattle.std.proofs.lemmas.List.Elements.{All-cons, All-nil, All-weaker}
 use Rattle.semantics.specs.Histories.{Event}
 use Rattle.semantics.specs.Laws.{NeverFalls}
 use Rattle.event_csv.specs.declared.fault.LineFault.{LineFault}
-use Rattle.session.specs.declared.refusal.Refusal.{Refusal}
-use Rattle.session.specs.declared.refusal.Refusal.TheVariants.{IsOutOfOrder}
-use Rattle.session.specs.Heard.{Reading, events_in, heard_from, last_after, refusal_of, refused_from}
+use Rattle.courses.specs.declared.refusal.Refusal.{Refusal}
+use Rattle.courses.specs.declared.refusal.Refusal.TheVariants.{IsOutOfOrder}
+use Rattle.courses.specs.EventLines.{Reading, events_in, heard_from, last_after, refusal_of, refused_from}
 
 -- what was found on a line
 abbrev pub Found : Type 0

@@ -10,7 +10,7 @@ use Rattle.std.proofs.lemmas.List.Elements.{All-contains, All-head, All-tail, Al
 use Rattle.std.proofs.lemmas.List.Sorted.{Contains-permutation}
 use Rattle.semantics.specs.Histories.{Event, times}
 use Rattle.semantics.specs.Programs.{Query}
-use Rattle.semantics.specs.Report.{epoch, line, lines_at, report}
+use Rattle.semantics.specs.Report.{epoch, line, lines_at}
 use Rattle.semantics.specs.Results.{results}
 use Rattle.semantics.proofs.ReportLemmas.{flat_map_same}
 use Rattle.scalar_expr.proofs.Bags.{flat_map_each}
@@ -20,15 +20,17 @@ use Rattle.catalogue.specs.Judgement.{Accepts, Judged, program_of}
 use Rattle.catalogue.specs.Statements.{queries_in}
 use Rattle.catalogue.specs.Typing.{published_by}
 use Rattle.catalogue.proofs.ProgramLemmas.{accepted_are_programs}
-use Rattle.session.specs.Heard.{refused}
-use Rattle.session.specs.Readings.{readings}
+use Rattle.courses.specs.Laws.{HasNoControlLine}
+use Rattle.courses.specs.QuerySet.{set_of}
+use Rattle.courses.specs.Reports.{refused_in, report_of_closed}
 use Rattle.independence.specs.Independence.{HasTwin}
 use Rattle.independence.specs.Reports.{ReportAlike}
 use Rattle.independence.proofs.AcceptedLemmas.{Stands, accepted-stands}
-use Rattle.independence.proofs.EnlargedLemmas.{reports_stay}
+use Rattle.independence.proofs.LawLemmas.{reports_stay}
 use Rattle.independence.proofs.PublishedLemmas.{IsOf}
 use Rattle.independence.proofs.TableLemmas.{number-at}
 use Rattle.text_laws.specs.QueryParts.{HaveEachQuery, IsPartOf, PartsInTurnReportTheWhole, QueryPartsReportTheWhole, ReportInParts, closed_by, lines_in_parts, lines_or, named_in, names_of}
+use Rattle.text_laws.proofs.TextLemmas.{closed-alone}
 
 -- queries of one text that have one name publish one stream
 module _ (text : List ℕ) (judged : Judged) (accepts : Accepts text judged) where
@@ -95,16 +97,16 @@ none_named name (first ∷ queries) e there = go (λ e there. none_named name qu
     go more false is e (zero, within, same) = let yes : bytes_eq first.name name ≡ true = (bytes_eq-Decides first.name name).1 same in cc
     go more false is e (suc k, within, same) = more e (k, omega arith, same)
 
-module _ (text : List ℕ) (whole : Judged) (accepts : Accepts text whole) (events : List ℕ) (ended : Bool) where
+module _ (text : List ℕ) (whole : Judged) (accepts : Accepts text whole) (events : List ℕ) (ended : Bool) (plain : HasNoControlLine events ended) where
   -- a part reports as the whole does
   alike : (part : Judged) → IsPartOf whole part → ReportAlike part whole events ended
-  alike part of = reports_stay of.text text part whole events ended of.accepted accepts of.of_whole
+  alike part of = reports_stay of.text text part whole events ended of.accepted accepts of.of_whole plain
 
   -- a query of a part has the lines of the whole's query of its name
   same_in_part : (part : Judged) → IsPartOf whole part → (time : ℕ) (query own : Query) → Contains (program_of whole).queries query → Contains (program_of part).queries own → own.name ≡ query.name
       → lines_at (program_of part) (closed_by events ended part) time own ≡ lines_at (program_of whole) (closed_by events ended whole) time query
   same_in_part part of time query own there own_there named =
-      let twin = All-contains (HasTwin part whole (closed_by events ended part) (closed_by events ended whole)) (program_of part).queries own (alike part of).lines_are own_there in
+      let twin = All-contains (HasTwin (program_of part) (program_of whole) (closed_by events ended part) (closed_by events ended whole)) (program_of part).queries own (alike part of).lines_are own_there in
       sym (twin.same_lines time) ∙ one_query text whole accepts (closed_by events ended whole) time twin.twin query twin.stands there (twin.same_name ∙ named)
 
   -- so have the parts together, by induction on them
@@ -129,10 +131,10 @@ module _ (text : List ℕ) (whole : Judged) (accepts : Accepts text whole) (even
   parts_report : (parts : List Judged) → All (IsPartOf whole) parts → HaveEachQuery whole parts → ReportInParts whole parts events ended
   parts_report parts all each =
       record {
-        refused_are = All-weaker (IsPartOf whole) (λ part. refused (readings part.streams events ended) ≡ refused (readings whole.streams events ended)) (λ part of. (alike part of).refused_is) parts all;
+        refused_are = All-weaker (IsPartOf whole) (λ part. refused_in (set_of part) events ended ≡ refused_in (set_of whole) events ended) (λ part of. (alike part of).refused_is) parts all;
         epochs_are = All-weaker (IsPartOf whole) (λ part. times (closed_by events ended part) ≡ times (closed_by events ended whole)) (λ part of. (alike part of).epochs_are) parts all;
-        lines_are = All-weaker (IsPartOf whole) (λ part. All (HasTwin part whole (closed_by events ended part) (closed_by events ended whole)) (program_of part).queries) (λ part of. (alike part of).lines_are) parts all;
-        report_is = flat_map_each (epoch (program_of whole) (closed_by events ended whole)) (λ time. flat_map (λ name. lines_in_parts events ended time name parts) (names_of whole)) one (times (closed_by events ended whole));
+        lines_are = All-weaker (IsPartOf whole) (λ part. All (HasTwin (program_of part) (program_of whole) (closed_by events ended part) (closed_by events ended whole)) (program_of part).queries) (λ part of. (alike part of).lines_are) parts all;
+        report_is = closed-alone (set_of whole) events ended plain ∙ flat_map_each (epoch (program_of whole) (closed_by events ended whole)) (λ time. flat_map (λ name. lines_in_parts events ended time name parts) (names_of whole)) one (times (closed_by events ended whole));
       }
     where
       one : (time : ℕ) → epoch (program_of whole) (closed_by events ended whole) time ≡ flat_map (λ name. lines_in_parts events ended time name parts) (names_of whole)
@@ -161,9 +163,10 @@ module _ (text : List ℕ) (whole : Judged) (accepts : Accepts text whole) (even
 
   -- the epochs of the parts, part after part, are those of the whole
   parts_in_turn : (parts : List Judged) → All (IsPartOf whole) parts → names_of whole ≡ flat_map names_of parts
-      → report (program_of whole) (closed_by events ended whole) ≡ flat_map (λ time. flat_map (λ part. epoch (program_of part) (closed_by events ended part) time) parts) (times (closed_by events ended whole))
+      → report_of_closed (set_of whole) events ended ≡ flat_map (λ time. flat_map (λ part. epoch (program_of part) (closed_by events ended part) time) parts) (times (closed_by events ended whole))
   parts_in_turn parts all names =
-      flat_map_each (epoch (program_of whole) (closed_by events ended whole)) (λ time. flat_map (λ part. epoch (program_of part) (closed_by events ended part) time) parts) one (times (closed_by events ended whole))
+      closed-alone (set_of whole) events ended plain
+      ∙ flat_map_each (epoch (program_of whole) (closed_by events ended whole)) (λ time. flat_map (λ part. epoch (program_of part) (closed_by events ended part) time) parts) one (times (closed_by events ended whole))
     where
       of_part : (time : ℕ) (part : Judged) → IsPartOf whole part → flat_map (of_name time) (names_of part) ≡ epoch (program_of part) (closed_by events ended part) time
       of_part time part of =
@@ -173,7 +176,7 @@ module _ (text : List ℕ) (whole : Judged) (accepts : Accepts text whole) (even
         where
           own_lines : (own : Query) → Contains (program_of part).queries own → of_name time own.name ≡ lines_at (program_of part) (closed_by events ended part) time own
           own_lines own there =
-              let twin = All-contains (HasTwin part whole (closed_by events ended part) (closed_by events ended whole)) (program_of part).queries own (alike part of).lines_are there in
+              let twin = All-contains (HasTwin (program_of part) (program_of whole) (closed_by events ended part) (closed_by events ended whole)) (program_of part).queries own (alike part of).lines_are there in
               name_is time twin.twin own.name twin.stands twin.same_name ∙ twin.same_lines time
 
       one : (time : ℕ) → epoch (program_of whole) (closed_by events ended whole) time ≡ flat_map (λ part. epoch (program_of part) (closed_by events ended part) time) parts
@@ -188,8 +191,8 @@ module _ (text : List ℕ) (whole : Judged) (accepts : Accepts text whole) (even
 
 -- parts that have each query together report what the whole does
 pub query_parts : QueryPartsReportTheWhole
-query_parts text whole parts events ended accepts all each = parts_report text whole accepts events ended parts all each
+query_parts text whole parts events ended accepts all each plain = parts_report text whole accepts events ended plain parts all each
 
 -- where the queries of the parts in turn are those of the whole, so are their epochs
 pub in_turn : PartsInTurnReportTheWhole
-in_turn text whole parts events ended accepts all names = parts_in_turn text whole accepts events ended parts all names
+in_turn text whole parts events ended accepts all names plain = parts_in_turn text whole accepts events ended plain parts all names

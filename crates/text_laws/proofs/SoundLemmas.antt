@@ -17,8 +17,7 @@ use Rattle.event_csv.specs.Event.{Span, counted_event, declared_stream, event, e
 use Rattle.event_csv.specs.Fields.{line_fields}
 use Rattle.event_csv.specs.Lines.{is_empty, is_long}
 use Rattle.event_csv.specs.Numbers.{time_of}
-use Rattle.session.specs.Heard.{events_in}
-use Rattle.session.specs.Readings.{found_of}
+use Rattle.courses.specs.EventLines.{events_in, found_of}
 use Rattle.history_laws.specs.LateStarts.{AreSound}
 
 -- an event, if it is one, is sound

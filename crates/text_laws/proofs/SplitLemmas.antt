@@ -1,10 +1,11 @@
 -- Whole event texts whose lines are reordered, cut or split by a key.
-use Rattle.std.proofs.Common.{◌≡◌, ◌∙◌, sym, ap, refl, subst, ℕ, ◌+◌, ◌<◌, Bool, true, false, cond, List, [], ◌∷◌, ◌++◌}
+use Rattle.std.proofs.Common.{◌≡◌, ◌∙◌, sym, ap, refl, subst, ℕ, ◌+◌, ◌<◌, Bool, true, false, cond, length, List, [], ◌∷◌, ◌++◌}
 use Rattle.std.specs.Prelude.{Option, None, Result, Ok, Err}
 use Rattle.std.specs.List.{All, filter, flat_map}
+use Rattle.std.proofs.Math.Seq.{drop-append_seam}
 use Rattle.std.proofs.lemmas.Grind.{flat_map-append}
 use Rattle.std.proofs.lemmas.List.{map-append}
-use Rattle.std.proofs.lemmas.List.Elements.{All-cons, All-nil, All-weaker, filter-append}
+use Rattle.std.proofs.lemmas.List.Elements.{All-cons, All-drop, All-filter, All-nil, All-weaker, filter-append}
 use Rattle.event_types.specs.declared.value.Value.{Value}
 use Rattle.semantics.specs.Histories.{Event}
 use Rattle.semantics.specs.Laws.{NeverFalls}
@@ -15,12 +16,12 @@ use Rattle.semantics.specs.Values.{value_at}
 use Rattle.semantics.proofs.ListLemmas.{All-flat_map, every}
 use Rattle.stream_schema.specs.Streams.{Entry}
 use Rattle.scalar_expr.proofs.Bags.{flat_map_permuted, permuted_from, permuted_to}
-use Rattle.catalogue.specs.Judgement.{Judged, program_of}
 use Rattle.event_csv.specs.declared.event.Seen.{Seen}
 use Rattle.event_csv.specs.declared.fault.LineFault.{LineFault}
+use Rattle.event_csv.specs.Control.{is_control}
 use Rattle.event_csv.specs.Event.{event}
-use Rattle.session.specs.Heard.{events_in}
-use Rattle.session.specs.Readings.{found_of}
+use Rattle.courses.specs.EventLines.{events_in, found_of}
+use Rattle.courses.specs.QuerySet.{QuerySet}
 use Rattle.history_laws.specs.Keys.{events_with_keys, with_keys}
 use Rattle.history_laws.specs.LateStarts.{AreSound, ResultsSpanAtMost, report_from}
 use Rattle.history_laws.proofs.EpochLemmas.{report_permuted}
@@ -34,32 +35,34 @@ use Rattle.text_laws.specs.Restarts.{IsBefore, LateResultsDependOnLateLines, Res
 use Rattle.text_laws.specs.Wholes.{IsHeardWhole, events_of, line_texts}
 use Rattle.text_laws.proofs.OrderLemmas.{InOrder, events_never_fall, kept_more, order_behind}
 use Rattle.text_laws.proofs.SoundLemmas.{events_sound}
-use Rattle.text_laws.proofs.TextLemmas.{events-founds, events_are, events_on, found_on, founds_on, order_from_whole, whole_from_order}
+use Rattle.text_laws.proofs.TextLemmas.{closed-alone, events-founds, events_are, events_on, found_on, founds_on, order_from_whole, plain-from, plain-texts, whole_from_order}
 
 -- the events of a whole text never fall
-whole_never_falls : (judged : Judged) (events : List ℕ) → IsHeardWhole judged events → NeverFalls (events_of judged events)
-whole_never_falls judged events whole =
-    subst NeverFalls (events-founds judged.streams (line_texts events) ∙ sym (events_are judged events whole)) (events_never_fall None (founds_on judged.streams (line_texts events)) (order_from_whole judged events whole))
+whole_never_falls : (set : QuerySet) (events : List ℕ) → IsHeardWhole set events → NeverFalls (events_of set events)
+whole_never_falls set events whole =
+    subst NeverFalls (events-founds set.streams (line_texts events) ∙ sym (events_are set events whole)) (events_never_fall None (founds_on set.streams (line_texts events)) (order_from_whole set events whole))
 
 -- and are sound
-whole_sound : (judged : Judged) (events : List ℕ) → IsHeardWhole judged events → AreSound (events_of judged events)
-whole_sound judged events whole = subst AreSound (sym (events_are judged events whole)) (events_sound judged.streams (line_texts events))
+whole_sound : (set : QuerySet) (events : List ℕ) → IsHeardWhole set events → AreSound (events_of set events)
+whole_sound set events whole = subst AreSound (sym (events_are set events whole)) (events_sound set.streams (line_texts events))
 
 -- lines of one detection time in another order
 pub order_changes_nothing : LineOrderWithinEpochsChangesNoReport
-order_changes_nothing judged events others same =
-    report_permuted (program_of judged) (events_of judged events) (events_of judged others) (record {
+order_changes_nothing set events others same =
+    closed-alone set events true same.none_refused.plain
+    ∙ report_permuted set.program (events_of set events) (events_of set others) (record {
       same_events =
-          permuted_from (events_are judged events same.none_refused)
-          (permuted_to (flat_map_permuted (λ text. events_in (found_on judged.streams text)) (line_texts events) (line_texts others) same.same_lines) (sym (events_are judged others same.none_of_others_refused)));
-      in_order = whole_never_falls judged events same.none_refused;
-      others_in_order = whole_never_falls judged others same.none_of_others_refused;
+          permuted_from (events_are set events same.none_refused)
+          (permuted_to (flat_map_permuted (λ text. events_in (found_on set.streams text)) (line_texts events) (line_texts others) same.same_lines) (sym (events_are set others same.none_of_others_refused)));
+      in_order = whole_never_falls set events same.none_refused;
+      others_in_order = whole_never_falls set others same.none_of_others_refused;
     })
+    ∙ sym (closed-alone set others true same.none_of_others_refused.plain)
 
 -- late results over texts
 pub late_over_texts : LateResultsDependOnLateLines
-late_over_texts judged events others start whole others_whole hear =
-    late_results (program_of judged) (events_of judged events) (events_of judged others) start (whole_sound judged events whole) (whole_sound judged others others_whole) hear
+late_over_texts set events others start whole others_whole hear =
+    late_results set.program (events_of set events) (events_of set others) start (whole_sound set events whole) (whole_sound set others others_whole) hear
 
 -- an event of a line before the time
 early_event : (start : ℕ) (found : Result Seen LineFault) → IsBefore start found → All (λ (event : Event). event.tuple.at < start) (events_in (found_of found))
@@ -68,33 +71,38 @@ early_event start (Err why) early = absurd early
 
 -- a run that begins in the middle
 pub restart_stands : RestartReportsTheSame
-restart_stands judged events others start span whole begins spans = (
+restart_stands set events others start span whole begins spans = (
   others_whole,
-  ap (report_from (start + span) (program_of judged)) parts
-      ∙ report_stands (program_of judged) (events_on judged.streams begins.past) (events_of judged others) start span (subst AreSound parts (whole_sound judged events whole)) early
-      all_span (spans_stay span (program_of judged) (events_on judged.streams begins.past) (events_of judged others) (start + span) (subst AreSound parts (whole_sound judged events whole)) (subst NeverFalls parts (whole_never_falls judged events whole)) all_span),
+  ap (report_from (start + span) set.program) parts
+      ∙ report_stands set.program (events_on set.streams begins.past) (events_of set others) start span (subst AreSound parts (whole_sound set events whole)) early
+      all_span (spans_stay span set.program (events_on set.streams begins.past) (events_of set others) (start + span) (subst AreSound parts (whole_sound set events whole)) (subst NeverFalls parts (whole_never_falls set events whole)) all_span),
 )
   where
-    order : InOrder None (founds_on judged.streams begins.past ++ founds_on judged.streams (line_texts others))
-    order = subst (InOrder None) (ap (founds_on judged.streams) begins.lines_are ∙ map-append (found_on judged.streams) begins.past (line_texts others)) (order_from_whole judged events whole)
+    order : InOrder None (founds_on set.streams begins.past ++ founds_on set.streams (line_texts others))
+    order = subst (InOrder None) (ap (founds_on set.streams) begins.lines_are ∙ map-append (found_on set.streams) begins.past (line_texts others)) (order_from_whole set events whole)
 
-    others_whole : IsHeardWhole judged others
-    others_whole = whole_from_order judged others (order_behind None (founds_on judged.streams begins.past) (founds_on judged.streams (line_texts others)) order)
+    others_plain : All (λ bytes. is_control bytes ≡ false) (line_texts others)
+    others_plain =
+        subst (All (λ bytes. is_control bytes ≡ false)) (drop-append_seam begins.past (line_texts others))
+        (All-drop (λ bytes. is_control bytes ≡ false) (length begins.past) (begins.past ++ line_texts others) (subst (All (λ bytes. is_control bytes ≡ false)) begins.lines_are (plain-texts events whole.plain)))
 
-    parts : events_of judged events ≡ events_on judged.streams begins.past ++ events_of judged others
+    others_whole : IsHeardWhole set others
+    others_whole = whole_from_order set others (plain-from others others_plain) (order_behind None (founds_on set.streams begins.past) (founds_on set.streams (line_texts others)) order)
+
+    parts : events_of set events ≡ events_on set.streams begins.past ++ events_of set others
     parts =
-        events_are judged events whole
-        ∙ ap (events_on judged.streams) begins.lines_are
-        ∙ flat_map-append (λ text. events_in (found_on judged.streams text)) begins.past (line_texts others)
-        ∙ ap (λ events. events_on judged.streams begins.past ++ events) (sym (events_are judged others others_whole))
+        events_are set events whole
+        ∙ ap (events_on set.streams) begins.lines_are
+        ∙ flat_map-append (λ text. events_in (found_on set.streams text)) begins.past (line_texts others)
+        ∙ ap (λ events. events_on set.streams begins.past ++ events) (sym (events_are set others others_whole))
 
-    all_span : ResultsSpanAtMost span (program_of judged) (events_on judged.streams begins.past ++ events_of judged others) (start + span)
-    all_span = subst (λ (history : List Event). ResultsSpanAtMost span (program_of judged) history (start + span)) parts spans
+    all_span : ResultsSpanAtMost span set.program (events_on set.streams begins.past ++ events_of set others) (start + span)
+    all_span = subst (λ (history : List Event). ResultsSpanAtMost span set.program history (start + span)) parts spans
 
-    early : All (λ (event : Event). event.tuple.at < start) (events_on judged.streams begins.past)
+    early : All (λ (event : Event). event.tuple.at < start) (events_on set.streams begins.past)
     early =
-        All-flat_map (λ (event : Event). event.tuple.at < start) (λ text. events_in (found_on judged.streams text)) begins.past
-        (All-weaker (λ text. IsBefore start (event judged.streams text)) (λ text. All (λ (event : Event). event.tuple.at < start) (events_in (found_on judged.streams text))) (λ text h. early_event start (event judged.streams text) h) begins.past begins.past_is_early)
+        All-flat_map (λ (event : Event). event.tuple.at < start) (λ text. events_in (found_on set.streams text)) begins.past
+        (All-weaker (λ text. IsBefore start (event set.streams text)) (λ text. All (λ (event : Event). event.tuple.at < start) (events_in (found_on set.streams text))) (λ text h. early_event start (event set.streams text) h) begins.past begins.past_is_early)
 
 module _ (keys : ℕ → ℕ) (is_ours : Value → Bool) (streams : List Entry) where
   abbrev ours : List ℕ → Bool
@@ -129,25 +137,26 @@ module _ (keys : ℕ → ℕ) (is_ours : Value → Bool) (streams : List Entry) 
 
 -- a part by a key
 pub part_reports : PartsByAKeyReportTheirKeys
-part_reports judged keys is_ours events part keyed whole lines_are =
+part_reports set keys is_ours events part keyed whole lines_are =
     record {
       none_refused = part_whole;
       results_are = same;
-      lines_are = every (λ (query : Query). (time : ℕ) → lines_at (program_of judged) (events_of judged part) time query ≡ flat_map (line query.name) (with_keys is_ours (keys query.stream) (results (program_of judged) (events_of judged events) query.stream time)))
-          (λ query time. ap (flat_map (line query.name)) (same query.stream time)) (program_of judged).queries;
+      lines_are = every (λ (query : Query). (time : ℕ) → lines_at set.program (events_of set part) time query ≡ flat_map (line query.name) (with_keys is_ours (keys query.stream) (results set.program (events_of set events) query.stream time)))
+          (λ query time. ap (flat_map (line query.name)) (same query.stream time)) set.program.queries;
     }
   where
-    part_whole : IsHeardWhole judged part
+    part_whole : IsHeardWhole set part
     part_whole =
-        whole_from_order judged part
-        (subst (λ texts. InOrder None (founds_on judged.streams texts)) (sym lines_are) (order_of_part keys is_ours judged.streams None (line_texts events) (order_from_whole judged events whole)))
+        whole_from_order set part
+        (plain-from part (subst (All (λ bytes. is_control bytes ≡ false)) (sym lines_are) (All-filter (ours keys is_ours set.streams) (λ bytes. is_control bytes ≡ false) (line_texts events) (plain-texts events whole.plain))))
+        (subst (λ texts. InOrder None (founds_on set.streams texts)) (sym lines_are) (order_of_part keys is_ours set.streams None (line_texts events) (order_from_whole set events whole)))
 
-    parts : events_of judged part ≡ events_with_keys is_ours keys (events_of judged events)
+    parts : events_of set part ≡ events_with_keys is_ours keys (events_of set events)
     parts =
-        events_are judged part part_whole
-        ∙ ap (events_on judged.streams) lines_are
-        ∙ events_of_part keys is_ours judged.streams (line_texts events)
-        ∙ ap (events_with_keys is_ours keys) (sym (events_are judged events whole))
+        events_are set part part_whole
+        ∙ ap (events_on set.streams) lines_are
+        ∙ events_of_part keys is_ours set.streams (line_texts events)
+        ∙ ap (events_with_keys is_ours keys) (sym (events_are set events whole))
 
-    same : (stream time : ℕ) → results (program_of judged) (events_of judged part) stream time ≡ with_keys is_ours (keys stream) (results (program_of judged) (events_of judged events) stream time)
-    same stream time = ap (λ (history : List Event). results (program_of judged) history stream time) parts ∙ results_of_part keys is_ours (program_of judged) (events_of judged events) (whole_sound judged events whole) keyed stream time
+    same : (stream time : ℕ) → results set.program (events_of set part) stream time ≡ with_keys is_ours (keys stream) (results set.program (events_of set events) stream time)
+    same stream time = ap (λ (history : List Event). results set.program history stream time) parts ∙ results_of_part keys is_ours set.program (events_of set events) (whole_sound set events whole) keyed stream time

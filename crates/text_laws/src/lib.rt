@@ -1,7 +1,7 @@
 //! What a report depends on where query texts and event texts are split, cut or reordered.
 //!
 //! The functions are laws: they do nothing, and their contracts say what follows from the definitions.
-//! They are for whoever splits the work over several processes.
+//! They are over event texts without control lines, for whoever splits the work over several processes.
 #![tactic(auto)]
 
 ghost use Rattle.text_laws.specs.LineOrder.{LineOrderWithinEpochsChangesNoReport};
