@@ -25,7 +25,7 @@ use Rattle.epoch_engine.specs.declared.entry.Entry.{Entry}
 use Rattle.epoch_draft.specs.Made.{placed}
 use Rattle.session.proofs.NamesLemmas.{named_by_stream}
 use Rattle.session.specs.BatchLines.{batch_lines}
-use Rattle.session.specs.EngineStandsWithLastOpen.{AreFronts, program_over}
+use Rattle.session.specs.Standing.{AreFronts, program_over}
 use Rattle.result_text.specs.Front.{front_of}
 
 -- the tuples of each query at a time
@@ -206,11 +206,11 @@ module _ (c : Catalogued) where
 
   -- where there are no fronts, all are those of the queries
   pub no_fronts : AreFronts c []
-  no_fronts place less = absurd (omega (arith, less))
+  no_fronts = (omega arith, λ place less. absurd (omega (arith, less)))
 
   -- so are they with the front of the next query
-  pub fronts_more : (fronts new : List (List ℕ)) (front name : List ℕ) → AreFronts c fronts → front ≡ front_of name → (query_in c (length fronts)).name ≡ name → new ≡ fronts ++ front ∷ [] → AreFronts c new
-  fronts_more fronts new front name are is named e = subst (AreFronts c) (sym e) each
+  pub fronts_more : (fronts new : List (List ℕ)) (front name : List ℕ) → AreFronts c fronts → length fronts < length c.order → front ≡ front_of name → (query_in c (length fronts)).name ≡ name → new ≡ fronts ++ front ∷ [] → AreFronts c new
+  fronts_more fronts new front name are less is named e = subst (AreFronts c) (sym e) (omega (arith, less, length-append fronts (front ∷ [])), each)
     where
       more : List (List ℕ)
       more = fronts ++ front ∷ []
@@ -218,10 +218,10 @@ module _ (c : Catalogued) where
       last : get_or more (length fronts) [] ≡ front_of (query_in c (length fronts)).name
       last = get_or-append_seam fronts front [] [] ∙ is ∙ ap front_of (sym named)
 
-      each : AreFronts c more
+      each : (place : ℕ) → place < length more → get_or more place [] ≡ front_of (query_in c place).name
       each place less =
           elim (cases_lt place (length fronts)) [
-            | inl before ↦ get_or_append_left fronts (front ∷ []) [] place before ∙ are place before
+            | inl before ↦ get_or_append_left fronts (front ∷ []) [] place before ∙ are.1 place before
             | inr past ↦
                 let same : length fronts ≡ place = omega (arith, past, less, length-append fronts (front ∷ [])) in
                 subst (λ n. get_or more n [] ≡ front_of (query_in c n).name) same last
@@ -229,4 +229,4 @@ module _ (c : Catalogued) where
 
   -- the front at a place
   pub front_at : (fronts : List (List ℕ)) (place : ℕ) (front : List ℕ) → AreFronts c fronts → slice_get fronts place ≡ Some front → front ≡ front_of (query_in c place).name
-  front_at fronts place front are found = sym (get_or_from_slice_get fronts place front [] found) ∙ are place (slice_get_within fronts place front found)
+  front_at fronts place front are found = sym (get_or_from_slice_get fronts place front [] found) ∙ are.1 place (slice_get_within fronts place front found)

@@ -1,5 +1,5 @@
 -- The counts of a session.
-use Rattle.std.proofs.Common.{◌≡◌, ◌∙◌, sym, subst, ℕ, ◌+◌, ◌-◌, ◌<◌, ◌^◌, List, length, min, arith}
+use Rattle.std.proofs.Common.{◌≡◌, ◌∙◌, ap, sym, subst, ℕ, ◌+◌, ◌-◌, ◌<◌, ◌^◌, List, length, min, arith}
 use Rattle.std.specs.Prelude.{count_by, is_some, sum_by}
 use Rattle.semantics.specs.Histories.{Event}
 use Rattle.automaton.specs.States.{root_in}
@@ -18,8 +18,10 @@ use Rattle.catalogue.specs.Standing.{IsLayoutOver}
 use Rattle.event_csv.specs.Fed.{Fed}
 use Rattle.session.specs.declared.work.Work.{Work}
 use Rattle.session.specs.SessionView.{SessionStandsFor, TrimsEngine, SessionView, WorksFor, program_in}
-use Rattle.session.specs.EngineStandsWithLastOpen.{IsGoing}
-use Rattle.session.proofs.PlanLemmas.{planned_still}
+use Rattle.courses.specs.Course.{Course}
+use Rattle.courses.specs.QuerySet.{QuerySet}
+use Rattle.session.specs.Standing.{IsGoing}
+use Rattle.session.proofs.PlanLemmas.{at_one_still}
 use Rattle.birth_laws.specs.BornChains.{born_lines}
 use Rattle.birth_laws.proofs.BornLemmas.{plain_chain}
 use Rattle.automaton.specs.NetworkLines.{HasLines}
@@ -75,15 +77,20 @@ module _ (old new : SessionView) (trims : TrimsEngine old new) where
     works_still = subst (λ s. WorksFor s history) mid_is mid_works
 
   -- the session stands for the same text
-  pub stands_still : (past : List Event) (text : List ℕ) → SessionStandsFor old past text → SessionStandsFor new past text
-  stands_still past text stands =
-      subst (λ s. SessionStandsFor s past text) mid_is (record {
+  pub stands_still : (set : QuerySet) (past : Course) (text : List ℕ) → SessionStandsFor old set past text → SessionStandsFor new set past text
+  stands_still set past text stands =
+      subst (λ s. SessionStandsFor s set past text) mid_is (record {
         going = stands.going;
         within = stands.within;
+        sound = stands.sound;
         none_refused = stands.none_refused;
-        declared = stands.declared;
-        works = mid_works _ stands.works;
-        last_is_open = trims.engine.times.time ∙ stands.last_is_open;
+        heard = record {
+          holds = stands.heard.holds;
+          at_one = at_one_still old.catalogue old.engine new.engine trims.engine.plan stands.heard.at_one;
+          declared = stands.heard.declared;
+          works = mid_works _ stands.heard.works;
+          opened = ap is_some trims.engine.times.time ∙ stands.heard.opened;
+        };
         counted = stands.counted;
         feed = stands.feed;
       })
@@ -92,9 +99,10 @@ module _ (old new : SessionView) (trims : TrimsEngine old new) where
 pub going_still : (c : Catalogued) (limit : ℕ) (feed : Fed) (fed : ℕ) (work : Work) (now : engine.EngineView) → Trims work.engine now → IsGoing c limit feed fed work → IsGoing c limit feed fed (record work { engine = now })
 going_still c limit feed fed work now trims going = record {
   at_work = record {
-    planned = planned_still c work.engine now trims.plan going.at_work.planned;
+    in_order = going.at_work.in_order;
+    at_one = at_one_still c work.engine now trims.plan going.at_work.at_one;
+    born = going.at_work.born;
     fronts = going.at_work.fronts;
-    opened = λ none. trims.times.closed_time ∙ going.at_work.opened (sym trims.times.time ∙ none);
   };
   none_owed = going.none_owed;
   within = going.within;

@@ -1,13 +1,13 @@
 pub mod BatchLinesLemmas
+pub mod ChangeLemmas
 pub mod ClosedLemmas
 pub mod ClosingLemmas
 pub mod CountingLemmas
 pub mod FeedsLemmas
-pub mod FitsLemmas
-pub mod HeardLemmas
 pub mod LinesLemmas
 pub mod NamesLemmas
 pub mod OwesLemmas
+pub mod PartsLemmas
 pub mod PlanLemmas
 pub mod ReadingLemmas
 pub mod RestLemmas

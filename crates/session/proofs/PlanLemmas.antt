@@ -16,28 +16,25 @@ use Rattle.semantics.specs.Programs.{Query}
 use Rattle.semantics.specs.TypedPrograms.{PublishInTurn}
 use Rattle.stream_schema.specs.Schema.{kinds_of}
 use Rattle.stream_schema.specs.Streams.{Entry, schemas_of}
-use Rattle.automaton.specs.declared.layout.Layout.{Layout}
-use Rattle.automaton.specs.States.{Net}
-use Rattle.automaton.specs.Work.{IsInOrder, is_in}
+use Rattle.automaton.specs.Work.{is_in}
 use Rattle.splitter.specs.Laws.{hidden_streams, split_order}
 use Rattle.cel_types.specs.SourceLaws.{kinds_in}
 use Rattle.splitter.specs.Chains.{HideApart, chain_order, hidden_end, work_order}
 use Rattle.splitter.proofs.ApartLemmas.{range_all}
-use Rattle.automaton.specs.declared.line.Line.{Line}
-use Rattle.epoch_laws.specs.BornLines.{HasBornLines}
-use Rattle.epoch_laws.specs.StoresStandFor.{Serves}
 use Rattle.epoch_engine.specs.Closes.{Closes, KeepsPlan}
 use Rattle.epoch_engine.specs.Offers.{IsHeard}
-use Rattle.epoch_engine.specs.Starts.{IsNew}
 use Rattle.epoch_engine.specs.EngineView as engine
 use Rattle.catalogue.specs.Catalogued.{Catalogued}
 use Rattle.catalogue.specs.Changes.{streams_there}
 use Rattle.catalogue.specs.Standing.{IsLayoutOver, StandsInOrder}
+use Rattle.change_laws.specs.AtOne.{AreAtOne, endings_in}
+use Rattle.automaton.specs.NetworkLines.{HasEndings}
+use Rattle.automaton.specs.States.{Net}
+use Rattle.prefix_merge.specs.Merging.{IsMerged}
 use Rattle.event_csv.specs.declared.event.Seen.{Seen}
-use Rattle.session.specs.Fits.{Fits}
-use Rattle.session.specs.EngineStandsWithLastOpen.{IsPlanned, lines_over, program_over}
+use Rattle.courses.specs.Fits.{Fits}
+use Rattle.session.specs.Standing.{program_over}
 use Rattle.session.proofs.BatchLinesLemmas.{as_many}
-use Rattle.birth_laws.proofs.BornLemmas.{plain_chain}
 
 -- the derived streams of queries have greater numbers than a stream that is there, by induction on the queries
 order_above : (kinds : ℕ → List Kind) (stream : ℕ) (there : List ℕ) (order : List Query) → Contains there stream → PublishInTurn kinds there order → HideApart order → All (λ number. stream < number) (chain_order order)
@@ -57,6 +54,10 @@ none_is : (stream : ℕ) (numbers : List ℕ) → All (λ number. stream < numbe
 none_is stream [] all = refl
 none_is stream (number ∷ numbers) all =
     λ i. other_number stream number (All-head (λ n. stream < n) number numbers all) i || none_is stream numbers (All-tail (λ n. stream < n) number numbers all) i
+
+-- an engine that is at one with a catalogue has a layout of it
+pub laid_over : (c : Catalogued) (now : engine.EngineView) → StandsInOrder c → AreAtOne c now → IsLayoutOver c.streams (program_over c) now.layout
+laid_over c now standing at_one = subst (IsLayoutOver c.streams (program_over c)) (sym at_one.layout) standing.laid
 
 module _ (c : Catalogued) (standing : StandsInOrder c) where
   -- a declared stream isn't derived
@@ -88,37 +89,24 @@ module _ (c : Catalogued) (standing : StandsInOrder c) where
         Contains-append_left (range_with_len 0 program.declared) (map (λ (query : Query). query.stream) program.order) event.stream (declared_there program.declared event.stream is_declared)
 
     -- an engine of the catalogue may be offered the event
-    pub may_hear : (now : engine.EngineView) → IsPlanned c now → IsHeard now.layout event.stream event.tuple
-    may_hear now planned = record {
+    pub may_hear : (now : engine.EngineView) → AreAtOne c now → IsHeard now.layout event.stream event.tuple
+    may_hear now at_one = record {
       kinds = kinds_of fits.entry.schema;
-      known = All-contains (λ stream. slice_get now.layout.kinds stream ≡ Some (kinds_in c.streams stream)) (streams_there (program_over c)) event.stream planned.layout.kinds heard ∙ ap Some kinds_there;
-      declared = ap (λ order. is_in order event.stream) planned.layout.order ∙ not_derived event.stream is_declared;
+      known = All-contains (λ stream. slice_get now.layout.kinds stream ≡ Some (kinds_in c.streams stream)) (streams_there (program_over c)) event.stream (laid_over c now standing at_one).kinds heard ∙ ap Some kinds_there;
+      declared = ap (λ order. is_in order event.stream) (laid_over c now standing at_one).order ∙ not_derived event.stream is_declared;
       of_kinds = fits.kinds;
     }
 
 -- a batch has a list for each query
-pub batch_count : (c : Catalogued) (old new : engine.EngineView) (batch : List (List TupleView)) → IsPlanned c old → Closes old new batch → length batch ≡ length c.order
-batch_count c old new batch planned closes =
-    ap length closes.taken.results ∙ length-map old.layout.outs (λ stream. sorted (closes.taken.news stream)) ∙ ap length planned.layout.outs
+pub batch_count : (c : Catalogued) (standing : StandsInOrder c) (old new : engine.EngineView) (batch : List (List TupleView)) → AreAtOne c old → Closes old new batch → length batch ≡ length c.order
+batch_count c standing old new batch at_one closes =
+    ap length closes.taken.results ∙ length-map old.layout.outs (λ stream. sorted (closes.taken.news stream)) ∙ ap length (laid_over c old standing at_one).outs
     ∙ length-map (program_over c).queries (λ query. query.stream) ∙ as_many c
 
 -- a changed engine of the same network and layout
-pub planned_still : (c : Catalogued) (old new : engine.EngineView) → KeepsPlan old new → IsPlanned c old → IsPlanned c new
-planned_still c old new plan planned = record {
-  lines = subst (λ (net : Net). HasBornLines net (lines_over c)) (sym plan.network) planned.lines;
-  layout = subst (IsLayoutOver c.streams (program_over c)) (sym plan.layout) planned.layout;
-}
-
--- a network that has the lines of a catalogue, and a layout of it, serve them
-pub lines_serve : (c : Catalogued) (net : Net) (layout : Layout) → HasBornLines net (lines_over c) → IsLayoutOver c.streams (program_over c) layout → Serves net (lines_over c) layout.order
-lines_serve c net layout lines fits = record {
-  has_lines = lines;
-  in_order = subst (λ (ls : List Line). IsInOrder ls layout.order) (sym (plain_chain (program_over c).order)) fits.fits.in_order;
-}
-
--- an engine that was made over them has them
-pub new_planned : (c : Catalogued) (net : Net) (layout : Layout) (now : engine.EngineView) → HasBornLines net (lines_over c) → IsLayoutOver c.streams (program_over c) layout → IsNew net layout now → IsPlanned c now
-new_planned c net layout now lines fits new = record {
-  lines = subst (λ (n : Net). HasBornLines n (lines_over c)) (sym new.network) lines;
-  layout = subst (IsLayoutOver c.streams (program_over c)) (sym new.same_layout) fits;
+pub at_one_still : (c : Catalogued) (old new : engine.EngineView) → KeepsPlan old new → AreAtOne c old → AreAtOne c new
+at_one_still c old new plan at_one = record {
+  merged = subst IsMerged (sym plan.network) at_one.merged;
+  endings = subst (λ (net : Net). HasEndings net (endings_in c)) (sym plan.network) at_one.endings;
+  layout = plan.layout ∙ at_one.layout;
 }

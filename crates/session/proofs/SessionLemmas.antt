@@ -1,46 +1,39 @@
 -- What a session stands for, once more bytes have come.
-use Rattle.std.specs.Option.{IfSome}
-use Rattle.std.proofs.Common.{◌≡◌, ◌∙◌, sym, ap, refl, subst, ℕ, ◌+◌, ◌-◌, ◌<◌, ◌≤◌, Bool, false, cond, is_some, List, [], ◌∷◌, ◌++◌, map, length, take, Option, Some, None, Result, Ok, Err, append_assoc, append-nil, arith}
-use Rattle.std.specs.List.{All}
-use Rattle.std.proofs.lemmas.List.Elements.{All-nil, All-cons, All-append, All-weaker}
+use Rattle.std.specs.Option.{IfSome, option_or}
+use Rattle.std.proofs.Common.{◌≡◌, ◌∙◌, sym, ap, refl, subst, ℕ, ◌+◌, ◌-◌, ◌≤◌, Bool, false, is_some, List, [], ◌∷◌, ◌++◌, length, take, Option, Some, None, append_assoc, append-nil, arith}
 use Rattle.std.proofs.Math.Seq.{take-append-add}
-use Rattle.std.proofs.lemmas.List.{map-append}
 use Rattle.std.proofs.lemmas.List.Sums.{sum_by-append}
 use Rattle.semantics.specs.Histories.{Event}
-use Rattle.semantics.specs.Kinds.{HasKinds}
-use Rattle.cel_types.specs.SourceLaws.{kinds_in}
 use Rattle.epoch_engine.specs.EngineStandsFor as engines
 use Rattle.epoch_engine.specs.EngineView as engine
-use Rattle.semantics.specs.Report.{report}
 use Rattle.cay_host.specs.Output.{Wrote, WrotePart}
 use Rattle.cay_host.specs.Told.{Told}
-use Rattle.catalogue.specs.Catalogued.{Catalogued}
-use Rattle.catalogue.specs.Standing.{IsLayoutOver, StandsInOrder}
+use Rattle.catalogue.specs.Standing.{IsLayoutOver}
+use Rattle.change_laws.specs.AtOne.{AreAtOne}
 use Rattle.epoch_laws.specs.Standing.{closed_part, last_time}
-use Rattle.event_csv.specs.declared.event.Seen.{Seen}
-use Rattle.event_csv.specs.declared.fault.LineFault.{LineFault}
-use Rattle.event_csv.specs.Event.{event}
+use Rattle.epoch_laws.specs.BornLines.{BornLine}
+use Rattle.birth_laws.specs.BornChains.{born_lines}
 use Rattle.event_csv.specs.Fed.{Fed, IsPart, fed_more, line_feeds_in, unread_lines, unfed}
 use Rattle.event_csv.specs.Lines.{Line, lines, lines_from}
 use Rattle.event_csv.proofs.LineFacts.{lines_from-nil, strip_bom-short}
+use Rattle.courses.specs.Course.{Adds, Course, Drops, Hears, Moment, after, after_entry, events_in, set_after, start}
+use Rattle.courses.specs.Heard.{closed_after, heard_after, heard_from, refused_after, refused_from}
+use Rattle.courses.specs.QuerySet.{QuerySet, set_in}
+use Rattle.courses.specs.Reports.{course_report}
+use Rattle.courses.specs.Sound.{IsSoundCourse}
+use Rattle.courses.proofs.HeardLemmas.{GoOnAfter, closed_on, go_on_after, heard_in_time}
+use Rattle.courses.proofs.MomentLemmas.{AreInTime, after-append, events_in-append, in_time-append}
+use Rattle.courses.proofs.SoundLemmas.{in_time}
 use Rattle.session.specs.declared.fault.SessionFault.{SessionFault}
 use Rattle.session.specs.declared.fault.SessionFault.TheVariants as fault
-use Rattle.session.specs.declared.refusal.Refusal.{Refusal}
-use Rattle.session.specs.declared.work.Work.{Work}
 use Rattle.session.specs.Feeds.{StopsAt}
-use Rattle.session.specs.Heard.{Reading, before_last, closed_after, disorder, heard_after, heard_from, refused_after, refused_from}
 use Rattle.session.specs.WroteFront.{Beyond, WroteFront}
-use Rattle.session.specs.Readings.{found_of, heard_of, reading_of, readings_left}
-use Rattle.session.specs.SessionView.{AreDeclared, HasGiven, SessionStandsFor, SessionView, program_in, readings_in, report_in}
-use Rattle.session.specs.EngineStandsWithLastOpen.{EngineStandsWithLastOpen}
+use Rattle.session.specs.SessionView.{AreDeclared, HasGiven, HasHeard, SessionStandsFor, SessionView, heard_of, moment_of, program_in, refused_of, report_of}
+use Rattle.session.specs.Standing.{StandsFor, moment_at, seen_by}
 use Rattle.session.specs.HandsOutSomeLines.{HandsOutSomeLines}
-use Rattle.session.specs.Owes.{Stops, left_of, rows_left}
+use Rattle.session.specs.Owes.{Stage, Stops, left_of, rows_left}
 use Rattle.session.proofs.ClosingLemmas.{rows_left_after}
-use Rattle.session.proofs.FitsLemmas.{event_fits}
-use Rattle.session.proofs.HeardLemmas.{GoOn, closed_on, go_on}
-use Rattle.session.proofs.PlanLemmas.{is_declared, of_its_kinds}
-use Rattle.birth_laws.specs.BornChains.{born_lines}
-use Rattle.epoch_laws.specs.BornLines.{BornLine}
+use Rattle.session.proofs.PartsLemmas.{Parts, parts_of}
 
 -- a limit cuts the later bytes
 pub cut_within : (text piece : List ℕ) (limit : ℕ) → length text ≤ limit → take limit (text ++ piece) ≡ text ++ take (limit - length text) piece
@@ -79,115 +72,123 @@ module _ (text piece : List ℕ) (feed new : Fed) (given : HasGiven text feed) (
         gone.feeds ∙ omega (arith, one, two, before);
   }
 
--- the events that are heard of lines that were read are on declared streams, and have their kinds
-module _ (c : Catalogued) (standing : StandsInOrder c) where
-  abbrev IsDeclared : Event → Type 0
-  IsDeclared event = (event.stream < c.declared) × HasKinds (kinds_in c.streams event.stream) event.tuple
+some_last : (event : Event) (events : List Event) (seen : Option ℕ) → option_or (last_time (event ∷ events)) seen ≡ last_time (event ∷ events)
+some_last event [] seen = refl
+some_last event (next ∷ events) seen = some_last next events seen
 
-  -- one more line
-  line_declared : (seen : Option ℕ) (line : Line) (ls : List Line) → ((time : Option ℕ) → All IsDeclared (heard_from time (map (reading_of c.streams) ls)))
-      → All IsDeclared (heard_from seen (map (reading_of c.streams) (line ∷ ls)))
-  line_declared seen line ls rest = by_event (event c.streams line.bytes) refl
-    where
-      by_refusal : (read : Seen) → event c.streams line.bytes ≡ Ok read → (o : Option Refusal)
-          → All IsDeclared (cond (is_some o) [] (heard_of read ∷ heard_from (Some read.tuple.at) (map (reading_of c.streams) ls)))
-      by_refusal read e (Some refusal) = All-nil IsDeclared
-      by_refusal read e None =
-          let fits = event_fits c.streams line.bytes read e in
-          All-cons IsDeclared (heard_of read) (heard_from (Some read.tuple.at) (map (reading_of c.streams) ls))
-          (is_declared c standing read fits, of_its_kinds c standing read fits) (rest (Some read.tuple.at))
+later_last : (event : Event) (events : List Event) (seen : Option ℕ) → option_or (last_time events) (Some event.tuple.at) ≡ option_or (last_time (event ∷ events)) seen
+later_last event [] seen = refl
+later_last event (next ∷ events) seen = some_last next events (Some event.tuple.at) ∙ sym (some_last next events seen)
 
-      by_event : (r : Result Seen LineFault) → event c.streams line.bytes ≡ r
-          → All IsDeclared (heard_from seen (record { number = line.number; found = found_of r } ∷ map (reading_of c.streams) ls))
-      by_event (Ok read) e = by_refusal read e (disorder line.number seen read.tuple.at)
-      by_event (Err why) e = All-nil IsDeclared
+-- the time that was seen last is that of the last event: by induction on the course
+pub seen_is_last : (m : Moment) (course : Course) → (after m course).seen ≡ option_or (last_time (events_in course)) m.seen
+seen_is_last m [] = refl
+seen_is_last m (Hears event ∷ course) = seen_is_last (after_entry m (Hears event)) course ∙ later_last event (events_in course) m.seen
+seen_is_last m (Adds added ∷ course) = seen_is_last (after_entry m (Adds added)) course
+seen_is_last m (Drops query ∷ course) = seen_is_last (after_entry m (Drops query)) course
 
-  -- by induction on the lines
-  heard_declared : (ls : List Line) (seen : Option ℕ) → All IsDeclared (heard_from seen (map (reading_of c.streams) ls))
-  heard_declared [] seen = All-nil IsDeclared
-  heard_declared (line ∷ ls) seen = line_declared seen line ls (heard_declared ls)
+or_none : (o : Option ℕ) → option_or o None ≡ o
+or_none None = refl
+or_none (Some n) = refl
 
-  -- the same of those that were heard before too
-  declared_more : (past : List Event) (seen : Option ℕ) (ls : List Line) → AreDeclared c past → AreDeclared c (past ++ heard_from seen (map (reading_of c.streams) ls))
-  declared_more past seen ls are =
-      let more = heard_from seen (map (reading_of c.streams) ls) in (
-        All-append (λ event. event.stream < c.declared) past more are.0 (All-weaker IsDeclared (λ event. event.stream < c.declared) (λ event h. h.0) more (heard_declared ls seen)),
-        All-append (λ event. HasKinds (kinds_in c.streams event.stream) event.tuple) past more are.1
-            (All-weaker IsDeclared (λ event. HasKinds (kinds_in c.streams event.stream) event.tuple) (λ event h. h.1) more (heard_declared ls seen)),
-      )
+-- the time that an engine heard last is that of the history's last event
+pub seen_by_last : (now : engine.EngineView) (ls : List BornLine) (history : List Event) → engines.EngineStandsFor now ls history → seen_by now ≡ last_time history
+seen_by_last now ls history stands = by_time now.time refl
+  where
+    by_time : (o : Option ℕ) → now.time ≡ o → option_or now.time now.closed_time ≡ last_time history
+    by_time (Some time) e = ap (λ o. option_or o now.closed_time) e ∙ sym (subst (λ o. IfSome o (λ t. last_time history ≡ Some t)) e stands.stands.open_is_last)
+    by_time None e = ap (λ o. option_or o now.closed_time) e ∙ sym (subst (λ o. last_time (closed_part o history) ≡ now.closed_time) e stands.stands.closed_is_last)
 
-module _ (session : SessionView) (past : List Event) (text : List ℕ) (stands : SessionStandsFor session past text) where
-  -- the lines of the text before the piece
-  abbrev pub before : List Reading
-  before = readings_in session text false
+module _ (session : SessionView) (set : QuerySet) (past : Course) (text : List ℕ) (stands : SessionStandsFor session set past text) where
+  -- all that was heard, and its events
+  abbrev pub so_far : Course
+  so_far = heard_of set past text false
 
-  -- all that was heard
-  abbrev pub so_far : List Event
-  so_far = heard_after past before
+  abbrev pub events_so_far : List Event
+  events_so_far = events_in so_far
+
+  -- the moment at which the session is
+  abbrev pub now_at : Moment
+  now_at = moment_at session.catalogue session.engine
+
+  -- it is that behind all that was heard
+  pub moment_is : now_at ≡ moment_of set so_far
+  moment_is =
+      let seen : seen_by session.engine ≡ (moment_of set so_far).seen =
+      seen_by_last session.engine (born_lines (program_in session)) events_so_far stands.heard.works.engine ∙ sym (or_none (last_time events_so_far)) ∙ sym (seen_is_last (start set) so_far) in
+      λ i. record { set = stands.heard.holds i; seen = seen i; is_open = stands.heard.opened i }
+
+  -- what was heard came in time
+  so_far_in_time : AreInTime (start set) so_far
+  so_far_in_time = in_time-append (start set) past (heard_from (after (start set) past) (lines text false)) (in_time (start set) past stands.sound) (heard_in_time (lines text false) (after (start set) past))
+
+  pub parts : Parts set so_far (moment_of set so_far)
+  parts = parts_of set so_far so_far_in_time
 
   -- the engine stands for it
-  pub engine_stands : StandsInOrder session.catalogue → EngineStandsWithLastOpen session.catalogue so_far session.engine
-  engine_stands standing = record {
-    declared = declared_more session.catalogue standing past (last_time past) (lines text false) stands.declared;
-    engine = stands.works.engine;
-    last_is_open = stands.last_is_open;
-  }
+  pub engine_stands : StandsFor session.catalogue events_so_far session.engine
+  engine_stands = record { declared = stands.heard.declared; engine = stands.heard.works.engine }
 
   module _ (piece : List ℕ) (ended : Bool) where
     -- the lines that are left once more bytes have come
-    abbrev pub later : List Reading
-    later = readings_left session.catalogue.streams (fed_more session.feed piece) ended
+    abbrev pub later : List Line
+    later = unread_lines (fed_more session.feed piece) ended
 
-    readings_on : readings_in session (text ++ piece) ended ≡ before ++ later
-    readings_on =
-        let read = reading_of session.catalogue.streams in
-        ap (map read) (stands.feed.gives piece ended) ∙ map-append read (lines text false) (unread_lines (fed_more session.feed piece) ended)
+    on : GoOnAfter set past (lines text false) later
+    on = go_on_after set past (lines text false) later stands.none_refused
 
-    on : GoOn past before later
-    on = go_on before later past stands.none_refused
+    lines_are : lines (text ++ piece) ended ≡ lines text false ++ later
+    lines_are = stands.feed.gives piece ended
 
     -- the first refused line of the longer text is that of the later lines
-    pub refused_on : refused_after past (readings_in session (text ++ piece) ended) ≡ refused_from session.engine.time later
-    refused_on = ap (refused_after past) readings_on ∙ on.refused ∙ ap (λ s. refused_from s later) (sym stands.last_is_open)
+    pub refused_on : refused_of set past (text ++ piece) ended ≡ refused_from now_at later
+    refused_on = ap (refused_after set past) lines_are ∙ on.refused ∙ ap (λ m. refused_from m later) (sym moment_is)
 
     -- what is heard of the longer text is what was heard so far and what the later lines bring
-    pub heard_on : heard_after past (readings_in session (text ++ piece) ended) ≡ so_far ++ heard_from session.engine.time later
-    heard_on = ap (heard_after past) readings_on ∙ on.heard ∙ ap (λ s. so_far ++ heard_from s later) (sym stands.last_is_open)
+    pub heard_on : heard_of set past (text ++ piece) ended ≡ so_far ++ heard_from now_at later
+    heard_on = ap (heard_after set past) lines_are ∙ on.heard ∙ ap (λ m. so_far ++ heard_from m later) (sym moment_is)
 
-    -- the events of its closed epochs are those that are closed of what was heard so far and of the later lines
-    pub closed_longer : closed_after past (readings_in session (text ++ piece) ended) ended ≡ closed_after so_far later ended
-    closed_longer = ap (λ ls. closed_after past ls ended) readings_on ∙ closed_on past before later ended on
+    -- the moment behind it is that behind the later lines
+    pub moment_on : moment_of set (heard_of set past (text ++ piece) ended) ≡ after now_at (heard_from now_at later)
+    moment_on = ap (after (start set)) heard_on ∙ after-append (start set) so_far (heard_from now_at later) ∙ ap (λ m. after m (heard_from now_at later)) (sym moment_is)
+
+    -- so are its events
+    pub events_on : events_in (heard_of set past (text ++ piece) ended) ≡ events_so_far ++ events_in (heard_from now_at later)
+    events_on = ap events_in heard_on ∙ events_in-append so_far (heard_from now_at later)
+
+    -- the entries of its closed epochs are those that are closed of what was heard so far and of the later lines
+    pub closed_longer : closed_after set past (lines (text ++ piece) ended) ended ≡ closed_after set so_far later ended
+    closed_longer = ap (λ ls. closed_after set past ls ended) lines_are ∙ closed_on set past (lines text false) later ended on
 
     -- its report is longer by the rows of the epochs that these close
-    pub report_on : report_in session past (text ++ piece) ended ≡ report_in session past text false ++ rows_left (program_in session) ended later session.engine.time so_far
+    pub report_on : report_of set past (text ++ piece) ended ≡ report_of set past text false ++ rows_left now_at ended later events_so_far
     report_on =
-        let program = program_in session in
-        ap (report program) closed_longer
-        ∙ sym (rows_left_after program ended later so_far stands.works.engine.stands.never_falls)
-        ∙ ap (λ s. report program (before_last so_far) ++ rows_left program ended later s so_far) (sym stands.last_is_open)
+        ap (course_report set) closed_longer
+        ∙ sym (rows_left_after set ended later so_far parts)
+        ∙ ap (λ m. report_of set past text false ++ rows_left m ended later events_so_far) (sym moment_is)
 
-    module _ (work : Work) (same : work.engine ≡ session.engine) (none_owed : work.rows ≡ []) (a b : Told) where
+    module _ (stage : Stage) (at : stage.moment ≡ now_at) (heard : stage.history ≡ events_so_far) (none_owed : stage.rows ≡ []) (a b : Told) where
       -- what was written of the rows is what the report has beyond the earlier one
-      pub beyond : (W : List ℕ → Told → Told → Type 0) → W (left_of (program_in session) ended later so_far work) a b → Beyond W (report_in session past text false) (report_in session past (text ++ piece) ended) a b
+      pub beyond : (W : List ℕ → Told → Told → Type 0) → W (left_of ended later stage) a b → Beyond W (report_of set past text false) (report_of set past (text ++ piece) ended) a b
       beyond W w = record {
-        more = rows_left (program_in session) ended later session.engine.time so_far;
+        more = rows_left now_at ended later events_so_far;
         goes_on = report_on;
-        wrote = subst (λ t. W t a b) (ap (λ r. r ++ rows_left (program_in session) ended later work.engine.time so_far) none_owed ∙ ap (λ e. rows_left (program_in session) ended later e.time so_far) same) w;
+        wrote = subst (λ t. W t a b) (λ i. none_owed i ++ rows_left (at i) ended later (heard i)) w;
       }
 
-      same_refused : refused_from work.engine.time later ≡ refused_after past (readings_in session (text ++ piece) ended)
-      same_refused = ap (λ e. refused_from e.time later) same ∙ sym refused_on
+      same_refused : refused_from stage.moment later ≡ refused_of set past (text ++ piece) ended
+      same_refused = ap (λ m. refused_from m later) at ∙ sym refused_on
 
       -- the work on the later lines stopped
-      pub stops_at : (stop : SessionFault) → Stops (program_in session) ended later so_far work a b stop → StopsAt session past text (text ++ piece) ended a b stop
+      pub stops_at : (stop : SessionFault) → Stops ended later stage a b stop → StopsAt set past text (text ++ piece) ended a b stop
       stops_at (fault.Refused refusal) stops = (sym same_refused ∙ stops.0, beyond Wrote stops.1)
       stops_at (fault.TooMuch limit) stops = absurd stops
       stops_at fault.WriteFault stops = (stops.0, beyond WrotePart stops.1)
       stops_at fault.Memory stops = beyond WroteFront stops
 
       -- the work on them was done
-      pub done_at : refused_from work.engine.time later ≡ None → Wrote (left_of (program_in session) ended later so_far work) a b
-          → (refused_after past (readings_in session (text ++ piece) ended) ≡ None) × Beyond Wrote (report_in session past text false) (report_in session past (text ++ piece) ended) a b
+      pub done_at : refused_from stage.moment later ≡ None → Wrote (left_of ended later stage) a b
+          → (refused_of set past (text ++ piece) ended ≡ None) × Beyond Wrote (report_of set past text false) (report_of set past (text ++ piece) ended) a b
       done_at none wrote = (sym same_refused ∙ none, beyond Wrote wrote)
 
 -- an empty text has no lines
@@ -198,28 +199,18 @@ no_lines ended = ap (λ t. lines_from 0 false t ended) (strip_bom-short [] (omeg
 pub unfed_part : IsPart unfed
 unfed_part = record { none = no_lines false; short = omega arith; no_feed = refl }
 
--- an engine that stands for a history, and has no epoch closed where none is open, has the last one open
-last_open : (now : engine.EngineView) (ls : List BornLine) (past : List Event) → engines.EngineStandsFor now ls past → (now.time ≡ None → now.closed_time ≡ None) → now.time ≡ last_time past
-last_open now ls past stands opened = by_time now.time refl
-  where
-    by_time : (o : Option ℕ) → now.time ≡ o → now.time ≡ last_time past
-    by_time (Some time) e = e ∙ sym (subst (λ o. IfSome o (λ t. last_time past ≡ Some t)) e stands.stands.open_is_last)
-    by_time None e = e ∙ sym (opened e) ∙ sym (subst (λ o. last_time (closed_part o past) ≡ now.closed_time) e stands.stands.closed_is_last)
-
--- a session that was fed nothing stands for what its engine stands for
-pub begins : (session : SessionView) (past : List Event) → session.ended ≡ false → session.fed ≡ 0 → session.feed ≡ unfed → AreDeclared session.catalogue past
-    → IsLayoutOver session.catalogue.streams (program_in session) session.engine.layout
-    → (session.engine.time ≡ None → session.engine.closed_time ≡ None) → engines.EngineStandsFor session.engine (born_lines (program_in session)) past → SessionStandsFor session past []
-begins session past going fed feed declared layout opened stands =
-    let read = reading_of session.catalogue.streams in
-    let same = sym (append-nil past) ∙ ap (λ ls. heard_after past (map read ls)) (sym (no_lines false)) in
+-- a session that was fed nothing stands for the course that its engine and its catalogue have heard
+pub begins : (session : SessionView) (set : QuerySet) (past : Course) → session.ended ≡ false → session.fed ≡ 0 → session.feed ≡ unfed → IsSoundCourse set past → set_in session.catalogue ≡ set_after set past → AreDeclared session.catalogue (events_in past)
+    → AreAtOne session.catalogue session.engine → IsLayoutOver session.catalogue.streams (program_in session) session.engine.layout → engines.EngineStandsFor session.engine (born_lines (program_in session)) (events_in past) → is_some session.engine.time ≡ (moment_of set past).is_open
+    → SessionStandsFor session set past []
+begins session set past going fed feed sound holds declared at_one layout stands opened =
+    let same : past ≡ heard_of set past [] false = sym (append-nil past) ∙ ap (heard_after set past) (sym (no_lines false)) in
     record {
       going = going;
       within = omega arith;
-      none_refused = ap (λ ls. refused_after past (map read ls)) (no_lines false);
-      declared = declared;
-      works = record { layout = layout; engine = subst (engines.EngineStandsFor session.engine (born_lines (program_in session))) same stands };
-      last_is_open = last_open session.engine (born_lines (program_in session)) past stands opened ∙ ap last_time same;
+      sound = sound;
+      none_refused = ap (refused_after set past) (no_lines false);
+      heard = subst (HasHeard session set) same (record { holds = holds; at_one = at_one; declared = declared; works = record { layout = layout; engine = stands }; opened = opened });
       counted = fed;
       feed = subst (HasGiven []) (sym feed) (record { gives = λ more ended. ap (λ ls. ls ++ unread_lines (fed_more unfed more) ended) (sym (no_lines false)); line_feeds = refl; none_held = refl });
     }

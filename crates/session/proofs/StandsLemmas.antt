@@ -1,62 +1,48 @@
 -- The events that the work stands for, before and after one more.
-use Rattle.std.proofs.Common.{◌≡◌, ◌∙◌, sym, refl, ap, subst, ℕ, ◌<◌, ◌≤◌, Bool, true, false, cond, nat_lt, List, [], ◌∷◌, ◌++◌, Option, Some, None, arith}
-use Rattle.std.proofs.lemmas.Bool.{le-ltb, ltb-false}
+use Rattle.std.proofs.Common.{◌≡◌, ◌∙◌, sym, refl, ap, subst, ℕ, ◌<◌, ◌≤◌, true, is_some, List, [], ◌∷◌, ◌++◌, Option, Some, None, arith}
+use Rattle.std.specs.Option.{option_or}
 use Rattle.std.proofs.lemmas.List.Elements.{All-nil, All-cons, All-append}
 use Rattle.event_types.specs.Tuple.{IsSound}
 use Rattle.semantics.specs.Histories.{Event}
 use Rattle.semantics.specs.Kinds.{HasKinds}
 use Rattle.cel_types.specs.SourceLaws.{kinds_in}
 use Rattle.catalogue.specs.Catalogued.{Catalogued}
+use Rattle.catalogue.specs.Coming.{IsLatest}
 use Rattle.catalogue.specs.Standing.{StandsInOrder}
-use Rattle.epoch_laws.specs.Standing.{last_time}
+use Rattle.change_laws.specs.AtOne.{AreAtOne}
 use Rattle.epoch_engine.specs.Offers.{IsHeard, IsLate, IsNotAhead, with_tuple}
 use Rattle.epoch_engine.specs.EngineStandsFor as engines
 use Rattle.epoch_engine.specs.EngineView as engine
 use Rattle.epoch_engine.proofs.StandsLemmas.{offered_stands}
 use Rattle.event_csv.specs.declared.event.Seen.{Seen}
-use Rattle.session.specs.declared.refusal.Refusal.TheVariants.{IsOutOfOrder}
+use Rattle.courses.specs.Heard.{disorder}
+use Rattle.courses.proofs.MomentLemmas.{behind_closed, not_before}
 use Rattle.session.specs.declared.work.Work.{Work}
-use Rattle.session.specs.Fits.{Fits}
-use Rattle.session.specs.Heard.{disorder}
-use Rattle.session.specs.Readings.{heard_of}
-use Rattle.session.specs.EngineStandsWithLastOpen.{AreFronts, HasClosed, IsAtWork, IsPlanned, IsReadyForEvent, EngineStandsWithLastOpen, lines_over}
-use Rattle.session.proofs.PlanLemmas.{is_declared, may_hear, of_its_kinds, planned_still}
-
--- the last time of a history with an event at its end
-pub last_of : (history : List Event) (event : Event) → last_time (history ++ event ∷ []) ≡ Some event.tuple.at
-last_of [] event = refl
-last_of (first ∷ []) event = refl
-last_of (first ∷ next ∷ later) event = last_of (next ∷ later) event
-
--- an event in time isn't below the time that was seen
-pub at_least : (number seen at : ℕ) → disorder number (Some seen) at ≡ None → seen ≤ at
-at_least number seen at e = by_test (nat_lt at seen) refl e
-  where
-    by_test : (b : Bool) → nat_lt at seen ≡ b → cond b (Some (IsOutOfOrder number at seen)) None ≡ None → seen ≤ at
-    by_test true f e = cc
-    by_test false f e = ltb-false _ _ f
-
--- an event that isn't below it is in time
-pub in_order : (number seen at : ℕ) → seen ≤ at → disorder number (Some seen) at ≡ None
-in_order number seen at h = ap (λ b. cond b (Some (IsOutOfOrder number at seen)) None) (le-ltb at seen h)
+use Rattle.courses.specs.Fits.{Fits}
+use Rattle.session.specs.Says.{event_of}
+use Rattle.session.specs.Standing.{AreFronts, HasClosed, HasShut, IsAtWork, IsReadyForEvent, IsTimely, StandsFor, lines_over}
+use Rattle.session.proofs.PlanLemmas.{at_one_still, is_declared, may_hear, of_its_kinds}
 
 -- an event in time that closes no epoch may be offered
-pub ready_now : (c : Catalogued) (at : ℕ) (work : Work) → IsAtWork c work → ((number : ℕ) → disorder number work.engine.time at ≡ None) → IsNotAhead work.engine.time at → IsReadyForEvent c at work.engine work.engine
-ready_now c at work at_work timely ahead = record {
+pub ready_now : (c : Catalogued) (at : ℕ) (now : engine.EngineView) → IsTimely now at → IsNotAhead now.time at → IsReadyForEvent c at now now
+ready_now c at now timely ahead = record {
   plan = record { network = refl; layout = refl };
   not_ahead = ahead;
-  in_time = by_time work.engine.time refl;
+  in_time = by_time now.time refl;
   stands = λ history stands. stands.engine;
 }
   where
-    by_closed : (seen : ℕ) (closed : Option ℕ) → closed ≡ None → IsLate None closed at seen → ⊥
-    by_closed seen None e late = late
-    by_closed seen (Some last) e late = cc
+    by_closed : (seen : ℕ) (closed : Option ℕ) → now.time ≡ None → now.closed_time ≡ closed → IsLate None closed at seen → ⊥
+    by_closed seen None e f late = late
+    by_closed seen (Some last) e f late =
+        let behind : last < at = behind_closed 0 last at ((λ i. disorder 0 (is_some (sym e i)) (option_or (sym e i) (sym f i)) at) ∙ timely 0) in
+        let up : at ≤ last = late.0 in
+        omega (arith, behind, up)
 
-    by_time : (time : Option ℕ) → work.engine.time ≡ time → (seen : ℕ) → IsLate time work.engine.closed_time at seen → ⊥
-    by_time None e seen late = by_closed seen work.engine.closed_time (at_work.opened e) late
+    by_time : (time : Option ℕ) → now.time ≡ time → (seen : ℕ) → IsLate time now.closed_time at seen → ⊥
+    by_time None e seen late = by_closed seen now.closed_time e refl late
     by_time (Some open_time) e seen late =
-        let low : open_time ≤ at = at_least 0 open_time at (ap (λ t. disorder 0 t at) (sym e) ∙ timely 0) in
+        let low : open_time ≤ at = not_before 0 true open_time at ((λ i. disorder 0 (is_some (sym e i)) (option_or (sym e i) now.closed_time) at) ∙ timely 0) in
         let less : at < open_time = late.0 in
         omega (arith, low, less)
 
@@ -73,32 +59,40 @@ ready_later c seen at old new closed was_open less = record {
     not_late : (other : ℕ) → IsLate None (Some seen) at other → ⊥
     not_late other late = let high : at ≤ seen = late.0 in omega (arith, less, high)
 
-module _ (c : Catalogued) (standing : StandsInOrder c) (event : Seen) (fits : Fits c.streams event) (old mid : engine.EngineView) (ready : IsReadyForEvent c event.tuple.at old mid) (planned : IsPlanned c old) where
+module _ (c : Catalogued) (standing : StandsInOrder c) (event : Seen) (fits : Fits c.streams event) (old mid : engine.EngineView) (ready : IsReadyForEvent c event.tuple.at old mid) (at_one : AreAtOne c old) where
   -- the engine may be offered the event
   pub may_offer : IsHeard mid.layout event.stream event.tuple
-  may_offer = may_hear c standing event fits mid (planned_still c old mid ready.plan planned)
+  may_offer = may_hear c standing event fits mid (at_one_still c old mid ready.plan at_one)
 
   module _ (new : Work) (took : new.engine ≡ with_tuple mid event.stream event.tuple) where
     -- once it took the event, the work may go on
-    pub at_work_more : AreFronts c new.fronts → IsAtWork c new
-    at_work_more fronts =
-        let still = planned_still c old mid ready.plan planned in
+    pub at_work_more : IsLatest new.born c → AreFronts c new.fronts → IsAtWork c new
+    at_work_more born fronts =
+        let still = at_one_still c old mid ready.plan at_one in
         record {
-          planned = subst (IsPlanned c) (sym took) (record { lines = still.lines; layout = still.layout });
+          in_order = standing;
+          at_one = subst (AreAtOne c) (sym took) (record { merged = still.merged; endings = still.endings; layout = still.layout });
+          born = born;
           fronts = fronts;
-          opened = λ none. let some : new.engine.time ≡ Some event.tuple.at = ap (λ (now : engine.EngineView). now.time) took in absurd (cc);
         }
 
     -- and it stands for one more event
-    pub stands_more : (history : List Event) → IsSound event.tuple → EngineStandsWithLastOpen c history old → EngineStandsWithLastOpen c (history ++ heard_of event ∷ []) new.engine
+    pub stands_more : (history : List Event) → IsSound event.tuple → StandsFor c history old → StandsFor c (history ++ event_of event ∷ []) new.engine
     stands_more history sound stands = record {
       declared = (
-        All-append (λ other. other.stream < c.declared) history (heard_of event ∷ []) stands.declared.0
-            (All-cons (λ other. other.stream < c.declared) (heard_of event) [] (is_declared c standing event fits) (All-nil _)),
-        All-append (λ other. HasKinds (kinds_in c.streams other.stream) other.tuple) history (heard_of event ∷ []) stands.declared.1
-            (All-cons (λ other. HasKinds (kinds_in c.streams other.stream) other.tuple) (heard_of event) [] (of_its_kinds c standing event fits) (All-nil _)),
+        All-append (λ other. other.stream < c.declared) history (event_of event ∷ []) stands.declared.0
+            (All-cons (λ other. other.stream < c.declared) (event_of event) [] (is_declared c standing event fits) (All-nil _)),
+        All-append (λ other. HasKinds (kinds_in c.streams other.stream) other.tuple) history (event_of event ∷ []) stands.declared.1
+            (All-cons (λ other. HasKinds (kinds_in c.streams other.stream) other.tuple) (event_of event) [] (of_its_kinds c standing event fits) (All-nil _)),
       );
-      engine = subst (λ (now : engine.EngineView). engines.EngineStandsFor now (lines_over c) (history ++ heard_of event ∷ [])) (sym took)
+      engine = subst (λ (now : engine.EngineView). engines.EngineStandsFor now (lines_over c) (history ++ event_of event ∷ [])) (sym took)
           (offered_stands mid (lines_over c) history event.stream event.tuple (ready.stands history stands) may_offer sound ready.not_ahead ready.in_time);
-      last_is_open = ap (λ (now : engine.EngineView). now.time) took ∙ sym (last_of history (heard_of event));
     }
+
+-- where an epoch was closed that was open, the last time that was heard is closed
+pub shut_closed : (c : Catalogued) (old new : engine.EngineView) (time : ℕ) → old.time ≡ Some time → HasClosed c old new → HasShut c old new
+shut_closed c old new time e closed = record { plan = closed.plan; none_open = closed.none_open; now_closed = closed.now_closed ∙ e ∙ sym (ap (λ o. option_or o old.closed_time) e); stands = closed.stands }
+
+-- so it is where none is open
+pub shut_none : (c : Catalogued) (now : engine.EngineView) → now.time ≡ None → HasShut c now now
+shut_none c now e = record { plan = record { network = refl; layout = refl }; none_open = e; now_closed = sym (ap (λ o. option_or o now.closed_time) e); stands = λ history stands. stands.engine }

@@ -1,40 +1,50 @@
 -- The tests of the closing of an epoch, and of the lines that are left.
-use Rattle.std.proofs.Common.{sym, ◌≡◌, ◌∙◌, ap, refl, subst, ℕ, ◌+◌, ◌≤◌, ◌<◌, Bool, true, false, cond, is_some, nat_lt, List, [], ◌∷◌, ◌++◌, Some, None, Option, arith}
+use Rattle.std.proofs.Common.{sym, ◌≡◌, ◌∙◌, ap, refl, subst, ℕ, ◌+◌, ◌≤◌, ◌<◌, Bool, true, false, cond, is_some, nat_lt, List, [], ◌∷◌, ◌++◌, Some, None, Ok, Option, arith}
 use Rattle.std.specs.Prelude.{IsSome}
 use Rattle.std.proofs.lemmas.Bool.{le-ltb, lt-ltb, ltb-true}
 use Rattle.cay_host.specs.Told.{Told}
 use Rattle.semantics.specs.Histories.{Event}
-use Rattle.automaton.specs.Prefixes.{Prefix}
+use Rattle.automaton.specs.declared.line.Line.{Line}
 use Rattle.prefix_merge.specs.Counts.{ListPrefixes}
+use Rattle.birth_laws.proofs.BornLemmas.{plain_chain}
 use Rattle.epoch_engine.specs.EngineView.{EngineView}
 use Rattle.epoch_engine.specs.Work.{work}
 use Rattle.epoch_engine.specs.WorkLaws.{RisesByWork}
-use Rattle.event_csv.specs.Fed.{Fed}
-use Rattle.event_csv.specs.declared.event.Seen.{Seen}
-use Rattle.catalogue.specs.Catalogued.{Catalogued}
-use Rattle.session.specs.declared.refusal.Refusal.TheVariants.{IsOutOfOrder}
+use Rattle.event_csv.specs.Fed.{Fed, unread_lines}
+use Rattle.event_csv.specs.Lines as lines
+use Rattle.catalogue.specs.Catalogued.{Catalogued, query_in}
+use Rattle.catalogue.specs.Taking.{added_of}
+use Rattle.catalogue.specs.Standing.{StandsInOrder}
+use Rattle.change_laws.specs.AtOne.{AreAtOne}
+use Rattle.courses.specs.declared.refusal.Refusal.{Refusal}
+use Rattle.courses.specs.declared.refusal.Refusal.TheVariants.{IsOutOfOrder}
+use Rattle.courses.specs.ControlLines.{entry_of}
+use Rattle.courses.specs.Course as course
+use Rattle.courses.specs.Course.{Adds, CourseEntry, Drops, Hears, Moment, after_entry, events_at, events_in}
+use Rattle.courses.specs.Heard.{disorder, entries_in, heard_from, refusal_at, refusal_of}
+use Rattle.courses.specs.QuerySet.{set_in}
+use Rattle.session.specs.declared.control.Change.{Change}
+use Rattle.session.specs.declared.control.Change.TheVariants as change
 use Rattle.session.specs.declared.work.Work.{Work}
-use Rattle.session.specs.EngineStandsWithLastOpen.{EngineStandsWithLastOpen, IsPlanned, lines_over, program_over}
-use Rattle.session.specs.ForEachHistory.{lines_in}
-use Rattle.session.specs.Heard.{Reading, disorder}
-use Rattle.session.specs.Owes.{AdvancesPastLine, is_later, line_of}
-use Rattle.session.specs.Readings.{heard_of}
-use Rattle.session.specs.TestsLeft.{RisesByClosing, RisesByLines, RisesByOpen, TestsGoOn, tests_of_closing, open_tests, tests_left}
-use Rattle.session.proofs.HeardLemmas.{first_none}
-use Rattle.session.proofs.StandsLemmas.{last_of}
-use Rattle.birth_laws.proofs.BornLemmas.{plain_chain}
-use Rattle.splitter.specs.Chains.{lines_of}
-use Rattle.automaton.specs.declared.line.Line.{Line}
+use Rattle.session.specs.Says.{entry_by}
+use Rattle.session.specs.Standing.{StandsFor, lines_over, moment_at, program_over}
+use Rattle.session.specs.Owes.{AdvancesPast, closes, is_later}
+use Rattle.session.specs.RunWork.{AreStates, States}
+use Rattle.session.specs.TestsLeft.{RisesByClosing, RisesByLines, RisesByOpen, TestsGoOn, open_tests, tests_left, tests_of, tests_of_closing}
+use Rattle.courses.proofs.HeardLemmas.{first_none}
+use Rattle.session.proofs.OwesLemmas.{events_one, open_is}
+use Rattle.session.proofs.PlanLemmas.{laid_over}
 
 -- what the closing of an engine takes is no more than the open epoch asks for
-pub open_rises : (c : Catalogued) (engine : EngineView) (old new : ℕ) → IsPlanned c engine → IsSome engine.time → RisesByWork engine old new → RisesByOpen c engine old new
-open_rises c engine old new planned opened rises history states stands listed = go engine.time refl opened
+pub open_rises : (c : Catalogued) (standing : StandsInOrder c) (engine : EngineView) (old new : ℕ) → AreAtOne c engine → IsSome engine.time → RisesByWork engine old new → RisesByOpen c engine old new
+open_rises c standing engine old new at_one opened rises history states stands listed = go engine.time refl opened
   where
-    go : (o : Option ℕ) → engine.time ≡ o → IsSome o → new ≤ old + open_tests states (program_over c) history o
+    go : (o : Option ℕ) → engine.time ≡ o → IsSome o → new ≤ old + tests_of states (program_over c) history o
     go None is some = absurd (cc)
     go (Some time) is some =
-        subst (λ (order : List ℕ). new ≤ old + work states (lines_over c) order history time) planned.layout.order
-        (rises.waiting (lines_over c) states history time (record { stands = stands.engine; is_open = is; listed = subst (λ (ls : List Line). ListPrefixes ls states) (sym (plain_chain (program_over c).order)) listed }))
+        subst (λ (order : List ℕ). new ≤ old + work (states (program_over c)) (lines_over c) order history time) (laid_over c engine standing at_one).order
+        (rises.waiting (lines_over c) (states (program_over c)) history time
+        (record { stands = stands.engine; is_open = is; listed = subst (λ (ls : List Line). ListPrefixes ls (states (program_over c))) (sym (plain_chain (program_over c).order)) (listed (program_over c)) }))
 
 -- no tests are few enough
 pub rises_none : (c : Catalogued) (engine : EngineView) (old : ℕ) → RisesByOpen c engine old old
@@ -44,108 +54,164 @@ rises_none c engine old history states stands listed = omega arith
 pub closing_rises : (c : Catalogued) (engine : EngineView) (seen at old new : ℕ) → engine.time ≡ Some seen → seen < at → RisesByOpen c engine old new → RisesByClosing c at engine old new
 closing_rises c engine seen at old new is later rises history states stands listed =
     let few = rises history states stands listed in
-    let later' : is_later engine.time at ≡ true = ap (λ (o : Option ℕ). is_later o at) is ∙ lt-ltb seen at later in
-    let same : tests_of_closing states (program_over c) history engine.time at ≡ open_tests states (program_over c) history engine.time = ap (λ b. cond b (open_tests states (program_over c) history engine.time) 0) later' in
+    let is_late : is_later engine.time at ≡ true = ap (λ (o : Option ℕ). is_later o at) is ∙ lt-ltb seen at later in
+    let same : tests_of_closing states (program_over c) history engine.time at ≡ tests_of states (program_over c) history engine.time = ap (λ b. cond b (tests_of states (program_over c) history engine.time) 0) is_late in
     omega (arith, few, same)
 
 -- where nothing is closed, nothing is tested
 pub closing_none : (c : Catalogued) (engine : EngineView) (at old : ℕ) → RisesByClosing c at engine old old
 closing_none c engine at old history states stands listed = omega arith
 
--- the tests of the open epoch's closing are among those that are left, where the line of an event comes
-pub closing_within : (c : Catalogued) (ended : Bool) (number : ℕ) (event : Seen) (lines : List Reading) (states : List Prefix) (history : List Event) (seen : Option ℕ)
-    → tests_of_closing states (program_over c) history seen event.tuple.at ≤ tests_left states (program_over c) ended (line_of number event ∷ lines) seen history
-closing_within c ended number event lines states history None = omega arith
-closing_within c ended number event lines states history (Some seen) = by_order (nat_lt event.tuple.at seen) refl
-  where
-    by_order : (late : Bool) → nat_lt event.tuple.at seen ≡ late
-        → tests_of_closing states (program_over c) history (Some seen) event.tuple.at
-        ≤ cond (is_some (cond late (Some (IsOutOfOrder number event.tuple.at seen)) None)) 0
-        (tests_of_closing states (program_over c) history (Some seen) event.tuple.at + tests_left states (program_over c) ended lines (Some event.tuple.at) (history ++ heard_of event ∷ []))
-    by_order true late =
-        let below : event.tuple.at < seen = ltb-true _ _ late in
-        let not_later : nat_lt seen event.tuple.at ≡ false = le-ltb _ _ (omega (arith, below)) in
-        let none : tests_of_closing states (program_over c) history (Some seen) event.tuple.at ≡ 0 = ap (λ b. cond b (open_tests states (program_over c) history (Some seen)) 0) not_later in
-        omega (arith, none)
-    by_order false in_time = omega arith
-
--- at the line of an event no more is tested than the lines that are left ask for
-pub event_rises : (c : Catalogued) (feed : Fed) (ended : Bool) (number : ℕ) (event : Seen) (lines : List Reading) (engine : EngineView) (old new : ℕ)
-    → lines_in c feed ended ≡ line_of number event ∷ lines → RisesByClosing c event.tuple.at engine old new → RisesByLines c feed ended engine old new
-event_rises c feed ended number event lines engine old new shows rises history states stands listed =
-    let few = rises history states stands listed in
-    let within = closing_within c ended number event lines states history engine.time in
-    let same = ap (λ ls. tests_left states (program_over c) ended ls engine.time history) shows in
-    omega (arith, few, within, same)
-
--- where the event of a line was taken, what is no longer to come is the closing
-pub event_moves : (c : Catalogued) (ended : Bool) (number : ℕ) (event : Seen) (lines : List Reading) (history : List Event) (old new : Work) (a b : Told) (before after : ℕ)
-    → AdvancesPastLine c (line_of number event) history old new a b → EngineStandsWithLastOpen c history old.engine → RisesByClosing c event.tuple.at old.engine before after
-    → (states : List Prefix) → ListPrefixes (lines_of (program_over c)) states
-    → after + tests_left states (program_over c) ended lines new.engine.time (history ++ heard_of event ∷ []) ≤ before + tests_left states (program_over c) ended (line_of number event ∷ lines) old.engine.time history
-event_moves c ended number event lines history old new a b before after takes stands rises states listed =
-    let few = rises history states stands listed in
-    let program = program_over c in
-    let in_time : disorder number old.engine.time event.tuple.at ≡ None = first_none (disorder number old.engine.time event.tuple.at) None (takes.advances true []).refused in
-    let left = tests_left states program ended lines (Some event.tuple.at) (history ++ heard_of event ∷ []) in
-    let last = takes.stands.last_is_open ∙ last_of history (heard_of event) in
-    let now : tests_left states program ended lines new.engine.time (history ++ heard_of event ∷ []) ≡ left = ap (λ o. tests_left states program ended lines o (history ++ heard_of event ∷ [])) last in
-    let then : tests_left states program ended (line_of number event ∷ lines) old.engine.time history ≡ tests_of_closing states program history old.engine.time event.tuple.at + left =
-    ap (λ o. cond (is_some o) 0 (tests_of_closing states program history old.engine.time event.tuple.at + left)) in_time in
-    omega (arith, few, now, then)
-
 -- a line with a fault, or none, tests nothing
 pub lines_none : (c : Catalogued) (feed : Fed) (ended : Bool) (engine : EngineView) (old : ℕ) → RisesByLines c feed ended engine old old
 lines_none c feed ended engine old history states stands listed = omega arith
 
+-- whatever events an engine stands for, a count of tests rose by at most what an entry closes
+abbrev pub RisesByEntry : Catalogued → CourseEntry → EngineView → ℕ → ℕ → Type 0
+RisesByEntry c entry engine old new =
+    (history : List Event) (states : States) → StandsFor c history engine → AreStates states
+    → new ≤ old + cond (closes (moment_at c engine) (Ok entry)) (open_tests states (moment_at c engine) history) 0
+
+-- an event closes the open epoch where it is later
+pub by_event : (c : Catalogued) (event : Event) (engine : EngineView) (old new : ℕ) → RisesByClosing c event.tuple.at engine old new → RisesByEntry c (Hears event) engine old new
+by_event c event engine old new rises history states stands listed =
+    subst (λ o. new ≤ old + cond (is_later o event.tuple.at) (tests_of states (program_over c) history o) 0) (sym (open_is c engine)) (rises history states stands listed)
+
+-- an entry that is no event closes it
+pub by_control : (c : Catalogued) (entry : CourseEntry) (engine : EngineView) (old new : ℕ) → closes (moment_at c engine) (Ok entry) ≡ true → RisesByOpen c engine old new → RisesByEntry c entry engine old new
+by_control c entry engine old new is rises history states stands listed =
+    subst (λ b. new ≤ old + cond b (open_tests states (moment_at c engine) history) 0) (sym is)
+    (subst (λ o. new ≤ old + tests_of states (program_over c) history o) (sym (open_is c engine)) (rises history states stands listed))
+
+-- a change of the queries closes it
+pub by_change : (c : Catalogued) (made : Change) (engine : EngineView) (old new : ℕ) → RisesByOpen c engine old new → RisesByEntry c (entry_by c made) engine old new
+by_change c (change.Comes query) engine old new rises = by_control c (Adds (added_of query)) engine old new refl rises
+by_change c (change.Leaves number) engine old new rises = by_control c (Drops (query_in c number)) engine old new refl rises
+
+module _ (states : States) (m : Moment) (ended : Bool) (line : lines.Line) (others : List lines.Line) (history : List Event) (entry : CourseEntry) (says : entry_of m.set line.bytes ≡ Ok entry) where
+  abbrev closed : ℕ
+  closed = cond (closes m (Ok entry)) (open_tests states m history) 0
+
+  -- the tests that are left by a line of this entry, by its refusal
+  left_is : tests_left states m ended (line ∷ others) history ≡ cond (is_some (refusal_of line.number m (Ok entry))) 0 (closed + tests_left states (after_entry m entry) ended others (history ++ events_at entry))
+  left_is =
+      ap
+      (λ found. cond (is_some (refusal_of line.number m found)) 0
+      (cond (closes m found) (open_tests states m history) 0 + tests_left states (course.after m (entries_in found)) ended others (history ++ events_in (entries_in found)))) says
+      ∙ ap (λ events. cond (is_some (refusal_of line.number m (Ok entry))) 0 (closed + tests_left states (after_entry m entry) ended others (history ++ events))) (events_one entry)
+
+  -- of an entry in time
+  timely_left : refusal_of line.number m (Ok entry) ≡ None → tests_left states m ended (line ∷ others) history ≡ closed + tests_left states (after_entry m entry) ended others (history ++ events_at entry)
+  timely_left timely = left_is ∙ ap (λ o. cond (is_some o) 0 (closed + tests_left states (after_entry m entry) ended others (history ++ events_at entry))) timely
+
+-- an entry that is refused closes nothing
+refused_closes : (number : ℕ) (m : Moment) (entry : CourseEntry) (refusal : Refusal) → refusal_of number m (Ok entry) ≡ Some refusal → closes m (Ok entry) ≡ false
+refused_closes number m (Adds added) refusal e = cc
+refused_closes number m (Drops query) refusal e = cc
+refused_closes number m (Hears event) refusal e = by_open m.is_open m.seen e
+  where
+    by_late : (seen : ℕ) (b : Bool) → nat_lt event.tuple.at seen ≡ b → cond b (Some (IsOutOfOrder number event.tuple.at seen)) None ≡ Some refusal → nat_lt seen event.tuple.at ≡ false
+    by_late seen true late f = let below : event.tuple.at < seen = ltb-true _ _ late in le-ltb _ _ (omega (arith, below))
+    by_late seen false late f = cc
+
+    by_open : (is_open : Bool) (seen : Option ℕ) → disorder number is_open seen event.tuple.at ≡ Some refusal → is_later (cond is_open seen None) event.tuple.at ≡ false
+    by_open true None f = refl
+    by_open true (Some seen) f = by_late seen (nat_lt event.tuple.at seen) refl f
+    by_open false seen f = refl
+
+-- what an entry closes is among what is left, where its line comes
+entry_within : (states : States) (m : Moment) (ended : Bool) (line : lines.Line) (others : List lines.Line) (history : List Event) (entry : CourseEntry) → entry_of m.set line.bytes ≡ Ok entry
+    → cond (closes m (Ok entry)) (open_tests states m history) 0 ≤ tests_left states m ended (line ∷ others) history
+entry_within states m ended line others history entry says = by_refusal (refusal_of line.number m (Ok entry)) refl (left_is states m ended line others history entry says)
+  where
+    rest : ℕ
+    rest = tests_left states (after_entry m entry) ended others (history ++ events_at entry)
+
+    by_refusal : (o : Option Refusal) → refusal_of line.number m (Ok entry) ≡ o
+        → tests_left states m ended (line ∷ others) history ≡ cond (is_some (refusal_of line.number m (Ok entry))) 0 (cond (closes m (Ok entry)) (open_tests states m history) 0 + rest)
+        → cond (closes m (Ok entry)) (open_tests states m history) 0 ≤ tests_left states m ended (line ∷ others) history
+    by_refusal (Some refusal) e left =
+        let none : cond (closes m (Ok entry)) (open_tests states m history) 0 ≡ 0 = ap (λ b. cond b (open_tests states m history) 0) (refused_closes line.number m entry refusal e) in
+        omega (arith, none)
+    by_refusal None e left =
+        let all = left ∙ ap (λ o. cond (is_some o) 0 (cond (closes m (Ok entry)) (open_tests states m history) 0 + rest)) e in
+        omega (arith, all)
+
+-- at the line of an entry no more is tested than the lines that are left ask for
+pub entry_rises : (c : Catalogued) (feed : Fed) (ended : Bool) (line : lines.Line) (others : List lines.Line) (entry : CourseEntry) (engine : EngineView) (old new : ℕ)
+    → unread_lines feed ended ≡ line ∷ others → entry_of (set_in c) line.bytes ≡ Ok entry → RisesByEntry c entry engine old new → RisesByLines c feed ended engine old new
+entry_rises c feed ended line others entry engine old new shows says rises history states stands listed =
+    let few = rises history states stands listed in
+    let within = entry_within states (moment_at c engine) ended line others history entry says in
+    let same = ap (λ ls. tests_left states (moment_at c engine) ended ls history) shows in
+    omega (arith, few, within, same)
+
+-- where the entry of a line was taken, what is no longer to come is what it closes
+pub entry_moves : (c d : Catalogued) (ended : Bool) (line : lines.Line) (others : List lines.Line) (entry : CourseEntry) (history : List Event) (old new : Work) (a b : Told) (before after : ℕ)
+    → entry_of (set_in c) line.bytes ≡ Ok entry → AdvancesPast c d entry history old new a b → StandsFor c history old.engine → RisesByEntry c entry old.engine before after
+    → (states : States) → AreStates states
+    → after + tests_left states (moment_at d new.engine) ended others (history ++ events_at entry) ≤ before + tests_left states (moment_at c old.engine) ended (line ∷ others) history
+entry_moves c d ended line others entry history old new a b before after says takes stands rises states listed =
+    let m = moment_at c old.engine in
+    let few = rises history states stands listed in
+    let past = takes.advances ended line [] says in
+    let not_refused : refusal_at m line ≡ None = first_none (refusal_at m line) None past.refused in
+    let timely : refusal_of line.number m (Ok entry) ≡ None = ap (λ found. refusal_of line.number m found) (sym says) ∙ not_refused in
+    let next : course.after m (heard_from m (line ∷ [])) ≡ after_entry m entry =
+    ap (λ o. course.after m (cond (is_some o) [] (entries_in (entry_of m.set line.bytes) ++ []))) not_refused ∙ ap (λ found. course.after m (entries_in found ++ [])) says in
+    let now = ap (λ n. tests_left states n ended others (history ++ events_at entry)) (sym past.moment ∙ next) in
+    let then = timely_left states m ended line others history entry says timely in
+    omega (arith, few, now, then)
+
 -- the work has gone on, and then no more is tested than the lines ask for that are left
-pub moved_rises : (c : Catalogued) (feed left : Fed) (engine now : EngineView) (before mid after : ℕ)
-    → ((history : List Event) → EngineStandsWithLastOpen c history engine → TestsGoOn c (lines_in c feed false) (lines_in c left false) history engine now before mid)
-    → RisesByLines c left false now mid after → RisesByLines c feed false engine before after
-moved_rises c feed left engine now before mid after moved rises history states stands listed =
+pub moved_rises : (c d : Catalogued) (feed left : Fed) (engine now : EngineView) (before mid after : ℕ)
+    → ((history : List Event) → StandsFor c history engine → TestsGoOn (unread_lines feed false) (unread_lines left false) (moment_at c engine) history d now before mid)
+    → RisesByLines d left false now mid after → RisesByLines c feed false engine before after
+moved_rises c d feed left engine now before mid after moved rises history states stands listed =
     let gone = moved history stands in
     let one = gone.fewer states listed in
     let two = rises gone.heard states gone.stands listed in
     omega (arith, one, two)
 
 -- the work goes on, and on
-pub moves_further : {c : Catalogued} {first second third : List Reading} {history : List Event} {x y z : EngineView} {before mid after : ℕ}
-    → TestsGoOn c first second history x y before mid → ((heard : List Event) → EngineStandsWithLastOpen c heard y → TestsGoOn c second third heard y z mid after) → TestsGoOn c first third history x z before after
+pub moves_further : {c d : Catalogued} {first second third : List lines.Line} {m : Moment} {history : List Event} {y z : EngineView} {before mid after : ℕ}
+    → TestsGoOn first second m history c y before mid → ((heard : List Event) → StandsFor c heard y → TestsGoOn second third (moment_at c y) heard d z mid after) → TestsGoOn first third m history d z before after
 moves_further p more =
     let q = more p.heard p.stands in
     record { heard = q.heard; stands = q.stands; fewer = λ states listed. let one = p.fewer states listed in let two = q.fewer states listed in omega (arith, one, two) }
 
 -- the work hasn't begun
-pub not_moved : (c : Catalogued) (lines : List Reading) (history : List Event) (engine : EngineView) (before : ℕ) → EngineStandsWithLastOpen c history engine → TestsGoOn c lines lines history engine engine before before
-not_moved c lines history engine before stands = record { heard = history; stands = stands; fewer = λ states listed. omega arith }
+pub not_moved : (c : Catalogued) (ls : List lines.Line) (history : List Event) (engine : EngineView) (before : ℕ) → StandsFor c history engine → TestsGoOn ls ls (moment_at c engine) history c engine before before
+not_moved c ls history engine before stands = record { heard = history; stands = stands; fewer = λ states listed. omega arith }
 
--- an event was taken, and the lines are others
-pub took_tests : (c : Catalogued) (number : ℕ) (event : Seen) (lines others : List Reading) (history : List Event) (old new : Work) (a b : Told) (before after : ℕ) → lines ≡ line_of number event ∷ others
-    → AdvancesPastLine c (line_of number event) history old new a b → EngineStandsWithLastOpen c history old.engine → RisesByClosing c event.tuple.at old.engine before after
-    → TestsGoOn c lines others history old.engine new.engine before after
-took_tests c number event lines others history old new a b before after shows takes stands rises = record {
-  heard = history ++ heard_of event ∷ [];
+-- an entry was taken, and the lines are others
+pub took_tests : (c d : Catalogued) (line : lines.Line) (ls others : List lines.Line) (entry : CourseEntry) (history : List Event) (old new : Work) (a b : Told) (before after : ℕ) → ls ≡ line ∷ others → entry_of (set_in c) line.bytes ≡ Ok entry
+    → AdvancesPast c d entry history old new a b → StandsFor c history old.engine → RisesByEntry c entry old.engine before after → TestsGoOn ls others (moment_at c old.engine) history d new.engine before after
+took_tests c d line ls others entry history old new a b before after shows says takes stands rises = record {
+  heard = history ++ events_at entry;
   stands = takes.stands;
   fewer = λ states listed.
-      let few = event_moves c false number event others history old new a b before after takes stands rises states listed in
-      let same = ap (λ ls. tests_left states (program_over c) false ls old.engine.time history) shows in
+      let few = entry_moves c d false line others entry history old new a b before after says takes stands rises states listed in
+      let same = ap (λ l. tests_left states (moment_at c old.engine) false l history) shows in
       omega (arith, few, same);
 }
 
 -- no line is left of a text that has ended, and its last epoch was closed
-pub last_rises : (c : Catalogued) (feed : Fed) (engine : EngineView) (old new : ℕ) → lines_in c feed true ≡ [] → RisesByOpen c engine old new → RisesByLines c feed true engine old new
+pub last_rises : (c : Catalogued) (feed : Fed) (engine : EngineView) (old new : ℕ) → unread_lines feed true ≡ [] → RisesByOpen c engine old new → RisesByLines c feed true engine old new
 last_rises c feed engine old new shows rises history states stands listed =
     let few = rises history states stands listed in
-    let same = ap (λ ls. tests_left states (program_over c) true ls engine.time history) shows in
-    omega (arith, few, same)
+    let same = ap (λ ls. tests_left states (moment_at c engine) true ls history) shows in
+    let open_epoch = ap (tests_of states (program_over c) history) (open_is c engine) in
+    omega (arith, few, same, open_epoch)
 
--- one line is left of it, its event was taken, and the last epoch was closed
-pub last_event_rises : (c : Catalogued) (feed : Fed) (number : ℕ) (event : Seen) (old new : Work) (a b : Told) (before mid after : ℕ) → lines_in c feed true ≡ line_of number event ∷ []
-    → ((history : List Event) → EngineStandsWithLastOpen c history old.engine → AdvancesPastLine c (line_of number event) history old new a b)
-    → RisesByClosing c event.tuple.at old.engine before mid → RisesByOpen c new.engine mid after → RisesByLines c feed true old.engine before after
-last_event_rises c feed number event old new a b before mid after shows takes rises last history states stands listed =
+-- one line is left of it, its entry was taken, and the last epoch was closed
+pub last_entry_rises : (c d : Catalogued) (feed : Fed) (line : lines.Line) (entry : CourseEntry) (old new : Work) (a b : Told) (before mid after : ℕ) → unread_lines feed true ≡ line ∷ [] → entry_of (set_in c) line.bytes ≡ Ok entry
+    → ((history : List Event) → StandsFor c history old.engine → AdvancesPast c d entry history old new a b)
+    → RisesByEntry c entry old.engine before mid → RisesByOpen d new.engine mid after → RisesByLines c feed true old.engine before after
+last_entry_rises c d feed line entry old new a b before mid after shows says takes rises last history states stands listed =
     let took = takes history stands in
-    let one = event_moves c true number event [] history old new a b before mid took stands rises states listed in
-    let two = last (history ++ heard_of event ∷ []) states took.stands listed in
-    let same = ap (λ ls. tests_left states (program_over c) true ls old.engine.time history) shows in
-    omega (arith, one, two, same)
+    let one = entry_moves c d true line [] entry history old new a b before mid says took stands rises states listed in
+    let two = last (history ++ events_at entry) states took.stands listed in
+    let open_epoch = ap (tests_of states (program_over d) (history ++ events_at entry)) (open_is d new.engine) in
+    let same = ap (λ ls. tests_left states (moment_at c old.engine) true ls history) shows in
+    omega (arith, one, two, same, open_epoch)

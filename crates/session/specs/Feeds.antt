@@ -1,53 +1,53 @@
 -- What a session makes of more bytes of its event text, and of the end of the text.
 use Rattle.std.specs.Prelude.{◌≡◌, ◌<◌, ⊤, ℕ, Bool, false, true, List, ◌++◌, length, take, Some, None, Result, Ok, Err}
-use Rattle.semantics.specs.Histories.{Event}
 use Rattle.cay_host.specs.Faults.{Rose}
 use Rattle.cay_host.specs.Output.{Wrote, WrotePart}
 use Rattle.cay_host.specs.Told.{Told}
+use Rattle.courses.specs.Course.{Course}
+use Rattle.courses.specs.QuerySet.{QuerySet}
 use Rattle.session.specs.declared.fault.SessionFault.{SessionFault}
 use Rattle.session.specs.declared.fault.SessionFault.TheVariants.{Refused, TooMuch, WriteFault, Memory}
-use Rattle.session.specs.Heard.{refused_after}
 use Rattle.session.specs.WroteFront.{Beyond, WroteFront}
-use Rattle.session.specs.SessionView.{HasFinished, SessionStandsFor, SessionView, readings_in, report_in}
+use Rattle.session.specs.SessionView.{HasFinished, SessionStandsFor, SessionView, refused_of, report_of}
 
 -- the session stands for the longer text, and has written exactly the rows of the epochs that the new bytes closed
-pub record Feeds (old new : SessionView) (past : List Event) (text piece : List ℕ) (before after : Told) : Type 0 where
-  pub stands : SessionStandsFor new past (text ++ piece)
-  pub wrote : Beyond Wrote (report_in old past text false) (report_in old past (text ++ piece) false) before after
+pub record Feeds (new : SessionView) (set : QuerySet) (past : Course) (text piece : List ℕ) (before after : Told) : Type 0 where
+  pub stands : SessionStandsFor new set past (text ++ piece)
+  pub wrote : Beyond Wrote (report_of set past text false) (report_of set past (text ++ piece) false) before after
 
 -- why a session stopped at an event text, which has ended or not, and what it wrote of its report beyond that of an earlier front of the text
-abbrev pub StopsAt : SessionView → List Event → List ℕ → List ℕ → Bool → Told → Told → SessionFault → Type 0
-StopsAt session past earlier text ended before after (Refused refusal) =
-    (refused_after past (readings_in session text ended) ≡ Some refusal) × Beyond Wrote (report_in session past earlier false) (report_in session past text ended) before after
-StopsAt session past earlier text ended before after (TooMuch limit) = ⊥
-StopsAt session past earlier text ended before after WriteFault =
-    Rose before.write_faults after.write_faults × Beyond WrotePart (report_in session past earlier false) (report_in session past text ended) before after
-StopsAt session past earlier text ended before after Memory = Beyond WroteFront (report_in session past earlier false) (report_in session past text ended) before after
+abbrev pub StopsAt : QuerySet → Course → List ℕ → List ℕ → Bool → Told → Told → SessionFault → Type 0
+StopsAt set past earlier text ended before after (Refused refusal) =
+    (refused_of set past text ended ≡ Some refusal) × Beyond Wrote (report_of set past earlier false) (report_of set past text ended) before after
+StopsAt set past earlier text ended before after (TooMuch limit) = ⊥
+StopsAt set past earlier text ended before after WriteFault =
+    Rose before.write_faults after.write_faults × Beyond WrotePart (report_of set past earlier false) (report_of set past text ended) before after
+StopsAt set past earlier text ended before after Memory = Beyond WroteFront (report_of set past earlier false) (report_of set past text ended) before after
 
 -- the bytes within the limit
 abbrev pub within_limit : SessionView → List ℕ → List ℕ
 within_limit session text = take session.limit text
 
 -- why a session stopped at a piece behind an event text: at the bytes within the limit; or no line of these is refused, their report is written, and more bytes came
-abbrev pub StopsAtPiece : SessionView → List Event → List ℕ → List ℕ → Told → Told → SessionFault → Type 0
-StopsAtPiece session past text piece before after (TooMuch limit) =
+abbrev pub StopsAtPiece : SessionView → QuerySet → Course → List ℕ → List ℕ → Told → Told → SessionFault → Type 0
+StopsAtPiece session set past text piece before after (TooMuch limit) =
     let heard = within_limit session (text ++ piece) in
-    (limit ≡ session.limit) × (session.limit < length (text ++ piece)) × (refused_after past (readings_in session heard false) ≡ None)
-    × Beyond Wrote (report_in session past text false) (report_in session past heard false) before after
-StopsAtPiece session past text piece before after fault = StopsAt session past text (within_limit session (text ++ piece)) false before after fault
+    (limit ≡ session.limit) × (session.limit < length (text ++ piece)) × (refused_of set past heard false ≡ None)
+    × Beyond Wrote (report_of set past text false) (report_of set past heard false) before after
+StopsAtPiece session set past text piece before after fault = StopsAt set past text (within_limit session (text ++ piece)) false before after fault
 
--- the text has ended: no line of it is refused, the rows of the epochs that weren't closed before are written, and the engine works for all of it; or why not
-abbrev pub Finishes : SessionView → SessionView → List Event → List ℕ → Told → Told → Result (Unit {0}) SessionFault → Type 0
-Finishes old new past text before after (Ok done) =
-    (refused_after past (readings_in old text true) ≡ None) × Beyond Wrote (report_in old past text false) (report_in old past text true) before after × HasFinished new past text
-Finishes old new past text before after (Err fault) = StopsAt old past text text true before after fault
+-- the text has ended: no line of it is refused, the rows of the epochs that weren't closed before are written, and the session works for all of it; or why not
+abbrev pub Finishes : SessionView → QuerySet → Course → List ℕ → Told → Told → Result (Unit {0}) SessionFault → Type 0
+Finishes new set past text before after (Ok done) =
+    (refused_of set past text true ≡ None) × Beyond Wrote (report_of set past text false) (report_of set past text true) before after × HasFinished new set past text
+Finishes new set past text before after (Err fault) = StopsAt set past text text true before after fault
 
 -- the count of write faults is the same, unless a failed write is the answer
 abbrev pub BlamesWriting : Result (Unit {0}) SessionFault → Told → Told → Type 0
 BlamesWriting (Err WriteFault) before after = ⊤
 BlamesWriting other before after = after.write_faults ≡ before.write_faults
 
--- why a session stopped at a piece, whatever history and event text it stood for
+-- why a session stopped at a piece, whatever course and event text it stood for
 abbrev pub BreaksAtPiece : SessionView → List ℕ → Told → Told → SessionFault → Type 0
 BreaksAtPiece session piece before after fault =
-    (past : List Event) (text : List ℕ) → SessionStandsFor session past text → StopsAtPiece session past text piece before after fault
+    (set : QuerySet) (past : Course) (text : List ℕ) → SessionStandsFor session set past text → StopsAtPiece session set past text piece before after fault

@@ -1,14 +1,13 @@
 pub mod BatchLines
+pub mod Changes
 pub mod ClosingGivesResults
-pub mod EngineStandsWithLastOpen
+pub mod Standing
 pub mod Feeds
-pub mod Fits
 pub mod ForEachHistory
 pub mod HandsOutSomeLines
-pub mod Heard
 pub mod Owes
-pub mod Readings
 pub mod RunWork
+pub mod Says
 pub mod SessionCode
 pub mod SessionView
 pub mod TestsLeft

@@ -1,22 +1,23 @@
--- The work on the events that is still to be done. No public clause cites this module.
-use Rattle.std.specs.Prelude.{◌≡◌, ⊤, ℕ, Bool, false, cond, nat_lt, is_some, List, [], ◌∷◌, ◌++◌, Option, Some, None, Result, Ok, Err}
+-- The work on the lines that is still to be done. No public clause cites this module.
+use Rattle.std.specs.Prelude.{◌≡◌, ⊤, ℕ, Bool, false, true, cond, nat_lt, is_some, List, [], ◌∷◌, ◌++◌, Option, Some, None, Result, Ok, Err}
 use Rattle.semantics.specs.Histories.{Event}
 use Rattle.semantics.specs.Programs.{Program}
 use Rattle.semantics.specs.Report.{epoch}
 use Rattle.cay_host.specs.Faults.{Rose}
 use Rattle.cay_host.specs.Output.{Wrote, WrotePart}
 use Rattle.cay_host.specs.Told.{Told}
+use Rattle.event_csv.specs.Lines.{Line}
 use Rattle.catalogue.specs.Catalogued.{Catalogued}
-use Rattle.event_csv.specs.declared.event.Seen.{Seen}
-use Rattle.event_csv.specs.declared.fault.LineFault.{LineFault}
+use Rattle.courses.specs.declared.refusal.Refusal.{Refusal}
+use Rattle.courses.specs.ControlLines.{EntryFault, entry_of}
+use Rattle.courses.specs.Course as course
+use Rattle.courses.specs.Course.{CourseEntry, Hears, Adds, Drops, Moment, events_at, events_in}
+use Rattle.courses.specs.Heard.{after_line, entries_in, heard_from, refusal_at, refused_from}
 use Rattle.session.specs.declared.fault.SessionFault.{SessionFault}
 use Rattle.session.specs.declared.fault.SessionFault.TheVariants.{Refused, TooMuch, WriteFault, Memory}
-use Rattle.session.specs.declared.refusal.Refusal.{Refusal}
 use Rattle.session.specs.declared.work.Work.{Work}
-use Rattle.session.specs.Heard.{Reading, refusal_of, refused_from, heard_from, last_after, events_in}
 use Rattle.session.specs.WroteFront.{WroteFront}
-use Rattle.session.specs.Readings.{heard_of}
-use Rattle.session.specs.EngineStandsWithLastOpen.{EngineStandsWithLastOpen, program_over}
+use Rattle.session.specs.Standing.{StandsFor, moment_at}
 
 -- a front of the text was appended, and the rest of it is still owed
 pub record Owes (text rest : List ℕ) (old new : Told) : Type 0 where
@@ -24,57 +25,74 @@ pub record Owes (text rest : List ℕ) (old new : Told) : Type 0 where
   pub wrote : Wrote front old new
   pub all : front ++ rest ≡ text
 
+-- the epoch that is open at a moment
+abbrev pub open_time : Moment → Option ℕ
+open_time m = cond m.is_open m.seen None
+
 -- a time is later than the one that was seen; where none was seen, no epoch is open
 abbrev pub is_later : Option ℕ → ℕ → Bool
 is_later None at = false
 is_later (Some seen) at = nat_lt seen at
 
--- the line's event closes the open epoch
-abbrev pub closes : Option ℕ → Result Event LineFault → Bool
-closes seen (Ok event) = is_later seen event.tuple.at
-closes seen (Err fault) = false
+-- a line closes the open epoch: an event of a later time, or an entry that is no event
+abbrev pub closes : Moment → Result CourseEntry EntryFault → Bool
+closes m (Ok (Hears event)) = is_later (open_time m) event.tuple.at
+closes m (Ok (Adds added)) = true
+closes m (Ok (Drops query)) = true
+closes m (Err why) = false
 
--- the rows of the open epoch, where these events were heard
-abbrev pub open_rows : Program → List Event → Option ℕ → List ℕ
-open_rows program history None = []
-open_rows program history (Some time) = epoch program history time
+-- the rows of an epoch, where one is open and these events were heard
+abbrev pub epoch_rows : Program → List Event → Option ℕ → List ℕ
+epoch_rows program history None = []
+epoch_rows program history (Some time) = epoch program history time
 
--- the rows that are still to come, where these events were heard and the last was detected at the time that was seen
-abbrev pub rows_left : Program → Bool → List Reading → Option ℕ → List Event → List ℕ
-rows_left program ended [] seen history = cond ended (open_rows program history seen) []
-rows_left program ended (line ∷ lines) seen history =
-    cond (is_some (refusal_of line.number seen line.found)) []
-    (cond (closes seen line.found) (open_rows program history seen) [] ++ rows_left program ended lines (last_after line.found) (history ++ events_in line.found))
+-- the rows of the epoch that is open at a moment
+abbrev pub open_rows : Moment → List Event → List ℕ
+open_rows m history = epoch_rows m.set.program history (open_time m)
+
+-- the rows that are still to come of the lines from a moment on, where these events were heard
+abbrev pub rows_left : Moment → Bool → List Line → List Event → List ℕ
+rows_left m ended [] history = cond ended (open_rows m history) []
+rows_left m ended (line ∷ lines) history =
+    cond (is_some (refusal_at m line)) []
+    (cond (closes m (entry_of m.set line.bytes)) (open_rows m history) [] ++ rows_left (after_line m line) ended lines (history ++ events_in (entries_in (entry_of m.set line.bytes))))
+
+-- how far the work has come: the moment, the events that were heard, and the rows that aren't written yet
+pub record Stage : Type 0 where
+  pub moment : Moment
+  pub history : List Event
+  pub rows : List ℕ
+
+-- that of the work, where these events were heard
+abbrev pub stage_at : Catalogued → Work → List Event → Stage
+stage_at c work history = record { moment = moment_at c work.engine; history = history; rows = work.rows }
 
 -- what the work still owes of the report
-abbrev pub left_of : Program → Bool → List Reading → List Event → Work → List ℕ
-left_of program ended lines history work = work.rows ++ rows_left program ended lines work.engine.time history
+abbrev pub left_of : Bool → List Line → Stage → List ℕ
+left_of ended lines stage = stage.rows ++ rows_left stage.moment ended lines stage.history
 
--- some lines were worked on: what they owe is written or owed by the others, the first refused line is the same, and so is all that is heard
-pub record Advances (program : Program) (ended : Bool) (lines others : List Reading) (history heard : List Event) (old new : Work) (before after : Told) : Type 0 where
-  pub owes : Owes (left_of program ended lines history old) (left_of program ended others heard new) before after
-  pub refused : refused_from old.engine.time lines ≡ refused_from new.engine.time others
-  pub hears : history ++ heard_from old.engine.time lines ≡ heard ++ heard_from new.engine.time others
+-- some lines were worked on: what they owe is written or owed by the others, the first refused line is the same, and so are all that is heard and the moment then
+pub record Advances (ended : Bool) (lines others : List Line) (old new : Stage) (before after : Told) : Type 0 where
+  pub owes : Owes (left_of ended lines old) (left_of ended others new) before after
+  pub refused : refused_from old.moment lines ≡ refused_from new.moment others
+  pub hears : old.history ++ events_in (heard_from old.moment lines) ≡ new.history ++ events_in (heard_from new.moment others)
+  pub moment : course.after old.moment (heard_from old.moment lines) ≡ course.after new.moment (heard_from new.moment others)
 
 -- why the work on the lines ended
-abbrev pub Stops : Program → Bool → List Reading → List Event → Work → Told → Told → SessionFault → Type 0
-Stops program ended lines history work before after (Refused refusal) = (refused_from work.engine.time lines ≡ Some refusal) × Wrote (left_of program ended lines history work) before after
-Stops program ended lines history work before after (TooMuch limit) = ⊥
-Stops program ended lines history work before after WriteFault = Rose before.write_faults after.write_faults × WrotePart (left_of program ended lines history work) before after
-Stops program ended lines history work before after Memory = WroteFront (left_of program ended lines history work) before after
+abbrev pub Stops : Bool → List Line → Stage → Told → Told → SessionFault → Type 0
+Stops ended lines stage before after (Refused refusal) = (refused_from stage.moment lines ≡ Some refusal) × Wrote (left_of ended lines stage) before after
+Stops ended lines stage before after (TooMuch limit) = ⊥
+Stops ended lines stage before after WriteFault = Rose before.write_faults after.write_faults × WrotePart (left_of ended lines stage) before after
+Stops ended lines stage before after Memory = WroteFront (left_of ended lines stage) before after
 
 -- how the work on the lines ended
-abbrev pub StoppedBy : Program → Bool → List Reading → List Event → Work → Told → Told → Result (Unit {0}) SessionFault → Type 0
-StoppedBy program ended lines history work before after (Ok done) = (refused_from work.engine.time lines ≡ None) × Wrote (left_of program ended lines history work) before after
-StoppedBy program ended lines history work before after (Err fault) = Stops program ended lines history work before after fault
-
--- a line with this event
-abbrev pub line_of : ℕ → Seen → Reading
-line_of number event = record { number = number; found = Ok (heard_of event) }
+abbrev pub StoppedBy : Bool → List Line → Stage → Told → Told → Result (Unit {0}) SessionFault → Type 0
+StoppedBy ended lines stage before after (Ok done) = (refused_from stage.moment lines ≡ None) × Wrote (left_of ended lines stage) before after
+StoppedBy ended lines stage before after (Err fault) = Stops ended lines stage before after fault
 
 -- the rows of the open epoch, where an event of this time closes it
 abbrev pub closing : Program → List Event → Option ℕ → ℕ → List ℕ
-closing program history seen at = cond (is_later seen at) (open_rows program history seen) []
+closing program history seen at = cond (is_later seen at) (epoch_rows program history seen) []
 
 -- why rows weren't all written: the host failed, or there was no memory
 abbrev pub FailsBy : List ℕ → Told → Told → SessionFault → Type 0
@@ -92,13 +110,15 @@ abbrev pub Blames : SessionFault → Told → Told → Type 0
 Blames WriteFault before after = ⊤
 Blames other before after = after.write_faults ≡ before.write_faults
 
--- a line's event was heard too, whatever lines follow
-pub record AdvancesPastLine (c : Catalogued) (line : Reading) (history : List Event) (old new : Work) (before after : Told) : Type 0 where
-  pub stands : EngineStandsWithLastOpen c (history ++ events_in line.found) new.engine
-  pub advances : (ended : Bool) (lines : List Reading) → Advances (program_over c) ended (line ∷ lines) lines history (history ++ events_in line.found) old new before after
+-- a line's entry was heard too, whatever lines follow
+pub record AdvancesPast (c d : Catalogued) (entry : CourseEntry) (history : List Event) (old new : Work) (before after : Told) : Type 0 where
+  pub stands : StandsFor d (history ++ events_at entry) new.engine
+  pub advances :
+      (ended : Bool) (line : Line) (lines : List Line) → entry_of (moment_at c old.engine).set line.bytes ≡ Ok entry
+      → Advances ended (line ∷ lines) lines (stage_at c old history) (stage_at d new (history ++ events_at entry)) before after
 
 -- the work has gone on to other lines of a text that hasn't ended, where more was heard
-pub record GoesOn (c : Catalogued) (lines others : List Reading) (history : List Event) (old new : Work) (before after : Told) : Type 0 where
+pub record GoesOn (lines others : List Line) (old : Stage) (d : Catalogued) (new : Work) (before after : Told) : Type 0 where
   pub heard : List Event
-  pub stands : EngineStandsWithLastOpen c heard new.engine
-  pub advances : Advances (program_over c) false lines others history heard old new before after
+  pub stands : StandsFor d heard new.engine
+  pub advances : Advances false lines others old (stage_at d new heard) before after

@@ -1,10 +1,9 @@
 //! The closing of epochs.
-ghost use Rattle.std.specs.Prelude.{◌≡◌, None, ℕ, IsSome, IfErr, OnOk};
+ghost use Rattle.std.specs.Prelude.{◌≡◌, ℕ, IsSome, IfErr, OnOk};
 ghost use Rattle.cay_host.specs.Output.{SameButOutput};
 ghost use Rattle.session.specs.Feeds.{BlamesWriting};
-ghost use Rattle.session.specs.Heard.{disorder};
-ghost use Rattle.session.specs.EngineStandsWithLastOpen.{AreFronts, HasClosed, IsAtWork, IsReadyForEvent};
-ghost use Rattle.session.specs.ForEachHistory.{EndsAtLast, FailsInClosing, OwesClosing, PutsOpenRows};
+ghost use Rattle.session.specs.Standing.{AreFronts, HasClosed, HasShut, IsAtWork, IsReadyForEvent, IsTimely};
+ghost use Rattle.session.specs.ForEachHistory.{FailsAtOpen, FailsInClosing, OwesClosing, OwesOpen, PutsOpenRows, WritesOpen};
 ghost use Rattle.session.specs.TestsLeft.{RisesByClosing, RisesByOpen};
 
 use crate::fault::SessionFault;
@@ -29,6 +28,7 @@ fn close_epoch<L: Ledger>(
     ensures rows { OnOk result (PutsOpenRows catalogue.now work.old work.new) }
     ensures fronts { OnOk result (AreFronts catalogue.now work.new.fronts) }
     ensures closed { OnOk result (HasClosed catalogue.now work.old.engine work.new.engine) }
+    ensures born { work.new.born ≡ work.old.born }
     ensures tests { RisesByOpen catalogue.now work.old.engine steps.old steps.new }
 {
     let batch = work.engine.close(alloc, steps)?;
@@ -55,10 +55,11 @@ pub fn close_before<H: Host, L: Ledger>(
     steps: &mut Steps<L>,
 ) -> Result<(), SessionFault>
     requires at_work { IsAtWork catalogue.now work.old }
-    requires timely { (number : ℕ) → disorder number work.old.engine.time at ≡ None }
+    requires timely { IsTimely work.old.engine at }
     ensures owes { OnOk result (OwesClosing catalogue.now at work.old work.new (H.told host.old) (H.told host.new)) }
     ensures ready { OnOk result (IsReadyForEvent catalogue.now at work.old.engine work.new.engine) }
     ensures fronts { OnOk result (AreFronts catalogue.now work.new.fronts) }
+    ensures born { work.new.born ≡ work.old.born }
     ensures fails { IfErr result (FailsInClosing catalogue.now at work.old (H.told host.old) (H.told host.new)) }
     ensures quiet { BlamesWriting result (H.told host.old) (H.told host.new) }
     ensures same { SameButOutput (H.told host.old) (H.told host.new) }
@@ -74,6 +75,30 @@ pub fn close_before<H: Host, L: Ledger>(
     }
 }
 
+/// Closes the open epoch, if there is one.
+pub fn close_open<H: Host, L: Ledger>(
+    alloc: Global,
+    host: &mut H,
+    catalogue: &Catalogue,
+    work: &mut Work,
+    steps: &mut Steps<L>,
+) -> Result<(), SessionFault>
+    requires at_work { IsAtWork catalogue.now work.old }
+    ensures owes { OnOk result (OwesOpen catalogue.now work.old work.new (H.told host.old) (H.told host.new)) }
+    ensures shut { OnOk result (HasShut catalogue.now work.old.engine work.new.engine) }
+    ensures at_work { OnOk result (IsAtWork catalogue.now work.new) }
+    ensures fails { IfErr result (FailsAtOpen catalogue.now work.old (H.told host.old) (H.told host.new)) }
+    ensures quiet { BlamesWriting result (H.told host.old) (H.told host.new) }
+    ensures same { SameButOutput (H.told host.old) (H.told host.new) }
+    ensures tests { RisesByOpen catalogue.now work.old.engine steps.old steps.new }
+{
+    if work.engine.open_time().is_some() {
+        close_epoch(alloc, catalogue, work, steps)?;
+        write_if_full(host, &mut work.rows)?;
+    }
+    Ok(())
+}
+
 /// Closes the last epoch, and writes what there is.
 pub fn close_last<H: Host, L: Ledger>(
     alloc: Global,
@@ -82,16 +107,14 @@ pub fn close_last<H: Host, L: Ledger>(
     work: &mut Work,
     steps: &mut Steps<L>,
 ) -> Result<(), SessionFault>
-    requires { IsAtWork catalogue.now work.old }
-    ensures ends { EndsAtLast catalogue.now work.old (H.told host.old) (H.told host.new) result }
-    ensures closed { OnOk result (HasClosed catalogue.now work.old.engine work.new.engine) }
+    requires at_work { IsAtWork catalogue.now work.old }
+    ensures ends { WritesOpen catalogue.now work.old (H.told host.old) (H.told host.new) result }
+    ensures shut { OnOk result (HasShut catalogue.now work.old.engine work.new.engine) }
     ensures quiet { BlamesWriting result (H.told host.old) (H.told host.new) }
     ensures same { SameButOutput (H.told host.old) (H.told host.new) }
     ensures tests { RisesByOpen catalogue.now work.old.engine steps.old steps.new }
 {
-    if work.engine.open_time().is_some() {
-        close_epoch(alloc, catalogue, work, steps)?;
-    }
+    close_open(alloc, host, catalogue, work, steps)?;
     write_rows(host, &mut work.rows)?;
     Ok(())
 }

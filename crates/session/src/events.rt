@@ -1,25 +1,27 @@
 //! The work on one event, or on a line that is refused.
-ghost use Rattle.std.specs.Prelude.{◌≡◌, ℕ, None, IfErr, OnOk};
+ghost use Rattle.std.specs.Prelude.{◌≡◌, ℕ, Some, IfErr, IfNone, IfSome, OnOk, is_some};
 ghost use Rattle.cay_host.specs.Output.{SameButOutput};
-ghost use Rattle.catalogue.specs.Standing.{StandsInOrder};
 ghost use Rattle.epoch_engine.specs.Offers.{IsHeard, IsLate, IsNotAhead, with_tuple};
 ghost use Rattle.session.specs.Feeds.{BlamesWriting};
-ghost use Rattle.session.specs.Fits.{Fits};
-ghost use Rattle.session.specs.Heard.{disorder};
-ghost use Rattle.session.specs.EngineStandsWithLastOpen.{IsAtWork};
-ghost use Rattle.session.specs.ForEachHistory.{StopsAtEvent, TakesEvent};
+ghost use Rattle.courses.specs.Fits.{Fits};
+ghost use Rattle.courses.specs.declared.refusal.Refusal.TheVariants.{IsOutOfOrder};
+ghost use Rattle.courses.specs.Course.{Hears};
+ghost use Rattle.courses.specs.Heard.{disorder};
+ghost use Rattle.session.specs.Says.{event_of};
+ghost use Rattle.session.specs.Standing.{IsAtWork, IsTimely, seen_by};
+ghost use Rattle.session.specs.ForEachHistory.{StopsAtEntry, TakesEntry};
 ghost use Rattle.session.specs.Owes.{Blames, RefusesBy};
 ghost use Rattle.session.specs.TestsLeft.{RisesByClosing};
 
 use crate::closing::close_before;
 use crate::fault::SessionFault;
 use crate::reading::EventLine;
-use crate::refusal::Refusal;
 use crate::work::Work;
 use crate::writing::write_rows;
 use catalogue::Catalogue;
 use cay_host::{Host, Ledger, Steps};
-use epoch_engine::OfferFault;
+use courses::Refusal;
+use epoch_engine::{Engine, OfferFault};
 use event_csv::Seen;
 use event_types::Memory;
 use std::alloc::Global;
@@ -46,6 +48,7 @@ fn offer_event(work: &mut Work, event: Seen) -> Result<(), Memory>
     ensures heard { OnOk result (work.new.engine ≡ with_tuple work.old.engine event.stream event.tuple) }
     ensures rows { work.new.rows ≡ work.old.rows }
     ensures fronts { work.new.fronts ≡ work.old.fronts }
+    ensures born { work.new.born ≡ work.old.born }
 {
     work.near = event.stream;
     match work.engine.offer(event.stream, event.tuple) {
@@ -66,12 +69,11 @@ fn close_and_offer<H: Host, L: Ledger>(
     steps: &mut Steps<L>,
 ) -> Result<(), SessionFault>
     requires at_work { IsAtWork catalogue.now work.old }
-    requires in_order { StandsInOrder catalogue.now }
     requires fits { Fits catalogue.now.streams line.event }
-    requires timely { (number : ℕ) → disorder number work.old.engine.time line.event.tuple.at ≡ None }
-    ensures more { OnOk result (TakesEvent catalogue.now line.number line.event work.old work.new (H.told host.old) (H.told host.new)) }
+    requires timely { IsTimely work.old.engine line.event.tuple.at }
+    ensures more { OnOk result (TakesEntry catalogue.now catalogue.now (Hears (event_of line.event)) work.old work.new (H.told host.old) (H.told host.new)) }
     ensures at_work { OnOk result (IsAtWork catalogue.now work.new) }
-    ensures stops { IfErr result (StopsAtEvent catalogue.now line.number line.event work.old (H.told host.old) (H.told host.new)) }
+    ensures stops { IfErr result (StopsAtEntry catalogue.now line.number (Hears (event_of line.event)) work.old (H.told host.old) (H.told host.new)) }
     ensures quiet { BlamesWriting result (H.told host.old) (H.told host.new) }
     ensures same { SameButOutput (H.told host.old) (H.told host.new) }
     ensures tests { RisesByClosing catalogue.now line.event.tuple.at work.old.engine steps.old steps.new }
@@ -93,18 +95,17 @@ pub fn work_on_event<H: Host, L: Ledger>(
     steps: &mut Steps<L>,
 ) -> Result<(), SessionFault>
     requires at_work { IsAtWork catalogue.now work.old }
-    requires in_order { StandsInOrder catalogue.now }
     requires fits { Fits catalogue.now.streams line.event }
-    ensures more { OnOk result (TakesEvent catalogue.now line.number line.event work.old work.new (H.told host.old) (H.told host.new)) }
+    ensures more { OnOk result (TakesEntry catalogue.now catalogue.now (Hears (event_of line.event)) work.old work.new (H.told host.old) (H.told host.new)) }
     ensures at_work { OnOk result (IsAtWork catalogue.now work.new) }
-    ensures stops { IfErr result (StopsAtEvent catalogue.now line.number line.event work.old (H.told host.old) (H.told host.new)) }
+    ensures stops { IfErr result (StopsAtEntry catalogue.now line.number (Hears (event_of line.event)) work.old (H.told host.old) (H.told host.new)) }
     ensures quiet { BlamesWriting result (H.told host.old) (H.told host.new) }
     ensures same { SameButOutput (H.told host.old) (H.told host.new) }
     ensures tests { RisesByClosing catalogue.now line.event.tuple.at work.old.engine steps.old steps.new }
 {
     let at = line.event.tuple.at();
-    match work.engine.open_time() {
-        Some(seen) if at < seen => Err(refuse(
+    match late(&work.engine, at) {
+        Some(seen) => Err(refuse(
             host,
             work,
             Refusal::IsOutOfOrder {
@@ -113,6 +114,22 @@ pub fn work_on_event<H: Host, L: Ledger>(
                 seen,
             },
         )),
-        _ => close_and_offer(alloc, host, catalogue, work, line, steps),
+        None => close_and_offer(alloc, host, catalogue, work, line, steps),
+    }
+}
+
+// The time that was heard last, where an event of this time comes too late.
+#[inline(always)]
+fn late(engine: &Engine, at: u64) -> Option<u64>
+    ensures late { IfSome result (λ seen. (number : ℕ) → disorder number (is_some engine.now.time) (seen_by engine.now) at ≡ Some (IsOutOfOrder number at seen)) }
+    ensures timely { IfNone result (IsTimely engine.now at) }
+{
+    match engine.open_time() {
+        Some(time) if at < time => Some(time),
+        Some(_) => None,
+        None => match engine.last_closed() {
+            Some(last) if at <= last => Some(last),
+            _ => None,
+        },
     }
 }

@@ -1,12 +1,12 @@
 //! Why a session ends before its work is done.
 ghost use Rattle.std.specs.Prelude.{◌≡◌};
 
-use crate::refusal::Refusal;
 use cay_host::Failed;
+use courses::Refusal;
 use event_types::Memory;
 
 /// Why a session ends before its work is done.
-#[derive(Clone, Copy, Debug, PartialEq, Eq, Drop)]
+#[derive(Drop)]
 pub enum SessionFault {
     /// A line is refused.
     Refused(Refusal),

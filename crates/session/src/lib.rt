@@ -4,14 +4,15 @@
 //! feed, the number of bytes that it was fed, and whether it has ended (`SessionView`).
 #![tactic(auto)]
 
+mod changing;
 mod closing;
+mod control;
 mod counting;
 mod events;
 mod fault;
 mod laws;
 mod lines;
 mod reading;
-mod refusal;
 mod session;
 mod work;
 mod writing;
@@ -20,5 +21,4 @@ pub use fault::SessionFault;
 pub use laws::{
     closing_gives_results, closing_gives_results_of_catalogue, closing_gives_results_of_text,
 };
-pub use refusal::Refusal;
 pub use session::Session;

@@ -1,20 +1,19 @@
 //! The work on the lines of an event text.
 ghost use Rattle.std.specs.Prelude.{◌≡◌, false, true, [], IfErr, IfOk, OnOk};
 ghost use Rattle.cay_host.specs.Output.{SameButOutput};
-ghost use Rattle.catalogue.specs.Standing.{StandsInOrder};
 ghost use Rattle.event_csv.specs.Fed.{IsPart, unread_lines};
 ghost use Rattle.session.specs.Feeds.{BlamesWriting};
-ghost use Rattle.session.specs.EngineStandsWithLastOpen.{IsAtWork, IsThrough};
+ghost use Rattle.session.specs.Standing.{IsAtWork, IsThrough};
 ghost use Rattle.session.specs.HandsOutSomeLines.{HandsOutSomeLines, Progresses};
 ghost use Rattle.session.specs.ForEachHistory.{EndsOver, GoesThrough, HearsLines, HearsRest, StopsOver};
 ghost use Rattle.session.specs.Owes.{Blames};
 ghost use Rattle.session.specs.TestsLeft.{RisesByLines, TestsMoved};
 
+use crate::changing::work_on_change;
 use crate::closing::close_last;
 use crate::events::{refuse, work_on_event};
 use crate::fault::SessionFault;
 use crate::reading::{Next, last_reading, next_reading};
-use crate::refusal::Refusal;
 use crate::work::Work;
 use crate::writing::write_rows;
 use catalogue::Catalogue;
@@ -26,22 +25,21 @@ use std::alloc::Global;
 pub fn work_on_lines<H: Host, L: Ledger>(
     alloc: Global,
     host: &mut H,
-    catalogue: &Catalogue,
+    catalogue: &mut Catalogue,
     feed: &mut Feed,
     work: &mut Work,
     steps: &mut Steps<L>,
 ) -> Result<(), SessionFault>
-    requires { IsAtWork catalogue.now work.old }
-    ensures ends { EndsOver catalogue.now feed.old false work.old (H.told host.old) (H.told host.new) result }
-    ensures stands { OnOk result (HearsLines catalogue.now feed.old work.old work.new) }
-    ensures at_work { OnOk result (IsAtWork catalogue.now work.new) }
+    requires { IsAtWork catalogue.old work.old }
+    ensures ends { EndsOver catalogue.old feed.old false work.old (H.told host.old) (H.told host.new) result }
+    ensures stands { OnOk result (HearsLines catalogue.old feed.old work.old catalogue.new work.new) }
+    ensures at_work { OnOk result (IsAtWork catalogue.new work.new) }
     ensures none_owed { OnOk result (work.new.rows ≡ []) }
     ensures gone { OnOk result (HandsOutSomeLines feed.old feed.new) }
     ensures part { OnOk result (IsPart feed.new) }
-    ensures in_order { StandsInOrder catalogue.now }
     ensures quiet { BlamesWriting result (H.told host.old) (H.told host.new) }
     ensures same { SameButOutput (H.told host.old) (H.told host.new) }
-    ensures tests { RisesByLines catalogue.now feed.old false work.old.engine steps.old steps.new }
+    ensures tests { RisesByLines catalogue.old feed.old false work.old.engine steps.old steps.new }
 {
     work_through(alloc, host, catalogue, feed, work, steps)?;
     write_rows(host, &mut work.rows)?;
@@ -53,21 +51,20 @@ pub fn work_on_lines<H: Host, L: Ledger>(
 fn work_through<H: Host, L: Ledger>(
     alloc: Global,
     host: &mut H,
-    catalogue: &Catalogue,
+    catalogue: &mut Catalogue,
     feed: &mut Feed,
     work: &mut Work,
     steps: &mut Steps<L>,
 ) -> Result<(), SessionFault>
-    requires { IsAtWork catalogue.now work.old }
-    ensures goes_on { OnOk result (GoesThrough catalogue.now feed.old work.old work.new (H.told host.old) (H.told host.new)) }
-    ensures at_work { OnOk result (IsAtWork catalogue.now work.new) }
+    requires { IsAtWork catalogue.old work.old }
+    ensures goes_on { OnOk result (GoesThrough catalogue.old feed.old work.old catalogue.new work.new (H.told host.old) (H.told host.new)) }
+    ensures at_work { OnOk result (IsAtWork catalogue.new work.new) }
     ensures gone { OnOk result (HandsOutSomeLines feed.old feed.new) }
     ensures part { OnOk result (IsPart feed.new) }
-    ensures stops { IfErr result (StopsOver catalogue.now feed.old work.old (H.told host.old) (H.told host.new)) }
-    ensures in_order { StandsInOrder catalogue.now }
+    ensures stops { IfErr result (StopsOver catalogue.old feed.old work.old (H.told host.old) (H.told host.new)) }
     ensures quiet { BlamesWriting result (H.told host.old) (H.told host.new) }
     ensures same { SameButOutput (H.told host.old) (H.told host.new) }
-    ensures tests { RisesByLines catalogue.now feed.old false work.old.engine steps.old steps.new }
+    ensures tests { RisesByLines catalogue.old feed.old false work.old.engine steps.old steps.new }
 {
     'lines: loop {
         if !work_on_line(alloc, host, catalogue, feed, work, steps)? {
@@ -81,30 +78,34 @@ fn work_through<H: Host, L: Ledger>(
 fn work_on_line<H: Host, L: Ledger>(
     alloc: Global,
     host: &mut H,
-    catalogue: &Catalogue,
+    catalogue: &mut Catalogue,
     feed: &mut Feed,
     work: &mut Work,
     steps: &mut Steps<L>,
 ) -> Result<bool, SessionFault>
-    requires { IsAtWork catalogue.now work.old }
-    ensures progress { IfOk result (Progresses catalogue.now feed.old feed.new work.old work.new (H.told host.old) (H.told host.new)) }
-    ensures at_work { OnOk result (IsAtWork catalogue.now work.new) }
+    requires { IsAtWork catalogue.old work.old }
+    ensures progress { IfOk result (Progresses catalogue.old catalogue.new feed.old feed.new work.old work.new (H.told host.old) (H.told host.new)) }
+    ensures at_work { OnOk result (IsAtWork catalogue.new work.new) }
     ensures gone { HandsOutSomeLines feed.old feed.new }
-    ensures in_order { StandsInOrder catalogue.now }
-    ensures stops { IfErr result (StopsOver catalogue.now feed.old work.old (H.told host.old) (H.told host.new)) }
+    ensures stops { IfErr result (StopsOver catalogue.old feed.old work.old (H.told host.old) (H.told host.new)) }
     ensures quiet { OnOk result ((H.told host.new).write_faults ≡ (H.told host.old).write_faults) }
     ensures blames { IfErr result (λ fault. Blames fault (H.told host.old) (H.told host.new)) }
     ensures same { SameButOutput (H.told host.old) (H.told host.new) }
-    ensures tests { RisesByLines catalogue.now feed.old false work.old.engine steps.old steps.new }
-    ensures moved { IfOk result (TestsMoved catalogue.now feed.old feed.new work.old.engine work.new.engine steps.old steps.new) }
+    ensures tests { RisesByLines catalogue.old feed.old false work.old.engine steps.old steps.new }
+    ensures moved { IfOk result (TestsMoved catalogue.old catalogue.new feed.old feed.new work.old.engine work.new.engine steps.old steps.new) }
 {
     let spare = work.engine.take_spare();
-    match next_reading(alloc, catalogue.streams(), work.near, spare, feed) {
+    match next_reading(alloc, catalogue, work.near, spare, feed) {
         Err(_) => Err(SessionFault::Memory),
         Ok(Next::NotYet) => Ok(false),
-        Ok(Next::Fault(line, why)) => Err(refuse(host, work, Refusal::HasFault { line, why })),
+        Ok(Next::Refused(refusal)) => Err(refuse(host, work, refusal)),
         Ok(Next::Event(line)) => {
             work_on_event(alloc, host, catalogue, work, line, steps)?;
+            Ok(true)
+        }
+        Ok(Next::Change(made)) => {
+            let made = Box::into_inner(made);
+            work_on_change(alloc, host, catalogue, work, made, steps)?;
             Ok(true)
         }
     }
@@ -114,31 +115,31 @@ fn work_on_line<H: Host, L: Ledger>(
 pub fn work_on_rest<H: Host, L: Ledger>(
     alloc: Global,
     host: &mut H,
-    catalogue: &Catalogue,
+    catalogue: &mut Catalogue,
     feed: &Feed,
     work: &mut Work,
     steps: &mut Steps<L>,
 ) -> Result<(), SessionFault>
-    requires at_work { IsAtWork catalogue.now work.old }
+    requires at_work { IsAtWork catalogue.old work.old }
     requires none_left { unread_lines feed.now false ≡ [] }
-    ensures ends { EndsOver catalogue.now feed.now true work.old (H.told host.old) (H.told host.new) result }
-    ensures stands { OnOk result (HearsRest catalogue.now feed.now work.old work.new) }
-    ensures through { OnOk result (IsThrough catalogue.now work.new.engine) }
-    ensures in_order { StandsInOrder catalogue.now }
+    ensures ends { EndsOver catalogue.old feed.now true work.old (H.told host.old) (H.told host.new) result }
+    ensures stands { OnOk result (HearsRest catalogue.old feed.now work.old catalogue.new work.new) }
+    ensures through { OnOk result (IsThrough catalogue.new work.new.engine) }
     ensures quiet { BlamesWriting result (H.told host.old) (H.told host.new) }
     ensures same { SameButOutput (H.told host.old) (H.told host.new) }
-    ensures tests { RisesByLines catalogue.now feed.now true work.old.engine steps.old steps.new }
+    ensures tests { RisesByLines catalogue.old feed.now true work.old.engine steps.old steps.new }
 {
-    match last_reading(alloc, catalogue.streams(), work.near, feed) {
+    match last_reading(alloc, catalogue, work.near, feed) {
         Err(_) => Err(SessionFault::Memory),
         Ok(Next::NotYet) => close_last(alloc, host, catalogue, work, steps),
-        Ok(Next::Fault(number, why)) => Err(refuse(
-            host,
-            work,
-            Refusal::HasFault { line: number, why },
-        )),
+        Ok(Next::Refused(refused)) => Err(refuse(host, work, refused)),
         Ok(Next::Event(line)) => {
             work_on_event(alloc, host, catalogue, work, line, steps)?;
+            close_last(alloc, host, catalogue, work, steps)
+        }
+        Ok(Next::Change(made)) => {
+            let made = Box::into_inner(made);
+            work_on_change(alloc, host, catalogue, work, made, steps)?;
             close_last(alloc, host, catalogue, work, steps)
         }
     }

@@ -2,18 +2,20 @@
 ghost use Rattle.std.specs.Prelude.{◌≡◌, ℕ, [], List, None, false, true, IfErr, IfOk, OnErr, OnOk, take};
 ghost use Rattle.semantics.specs.Histories.{Event};
 ghost use Rattle.splitter.specs.Chains.{lines_of};
-ghost use Rattle.epoch_laws.specs.BornLines.{HasBornLines};
-ghost use Rattle.birth_laws.specs.BornChains.{born_lines};
 ghost use Rattle.cay_host.specs.Output.{SameButOutput};
 ghost use Rattle.prefix_merge.specs.Counts.{CountsPlain, CountsStates};
 ghost use Rattle.epoch_engine.specs.EngineStandsFor as engines;
 ghost use Rattle.catalogue.specs.Catalogued as catalogues;
+ghost use Rattle.catalogue.specs.Coming.{IsLatest};
 ghost use Rattle.catalogue.specs.Loaded.{IsUnchanged};
 ghost use Rattle.catalogue.specs.Standing.{IsLayoutOver};
+ghost use Rattle.change_laws.specs.AtOne.{AreAtOne};
+ghost use Rattle.courses.specs.Course.{Course};
+ghost use Rattle.courses.specs.QuerySet.{QuerySet, set_in};
 ghost use Rattle.session.specs.Feeds.{BlamesWriting, BreaksAtPiece, Feeds, Finishes};
 ghost use Rattle.session.specs.RunWork.{FinishesWithin, FeedsWithin};
-ghost use Rattle.session.specs.SessionView.{CountsWaiting, KeepsQueries, SessionStandsFor, StandsForPast, TrimsEngine, WorksFor, program_in};
-ghost use Rattle.session.specs.EngineStandsWithLastOpen.{IsPlanned, lines_over};
+ghost use Rattle.session.specs.SessionView.{CountsWaiting, SessionStandsFor, StandsForPast, TrimsEngine, WorksFor, program_in};
+ghost use Rattle.session.specs.Standing.{lines_over};
 
 use crate::counting::{hops_of, root_states};
 use crate::fault::SessionFault;
@@ -30,8 +32,8 @@ use std::alloc::Global;
 use std::marker::Model;
 
 /// The work of queries on one event text, which may come behind events that the engine has heard: the
-/// text is fed piece by piece, and the rows of each epoch are written once a later event or the end of
-/// the text has closed it.
+/// text is fed piece by piece, and the rows of each epoch are written once a later event, a control line
+/// or the end of the text has closed it. A control line adds a query or drops one between epochs.
 #[derive(Drop)]
 pub struct Session {
     catalogue: Catalogue,
@@ -53,7 +55,7 @@ impl Model for Session {
     ghost view = { λ s. record { catalogue = s.catalogue; engine = s.work.engine; limit = s.limit; feed = s.feed; fed = s.fed; ended = s.ended } };
 
     ghost use Rattle.std.specs.Prelude.{◌≡◌, false};
-    ghost use Rattle.session.specs.EngineStandsWithLastOpen.{IsGoing};
+    ghost use Rattle.session.specs.Standing.{IsGoing};
 
     ghost invariant = { λ s. s.ended ≡ false → IsGoing s.catalogue s.limit s.feed s.fed s.work };
 }
@@ -65,7 +67,7 @@ impl Session {
         requires { IsUnchanged catalogue }
         ensures queries { IfOk result (λ session. session.catalogue ≡ catalogue) }
         ensures limit { IfOk result (λ session. session.limit ≡ limit) }
-        ensures stands { IfOk result (λ session. SessionStandsFor session [] []) }
+        ensures stands { IfOk result (λ session. SessionStandsFor session (set_in catalogue) [] []) }
     {
         let engine = engine_of(alloc, &catalogue)?;
         Ok(Session::over(alloc, catalogue, engine, limit))
@@ -74,15 +76,18 @@ impl Session {
     /// Goes on with an engine that may have been offered events before, whenever the queries came. Takes no
     /// memory.
     pub fn over(alloc: Global, catalogue: Catalogue, engine: Engine, limit: u64) -> Session
-        requires lines { HasBornLines engine.network (born_lines (catalogues.program_in catalogue)) }
+        requires at_one { AreAtOne catalogue engine }
         requires layout { IsLayoutOver catalogue.streams (catalogues.program_in catalogue) engine.layout }
-        requires opened { engine.time ≡ None → engine.closed_time ≡ None }
+        requires born { IsLatest engine.closed_time catalogue }
         ensures queries { result.catalogue ≡ catalogue }
         ensures limit { result.limit ≡ limit }
         ensures engine { result.engine ≡ engine }
         ensures going { result.ended ≡ false }
         ensures stands { StandsForPast catalogue engine result }
     {
+        // The queries of a catalogue stand in order.
+        let _queries = catalogue.queries();
+        let born = engine.last_closed();
         Session {
             catalogue,
             work: Work {
@@ -91,6 +96,7 @@ impl Session {
                 tails: Tails::new(alloc),
                 fronts: Fronts::new(alloc),
                 near: 0,
+                born,
             },
             limit,
             feed: Feed::new(alloc),
@@ -128,7 +134,7 @@ impl Session {
         ensures counted { CountsWaiting self.old result }
         ensures trimmed { TrimsEngine self.old self.new }
         ensures works { (history : List Event) → WorksFor self.old history → WorksFor self.new history }
-        ensures stands { (past : List Event) (text : List ℕ) → SessionStandsFor self.old past text → SessionStandsFor self.new past text }
+        ensures stands { (set : QuerySet) (past : Course) (text : List ℕ) → SessionStandsFor self.old set past text → SessionStandsFor self.new set past text }
     {
         self.work.engine.trim();
         self.work.engine.live()
@@ -144,11 +150,11 @@ impl Session {
         steps: &mut Steps<L>,
     ) -> Result<(), SessionFault>
         requires { self.old.ended ≡ false }
-        ensures fed { OnOk result ((past : List Event) (text : List ℕ) → SessionStandsFor self.old past text → Feeds self.old self.new past text piece.now (H.told host.old) (H.told host.new)) }
+        ensures fed { OnOk result ((set : QuerySet) (past : Course) (text : List ℕ) → SessionStandsFor self.old set past text → Feeds self.new set past text piece.now (H.told host.old) (H.told host.new)) }
         ensures broken { IfErr result (BreaksAtPiece self.old piece.now (H.told host.old) (H.told host.new)) }
         ensures going { OnOk result (self.new.ended ≡ false) }
         ensures ended { OnErr result (self.new.ended ≡ true) }
-        ensures queries { KeepsQueries self.old self.new }
+        ensures limit { self.new.limit ≡ self.old.limit }
         ensures quiet { BlamesWriting result (H.told host.old) (H.told host.new) }
         ensures same { SameButOutput (H.told host.old) (H.told host.new) }
         ensures tests { FeedsWithin self.old piece.now steps.old steps.new }
@@ -161,7 +167,7 @@ impl Session {
         work_on_lines(
             alloc,
             host,
-            &self.catalogue,
+            &mut self.catalogue,
             &mut self.feed,
             &mut self.work,
             steps,
@@ -183,9 +189,9 @@ impl Session {
         steps: &mut Steps<L>,
     ) -> Result<(), SessionFault>
         requires { self.old.ended ≡ false }
-        ensures finished { (past : List Event) (text : List ℕ) → SessionStandsFor self.old past text → Finishes self.old self.new past text (H.told host.old) (H.told host.new) result }
+        ensures finished { (set : QuerySet) (past : Course) (text : List ℕ) → SessionStandsFor self.old set past text → Finishes self.new set past text (H.told host.old) (H.told host.new) result }
         ensures ended { self.new.ended ≡ true }
-        ensures queries { KeepsQueries self.old self.new }
+        ensures limit { self.new.limit ≡ self.old.limit }
         ensures quiet { BlamesWriting result (H.told host.old) (H.told host.new) }
         ensures same { SameButOutput (H.told host.old) (H.told host.new) }
         ensures tests { FinishesWithin self.old steps.old steps.new }
@@ -194,7 +200,7 @@ impl Session {
         work_on_rest(
             alloc,
             host,
-            &self.catalogue,
+            &mut self.catalogue,
             &self.feed,
             &mut self.work,
             steps,
@@ -205,10 +211,14 @@ impl Session {
 /// An engine over the merged network of the queries, which has heard nothing.
 pub(crate) fn engine_of(alloc: Global, catalogue: &Catalogue) -> Result<Engine, Memory>
     requires { IsUnchanged catalogue.now }
-    ensures planned { IfOk result (IsPlanned catalogue.now) }
+    ensures at_one { IfOk result (AreAtOne catalogue.now) }
     ensures none_closed { IfOk result (λ engine. engine.closed_time ≡ None) }
+    ensures none_open { IfOk result (λ engine. engine.time ≡ None) }
+    ensures laid { IfOk result (λ engine. IsLayoutOver catalogue.now.streams (catalogues.program_in catalogue.now) engine.layout) }
     ensures stands { IfOk result (λ engine. engines.EngineStandsFor engine (lines_over catalogue.now) []) }
 {
+    // The queries of a catalogue stand in order.
+    let _queries = catalogue.queries();
     let merged = Merged::of(alloc, catalogue.lines())?;
     let layout = catalogue.layout().copy(alloc)?;
     Engine::make(alloc, merged, layout)

@@ -4,8 +4,8 @@ use event_types::StreamId;
 use result_text::{Fronts, Rows, Tails};
 
 /// What was heard, the rows of closed epochs that aren't written yet, the tails of rows and their fronts, which the
-/// first closing with entries makes, and the stream of the event that was taken last, where the next line's name is
-/// looked for first. Before any event, that is stream 0.
+/// first closing with entries makes, the stream of the event that was taken last, where the next line's name is
+/// looked for first, and a time after which no query was born. Before any event, the stream is 0.
 #[derive(Drop)]
 pub struct Work {
     pub engine: Engine,
@@ -13,4 +13,5 @@ pub struct Work {
     pub tails: Tails,
     pub fronts: Fronts,
     pub near: StreamId,
+    pub born: Option<u64>,
 }

@@ -9,7 +9,7 @@ ghost use Rattle.epoch_draft.specs.Made.{placed};
 ghost use Rattle.result_text.specs.Front.{front_of};
 ghost use Rattle.result_text.specs.Tails.{AreIn};
 ghost use Rattle.session.specs.BatchLines.{batch_lines};
-ghost use Rattle.session.specs.EngineStandsWithLastOpen.{AreFronts, program_over};
+ghost use Rattle.session.specs.Standing.{AreFronts, program_over};
 ghost use Rattle.session.specs.Owes.{Owes};
 
 use catalogue::Catalogue;

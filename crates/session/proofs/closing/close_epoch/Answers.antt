@@ -1,5 +1,5 @@
 use Rattle.std.proofs.Common.{◌∙◌, sym, subst}
-use Rattle.session.specs.EngineStandsWithLastOpen.{HasClosed}
+use Rattle.session.specs.Standing.{HasClosed}
 use Rattle.session.proofs.ClosedLemmas.{rows_closed, still_stands}
 use Rattle.session.proofs.PlanLemmas.{batch_count}
 use Rattle.session.proofs.TestsLemmas.{open_rises}
@@ -7,12 +7,12 @@ use Rattle.session.proofs.closing.close_epoch.Goals as goal
 
 -- the batch has a list for each query
 pub put_batch-requires-clause-count : goal.put_batch-requires-clause-count
-put_batch-requires-clause-count g c = batch_count c.args.catalogue.now c.args.work.now.engine c.close.new.self c.in_ok-batch.batch c.requires.at_work.planned c.in_ok-batch.ensures.closed
+put_batch-requires-clause-count g c = batch_count c.args.catalogue.now c.requires.at_work.in_order c.args.work.now.engine c.close.new.self c.in_ok-batch.batch c.requires.at_work.at_one c.in_ok-batch.ensures.closed
 
 -- the rows of the epoch were put
 pub returns-clause-rows : goal.returns-clause-rows
 returns-clause-rows g c = λ history stands.
-    rows_closed c.args.catalogue.now c.put_batch.ensures.in_order c.args.work.now.engine c.close.new.self c.in_ok-batch.batch c.requires.at_work.planned c.in_ok-batch.ensures.closed history stands
+    rows_closed c.args.catalogue.now c.requires.at_work.in_order c.args.work.now.engine c.close.new.self c.in_ok-batch.batch c.requires.at_work.at_one c.in_ok-batch.ensures.closed history stands
     c.args.work.now.rows c.put_batch.new.rows c.in_ok-put_batch.ensures.put
 
 -- the epoch is closed
@@ -23,15 +23,15 @@ returns-clause-closed g c =
       plan = c.in_ok-batch.ensures.plan;
       none_open = closes.none_open;
       now_closed = closes.now_closed ∙ sym closes.was_open;
-      stands = λ history stands. still_stands c.args.catalogue.now c.put_batch.ensures.in_order c.args.work.now.engine c.close.new.self c.in_ok-batch.batch c.requires.at_work.planned closes history stands c.in_ok-batch.ensures.plan;
+      stands = λ history stands. still_stands c.args.catalogue.now c.requires.at_work.in_order c.args.work.now.engine c.close.new.self c.in_ok-batch.batch c.requires.at_work.at_one closes history stands c.in_ok-batch.ensures.plan;
     })
 
 -- it tests no more than the epoch asks for
 pub returns-in_err-batch-clause-tests : goal.returns-in_err-batch-clause-tests
-returns-in_err-batch-clause-tests g c = open_rises c.args.catalogue.now c.args.work.now.engine c.args.steps.now c.close.new.steps c.requires.at_work.planned c.requires.opened c.close.ensures.work
+returns-in_err-batch-clause-tests g c = open_rises c.args.catalogue.now c.requires.at_work.in_order c.args.work.now.engine c.args.steps.now c.close.new.steps c.requires.at_work.at_one c.requires.opened c.close.ensures.work
 
 pub returns-in_err-put_batch-clause-tests : goal.returns-in_err-put_batch-clause-tests
-returns-in_err-put_batch-clause-tests g c = open_rises c.args.catalogue.now c.args.work.now.engine c.args.steps.now c.close.new.steps c.requires.at_work.planned c.requires.opened c.close.ensures.work
+returns-in_err-put_batch-clause-tests g c = open_rises c.args.catalogue.now c.requires.at_work.in_order c.args.work.now.engine c.args.steps.now c.close.new.steps c.requires.at_work.at_one c.requires.opened c.close.ensures.work
 
 pub returns-clause-tests : goal.returns-clause-tests
-returns-clause-tests g c = open_rises c.args.catalogue.now c.args.work.now.engine c.args.steps.now c.close.new.steps c.requires.at_work.planned c.requires.opened c.close.ensures.work
+returns-clause-tests g c = open_rises c.args.catalogue.now c.requires.at_work.in_order c.args.work.now.engine c.args.steps.now c.close.new.steps c.requires.at_work.at_one c.requires.opened c.close.ensures.work

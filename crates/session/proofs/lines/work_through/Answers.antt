@@ -1,8 +1,8 @@
 use Rattle.std.proofs.Common.{◌∙◌, false, refl}
 use Rattle.std.proofs.lemmas.Result.{err_from_is_err_and}
 use Rattle.cay_host.proofs.OutputLemmas.{SameButOutput-trans}
-use Rattle.session.specs.Readings.{readings_left}
-use Rattle.session.specs.EngineStandsWithLastOpen.{program_over}
+use Rattle.event_csv.specs.Fed.{unread_lines}
+use Rattle.session.specs.Owes.{stage_at}
 use Rattle.session.proofs.LinesLemmas.{Gone-trans}
 use Rattle.session.proofs.OwesLemmas.{advances_stops, goes_further}
 use Rattle.session.proofs.TestsLemmas.{moved_rises, moves_further}
@@ -27,18 +27,17 @@ returns-then-not-branch-clause-gone g c = Gone-trans c.lines.invariant.gone c.wo
 pub returns-in_err-work_on_line-clause-stops : goal.returns-in_err-work_on_line-clause-stops
 returns-in_err-work_on_line-clause-stops g c =
     let told = g.H.Host.told in
-    let streams = c.args.catalogue.now.streams in
     let p = err_from_is_err_and c.from_residual.result c.from_residual.ensures.1 in
     rw (p.1, p.2) (λ history stands. let gone = c.lines.invariant.goes_on history stands in
-    advances_stops (program_over c.args.catalogue.now) false (readings_left streams c.args.feed.now false) (readings_left streams c.lines.feed false) history gone.heard
-    c.args.work.now c.lines.work (told c.args.host.now) (told c.lines.host) (told c.work_on_line.new.host) _
+    advances_stops false (unread_lines c.args.feed.now false) (unread_lines c.lines.feed false) (stage_at c.args.catalogue.now c.args.work.now history) (stage_at c.lines.catalogue c.lines.work gone.heard)
+    (told c.args.host.now) (told c.lines.host) (told c.work_on_line.new.host) _
     c.lines.invariant.same.later gone.advances (c.in_err-work_on_line.ensures.stops gone.heard gone.stands))
 
 -- no more was tested than the lines ask for
 pub returns-then-not-branch-clause-tests : goal.returns-then-not-branch-clause-tests
 returns-then-not-branch-clause-tests g c =
-    moved_rises c.args.catalogue.now c.args.feed.now c.lines.feed c.args.work.now.engine c.lines.work.engine c.args.steps.now c.lines.steps c.work_on_line.new.steps c.lines.invariant.tests c.work_on_line.ensures.tests
+    moved_rises c.args.catalogue.now c.lines.catalogue c.args.feed.now c.lines.feed c.args.work.now.engine c.lines.work.engine c.args.steps.now c.lines.steps c.work_on_line.new.steps c.lines.invariant.tests c.work_on_line.ensures.tests
 
 pub returns-in_err-work_on_line-clause-tests : goal.returns-in_err-work_on_line-clause-tests
 returns-in_err-work_on_line-clause-tests g c =
-    moved_rises c.args.catalogue.now c.args.feed.now c.lines.feed c.args.work.now.engine c.lines.work.engine c.args.steps.now c.lines.steps c.work_on_line.new.steps c.lines.invariant.tests c.work_on_line.ensures.tests
+    moved_rises c.args.catalogue.now c.lines.catalogue c.args.feed.now c.lines.feed c.args.work.now.engine c.lines.work.engine c.args.steps.now c.lines.steps c.work_on_line.new.steps c.lines.invariant.tests c.work_on_line.ensures.tests

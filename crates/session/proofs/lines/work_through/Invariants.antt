@@ -1,19 +1,19 @@
 use Rattle.std.proofs.Common.{◌≡◌, length, false, List}
 use Rattle.cay_host.specs.Output.{SameButOutput}
 use Rattle.semantics.specs.Histories.{Event}
-use Rattle.session.specs.Readings.{readings_left}
-use Rattle.session.specs.EngineStandsWithLastOpen.{IsAtWork, EngineStandsWithLastOpen}
+use Rattle.event_csv.specs.Fed.{unread_lines}
+use Rattle.session.specs.Standing.{IsAtWork, StandsFor, moment_at}
 use Rattle.session.specs.HandsOutSomeLines.{HandsOutSomeLines}
-use Rattle.session.specs.Owes.{GoesOn}
+use Rattle.session.specs.Owes.{GoesOn, stage_at}
 use Rattle.session.specs.TestsLeft.{TestsGoOn}
 use Rattle.session.proofs.lines.work_through.Given as goal
 
 abbrev pub invariant-lines : goal.invariant-lines
 invariant-lines g l = record {
-  goes_on : (history : List Event) → EngineStandsWithLastOpen l.catalogue history l.initial.work.engine
-      → GoesOn l.catalogue (readings_left l.catalogue.streams l.initial.feed false) (readings_left l.catalogue.streams l.feed false) history l.initial.work l.work (g.H.Host.told l.initial.host) (g.H.Host.told l.host);
-  tests : (history : List Event) → EngineStandsWithLastOpen l.catalogue history l.initial.work.engine
-      → TestsGoOn l.catalogue (readings_left l.catalogue.streams l.initial.feed false) (readings_left l.catalogue.streams l.feed false) history l.initial.work.engine l.work.engine l.initial.steps l.steps;
+  goes_on : (history : List Event) → StandsFor l.initial.catalogue history l.initial.work.engine
+      → GoesOn (unread_lines l.initial.feed false) (unread_lines l.feed false) (stage_at l.initial.catalogue l.initial.work history) l.catalogue l.work (g.H.Host.told l.initial.host) (g.H.Host.told l.host);
+  tests : (history : List Event) → StandsFor l.initial.catalogue history l.initial.work.engine
+      → TestsGoOn (unread_lines l.initial.feed false) (unread_lines l.feed false) (moment_at l.initial.catalogue l.initial.work.engine) history l.catalogue l.work.engine l.initial.steps l.steps;
   at_work : IsAtWork l.catalogue l.work;
   gone : HandsOutSomeLines l.initial.feed l.feed;
   quiet : (g.H.Host.told l.host).write_faults ≡ (g.H.Host.told l.initial.host).write_faults;
@@ -21,4 +21,4 @@ invariant-lines g l = record {
 }
 
 abbrev pub decreases-lines : goal.decreases-lines
-decreases-lines g l = length (readings_left l.catalogue.streams l.feed false)
+decreases-lines g l = length (unread_lines l.feed false)

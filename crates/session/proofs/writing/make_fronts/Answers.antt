@@ -12,4 +12,4 @@ queries-preserved c =
     let name = c.name.result.now in
     let named = subst (λ n. (query_in now n).name ≡ name) c.len-query.ensures
     (name_is now c.streams-streams.ensures.stands c.len-query.result c.stream_of-stream.result name (omega arith) c.stream_of-stream.ensures.value (rw c.streams-streams.ensures.value at c.name.ensures)) in
-    fronts_more now fronts c.push.new.self c.in_ok-front.front name c.queries.invariant c.in_ok-front.ensures named (of_ok c.push.result (sym c.is_err.ensures.value ∙ c.if-is_err.false) c.push.ensures.ok)
+    fronts_more now fronts c.push.new.self c.in_ok-front.front name c.queries.invariant (omega arith) c.in_ok-front.ensures named (of_ok c.push.result (sym c.is_err.ensures.value ∙ c.if-is_err.false) c.push.ensures.ok)

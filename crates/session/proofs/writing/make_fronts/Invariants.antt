@@ -1,5 +1,5 @@
 use Rattle.std.proofs.Common.{◌-◌, length}
-use Rattle.session.specs.EngineStandsWithLastOpen.{AreFronts}
+use Rattle.session.specs.Standing.{AreFronts}
 use Rattle.session.proofs.writing.make_fronts.Given as goal
 
 -- the fronts so far are those of the first queries

@@ -1,5 +1,7 @@
 use Rattle.std.proofs.Common.{ℕ, List, refl, subst}
 use Rattle.semantics.specs.Histories.{Event}
+use Rattle.courses.specs.Course.{Course}
+use Rattle.courses.specs.QuerySet.{QuerySet}
 use Rattle.splitter.specs.Chains.{work_order}
 use Rattle.epoch_laws.specs.Standing.{closed_part}
 use Rattle.epoch_engine.specs.Counts.{CountsAlive}
@@ -41,5 +43,5 @@ returns-clause-stands c =
     let e = c.self.inside in
     let old : SessionView = record { catalogue = e.catalogue; engine = e.work.engine; limit = e.limit; feed = e.feed; fed = e.fed; ended = e.ended } in
     let now = c.trim.new.self in
-    subst (λ (s : SessionView). (past : List Event) (text : List ℕ) → SessionStandsFor s past text → SessionStandsFor (with_engine old now) past text) c.self.view_is
-    (λ past text stands. stands_still old (with_engine old now) (trims_engine old now c.trim.ensures) past text stands)
+    subst (λ (s : SessionView). (set : QuerySet) (past : Course) (text : List ℕ) → SessionStandsFor s set past text → SessionStandsFor (with_engine old now) set past text) c.self.view_is
+    (λ set past text stands. stands_still old (with_engine old now) (trims_engine old now c.trim.ensures) set past text stands)

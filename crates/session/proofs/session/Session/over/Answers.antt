@@ -1,6 +1,7 @@
 use Rattle.std.proofs.Common.{◌≤◌, sym, subst, refl, arith}
+use Rattle.catalogue.specs.Coming.{IsLatest}
 use Rattle.event_csv.specs.Fed.{Fed, IsPart, line_feeds_so_far}
-use Rattle.session.specs.EngineStandsWithLastOpen.{AreFronts}
+use Rattle.session.specs.Standing.{AreFronts}
 use Rattle.session.proofs.BatchLinesLemmas.{no_fronts}
 use Rattle.session.proofs.SessionLemmas.{begins, unfed_part}
 use Rattle.session.proofs.session.Session.over.Goals as goal
@@ -8,7 +9,7 @@ use Rattle.session.proofs.session.Session.over.Goals as goal
 -- the session may go on
 pub invariant_of-result : goal.invariant_of-result
 invariant_of-result c = λ going. record {
-  at_work = record { planned = record { lines = c.requires.lines; layout = c.requires.layout }; fronts = subst (AreFronts c.args.catalogue) (sym c.new-3.ensures) (no_fronts c.args.catalogue); opened = c.requires.opened };
+  at_work = record { in_order = c.queries-queries.ensures.stands; at_one = c.requires.at_one; born = subst (λ time. IsLatest time c.args.catalogue) (sym c.last_closed-born.ensures) c.requires.born; fronts = subst (AreFronts c.args.catalogue) (sym c.new-3.ensures) (no_fronts c.args.catalogue) };
   none_owed = c.new.ensures;
   within = omega arith;
   counted = subst (λ (feed : Fed). line_feeds_so_far feed ≤ 0) (sym c.new-4.ensures) (omega arith);
@@ -17,4 +18,4 @@ invariant_of-result c = λ going. record {
 
 -- it stands for what its engine stands for
 pub returns-clause-stands : goal.returns-clause-stands
-returns-clause-stands c = λ past declared stands. begins _ past refl refl c.new-4.ensures declared c.requires.layout c.requires.opened stands
+returns-clause-stands c = λ set past sound holds declared stands opened. begins _ set past refl refl c.new-4.ensures sound holds declared c.requires.at_one c.requires.layout stands opened
