@@ -3,7 +3,7 @@ use Rattle.std.proofs.Common.{◌≡◌, refl, subst, ℕ, false}
 use Rattle.cay_host.specs.declared.side.Side.{Side}
 use Rattle.cay_host.specs.Told.{Told}
 use Rattle.cayuga_run.specs.declared.status.Status.{Status}
-use Rattle.cayuga_run.specs.declared.status.Status.TheVariants.{Done, Usage, BadQuery, Cycle, BadEvent, OutOfOrder, AttachFault, ReadFault, WriteFault, TooMuch, Memory}
+use Rattle.cayuga_run.specs.declared.status.Status.TheVariants.{Done, Usage, BadQuery, Cycle, BadEvent, OutOfOrder, AttachFault, ReadFault, WriteFault, TooMuch, Memory, BadControl}
 use Rattle.cayuga_run.specs.Answers.{Answers}
 use Rattle.cayuga_run.specs.Blaming.{BlamesHost}
 use Rattle.cayuga_run.specs.LoadOutcome.{LoadOutcome}
@@ -25,6 +25,7 @@ without_work limit old new Usage same blames reads sides = record {
   bad_query = λ line why e. cc;
   cycle = λ names e. cc;
   bad_event = λ line why e. cc;
+  bad_control = λ line why e. cc;
   out_of_order = λ line at seen e. cc;
   too_much = λ most e. cc;
   attach_fault = λ side e. cc;
@@ -45,6 +46,7 @@ without_work limit old new Memory same blames reads sides = record {
   bad_query = λ line why e. cc;
   cycle = λ names e. cc;
   bad_event = λ line why e. cc;
+  bad_control = λ line why e. cc;
   out_of_order = λ line at seen e. cc;
   too_much = λ most e. cc;
   attach_fault = λ side e. cc;
@@ -67,6 +69,7 @@ without_work limit old new (AttachFault side) same blames reads sides = absurd s
 without_work limit old new (ReadFault side) same blames reads sides = absurd same
 without_work limit old new WriteFault same blames reads sides = absurd same
 without_work limit old new (TooMuch most) same blames reads sides = absurd same
+without_work limit old new (BadControl line why) same blames reads sides = absurd same
 
 -- the answers, by what is asked for
 pub answers : (work : Work) (limit : ℕ) (old new : Told) (status : Status) → Outcome work limit old new status → BlamesHost old new status → Reads work limit old new → ((side : Side) → has_side work side ≡ false → new.attached side ≡ false) → Answers work limit old new status
@@ -78,6 +81,7 @@ answers (Reports run) limit old new status o blames reads sides = record {
   bad_query = λ line why e. subst (RunOutcome run limit old new) e o;
   cycle = λ names e. subst (RunOutcome run limit old new) e o;
   bad_event = λ line why e. subst (RunOutcome run limit old new) e o;
+  bad_control = λ line why e. subst (RunOutcome run limit old new) e o;
   out_of_order = λ line at seen e. subst (RunOutcome run limit old new) e o;
   too_much = λ most e. subst (RunOutcome run limit old new) e o;
   attach_fault = λ side e. subst (RunOutcome run limit old new) e o;
@@ -98,6 +102,7 @@ answers (Writes writing) limit old new status o blames reads sides = record {
   bad_query = λ line why e. subst (WritingOutcome writing old new) e o;
   cycle = λ names e. subst (WritingOutcome writing old new) e o;
   bad_event = λ line why e. subst (WritingOutcome writing old new) e o;
+  bad_control = λ line why e. subst (WritingOutcome writing old new) e o;
   out_of_order = λ line at seen e. subst (WritingOutcome writing old new) e o;
   too_much = λ most e. absurd (subst (WritingOutcome writing old new) e o);
   attach_fault = λ side e. subst (WritingOutcome writing old new) e o;
@@ -118,6 +123,7 @@ answers (Loads load) limit old new status o blames reads sides = record {
   bad_query = λ line why e. subst (LoadOutcome load old new) e o;
   cycle = λ names e. subst (LoadOutcome load old new) e o;
   bad_event = λ line why e. subst (LoadOutcome load old new) e o;
+  bad_control = λ line why e. subst (LoadOutcome load old new) e o;
   out_of_order = λ line at seen e. subst (LoadOutcome load old new) e o;
   too_much = λ most e. absurd (subst (LoadOutcome load old new) e o).0;
   attach_fault = λ side e. (subst (LoadOutcome load old new) e o).0;

@@ -8,24 +8,21 @@ use Rattle.cay_host.specs.Input.{SameButRead, Took}
 use Rattle.cay_host.specs.Output.{SameButOutput, Wrote, WrotePart}
 use Rattle.cay_host.specs.Told.{Told}
 use Rattle.cay_host.proofs.OutputLemmas.{Wrote-nil}
-use Rattle.semantics.specs.Report.{report}
 use Rattle.event_csv.specs.Lines.{Line, lines, lines_from}
 use Rattle.event_csv.proofs.LineFacts.{strip_bom-short}
-use Rattle.catalogue.specs.Judgement.{Judged, program_of}
+use Rattle.courses.specs.declared.refusal.Refusal.{Refusal}
+use Rattle.courses.specs.declared.refusal.Refusal.TheVariants.{HasFault, HasControlFault, IsOutOfOrder}
+use Rattle.courses.specs.Heard.{closed_after}
+use Rattle.courses.specs.QuerySet.{QuerySet}
+use Rattle.courses.specs.Reports.{course_report, refused_in, report_of_closed}
 use Rattle.session.specs.declared.fault.SessionFault.{SessionFault}
 use Rattle.session.specs.declared.fault.SessionFault.TheVariants as fault
-use Rattle.session.specs.declared.refusal.Refusal.{Refusal}
-use Rattle.session.specs.declared.refusal.Refusal.TheVariants.{HasFault, IsOutOfOrder}
 use Rattle.session.specs.Feeds.{BlamesWriting, Feeds, Finishes, StopsAt, StopsAtPiece}
-use Rattle.session.specs.Heard.{closed}
-use Rattle.session.specs.Readings.{reading_of}
 use Rattle.session.specs.WroteFront.{Beyond, WroteFront}
-use Rattle.session.specs.SessionView.{HasFinished, KeepsQueries, SessionStandsFor, SessionView, report_in}
+use Rattle.session.specs.SessionView.{HasFinished, SessionStandsFor, SessionView}
 use Rattle.cayuga_run.specs.declared.status.Status.TheVariants.{Done, ReadFault}
 use Rattle.cayuga_run.specs.Blaming.{BlamesHost}
 use Rattle.cayuga_run.specs.HearingOutcome.{Hears, HearsAlone, HearsUpTo, TakesEvents, status_of}
-use Rattle.cayuga_run.specs.Listening.{Listening, listening_of, listening_over, refused_by, reported_by}
-use Rattle.cayuga_run.specs.Reports.{refused_in, report_of_closed}
 use Rattle.cayuga_run.specs.StoppedWriting.{StoppedWriting}
 use Rattle.cayuga_run.proofs.BlamingLemmas.{SameFaults, blames_none}
 use Rattle.cayuga_run.proofs.WroteLemmas.{front_beyond, part_beyond, wrote_beyond}
@@ -41,44 +38,41 @@ front_of_none None = refl
 front_of_none (Some rest) = refl
 
 -- so many bytes of the events were taken and heard: the session stands for them, and the report of the epochs that they close was written
-pub record HasHeard (judged : Judged) (limit taken : ℕ) (session : SessionView) (old now : Told) : Type 0 where
+pub record HasHeard (set : QuerySet) (limit taken : ℕ) (session : SessionView) (old now : Told) : Type 0 where
   pub bytes : List ℕ
   pub counted : length bytes ≡ taken
-  pub stands : SessionStandsFor session [] bytes
-  pub queries : listening_over session.catalogue ≡ listening_of judged
+  pub stands : SessionStandsFor session set [] bytes
   pub most : session.limit ≡ limit
   pub front : old.left Events ≡ prepend_known bytes (now.left Events)
-  pub wrote : Wrote (report_of_closed judged bytes false) old now
+  pub wrote : Wrote (report_of_closed set bytes false) old now
   pub alone : HearsAlone old now
   pub faults : SameFaults old now
 
 -- one more piece was read than was heard
-pub record HasTaken (judged : Judged) (limit : ℕ) (bytes piece : List ℕ) (session : SessionView) (old now : Told) : Type 0 where
-  pub stands : SessionStandsFor session [] bytes
-  pub queries : listening_over session.catalogue ≡ listening_of judged
+pub record HasTaken (set : QuerySet) (limit : ℕ) (bytes piece : List ℕ) (session : SessionView) (old now : Told) : Type 0 where
+  pub stands : SessionStandsFor session set [] bytes
   pub most : session.limit ≡ limit
   pub few : length piece ≤ 65536
   pub front : old.left Events ≡ prepend_known (bytes ++ piece) (now.left Events)
-  pub wrote : Wrote (report_of_closed judged bytes false) old now
+  pub wrote : Wrote (report_of_closed set bytes false) old now
   pub alone : HearsAlone old now
   pub faults : SameFaults old now
 
 -- no bytes close an epoch
-pub nothing_closed : (judged : Judged) → report_of_closed judged [] false ≡ []
-nothing_closed judged =
+pub nothing_closed : (set : QuerySet) → report_of_closed set [] false ≡ []
+nothing_closed set =
     let none : lines [] false ≡ [] = ap (λ text. lines_from 0 false text false) (strip_bom-short [] (omega arith)) in
-    ap (λ (found : List Line). report (program_of judged) (closed (map (reading_of judged.streams) found) false)) none
+    ap (λ (found : List Line). course_report set (closed_after set [] found false)) none
 
 -- nothing was read yet
-unfoldable pub heard_none : (judged : Judged) (limit : ℕ) (session : SessionView) (told : Told) → SessionStandsFor session [] [] → listening_over session.catalogue ≡ listening_of judged → session.limit ≡ limit → HasHeard judged limit 0 session told told
-heard_none judged limit session told stands queries most = record {
+unfoldable pub heard_none : (set : QuerySet) (limit : ℕ) (session : SessionView) (told : Told) → SessionStandsFor session set [] [] → session.limit ≡ limit → HasHeard set limit 0 session told told
+heard_none set limit session told stands most = record {
   bytes = [];
   counted = refl;
   stands = stands;
-  queries = queries;
   most = most;
   front = front_of_none (told.left Events);
-  wrote = subst (λ t. Wrote t told told) (sym (nothing_closed judged)) (Wrote-nil told);
+  wrote = subst (λ t. Wrote t told told) (sym (nothing_closed set)) (Wrote-nil told);
   alone = record { attached = refl; queries = refl };
   faults = record { attach = refl; read = refl; write = refl };
 }
@@ -88,16 +82,15 @@ pub piece_is : {old new : Option (List ℕ)} (size : ℕ) (buffer rest : List �
 piece_is size buffer rest took = ap length (take-append-le size buffer rest took.fits) ∙ length-take-le size buffer took.fits
 
 -- the bytes that were heard are within the limit
-pub heard_within : {judged : Judged} {limit taken : ℕ} {session : SessionView} {old now : Told} → HasHeard judged limit taken session old now → taken ≤ limit
+pub heard_within : {set : QuerySet} {limit taken : ℕ} {session : SessionView} {old now : Told} → HasHeard set limit taken session old now → taken ≤ limit
 heard_within h = let within = h.stands.within in let most = h.most in let counted = h.counted in omega (arith, within, most, counted)
 
-module _ {judged : Judged} {limit taken : ℕ} {session : SessionView} {old now next : Told} (h : HasHeard judged limit taken session old now) where
+module _ {set : QuerySet} {limit taken : ℕ} {session : SessionView} {old now next : Told} (h : HasHeard set limit taken session old now) where
   -- a piece was read to the front of a buffer
   pub taken_more : (size : ℕ) (buffer rest : List ℕ) → length buffer ≤ 65536 → Took size buffer (now.left Events) (next.left Events) → SameButRead Events now next → next.read_faults ≡ now.read_faults
-      → HasTaken judged limit h.bytes (take size (buffer ++ rest)) session old next
+      → HasTaken set limit h.bytes (take size (buffer ++ rest)) session old next
   taken_more size buffer rest room took same quiet = record {
     stands = h.stands;
-    queries = h.queries;
     most = h.most;
     few = let fits = took.fits in let size_is = length-take size (buffer ++ rest) in omega (arith, room, fits, size_is);
     front = front_of_both h.bytes (take size (buffer ++ rest)) (old.left Events) (now.left Events) (next.left Events) h.front
@@ -108,7 +101,7 @@ module _ {judged : Judged} {limit taken : ℕ} {session : SessionView} {old now 
   }
 
   -- a read failed
-  pub read_failed : next.left ≡ now.left → Rose now.read_faults next.read_faults → SameButRead Events now next → Hears judged limit session old next (ReadFault Events)
+  pub read_failed : next.left ≡ now.left → Rose now.read_faults next.read_faults → SameButRead Events now next → Hears set limit session old next (ReadFault Events)
   read_failed kept rose same =
       let few = take_all limit h.bytes (subst (λ n. length h.bytes ≤ n) h.most h.stands.within) in (
         refl,
@@ -118,8 +111,8 @@ module _ {judged : Judged} {limit taken : ℕ} {session : SessionView} {old now 
           subst (λ n. length h.bytes ≤ n) h.most h.stands.within,
           record {
             takes = record { front = h.front ∙ ap (λ f. prepend_known h.bytes (f Events)) (sym kept); whole = λ e. cc };
-            refused = ap (λ t. refused_in judged t false) few ∙ subst (λ (l : Listening). refused_by l h.bytes false ≡ None) h.queries h.stands.none_refused;
-            wrote = subst (λ t. Wrote (report_of_closed judged t false) old next) (sym few) (record { written = same.written ∙ h.wrote.written; lines = same.lines ∙ h.wrote.lines });
+            refused = ap (λ t. refused_in set t false) few ∙ h.stands.none_refused;
+            wrote = subst (λ t. Wrote (report_of_closed set t false) old next) (sym few) (record { written = same.written ∙ h.wrote.written; lines = same.lines ∙ h.wrote.lines });
           },
         ),
       )
@@ -136,7 +129,7 @@ module _ {judged : Judged} {limit taken : ℕ} {session : SessionView} {old now 
   pub alone_read : SameButRead Events now next → HearsAlone old next
   alone_read same = record { attached = same.attached ∙ h.alone.attached; queries = ap (λ f. f Queries) same.others ∙ h.alone.queries }
 
-module _ {judged : Judged} {limit : ℕ} {bytes piece : List ℕ} {session : SessionView} {old now next : Told} (t : HasTaken judged limit bytes piece session old now) (same : SameButOutput now next) where
+module _ {set : QuerySet} {limit : ℕ} {bytes piece : List ℕ} {session : SessionView} {old now next : Told} (t : HasTaken set limit bytes piece session old now) (same : SameButOutput now next) where
   -- nor does a write
   pub alone_written : HearsAlone old next
   alone_written = record { attached = same.attached ∙ t.alone.attached; queries = ap (λ f. f Queries) same.left ∙ t.alone.queries }
@@ -150,16 +143,15 @@ module _ {judged : Judged} {limit : ℕ} {bytes piece : List ℕ} {session : Ses
   same_faults quiet = record { attach = same.attach_faults ∙ t.faults.attach; read = same.read_faults ∙ t.faults.read; write = quiet ∙ t.faults.write }
 
   -- the piece was heard
-  unfoldable pub heard_more : (after : SessionView) (taken size : ℕ) → length bytes ≡ taken → length piece ≡ size → Feeds session after [] bytes piece now next → KeepsQueries session after → next.write_faults ≡ now.write_faults
-      → HasHeard judged limit (taken + size) after old next
+  unfoldable pub heard_more : (after : SessionView) (taken size : ℕ) → length bytes ≡ taken → length piece ≡ size → Feeds after set [] bytes piece now next → after.limit ≡ session.limit → next.write_faults ≡ now.write_faults
+      → HasHeard set limit (taken + size) after old next
   heard_more after taken size counted sized feeds keeps quiet = record {
     bytes = bytes ++ piece;
     counted = let both = length-append bytes piece in omega (arith, both, counted, sized);
     stands = feeds.stands;
-    queries = ap listening_over keeps.catalogue ∙ t.queries;
-    most = keeps.limit ∙ t.most;
+    most = keeps ∙ t.most;
     front = front_written;
-    wrote = wrote_beyond t.wrote (subst (λ (l : Listening). Beyond Wrote (reported_by l bytes false) (reported_by l (bytes ++ piece) false) now next) t.queries feeds.wrote);
+    wrote = wrote_beyond t.wrote feeds.wrote;
     alone = alone_written;
     faults = same_faults quiet;
   }
@@ -167,6 +159,7 @@ module _ {judged : Judged} {limit : ℕ} {bytes piece : List ℕ} {session : Ses
   -- a fault ended the session
   pub blames_fault : (fault : SessionFault) → BlamesWriting (Err fault) now next → BlamesHost old next (status_of fault)
   blames_fault (fault.Refused (HasFault line why)) quiet = blames_none _ (same_faults quiet)
+  blames_fault (fault.Refused (HasControlFault line why)) quiet = blames_none _ (same_faults quiet)
   blames_fault (fault.Refused (IsOutOfOrder line at seen)) quiet = blames_none _ (same_faults quiet)
   blames_fault (fault.TooMuch most) quiet = blames_none _ (same_faults quiet)
   blames_fault fault.WriteFault quiet = record {
@@ -188,21 +181,20 @@ module _ {judged : Judged} {limit : ℕ} {bytes piece : List ℕ} {session : Ses
     takes : TakesEvents limit (bytes ++ piece) ended old next
     takes = record { front = front_written; whole = λ e. (within_all e, (all e).1) }
 
-    refusal_is : (o : Option Refusal) → refused_by (listening_over session.catalogue) text ended ≡ o → refused_in judged (take limit (bytes ++ piece)) ended ≡ o
-    refusal_is o e = subst (λ x. refused_in judged x ended ≡ o) cut (subst (λ (l : Listening). refused_by l text ended ≡ o) t.queries e)
+    refusal_is : (o : Option Refusal) → refused_in set text ended ≡ o → refused_in set (take limit (bytes ++ piece)) ended ≡ o
+    refusal_is o e = subst (λ x. refused_in set x ended ≡ o) cut e
 
-    beyond : (W : List ℕ → Told → Told → Type 0) → Beyond W (report_in session [] bytes false) (report_in session [] text ended) now next
-        → Beyond W (report_of_closed judged bytes false) (report_of_closed judged (take limit (bytes ++ piece)) ended) now next
+    beyond : (W : List ℕ → Told → Told → Type 0) → Beyond W (report_of_closed set bytes false) (report_of_closed set text ended) now next
+        → Beyond W (report_of_closed set bytes false) (report_of_closed set (take limit (bytes ++ piece)) ended) now next
     beyond W w =
-        subst (λ x. Beyond W (report_of_closed judged bytes false) (report_of_closed judged x ended) now next) cut
-        (subst (λ (l : Listening). Beyond W (reported_by l bytes false) (reported_by l text ended) now next) t.queries w)
+        subst (λ x. Beyond W (report_of_closed set bytes false) (report_of_closed set x ended) now next) cut w
 
-    heard_up_to : (o : Option Refusal) → refused_by (listening_over session.catalogue) text ended ≡ o → Beyond Wrote (report_in session [] bytes false) (report_in session [] text ended) now next
-        → HearsUpTo judged limit (bytes ++ piece) ended o old next
+    heard_up_to : (o : Option Refusal) → refused_in set text ended ≡ o → Beyond Wrote (report_of_closed set bytes false) (report_of_closed set text ended) now next
+        → HearsUpTo set limit (bytes ++ piece) ended o old next
     heard_up_to o e w = record { takes = takes; refused = refusal_is o e; wrote = wrote_beyond t.wrote (beyond Wrote w) }
 
     -- the write that failed came when the piece or the end of the events was heard
-    stopped_writing : Beyond WrotePart (report_in session [] bytes false) (report_in session [] text ended) now next → StoppedWriting judged limit (old.left Events) old next
+    stopped_writing : Beyond WrotePart (report_of_closed set bytes false) (report_of_closed set text ended) now next → StoppedWriting set limit (old.left Events) old next
     stopped_writing w = record {
       before = bytes;
       piece = piece;
@@ -221,8 +213,9 @@ module _ {judged : Judged} {limit : ℕ} {bytes piece : List ℕ} {session : Ses
             let whole : x ≡ (bytes ++ piece) ++ rest = cc in
             whole ∙ ap (λ r. (bytes ++ piece) ++ r) nil ∙ append-nil (bytes ++ piece) ∙ ap (λ p. bytes ++ p) none ∙ append-nil bytes
 
-    stops : (after : SessionView) (fault : SessionFault) → StopsAt session [] bytes text ended now next fault → Hears judged limit after old next (status_of fault)
+    stops : (after : SessionView) (fault : SessionFault) → StopsAt set [] bytes text ended now next fault → Hears set limit after old next (status_of fault)
     stops after (fault.Refused (HasFault line why)) s = record { bytes = bytes ++ piece; ended = ended; heard = heard_up_to (Some (HasFault line why)) s.0 s.1 }
+    stops after (fault.Refused (HasControlFault line why)) s = record { bytes = bytes ++ piece; ended = ended; heard = heard_up_to (Some (HasControlFault line why)) s.0 s.1 }
     stops after (fault.Refused (IsOutOfOrder line at seen)) s = record { bytes = bytes ++ piece; ended = ended; heard = heard_up_to (Some (IsOutOfOrder line at seen)) s.0 s.1 }
     stops after (fault.TooMuch most) s = absurd s
     stops after fault.WriteFault s = (subst (λ n. Rose n next.write_faults) t.faults.write s.0, stopped_writing s.1)
@@ -232,7 +225,7 @@ module _ {judged : Judged} {limit : ℕ} {bytes piece : List ℕ} {session : Ses
   cut_within = ap (λ n. take n (bytes ++ piece)) t.most
 
   -- why the session stopped at the piece, as the outcome
-  pub stops_at_piece : length (bytes ++ piece) ≤ limit + 1 → (after : SessionView) (fault : SessionFault) → StopsAtPiece session [] bytes piece now next fault → Hears judged limit after old next (status_of fault)
+  pub stops_at_piece : length (bytes ++ piece) ≤ limit + 1 → (after : SessionView) (fault : SessionFault) → StopsAtPiece session set [] bytes piece now next fault → Hears set limit after old next (status_of fault)
   stops_at_piece room after (fault.TooMuch most) s = (
     s.0 ∙ t.most,
     (
@@ -256,14 +249,13 @@ module _ {judged : Judged} {limit : ℕ} {bytes piece : List ℕ} {session : Ses
     cut_whole = sym (ap (λ p. take limit (bytes ++ p)) none ∙ ap (take limit) (append-nil bytes) ∙ take_all limit bytes (subst (λ n. length bytes ≤ n) t.most t.stands.within))
 
     -- a session that has finished has heard all
-    pub hears_all : (after : SessionView) → KeepsQueries session after → Finishes session after [] bytes now next (Ok tt) → Hears judged limit after old next Done
-    hears_all after keeps s = record {
+    pub hears_all : (after : SessionView) → Finishes after set [] bytes now next (Ok tt) → Hears set limit after old next Done
+    hears_all after s = record {
       bytes = bytes ++ piece;
       heard = heard_up_to bytes true cut_whole (λ e. (none, nil_after)) None s.0 s.1;
-      queries = ap listening_over keeps.catalogue ∙ t.queries;
-      finished = subst (HasFinished after []) (sym (ap (λ p. bytes ++ p) none ∙ append-nil bytes)) s.2;
+      finished = subst (HasFinished after set []) (sym (ap (λ p. bytes ++ p) none ∙ append-nil bytes)) s.2;
     }
 
     -- one that stops at the end has its fault's status
-    pub stops_at_end : (after : SessionView) (fault : SessionFault) → Finishes session after [] bytes now next (Err fault) → Hears judged limit after old next (status_of fault)
+    pub stops_at_end : (after : SessionView) (fault : SessionFault) → Finishes after set [] bytes now next (Err fault) → Hears set limit after old next (status_of fault)
     stops_at_end after fault s = stops bytes true cut_whole (λ e. (none, nil_after)) after fault s

@@ -3,8 +3,8 @@ pub mod BlamingLemmas
 pub mod EndLemmas
 pub mod GrowingLemmas
 pub mod HearingLemmas
+pub mod HeldLemmas
 pub mod JudgementLemmas
-pub mod ListeningLemmas
 pub mod LoadAnswers
 pub mod LoadLemmas
 pub mod OutcomeLemmas

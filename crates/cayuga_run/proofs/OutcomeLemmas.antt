@@ -12,16 +12,18 @@ use Rattle.cay_host.specs.Output.{Wrote, KeepsOutput}
 use Rattle.cay_host.specs.Told.{Told}
 use Rattle.catalogue.specs.Judgement.{Verdict, Accepted, Accepts, Judged, Judges}
 use Rattle.catalogue.proofs.VerdictLemmas.{one_verdict}
-use Rattle.session.specs.declared.refusal.Refusal.{Refusal}
+use Rattle.courses.specs.declared.refusal.Refusal.{Refusal}
+use Rattle.courses.specs.QuerySet.{QuerySet, set_of}
+use Rattle.courses.specs.Reports.{refused_in, report_of_closed}
+use Rattle.courses.proofs.ClosedLemmas.{reports_grow}
 use Rattle.session.specs.WroteFront.{WroteFront}
 use Rattle.cayuga_run.specs.Accepting.{IsAcceptedWith}
 use Rattle.cayuga_run.specs.Begun.{HasAccepted}
 use Rattle.cayuga_run.specs.HearingOutcome.{HearsAlone, HearsFront, HearsRefused, HearsUpTo, TakesEvents}
-use Rattle.cayuga_run.specs.Reports.{refused_in, report_of_closed}
 use Rattle.cayuga_run.specs.RunOutcome.{AreThere, IsAttachFault, IsReadFault, AnswersRefusal, IsTooMuch, IsWriteFault, IsMemory, MemoryText, WritingStopped, is_whole}
 use Rattle.cayuga_run.specs.StoppedWriting.{StoppedWriting}
 use Rattle.cayuga_run.specs.Works.{Run}
-use Rattle.cayuga_run.proofs.GrowingLemmas.{more_bytes, report_grows_with_bytes}
+use Rattle.cayuga_run.proofs.GrowingLemmas.{more_bytes}
 use Rattle.cayuga_run.proofs.RunLemmas.{Wrote-after}
 use Rattle.cayuga_run.proofs.WroteLemmas.{front_of_more}
 
@@ -121,7 +123,7 @@ front limit bytes rest false whole = grown (take (limit - length bytes) rest) (t
 place : {limit : ℕ} {bytes : List ℕ} {ended : Bool} {mid new : Told} → TakesEvents limit bytes ended mid new → (rest : List ℕ) → new.left Events ≡ Some rest → Front limit bytes rest ended
 place {limit} {bytes} {ended} {mid} {new} takes rest left = front limit bytes rest ended (λ e. ((takes.whole e).0, at_end (new.left Events) rest (takes.whole e).1 left))
 
-module _ (judged : Judged) (limit : ℕ) (bytes rest : List ℕ) where
+module _ (set : QuerySet) (limit : ℕ) (bytes rest : List ℕ) where
   abbrev file : List ℕ
   file = take limit (bytes ++ rest)
 
@@ -129,20 +131,20 @@ module _ (judged : Judged) (limit : ℕ) (bytes rest : List ℕ) where
   whole = is_whole limit (bytes ++ rest)
 
   -- a refused line is the refused line of the file, and the report before it is that of the file
-  refused_front : (ended : Bool) (refusal : Refusal) → Front limit bytes rest ended → refused_in judged (take limit bytes) ended ≡ Some refusal
-      → (refused_in judged file whole ≡ Some refusal) × (report_of_closed judged (take limit bytes) ended ≡ report_of_closed judged file whole)
+  refused_front : (ended : Bool) (refusal : Refusal) → Front limit bytes rest ended → refused_in set (take limit bytes) ended ≡ Some refusal
+      → (refused_in set file whole ≡ Some refusal) × (report_of_closed set (take limit bytes) ended ≡ report_of_closed set file whole)
   refused_front true refusal (exact e f) r =
-      (ap (λ t. refused_in judged t whole) e ∙ ap (refused_in judged (take limit bytes)) f ∙ r, ap (report_of_closed judged (take limit bytes)) (sym f) ∙ ap (λ t. report_of_closed judged t whole) (sym e))
+      (ap (λ t. refused_in set t whole) e ∙ ap (refused_in set (take limit bytes)) f ∙ r, ap (report_of_closed set (take limit bytes)) (sym f) ∙ ap (λ t. report_of_closed set t whole) (sym e))
   refused_front false refusal (grown more e) r =
-      let here = more_bytes judged (take limit bytes) more whole refusal r in
-      (ap (λ t. refused_in judged t whole) e ∙ here.0, here.1 ∙ ap (λ t. report_of_closed judged t whole) (sym e))
+      let here = more_bytes set (take limit bytes) more whole refusal r in
+      (ap (λ t. refused_in set t whole) e ∙ here.0, here.1 ∙ ap (λ t. report_of_closed set t whole) (sym e))
 
   -- the report of the file begins with that of what was heard
-  report_front : (ended : Bool) → Front limit bytes rest ended → (more : List ℕ) × (report_of_closed judged file whole ≡ report_of_closed judged (take limit bytes) ended ++ more)
-  report_front true (exact e f) = ([], ap (λ t. report_of_closed judged t whole) e ∙ ap (report_of_closed judged (take limit bytes)) f ∙ sym (append-nil _))
+  report_front : (ended : Bool) → Front limit bytes rest ended → (more : List ℕ) × (report_of_closed set file whole ≡ report_of_closed set (take limit bytes) ended ++ more)
+  report_front true (exact e f) = ([], ap (λ t. report_of_closed set t whole) e ∙ ap (report_of_closed set (take limit bytes)) f ∙ sym (append-nil _))
   report_front false (grown more e) =
-      let here = report_grows_with_bytes judged (take limit bytes) more whole in
-      (here.0, ap (λ t. report_of_closed judged t whole) e ∙ here.1)
+      let here = reports_grow set (take limit bytes) more whole in
+      (here.0, ap (λ t. report_of_closed set t whole) e ∙ here.1)
 
 -- nothing is left of the queries
 pub queries_read : {run : Run} {judged : Judged} {old mid new : Told} → IsRunReady run judged old mid → HearsAlone mid new → IfSome (new.left Queries) (λ rest. rest ≡ [])
@@ -150,22 +152,22 @@ queries_read r alone = subst (λ o. IfSome o (λ (rest : List ℕ). rest ≡ [])
 
 module _ {run : Run} {limit : ℕ} {judged : Judged} {old mid new : Told} (r : IsRunReady run judged old mid) where
   -- a refused line is the outcome of the run
-  pub refused_after : (refusal : Refusal) → HearsRefused judged limit refusal mid new → AnswersRefusal refusal run limit old new
+  pub refused_after : (refusal : Refusal) → HearsRefused (set_of judged) limit refusal mid new → AnswersRefusal refusal run limit old new
   refused_after refusal h = record {
     there = r.there;
     text = of_both _ _ (new.left Events) judged h.bytes
-        (λ c e. (refused_in c (take limit e) (is_whole limit e) ≡ Some refusal) × Wrote (report_of_closed c (take limit e) (is_whole limit e)) old new) r.accept (sym r.events ∙ h.heard.takes.front)
-        (λ rest e. let here = refused_front judged limit h.bytes rest h.ended refusal (place h.heard.takes rest e) h.heard.refused in
+        (λ c e. (refused_in (set_of c) (take limit e) (is_whole limit e) ≡ Some refusal) × Wrote (report_of_closed (set_of c) (take limit e) (is_whole limit e)) old new) r.accept (sym r.events ∙ h.heard.takes.front)
+        (λ rest e. let here = refused_front (set_of judged) limit h.bytes rest h.ended refusal (place h.heard.takes rest e) h.heard.refused in
         (here.0, Wrote-after r.silent (subst (λ t. Wrote t mid new) here.1 h.heard.wrote)));
   }
 
   -- so is a write that failed
-  pub write_fault_after : HearsAlone mid new → Rose mid.write_faults new.write_faults → StoppedWriting judged limit (mid.left Events) mid new → IsWriteFault run limit old new
+  pub write_fault_after : HearsAlone mid new → Rose mid.write_faults new.write_faults → StoppedWriting (set_of judged) limit (mid.left Events) mid new → IsWriteFault run limit old new
   write_fault_after alone rose s = record {
     cause = subst (λ n. Rose n new.write_faults) r.write_faults rose;
     there = r.there;
     others = queries_read r alone;
-    text = of_both _ _ (new.left Events) judged (s.before ++ s.piece) (λ c e. WritingStopped run.stats c limit e old new) r.accept (sym r.events ∙ s.taken)
+    text = of_both _ _ (new.left Events) judged (s.before ++ s.piece) (λ c e. WritingStopped run.stats (set_of c) limit e old new) r.accept (sym r.events ∙ s.taken)
         (λ rest e. inl (record {
           before = s.before;
           piece = s.piece;
@@ -185,10 +187,10 @@ module _ {run : Run} {limit : ℕ} {judged : Judged} {old mid new : Told} (r : I
   }
 
   -- so is want of memory
-  pub memory_after : HearsFront judged limit mid new → IsMemory run limit old new
+  pub memory_after : HearsFront (set_of judged) limit mid new → IsMemory run limit old new
   memory_after h = record {
     text = of_verdict _ _ (new.left Events) judged h.bytes (λ v e. MemoryText v limit e old new) r.accept (sym r.events ∙ h.takes.front)
-        (λ rest e. let here = report_front judged limit h.bytes rest h.ended (place h.takes rest e) in
+        (λ rest e. let here = report_front (set_of judged) limit h.bytes rest h.ended (place h.takes rest e) in
         let longer = subst (λ t. WroteFront t mid new) (sym here.1) (front_of_more here.0 h.wrote) in
         record { size = longer.size; within = longer.within; wrote = Wrote-after r.silent longer.wrote });
     no_queries = λ e. absurd (let wrong : true ≡ false = sym e ∙ r.there.queries in cc);
@@ -196,24 +198,24 @@ module _ {run : Run} {limit : ℕ} {judged : Judged} {old mid new : Told} (r : I
   }
 
   -- so are events past the limit
-  pub too_much_after : (bytes : List ℕ) → length bytes ≡ limit + 1 → HearsUpTo judged limit bytes false None mid new → IsTooMuch run limit old new
+  pub too_much_after : (bytes : List ℕ) → length bytes ≡ limit + 1 → HearsUpTo (set_of judged) limit bytes false None mid new → IsTooMuch run limit old new
   too_much_after bytes long h = record {
     there = r.there;
     taken = record { taken = bytes; size = long; front = sym r.events ∙ h.takes.front };
     text = of_both _ _ (new.left Events) judged bytes
-        (λ c e. (limit < length e) × (refused_in c (take limit e) false ≡ None) × Wrote (report_of_closed c (take limit e) false) old new) r.accept (sym r.events ∙ h.takes.front)
+        (λ c e. (limit < length e) × (refused_in (set_of c) (take limit e) false ≡ None) × Wrote (report_of_closed (set_of c) (take limit e) false) old new) r.accept (sym r.events ∙ h.takes.front)
         (λ rest e.
         let enough : limit ≤ length bytes = omega (arith, long) in
         let size = length-append bytes rest in
         let cut = sym (take-append-le limit bytes rest enough) in (
           omega (arith, long, size),
-          subst (λ t. refused_in judged t false ≡ None) cut h.refused,
-          Wrote-after r.silent (subst (λ t. Wrote (report_of_closed judged t false) mid new) cut h.wrote),
+          subst (λ t. refused_in (set_of judged) t false ≡ None) cut h.refused,
+          Wrote-after r.silent (subst (λ t. Wrote (report_of_closed (set_of judged) t false) mid new) cut h.wrote),
         ));
   }
 
   -- so is a read that failed
-  pub read_fault_after : HearsAlone mid new → Rose mid.read_faults new.read_faults → (bytes : List ℕ) → length bytes ≤ limit → HearsUpTo judged limit bytes false None mid new → IsReadFault Events run limit old new
+  pub read_fault_after : HearsAlone mid new → Rose mid.read_faults new.read_faults → (bytes : List ℕ) → length bytes ≤ limit → HearsUpTo (set_of judged) limit bytes false None mid new → IsReadFault Events run limit old new
   read_fault_after alone rose bytes within h = record {
     cause = subst (λ n. Rose n new.read_faults) r.read_faults rose;
     attached = ap (λ f. f Events) alone.attached ∙ r.events_attached;
@@ -222,14 +224,14 @@ module _ {run : Run} {limit : ℕ} {judged : Judged} {old mid new : Told} (r : I
       there = r.there;
       others = queries_read r alone;
       text = of_both _ _ (new.left Events) judged bytes
-          (λ c e. (taken : List ℕ) × (Some e ≡ prepend_known taken (new.left Events)) × (length taken ≤ limit) × (refused_in c taken false ≡ None) × Wrote (report_of_closed c taken false) old new) r.accept (sym r.events ∙ h.takes.front)
+          (λ c e. (taken : List ℕ) × (Some e ≡ prepend_known taken (new.left Events)) × (length taken ≤ limit) × (refused_in (set_of c) taken false ≡ None) × Wrote (report_of_closed (set_of c) taken false) old new) r.accept (sym r.events ∙ h.takes.front)
           (λ rest e.
           let few = take_all limit bytes within in (
             bytes,
             ap (prepend_known bytes) (sym e),
             within,
-            ap (λ t. refused_in judged t false) (sym few) ∙ h.refused,
-            Wrote-after r.silent (subst (λ t. Wrote (report_of_closed judged t false) mid new) few h.wrote),
+            ap (λ t. refused_in (set_of judged) t false) (sym few) ∙ h.refused,
+            Wrote-after r.silent (subst (λ t. Wrote (report_of_closed (set_of judged) t false) mid new) few h.wrote),
           ));
     };
   }

@@ -9,13 +9,13 @@ use Rattle.cay_host.specs.Input.{SameButRead, Took}
 use Rattle.cay_host.specs.Output.{SameButOutput}
 use Rattle.cay_host.specs.Told.{Told}
 use Rattle.catalogue.specs.Judgement.{Accepts, Judged}
+use Rattle.courses.specs.QuerySet.{QuerySet, set_of}
+use Rattle.courses.specs.Reports.{refused_in}
 use Rattle.session.specs.SessionView.{SessionView}
 use Rattle.cayuga_run.specs.Accepting.{IsAcceptedWith}
 use Rattle.cayuga_run.specs.Begun.{HasAccepted}
 use Rattle.cayuga_run.specs.HearingOutcome.{HearsAlone}
 use Rattle.cayuga_run.specs.Reading.{ReadsBoth, ReadsNoEvents, ReadsQueries, StopsInPiece, TakesAtMost}
-use Rattle.cayuga_run.specs.Listening.{Listening, refused_by}
-use Rattle.cayuga_run.specs.Reports.{refused_in}
 use Rattle.cayuga_run.proofs.HearingLemmas.{HasHeard, heard_within}
 use Rattle.cayuga_run.proofs.RunLemmas.{HasQueries}
 
@@ -101,7 +101,7 @@ module _ {queries : List ℕ} {judged : Judged} {first before : Told} (events : 
       }
 
   -- the events were attached, and read
-  pub reads_events : {mid new : Told} → Attaches Events events before mid → HearsAlone mid new → StopsInPiece judged limit (mid.left Events) (new.left Events) → ReadsBoth queries events limit first new
+  pub reads_events : {mid new : Told} → Attaches Events events before mid → HearsAlone mid new → StopsInPiece (set_of judged) limit (mid.left Events) (new.left Events) → ReadsBoth queries events limit first new
   reads_events {mid} {new} attaches alone stops =
       let same_queries : new.left Queries ≡ before.left Queries = alone.queries ∙ ap (λ f. f Queries) attaches.left in
       let text : mid.left Events ≡ file_of events first.files = ap (λ f. f Events) attaches.left ∙ ap (file_of events) has.files in
@@ -109,8 +109,8 @@ module _ {queries : List ℕ} {judged : Judged} {first before : Told} (events : 
         of_queries = queries_then r (ap (λ f. f Queries) alone.attached ∙ ap (λ f. f Queries) attaches.attached) same_queries;
         unattached = λ e. both_ways (ap (λ f. f Events) alone.attached ∙ ap (λ f. f Events) attaches.attached) e;
         first = λ e. subst (λ o. IfSome o (λ (rest : List ℕ). rest ≡ [])) (sym same_queries) has.read;
-        attached = λ e. accepted_as (file_of queries first.files) judged (λ c. StopsInPiece c limit (file_of events first.files) (new.left Events)) has.accepts
-            (subst (λ t. StopsInPiece judged limit t (new.left Events)) text stops);
+        attached = λ e. accepted_as (file_of queries first.files) judged (λ c. StopsInPiece (set_of c) limit (file_of events first.files) (new.left Events)) has.accepts
+            (subst (λ t. StopsInPiece (set_of judged) limit t (new.left Events)) text stops);
       }
 
 -- a write behind the hearing of the events reads nothing
@@ -118,15 +118,12 @@ pub alone_then_writes : {a b c : Told} → HearsAlone a b → SameButOutput b c 
 alone_then_writes alone same = record { attached = same.attached ∙ alone.attached; queries = ap (λ f. f Queries) same.left ∙ alone.queries }
 
 -- nor does it change what was taken of them
-pub stops_then_writes : {judged : Judged} {limit : ℕ} {text : Option (List ℕ)} {b c : Told} → StopsInPiece judged limit text (b.left Events) → SameButOutput b c → StopsInPiece judged limit text (c.left Events)
-stops_then_writes {judged} {limit} {text} stops same = subst (StopsInPiece judged limit text) (sym (ap (λ f. f Events) same.left)) stops
+pub stops_then_writes : {set : QuerySet} {limit : ℕ} {text : Option (List ℕ)} {b c : Told} → StopsInPiece set limit text (b.left Events) → SameButOutput b c → StopsInPiece set limit text (c.left Events)
+stops_then_writes {set} {limit} {text} stops same = subst (StopsInPiece set limit text) (sym (ap (λ f. f Events) same.left)) stops
 
-module _ {judged : Judged} {limit taken : ℕ} {session : SessionView} {old now : Told} (h : HasHeard judged limit taken session old now) where
-  none_refused : refused_in judged h.bytes false ≡ None
-  none_refused = subst (λ (l : Listening). refused_by l h.bytes false ≡ None) h.queries h.stands.none_refused
-
+module _ {set : QuerySet} {limit taken : ℕ} {session : SessionView} {old now : Told} (h : HasHeard set limit taken session old now) where
   -- one more piece was read
-  pub stops_in_piece : {rest : Option (List ℕ)} (size : ℕ) (buffer : List ℕ) → length buffer ≤ 65536 → length buffer ≤ limit - taken + 1 → Took size buffer (now.left Events) rest → StopsInPiece judged limit (old.left Events) rest
+  pub stops_in_piece : {rest : Option (List ℕ)} (size : ℕ) (buffer : List ℕ) → length buffer ≤ 65536 → length buffer ≤ limit - taken + 1 → Took size buffer (now.left Events) rest → StopsInPiece set limit (old.left Events) rest
   stops_in_piece {rest} size buffer small room took =
       let cut = length-take size buffer in
       let within = heard_within h in
@@ -135,13 +132,13 @@ module _ {judged : Judged} {limit taken : ℕ} {session : SessionView} {old now 
         piece = take size buffer;
         front = h.front ∙ ap (prepend_known h.bytes) took.front ∙ prepend_known-append h.bytes (take size buffer) rest;
         within = omega (arith, within, counted);
-        none_refused = none_refused;
+        none_refused = h.stands.none_refused;
         few = omega (arith, cut, small);
         most = let both = length-append h.bytes (take size buffer) in omega (arith, both, cut, within, counted, room);
       }
 
   -- no more was read
-  pub stops_at_read : {rest : Option (List ℕ)} → rest ≡ now.left Events → StopsInPiece judged limit (old.left Events) rest
+  pub stops_at_read : {rest : Option (List ℕ)} → rest ≡ now.left Events → StopsInPiece set limit (old.left Events) rest
   stops_at_read kept =
       let within = heard_within h in
       let counted = h.counted in record {
@@ -149,7 +146,7 @@ module _ {judged : Judged} {limit taken : ℕ} {session : SessionView} {old now 
         piece = [];
         front = h.front ∙ ap (λ bytes. prepend_known bytes (now.left Events)) (sym (append-nil h.bytes)) ∙ ap (prepend_known (h.bytes ++ [])) (sym kept);
         within = omega (arith, within, counted);
-        none_refused = none_refused;
+        none_refused = h.stands.none_refused;
         few = omega arith;
         most = let both = length-append h.bytes [] in omega (arith, both, within, counted);
       }

@@ -7,12 +7,13 @@ use Rattle.cay_host.specs.declared.side.Side.TheVariants.{Queries, Events}
 use Rattle.cay_host.specs.Files.{Files, file_of, find_file, lacks}
 use Rattle.cay_host.specs.Told.{Told}
 use Rattle.catalogue.specs.Judgement.{Accepted, Refused, Circle, Judged, Refuses, Circles}
+use Rattle.courses.specs.QuerySet.{set_of}
+use Rattle.courses.specs.Reports.{refused_in}
 use Rattle.cayuga_run.specs.declared.status.Status.{Status}
-use Rattle.cayuga_run.specs.declared.status.Status.TheVariants.{Done, Usage, BadQuery, Cycle, BadEvent, OutOfOrder, AttachFault, ReadFault, WriteFault, TooMuch, Memory}
+use Rattle.cayuga_run.specs.declared.status.Status.TheVariants.{Done, Usage, BadQuery, Cycle, BadEvent, OutOfOrder, AttachFault, ReadFault, WriteFault, TooMuch, Memory, BadControl}
 use Rattle.cayuga_run.specs.Accepting.{IsAcceptedWith}
 use Rattle.cayuga_run.specs.Expected.{expected_after, IsExpected, IsExpectedOrFault, IsExpectedOrMemory, IsSteady}
 use Rattle.cayuga_run.specs.Refusing.{OfQueries}
-use Rattle.cayuga_run.specs.Reports.{refused_in}
 use Rattle.cayuga_run.specs.RunOutcome.{AreThere, OfFiles, RunOutcome, is_whole}
 use Rattle.cayuga_run.specs.Works.{Run}
 use Rattle.cayuga_run.proofs.RefusedLemmas.{Answered, accepted_answers, circle_text, for_some, free_answers, no_rise, refused_text}
@@ -35,7 +36,7 @@ of_none (Some q) (Some e) Q f = f q e
 
 -- a status that an accepted text asks for
 asked : (status : Status) (text : List ℕ) (limit : ℕ) (events : List ℕ) (P : Judged → Type 0)
-    → ((c : Judged) → P c → status ≡ expected_after limit (refused_in c (take limit events) (is_whole limit events)) (is_whole limit events)) → IsAcceptedWith text P → IsExpected limit text events status
+    → ((c : Judged) → P c → status ≡ expected_after limit (refused_in (set_of c) (take limit events) (is_whole limit events)) (is_whole limit events)) → IsAcceptedWith text P → IsExpected limit text events status
 asked status text limit events P f h = record { verdict = Accepted h.judged; judged = h.accepts; value = f h.judged h.holds }
 
 whole_is : (limit : ℕ) (events : List ℕ) → length events ≤ limit → is_whole limit events ≡ true
@@ -48,7 +49,7 @@ long_is limit events long = grind (arith, nat_tests, long)
 pub decided : (run : Run) (limit : ℕ) (old new : Told) (status : Status) → RunOutcome run limit old new status → OfFiles run old (λ queries events. IsExpectedOrFault (IsExpected limit queries events) status)
 decided run limit old new Done o =
     of_files _ _ _ _ (λ q e. asked Done q limit e _
-    (λ c h. sym (ap (λ b. expected_after limit (refused_in c (take limit e) b) b) (whole_is limit e h.0) ∙ ap (λ t. expected_after limit (refused_in c t true) true) (take_all limit e h.0) ∙ ap (λ r. expected_after limit r true) h.1))) o.text
+    (λ c h. sym (ap (λ b. expected_after limit (refused_in (set_of c) (take limit e) b) b) (whole_is limit e h.0) ∙ ap (λ t. expected_after limit (refused_in (set_of c) t true) true) (take_all limit e h.0) ∙ ap (λ r. expected_after limit r true) h.1))) o.text
 decided run limit old new Usage o = absurd o
 decided run limit old new (BadQuery line why) o =
     of_queries (file_of run.queries old.files) (file_of run.events old.files) (λ q. Refuses q line why) (λ q e. IsExpected limit q e (BadQuery line why))
@@ -65,7 +66,9 @@ decided run limit old new (ReadFault side) o = of_none _ _ _ (λ q e. tt)
 decided run limit old new WriteFault o = of_none _ _ _ (λ q e. tt)
 decided run limit old new (TooMuch most) o =
     of_files _ _ _ _ (λ q e. asked (TooMuch most) q limit e _
-    (λ c h. ap TooMuch o.0 ∙ sym (ap (λ b. expected_after limit (refused_in c (take limit e) b) b) (long_is limit e h.0) ∙ ap (λ r. expected_after limit r false) h.1))) o.1.text
+    (λ c h. ap TooMuch o.0 ∙ sym (ap (λ b. expected_after limit (refused_in (set_of c) (take limit e) b) b) (long_is limit e h.0) ∙ ap (λ r. expected_after limit r false) h.1))) o.1.text
+decided run limit old new (BadControl line why) o =
+    of_files _ _ _ _ (λ q e. asked (BadControl line why) q limit e _ (λ c h. sym (ap (λ r. expected_after limit r (is_whole limit e)) h.0))) o.text
 decided run limit old new Memory o = of_none _ _ _ (λ q e. tt)
 
 -- where the query file is told and both files are there, both are told
@@ -102,6 +105,7 @@ refused_by run limit old new (ReadFault Queries) o = free_answers (file_of run.q
 refused_by run limit old new (ReadFault Events) o = let stopped = o.events refl in accepted_files run old (ReadFault Events) _ stopped.there stopped.text
 refused_by run limit old new WriteFault o = accepted_files run old WriteFault _ o.there o.text
 refused_by run limit old new (TooMuch most) o = accepted_files run old (TooMuch most) _ o.1.there o.1.text
+refused_by run limit old new (BadControl line why) o = accepted_files run old (BadControl line why) _ o.there o.text
 refused_by run limit old new Memory o = free_answers (file_of run.queries old.files) Memory (λ asked. tt)
 
 -- the status, where no call of the host failed
@@ -118,4 +122,5 @@ complete_by run limit old new (AttachFault Events) o st there = absurd (no_rise 
 complete_by run limit old new (ReadFault side) o st there = absurd (no_rise _ _ o.cause st.read st.read_below)
 complete_by run limit old new WriteFault o st there = absurd (no_rise _ _ o.cause st.write st.write_below)
 complete_by run limit old new (TooMuch most) o st there = decided run limit old new (TooMuch most) o
+complete_by run limit old new (BadControl line why) o st there = decided run limit old new (BadControl line why) o
 complete_by run limit old new Memory o st there = of_none _ _ _ (λ q e. tt)

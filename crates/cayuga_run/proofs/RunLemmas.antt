@@ -11,7 +11,7 @@ use Rattle.cay_host.proofs.OutputLemmas.{Wrote-nil}
 use Rattle.catalogue.specs.Filing.{most_bytes}
 use Rattle.catalogue.specs.Judgement.{Verdict, Accepted, Refused, Circle, Accepts, Circles, Judged, Judges, Refuses}
 use Rattle.cayuga_run.specs.declared.status.Status.{Status}
-use Rattle.cayuga_run.specs.declared.status.Status.TheVariants.{Done, Usage, BadQuery, Cycle, BadEvent, OutOfOrder, AttachFault, ReadFault, WriteFault, TooMuch, Memory}
+use Rattle.cayuga_run.specs.declared.status.Status.TheVariants.{Done, Usage, BadQuery, Cycle, BadEvent, OutOfOrder, AttachFault, ReadFault, WriteFault, TooMuch, Memory, BadControl}
 use Rattle.cayuga_run.specs.Begun.{HasAccepted, HasRead}
 use Rattle.cayuga_run.specs.QueryFailing.{QueriesFail, TextFails}
 use Rattle.cayuga_run.specs.Refusing.{AreNotAccepted}
@@ -68,6 +68,7 @@ text_fails a b bytes (AttachFault side) h f = f
 text_fails a b bytes (ReadFault side) h f = absurd f
 text_fails a b bytes WriteFault h f = f
 text_fails a b bytes (TooMuch most) h f = f
+text_fails a b bytes (BadControl line why) h f = f
 
 -- the queries are attached, and nothing else was done
 pub record HasQueries (queries : List ℕ) (old mid : Told) : Type 0 where
@@ -119,6 +120,7 @@ queries_fail queries old mid new (OutOfOrder line at seen) has kept fails = absu
 queries_fail queries old mid new (AttachFault side) has kept fails = absurd fails
 queries_fail queries old mid new WriteFault has kept fails = absurd fails
 queries_fail queries old mid new (TooMuch most) has kept fails = absurd fails
+queries_fail queries old mid new (BadControl line why) has kept fails = absurd fails
 
 -- the queries that are attached were accepted
 pub queries_accepted : (queries : List ℕ) (judged : Judged) (old mid new : Told) → HasQueries queries old mid → SameButRead Queries mid new → HasRead judged mid new → HasAccepted queries judged old new
@@ -151,3 +153,4 @@ run_fails run limit old new (BadEvent line why) fails = absurd fails
 run_fails run limit old new (OutOfOrder line at seen) fails = absurd fails
 run_fails run limit old new WriteFault fails = absurd fails
 run_fails run limit old new (TooMuch most) fails = absurd fails
+run_fails run limit old new (BadControl line why) fails = absurd fails

@@ -5,21 +5,19 @@ use Rattle.cay_host.specs.Output.{add_lines, count_lf}
 use Rattle.cay_host.specs.TallyHost.{silent_told}
 use Rattle.cay_host.specs.Told.{Told}
 use Rattle.catalogue.specs.Catalogued.{program_in}
-use Rattle.catalogue.specs.Judgement.{Accepts, Judged, program_of}
+use Rattle.catalogue.specs.Judgement.{Accepts, Judged}
+use Rattle.courses.specs.QuerySet.{QuerySet, set_of}
 use Rattle.load_texts.specs.Epochs.{epoch_count}
 use Rattle.load_texts.specs.EventText.{event_text}
 use Rattle.load_texts.specs.QueryText.{query_count, query_text}
-use Rattle.session.specs.Heard.{heard}
-use Rattle.session.specs.Readings.{readings}
 use Rattle.session.specs.SessionView.{SessionView, WorksFor}
 use Rattle.cayuga_run.specs.declared.status.Status.{Status}
-use Rattle.cayuga_run.specs.declared.status.Status.TheVariants.{Done, Usage, BadQuery, Cycle, BadEvent, OutOfOrder, AttachFault, ReadFault, WriteFault, TooMuch, Memory}
+use Rattle.cayuga_run.specs.declared.status.Status.TheVariants.{Done, Usage, BadQuery, Cycle, BadEvent, OutOfOrder, AttachFault, ReadFault, WriteFault, TooMuch, Memory, BadControl}
 use Rattle.cayuga_run.specs.Accepting.{IsAcceptedWith}
-use Rattle.cayuga_run.specs.Listening.{Listening}
 use Rattle.cayuga_run.specs.LoadHearing.{FailsHearing, HasTotals, HearsWhole}
 use Rattle.cayuga_run.specs.LoadOutcome.{IsSummary, LoadFails, LoadOutcome, load_line}
 use Rattle.cayuga_run.specs.QueryFailing.{TextFails}
-use Rattle.cayuga_run.specs.Reports.{heard_in, report_of_heard}
+use Rattle.cayuga_run.specs.Reports.{events_heard, program_behind, report_of_heard}
 use Rattle.cayuga_run.specs.Works.{Load}
 use Rattle.cayuga_run.specs.WritingText.{WritesText}
 
@@ -32,18 +30,19 @@ counted : (report : List ℕ) (old new : Told) (results : ℕ) → old ≡ silen
 counted report old new results silent wrote lines = from_none results (count_lf report) (sym lines ∙ wrote ∙ ap (λ (told : Told). add_lines told.lines report) silent)
 
 -- the line of the numbers, where the events were heard to their end
-pub sums : (judged : Judged) (load : Load) (session : SessionView) (old new : Told) (results : ℕ) (line : List ℕ) → HearsWhole judged (event_text load.seed load.events) session old new → old ≡ silent_told → new.lines ≡ Some results
+pub sums : (judged : Judged) (load : Load) (session : SessionView) (old new : Told) (results : ℕ) (line : List ℕ) → HearsWhole (set_of judged) (event_text load.seed load.events) session old new → old ≡ silent_told → new.lines ≡ Some results
     → ((history : List Event) → WorksFor session history → HasTotals (program_in session.catalogue) history load.events results line) → IsSummary judged load line
 sums judged load session old new results line hears silent lines totals =
     let text = event_text load.seed load.events in
-    let own : HasTotals (program_in session.catalogue) (heard (readings session.catalogue.streams text true)) load.events results line = totals _ hears.finished.works in
-    let here : HasTotals (program_of judged) (heard_in judged text) load.events results line = subst (λ (l : Listening). HasTotals l.0 (heard (l.1 text true)) load.events results line) hears.queries own in
+    let own : HasTotals (program_in session.catalogue) (events_heard (set_of judged) text) load.events results line = totals _ hears.finished.works in
+    let here : HasTotals (program_behind (set_of judged) text) (events_heard (set_of judged) text) load.events results line =
+    subst (λ (set : QuerySet). HasTotals set.program (events_heard (set_of judged) text) load.events results line) hears.finished.holds own in
     record {
       none_refused = hears.none_refused;
       totals = record { states = here.states; results = results; live = here.live };
       are = record {
         states = here.counts_states;
-        results = counted (report_of_heard judged text true) old new results silent hears.wrote.lines lines;
+        results = counted (report_of_heard (set_of judged) text) old new results silent hears.wrote.lines lines;
         live = here.counts_live;
       };
       value = here.value;
@@ -70,6 +69,7 @@ load_refused load (BadQuery line why) f = f
 load_refused load (Cycle names) f = f
 load_refused load (BadEvent line why) f = absurd f
 load_refused load (OutOfOrder line at seen) f = absurd f
+load_refused load (BadControl line why) f = absurd f
 load_refused load (AttachFault side) f = f
 load_refused load (ReadFault side) f = f
 load_refused load WriteFault f = f
@@ -77,13 +77,14 @@ load_refused load (TooMuch most) f = f
 load_refused load Memory f = f
 
 -- and where they are
-pub load_unheard : (load : Load) (judged : Judged) → Accepts (query_text load.events) judged → (status : Status) → FailsHearing judged (event_text load.seed load.events) status → LoadFails load status
+pub load_unheard : (load : Load) (judged : Judged) → Accepts (query_text load.events) judged → (status : Status) → FailsHearing (set_of judged) (event_text load.seed load.events) status → LoadFails load status
 load_unheard load judged accepts Done f = f
 load_unheard load judged accepts Usage f = f
 load_unheard load judged accepts (BadQuery line why) f = absurd f
 load_unheard load judged accepts (Cycle names) f = absurd f
 load_unheard load judged accepts (BadEvent line why) f = record { judged = judged; accepts = accepts; holds = f }
 load_unheard load judged accepts (OutOfOrder line at seen) f = record { judged = judged; accepts = accepts; holds = f }
+load_unheard load judged accepts (BadControl line why) f = record { judged = judged; accepts = accepts; holds = f }
 load_unheard load judged accepts (AttachFault side) f = f
 load_unheard load judged accepts (ReadFault side) f = f
 load_unheard load judged accepts WriteFault f = f
@@ -99,6 +100,7 @@ load_writes load line old new (BadQuery number why) h w = absurd w
 load_writes load line old new (Cycle names) h w = absurd w
 load_writes load line old new (BadEvent number why) h w = absurd w
 load_writes load line old new (OutOfOrder number at seen) h w = absurd w
+load_writes load line old new (BadControl number why) h w = absurd w
 load_writes load line old new (AttachFault side) h w = absurd w
 load_writes load line old new (ReadFault side) h w = absurd w
 load_writes load line old new (TooMuch most) h w = absurd w
@@ -113,6 +115,7 @@ load_stops load told (BadQuery line why) f = (f, record { written = refl; lines 
 load_stops load told (Cycle names) f = (f, record { written = refl; lines = refl })
 load_stops load told (BadEvent line why) f = (f, record { written = refl; lines = refl })
 load_stops load told (OutOfOrder line at seen) f = (f, record { written = refl; lines = refl })
+load_stops load told (BadControl line why) f = (f, record { written = refl; lines = refl })
 load_stops load told (AttachFault side) f = absurd f
 load_stops load told (ReadFault side) f = absurd f
 load_stops load told (TooMuch most) f = absurd f

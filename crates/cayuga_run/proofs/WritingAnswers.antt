@@ -7,7 +7,7 @@ use Rattle.cay_host.specs.Told.{Told}
 use Rattle.catalogue.specs.Judgement.{Accepted, Refused, Circle, Judged, Refuses, Circles}
 use Rattle.catalogue.proofs.VerdictLemmas.{one_verdict}
 use Rattle.cayuga_run.specs.declared.status.Status.{Status}
-use Rattle.cayuga_run.specs.declared.status.Status.TheVariants.{Done, Usage, BadQuery, Cycle, BadEvent, OutOfOrder, AttachFault, ReadFault, WriteFault, TooMuch, Memory}
+use Rattle.cayuga_run.specs.declared.status.Status.TheVariants.{Done, Usage, BadQuery, Cycle, BadEvent, OutOfOrder, AttachFault, ReadFault, WriteFault, TooMuch, Memory, BadControl}
 use Rattle.cayuga_run.specs.Accepting.{IsAcceptedWith}
 use Rattle.cayuga_run.specs.Expected.{expected_writing, IsExpectedOrFault, IsExpectedOrMemory, IsExpectedWriting, IsSteady}
 use Rattle.cayuga_run.specs.Refusing.{OfQueries}
@@ -31,6 +31,7 @@ writing_decided writing old new (Cycle names) o =
     for_some (file_of writing.queries old.files) (λ q. Circles q names) (λ q. IsExpectedWriting q (Cycle names))
     (λ q h v judged. subst (λ w. Cycle names ≡ expected_writing w) (one_verdict q (Circle names) v h judged) refl) o.circles
 writing_decided writing old new (BadEvent line why) o = absurd o
+writing_decided writing old new (BadControl line why) o = absurd o
 writing_decided writing old new (OutOfOrder line at seen) o = absurd o
 writing_decided writing old new (AttachFault side) o = all_some (file_of writing.queries old.files) (λ q. tt)
 writing_decided writing old new (ReadFault side) o = all_some (file_of writing.queries old.files) (λ q. tt)
@@ -46,6 +47,7 @@ writing_refused_by writing old new Usage o = absurd o
 writing_refused_by writing old new (BadQuery line why) o = refused_text (file_of writing.queries old.files) line why o.refused
 writing_refused_by writing old new (Cycle names) o = circle_text (file_of writing.queries old.files) names o.circles
 writing_refused_by writing old new (BadEvent line why) o = absurd o
+writing_refused_by writing old new (BadControl line why) o = absurd o
 writing_refused_by writing old new (OutOfOrder line at seen) o = absurd o
 writing_refused_by writing old new (AttachFault Queries) o = free_answers (file_of writing.queries old.files) (AttachFault Queries) (λ asked. tt)
 writing_refused_by writing old new (AttachFault Events) o = cc
@@ -64,6 +66,7 @@ writing_complete_by writing old new Usage o st there = absurd o
 writing_complete_by writing old new (BadQuery line why) o st there = writing_decided writing old new (BadQuery line why) o
 writing_complete_by writing old new (Cycle names) o st there = writing_decided writing old new (Cycle names) o
 writing_complete_by writing old new (BadEvent line why) o st there = absurd o
+writing_complete_by writing old new (BadControl line why) o st there = absurd o
 writing_complete_by writing old new (OutOfOrder line at seen) o st there = absurd o
 writing_complete_by writing old new (AttachFault side) o st there = absurd (no_rise _ _ (o.1.cause there) st.attach st.attach_below)
 writing_complete_by writing old new (ReadFault side) o st there = absurd (no_rise _ _ o.1.cause st.read st.read_below)

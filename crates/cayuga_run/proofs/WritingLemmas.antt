@@ -7,7 +7,7 @@ use Rattle.cay_host.specs.Output.{SameButOutput, Wrote, WrotePart}
 use Rattle.cay_host.specs.Told.{Told}
 use Rattle.catalogue.specs.Judgement.{Accepts, Judged}
 use Rattle.cayuga_run.specs.declared.status.Status.{Status}
-use Rattle.cayuga_run.specs.declared.status.Status.TheVariants.{Done, Usage, BadQuery, Cycle, BadEvent, OutOfOrder, AttachFault, ReadFault, WriteFault, TooMuch, Memory}
+use Rattle.cayuga_run.specs.declared.status.Status.TheVariants.{Done, Usage, BadQuery, Cycle, BadEvent, OutOfOrder, AttachFault, ReadFault, WriteFault, TooMuch, Memory, BadControl}
 use Rattle.cayuga_run.specs.Accepting.{IsAcceptedWith}
 use Rattle.cayuga_run.specs.Begun.{HasAccepted}
 use Rattle.cayuga_run.specs.WritingText.{WritesText}
@@ -32,6 +32,7 @@ writing_fails writing old new (ReadFault side) fails = fails
 writing_fails writing old new Memory fails = fails
 writing_fails writing old new Usage fails = fails
 writing_fails writing old new (BadEvent line why) fails = fails
+writing_fails writing old new (BadControl line why) fails = fails
 writing_fails writing old new (OutOfOrder line at seen) fails = fails
 writing_fails writing old new (TooMuch most) fails = fails
 
@@ -57,5 +58,6 @@ writing_ends writing judged text old mid new (AttachFault side) has same writes 
 writing_ends writing judged text old mid new (ReadFault side) has same writes kept = absurd writes
 writing_ends writing judged text old mid new Usage has same writes kept = writes
 writing_ends writing judged text old mid new (BadEvent line why) has same writes kept = writes
+writing_ends writing judged text old mid new (BadControl line why) has same writes kept = writes
 writing_ends writing judged text old mid new (OutOfOrder line at seen) has same writes kept = writes
 writing_ends writing judged text old mid new (TooMuch most) has same writes kept = writes

@@ -11,9 +11,10 @@ use Rattle.catalogue.specs.declared.fault.QueryFault.{QueryFault}
 use Rattle.catalogue.specs.Judgement.{Circles, Judges, Refuses, Verdict}
 use Rattle.load_texts.specs.EventText.{event_text}
 use Rattle.load_texts.specs.QueryText.{query_text}
-use Rattle.session.specs.declared.refusal.Refusal.TheVariants.{HasFault, IsOutOfOrder}
+use Rattle.courses.specs.declared.fault.ControlFault.{ControlFault}
+use Rattle.courses.specs.declared.refusal.Refusal.TheVariants.{HasFault, HasControlFault, IsOutOfOrder}
 use Rattle.cayuga_run.specs.declared.status.Status.{Status}
-use Rattle.cayuga_run.specs.declared.status.Status.TheVariants.{Done, Usage, BadQuery, Cycle, BadEvent, OutOfOrder, AttachFault, ReadFault, WriteFault, TooMuch, Memory}
+use Rattle.cayuga_run.specs.declared.status.Status.TheVariants.{Done, Usage, BadQuery, Cycle, BadEvent, OutOfOrder, AttachFault, ReadFault, WriteFault, TooMuch, Memory, BadControl}
 use Rattle.cayuga_run.specs.Blaming.{BlamesHost}
 use Rattle.cayuga_run.specs.Expected.{AnswersRefused, IsExpected, IsExpectedOrFault, IsExpectedOrMemory, IsExpectedWhole, IsExpectedWriting, IsSteady}
 use Rattle.cayuga_run.specs.LoadOutcome.{IsLoaded, RefusesLoad}
@@ -33,6 +34,7 @@ pub record Answers (work : Work) (limit : ℕ) (old new : Told) (status : Status
   pub bad_query : (line : ℕ) (why : QueryFault) → status ≡ BadQuery line why → ForQueries work (λ queries. IsBadQuery line why queries old new) (λ load. Refuses (query_text load.events) line why × KeepsOutput old new)
   pub cycle : (names : List (List ℕ)) → status ≡ Cycle names → ForQueries work (λ queries. AnswersCycle names queries old new) (λ load. Circles (query_text load.events) names × KeepsOutput old new)
   pub bad_event : (line : ℕ) (why : LineFault) → status ≡ BadEvent line why → ForEvents work (λ run. AnswersRefusal (HasFault line why) run limit old new) (λ load. RefusesLoad (HasFault line why) load × KeepsOutput old new)
+  pub bad_control : (line : ℕ) (why : ControlFault) → status ≡ BadControl line why → ForEvents work (λ run. AnswersRefusal (HasControlFault line why) run limit old new) (λ load. RefusesLoad (HasControlFault line why) load × KeepsOutput old new)
   pub out_of_order : (line at seen : ℕ) → status ≡ OutOfOrder line at seen → ForEvents work (λ run. AnswersRefusal (IsOutOfOrder line at seen) run limit old new) (λ load. RefusesLoad (IsOutOfOrder line at seen) load × KeepsOutput old new)
   pub too_much : (most : ℕ) → status ≡ TooMuch most → (most ≡ limit) × ForEvents work (λ run. IsTooMuch run limit old new) (λ load. ⊥)
   pub attach_fault : (side : Side) → status ≡ AttachFault side → ByWork work ⊥ (λ run. IsAttachFault side run old new) (λ writing. (side ≡ Queries) × AreNotAttached writing.queries old new) (λ load. ⊥)

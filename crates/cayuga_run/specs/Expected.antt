@@ -2,17 +2,19 @@
 use Rattle.std.specs.Prelude.{◌≡◌, ⊤, ℕ, ◌-◌, ◌^◌, ◌<◌, List, Bool, true, false, length, take, Option, Some, None}
 use Rattle.cay_host.specs.declared.side.Side.TheVariants.{Queries}
 use Rattle.cay_host.specs.Told.{Told}
-use Rattle.session.specs.declared.refusal.Refusal.{Refusal}
-use Rattle.session.specs.declared.refusal.Refusal.TheVariants.{HasFault, IsOutOfOrder}
+use Rattle.courses.specs.declared.refusal.Refusal.{Refusal}
+use Rattle.courses.specs.declared.refusal.Refusal.TheVariants.{HasFault, HasControlFault, IsOutOfOrder}
+use Rattle.courses.specs.QuerySet.{set_of}
+use Rattle.courses.specs.Reports.{refused_in}
 use Rattle.cayuga_run.specs.declared.status.Status.{Status}
-use Rattle.cayuga_run.specs.declared.status.Status.TheVariants.{Done, BadQuery, Cycle, BadEvent, OutOfOrder, AttachFault, ReadFault, WriteFault, TooMuch, Memory}
+use Rattle.cayuga_run.specs.declared.status.Status.TheVariants.{Done, BadQuery, Cycle, BadEvent, OutOfOrder, AttachFault, ReadFault, WriteFault, TooMuch, Memory, BadControl}
 use Rattle.catalogue.specs.Judgement.{Verdict, Accepted, Refused, Circle, Judges}
 use Rattle.cayuga_run.specs.RunOutcome.{is_whole}
-use Rattle.cayuga_run.specs.Reports.{refused_in}
 
 -- a refused line decides; else whether the event text is within the limit
 abbrev pub expected_after : ℕ → Option Refusal → Bool → Status
 expected_after limit (Some (HasFault line why)) whole = BadEvent line why
+expected_after limit (Some (HasControlFault line why)) whole = BadControl line why
 expected_after limit (Some (IsOutOfOrder line at seen)) whole = OutOfOrder line at seen
 expected_after limit None true = Done
 expected_after limit None false = TooMuch limit
@@ -21,7 +23,7 @@ expected_after limit None false = TooMuch limit
 abbrev pub expected_of : Verdict → ℕ → List ℕ → Status
 expected_of (Refused line why) limit events = BadQuery line why
 expected_of (Circle names) limit events = Cycle names
-expected_of (Accepted judged) limit events = expected_after limit (refused_in judged (take limit events) (is_whole limit events)) (is_whole limit events)
+expected_of (Accepted judged) limit events = expected_after limit (refused_in (set_of judged) (take limit events) (is_whole limit events)) (is_whole limit events)
 
 -- these texts ask for the status
 pub record IsExpected (limit : ℕ) (queries events : List ℕ) (status : Status) : Type 0 where

@@ -4,8 +4,6 @@ pub mod Begun
 pub mod Blaming
 pub mod Expected
 pub mod HearingOutcome
-pub mod Laws
-pub mod Listening
 pub mod LoadHearing
 pub mod LoadOutcome
 pub mod Number

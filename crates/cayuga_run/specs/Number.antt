@@ -1,7 +1,7 @@
 -- The number of each status.
 use Rattle.std.specs.Prelude.{ℕ}
 use Rattle.cayuga_run.specs.declared.status.Status.{Status}
-use Rattle.cayuga_run.specs.declared.status.Status.TheVariants.{Done, Usage, BadQuery, Cycle, BadEvent, OutOfOrder, AttachFault, ReadFault, WriteFault, TooMuch, Memory}
+use Rattle.cayuga_run.specs.declared.status.Status.TheVariants.{Done, Usage, BadQuery, Cycle, BadEvent, OutOfOrder, AttachFault, ReadFault, WriteFault, TooMuch, Memory, BadControl}
 
 -- the number that the program ends with
 abbrev pub number_of : Status → ℕ
@@ -16,3 +16,4 @@ number_of (ReadFault side) = 7
 number_of WriteFault = 8
 number_of (TooMuch limit) = 9
 number_of Memory = 10
+number_of (BadControl line why) = 11

@@ -4,10 +4,10 @@ use Rattle.std.specs.Io.KnownBytes.{prepend_known}
 use Rattle.cay_host.specs.declared.side.Side.TheVariants.{Queries, Events}
 use Rattle.cay_host.specs.Files.{file_of}
 use Rattle.cay_host.specs.Told.{Told}
-use Rattle.catalogue.specs.Judgement.{Judged}
+use Rattle.courses.specs.QuerySet.{QuerySet, set_of}
+use Rattle.courses.specs.Reports.{refused_in}
 use Rattle.cayuga_run.specs.Accepting.{IsAcceptedWith}
 use Rattle.cayuga_run.specs.Refusing.{ReadsUpTo}
-use Rattle.cayuga_run.specs.Reports.{refused_in}
 use Rattle.cayuga_run.specs.Works.{Work, ByWork}
 
 -- at most so many bytes were taken from the front of a text, and this is the rest
@@ -23,12 +23,12 @@ pub record TakesExactly (many : ℕ) (text rest : Option (List ℕ)) : Type 0 wh
   pub front : text ≡ prepend_known taken rest
 
 -- the bytes that were taken of an event text have two parts: the first is within the limit, and no line of it is refused; the second has at most 65,536 bytes; and both have at most one byte more than the limit
-pub record StopsInPiece (judged : Judged) (limit : ℕ) (text rest : Option (List ℕ)) : Type 0 where
+pub record StopsInPiece (set : QuerySet) (limit : ℕ) (text rest : Option (List ℕ)) : Type 0 where
   pub heard : List ℕ
   pub piece : List ℕ
   pub front : text ≡ prepend_known (heard ++ piece) rest
   pub within : length heard ≤ limit
-  pub none_refused : refused_in judged heard false ≡ None
+  pub none_refused : refused_in set heard false ≡ None
   pub few : length piece ≤ 65536
   pub most : length (heard ++ piece) ≤ limit + 1
 
@@ -48,7 +48,7 @@ pub record ReadsBoth (queries events : List ℕ) (limit : ℕ) (old new : Told) 
   pub unattached : new.attached Events ≡ false → new.left Events ≡ old.left Events
   pub first : new.attached Events ≡ true → ReadsUpTo Events old new
   pub attached : new.attached Events ≡ true
-      → IfSome (file_of queries old.files) (λ text. IsAcceptedWith text (λ judged. StopsInPiece judged limit (file_of events old.files) (new.left Events)))
+      → IfSome (file_of queries old.files) (λ text. IsAcceptedWith text (λ judged. StopsInPiece (set_of judged) limit (file_of events old.files) (new.left Events)))
 
 -- what was read, by the work
 abbrev pub Reads : Work → ℕ → Told → Told → Type 0

@@ -1,24 +1,19 @@
--- The report of an accepted query text over an event text.
-use Rattle.std.specs.Prelude.{ℕ, List, Bool, true, Option}
+-- What is heard of an event text to its end, for the queries that are there before its first line.
+use Rattle.std.specs.Prelude.{ℕ, List, true}
 use Rattle.semantics.specs.Histories.{Event}
-use Rattle.semantics.specs.Report.{report}
-use Rattle.catalogue.specs.Judgement.{Judged, program_of}
-use Rattle.session.specs.declared.refusal.Refusal.{Refusal}
-use Rattle.session.specs.Heard.{closed, heard, refused}
-use Rattle.session.specs.Readings.{readings}
-
--- the first refused line of an event text that has ended or not
-abbrev pub refused_in : Judged → List ℕ → Bool → Option Refusal
-refused_in judged text ended = refused (readings judged.streams text ended)
-
--- the report of the epochs that an event text closes
-abbrev pub report_of_closed : Judged → List ℕ → Bool → List ℕ
-report_of_closed judged text ended = report (program_of judged) (closed (readings judged.streams text ended) ended)
-
--- all that is heard of a whole event text
-abbrev pub heard_in : Judged → List ℕ → List Event
-heard_in judged text = heard (readings judged.streams text true)
+use Rattle.semantics.specs.Programs.{Program}
+use Rattle.courses.specs.Course.{events_in, set_after}
+use Rattle.courses.specs.QuerySet.{QuerySet}
+use Rattle.courses.specs.Reports.{course_report, heard_in}
 
 -- the report of all that is heard of an event text
-abbrev pub report_of_heard : Judged → List ℕ → Bool → List ℕ
-report_of_heard judged text ended = report (program_of judged) (heard (readings judged.streams text ended))
+abbrev pub report_of_heard : QuerySet → List ℕ → List ℕ
+report_of_heard set text = course_report set (heard_in set text true)
+
+-- the events that are heard of it
+abbrev pub events_heard : QuerySet → List ℕ → List Event
+events_heard set text = events_in (heard_in set text true)
+
+-- the program of the queries that are there after it
+abbrev pub program_behind : QuerySet → List ℕ → Program
+program_behind set text = (set_after set (heard_in set text true)).program

@@ -1,50 +1,46 @@
 -- How many conditions a job tests at most.
 use Rattle.std.specs.Prelude.{◌≡◌, ◌≤◌, ◌⊎◌, ◌+◌, ℕ, List, [], Bool, true, false, length, take, Option, Some, IfSome}
 use Rattle.std.specs.Io.KnownBytes.{prepend_known}
-use Rattle.automaton.specs.Prefixes.{Prefix}
 use Rattle.cay_host.specs.declared.side.Side.TheVariants.{Events}
 use Rattle.cay_host.specs.Files.{file_of}
 use Rattle.cay_host.specs.Told.{Told}
-use Rattle.catalogue.specs.Judgement.{Judged, program_of}
+use Rattle.courses.specs.QuerySet.{QuerySet, set_of}
+use Rattle.courses.specs.Reports.{closed_in}
 use Rattle.load_texts.specs.EventText.{event_text}
 use Rattle.load_texts.specs.QueryText.{query_text}
-use Rattle.prefix_merge.specs.Counts.{ListPrefixes}
-use Rattle.session.specs.Heard.{closed}
-use Rattle.session.specs.Readings.{readings}
-use Rattle.session.specs.RunWork.{run_work}
-use Rattle.splitter.specs.Chains.{lines_of}
+use Rattle.session.specs.RunWork.{AreStates, States, course_work}
 use Rattle.cayuga_run.specs.Accepting.{IsAcceptedWith}
 use Rattle.cayuga_run.specs.Works.{Work, ByWork, Load}
 
--- the tests that the epochs ask for that an event text closes, which has ended or not; the states are the prefixes of the queries' lines, each once
-abbrev pub tests_of_closed : Judged → List Prefix → List ℕ → Bool → ℕ
-tests_of_closed judged states text ended = run_work states (program_of judged) (closed (readings judged.streams text ended) ended)
+-- the tests that the epochs ask for that an event text closes, which has ended or not, each of the queries that are there then; the states of their network are the prefixes of their lines, each once
+abbrev pub tests_of_closed : QuerySet → States → List ℕ → Bool → ℕ
+tests_of_closed set states text ended = course_work states set (closed_in set text ended)
 
 -- a count of tests rose by no more than the epochs ask for that an event text closes
-abbrev pub RisesWithin : Judged → List ℕ → Bool → ℕ → ℕ → Type 0
-RisesWithin judged text ended old new = (states : List Prefix) → ListPrefixes (lines_of (program_of judged)) states → new ≤ old + tests_of_closed judged states text ended
+abbrev pub RisesWithin : QuerySet → List ℕ → Bool → ℕ → ℕ → Type 0
+RisesWithin set text ended old new = (states : States) → AreStates states → new ≤ old + tests_of_closed set states text ended
 
 -- these bytes were taken of an event text, which has ended behind them or not, and a count of tests rose by no more than the epochs ask for that those within the limit close
-pub record TestsOfTaken (judged : Judged) (limit : ℕ) (text rest : Option (List ℕ)) (old new : ℕ) : Type 0 where
+pub record TestsOfTaken (set : QuerySet) (limit : ℕ) (text rest : Option (List ℕ)) (old new : ℕ) : Type 0 where
   pub taken : List ℕ
   pub ended : Bool
   pub front : text ≡ prepend_known taken rest
   pub whole : ended ≡ true → (length taken ≤ limit) × IfSome rest (λ more. more ≡ [])
-  pub within : RisesWithin judged (take limit taken) ended old new
+  pub within : RisesWithin set (take limit taken) ended old new
 
 -- nothing was tested before the events were attached, and then no more than the epochs ask for that the bytes taken of them close
 pub record TestsOfRun (queries events : List ℕ) (limit : ℕ) (before after : Told) (old new : ℕ) : Type 0 where
   pub unattached : after.attached Events ≡ false → new ≡ old
   pub attached : after.attached Events ≡ true
-      → IfSome (file_of queries before.files) (λ text. IsAcceptedWith text (λ judged. TestsOfTaken judged limit (file_of events before.files) (after.left Events) old new))
+      → IfSome (file_of queries before.files) (λ text. IsAcceptedWith text (λ judged. TestsOfTaken (set_of judged) limit (file_of events before.files) (after.left Events) old new))
 
 -- no more was tested than the epochs ask for that a front of this event text closes
-abbrev pub TestsOfText : Judged → List ℕ → ℕ → ℕ → Type 0
-TestsOfText judged text old new = (rest : List ℕ) × TestsOfTaken judged (length text) (Some text) (Some rest) old new
+abbrev pub TestsOfText : QuerySet → List ℕ → ℕ → ℕ → Type 0
+TestsOfText set text old new = (rest : List ℕ) × TestsOfTaken set (length text) (Some text) (Some rest) old new
 
 -- nothing was tested; or the generator's queries are accepted, and no more than the epochs ask for that a front of its events closes
 abbrev pub TestsOfLoad : Load → ℕ → ℕ → Type 0
-TestsOfLoad load old new = (new ≡ old) ⊎ IsAcceptedWith (query_text load.events) (λ judged. TestsOfText judged (event_text load.seed load.events) old new)
+TestsOfLoad load old new = (new ≡ old) ⊎ IsAcceptedWith (query_text load.events) (λ judged. TestsOfText (set_of judged) (event_text load.seed load.events) old new)
 
 -- how many conditions were tested at most, by the work: none where nothing is run
 abbrev pub StaysWithinWork : Work → ℕ → Told → Told → ℕ → ℕ → Type 0

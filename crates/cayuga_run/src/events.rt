@@ -1,7 +1,8 @@
 //! The events of a run, heard piece by piece as they are read.
 ghost use Rattle.std.specs.Prelude.{◌≡◌, [], true};
 ghost use Rattle.cay_host.specs.declared.side.Side.TheVariants.{Events};
-ghost use Rattle.catalogue.specs.Holding.{IsAsLoaded, judged_in};
+ghost use Rattle.catalogue.specs.Holding.{judged_in};
+ghost use Rattle.courses.specs.QuerySet.{set_of};
 ghost use Rattle.session.specs.SessionView.{SessionStandsFor};
 ghost use Rattle.cayuga_run.specs.Blaming.{BlamesHost};
 ghost use Rattle.cayuga_run.specs.HearingOutcome.{Hears, HearsAlone, status_of};
@@ -11,7 +12,8 @@ ghost use Rattle.cayuga_run.specs.Tests.{TestsOfTaken};
 use crate::pieces::{PIECE, piece_size};
 use crate::status::Status;
 use cay_host::{Host, Ledger, Side, Steps};
-use session::{Refusal, Session, SessionFault};
+use courses::Refusal;
+use session::{Session, SessionFault};
 use std::alloc::Global;
 
 /// Reads the events, and feeds each piece to the session as it comes, to the end of the events or to the
@@ -24,14 +26,13 @@ pub fn read_events<H: Host, L: Ledger>(
     steps: &mut Steps<L>,
 ) -> Status
     requires attached { (H.told host.old).attached Events ≡ true }
-    requires loaded { IsAsLoaded session.old.catalogue }
-    requires stands { SessionStandsFor session.old [] [] }
+    requires stands { SessionStandsFor session.old (set_of (judged_in session.old.catalogue)) [] [] }
     requires limit { session.old.limit ≡ limit }
-    ensures hears { Hears (judged_in session.old.catalogue) limit session.new (H.told host.old) (H.told host.new) result }
+    ensures hears { Hears (set_of (judged_in session.old.catalogue)) limit session.new (H.told host.old) (H.told host.new) result }
     ensures blames { BlamesHost (H.told host.old) (H.told host.new) result }
-    ensures stops { StopsInPiece (judged_in session.old.catalogue) limit ((H.told host.old).left Events) ((H.told host.new).left Events) }
+    ensures stops { StopsInPiece (set_of (judged_in session.old.catalogue)) limit ((H.told host.old).left Events) ((H.told host.new).left Events) }
     ensures alone { HearsAlone (H.told host.old) (H.told host.new) }
-    ensures tests { TestsOfTaken (judged_in session.old.catalogue) limit ((H.told host.old).left Events) ((H.told host.new).left Events) steps.old steps.new }
+    ensures tests { TestsOfTaken (set_of (judged_in session.old.catalogue)) limit ((H.told host.old).left Events) ((H.told host.new).left Events) steps.old steps.new }
 {
     let mut piece = [0u8; PIECE];
     let mut taken: u64 = 0;
@@ -61,6 +62,9 @@ pub fn status_of(fault: SessionFault) -> Status
 {
     match fault {
         SessionFault::Refused(Refusal::HasFault { line, why }) => Status::BadEvent { line, why },
+        SessionFault::Refused(Refusal::HasControlFault { line, why }) => {
+            Status::BadControl { line, why }
+        }
         SessionFault::Refused(Refusal::IsOutOfOrder { line, at, seen }) => Status::OutOfOrder {
             line,
             at,

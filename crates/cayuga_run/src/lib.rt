@@ -17,8 +17,9 @@ mod wording;
 mod writing;
 
 pub use catalogue::QueryFault;
+pub use courses::{ControlFault, Refusal, refused_lines_stay, reports_grow};
 pub use event_csv::LineFault;
-pub use laws::{refused_lines_stay, reports_grow, texts_ask_for_one_status};
-pub use session::{Refusal, Session, SessionFault};
+pub use laws::texts_ask_for_one_status;
+pub use session::{Session, SessionFault};
 pub use status::Status;
 pub use top::{cayuga, cayuga_within};

@@ -4,7 +4,8 @@ ghost use Rattle.semantics.specs.Histories.{Event};
 ghost use Rattle.cay_host.specs.Output.{SameButOutput};
 ghost use Rattle.cay_host.specs.TallyHost.{silent_told, tally_told};
 ghost use Rattle.catalogue.specs.Catalogued.{program_in};
-ghost use Rattle.catalogue.specs.Holding.{IsAsLoaded, judged_in};
+ghost use Rattle.catalogue.specs.Holding.{judged_in};
+ghost use Rattle.courses.specs.QuerySet.{set_of};
 ghost use Rattle.load_texts.specs.EventText.{event_text};
 ghost use Rattle.load_texts.specs.QueryText.{query_text};
 ghost use Rattle.session.specs.SessionView.{SessionStandsFor, WorksFor};
@@ -82,15 +83,14 @@ fn hear_and_sum<L: Ledger>(
     events: u64,
     steps: &mut Steps<L>,
 ) -> Result<String, Status>
-    requires loaded { IsAsLoaded session.old.catalogue }
-    requires stands { SessionStandsFor session.old [] [] }
+    requires stands { SessionStandsFor session.old (set_of (judged_in session.old.catalogue)) [] [] }
     requires limit { session.old.limit ≡ 2 ^ 64 - 1 }
     requires seed { seed < 2 ^ 31 }
     requires some { 0 < events }
     requires few { events ≤ 200000 }
     ensures summed { IfOk result (λ line. IsSummary (judged_in session.old.catalogue) (record { seed = seed; events = events }) (string_bytes line)) }
-    ensures fails { IfErr result (FailsHearing (judged_in session.old.catalogue) (event_text seed events)) }
-    ensures tests { TestsOfText (judged_in session.old.catalogue) (event_text seed events) steps.old steps.new }
+    ensures fails { IfErr result (FailsHearing (set_of (judged_in session.old.catalogue)) (event_text seed events)) }
+    ensures tests { TestsOfText (set_of (judged_in session.old.catalogue)) (event_text seed events) steps.old steps.new }
 {
     let mut tally = TallyHost::new();
     match hear_text(alloc, &mut tally, session, seed, events, steps) {
@@ -111,13 +111,12 @@ fn hear_text<L: Ledger>(
     events: u64,
     steps: &mut Steps<L>,
 ) -> Status
-    requires loaded { IsAsLoaded session.old.catalogue }
-    requires stands { SessionStandsFor session.old [] [] }
+    requires stands { SessionStandsFor session.old (set_of (judged_in session.old.catalogue)) [] [] }
     requires limit { session.old.limit ≡ 2 ^ 64 - 1 }
     requires seed { seed < 2 ^ 31 }
     requires few { events ≤ 200000 }
-    ensures hears { HearsText (judged_in session.old.catalogue) (event_text seed events) session.new (tally_told tally.old) (tally_told tally.new) result }
-    ensures tests { TestsOfText (judged_in session.old.catalogue) (event_text seed events) steps.old steps.new }
+    ensures hears { HearsText (set_of (judged_in session.old.catalogue)) (event_text seed events) session.new (tally_told tally.old) (tally_told tally.new) result }
+    ensures tests { TestsOfText (set_of (judged_in session.old.catalogue)) (event_text seed events) steps.old steps.new }
 {
     let mut text = EventText::of(alloc, seed, events);
     let mut piece = Vec::new(alloc);
@@ -133,12 +132,11 @@ fn hear_pieces<L: Ledger>(
     piece: &mut Vec<u8>,
     steps: &mut Steps<L>,
 ) -> Status
-    requires loaded { IsAsLoaded session.old.catalogue }
-    requires stands { SessionStandsFor session.old [] [] }
+    requires stands { SessionStandsFor session.old (set_of (judged_in session.old.catalogue)) [] [] }
     requires limit { session.old.limit ≡ 2 ^ 64 - 1 }
     requires short { length text.old ≤ 2 ^ 64 - 1 }
-    ensures hears { HearsText (judged_in session.old.catalogue) text.old session.new (tally_told tally.old) (tally_told tally.new) result }
-    ensures tests { TestsOfText (judged_in session.old.catalogue) text.old steps.old steps.new }
+    ensures hears { HearsText (set_of (judged_in session.old.catalogue)) text.old session.new (tally_told tally.old) (tally_told tally.new) result }
+    ensures tests { TestsOfText (set_of (judged_in session.old.catalogue)) text.old steps.old steps.new }
 {
     'pieces: loop {
         match text.next_piece(piece) {

@@ -1,7 +1,8 @@
 //! The run of the queries of one file over the events of another.
 ghost use Rattle.std.specs.Prelude.{◌≡◌, [], false};
 ghost use Rattle.cay_host.specs.declared.side.Side.TheVariants.{Queries, Events};
-ghost use Rattle.catalogue.specs.Holding.{IsAsLoaded, judged_in};
+ghost use Rattle.catalogue.specs.Holding.{judged_in};
+ghost use Rattle.courses.specs.QuerySet.{set_of};
 ghost use Rattle.session.specs.SessionView.{SessionStandsFor};
 ghost use Rattle.cayuga_run.specs.Begun.{EndsReading, EndsRun, EndsTests};
 ghost use Rattle.cayuga_run.specs.Blaming.{BlamesHost};
@@ -61,8 +62,7 @@ fn attach_and_read<H: Host, L: Ledger>(
     steps: &mut Steps<L>,
 ) -> Status
     requires free { (H.told host.old).attached Events ≡ false }
-    requires loaded { IsAsLoaded session.old.catalogue }
-    requires stands { SessionStandsFor session.old [] [] }
+    requires stands { SessionStandsFor session.old (set_of (judged_in session.old.catalogue)) [] [] }
     requires limit { session.old.limit ≡ hearing.now.limit }
     ensures outcome { EndsRun (judged_in session.old.catalogue) hearing.now.events.now hearing.now.stats hearing.now.limit (H.told host.old) (H.told host.new) result }
     ensures blames { BlamesHost (H.told host.old) (H.told host.new) result }

@@ -4,6 +4,7 @@ ghost use Rattle.cayuga_run.specs.Number.{number_of};
 
 use catalogue::QueryFault;
 use cay_host::Side;
+use courses::ControlFault;
 use event_csv::LineFault;
 use event_types::Names;
 
@@ -20,7 +21,8 @@ pub enum Status {
     Cycle(Names),
     /// An event line has a fault. Lines are counted from 1.
     BadEvent { line: u64, why: LineFault },
-    /// An event is detected before the event before it, which was seen at `seen`. Lines are counted from 1.
+    /// An event is detected before the last event, which was seen at `seen`, or at its time with a control line between
+    /// them. Lines are counted from 1.
     OutOfOrder { line: u64, at: u64, seen: u64 },
     /// A file couldn't be opened.
     AttachFault(Side),
@@ -32,6 +34,8 @@ pub enum Status {
     TooMuch { limit: u64 },
     /// There was no memory.
     Memory,
+    /// A control line has a fault. Lines are counted from 1.
+    BadControl { line: u64, why: ControlFault },
 }
 
 impl Status {
@@ -51,6 +55,7 @@ impl Status {
             Status::WriteFault => 8,
             Status::TooMuch { .. } => 9,
             Status::Memory => 10,
+            Status::BadControl { .. } => 11,
         }
     }
 }

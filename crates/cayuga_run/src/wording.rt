@@ -1,10 +1,11 @@
 //! The texts of the statuses.
 ghost use Rattle.std.specs.Prelude.{◌≡◌, IfOk, string_bytes};
-ghost use Rattle.cayuga_run.specs.Wording.{line_words, names_joined, query_words, text_of};
+ghost use Rattle.cayuga_run.specs.Wording.{control_words, late_words, line_words, names_joined, query_words, text_of};
 
 use crate::status::Status;
 use catalogue::QueryFault;
 use cay_host::Side;
+use courses::ControlFault;
 use event_csv::LineFault;
 use event_types::{Memory, Names, Text};
 use std::alloc::Global;
@@ -42,7 +43,8 @@ fn written(alloc: Global, status: &Status) -> Result<String, Memory>
             Ok(format!(in alloc; "cayuga: events line {line}: {words}")?)
         }
         Status::OutOfOrder { line, at, seen } => {
-            Ok(format!(in alloc; "cayuga: events line {line}: detection {at} is below {seen}")?)
+            let words = late_words(alloc, *at, *seen)?;
+            Ok(format!(in alloc; "cayuga: events line {line}: {words}")?)
         }
         Status::AttachFault(Side::Queries) => Ok(format!(in alloc;
             "cayuga: cannot open the queries"
@@ -59,6 +61,10 @@ fn written(alloc: Global, status: &Status) -> Result<String, Memory>
             Ok(format!(in alloc; "cayuga: more than {limit} bytes of events")?)
         }
         Status::Memory => Ok(format!(in alloc; "cayuga: no memory")?),
+        Status::BadControl { line, why } => {
+            let words = control_words(alloc, why)?;
+            Ok(format!(in alloc; "cayuga: control line {line}: {words}")?)
+        }
     }
 }
 
@@ -146,6 +152,36 @@ fn line_words(alloc: Global, why: &LineFault) -> Result<String, Memory>
         }
         LineFault::BadDec { field, places } => {
             Ok(format!(in alloc; "field {field} is not a decimal of {places} places")?)
+        }
+    }
+}
+
+// What is wrong with an event that comes too late.
+fn late_words(alloc: Global, at: u64, seen: u64) -> Result<String, Memory>
+    ensures { IfOk result (λ words. string_bytes words ≡ late_words at seen) }
+{
+    if at == seen {
+        Ok(format!(in alloc; "detection {at} is already closed")?)
+    } else {
+        Ok(format!(in alloc; "detection {at} is below {seen}")?)
+    }
+}
+
+// What is wrong with a control line.
+fn control_words(alloc: Global, why: &ControlFault) -> Result<String, Memory>
+    ensures { IfOk result (λ words. string_bytes words ≡ control_words why.now) }
+{
+    match why {
+        ControlFault::BadForm => Ok(format!(in alloc; "not a control line")?),
+        ControlFault::Query(why) => query_words(alloc, why),
+        ControlFault::UnknownQuery { name } => {
+            let name = name.as_str();
+            Ok(format!(in alloc; "no query {name}")?)
+        }
+        ControlFault::InUse { name, reader } => {
+            let name = name.as_str();
+            let reader = reader.as_str();
+            Ok(format!(in alloc; "{name} is read by {reader}")?)
         }
     }
 }

@@ -2,9 +2,9 @@ use Rattle.std.proofs.Common.{◌+◌, ◌-◌, ◌≤◌, [], ◌++◌, length,
 use Rattle.std.proofs.Math.Facts.{Fits-of_lt}
 use Rattle.cay_host.specs.declared.side.Side.TheVariants.{Events}
 use Rattle.catalogue.specs.Holding.{judged_in}
+use Rattle.courses.specs.QuerySet.{set_of}
 use Rattle.cayuga_run.specs.HearingOutcome.{Hears}
 use Rattle.cayuga_run.proofs.HearingLemmas.{blames_read, heard_more, heard_none, heard_within, hears_all, piece_is, read_failed, stops_at_end, stops_at_piece, taken_more}
-use Rattle.cayuga_run.proofs.ListeningLemmas.{listening_held}
 use Rattle.cayuga_run.proofs.ReadingLemmas.{stops_at_read, stops_in_piece, stops_then_writes}
 use Rattle.cayuga_run.proofs.TestsLemmas.{rises_not, tests_at_end, tests_at_piece, tests_at_read, tests_more}
 use Rattle.cayuga_run.proofs.events.read_events.Goals as goal
@@ -13,8 +13,8 @@ use Rattle.cayuga_run.proofs.events.read_events.Goals as goal
 pub pieces-init : goal.pieces-init
 unfolding heard_none
 pieces-init g c = (
-  heard_none (judged_in c.args.session.now.catalogue) c.args.limit c.args.session.now (g.H.Host.told c.args.host.now) c.requires.stands (listening_held c.args.session.now.catalogue c.requires.loaded) c.requires.limit,
-  rises_not (judged_in c.args.session.now.catalogue) [] false c.args.steps.now,
+  heard_none (set_of (judged_in c.args.session.now.catalogue)) c.args.limit c.args.session.now (g.H.Host.told c.args.host.now) c.requires.stands c.requires.limit,
+  rises_not (set_of (judged_in c.args.session.now.catalogue)) [] false c.args.steps.now,
 )
 
 -- a read failed
@@ -33,7 +33,7 @@ returns-in-Ok-finish-clause-hears g c =
     let room : length buffer ≤ 65536 = omega (arith, slice) in
     let t = taken_more c.pieces.invariant.0 c.in-Ok.count buffer rest room c.in-Ok.ensures.took c.read.ensures.same c.in-Ok.ensures.quiet in
     let none = ap (λ n. take n (buffer ++ rest)) c.if-count-eq0.true in
-    hears_all t c.finish.ensures.same none (c.in-Ok.ensures.took.end c.if-count-eq0.true) c.finish.new.self c.finish.ensures.queries (c.in-Ok-finish.ensures.finished [] c.pieces.invariant.0.bytes c.pieces.invariant.0.stands)
+    hears_all t c.finish.ensures.same none (c.in-Ok.ensures.took.end c.if-count-eq0.true) c.finish.new.self (c.in-Ok-finish.ensures.finished (set_of (judged_in c.args.session.now.catalogue)) [] c.pieces.invariant.0.bytes c.pieces.invariant.0.stands)
 
 pub returns-in-Err-finish-clause-hears : goal.returns-in-Err-finish-clause-hears
 returns-in-Err-finish-clause-hears g c =
@@ -43,8 +43,8 @@ returns-in-Err-finish-clause-hears g c =
     let room : length buffer ≤ 65536 = omega (arith, slice) in
     let t = taken_more c.pieces.invariant.0 c.in-Ok.count buffer rest room c.in-Ok.ensures.took c.read.ensures.same c.in-Ok.ensures.quiet in
     let none = ap (λ n. take n (buffer ++ rest)) c.if-count-eq0.true in
-    subst (Hears (judged_in c.args.session.now.catalogue) c.args.limit c.finish.new.self (g.H.Host.told c.args.host.now) (g.H.Host.told c.finish.new.host)) (sym c.status_of.ensures)
-    (stops_at_end t c.finish.ensures.same none (c.in-Ok.ensures.took.end c.if-count-eq0.true) c.finish.new.self c.in-Err-finish.fault (c.in-Err-finish.ensures.finished [] c.pieces.invariant.0.bytes c.pieces.invariant.0.stands))
+    subst (Hears (set_of (judged_in c.args.session.now.catalogue)) c.args.limit c.finish.new.self (g.H.Host.told c.args.host.now) (g.H.Host.told c.finish.new.host)) (sym c.status_of.ensures)
+    (stops_at_end t c.finish.ensures.same none (c.in-Ok.ensures.took.end c.if-count-eq0.true) c.finish.new.self c.in-Err-finish.fault (c.in-Err-finish.ensures.finished (set_of (judged_in c.args.session.now.catalogue)) [] c.pieces.invariant.0.bytes c.pieces.invariant.0.stands))
 
 -- one more piece was heard
 pub pieces-preserved : goal.pieces-preserved
@@ -56,9 +56,9 @@ pieces-preserved g c =
     let room : length buffer ≤ 65536 = omega (arith, slice) in
     let t = taken_more c.pieces.invariant.0 c.in-Ok.count buffer rest room c.in-Ok.ensures.took c.read.ensures.same c.in-Ok.ensures.quiet in
     let heard = c.pieces.invariant.0 in
-    let feeds = c.in-Ok-feed.ensures.fed [] heard.bytes heard.stands in
+    let feeds = c.in-Ok-feed.ensures.fed (set_of (judged_in c.args.session.now.catalogue)) [] heard.bytes heard.stands in
     let sized = piece_is c.in-Ok.count buffer rest c.in-Ok.ensures.took in
-    let more = heard_more t c.feed.ensures.same c.feed.new.self c.pieces.taken c.in-Ok.count heard.counted sized feeds c.feed.ensures.queries c.in-Ok-feed.ensures.quiet in
+    let more = heard_more t c.feed.ensures.same c.feed.new.self c.pieces.taken c.in-Ok.count heard.counted sized feeds c.feed.ensures.limit c.in-Ok-feed.ensures.quiet in
     let within = heard_within more in
     let counted = more.counted in
     (more, tests_more c.args.steps.now c.pieces.steps c.feed.new.steps t c.pieces.invariant.1 (omega (arith, within, counted)) c.feed.ensures.tests)
@@ -71,9 +71,9 @@ overflow_add-taken g c =
     let room : length buffer ≤ 65536 = omega (arith, slice) in
     let t = taken_more c.pieces.invariant.0 c.in-Ok.count buffer rest room c.in-Ok.ensures.took c.read.ensures.same c.in-Ok.ensures.quiet in
     let heard = c.pieces.invariant.0 in
-    let feeds = c.in-Ok-feed.ensures.fed [] heard.bytes heard.stands in
+    let feeds = c.in-Ok-feed.ensures.fed (set_of (judged_in c.args.session.now.catalogue)) [] heard.bytes heard.stands in
     let sized = piece_is c.in-Ok.count buffer rest c.in-Ok.ensures.took in
-    let more = heard_more t c.feed.ensures.same c.feed.new.self c.pieces.taken c.in-Ok.count heard.counted sized feeds c.feed.ensures.queries c.in-Ok-feed.ensures.quiet in
+    let more = heard_more t c.feed.ensures.same c.feed.new.self c.pieces.taken c.in-Ok.count heard.counted sized feeds c.feed.ensures.limit c.in-Ok-feed.ensures.quiet in
     let within = heard_within more in
     let fits = c.ranges.limit.fits in
     Fits-of_lt (omega (arith, within, fits))
@@ -86,9 +86,9 @@ pieces-smaller g c =
     let room : length buffer ≤ 65536 = omega (arith, slice) in
     let t = taken_more c.pieces.invariant.0 c.in-Ok.count buffer rest room c.in-Ok.ensures.took c.read.ensures.same c.in-Ok.ensures.quiet in
     let heard = c.pieces.invariant.0 in
-    let feeds = c.in-Ok-feed.ensures.fed [] heard.bytes heard.stands in
+    let feeds = c.in-Ok-feed.ensures.fed (set_of (judged_in c.args.session.now.catalogue)) [] heard.bytes heard.stands in
     let sized = piece_is c.in-Ok.count buffer rest c.in-Ok.ensures.took in
-    let more = heard_more t c.feed.ensures.same c.feed.new.self c.pieces.taken c.in-Ok.count heard.counted sized feeds c.feed.ensures.queries c.in-Ok-feed.ensures.quiet in
+    let more = heard_more t c.feed.ensures.same c.feed.new.self c.pieces.taken c.in-Ok.count heard.counted sized feeds c.feed.ensures.limit c.in-Ok-feed.ensures.quiet in
     let within = heard_within more in
     let some = c.if-count-eq0.false in
     omega (arith, within, some)
@@ -109,8 +109,8 @@ returns-in-Err-feed-clause-hears g c =
     let counted = heard.counted in
     let both = length-append heard.bytes (take c.in-Ok.count (buffer ++ rest)) in
     let most : length (heard.bytes ++ take c.in-Ok.count (buffer ++ rest)) ≤ c.args.limit + 1 = omega (arith, sized, fits, slice, want, within, counted, both) in
-    subst (Hears (judged_in c.args.session.now.catalogue) c.args.limit c.feed.new.self (g.H.Host.told c.args.host.now) (g.H.Host.told c.feed.new.host)) (sym c.status_of-in-Err-feed.ensures)
-    (stops_at_piece t c.feed.ensures.same most c.feed.new.self c.in-Err-feed.fault (c.in-Err-feed.ensures.broken [] c.pieces.invariant.0.bytes c.pieces.invariant.0.stands))
+    subst (Hears (set_of (judged_in c.args.session.now.catalogue)) c.args.limit c.feed.new.self (g.H.Host.told c.args.host.now) (g.H.Host.told c.feed.new.host)) (sym c.status_of-in-Err-feed.ensures)
+    (stops_at_piece t c.feed.ensures.same most c.feed.new.self c.in-Err-feed.fault (c.in-Err-feed.ensures.broken (set_of (judged_in c.args.session.now.catalogue)) [] c.pieces.invariant.0.bytes c.pieces.invariant.0.stands))
 
 -- what was read, where a read failed
 pub returns-in-Err-clause-stops : goal.returns-in-Err-clause-stops

@@ -1,5 +1,6 @@
 use Rattle.cay_host.specs.TallyHost.{tally_told}
 use Rattle.catalogue.specs.Holding.{judged_in}
+use Rattle.courses.specs.QuerySet.{set_of}
 use Rattle.load_texts.specs.EventText.{event_text}
 use Rattle.cayuga_run.specs.Works.{Load}
 use Rattle.cayuga_run.proofs.LoadLemmas.{fails_unless_done}
@@ -15,5 +16,5 @@ returns-in-Ok-clause-summed g c =
 -- the hearing stopped before the end of the events
 pub returns-in_default-clause-fails : goal.returns-in_default-clause-fails
 returns-in_default-clause-fails g c =
-    fails_unless_done (judged_in c.args.session.now.catalogue) (event_text c.args.seed c.args.events) c.hear_text.new.session (tally_told c.new-tally.result) (tally_told c.hear_text.new.tally) c.hear_text.result
+    fails_unless_done (set_of (judged_in c.args.session.now.catalogue)) (event_text c.args.seed c.args.events) c.hear_text.new.session (tally_told c.new-tally.result) (tally_told c.hear_text.new.tally) c.hear_text.result
     c.hear_text.ensures.hears c.in_default.not-Done

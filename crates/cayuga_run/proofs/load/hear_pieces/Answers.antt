@@ -1,8 +1,8 @@
 use Rattle.std.proofs.Common.{[], false, subst, sym, ◌∙◌, arith}
 use Rattle.cay_host.specs.TallyHost.{tally_told}
 use Rattle.catalogue.specs.Holding.{judged_in}
+use Rattle.courses.specs.QuerySet.{set_of}
 use Rattle.cayuga_run.specs.LoadHearing.{HearsText}
-use Rattle.cayuga_run.proofs.ListeningLemmas.{listening_held}
 use Rattle.cayuga_run.proofs.LoadLemmas.{fails_as, heard_no_text, heard_text_more, hears_text, less_left, none_failed, none_left, piece_and_rest, stops_at_text_end, stops_in_text, text_tests, text_tests_at_end, text_tests_at_piece, text_tests_more}
 use Rattle.cayuga_run.proofs.TestsLemmas.{rises_not}
 use Rattle.cayuga_run.proofs.load.hear_pieces.Goals as goal
@@ -11,8 +11,8 @@ use Rattle.cayuga_run.proofs.load.hear_pieces.Goals as goal
 pub pieces-init : goal.pieces-init
 unfolding heard_no_text
 pieces-init g c = (
-  heard_no_text (judged_in c.args.session.now.catalogue) c.args.text.now c.args.session.now (tally_told c.args.tally.now) c.requires.stands (listening_held c.args.session.now.catalogue c.requires.loaded) c.requires.limit,
-  rises_not (judged_in c.args.session.now.catalogue) [] false c.args.steps.now,
+  heard_no_text (set_of (judged_in c.args.session.now.catalogue)) c.args.text.now c.args.session.now (tally_told c.args.tally.now) c.requires.stands c.requires.limit,
+  rises_not (set_of (judged_in c.args.session.now.catalogue)) [] false c.args.steps.now,
 )
 
 -- there was no memory for a piece
@@ -24,7 +24,7 @@ pub returns-in-Ok-finish-clause-hears : goal.returns-in-Ok-finish-clause-hears
 returns-in-Ok-finish-clause-hears g c =
     let h = c.pieces.invariant.0 in
     let none = none_left c.pieces.text c.as_slice-bytes.result.now (c.as_slice-bytes.ensures.value ∙ c.in-Ok.ensures.piece) c.if-size-eq0.true in
-    hears_text h none c.finish.new.self c.finish.ensures.queries (c.in-Ok-finish.ensures.finished [] h.bytes h.stands)
+    hears_text h none c.finish.new.self (c.in-Ok-finish.ensures.finished (set_of (judged_in c.args.session.now.catalogue)) [] h.bytes h.stands)
 
 pub returns-in-Ok-finish-clause-tests : goal.returns-in-Ok-finish-clause-tests
 returns-in-Ok-finish-clause-tests g c =
@@ -34,14 +34,14 @@ returns-in-Ok-finish-clause-tests g c =
 
 pub returns-in-Err-finish-clause-hears : goal.returns-in-Err-finish-clause-hears
 returns-in-Err-finish-clause-hears g c =
-    let judged = judged_in c.args.session.now.catalogue in
+    let set = set_of (judged_in c.args.session.now.catalogue) in
     let h = c.pieces.invariant.0 in
     let none = none_left c.pieces.text c.as_slice-bytes.result.now (c.as_slice-bytes.ensures.value ∙ c.in-Ok.ensures.piece) c.if-size-eq0.true in
     let fault = c.in-Err-finish.fault in
     let after = c.finish.new.self in
-    subst (HearsText judged c.args.text.now after (tally_told c.args.tally.now) (tally_told c.finish.new.host)) (sym c.status_of.ensures)
-    (fails_as judged c.args.text.now after (tally_told c.args.tally.now) (tally_told c.finish.new.host) fault
-    (stops_at_text_end h none (tally_told c.finish.new.host) after (none_failed c.pieces.tally) (none_failed c.finish.new.host) fault (c.in-Err-finish.ensures.finished [] h.bytes h.stands)))
+    subst (HearsText set c.args.text.now after (tally_told c.args.tally.now) (tally_told c.finish.new.host)) (sym c.status_of.ensures)
+    (fails_as set c.args.text.now after (tally_told c.args.tally.now) (tally_told c.finish.new.host) fault
+    (stops_at_text_end h none (tally_told c.finish.new.host) after (none_failed c.pieces.tally) (none_failed c.finish.new.host) fault (c.in-Err-finish.ensures.finished (set_of (judged_in c.args.session.now.catalogue)) [] h.bytes h.stands)))
 
 pub returns-in-Err-finish-clause-tests : goal.returns-in-Err-finish-clause-tests
 returns-in-Err-finish-clause-tests g c =
@@ -58,7 +58,7 @@ pieces-preserved g c =
     let rest = c.next_piece.new.self in
     let cut = piece_and_rest c.pieces.text piece rest (c.as_slice-bytes.ensures.value ∙ c.in-Ok.ensures.piece) c.in-Ok.ensures.rest in
     let short = c.requires.short in (
-      heard_text_more h piece rest cut c.feed.new.self (c.in-Ok-feed.ensures.fed [] h.bytes h.stands) c.feed.ensures.queries,
+      heard_text_more h piece rest cut c.feed.new.self (c.in-Ok-feed.ensures.fed (set_of (judged_in c.args.session.now.catalogue)) [] h.bytes h.stands) c.feed.ensures.limit,
       text_tests_more h piece rest cut short c.args.steps.now c.pieces.steps c.feed.new.steps c.pieces.invariant.1 c.feed.ensures.tests,
     )
 
@@ -70,7 +70,7 @@ pieces-smaller g c =
 -- the session stopped at a piece
 pub returns-in-Err-feed-clause-hears : goal.returns-in-Err-feed-clause-hears
 returns-in-Err-feed-clause-hears g c =
-    let judged = judged_in c.args.session.now.catalogue in
+    let set = set_of (judged_in c.args.session.now.catalogue) in
     let h = c.pieces.invariant.0 in
     let piece = c.as_slice-bytes.result.now in
     let rest = c.next_piece.new.self in
@@ -78,9 +78,9 @@ returns-in-Err-feed-clause-hears g c =
     let short = c.requires.short in
     let fault = c.in-Err-feed.fault in
     let after = c.feed.new.self in
-    subst (HearsText judged c.args.text.now after (tally_told c.args.tally.now) (tally_told c.feed.new.host)) (sym c.status_of-in-Err-feed.ensures)
-    (fails_as judged c.args.text.now after (tally_told c.args.tally.now) (tally_told c.feed.new.host) fault
-    (stops_in_text h piece rest cut short (tally_told c.feed.new.host) (none_failed c.pieces.tally) (none_failed c.feed.new.host) fault (c.in-Err-feed.ensures.broken [] h.bytes h.stands)))
+    subst (HearsText set c.args.text.now after (tally_told c.args.tally.now) (tally_told c.feed.new.host)) (sym c.status_of-in-Err-feed.ensures)
+    (fails_as set c.args.text.now after (tally_told c.args.tally.now) (tally_told c.feed.new.host) fault
+    (stops_in_text h piece rest cut short (tally_told c.feed.new.host) (none_failed c.pieces.tally) (none_failed c.feed.new.host) fault (c.in-Err-feed.ensures.broken (set_of (judged_in c.args.session.now.catalogue)) [] h.bytes h.stands)))
 
 pub returns-in-Err-feed-clause-tests : goal.returns-in-Err-feed-clause-tests
 returns-in-Err-feed-clause-tests g c =

@@ -1,6 +1,7 @@
 use Rattle.std.proofs.Common.{◌≤◌, ◌^◌, ◌-◌, ℕ, List, length, subst, sym, arith}
 use Rattle.cay_host.specs.TallyHost.{tally_told}
 use Rattle.catalogue.specs.Holding.{judged_in}
+use Rattle.courses.specs.QuerySet.{set_of}
 use Rattle.load_texts.specs.EventText.{event_text}
 use Rattle.load_texts.proofs.LengthLemmas.{event_text-short}
 use Rattle.cayuga_run.specs.LoadHearing.{HearsText}
@@ -17,8 +18,8 @@ hear_pieces-requires-clause-short g c =
 
 pub returns-clause-hears : goal.returns-clause-hears
 returns-clause-hears g c =
-    subst (λ (text : List ℕ). HearsText (judged_in c.args.session.now.catalogue) text c.hear_pieces.new.session (tally_told c.args.tally.now) (tally_told c.hear_pieces.new.tally) c.hear_pieces.result) c.of-text.ensures c.hear_pieces.ensures.hears
+    subst (λ (text : List ℕ). HearsText (set_of (judged_in c.args.session.now.catalogue)) text c.hear_pieces.new.session (tally_told c.args.tally.now) (tally_told c.hear_pieces.new.tally) c.hear_pieces.result) c.of-text.ensures c.hear_pieces.ensures.hears
 
 pub returns-clause-tests : goal.returns-clause-tests
 returns-clause-tests g c =
-    subst (λ (text : List ℕ). TestsOfText (judged_in c.args.session.now.catalogue) text c.args.steps.now c.hear_pieces.new.steps) c.of-text.ensures c.hear_pieces.ensures.tests
+    subst (λ (text : List ℕ). TestsOfText (set_of (judged_in c.args.session.now.catalogue)) text c.args.steps.now c.hear_pieces.new.steps) c.of-text.ensures c.hear_pieces.ensures.tests

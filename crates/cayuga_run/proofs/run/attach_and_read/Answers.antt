@@ -2,9 +2,9 @@ use Rattle.std.proofs.Common.{◌≡◌, ◌∙◌, ap, refl, rules, subst, fals
 use Rattle.std.specs.Result.{OnErr, OnOk, is_err}
 use Rattle.cay_host.specs.declared.side.Side.TheVariants.{Events}
 use Rattle.catalogue.specs.Holding.{judged_in}
-use Rattle.session.specs.Heard.{heard}
+use Rattle.courses.specs.QuerySet.{QuerySet, set_of}
 use Rattle.cayuga_run.specs.declared.status.Status.TheVariants.{Done}
-use Rattle.cayuga_run.specs.Listening.{Listening}
+use Rattle.cayuga_run.specs.Reports.{events_heard}
 use Rattle.cayuga_run.specs.StatsOutcome.{StatsOutcome}
 use Rattle.cayuga_run.specs.Works.{Run}
 use Rattle.cayuga_run.proofs.BlamingLemmas.{blames_after, none_blamed}
@@ -52,7 +52,7 @@ returns-then-hearing-clause-outcome g c = λ queries first accepted.
     run_tells run c.args.hearing.now.limit judged first (told c.attach.new.self) (told c.read_events.new.host) (told c.write_stats.new.host) all.bytes c.write_stats.result
     (ready run judged first (told c.args.host.now) (told c.attach.new.self) accepted (from_ok c.attach.result c.if-is_err.ensures.value c.attach.ensures.ok) c.attach.ensures.same)
     all.heard c.read_events.ensures.alone (none_blamed c.in-Done.ensures.blames).write c.if-hearing.true c.write_stats.ensures.same
-    (subst (λ (l : Listening). StatsOutcome l.0 (heard (l.1 all.bytes true)) (told c.read_events.new.host) (told c.write_stats.new.host) c.write_stats.result) all.queries (c.write_stats.ensures.writes _ all.finished.works))
+    (subst (λ (set : QuerySet). StatsOutcome set.program (events_heard (set_of judged) all.bytes) (told c.read_events.new.host) (told c.write_stats.new.host) c.write_stats.result) all.finished.holds (c.write_stats.ensures.writes _ all.finished.works))
 
 -- the events were heard, and no stats are asked for
 pub returns-else-hearing-clause-outcome : goal.returns-else-hearing-clause-outcome

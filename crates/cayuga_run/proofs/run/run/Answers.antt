@@ -5,6 +5,7 @@ use Rattle.cayuga_run.specs.declared.status.Status.TheVariants.{Memory}
 use Rattle.cayuga_run.specs.Begun.{HasAccepted}
 use Rattle.cayuga_run.specs.Works.{Run}
 use Rattle.cayuga_run.proofs.BlamingLemmas.{blames_after, blames_none}
+use Rattle.cayuga_run.proofs.HeldLemmas.{stands_held}
 use Rattle.cayuga_run.proofs.ReadingLemmas.{reads_no_events}
 use Rattle.cayuga_run.proofs.RunLemmas.{memory_silent, run_fails}
 use Rattle.cayuga_run.proofs.TestsLemmas.{tests_nothing}
@@ -25,6 +26,10 @@ pub returns-in_default-clause-blames : goal.returns-in_default-clause-blames
 returns-in_default-clause-blames g c =
     let accepted = c.in-Ok.ensures.accepted in
     blames_none Memory (record { attach = accepted.attach_faults; read = accepted.read_faults; write = accepted.write_faults })
+
+-- the session stands for what the text was judged to be
+pub attach_and_read-requires-clause-stands : goal.attach_and_read-requires-clause-stands
+attach_and_read-requires-clause-stands g c = stands_held c.in-Ok.catalogue c.in-Ok-make.session c.in-Ok.ensures.loaded c.in-Ok-make.ensures.queries c.in-Ok-make.ensures.stands
 
 -- a session heard the events
 pub returns-clause-outcome : goal.returns-clause-outcome
