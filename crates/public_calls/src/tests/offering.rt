@@ -2,8 +2,6 @@
 ghost use Rattle.std.specs.Prelude.{◌≡◌, [], ◌∷◌, IfOk, IsTrue, None, OnOk};
 ghost use Rattle.event_types.specs.declared.kind.Kind.TheVariants as kind;
 ghost use Rattle.semantics.specs.Kinds.{HasKinds};
-ghost use Rattle.catalogue.specs.Loaded.{IsUnchanged};
-ghost use Rattle.session.specs.EngineStandsWithLastOpen.{IsPlanned};
 
 use catalogue::{Catalogue, load};
 use epoch_engine::{Engine, OfferFault};
@@ -28,9 +26,7 @@ pub const NEWS: StreamId = 1;
 pub type Parts = (i128, u64, u64);
 
 /// The catalogue of the queries. Nothing but want of memory refuses them.
-pub fn catalogue(alloc: Global) -> Result<Catalogue, Memory>
-    ensures { IfOk result IsUnchanged }
-{
+pub fn catalogue(alloc: Global) -> Result<Catalogue, Memory> {
     match load(alloc, QUERIES) {
         Ok(catalogue) => Ok(catalogue),
         Err(_) => Err(Memory),
@@ -38,10 +34,7 @@ pub fn catalogue(alloc: Global) -> Result<Catalogue, Memory>
 }
 
 /// An engine over them, which has heard nothing.
-pub fn engine(alloc: Global, catalogue: &Catalogue) -> Result<Engine, Memory>
-    requires { IsUnchanged catalogue.now }
-    ensures { IfOk result (IsPlanned catalogue.now) }
-{
+pub fn engine(alloc: Global, catalogue: &Catalogue) -> Result<Engine, Memory> {
     let merged = Merged::of(alloc, catalogue.lines())?;
     let layout = catalogue.layout().copy(alloc)?;
     Engine::make(alloc, merged, layout)

@@ -1,14 +1,17 @@
-//! Runs over a host in memory: its pieces, calls that fail, and limits. What files show stands in examples/.
+//! Runs over a host in memory: its pieces, calls that fail, limits, and control lines. What else files show stands in
+//! examples/.
 ghost use Rattle.std.specs.Prelude.{◌≡◌, ◌<◌, IfOk};
 ghost use Rattle.cay_host.specs.MemHost.{mem_told};
 ghost use Rattle.cay_host.specs.Told.{IsFree};
 
 mod cases;
+mod control;
 mod failing;
 
 use cases::{CASES, Case, PAIRS};
 use cay_host::{Ledger, MemHost, Quiet, Steps};
 use cayuga_run::{Status, cayuga_within};
+use control::{COMES, CONTROLS};
 use failing::{STAGES, Stage};
 use std::alloc::{AllocError, Global};
 use std::process::Abort;
@@ -55,6 +58,26 @@ fn expect(rt: &impl Abort, alloc: Global, case: &Case<'_>) -> Result<(), Fail> {
 fn pieces_calls_that_fail_and_limits_are_told(rt: HostRuntime) -> Result<(), Fail> {
     for case in &CASES {
         expect(&rt, rt.alloc(), case)?;
+    }
+    Ok(())
+}
+
+#[test]
+fn control_lines_change_the_queries_between_epochs(rt: HostRuntime) -> Result<(), Fail> {
+    for case in &CONTROLS {
+        expect(&rt, rt.alloc(), case)?;
+    }
+    Ok(())
+}
+
+#[test]
+fn control_lines_are_heard_alike_however_the_text_is_cut(rt: HostRuntime) -> Result<(), Fail> {
+    for size in 1..COMES.events.len() {
+        let case = Case {
+            pieces: (size, 1000),
+            ..COMES
+        };
+        expect(&rt, rt.alloc(), &case)?;
     }
     Ok(())
 }
