@@ -1,5 +1,5 @@
 //! A list of items.
-ghost use Rattle.std.specs.Prelude.{◌≡◌, ◌<◌, [], ◌∷◌, ◌++◌, ◌↔◌, length, take, slice_get, IsPermutation, IsSorted, IsSome, IfOk, IfErr, OnOk, OnErr};
+ghost use Rattle.std.specs.Prelude.{◌≡◌, ◌<◌, [], ◌∷◌, ◌++◌, ◌↔◌, ◌≤◌, length, take, drop, slice_get, IsPermutation, IsSorted, IsSome, IfOk, IfErr, OnOk, OnErr};
 ghost use Rattle.std.specs.List.{remove};
 ghost use Rattle.std.specs.Option.{option_to_list};
 ghost use Rattle.std.specs.Borrow.{sem};
@@ -91,6 +91,18 @@ impl<T> List<T> {
         Ok(())
     }
 
+    /// Moves the items of the other list to the end. Want of memory drops them.
+    pub fn append(&mut self, more: List<T>) -> Result<(), Memory>
+    where
+        T: Drop,
+        ensures ok { OnOk result (self.new ≡ self.old ++ more) }
+        ensures kept { OnErr result (self.new ≡ self.old) }
+    {
+        let mut held = more.held;
+        self.held.append(&mut held)?;
+        Ok(())
+    }
+
     /// Takes the last item out. Takes no memory.
     pub fn pop(&mut self) -> Option<T>
         ensures items { self.old ≡ self.new ++ option_to_list result }
@@ -115,6 +127,19 @@ impl<T> List<T> {
         ensures { self.new ≡ take len self.old }
     {
         self.held.truncate(len);
+    }
+
+    /// Drops the items from one place up to another; those behind them move up. Takes no memory.
+    pub fn cut(&mut self, first: usize, end: usize)
+    where
+        T: Drop,
+        requires up { first ≤ end }
+        requires within { end ≤ length self.old }
+        ensures { self.new ≡ take first self.old ++ drop end self.old }
+    {
+        for _ in first..end {
+            self.held.remove(first);
+        }
     }
 
     /// Drops all items and keeps their room. Takes no memory.
