@@ -4,6 +4,7 @@
 #![tactic(auto)]
 
 mod equality;
+mod growth;
 mod laws;
 mod layout;
 mod line;
@@ -13,6 +14,7 @@ mod step;
 mod typing;
 mod wait;
 
+pub use growth::{Growth, Shrinkage};
 pub use laws::{
     added_lines_change_no_stream, added_lines_stand_alone, added_lines_stay_in_order,
     streams_are_derived,
