@@ -1,9 +1,10 @@
 //! Layouts that grow and shrink in place.
-ghost use Rattle.std.specs.Prelude.{◌≡◌, ◌<◌, ◌≤◌, OnErr, OnOk, length};
-ghost use Rattle.automaton.specs.Layouts.{grown, shrunk};
+ghost use Rattle.std.specs.Prelude.{◌≡◌, ◌<◌, ◌≤◌, IfOk, OnErr, OnOk, length};
+ghost use Rattle.automaton.specs.Layouts.{cut_back, growth_behind, grown, shrunk, sizes_of};
 
-use crate::layout::Layout;
+use crate::layout::{Layout, copy_kind_lists, copy_numbers};
 use event_types::{KindLists, Memory, Numbers};
+use std::alloc::Global;
 
 /// What a layout grows by, each list at the end.
 #[derive(Drop)]
@@ -22,22 +23,73 @@ pub struct Shrinkage {
     pub out: usize,
 }
 
+impl Growth {
+    /// An equal growth.
+    pub fn copy(&self, alloc: Global) -> Result<Growth, Memory>
+        ensures { IfOk result (λ copy. copy ≡ self.now) }
+    {
+        let order = copy_numbers(alloc, self.order.as_slice())?;
+        let outs = copy_numbers(alloc, self.outs.as_slice())?;
+        let kinds = copy_kind_lists(alloc, self.kinds.as_slice())?;
+        Ok(Growth { order, outs, kinds })
+    }
+}
+
+/// How many streams a layout has in the order of work, printed, and in all.
+#[derive(Clone, Copy, Drop)]
+pub struct Sizes {
+    pub worked: usize,
+    pub printed: usize,
+    pub all: usize,
+}
+
 impl Layout {
+    /// Takes no memory.
+    pub fn sizes(&self) -> Sizes
+        ensures { result ≡ sizes_of self.now }
+    {
+        Sizes {
+            worked: self.order.len(),
+            printed: self.outs.len(),
+            all: self.kinds.len(),
+        }
+    }
+
+    /// What the layout has behind that of these sizes.
+    pub fn growth_behind(&self, alloc: Global, sizes: Sizes) -> Result<Growth, Memory>
+        requires worked { sizes.worked ≤ length self.now.order }
+        requires printed { sizes.printed ≤ length self.now.outs }
+        requires all { sizes.all ≤ length self.now.kinds }
+        ensures { IfOk result (λ growth. growth ≡ growth_behind self.now sizes) }
+    {
+        let order = copy_numbers(alloc, &self.order.as_slice()[sizes.worked..])?;
+        let outs = copy_numbers(alloc, &self.outs.as_slice()[sizes.printed..])?;
+        let kinds = copy_kind_lists(alloc, &self.kinds.as_slice()[sizes.all..])?;
+        Ok(Growth { order, outs, kinds })
+    }
+
+    /// Takes out what the layout has behind that of these sizes. Takes no memory.
+    pub fn cut_back(&mut self, sizes: Sizes)
+        ensures { self.new ≡ cut_back self.old sizes }
+    {
+        self.order.truncate(sizes.worked);
+        self.outs.truncate(sizes.printed);
+        self.kinds.truncate(sizes.all);
+    }
+
     /// Puts a growth at the end. Want of memory drops it.
     pub fn grow(&mut self, growth: Growth) -> Result<(), Memory>
         ensures ok { OnOk result (self.new ≡ grown self.old growth) }
         ensures kept { OnErr result (self.new ≡ self.old) }
     {
-        let worked = self.order.len();
-        let printed = self.outs.len();
+        let before = self.sizes();
         self.order.append(growth.order)?;
         if let Err(_) = self.outs.append(growth.outs) {
-            self.order.truncate(worked);
+            self.cut_back(before);
             return Err(Memory);
         }
         if let Err(_) = self.kinds.append(growth.kinds) {
-            self.order.truncate(worked);
-            self.outs.truncate(printed);
+            self.cut_back(before);
             return Err(Memory);
         }
         Ok(())

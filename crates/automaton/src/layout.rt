@@ -20,19 +20,19 @@ impl Layout {
     pub fn copy(&self, alloc: Global) -> Result<Layout, Memory>
         ensures { IfOk result (λ copy. copy ≡ self.now) }
     {
-        let order = copy_numbers(alloc, &self.order)?;
-        let outs = copy_numbers(alloc, &self.outs)?;
-        let kinds = copy_kind_lists(alloc, &self.kinds)?;
+        let order = copy_numbers(alloc, self.order.as_slice())?;
+        let outs = copy_numbers(alloc, self.outs.as_slice())?;
+        let kinds = copy_kind_lists(alloc, self.kinds.as_slice())?;
         Ok(Layout { order, outs, kinds })
     }
 }
 
 // Equal numbers.
-fn copy_numbers(alloc: Global, numbers: &Numbers) -> Result<Numbers, Memory>
+pub(crate) fn copy_numbers(alloc: Global, numbers: &[usize]) -> Result<Numbers, Memory>
     ensures { IfOk result (λ copy. copy ≡ numbers.now) }
 {
     let mut copy = List::new(alloc);
-    for number in numbers.as_slice() {
+    for number in numbers {
         copy.add(*number)?;
     }
     Ok(copy)
@@ -50,11 +50,11 @@ pub(crate) fn copy_kinds(alloc: Global, kinds: &Kinds) -> Result<Kinds, Memory>
 }
 
 // Equal kinds of each stream.
-fn copy_kind_lists(alloc: Global, lists: &KindLists) -> Result<KindLists, Memory>
+pub(crate) fn copy_kind_lists(alloc: Global, lists: &[Kinds]) -> Result<KindLists, Memory>
     ensures { IfOk result (λ copy. copy ≡ lists.now) }
 {
     let mut copy = List::new(alloc);
-    for kinds in lists.as_slice() {
+    for kinds in lists {
         copy.add(copy_kinds(alloc, kinds)?)?;
     }
     Ok(copy)

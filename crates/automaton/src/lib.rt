@@ -14,7 +14,7 @@ mod step;
 mod typing;
 mod wait;
 
-pub use growth::{Growth, Shrinkage};
+pub use growth::{Growth, Shrinkage, Sizes};
 pub use laws::{
     added_lines_change_no_stream, added_lines_stand_alone, added_lines_stay_in_order,
     streams_are_derived,
