@@ -7,7 +7,7 @@ ghost use Rattle.binding_index.specs.Among.{is_key};
 
 use crate::arranging::make_room;
 use crate::bucket::Bucket;
-use crate::entries::place_of;
+use crate::near::{Near, place_near};
 use deadlines::Deadlines;
 use event_types::{List, Memory, Value, ValueRef};
 use indexmap::IndexMap;
@@ -19,13 +19,13 @@ pub(crate) type Buckets = IndexMap<Value, Bucket>;
 
 /// The place of the bucket where the candidates of an event with this key stand. OVER has none. Takes no
 /// memory.
-pub(crate) fn candidate_place(buckets: &Buckets, key: &Value) -> Option<usize>
+pub(crate) fn candidate_place(near: &Near, buckets: &Buckets, key: &Value) -> Option<usize>
     ensures found { IfSome result (HasBucketAt buckets.now.entries key.now) }
     ensures absent { IfNone result (HasNoCandidates buckets.now.entries key.now) }
 {
     match key.look() {
         ValueRef::Over => None,
-        _ => place_of(buckets, key),
+        _ => place_near(near, buckets, key),
     }
 }
 

@@ -6,12 +6,12 @@ ghost use Rattle.instances.specs.Keys.{KeepsUsedKeys};
 ghost use Rattle.binding_index.specs.Among.{is_among};
 ghost use Rattle.binding_index.specs.KeyParts.{first_key as first_key_of, key_of_part};
 
-use crate::arranging::arrange;
+use crate::arranging::{arrange, moved_to};
 use crate::buckets::{Buckets, add_bucket, candidate_place, copy_all, count_all};
 use crate::cutting::keep_all_after;
-use crate::entries::place_of;
 use crate::expiring::keep_all_alive;
 use crate::key::{KeyPart, first_key};
+use crate::near::{Near, place_near};
 use deadlines::Deadlines;
 use event_types::{Copied, Memory, Tuple, Value};
 use indexmap::IndexMap;
@@ -33,6 +33,8 @@ pub struct KeyedStore {
     filled: usize,
     // by place, a time before which no instance of the bucket there starts
     starts: Deadlines,
+    // where buckets were found last
+    near: Near,
 }
 
 impl Model for KeyedStore {
@@ -69,6 +71,7 @@ impl KeyedStore {
             buckets: IndexMap::new(alloc),
             filled: 0,
             starts,
+            near: Near::new(),
         })
     }
 
@@ -76,7 +79,7 @@ impl KeyedStore {
     pub fn is_ready(&self, key: &Value) -> bool
         ensures { result ≡ is_among key.now self.now.ready }
     {
-        place_of(&self.buckets, key).is_some()
+        place_near(&self.near, &self.buckets, key).is_some()
     }
 
     /// Forgets the keys that no instance has. Takes no memory.
@@ -133,16 +136,19 @@ impl Waiting for KeyedStore {
 
     fn candidates(&self, event: &Tuple) -> Look<'_, Instance> {
         let key = event.vals().get(self.key.event);
-        let Some(place) = candidate_place(&self.buckets, key) else {
+        let Some(place) = candidate_place(&self.near, &self.buckets, key) else {
             return Look::none();
         };
         self.buckets[place].look()
     }
 
     fn take<L: Ledger>(&mut self, event: &Tuple, choose: &Conj, steps: &mut Steps<L>) {
-        if let Some(place) = candidate_place(&self.buckets, event.vals().get(self.key.event)) {
+        let key = event.vals().get(self.key.event);
+        if let Some(place) = candidate_place(&self.near, &self.buckets, key) {
             self.buckets[place].take(event, choose, steps);
-            self.filled = arrange(&mut self.buckets, &mut self.starts, self.filled, place);
+            let before = self.filled;
+            self.filled = arrange(&mut self.buckets, &mut self.starts, before, place);
+            self.near.note(key, moved_to(place, before, self.filled));
         }
     }
 
@@ -152,7 +158,7 @@ impl Waiting for KeyedStore {
 
     fn ready(&mut self, instance: &Instance) -> Result<(), Memory> {
         let key = instance.tuple.vals().get(self.key.binding);
-        if place_of(&self.buckets, key).is_some() {
+        if place_near(&self.near, &self.buckets, key).is_some() {
             return Ok(());
         }
         let key = key.copied(*self.buckets.allocator())?;
@@ -166,7 +172,7 @@ impl Waiting for KeyedStore {
         if let Some(instance) = chain.look().next() {
             let from = instance.tuple.from() as u128;
             let key = instance.tuple.vals().get(self.key.binding);
-            if let Some(place) = place_of(&self.buckets, key) {
+            if let Some(place) = place_near(&self.near, &self.buckets, key) {
                 self.buckets[place].put(&mut chain);
                 self.starts.set(place, self.starts.get(place).min(from));
                 self.filled = arrange(&mut self.buckets, &mut self.starts, self.filled, place);

@@ -14,6 +14,7 @@ mod entries;
 mod expiring;
 mod key;
 mod keyed_store;
+mod near;
 mod store;
 
 pub use directory::Directory;

@@ -6,4 +6,4 @@ use Rattle.binding_index.proofs.keyed_store.KeyedStore.is_ready.Goals as goal
 
 pub returns : goal.returns
 returns c =
-    rw (← c.self.view_is) (c.is_some.ensures ∙ ready_if c.self.inside.buckets.entries c.args.key.now (instances_at c.self.inside.buckets.entries c.args.key.now) c.place_of.result (items_found c.self.inside.buckets.entries c.args.key.now c.place_of.result c.place_of.ensures.found) c.place_of.ensures.absent)
+    rw (← c.self.view_is) (c.is_some.ensures ∙ ready_if c.self.inside.buckets.entries c.args.key.now (instances_at c.self.inside.buckets.entries c.args.key.now) c.place_near.result (items_found c.self.inside.buckets.entries c.args.key.now c.place_near.result c.place_near.ensures.found) c.place_near.ensures.absent)

@@ -11,7 +11,7 @@ use Rattle.binding_index.proofs.keyed_store.KeyedStoreWaiting.ready.Goals as goa
 pub returns-then-is_some-clause-ok : goal.returns-then-is_some-clause-ok
 returns-then-is_some-clause-ok c =
     rw (← c.self.view_is) (subst (Contains (keys_in_order c.self.inside.buckets.entries)) (sym (value_is c.args.instance.now.tuple c.vals.result.now c.self.inside.key.binding c.get-key.result.now c.vals.ensures c.get-key.ensures))
-    (found_if c.self.inside.buckets.entries c.get-key.result.now (instances_at c.self.inside.buckets.entries c.get-key.result.now) c.place_of.result (sym c.is_some.ensures ∙ c.if-is_some.true) (items_found c.self.inside.buckets.entries c.get-key.result.now c.place_of.result c.place_of.ensures.found)))
+    (found_if c.self.inside.buckets.entries c.get-key.result.now (instances_at c.self.inside.buckets.entries c.get-key.result.now) c.place_near.result (sym c.is_some.ensures ∙ c.if-is_some.true) (items_found c.self.inside.buckets.entries c.get-key.result.now c.place_near.result c.place_near.ensures.found)))
 
 pub invariant_of-self : goal.invariant_of-self
 invariant_of-self c =

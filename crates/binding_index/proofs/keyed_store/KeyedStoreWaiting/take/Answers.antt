@@ -19,14 +19,14 @@ use Rattle.binding_index.proofs.WriteLemmas.{all_at, keys_written, length_writte
 use Rattle.binding_index.proofs.keyed_store.KeyedStoreWaiting.take.Goals as goal
 
 pub index_mut-requires : goal.index_mut-requires
-index_mut-requires g c = slice_get_within c.self.inside.buckets.entries c.in-Some.place (c.get.result.now, instances_at c.self.inside.buckets.entries c.get.result.now) c.in-Some.ensures.found.at
+index_mut-requires g c = slice_get_within c.self.inside.buckets.entries c.in-Some.place (c.get-key.result.now, instances_at c.self.inside.buckets.entries c.get-key.result.now) c.in-Some.ensures.found.at
 
 pub take-requires : goal.take-requires
 take-requires g c =
     let key = key_of_part c.self.inside.key in
     let bs = c.self.inside.buckets.entries in
     let are : c.index_mut.result.now ≡ candidates_of (Some key) c.args.event.now (instances_in_order bs) =
-    found_are key c.args.event.now bs c.self.invariant.keyed c.self.invariant.distinct c.get.result.now (value_is c.args.event.now c.vals.result.now c.self.inside.key.event c.get.result.now c.vals.ensures c.get.ensures) c.in-Some.place c.in-Some.ensures.found
+    found_are key c.args.event.now bs c.self.invariant.keyed c.self.invariant.distinct c.get-key.result.now (value_is c.args.event.now c.vals.result.now c.self.inside.key.event c.get-key.result.now c.vals.ensures c.get-key.ensures) c.in-Some.place c.in-Some.ensures.found
     c.index_mut.result.now c.index_mut.ensures.value in
     All-same (λ instance. AllFit c.args.choose.now c.args.event.now (Some instance.tuple)) c.index_mut.result.now (candidates_of (Some key) c.args.event.now (instances_in_order bs)) are
     (subst (λ (s : Keyed). All (λ (instance : Instance). AllFit c.args.choose.now c.args.event.now (Some instance.tuple)) (candidates_of (Some s.key) c.args.event.now s.instances)) (sym c.self.view_is) c.requires.condition_fits)
@@ -37,7 +37,7 @@ arrange-self-inside-requires-clause-within g c = let long = length_written c.sel
 pub arrange-self-inside-requires-clause-there : goal.arrange-self-inside-requires-clause-there
 arrange-self-inside-requires-clause-there g c =
     let long = length_written c.self.inside.buckets.entries c.in-Some.place c.take.new.self in
-    let at = slice_get_within c.self.inside.buckets.entries c.in-Some.place (c.get.result.now, instances_at c.self.inside.buckets.entries c.get.result.now) c.in-Some.ensures.found.at in
+    let at = slice_get_within c.self.inside.buckets.entries c.in-Some.place (c.get-key.result.now, instances_at c.self.inside.buckets.entries c.get-key.result.now) c.in-Some.ensures.found.at in
     omega (arith, long, at)
 
 pub arrange-self-inside-requires-clause-others : goal.arrange-self-inside-requires-clause-others
@@ -49,7 +49,7 @@ arrange-self-inside-requires-clause-room g c = let long = length_written c.self.
 pub arrange-self-inside-requires-clause-starts : goal.arrange-self-inside-requires-clause-starts
 arrange-self-inside-requires-clause-starts g c =
     let bs = c.self.inside.buckets.entries in
-    let key = c.get.result.now in
+    let key = c.get-key.result.now in
     let had = instances_at bs key in
     let is = value_there bs c.in-Some.place key had c.index_mut.result.now c.in-Some.ensures.found.at c.index_mut.ensures.value in
     taken_starts (λ (n : Instance). not (is_eligible c.args.choose.now n.tuple c.args.event.now)) c.self.inside.starts bs c.in-Some.place key had c.take.new.self c.in-Some.ensures.found.at
@@ -58,7 +58,7 @@ arrange-self-inside-requires-clause-starts g c =
 pub invariant_of-self : goal.invariant_of-self
 invariant_of-self g c =
     let bs = c.self.inside.buckets.entries in
-    let key = c.get.result.now in
+    let key = c.get-key.result.now in
     let had = instances_at bs key in
     let is = value_there bs c.in-Some.place key had c.index_mut.result.now c.in-Some.ensures.found.at c.index_mut.ensures.value in
     let left : c.take.new.self ≡ filter (λ (n : Instance). not (is_eligible c.args.choose.now n.tuple c.args.event.now)) had = c.take.ensures.others ∙ ap (filter (λ (n : Instance). not (is_eligible c.args.choose.now n.tuple c.args.event.now))) is in
@@ -69,8 +69,8 @@ invariant_of-self g c =
 
 pub returns-in-Some-clause-others : goal.returns-in-Some-clause-others
 returns-in-Some-clause-others g c =
-    rw (← c.self.view_is) (found_go (key_of_part c.self.inside.key) c.args.event.now c.self.inside.buckets.entries c.self.invariant.keyed c.self.invariant.distinct c.get.result.now
-    (value_is c.args.event.now c.vals.result.now c.self.inside.key.event c.get.result.now c.vals.ensures c.get.ensures) c.in-Some.place c.in-Some.ensures.found c.index_mut.result.now c.index_mut.ensures.value c.args.choose.now c.take.new.self
+    rw (← c.self.view_is) (found_go (key_of_part c.self.inside.key) c.args.event.now c.self.inside.buckets.entries c.self.invariant.keyed c.self.invariant.distinct c.get-key.result.now
+    (value_is c.args.event.now c.vals.result.now c.self.inside.key.event c.get-key.result.now c.vals.ensures c.get-key.ensures) c.in-Some.place c.in-Some.ensures.found c.index_mut.result.now c.index_mut.ensures.value c.args.choose.now c.take.new.self
     c.arrange-self-inside.new.buckets.entries c.take.ensures.others c.arrange-self-inside.ensures.same)
 
 -- each candidate is tested once
@@ -79,7 +79,7 @@ returns-in-Some-clause-ticks g c =
     let key = key_of_part c.self.inside.key in
     let bs = c.self.inside.buckets.entries in
     let are : length c.index_mut.result.now ≡ length (candidates_of (Some key) c.args.event.now (instances_in_order bs)) =
-    ap length (found_are key c.args.event.now bs c.self.invariant.keyed c.self.invariant.distinct c.get.result.now (value_is c.args.event.now c.vals.result.now c.self.inside.key.event c.get.result.now c.vals.ensures c.get.ensures) c.in-Some.place c.in-Some.ensures.found
+    ap length (found_are key c.args.event.now bs c.self.invariant.keyed c.self.invariant.distinct c.get-key.result.now (value_is c.args.event.now c.vals.result.now c.self.inside.key.event c.get-key.result.now c.vals.ensures c.get-key.ensures) c.in-Some.place c.in-Some.ensures.found
     c.index_mut.result.now c.index_mut.ensures.value) in
     rw (← c.self.view_is) (omega (arith, are, c.take.ensures.ticks))
 
@@ -89,5 +89,5 @@ returns-in-Some-clause-same_ready g c =
 
 pub returns-in_default-clause-others : goal.returns-in_default-clause-others
 returns-in_default-clause-others g c =
-    rw (← c.self.view_is) (none_go (key_of_part c.self.inside.key) c.args.event.now c.self.inside.buckets.entries c.self.invariant.keyed c.self.invariant.distinct c.get.result.now
-    (value_is c.args.event.now c.vals.result.now c.self.inside.key.event c.get.result.now c.vals.ensures c.get.ensures) c.args.choose.now c.in_default.ensures.absent)
+    rw (← c.self.view_is) (none_go (key_of_part c.self.inside.key) c.args.event.now c.self.inside.buckets.entries c.self.invariant.keyed c.self.invariant.distinct c.get-key.result.now
+    (value_is c.args.event.now c.vals.result.now c.self.inside.key.event c.get-key.result.now c.vals.ensures c.get-key.ensures) c.args.choose.now c.in_default.ensures.absent)
