@@ -1,8 +1,8 @@
 -- Kinds that grow line by line.
-use Rattle.std.proofs.Common.{◌≡◌, ◌∙◌, sym, ap, refl, subst, ℕ, ◌+◌, ◌<◌, ◌≤◌, ◌==◌, ◌||◌, Bool, true, false, cond, length, get_or, drop, add-one, List, [], ◌∷◌, ◌++◌, map, append-nil, append_assoc, arith}
+use Rattle.std.proofs.Common.{◌≡◌, ◌∙◌, sym, ap, refl, subst, ℕ, ◌+◌, ◌<◌, ◌≤◌, ◌==◌, ◌||◌, Bool, true, false, cond, length, get_or, take, drop, add-one, List, [], ◌∷◌, ◌++◌, map, append-nil, append_assoc, arith}
 use Rattle.std.specs.Prelude.{Some, slice_get}
 use Rattle.std.specs.List.{All, list_any}
-use Rattle.std.proofs.Math.Seq.{drop-cons}
+use Rattle.std.proofs.Math.Seq.{drop-cons, take-append_seam}
 use Rattle.std.proofs.lemmas.List.{drop_all, length-append}
 use Rattle.std.proofs.lemmas.Bool.Decides.{nat_tests}
 use Rattle.std.proofs.lemmas.Option.{slice_get_within}
@@ -32,6 +32,10 @@ grown_longer line out kinds =
 -- what is longer than a longer list is longer
 pub longer_twice : (old mid new : List (List Kind)) → IsLonger old mid → IsLonger mid new → IsLonger old new
 longer_twice old mid new a b = record { more = a.more ++ b.more; is = b.is ∙ ap (λ ks. ks ++ b.more) a.is ∙ append_assoc old a.more b.more }
+
+-- what was there are the first ones
+pub longer_take : (old new : List (List Kind)) → IsLonger old new → take (length old) new ≡ old
+longer_take old new long = ap (take (length old)) long.is ∙ take-append_seam old long.more
 
 -- kinds that grow in turn are longer
 pub longer : (kinds : List (List Kind)) (lines : List Line) (all : List (List Kind)) → GrowInTurn kinds lines all → IsLonger kinds all
@@ -108,10 +112,11 @@ module _ (stream : ℕ) (out : List Kind) where
 pub record GrowsFrom (first : List (List Kind)) (lines : List Line) (index : ℕ) (kinds : List (List Kind)) : Type 0 where
   pub rest : (all : List (List Kind)) × GrowInTurn kinds (drop index lines) all
   pub whole : (all : List (List Kind)) → GrowInTurn kinds (drop index lines) all → GrowInTurn first lines all
+  pub longer : IsLonger first kinds
 
 -- before any line the kinds have grown by none
 pub grows_first : (first : List (List Kind)) (lines : List Line) → ((all : List (List Kind)) × GrowInTurn first lines all) → GrowsFrom first lines 0 first
-grows_first first lines h = record { rest = h; whole = λ all g. g }
+grows_first first lines h = record { rest = h; whole = λ all g. g; longer = record { more = []; is = sym (append-nil first) } }
 
 module _ (first : List (List Kind)) (lines : List Line) (index : ℕ) (kinds : List (List Kind)) (line : Line) (inside : index < length lines) (is : line ≡ get_or lines index line) (grows : GrowsFrom first lines index kinds) where
   next_line : drop index lines ≡ line ∷ drop (index + 1) lines
@@ -133,6 +138,7 @@ module _ (first : List (List Kind)) (lines : List Line) (index : ℕ) (kinds : L
         whole =
             λ all h. grows.whole all (subst (λ (ls : List Line). GrowInTurn kinds ls all) (sym next_line)
             (here.0, here.1, here.2, subst (λ (ks : List (List Kind)). GrowInTurn ks (drop (index + 1) lines) all) (sym same) h));
+        longer = longer_twice first kinds new grows.longer (subst (IsLonger kinds) (sym g.2) (grown_longer line g.0 kinds));
       }
 
 -- behind all lines they have grown

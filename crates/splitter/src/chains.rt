@@ -1,5 +1,5 @@
 //! The lines of queries in the order of work, with their layout.
-ghost use Rattle.std.specs.Prelude.{◌≡◌, ◌+◌, ◌-◌, ◌<◌, ◌≤◌, ◌^◌, ◌++◌, ◌∷◌, [], List, length, map, IfOk, OnOk};
+ghost use Rattle.std.specs.Prelude.{◌≡◌, ◌+◌, ◌-◌, ◌<◌, ◌≤◌, ◌^◌, ◌++◌, ◌∷◌, [], List, length, map, IfOk, OnErr, OnOk};
 ghost use Rattle.std.specs.List.{All, range_with_len};
 ghost use Rattle.event_types.specs.declared.kind.Kind.{Kind};
 ghost use Rattle.semantics.specs.TypedPrograms.{PublishInTurn};
@@ -83,7 +83,7 @@ fn streams_at(alloc: Global, declared: usize, places: &[usize]) -> Result<Number
 }
 
 /// Adds the lines of a query that publishes a stream, and what the layout tells of its hidden streams, and both to the order
-/// of work. The layout has the kinds of all streams below the first hidden one.
+/// of work. The layout has the kinds of all streams below the first hidden one. Want of memory leaves the layout as it was.
 pub fn add_query(
     alloc: Global,
     expr: &Expr,
@@ -100,12 +100,23 @@ pub fn add_query(
     ensures outs { OnOk result (layout.new.outs ≡ layout.old.outs) }
     ensures kinds { OnOk result (GrowInTurn layout.old.kinds (split_lines (ex_of expr.now) stream namer.old) layout.new.kinds) }
     ensures next { OnOk result (namer.new ≡ (parts_of (ex_of expr.now) namer.old).next) }
+    ensures kept { OnErr result (layout.new ≡ layout.old) }
 {
     let first = namer.next();
+    let streams = layout.kinds.len();
+    let worked = layout.order.len();
     let more = split(alloc, expr, stream, namer)?;
     add_kinds(alloc, &more, &mut layout.kinds)?;
-    add_order(&mut layout.order, first, namer.next(), stream)?;
-    add_lines(alloc, lines, &more)
+    if let Err(_) = add_order(&mut layout.order, first, namer.next(), stream) {
+        layout.kinds.truncate(streams);
+        return Err(Memory);
+    }
+    if let Err(_) = lines.append(more) {
+        layout.kinds.truncate(streams);
+        layout.order.truncate(worked);
+        return Err(Memory);
+    }
+    Ok(())
 }
 
 // Adds the hidden streams from one number up to another, and the query's own stream.
@@ -116,20 +127,19 @@ fn add_order(
     stream: StreamId,
 ) -> Result<(), Memory>
     requires { first ≤ next }
-    ensures { OnOk result (order.new ≡ order.old ++ (range_with_len first (next - first) ++ stream ∷ [])) }
+    ensures ok { OnOk result (order.new ≡ order.old ++ (range_with_len first (next - first) ++ stream ∷ [])) }
+    ensures kept { OnErr result (order.new ≡ order.old) }
 {
+    let worked = order.len();
     for number in first..next {
-        order.add(number)?;
+        if let Err(_) = order.add(number) {
+            order.truncate(worked);
+            return Err(Memory);
+        }
     }
-    order.add(stream)
-}
-
-// Adds equal lines.
-fn add_lines(alloc: Global, lines: &mut Lines, more: &Lines) -> Result<(), Memory>
-    ensures { OnOk result (lines.new ≡ lines.old ++ more.now) }
-{
-    for line in more.as_slice() {
-        lines.add(line.copy(alloc)?)?;
+    if let Err(_) = order.add(stream) {
+        order.truncate(worked);
+        return Err(Memory);
     }
     Ok(())
 }
