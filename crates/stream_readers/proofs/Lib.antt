@@ -3,6 +3,13 @@ pub mod FindLemmas
 pub mod KeyedLemmas
 pub mod KeyTableLemmas
 pub mod LeadLemmas
-pub mod MakeLemmas
 pub mod OnceLemmas
 pub mod TargetLemmas
+pub mod SlotLemmas
+pub mod TakenLemmas
+pub mod ChangeLemmas
+pub mod EntryLemmas
+pub mod GrownLemmas
+pub mod PartedLemmas
+pub mod GoneLemmas
+pub mod MakeLemmas

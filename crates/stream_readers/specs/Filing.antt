@@ -1,6 +1,6 @@
 -- Targets and waiting states as they stand in the indexes of a stream.
-use Rattle.std.specs.Prelude.{ℕ, List, [], ◌∷◌, map, slice_get, option_to_list}
-use Rattle.std.specs.List.{filter, flat_map}
+use Rattle.std.specs.Prelude.{◌≡◌, ◌==◌, ℕ, Bool, List, [], ◌∷◌, Option, Some, None, is_some, map, option_to_list, slice_index_or}
+use Rattle.std.specs.List.{filter, flat_map, list_any}
 use Rattle.event_types.specs.Tuple.{TupleView}
 use Rattle.automaton.specs.States.{Net}
 use Rattle.static_index.specs.Conditions.{Condition}
@@ -15,15 +15,38 @@ pub record Filed : Type 0 where
   pub target : Target
   pub parts : List FixedPart
 
--- targets beside the conditions of an index
-abbrev pub filed_in : List Target → List Condition → List Filed
-filed_in [] conditions = []
-filed_in (target ∷ targets) [] = []
-filed_in (target ∷ targets) (condition ∷ conditions) = record { target = target; parts = condition.parts } ∷ filed_in targets conditions
+-- places for targets, of which some are free
+abbrev pub Slots : Type 0
+Slots = List (Option Target)
+
+-- the target at a place, if it isn't free
+abbrev pub slot_at : Slots → ℕ → Option Target
+slot_at slots place = slice_index_or slots place None
+
+-- the target of a place, filed under these parts
+abbrev pub filed_under : List FixedPart → Option Target → List Filed
+filed_under parts None = []
+filed_under parts (Some target) = record { target = target; parts = parts } ∷ []
+
+-- the target at the place that a condition names, under its parts
+abbrev pub filed_by : Slots → Condition → List Filed
+filed_by slots condition = filed_under condition.parts (slot_at slots condition.id)
+
+-- the targets of the conditions of an index
+abbrev pub filed_in : Slots → List Condition → List Filed
+filed_in slots conditions = flat_map (filed_by slots) conditions
+
+-- whether a condition has the id
+abbrev pub has_id : ℕ → List Condition → Bool
+has_id id conditions = list_any (λ condition. condition.id == id) conditions
+
+-- a place that isn't free is one that a condition names, and no other is
+abbrev pub AreAtPlaces : Slots → List Condition → Type 0
+AreAtPlaces slots conditions = (place : ℕ) → has_id place conditions ≡ is_some (slot_at slots place)
 
 -- the targets at these places
-abbrev pub at_places : List Target → List ℕ → List Target
-at_places targets places = flat_map (λ place. option_to_list (slice_get targets place)) places
+abbrev pub at_places : Slots → List ℕ → List Target
+at_places slots places = flat_map (λ place. option_to_list (slot_at slots place)) places
 
 -- the targets whose fixed parts all hold for a tuple
 abbrev pub targets_met : TupleView → List Filed → List Target

@@ -1,7 +1,9 @@
+pub mod Changing
 pub mod Filing
 pub mod Finding
 pub mod KeyTables
 pub mod Leading
+pub mod Leaving
 pub mod Making
 pub mod Readers
 pub mod Targets

@@ -7,12 +7,15 @@
 //! states to which it leads, and `Found` as its lists.
 #![tactic(auto)]
 
-mod gathering;
+mod changing;
+mod filing;
 mod key_readers;
 mod leading;
 mod making;
 mod reader;
 mod readers;
+mod slots;
+mod streams;
 mod sweeping;
 mod target;
 mod target_index;

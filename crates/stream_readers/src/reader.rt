@@ -1,11 +1,12 @@
 //! What reads one stream.
-ghost use Rattle.std.specs.Prelude.{◌≡◌, ◌++◌, ◌∷◌, [], IsTrue, OnOk, length, map};
-ghost use Rattle.std.specs.List.{All, range_with_len};
+ghost use Rattle.std.specs.Prelude.{◌≡◌, ◌++◌, ◌∷◌, [], IsPermutation, IsTrue, OnOk, length, map};
+ghost use Rattle.std.specs.List.{All, flat_map, range_with_len};
 ghost use Rattle.automaton.specs.Networks.{IsNetwork};
 ghost use Rattle.automaton.specs.States.{ends_at, is_used};
-ghost use Rattle.static_index.specs.Conditions.{HasId, with_condition};
+ghost use Rattle.static_index.specs.Conditions.{HasId, with_condition, without};
 ghost use Rattle.static_index.specs.FixedParts.{fixed_parts};
 ghost use Rattle.stream_readers.specs.Filing.{filed_to};
+ghost use Rattle.stream_readers.specs.Leaving.{left_by};
 ghost use Rattle.stream_readers.specs.Targets.{end_at, targets_at};
 ghost use Rattle.stream_readers.specs.Ways.{first_parts};
 ghost use Rattle.stream_readers.specs.declared.target.Target.TheVariants.{Edge};
@@ -46,7 +47,8 @@ impl Reader {
     ) -> Result<(), Memory>
         requires used { IsTrue (is_used network.now number) }
         requires network { IsNetwork network.now }
-        ensures { OnOk result (self.new ≡ record self.old { targets = self.old.targets ++ map (filed_to network.now) (targets_at network.now number) }) }
+        ensures targets { OnOk result (IsPermutation self.new.targets (self.old.targets ++ map (filed_to network.now) (targets_at network.now number))) }
+        ensures waits { self.new.waits ≡ self.old.waits }
     {
         add_edges(
             alloc,
@@ -57,12 +59,40 @@ impl Reader {
         add_ends(alloc, &mut self.targets, network, number)
     }
 
+    /// Adds a target under the condition at the head of the step to it, or under none.
+    pub(crate) fn add_target(
+        &mut self,
+        alloc: Global,
+        target: Target,
+        step: &Step,
+    ) -> Result<(), Memory>
+        ensures targets { OnOk result (IsPermutation self.new.targets (self.old.targets ++ record { target = target; parts = first_parts step.now } ∷ [])) }
+        ensures waits { self.new.waits ≡ self.old.waits }
+    {
+        add_target(alloc, &mut self.targets, target, step)
+    }
+
+    /// A target leaves. Takes no memory.
+    pub(crate) fn leave(&mut self, gone: Target)
+        ensures { self.new ≡ record self.old { targets = flat_map (left_by gone) self.old.targets } }
+    {
+        self.targets.leave(gone);
+    }
+
     /// Adds a state that waits by a condition. Want of memory leaves the reader as it was.
     pub(crate) fn add_wait(&mut self, number: usize, choose: &Conj) -> Result<(), Memory>
         requires { ¬ HasId number self.old.waits }
         ensures { OnOk result (self.new ≡ record self.old { waits = with_condition (record { id = number; parts = fixed_parts choose.now }) self.old.waits }) }
     {
         self.waits.add(number, choose)
+    }
+
+    /// A waiting state leaves. Takes no memory.
+    pub(crate) fn leave_wait(&mut self, number: usize)
+        requires { HasId number self.old.waits }
+        ensures { self.new ≡ record self.old { waits = without number self.old.waits } }
+    {
+        self.waits.remove(number);
     }
 }
 
@@ -74,7 +104,7 @@ fn add_edges(
     states: &[usize],
 ) -> Result<(), Memory>
     requires { All (λ state. IsTrue (is_used network.now state)) states.now }
-    ensures { OnOk result (index.new ≡ index.old ++ map (λ state. filed_to network.now (Edge state)) states.now) }
+    ensures { OnOk result (IsPermutation index.new (index.old ++ map (λ state. filed_to network.now (Edge state)) states.now)) }
 {
     for state in states {
         add_target(alloc, index, Target::Edge(*state), network.step(*state))?;
@@ -90,7 +120,7 @@ fn add_ends(
     number: usize,
 ) -> Result<(), Memory>
     requires { IsTrue (is_used network.now number) }
-    ensures { OnOk result (index.new ≡ index.old ++ map (λ place. filed_to network.now (end_at number place)) (range_with_len 0 (length (ends_at network.now number)))) }
+    ensures { OnOk result (IsPermutation index.new (index.old ++ map (λ place. filed_to network.now (end_at number place)) (range_with_len 0 (length (ends_at network.now number))))) }
 {
     let ends = network.ends(number);
     for place in 0..ends.len() {
@@ -110,7 +140,7 @@ fn add_target(
     target: Target,
     step: &Step,
 ) -> Result<(), Memory>
-    ensures { OnOk result (index.new ≡ index.old ++ record { target = target; parts = first_parts step.now } ∷ []) }
+    ensures { OnOk result (IsPermutation index.new (index.old ++ record { target = target; parts = first_parts step.now } ∷ [])) }
 {
     match step.as_slice().first() {
         Some(Stage::Keep(condition)) => index.add(target, condition),

@@ -1,12 +1,12 @@
 //! What reads each stream, and what a tuple finds of it.
-ghost use Rattle.std.specs.Prelude.{◌≡◌, ◌<◌, [], IfOk, OnOk, length};
+ghost use Rattle.std.specs.Prelude.{◌≡◌, [], IfOk, OnOk};
 ghost use Rattle.automaton.specs.Networks.{IsNetwork};
 ghost use Rattle.automaton.specs.States.{Net};
 ghost use Rattle.stream_readers.specs.Finding.{FindsPlain, FindsWays};
 ghost use Rattle.stream_readers.specs.Readers.{AreReadersOf};
 
-use crate::making::{add_state, unread};
-use crate::reader::Reader;
+use crate::making::add_state;
+use crate::streams::Streams;
 use crate::target::Targets;
 use automaton::Network;
 use event_types::{List, Memory, Numbers, StreamId, Tuple};
@@ -37,7 +37,8 @@ impl Found {
 /// it without a key to find them, each filed by what it asks of a tuple alone.
 #[derive(Drop)]
 pub struct Readers {
-    streams: List<Reader>,
+    pub(crate) alloc: Global,
+    pub(crate) streams: Streams,
 }
 
 impl Model for Readers {
@@ -50,25 +51,26 @@ impl Model for Readers {
 }
 
 impl Readers {
-    /// The readers of no streams. Takes no memory.
+    /// Nothing reads any stream. Takes no memory.
     pub fn new(alloc: Global) -> Readers
-        ensures { result ≡ [] }
+        ensures value { result ≡ [] }
+        ensures none { AreReadersOf [] result }
     {
         Readers {
+            alloc,
             streams: List::new(alloc),
         }
     }
 
-    /// The readers of the first so many streams of a network. What reads other streams is left out.
-    pub fn make(alloc: Global, network: &Network, streams: usize) -> Result<Readers, Memory>
-        ensures made { IfOk result (λ readers. AreReadersOf network.now readers) }
-        ensures streams { IfOk result (λ readers. length readers ≡ streams) }
+    /// The readers of the streams of a network.
+    pub fn make(alloc: Global, network: &Network) -> Result<Readers, Memory>
+        ensures { IfOk result (AreReadersOf network.now) }
     {
-        let mut readers = unread(alloc, streams)?;
+        let mut streams = List::new(alloc);
         for number in 0..network.places() {
-            add_state(alloc, &mut readers, network, number)?;
+            add_state(alloc, &mut streams, network, number)?;
         }
-        Ok(Readers { streams: readers })
+        Ok(Readers { alloc, streams })
     }
 
     /// The ways out of the roots of the stream on which the tuple may get on.
@@ -78,13 +80,15 @@ impl Readers {
         tuple: &Tuple,
         found: &mut Found,
     ) -> Result<(), Memory>
-        requires { stream < length self.now }
         ensures { OnOk result ((net : Net) → IsNetwork net → AreReadersOf net self.now → FindsWays net stream tuple.now found.new.targets) }
     {
-        let reader = self.streams.get(stream);
-        reader
-            .targets
-            .find(tuple, &mut found.places, &mut found.targets)
+        if stream < self.streams.len() {
+            let targets = &self.streams.get(stream).targets;
+            targets.find(tuple, &mut found.places, &mut found.targets)
+        } else {
+            found.targets.clear();
+            Ok(())
+        }
     }
 
     /// The states that wait on the stream without a key to find them, and may match the tuple.
@@ -94,13 +98,15 @@ impl Readers {
         tuple: &Tuple,
         found: &mut Found,
     ) -> Result<(), Memory>
-        requires { stream < length self.now }
         ensures waits { OnOk result ((net : Net) → AreReadersOf net self.now → FindsPlain net stream tuple.now found.new.waits) }
         ensures targets { found.new.targets ≡ found.old.targets }
     {
-        self.streams
-            .get(stream)
-            .waits
-            .matching(tuple, &mut found.waits)
+        if stream < self.streams.len() {
+            let waits = &self.streams.get(stream).waits;
+            waits.matching(tuple, &mut found.waits)
+        } else {
+            found.waits.clear();
+            Ok(())
+        }
     }
 }

@@ -1,9 +1,11 @@
 //! Targets by what the first condition on the way to each asks of a tuple alone.
-ghost use Rattle.std.specs.Prelude.{◌≡◌, ◌++◌, ◌∷◌, [], OnErr, OnOk};
+ghost use Rattle.std.specs.Prelude.{◌≡◌, ◌++◌, ◌∷◌, [], IsPermutation, OnErr, OnOk};
+ghost use Rattle.std.specs.List.{flat_map};
 ghost use Rattle.static_index.specs.FixedParts.{fixed_parts};
 ghost use Rattle.stream_readers.specs.Filing.{targets_met};
+ghost use Rattle.stream_readers.specs.Leaving.{left_by};
 
-use crate::gathering::gather;
+use crate::slots::{Slots, clear_slot, free_place, gather, put_slot, take_away};
 use crate::target::{Target, Targets};
 use event_types::{List, Memory, Numbers, Tuple};
 use scalar_expr::Conj;
@@ -11,11 +13,14 @@ use static_index::StaticIndex;
 use std::alloc::Global;
 use std::marker::Model;
 
-/// Targets, each under the fixed parts of a condition. An id of the index is the place of a target.
+/// Targets, each under the fixed parts of a condition. An id of the index is the place of a target; a place
+/// whose target left is free, and used again.
 #[derive(Drop)]
 pub(crate) struct TargetIndex {
-    targets: Targets,
+    slots: Slots,
     conditions: StaticIndex,
+    // Where a free place is looked for first.
+    first: usize,
 }
 
 impl Model for TargetIndex {
@@ -24,14 +29,11 @@ impl Model for TargetIndex {
 
     ghost Value = { List Filed };
 
-    ghost use Rattle.std.specs.Prelude.{◌≡◌, length};
-    ghost use Rattle.std.specs.List.{range_with_len};
-    ghost use Rattle.static_index.specs.Conditions.{ids_of};
-    ghost use Rattle.stream_readers.specs.Filing.{filed_in};
+    ghost use Rattle.stream_readers.specs.Filing.{AreAtPlaces, filed_in};
 
-    ghost view = { λ s. filed_in s.targets s.conditions };
+    ghost view = { λ s. filed_in s.slots s.conditions };
 
-    ghost invariant = { λ s. ids_of s.conditions ≡ range_with_len 0 (length s.targets) };
+    ghost invariant = { λ s. AreAtPlaces s.slots s.conditions };
 }
 
 impl TargetIndex {
@@ -40,25 +42,35 @@ impl TargetIndex {
         ensures { result ≡ [] }
     {
         TargetIndex {
-            targets: List::new(alloc),
+            slots: List::new(alloc),
             conditions: StaticIndex::new(alloc),
+            first: 0,
         }
     }
 
     /// Adds a target. Want of memory leaves the others as they were.
     pub(crate) fn add(&mut self, target: Target, condition: &Conj) -> Result<(), Memory>
-        ensures added { OnOk result (self.new ≡ self.old ++ record { target = target; parts = fixed_parts condition.now } ∷ []) }
+        ensures added { OnOk result (IsPermutation self.new (self.old ++ record { target = target; parts = fixed_parts condition.now } ∷ [])) }
         ensures kept { OnErr result (self.new ≡ self.old) }
     {
-        let place = self.targets.len();
-        self.targets.add(target)?;
+        let place = free_place(&self.slots, self.first);
+        put_slot(&mut self.slots, place, target)?;
+        self.first = place;
         match self.conditions.add(place, condition) {
             Ok(()) => Ok(()),
             Err(fault) => {
-                self.targets.truncate(place);
+                clear_slot(&mut self.slots, place);
                 Err(fault)
             }
         }
+    }
+
+    /// A target leaves. Takes no memory.
+    pub(crate) fn leave(&mut self, gone: Target)
+        ensures { self.new ≡ flat_map (left_by gone) self.old }
+    {
+        let first = take_away(&mut self.slots, &mut self.conditions, gone);
+        self.first = self.first.min(first);
     }
 
     /// The targets whose fixed parts all hold for the tuple. Both lists are used anew, the first for places.
@@ -71,6 +83,6 @@ impl TargetIndex {
         ensures { OnOk result (found.new ≡ targets_met tuple.now self.now) }
     {
         self.conditions.matching(tuple, places)?;
-        gather(&self.targets, places.as_slice(), found)
+        gather(&self.slots, places.as_slice(), found)
     }
 }

@@ -1,8 +1,13 @@
-use Rattle.std.proofs.Common.{◌∙◌, ap, sym, List}
+use Rattle.std.proofs.Common.{◌∙◌, ap, append-nil, sym, List}
 use Rattle.std.specs.Prelude.{slice_get}
+use Rattle.std.proofs.lemmas.List.Sorted.{IsPermutation-refl}
+use Rattle.scalar_expr.proofs.Bags.{permuted_to}
 use Rattle.automaton.specs.declared.network.End.{End}
 use Rattle.stream_readers.proofs.FilingLemmas.{ends_more}
 use Rattle.stream_readers.proofs.reader.add_ends.Goals as goal
+
+pub loop-place-init : goal.loop-place-init
+loop-place-init c = permuted_to (IsPermutation-refl c.args.index.now) (sym (append-nil c.args.index.now))
 
 -- one end more
 pub loop-place-preserved : goal.loop-place-preserved

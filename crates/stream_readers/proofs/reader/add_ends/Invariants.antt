@@ -1,4 +1,5 @@
-use Rattle.std.proofs.Common.{◌≡◌, ◌++◌, map}
+use Rattle.std.proofs.Common.{◌++◌, map}
+use Rattle.std.specs.List.Sorted.{IsPermutation}
 use Rattle.std.specs.List.{range_with_len}
 use Rattle.stream_readers.specs.Filing.{filed_to}
 use Rattle.stream_readers.specs.Targets.{end_at}
@@ -6,4 +7,4 @@ use Rattle.stream_readers.proofs.reader.add_ends.Given as goal
 
 -- the ends so far are added
 abbrev pub invariant-loop-place : goal.invariant-loop-place
-invariant-loop-place l = l.index ≡ l.initial.index ++ map (λ place. filed_to l.network (end_at l.number place)) (range_with_len 0 l.place)
+invariant-loop-place l = IsPermutation l.index (l.initial.index ++ map (λ place. filed_to l.network (end_at l.number place)) (range_with_len 0 l.place))

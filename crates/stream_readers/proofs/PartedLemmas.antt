@@ -1,0 +1,283 @@
+-- Readers of a network that an end comes to, or that an end or a state leaves.
+use Rattle.std.proofs.Common.{◌≡◌, ◌∙◌, sym, ap, refl, subst, ℕ, zero, suc, ◌+◌, ◌-◌, ◌<◌, ◌≤◌, ◌==◌, ◌&&◌, ◌||◌, not, nat_lt, Bool, true, false, cond, IsTrue, length, List, [], ◌∷◌, ◌++◌, map, append_assoc, append-nil, arith}
+use Rattle.std.specs.Prelude.{Option, Some, None, count_by, is_some, slice_get, take}
+use Rattle.std.specs.Option.{option_and_then, option_map, unwrap_or}
+use Rattle.std.specs.List.{filter, flat_map, range_with_len, remove}
+use Rattle.std.specs.List.Sorted.{IsPermutation}
+use Rattle.std.proofs.lemmas.Bool.Decides.{nat_tests}
+use Rattle.std.proofs.lemmas.Grind.{flat_map-append}
+use Rattle.std.proofs.lemmas.List.{map-append}
+use Rattle.std.proofs.lemmas.List.Sorted.{IsPermutation-append_comm, IsPermutation-append_right, IsPermutation-refl}
+use Rattle.event_types.proofs.NumberLemmas.{is_below, is_other, other_number, same_number, self_equal}
+use Rattle.scalar_expr.proofs.Bags.{flat_map_each, permuted_from, permuted_to}
+use Rattle.automaton.specs.Changes.{AddsEnd, RemovesEnd, RemovesState, with_end, without_edge, without_end, without_number, without_numbered}
+use Rattle.automaton.specs.Networks.{IsNetwork}
+use Rattle.automaton.specs.States.{Net, before_at, edges_at, edges_in, ends_at, ends_in, entrance_at, entrance_in, is_used, root_at, root_by, root_in, state_at, step_at, step_by, tells, wait_at, wait_by}
+use Rattle.automaton.specs.declared.network.End.{End}
+use Rattle.automaton.specs.declared.network.State.{State}
+use Rattle.automaton.specs.declared.wait.Wait.{Wait}
+use Rattle.static_index.specs.Conditions.{Condition, without}
+use Rattle.stream_readers.specs.Changing.{Files, HaveTargets, HaveWaits, KeepWaits, Parts, PartsWait}
+use Rattle.stream_readers.specs.Filing.{Filed, filed_under}
+use Rattle.stream_readers.specs.Leaving.{left_by, moved, moved_end}
+use Rattle.stream_readers.specs.Readers.{AreReadersOf, reader_at}
+use Rattle.stream_readers.specs.Targets.{end_at}
+use Rattle.stream_readers.specs.Ways.{first_parts}
+use Rattle.stream_readers.specs.declared.reader.Reader.{Reader}
+use Rattle.stream_readers.specs.declared.target.Target.{Target}
+use Rattle.stream_readers.specs.declared.target.Target.TheVariants.{Edge}
+use Rattle.stream_readers.proofs.ChangeLemmas.{given_alike, given_twice, row_left, row_of}
+use Rattle.stream_readers.proofs.EntryLemmas.{asked, asked_at, edge_filed, edges_alike, ends_filed, entry, entry_of, no_root, past_unused, stays, targets_given, unused_asked, unused_entry, waits_alike, waits_given}
+use Rattle.stream_readers.proofs.GrownLemmas.{targets_alike, targets_at_one, targets_come, targets_leave, targets_stay, wait_leaves, waiting_alike, waits_stay}
+
+-- one end more is filed last
+ends_last : (number place : ℕ) (ends : List End) (end : End) → ends_filed number place (ends ++ end ∷ []) ≡ ends_filed number place ends ++ record { target = end_at number (place + length ends); parts = first_parts end.step } ∷ []
+ends_last number place [] end = ap (λ k. record { target = end_at number k; parts = first_parts end.step } ∷ []) (let e : place ≡ place + 0 = omega arith in e)
+ends_last number place (first ∷ ends) end =
+    ap (λ fs. record { target = end_at number place; parts = first_parts first.step } ∷ fs)
+    (ends_last number (place + 1) ends end ∙ ap (λ k. ends_filed number (place + 1) ends ++ record { target = end_at number k; parts = first_parts end.step } ∷ []) (let e : (place + 1) + length ends ≡ place + suc (length ends) = omega arith in e))
+
+-- ends behind one that left stand a place before
+behind : (number gone place : ℕ) (ends : List End) → gone < place → flat_map (left_by (end_at number gone)) (ends_filed number place ends) ≡ ends_filed number (place - 1) ends
+behind number gone place [] lt = refl
+behind number gone place (end ∷ ends) lt =
+    ap (λ o. filed_under (first_parts end.step) o ++ flat_map (left_by (end_at number gone)) (ends_filed number (place + 1) ends)) here
+    ∙ ap (λ fs. record { target = end_at number (place - 1); parts = first_parts end.step } ∷ fs) (behind number gone (place + 1) ends (omega arith) ∙ ap (λ k. ends_filed number k ends) (let e : (place + 1) - 1 ≡ (place - 1) + 1 = omega arith in e))
+  where
+    past : {m n : ℕ} → n < m → nat_lt m n ≡ false
+    past {m} {n} lt = grind (arith, nat_tests)
+
+    apart : {m n : ℕ} → n < m → (m == n) ≡ false
+    apart {m} {n} lt = is_other m n (λ e. absurd (omega (arith, lt, e)))
+
+    here : moved (end_at number gone) (end_at number place) ≡ Some (end_at number (place - 1))
+    here =
+        ap (λ b. cond (not b || nat_lt place gone) (Some (end_at number place)) (cond (place == gone) None (Some (end_at number (place - 1))))) (self_equal number)
+        ∙ ap (λ b. cond b (Some (end_at number place)) (cond (place == gone) None (Some (end_at number (place - 1))))) (past lt) ∙ ap (λ b. cond b None (Some (end_at number (place - 1)))) (apart lt)
+
+abbrev no_ends : List End
+no_ends = []
+
+nothing_less : (at : ℕ) → remove no_ends at ≡ no_ends
+nothing_less zero = refl
+nothing_less (suc at) = refl
+
+-- an end that leaves
+end_left : (number place at : ℕ) (ends : List End) → flat_map (left_by (end_at number (place + at))) (ends_filed number place ends) ≡ ends_filed number place (remove ends at)
+end_left number place at [] = ap (λ (es : List End). ends_filed number place es) (sym (nothing_less at))
+end_left number place zero (end ∷ ends) =
+    ap (λ k. flat_map (left_by (end_at number k)) (ends_filed number place (end ∷ ends))) (let e : place + 0 ≡ place = omega arith in e)
+    ∙ ap (λ o. filed_under (first_parts end.step) o ++ flat_map (left_by (end_at number place)) (ends_filed number (place + 1) ends)) here
+    ∙ behind number place (place + 1) ends (omega arith) ∙ ap (λ k. ends_filed number k ends) (let e : (place + 1) - 1 ≡ place = omega arith in e)
+  where
+    even : (m : ℕ) → nat_lt m m ≡ false
+    even m = grind (arith, nat_tests)
+
+    here : moved (end_at number place) (end_at number place) ≡ None
+    here =
+        ap (λ b. cond (not b || nat_lt place place) (Some (end_at number place)) (cond (place == place) None (Some (end_at number (place - 1))))) (self_equal number)
+        ∙ ap (λ b. cond b (Some (end_at number place)) (cond (place == place) None (Some (end_at number (place - 1))))) (even place) ∙ ap (λ b. cond b None (Some (end_at number (place - 1)))) (self_equal place)
+end_left number place (suc at) (end ∷ ends) =
+    ap (λ o. filed_under (first_parts end.step) o ++ flat_map (left_by (end_at number (place + suc at))) (ends_filed number (place + 1) ends)) here
+    ∙ ap (λ fs. record { target = end_at number place; parts = first_parts end.step } ∷ fs)
+    (ap (λ k. flat_map (left_by (end_at number k)) (ends_filed number (place + 1) ends)) (let e : place + suc at ≡ (place + 1) + at = omega arith in e) ∙ end_left number (place + 1) at ends)
+  where
+    here : moved (end_at number (place + suc at)) (end_at number place) ≡ Some (end_at number place)
+    here =
+        ap (λ b. cond (not b || nat_lt place (place + suc at)) (Some (end_at number place)) (cond (place == (place + suc at)) None (Some (end_at number (place - 1))))) (self_equal number)
+        ∙ ap (λ b. cond b (Some (end_at number place)) (cond (place == (place + suc at)) None (Some (end_at number (place - 1))))) (is_below place (place + suc at) (omega arith))
+
+-- the ends of another state stay
+ends_stay : (number gone other place : ℕ) (ends : List End) → (other == number) ≡ false → flat_map (left_by (end_at number gone)) (ends_filed other place ends) ≡ ends_filed other place ends
+ends_stay number gone other place [] differs = refl
+ends_stay number gone other place (end ∷ ends) differs =
+    ap (λ b. filed_under (first_parts end.step) (cond (not b || nat_lt place gone) (Some (end_at other place)) (cond (place == gone) None (Some (end_at other (place - 1))))) ++ flat_map (left_by (end_at number gone)) (ends_filed other (place + 1) ends)) differs
+    ∙ ap (λ fs. record { target = end_at other place; parts = first_parts end.step } ∷ fs) (ends_stay number gone other (place + 1) ends differs)
+
+-- edges stay where an end leaves
+edges_stay : (net : Net) (number gone : ℕ) (edges : List ℕ) → flat_map (left_by (end_at number gone)) (map (edge_filed net) edges) ≡ map (edge_filed net) edges
+edges_stay net number gone [] = refl
+edges_stay net number gone (edge ∷ edges) = ap (λ fs. edge_filed net edge ∷ fs) (edges_stay net number gone edges)
+
+-- ends stay where an edge leaves
+pub ends_kept : (gone number place : ℕ) (ends : List End) → flat_map (left_by (Edge gone)) (ends_filed number place ends) ≡ ends_filed number place ends
+ends_kept gone number place [] = refl
+ends_kept gone number place (end ∷ ends) = ap (λ fs. record { target = end_at number place; parts = first_parts end.step } ∷ fs) (ends_kept gone number (place + 1) ends)
+
+-- an edge that leaves
+pub edge_left : (net : Net) (gone : ℕ) (edges : List ℕ) → flat_map (left_by (Edge gone)) (map (edge_filed net) edges) ≡ map (edge_filed net) (without_number gone edges)
+edge_left net gone [] = refl
+edge_left net gone (edge ∷ edges) = go (edge == gone) (edge_left net gone edges)
+  where
+    rest : List Filed
+    rest = flat_map (left_by (Edge gone)) (map (edge_filed net) edges)
+
+    go : (b : Bool) → rest ≡ map (edge_filed net) (without_number gone edges)
+        → filed_under (first_parts (step_at net edge)) (cond b None (Some (Edge edge))) ++ rest ≡ map (edge_filed net) (cond (not b) (edge ∷ without_number gone edges) (without_number gone edges))
+    go true more = more
+    go false more = ap (λ fs. edge_filed net edge ∷ fs) more
+
+-- what is left of what is filed of a state
+pub left_entry : (gone : Target) (b : Bool) (edges ends : List Filed) → flat_map (left_by gone) (cond b (edges ++ ends) []) ≡ cond b (flat_map (left_by gone) edges ++ flat_map (left_by gone) ends) []
+left_entry gone true edges ends = flat_map-append (left_by gone) edges ends
+left_entry gone false edges ends = refl
+
+-- what is left of what is filed of all states
+pub targets_left : (old new : Net) (stream : ℕ) (gone : Target) → ((k : ℕ) → entry new stream k ≡ flat_map (left_by gone) (entry old stream k)) → flat_map (left_by gone) (targets_given old stream) ≡ targets_given new stream
+targets_left old new stream gone same =
+    given_twice (left_by gone) (entry old stream) (range_with_len 0 (length old))
+    ∙ sym (given_alike (λ k. flat_map (left_by gone) (entry old stream k)) (entry new stream) (length old) (length new) same (λ k le. ap (flat_map (left_by gone)) (unused_entry old stream k (past_unused old k le)))
+    (λ k le. unused_entry new stream k (past_unused new k le)))
+
+module _ (old new : Net) (network : IsNetwork old) where
+  module _ (state : ℕ) (end : End) (known : is_used old state ≡ true) (adds : AddsEnd state end old new) where
+    end_entered : (m : ℕ) → entrance_at new m ≡ entrance_at old m
+    end_entered m = go (m == state) refl
+      where
+        kept : (o : Option State) → entrance_in (with_end end o) ≡ entrance_in o
+        kept None = refl
+        kept (Some state) = refl
+
+        go : (b : Bool) → (m == state) ≡ b → entrance_at new m ≡ entrance_at old m
+        go true is = let e = same_number m state is in ap (entrance_at new) e ∙ ap entrance_in adds.here ∙ kept (state_at old state) ∙ ap (entrance_at old) (sym e)
+        go false differs = ap entrance_in (adds.others m (other_number m state differs))
+
+    end_edges : (k : ℕ) → map (edge_filed new) (edges_at old k) ≡ map (edge_filed old) (edges_at old k)
+    end_edges k = edges_alike old new network (λ m used. end_entered m) k
+
+    end_others : (s k : ℕ) → (k ≡ state → ⊥) → entry new s k ≡ entry old s k
+    end_others s k other = stays old new s k (end_edges k) (adds.others k other)
+
+    end_same : (s : ℕ) → tells s (root_at old state) ≡ false → (k : ℕ) → entry new s k ≡ entry old s k
+    end_same s none k = go (k == state) refl
+      where
+        go : (b : Bool) → (k == state) ≡ b → entry new s k ≡ entry old s k
+        go true is =
+            let e = same_number k state is in
+            let out = ap (λ n. tells s (root_at old n)) e ∙ none in no_root new s k (ap (λ o. tells s (option_and_then root_by o)) (end_entered k) ∙ out) ∙ sym (no_root old s k out)
+        go false differs = end_others s k (other_number k state differs)
+
+    end_more : (s : ℕ) → tells s (root_at old state) ≡ true → entry new s state ≡ entry old s state ++ record { target = end_at state (length (ends_at old state)); parts = first_parts end.step } ∷ []
+    end_more s told = ap (entry_of (edge_filed new) s state) adds.here ∙ go (state_at old state) told (end_edges state)
+      where
+        go : (o : Option State) → tells s (root_in o) ≡ true → map (edge_filed new) (edges_in o) ≡ map (edge_filed old) (edges_in o)
+            → entry_of (edge_filed new) s state (with_end end o) ≡ entry_of (edge_filed old) s state o ++ record { target = end_at state (length (ends_in o)); parts = first_parts end.step } ∷ []
+        go None told edges = absurd (cc)
+        go (Some st) told edges =
+            let own = map (edge_filed old) st.edges in
+            let x : List Filed = record { target = end_at state (length st.ends); parts = first_parts end.step } ∷ [] in
+            ap (λ b. cond b (map (edge_filed new) st.edges ++ ends_filed state 0 (st.ends ++ end ∷ [])) []) told
+            ∙ ap (λ fs. fs ++ ends_filed state 0 (st.ends ++ end ∷ [])) edges ∙ ap (λ fs. own ++ fs) (ends_last state 0 st.ends end ∙ ap (λ k. ends_filed state 0 st.ends ++ record { target = end_at state k; parts = first_parts end.step } ∷ []) (let e : 0 + length st.ends ≡ length st.ends = omega arith in e))
+            ∙ sym (append_assoc own (ends_filed state 0 st.ends) x) ∙ ap (λ b. cond b (own ++ ends_filed state 0 st.ends) [] ++ x) (sym told)
+
+    end_there : is_used new state ≡ true
+    end_there = ap is_some adds.here ∙ go (state_at old state) known
+      where
+        go : (o : Option State) → is_some o ≡ true → is_some (with_end end o) ≡ true
+        go None some = some
+        go (Some st) some = refl
+
+    -- an end comes to a root
+    pub end_comes : (stream : ℕ) (readers filed : List Reader) → Some stream ≡ root_at old state → Files stream (record { target = end_at state (length (ends_at old state)); parts = first_parts end.step } ∷ []) readers filed → AreReadersOf old readers → AreReadersOf new filed
+    end_comes stream readers filed root files are = λ s. record {
+      targets =
+          targets_come old new readers filed stream x files (λ s. (are s).targets)
+          (targets_at_one old new stream state x (permuted_from (end_more stream (ap (tells stream) (sym root) ∙ self_equal stream)) (IsPermutation-refl (entry old stream state ++ x))) (end_others stream) end_there)
+          (λ other differs. targets_alike old new other (end_same other (ap (tells other) (sym root) ∙ differs))) s;
+      waits = waits_stay old new readers filed files.waits (λ s. (are s).waits) (λ s. waiting_alike old new s (λ k. waits_alike old new s k (end_entered k))) s;
+    }
+      where
+        x : List Filed
+        x = record { target = end_at state (length (ends_at old state)); parts = first_parts end.step } ∷ []
+
+    -- and to a waiting state
+    pub no_end_comes : (readers : List Reader) → None ≡ root_at old state → AreReadersOf old readers → AreReadersOf new readers
+    no_end_comes readers root are = λ s. record {
+      targets = targets_stay old new readers readers (λ s. refl) (λ s. (are s).targets) (λ s. targets_alike old new s (end_same s (ap (tells s) (sym root)))) s;
+      waits = waits_stay old new readers readers (λ s. refl) (λ s. (are s).waits) (λ s. waiting_alike old new s (λ k. waits_alike old new s k (end_entered k))) s;
+    }
+
+  module _ (state number : ℕ) (removes : RemovesEnd state number old new) where
+    cut_entered : (m : ℕ) → entrance_at new m ≡ entrance_at old m
+    cut_entered m = go (m == state) refl
+      where
+        kept : (o : Option State) → entrance_in (without_end number o) ≡ entrance_in o
+        kept None = refl
+        kept (Some state) = refl
+
+        go : (b : Bool) → (m == state) ≡ b → entrance_at new m ≡ entrance_at old m
+        go true is = let e = same_number m state is in ap (entrance_at new) e ∙ ap entrance_in removes.here ∙ kept (state_at old state) ∙ ap (entrance_at old) (sym e)
+        go false differs = ap entrance_in (removes.others m (other_number m state differs))
+
+    cut_edges : (k : ℕ) → map (edge_filed new) (edges_at old k) ≡ map (edge_filed old) (edges_at old k)
+    cut_edges k = edges_alike old new network (λ m used. cut_entered m) k
+
+    cut_same : (s : ℕ) → tells s (root_at old state) ≡ false → (k : ℕ) → entry new s k ≡ entry old s k
+    cut_same s none k = go (k == state) refl
+      where
+        go : (b : Bool) → (k == state) ≡ b → entry new s k ≡ entry old s k
+        go true is =
+            let e = same_number k state is in
+            let out = ap (λ n. tells s (root_at old n)) e ∙ none in no_root new s k (ap (λ o. tells s (option_and_then root_by o)) (cut_entered k) ∙ out) ∙ sym (no_root old s k out)
+        go false differs = stays old new s k (cut_edges k) (removes.others k (other_number k state differs))
+
+    module _ (place : ℕ) (only : without_numbered number (ends_at old state) ≡ remove (ends_at old state) place) where
+      cut_here : (s : ℕ) → entry new s state ≡ flat_map (left_by (end_at state place)) (entry old s state)
+      cut_here s = ap (entry_of (edge_filed new) s state) removes.here ∙ go (state_at old state) (cut_edges state) only
+        where
+          go : (o : Option State) → map (edge_filed new) (edges_in o) ≡ map (edge_filed old) (edges_in o) → without_numbered number (ends_in o) ≡ remove (ends_in o) place
+              → entry_of (edge_filed new) s state (without_end number o) ≡ flat_map (left_by (end_at state place)) (entry_of (edge_filed old) s state o)
+          go None edges ends = refl
+          go (Some st) edges ends =
+              let b = tells s (root_in (Some st)) in
+              ap (λ fs. cond b (fs ++ ends_filed state 0 (without_numbered number st.ends)) []) (edges ∙ sym (edges_stay old state place st.edges))
+              ∙ ap (λ fs. cond b (flat_map (left_by (end_at state place)) (map (edge_filed old) st.edges) ++ fs) [])
+              (ap (ends_filed state 0) ends ∙ sym (end_left state 0 place st.ends) ∙ ap (λ k. flat_map (left_by (end_at state k)) (ends_filed state 0 st.ends)) (let e : 0 + place ≡ place = omega arith in e))
+              ∙ sym (left_entry (end_at state place) b (map (edge_filed old) st.edges) (ends_filed state 0 st.ends))
+
+      cut_other : (s k : ℕ) → (k == state) ≡ false → entry new s k ≡ flat_map (left_by (end_at state place)) (entry old s k)
+      cut_other s k differs =
+          let b = tells s (root_at old k) in
+          let edges = map (edge_filed old) (edges_at old k) in
+          let ends = ends_filed k 0 (ends_at old k) in
+          stays old new s k (cut_edges k) (removes.others k (other_number k state differs))
+          ∙ ap (λ fs. cond b (fs ++ ends) []) (sym (edges_stay old state place (edges_at old k)))
+          ∙ ap (λ fs. cond b (flat_map (left_by (end_at state place)) edges ++ fs) []) (sym (ends_stay state place k 0 (ends_at old k) differs)) ∙ sym (left_entry (end_at state place) b edges ends)
+
+      cut_each : (s k : ℕ) → entry new s k ≡ flat_map (left_by (end_at state place)) (entry old s k)
+      cut_each s k = go (k == state) refl
+        where
+          go : (b : Bool) → (k == state) ≡ b → entry new s k ≡ flat_map (left_by (end_at state place)) (entry old s k)
+          go true is = subst (λ (n : ℕ). entry new s n ≡ flat_map (left_by (end_at state place)) (entry old s n)) (sym (same_number k state is)) (cut_here s)
+          go false differs = cut_other s k differs
+
+      -- an end leaves a root
+      pub end_leaves : (stream : ℕ) (readers left : List Reader) → Some stream ≡ root_at old state → Parts stream (end_at state place) readers left → AreReadersOf old readers → AreReadersOf new left
+      end_leaves stream readers left root parts are = λ s. record {
+        targets =
+            targets_leave old new readers left stream (end_at state place) parts (λ s. (are s).targets) (targets_left old new stream (end_at state place) (cut_each stream))
+            (λ other differs. targets_alike old new other (cut_same other (ap (tells other) (sym root) ∙ differs))) s;
+        waits = waits_stay old new readers left parts.waits (λ s. (are s).waits) (λ s. waiting_alike old new s (λ k. waits_alike old new s k (cut_entered k))) s;
+      }
+
+    -- and a waiting state
+    pub no_end_leaves : (readers : List Reader) → None ≡ root_at old state → AreReadersOf old readers → AreReadersOf new readers
+    no_end_leaves readers root are = λ s. record {
+      targets = targets_stay old new readers readers (λ s. refl) (λ s. (are s).targets) (λ s. targets_alike old new s (cut_same s (ap (tells s) (sym root)))) s;
+      waits = waits_stay old new readers readers (λ s. refl) (λ s. (are s).waits) (λ s. waiting_alike old new s (λ k. waits_alike old new s k (cut_entered k))) s;
+    }
+
+-- readers are those of a network with the same states
+pub same_readers : (old new : Net) (readers : List Reader) → ((k : ℕ) → state_at new k ≡ state_at old k) → AreReadersOf old readers → AreReadersOf new readers
+same_readers old new readers same are = λ s. record {
+  targets = targets_stay old new readers readers (λ s. refl) (λ s. (are s).targets) (λ s. targets_alike old new s (λ k. stays old new s k (alike (edges_at old k)) (same k))) s;
+  waits = waits_stay old new readers readers (λ s. refl) (λ s. (are s).waits) (λ s. waiting_alike old new s (λ k. waits_alike old new s k (ap entrance_in (same k)))) s;
+}
+  where
+    alike : (edges : List ℕ) → map (edge_filed new) edges ≡ map (edge_filed old) edges
+    alike [] = refl
+    alike (edge ∷ edges) = ap (λ f. f ∷ map (edge_filed new) edges) (ap (λ (slot : Option State). record { target = Edge edge; parts = first_parts (unwrap_or (option_map step_by (entrance_in slot)) []) }) (same edge)) ∙ ap (λ fs. edge_filed old edge ∷ fs) (alike edges)
+
+-- nothing reads a stream of a network without states
+pub none_read : AreReadersOf [] []
+none_read s = record { targets = IsPermutation-refl []; waits = refl }

@@ -1,0 +1,92 @@
+//! Places for targets, of which some are free.
+ghost use Rattle.std.specs.Prelude.{◌≡◌, ◌≢◌, ◌<◌, ◌≤◌, ◌&&◌, ℕ, None, OnErr, OnOk, Some, is_some, length, not};
+ghost use Rattle.std.specs.List.{All, flat_map};
+ghost use Rattle.stream_readers.specs.Filing.{AreAtPlaces, at_places, filed_in, slot_at};
+ghost use Rattle.stream_readers.specs.Leaving.{left_by, moved_in};
+
+use crate::target::{Target, Targets, moved};
+use event_types::{List, Memory};
+use static_index::StaticIndex;
+
+/// Targets by their places, and nothing where a place is free.
+pub(crate) type Slots = List<Option<Target>>;
+
+/// Puts the targets at these places into a list that is used anew.
+pub(crate) fn gather(slots: &Slots, places: &[usize], found: &mut Targets) -> Result<(), Memory>
+    requires { All (λ place. place < length slots.now) places.now }
+    ensures { OnOk result (found.new ≡ at_places slots.now places.now) }
+{
+    found.clear();
+    for place in places {
+        if let Some(target) = slots.get(*place) {
+            found.add(*target)?;
+        }
+    }
+    Ok(())
+}
+
+/// A free place: the first from this one on, or the one behind all others.
+pub(crate) fn free_place(slots: &Slots, from: usize) -> usize
+    ensures free { slot_at slots.now result ≡ None }
+    ensures within { result ≤ length slots.now }
+{
+    for place in from..slots.len() {
+        if slots.get(place).is_none() {
+            return place;
+        }
+    }
+    slots.len()
+}
+
+/// Puts a target at a place.
+pub(crate) fn put_slot(slots: &mut Slots, place: usize, target: Target) -> Result<(), Memory>
+    requires { place ≤ length slots.old }
+    ensures here { OnOk result (slot_at slots.new place ≡ Some target) }
+    ensures others { OnOk result ((other : ℕ) → other ≢ place → slot_at slots.new other ≡ slot_at slots.old other) }
+    ensures kept { OnErr result (slots.new ≡ slots.old) }
+{
+    if place < slots.len() {
+        *slots.get_mut(place) = Some(target);
+        Ok(())
+    } else {
+        slots.add(Some(target))
+    }
+}
+
+/// A place is free again.
+pub(crate) fn clear_slot(slots: &mut Slots, place: usize)
+    ensures here { slot_at slots.new place ≡ None }
+    ensures others { (other : ℕ) → other ≢ place → slot_at slots.new other ≡ slot_at slots.old other }
+{
+    if place < slots.len() {
+        *slots.get_mut(place) = None;
+    }
+}
+
+/// A target leaves, with its condition. Gives a place below which none came to be free.
+pub(crate) fn take_away(slots: &mut Slots, conditions: &mut StaticIndex, gone: Target) -> usize
+    requires { AreAtPlaces slots.old conditions.old }
+    ensures places { AreAtPlaces slots.new conditions.new }
+    ensures left { filed_in slots.new conditions.new ≡ flat_map (left_by gone) (filed_in slots.old conditions.old) }
+{
+    let mut first = slots.len();
+    for place in 0..slots.len() {
+        if leaves(slots.get_mut(place), gone) {
+            conditions.remove(place);
+            first = first.min(place);
+        }
+    }
+    first
+}
+
+// A target leaves, where it stands at a place. Whether it does.
+fn leaves(slot: &mut Option<Target>, gone: Target) -> bool
+    ensures slot { slot.new ≡ moved_in gone slot.old }
+    ensures left { result ≡ (is_some slot.old && not (is_some slot.new)) }
+{
+    let Some(target) = *slot else {
+        return false;
+    };
+    *slot = moved(gone, target);
+    slot.is_none()
+}
