@@ -1,15 +1,14 @@
 -- What is filed of each state of a network.
-use Rattle.std.proofs.Common.{◌≡◌, ◌∙◌, sym, ap, refl, subst, inl, inr, ℕ, zero, suc, ◌+◌, ◌<◌, ◌≤◌, ◌==◌, ◌⊎◌, ◌&&◌, not, Bool, true, false, cond, IsTrue, length, get_or, List, [], ◌∷◌, ◌++◌, map, append_assoc, append-nil, arith}
+use Rattle.std.proofs.Common.{◌≡◌, ◌∙◌, sym, ap, refl, inl, inr, ℕ, ◌+◌, ◌<◌, ◌≤◌, ◌⊎◌, ◌&&◌, not, Bool, true, false, cond, IsTrue, length, List, [], ◌∷◌, ◌++◌, map, append_assoc}
 use Rattle.std.specs.Prelude.{Option, Some, None, is_some, slice_get}
 use Rattle.std.specs.Option.{option_and_then, option_map, unwrap_or}
 use Rattle.std.specs.List.{All, filter, flat_map, range_with_len}
-use Rattle.std.specs.List.Sorted.{IsPermutation}
 use Rattle.std.proofs.lemmas.List.{length-append, map-append}
 use Rattle.std.proofs.lemmas.List.Elements.{All-head, All-tail, All-weaker}
 use Rattle.std.proofs.lemmas.Simd.{map-map}
 use Rattle.scalar_expr.proofs.Bags.{flat_map_each}
 use Rattle.automaton.specs.Networks.{IsNetwork}
-use Rattle.automaton.specs.States.{Net, edges_at, edges_in, ends_at, ends_in, entrance_at, entrance_in, is_used, root_at, root_by, root_in, state_at, step_at, step_by, tells, wait_at, wait_by}
+use Rattle.automaton.specs.States.{Net, edges_at, edges_in, ends_at, ends_in, entrance_at, entrance_in, is_used, root_at, root_in, state_at, step_at, step_by, tells, wait_at, wait_by}
 use Rattle.automaton.specs.declared.network.End.{End}
 use Rattle.automaton.specs.declared.network.Entrance.{Entrance}
 use Rattle.automaton.specs.declared.network.State.{State}
@@ -17,12 +16,10 @@ use Rattle.automaton.specs.declared.wait.Wait.{Wait}
 use Rattle.static_index.specs.Conditions.{Condition}
 use Rattle.static_index.specs.declared.fixed_part.FixedPart.{FixedPart}
 use Rattle.stream_readers.specs.Filing.{Filed, filed_to, waiting_as}
-use Rattle.stream_readers.specs.Finding.{is_plain_on, is_root_on, plain_waits_on}
+use Rattle.stream_readers.specs.Finding.{is_plain_on, is_root_on}
 use Rattle.stream_readers.specs.Leading.{lead_key_in}
-use Rattle.stream_readers.specs.Readers.{targets_on}
 use Rattle.stream_readers.specs.Targets.{end_at, step_of, targets_at}
 use Rattle.stream_readers.specs.Ways.{first_parts, parts_in}
-use Rattle.stream_readers.specs.declared.target.Target.{Target}
 use Rattle.stream_readers.specs.declared.target.Target.TheVariants.{Edge}
 use Rattle.stream_readers.proofs.ChangeLemmas.{given_below, passing_given, passing_one, row_of}
 use Rattle.stream_readers.proofs.FilingLemmas.{at_seam}

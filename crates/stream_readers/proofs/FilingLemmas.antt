@@ -1,24 +1,20 @@
 -- Targets and conditions that stand side by side.
-use Rattle.std.proofs.Common.{◌≡◌, ◌∙◌, sym, ap, refl, subst, ℕ, zero, suc, ◌+◌, ◌<◌, ◌≤◌, Bool, true, false, cond, nat_lt, length, get_or, take, List, [], ◌∷◌, ◌++◌, map, append_assoc, arith}
-use Rattle.std.specs.Prelude.{Contains, Option, Some, slice_get, option_to_list}
-use Rattle.std.specs.List.{All, filter, range_with_len}
+use Rattle.std.proofs.Common.{◌≡◌, ◌∙◌, sym, ap, refl, ℕ, zero, suc, ◌+◌, ◌<◌, ◌≤◌, false, cond, nat_lt, length, get_or, take, List, [], ◌∷◌, ◌++◌, map, append_assoc, arith}
+use Rattle.std.specs.Prelude.{Contains, Option, Some, slice_get}
+use Rattle.std.specs.List.{All, range_with_len}
 use Rattle.std.proofs.lemmas.Bool.Decides.{nat_tests}
 use Rattle.std.specs.List.Sorted.{IsPermutation}
 use Rattle.std.proofs.lemmas.List.Sorted.{IsPermutation-append_left, IsPermutation-trans}
 use Rattle.scalar_expr.proofs.Bags.{permuted_to}
-use Rattle.std.proofs.lemmas.List.{length-append, length-map, map-append, take_more}
+use Rattle.std.proofs.lemmas.List.{map-append, take_more}
 use Rattle.std.proofs.lemmas.Simd.{map-map}
-
 use Rattle.std.proofs.lemmas.List.Elements.{All-cons, All-contains, All-head, All-nil, All-tail}
-
 use Rattle.static_index.specs.Conditions.{Condition, ids_of, with_condition}
 use Rattle.automaton.specs.States.{Net, edges_at, ends_at}
 use Rattle.automaton.specs.declared.network.End.{End}
-
 use Rattle.stream_readers.specs.Filing.{Filed, filed_to}
 use Rattle.stream_readers.specs.Targets.{end_at, step_of, targets_at}
 use Rattle.stream_readers.specs.Ways.{first_parts}
-
 use Rattle.stream_readers.specs.declared.target.Target.TheVariants.{Edge}
 
 -- one number more of a range

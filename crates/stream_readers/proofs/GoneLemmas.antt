@@ -1,8 +1,8 @@
 -- Readers of a network that a state leaves.
-use Rattle.std.proofs.Common.{◌≡◌, ◌∙◌, sym, ap, refl, subst, ℕ, zero, suc, ◌+◌, ◌<◌, ◌≤◌, ◌==◌, ◌&&◌, not, Bool, true, false, cond, IsTrue, get_or, length, List, [], ◌∷◌, ◌++◌, map, arith}
+use Rattle.std.proofs.Common.{◌≡◌, ◌∙◌, sym, ap, refl, subst, ℕ, zero, suc, ◌+◌, ◌==◌, ◌&&◌, not, Bool, true, false, cond, get_or, length, List, [], ◌∷◌, ◌++◌, map, arith}
 use Rattle.std.specs.Prelude.{Option, Some, None, count_by, is_some, slice_get, take}
 use Rattle.std.specs.Option.{option_and_then, option_map, unwrap_or}
-use Rattle.std.specs.List.{All, filter, flat_map, range_with_len, remove}
+use Rattle.std.specs.List.{All, flat_map, range_with_len, remove}
 use Rattle.std.proofs.lemmas.List.Elements.{All-append, All-cons, All-head, All-nil, All-tail}
 use Rattle.std.proofs.lemmas.List.{take_more}
 use Rattle.std.proofs.lemmas.List.Sums.{sum_by-cons}
@@ -10,7 +10,7 @@ use Rattle.std.proofs.lemmas.Option.{slice_get_within}
 use Rattle.event_types.proofs.NumberLemmas.{is_other, is_same, other_number, same_number, self_equal}
 use Rattle.automaton.specs.Changes.{RemovesState, without_edge, without_number, without_numbered}
 use Rattle.automaton.specs.Networks.{IsNetwork}
-use Rattle.automaton.specs.States.{Net, before_at, edges_at, edges_in, ends_at, ends_in, entrance_at, entrance_in, is_used, root_at, root_by, root_in, state_at, step_by, tells, wait_at, wait_by}
+use Rattle.automaton.specs.States.{Net, before_at, edges_at, edges_in, ends_at, entrance_at, entrance_in, is_used, root_at, root_by, root_in, state_at, step_by, tells, wait_at}
 use Rattle.automaton.specs.declared.network.End.{End}
 use Rattle.automaton.specs.declared.network.Entrance.{Entrance}
 use Rattle.automaton.specs.declared.network.State.{State}
@@ -18,14 +18,13 @@ use Rattle.automaton.specs.declared.wait.Wait.{Wait}
 use Rattle.static_index.specs.Conditions.{HasId, without}
 use Rattle.stream_readers.specs.Changing.{HaveTargets, HaveWaits, Parts, PartsWait}
 use Rattle.stream_readers.specs.Filing.{Filed, has_id}
-use Rattle.stream_readers.specs.Leading.{lead_key, lead_key_in}
+use Rattle.stream_readers.specs.Leading.{lead_key}
 use Rattle.stream_readers.specs.Leaving.{left_by}
 use Rattle.stream_readers.specs.Ways.{first_parts, parts_in}
 use Rattle.stream_readers.specs.declared.reader.Reader.{Reader}
-use Rattle.stream_readers.specs.declared.target.Target.{Target}
 use Rattle.stream_readers.specs.declared.target.Target.TheVariants.{Edge}
 use Rattle.stream_readers.proofs.ChangeLemmas.{given_below, row_has, row_lacks, row_left, row_of}
-use Rattle.stream_readers.proofs.EntryLemmas.{asked, asked_at, edge_filed, edges_alike, ends_filed, entry, entry_of, no_root, stays, targets_given, unused_asked, unused_entry, used_within, waits_alike, waits_given}
+use Rattle.stream_readers.proofs.EntryLemmas.{asked, asked_at, edge_filed, ends_filed, entry, entry_of, no_root, stays, unused_asked, unused_entry, used_within, waits_alike, waits_given}
 use Rattle.stream_readers.proofs.GrownLemmas.{targets_alike, targets_leave, targets_stay, wait_given, wait_leaves, waiting_alike, waits_stay}
 use Rattle.stream_readers.specs.Readers.{reader_at}
 use Rattle.stream_readers.proofs.SlotLemmas.{at_got, has_from, has_not}

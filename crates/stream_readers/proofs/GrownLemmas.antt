@@ -1,32 +1,27 @@
 -- Readers of a network that a state or an end comes to.
-use Rattle.std.proofs.Common.{◌≡◌, ◌∙◌, sym, ap, refl, subst, ℕ, zero, suc, ◌+◌, ◌<◌, ◌≤◌, ◌==◌, ◌&&◌, not, Bool, true, false, cond, IsTrue, length, List, [], ◌∷◌, ◌++◌, map, append_assoc, append-nil, arith}
+use Rattle.std.proofs.Common.{◌≡◌, ◌∙◌, sym, ap, refl, subst, ℕ, ◌==◌, ◌&&◌, not, Bool, true, false, cond, length, List, [], ◌∷◌, ◌++◌, map, append_assoc}
 use Rattle.std.specs.Prelude.{Option, Some, None, is_some}
 use Rattle.std.specs.Option.{option_and_then, option_map, unwrap_or}
-use Rattle.std.specs.List.{flat_map, range_with_len}
+use Rattle.std.specs.List.{flat_map}
 use Rattle.std.specs.List.Sorted.{IsPermutation}
 use Rattle.std.proofs.lemmas.List.{map-append}
 use Rattle.std.proofs.lemmas.List.Sorted.{IsPermutation-append_comm, IsPermutation-append_left, IsPermutation-append_right, IsPermutation-sym, IsPermutation-trans}
 use Rattle.event_types.proofs.NumberLemmas.{is_other, other_number, same_number, self_equal}
 use Rattle.scalar_expr.proofs.Bags.{flat_map_permuted, permuted_from, permuted_to}
-use Rattle.automaton.specs.Changes.{AddsEnd, AddsHop, AddsRoot, bare, with_edge, with_end}
+use Rattle.automaton.specs.Changes.{AddsHop, AddsRoot, with_edge}
 use Rattle.automaton.specs.Networks.{IsNetwork}
-use Rattle.automaton.specs.States.{Net, edges_at, edges_in, ends_at, entrance_at, entrance_in, is_used, root_at, root_by, root_in, state_at, step_by, tells, wait_at, wait_by}
+use Rattle.automaton.specs.States.{Net, edges_at, edges_in, entrance_at, entrance_in, is_used, root_at, root_by, root_in, state_at, step_by, tells, wait_by}
 use Rattle.automaton.specs.declared.line.Hop.{Hop}
-use Rattle.automaton.specs.declared.network.End.{End}
-use Rattle.automaton.specs.declared.network.Entrance.{Entrance}
-use Rattle.automaton.specs.declared.network.Entrance.TheVariants as entrance
 use Rattle.automaton.specs.declared.network.State.{State}
-use Rattle.automaton.specs.declared.wait.Wait.{Wait}
 use Rattle.instances.specs.Keys.{Key}
 use Rattle.static_index.specs.Conditions.{Condition, with_condition, without}
 use Rattle.static_index.specs.FixedParts.{fixed_parts}
 use Rattle.static_index.specs.declared.fixed_part.FixedPart.{FixedPart}
 use Rattle.stream_readers.specs.Changing.{Files, FilesWait, HaveTargets, HaveWaits, KeepTargets, KeepWaits, Parts, PartsWait}
 use Rattle.stream_readers.specs.Filing.{Filed}
-use Rattle.stream_readers.specs.Leading.{lead_key, lead_key_in}
+use Rattle.stream_readers.specs.Leading.{lead_key}
 use Rattle.stream_readers.specs.Leaving.{left_by}
 use Rattle.stream_readers.specs.Readers.{AreReadersOf, reader_at}
-use Rattle.stream_readers.specs.Targets.{end_at}
 use Rattle.stream_readers.specs.Ways.{first_parts}
 use Rattle.stream_readers.specs.declared.reader.Reader.{Reader}
 use Rattle.stream_readers.specs.declared.target.Target.{Target}

@@ -12,7 +12,7 @@ use Rattle.automaton.specs.declared.wait.Wait.{Wait}
 use Rattle.binding_index.specs.KeyParts.{key_of_part}
 use Rattle.binding_index.specs.declared.key.KeyPart.{KeyPart}
 use Rattle.std.specs.Option.{option_map}
-use Rattle.static_index.specs.Conditions.{Condition, HasId, ids_of, with_condition}
+use Rattle.static_index.specs.Conditions.{Condition, HasId, ids_of}
 use Rattle.static_index.specs.FixedParts.{fixed_parts}
 use Rattle.stream_readers.specs.Changing.{Files, FilesWait}
 use Rattle.stream_readers.specs.Filing.{Filed, filed_to}

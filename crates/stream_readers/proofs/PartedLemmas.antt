@@ -1,34 +1,30 @@
 -- Readers of a network that an end comes to, or that an end or a state leaves.
-use Rattle.std.proofs.Common.{◌≡◌, ◌∙◌, sym, ap, refl, subst, ℕ, zero, suc, ◌+◌, ◌-◌, ◌<◌, ◌≤◌, ◌==◌, ◌&&◌, ◌||◌, not, nat_lt, Bool, true, false, cond, IsTrue, length, List, [], ◌∷◌, ◌++◌, map, append_assoc, append-nil, arith}
-use Rattle.std.specs.Prelude.{Option, Some, None, count_by, is_some, slice_get, take}
+use Rattle.std.proofs.Common.{◌≡◌, ◌∙◌, sym, ap, refl, subst, ℕ, zero, suc, ◌+◌, ◌-◌, ◌<◌, ◌==◌, ◌||◌, not, nat_lt, Bool, true, false, cond, length, List, [], ◌∷◌, ◌++◌, map, append_assoc, arith}
+use Rattle.std.specs.Prelude.{Option, Some, None, is_some}
 use Rattle.std.specs.Option.{option_and_then, option_map, unwrap_or}
-use Rattle.std.specs.List.{filter, flat_map, range_with_len, remove}
-use Rattle.std.specs.List.Sorted.{IsPermutation}
+use Rattle.std.specs.List.{flat_map, range_with_len, remove}
 use Rattle.std.proofs.lemmas.Bool.Decides.{nat_tests}
 use Rattle.std.proofs.lemmas.Grind.{flat_map-append}
-use Rattle.std.proofs.lemmas.List.{map-append}
-use Rattle.std.proofs.lemmas.List.Sorted.{IsPermutation-append_comm, IsPermutation-append_right, IsPermutation-refl}
+use Rattle.std.proofs.lemmas.List.Sorted.{IsPermutation-refl}
 use Rattle.event_types.proofs.NumberLemmas.{is_below, is_other, other_number, same_number, self_equal}
-use Rattle.scalar_expr.proofs.Bags.{flat_map_each, permuted_from, permuted_to}
-use Rattle.automaton.specs.Changes.{AddsEnd, RemovesEnd, RemovesState, with_end, without_edge, without_end, without_number, without_numbered}
+use Rattle.scalar_expr.proofs.Bags.{permuted_from}
+use Rattle.automaton.specs.Changes.{AddsEnd, RemovesEnd, with_end, without_end, without_number, without_numbered}
 use Rattle.automaton.specs.Networks.{IsNetwork}
-use Rattle.automaton.specs.States.{Net, before_at, edges_at, edges_in, ends_at, ends_in, entrance_at, entrance_in, is_used, root_at, root_by, root_in, state_at, step_at, step_by, tells, wait_at, wait_by}
+use Rattle.automaton.specs.States.{Net, edges_at, edges_in, ends_at, ends_in, entrance_at, entrance_in, is_used, root_at, root_by, root_in, state_at, step_at, step_by, tells}
 use Rattle.automaton.specs.declared.network.End.{End}
 use Rattle.automaton.specs.declared.network.State.{State}
-use Rattle.automaton.specs.declared.wait.Wait.{Wait}
-use Rattle.static_index.specs.Conditions.{Condition, without}
-use Rattle.stream_readers.specs.Changing.{Files, HaveTargets, HaveWaits, KeepWaits, Parts, PartsWait}
+use Rattle.stream_readers.specs.Changing.{Files, Parts}
 use Rattle.stream_readers.specs.Filing.{Filed, filed_under}
-use Rattle.stream_readers.specs.Leaving.{left_by, moved, moved_end}
-use Rattle.stream_readers.specs.Readers.{AreReadersOf, reader_at}
+use Rattle.stream_readers.specs.Leaving.{left_by, moved}
+use Rattle.stream_readers.specs.Readers.{AreReadersOf}
 use Rattle.stream_readers.specs.Targets.{end_at}
 use Rattle.stream_readers.specs.Ways.{first_parts}
 use Rattle.stream_readers.specs.declared.reader.Reader.{Reader}
 use Rattle.stream_readers.specs.declared.target.Target.{Target}
 use Rattle.stream_readers.specs.declared.target.Target.TheVariants.{Edge}
-use Rattle.stream_readers.proofs.ChangeLemmas.{given_alike, given_twice, row_left, row_of}
-use Rattle.stream_readers.proofs.EntryLemmas.{asked, asked_at, edge_filed, edges_alike, ends_filed, entry, entry_of, no_root, past_unused, stays, targets_given, unused_asked, unused_entry, waits_alike, waits_given}
-use Rattle.stream_readers.proofs.GrownLemmas.{targets_alike, targets_at_one, targets_come, targets_leave, targets_stay, wait_leaves, waiting_alike, waits_stay}
+use Rattle.stream_readers.proofs.ChangeLemmas.{given_alike, given_twice}
+use Rattle.stream_readers.proofs.EntryLemmas.{edge_filed, edges_alike, ends_filed, entry, entry_of, no_root, past_unused, stays, targets_given, unused_entry, waits_alike}
+use Rattle.stream_readers.proofs.GrownLemmas.{targets_alike, targets_at_one, targets_come, targets_leave, targets_stay, waiting_alike, waits_stay}
 
 -- one end more is filed last
 ends_last : (number place : ℕ) (ends : List End) (end : End) → ends_filed number place (ends ++ end ∷ []) ≡ ends_filed number place ends ++ record { target = end_at number (place + length ends); parts = first_parts end.step } ∷ []

@@ -1,23 +1,21 @@
 -- Targets at their places, and the conditions that name these.
-use Rattle.std.proofs.Common.{◌≡◌, ◌∙◌, sym, ap, refl, subst, inl, inr, ℕ, zero, suc, ◌+◌, ◌<◌, ◌≤◌, ◌==◌, ◌⊎◌, ◌||◌, ◌&&◌, not, Bool, true, false, cond, nat_lt, length, get_or, set, take, List, [], ◌∷◌, ◌++◌, map, append_assoc, append-nil, arith}
+use Rattle.std.proofs.Common.{◌≡◌, ◌∙◌, sym, ap, refl, subst, inl, inr, ℕ, zero, suc, ◌+◌, ◌<◌, ◌≤◌, ◌==◌, ◌⊎◌, ◌||◌, ◌&&◌, Bool, true, false, cond, nat_lt, length, get_or, take, List, [], ◌∷◌, ◌++◌, map, append-nil}
 use Rattle.std.specs.Prelude.{Contains, Option, Some, None, is_some, slice_get, option_to_list}
-use Rattle.std.specs.List.{All, filter, flat_map}
+use Rattle.std.specs.List.{All, filter}
 use Rattle.std.specs.List.Sorted.{IsPermutation}
 use Rattle.std.proofs.lemmas.Grind.{flat_map-append}
 use Rattle.std.proofs.lemmas.List.{take_more}
-use Rattle.std.proofs.lemmas.List.Elements.{All-cons, All-contains, All-contains_itself, All-head, All-nil, All-tail, All-weaker, filter_agree}
+use Rattle.std.proofs.lemmas.List.Elements.{All-cons, All-contains, All-head, All-nil, All-tail, All-weaker}
 use Rattle.std.proofs.lemmas.List.Sorted.{IsPermutation-append_comm, IsPermutation-cons, IsPermutation-middle, IsPermutation-refl, IsPermutation-trans}
 use Rattle.event_types.specs.Tuple.{TupleView}
 use Rattle.event_types.proofs.NumberLemmas.{other_number, same_number, self_equal}
 use Rattle.scalar_expr.proofs.Bags.{flat_map_each, flat_map_permuted, permuted_from}
-use Rattle.static_index.specs.Conditions.{Condition, HasId, ids_of, matched, with_condition, without}
+use Rattle.static_index.specs.Conditions.{Condition, HasId, ids_of, matched, with_condition}
 use Rattle.static_index.specs.FixedParts.{all_hold}
-use Rattle.static_index.specs.declared.fixed_part.FixedPart.{FixedPart}
 use Rattle.static_index.proofs.TableLemmas.{id_first, id_later}
 use Rattle.stream_readers.specs.Filing.{AreAtPlaces, Filed, Slots, at_places, filed_by, filed_in, filed_under, has_id, slot_at, targets_met}
-use Rattle.stream_readers.specs.Leaving.{left_by, moved, moved_in}
 use Rattle.stream_readers.specs.declared.target.Target.{Target}
-use Rattle.stream_readers.proofs.KeyTableLemmas.{ChangedBelow, below_or_past, changed_more, default_past, is_set}
+use Rattle.stream_readers.proofs.KeyTableLemmas.{below_or_past, default_past}
 
 cond_same : {X : Type 0} (b : Bool) (x : X) → cond b x x ≡ x
 cond_same true x = refl

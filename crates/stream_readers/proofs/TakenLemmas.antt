@@ -1,13 +1,12 @@
 -- Targets of which one leaves, place by place.
-use Rattle.std.proofs.Common.{◌≡◌, ◌∙◌, sym, ap, refl, subst, inl, inr, ℕ, ◌<◌, ◌≤◌, ◌==◌, ◌⊎◌, ◌&&◌, not, Bool, true, false, cond, length, get_or, set, List, [], ◌∷◌, ◌++◌, append-nil, arith}
+use Rattle.std.proofs.Common.{◌≡◌, ◌∙◌, sym, ap, refl, inl, inr, ℕ, ◌<◌, ◌≤◌, ◌==◌, ◌⊎◌, ◌&&◌, not, Bool, true, false, cond, length, get_or, set, List, [], ◌∷◌, ◌++◌, append-nil, arith}
 use Rattle.std.specs.Prelude.{Option, Some, None, is_some}
 use Rattle.std.specs.List.{All, filter, flat_map}
 use Rattle.std.proofs.lemmas.Grind.{flat_map-append}
 use Rattle.std.proofs.lemmas.List.Elements.{All-cons, All-head, All-nil, All-tail, All-weaker, filter_agree}
 use Rattle.event_types.proofs.NumberLemmas.{is_other, self_equal}
 use Rattle.static_index.specs.Conditions.{Condition, HasId, ids_of, without}
-use Rattle.static_index.specs.declared.fixed_part.FixedPart.{FixedPart}
-use Rattle.stream_readers.specs.Filing.{AreAtPlaces, Filed, Slots, filed_by, filed_in, filed_under, has_id, slot_at}
+use Rattle.stream_readers.specs.Filing.{AreAtPlaces, Slots, filed_by, filed_in, filed_under, has_id, slot_at}
 use Rattle.stream_readers.specs.Leaving.{left_by, moved, moved_in}
 use Rattle.stream_readers.specs.declared.target.Target.{Target}
 use Rattle.stream_readers.proofs.KeyTableLemmas.{ChangedBelow, below_or_past, default_past, is_set}

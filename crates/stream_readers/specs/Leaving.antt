@@ -1,5 +1,5 @@
 -- Targets of which one leaves.
-use Rattle.std.specs.Prelude.{ℕ, ◌-◌, ◌==◌, ◌||◌, not, nat_lt, if◌then◌else◌, List, Option, Some, None}
+use Rattle.std.specs.Prelude.{◌-◌, ◌==◌, ◌||◌, not, nat_lt, if◌then◌else◌, List, Option, Some, None}
 use Rattle.std.specs.Option.{option_and_then}
 use Rattle.stream_readers.specs.Filing.{Filed, filed_under}
 use Rattle.stream_readers.specs.declared.target.EndPlace.{EndPlace}

@@ -28,11 +28,7 @@ pub(crate) fn moved(gone: Target, target: Target) -> Option<Target>
 {
     match (gone, target) {
         (Target::Edge(left), Target::Edge(state)) => {
-            if state == left {
-                None
-            } else {
-                Some(target)
-            }
+            if state == left { None } else { Some(target) }
         }
         (Target::End(left), Target::End(end)) => moved_end(left, end),
         _ => Some(target),

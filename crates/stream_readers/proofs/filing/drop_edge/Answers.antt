@@ -1,4 +1,4 @@
-use Rattle.std.proofs.Common.{◌∙◌, ap, sym}
+use Rattle.std.proofs.Common.{◌∙◌, sym}
 use Rattle.automaton.proofs.ClearedLemmas.{before_used}
 use Rattle.stream_readers.proofs.GoneLemmas.{edge_leaves, no_edge_leaves, no_edge_there}
 use Rattle.stream_readers.proofs.filing.drop_edge.Goals as goal

@@ -1,4 +1,4 @@
-use Rattle.std.proofs.Common.{◌≡◌, ◌∙◌, ap, subst, sym, List}
+use Rattle.std.proofs.Common.{◌≡◌, ◌∙◌, subst, sym, List}
 use Rattle.std.specs.List.{remove}
 use Rattle.automaton.specs.Changes.{without_numbered}
 use Rattle.automaton.specs.declared.network.End.{End}

@@ -1,4 +1,4 @@
-use Rattle.std.proofs.Common.{◌∙◌, ap, sym}
+use Rattle.std.proofs.Common.{◌∙◌, sym}
 use Rattle.std.proofs.lemmas.Result.{on_ok_weaker}
 use Rattle.stream_readers.proofs.GrownLemmas.{edge_comes, no_edge_comes}
 use Rattle.stream_readers.proofs.filing.file_edge.Goals as goal

@@ -1,6 +1,5 @@
 use Rattle.std.proofs.Common.{◌∙◌, ap, sym, subst, length, ◌∷◌, []}
 use Rattle.std.proofs.lemmas.Result.{on_ok_weaker}
-use Rattle.automaton.specs.States.{ends_at}
 use Rattle.stream_readers.specs.Changing.{Files}
 use Rattle.stream_readers.specs.Targets.{end_at}
 use Rattle.stream_readers.specs.Ways.{first_parts}

@@ -1,4 +1,4 @@
-use Rattle.std.proofs.Common.{◌∙◌, ap, sym}
+use Rattle.std.proofs.Common.{◌∙◌, sym}
 use Rattle.std.proofs.lemmas.Result.{on_ok_weaker}
 use Rattle.stream_readers.specs.Leading.{lead_key}
 use Rattle.stream_readers.proofs.GoneLemmas.{unused_unlisted}

@@ -1,4 +1,4 @@
-use Rattle.std.proofs.Common.{◌∙◌, ap, append-nil, get_or, ◌++◌, ◌∷◌, [], List, sym}
+use Rattle.std.proofs.Common.{ap, append-nil, get_or, ◌++◌, ◌∷◌, [], List, sym}
 use Rattle.std.proofs.lemmas.List.Sorted.{IsPermutation-refl}
 use Rattle.scalar_expr.proofs.Bags.{permuted_to}
 use Rattle.stream_readers.specs.Filing.{filed_to}

@@ -13,5 +13,7 @@ get-requires c = All-get_or (λ (place : ℕ). place < length c.args.slots.now) 
 pub loop-place-preserved : goal.loop-place-preserved
 loop-place-preserved c =
     let more = places_more c.args.slots.now c.args.places.now c.loop-place.place-index c.get.result.now c.loop-place.found c.match-get.found c.loop-place-test.true c.get.ensures c.loop-place.invariant in
-    elim c.match-get.branch [ in-Some+in_ok-add w ↦ more (w.found-is ∙ w.in_ok-add.ensures.ok ∙ ap (λ (o : Option Target). c.loop-place.found ++ option_to_list o) (sym w.in-Some.is))
-    | in_default w ↦ more (w.found-is ∙ sym (append-nil c.loop-place.found) ∙ ap (λ (o : Option Target). c.loop-place.found ++ option_to_list o) (sym w.in_default.is)) ]
+    elim c.match-get.branch [
+      | in-Some+in_ok-add w ↦ more (w.found-is ∙ w.in_ok-add.ensures.ok ∙ ap (λ (o : Option Target). c.loop-place.found ++ option_to_list o) (sym w.in-Some.is))
+      | in_default w ↦ more (w.found-is ∙ sym (append-nil c.loop-place.found) ∙ ap (λ (o : Option Target). c.loop-place.found ++ option_to_list o) (sym w.in_default.is))
+    ]

@@ -1,11 +1,10 @@
 use Rattle.std.proofs.Common.{◌≡◌, ◌∙◌, ◌<◌, ap, arith, length, subst, sym, true, ◌&&◌, not}
 use Rattle.std.specs.Prelude.{None, is_some}
-use Rattle.std.proofs.lemmas.List.{length-set}
 use Rattle.stream_readers.specs.Filing.{AreAtPlaces, filed_in}
 use Rattle.stream_readers.specs.Leaving.{moved_in}
 use Rattle.stream_readers.proofs.KeyTableLemmas.{ChangedBelow, changed_none, changed_more}
 use Rattle.stream_readers.proofs.SlotLemmas.{and_left, at_got}
-use Rattle.stream_readers.proofs.TakenLemmas.{all_named, is_taken, left_filed, left_places, moves, named_left, named_on, still_has, still_named}
+use Rattle.stream_readers.proofs.TakenLemmas.{all_named, is_taken, left_filed, left_places, moves, named_left, named_on, still_has}
 use Rattle.stream_readers.proofs.slots.take_away.Goals as goal
 use Rattle.stream_readers.proofs.slots.take_away.Goals.{then-leaves, else-leaves}
 
@@ -39,8 +38,10 @@ loop-place-preserved c =
     let left = c.leaves.ensures.left ∙ ap (λ o. is_some o && not (is_some x)) (sym here) in
     record {
       changed = changed_more (moves gone) None i old mid x lt was is;
-      named = elim c.if-leaves.branch [ then-leaves w ↦ w.conditions-is ∙ w.remove.ensures ∙ named_left gone old mid c.args.conditions.now c.requires i lt was x c.leaves.result is left c.loop-place.conditions c.loop-place.invariant.named w.if-leaves.true
-      | else-leaves w ↦ w.conditions-is ∙ named_on gone old mid c.args.conditions.now c.requires i lt was x c.leaves.result is left c.loop-place.conditions c.loop-place.invariant.named w.if-leaves.false ];
+      named = elim c.if-leaves.branch [
+        | then-leaves w ↦ w.conditions-is ∙ w.remove.ensures ∙ named_left gone old mid c.args.conditions.now c.requires i lt was x c.leaves.result is left c.loop-place.conditions c.loop-place.invariant.named w.if-leaves.true
+        | else-leaves w ↦ w.conditions-is ∙ named_on gone old mid c.args.conditions.now c.requires i lt was x c.leaves.result is left c.loop-place.conditions c.loop-place.invariant.named w.if-leaves.false
+      ];
     }
 
 pub returns-clause-places : goal.returns-clause-places

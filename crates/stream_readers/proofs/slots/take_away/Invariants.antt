@@ -1,6 +1,5 @@
-use Rattle.std.proofs.Common.{◌≡◌, List}
+use Rattle.std.proofs.Common.{◌≡◌}
 use Rattle.std.specs.Prelude.{None}
-use Rattle.static_index.specs.Conditions.{Condition}
 use Rattle.stream_readers.proofs.KeyTableLemmas.{ChangedBelow}
 use Rattle.stream_readers.proofs.TakenLemmas.{moves, still_named}
 use Rattle.stream_readers.proofs.slots.take_away.Given as goal

@@ -1,4 +1,4 @@
-use Rattle.std.proofs.Common.{◌≡◌, ◌∙◌, ◌++◌, ◌∷◌, [], ap, subst, sym, List}
+use Rattle.std.proofs.Common.{◌∙◌, ◌++◌, ◌∷◌, [], ap, subst, sym, List}
 use Rattle.scalar_expr.proofs.Bags.{permuted_from, permuted_to}
 use Rattle.static_index.specs.Conditions.{Condition}
 use Rattle.static_index.specs.FixedParts.{fixed_parts}
