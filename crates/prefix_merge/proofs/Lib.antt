@@ -16,3 +16,4 @@ pub mod ShortLemmas
 pub mod StartLemmas
 pub mod TurnLemmas
 pub mod UndoneLemmas
+pub mod ReadingLemmas

@@ -8,21 +8,25 @@ ghost use Rattle.automaton.specs.declared.network.Entrance.TheVariants.{Waiting}
 ghost use Rattle.prefix_merge.specs.Buckets.{HaveSame, IsPut, IsTakenFrom, IsTakenOut};
 ghost use Rattle.prefix_merge.specs.Holders.{TellsOf};
 ghost use Rattle.prefix_merge.specs.Merging.{HasEnd, ends_numbered};
+ghost use Rattle.stream_readers.specs.Readers.{AreReadersOf};
 
 use crate::hashing::entrance_hash;
+use crate::reading::{with_end, with_hop, without_end, without_state};
 use automaton::{End, Hop, Network};
 use event_types::{List, Memory, Numbers, StreamId};
 use std::alloc::Global;
 use std::collections::HashMap;
 use std::marker::Model;
+use stream_readers::Readers;
 
-// A network, its waiting states in buckets by a hash of how each is entered, and the state of each end. A contract
-// sees the network.
+// A network, its waiting states in buckets by a hash of how each is entered, the state of each end, and what reads
+// each stream, unless memory was wanting. A contract sees the network.
 #[derive(Drop)]
 pub(crate) struct Indexed {
     network: Network,
     buckets: Buckets,
     holders: Holders,
+    readers: Option<Readers>,
 }
 
 // The states in the bucket of each hash.
@@ -42,12 +46,14 @@ impl Model for Indexed {
 
     ghost coded = { coded_list (coded_option state.the_row.coded) };
 
+    ghost use Rattle.std.specs.Prelude.{IfSome};
     ghost use Rattle.prefix_merge.specs.Buckets.{AreInBuckets};
     ghost use Rattle.prefix_merge.specs.Holders.{AreHolders};
+    ghost use Rattle.stream_readers.specs.Readers.{AreReadersOf};
 
     ghost view = { λ m. m.network };
 
-    ghost invariant = { λ m. AreInBuckets m.buckets m.network × AreHolders m.holders m.network };
+    ghost invariant = { λ m. AreInBuckets m.buckets m.network × AreHolders m.holders m.network × IfSome m.readers (AreReadersOf m.network) };
 }
 
 impl Indexed {
@@ -58,6 +64,7 @@ impl Indexed {
             network: Network::new(alloc),
             buckets: HashMap::new(alloc),
             holders: HashMap::new(alloc),
+            readers: Some(Readers::new(alloc)),
         }
     }
 
@@ -66,6 +73,23 @@ impl Indexed {
         ensures { result.now ≡ self.now }
     {
         &self.network
+    }
+
+    // What reads each stream, unless memory was wanting.
+    pub(crate) fn readers(&self) -> Option<&Readers>
+        ensures { IfSome result (λ readers. AreReadersOf self.now readers.now) }
+    {
+        self.readers.as_ref()
+    }
+
+    // Makes what reads each stream, where it isn't there.
+    pub(crate) fn refile(&mut self, alloc: Global) -> Result<(), Memory>
+        ensures { self.new ≡ self.old }
+    {
+        if self.readers.is_none() {
+            self.readers = Some(Readers::make(alloc, &self.network)?);
+        }
+        Ok(())
     }
 
     // A number above those of all states.
@@ -117,9 +141,12 @@ impl Indexed {
     {
         let hash = entrance_hash(before, &hop.step, &hop.wait);
         put(alloc, &mut self.buckets, hash, number)?;
+        let readers = with_hop(self.readers.take(), &self.network, number, before, hop);
         let added = self.network.add_hop(alloc, number, before, hop);
         if added.is_err() {
             take_out(&mut self.buckets, hash, number);
+        } else {
+            self.readers = readers;
         }
         added
     }
@@ -144,18 +171,22 @@ impl Indexed {
     {
         let number = end.number;
         note(&mut self.holders, number, state)?;
+        let readers = with_end(self.readers.take(), &self.network, state, &end);
         let added = self.network.add_end(state, end);
         if added.is_err() {
             forget(&mut self.holders, number);
+        } else {
+            self.readers = readers;
         }
         added
     }
 
-    // The end of this number leaves its state.
+    // The only end of this number leaves its state.
     pub(crate) fn remove_end(&mut self, state: usize, number: usize)
-        requires { 1 ≤ ends_numbered self.old number state }
+        requires { ends_numbered self.old number state ≡ 1 }
         ensures { RemovesEnd state number self.old self.new }
     {
+        self.readers = without_end(self.readers.take(), &self.network, state, number);
         self.network.remove_end(state, number);
         forget(&mut self.holders, number);
     }
@@ -167,6 +198,7 @@ impl Indexed {
         requires endless { ends_at self.old number ≡ [] }
         ensures { RemovesState number self.old self.new }
     {
+        self.readers = without_state(self.readers.take(), &self.network, number);
         take_waiting(&mut self.buckets, &self.network, number);
         self.network.remove_state(number);
     }

@@ -1,7 +1,7 @@
 //! Merged networks: lines that begin alike share their states.
 //!
 //! Contracts see a `Merged` as its network. No two of its states stand for one prefix, and each of them
-//! is used by an end.
+//! is used by an end. A `Merged` has what reads each stream of its network, too, unless memory was wanting.
 #![tactic(auto)]
 
 mod growth;
@@ -10,6 +10,7 @@ mod indexed;
 mod laws;
 mod merged;
 mod pruning;
+mod reading;
 mod turns;
 
 pub use laws::{

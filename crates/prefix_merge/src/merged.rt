@@ -1,11 +1,12 @@
 //! Networks that lines come to and leave.
-ghost use Rattle.std.specs.Prelude.{◌≡◌, ◌<◌, ◌↔◌, ℕ, [], IfOk, OnErr, OnOk, Some, length};
+ghost use Rattle.std.specs.Prelude.{◌≡◌, ◌<◌, ◌↔◌, ℕ, [], IfOk, IfSome, OnErr, OnOk, Some, length};
 ghost use Rattle.automaton.specs.NetworkLines.{HasEndings, HasLines};
 ghost use Rattle.automaton.specs.Plain.{numbered};
 ghost use Rattle.automaton.specs.States.{root_at};
 ghost use Rattle.prefix_merge.specs.Insertion.{Inserts};
 ghost use Rattle.prefix_merge.specs.Merging.{HasEnd, IsMerged, IsSettled};
 ghost use Rattle.prefix_merge.specs.Removal.{Removes};
+ghost use Rattle.stream_readers.specs.Readers.{AreReadersOf};
 
 use crate::growth::{free_number, grow, hops_from, numbered_end, plant, reach};
 use crate::indexed::Indexed;
@@ -15,6 +16,7 @@ use event_types::Memory;
 use std::alloc::Global;
 use std::collections::HashMap;
 use std::marker::Model;
+use stream_readers::Readers;
 
 /// A network in which no two states have one prefix and each state is used by an end.
 ///
@@ -81,6 +83,20 @@ impl Merged {
         ensures settled { IsSettled self.now }
     {
         self.network.network()
+    }
+
+    /// What reads each stream of the network, unless memory was wanting when it changed. Takes no memory.
+    pub fn readers(&self) -> Option<&Readers>
+        ensures { IfSome result (λ readers. AreReadersOf self.now readers.now) }
+    {
+        self.network.readers()
+    }
+
+    /// Makes what reads each stream, where it isn't there.
+    pub fn refile(&mut self, alloc: Global) -> Result<(), Memory>
+        ensures { self.new ≡ self.old }
+    {
+        self.network.refile(alloc)
     }
 
     // What holds of each merged network.

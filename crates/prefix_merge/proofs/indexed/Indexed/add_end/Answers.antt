@@ -1,10 +1,12 @@
 use Rattle.std.proofs.Common.{◌≡◌, ◌∙◌, sym, subst, true}
+use Rattle.automaton.specs.Changes.{AddsEnd}
 use Rattle.automaton.specs.States.{Net, is_used}
 use Rattle.prefix_merge.specs.Buckets.{AreInBuckets}
 use Rattle.prefix_merge.specs.Holders.{AreHolders}
 use Rattle.prefix_merge.specs.Merging.{HasEnd}
 use Rattle.prefix_merge.proofs.BucketLemmas.{buckets_end, failed, succeeded}
 use Rattle.prefix_merge.proofs.HolderLemmas.{holders_back, holders_more}
+use Rattle.prefix_merge.proofs.ReadingLemmas.{no_readers, readers_changed}
 use Rattle.prefix_merge.proofs.indexed.Indexed.add_end.Goals as goal
 
 -- it couldn't be added, and its state was forgotten again
@@ -16,6 +18,7 @@ invariant_of-self-then-is_err c =
       subst (AreInBuckets c.self.inside.buckets) (sym same) c.self.invariant.0,
       subst (AreHolders c.forget.new.holders) (sym same)
           (holders_back c.self.inside.holders c.note.new.holders c.forget.new.holders c.args.end.number c.args.state net c.self.invariant.1 fresh (c.in_ok-note.ensures {u = tt}).ok c.forget.ensures),
+      no_readers c.take.new.self c.add_end-added.new.self c.take.ensures.after,
     )
 
 -- it was added
@@ -27,4 +30,5 @@ invariant_of-self-else-is_err c =
     let used = subst (λ (net : Net). is_used net c.args.state ≡ true) (sym c.self.view_is) c.requires.used in (
       buckets_end c.self.inside.buckets c.args.state c.args.end net c.add_end-added.new.self c.self.invariant.0 added,
       holders_more c.self.inside.holders c.note.new.holders c.args.state c.args.end net c.add_end-added.new.self c.self.invariant.1 used fresh (c.in_ok-note.ensures {u = tt}).ok added,
+      readers_changed c.with_end-readers.result (AddsEnd c.args.state c.args.end net) c.add_end-added.new.self added c.with_end-readers.ensures,
     )

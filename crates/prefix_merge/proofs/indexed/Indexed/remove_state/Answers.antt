@@ -1,7 +1,9 @@
 use Rattle.std.proofs.Common.{◌∙◌, ap}
+use Rattle.automaton.specs.Changes.{RemovesState}
 use Rattle.automaton.specs.States.{Net, ends_at}
 use Rattle.prefix_merge.proofs.BucketLemmas.{buckets_less}
 use Rattle.prefix_merge.proofs.HolderLemmas.{holders_same, left_ends}
+use Rattle.prefix_merge.proofs.ReadingLemmas.{readers_changed}
 use Rattle.prefix_merge.proofs.indexed.Indexed.remove_state.Goals as goal
 
 -- the others are in their buckets, and each end stands where it stood
@@ -12,4 +14,5 @@ invariant_of-self c =
     let endless = ap (λ (net : Net). ends_at net c.args.number) c.self.view_is ∙ c.requires.endless in (
       buckets_less c.self.inside.buckets c.take_waiting.new.buckets c.args.number old new c.self.invariant.0 c.take_waiting.ensures c.remove_state.ensures,
       holders_same c.self.inside.holders old new (left_ends c.args.number old new endless c.remove_state.ensures) c.self.invariant.1,
+      readers_changed c.without_state.result (RemovesState c.args.number old) new c.remove_state.ensures c.without_state.ensures,
     )
