@@ -14,7 +14,13 @@ use Rattle.std.proofs.lemmas.Option.{get_or_from_slice_get, slice_get-get_or, sl
 use Rattle.event_types.specs.declared.kind.Kind.{Kind}
 use Rattle.event_types.proofs.NumberLemmas.{self_equal}
 use Rattle.automaton.specs.declared.line.Line.{Line}
-use Rattle.automaton.specs.Layouts.{LayoutFits}
+use Rattle.automaton.specs.declared.growth.Growth.{Growth}
+use Rattle.automaton.specs.declared.growth.Sizes.{Sizes}
+use Rattle.automaton.specs.declared.layout.Layout.{Layout}
+use Rattle.automaton.specs.Layouts.{LayoutFits, grown, sizes_of}
+use Rattle.splitter.specs.declared.chains.Chains.{Chains}
+use Rattle.catalogue.specs.declared.growing.Before.{Before}
+use Rattle.catalogue.specs.Sharing.{share_of}
 use Rattle.automaton.specs.LineKinds.{LineFits}
 use Rattle.automaton.specs.Work.{IsInOrder, is_in}
 use Rattle.expressions.specs.declared.expression.Expr.{Expr}
@@ -41,12 +47,13 @@ use Rattle.cel_grammar.specs.Views.{statement_of}
 use Rattle.cel_types.specs.SourceLaws.{kinds_in}
 use Rattle.cel_types.proofs.QueryLaws.{query-typed}
 use Rattle.catalogue.specs.declared.adding.Coming.{Coming}
-use Rattle.catalogue.specs.declared.adding.Growth.{Growth}
+use Rattle.catalogue.specs.declared.adding.Added.{Added}
+use Rattle.catalogue.specs.declared.sharing.Share.{Share}
 use Rattle.catalogue.specs.declared.numbering.Published.{Published}
 use Rattle.catalogue.specs.Catalogued.{Catalogued, program_in, queries_of, query_in, query_of, work_in}
 use Rattle.catalogue.specs.Changes.{MayCome, streams_there, with_query}
 use Rattle.catalogue.specs.Coming.{HasCome, IsLatest, IsTold, coming}
-use Rattle.catalogue.specs.Fitting.{IsGrowth}
+use Rattle.catalogue.specs.Fitting.{MayTell, first_of, with_lines}
 use Rattle.catalogue.specs.Taking.{IsFit, added_of}
 use Rattle.catalogue.specs.Standing.{AreEnds, IsKnown, IsLayoutOver, IsUpTo, StandsInOrder}
 use Rattle.catalogue.specs.Tables.{HasPlaces, IsHeld}
@@ -75,7 +82,7 @@ queries_push old more (r ∷ published) (y ∷ xs) p x same low =
     ap (λ ns. get_or ns r.stream []) (map-append (λ (e : Entry). e.name) old more) ∙ get_or_append_left (stream_names old) (stream_names more) [] r.stream within in
     λ i. record { name = name i; stream = r.stream; hidden = r.hidden; expr = ex_of y; birth = r.birth } ∷ rest i
 
-module _ (c : Catalogued) (stands : StandsInOrder c) (query : Coming) (fit : IsFit c.streams (added_of query)) (birth : Option ℕ) (latest : IsLatest birth c) (growth : Growth) (grows : IsGrowth c (added_of query) growth) where
+module _ (c : Catalogued) (stands : StandsInOrder c) (query : Coming) (fit : IsFit c.streams (added_of query)) (birth : Option ℕ) (latest : IsLatest birth c) (tells : Added) (grows : MayTell c (added_of query) tells) where
   abbrev n : ℕ
   n = length c.streams
 
@@ -97,6 +104,10 @@ module _ (c : Catalogued) (stands : StandsInOrder c) (query : Coming) (fit : IsF
   abbrev new_lines : List Line
   new_lines = split_lines e n (n + 1)
 
+  -- the layout then
+  abbrev pub later_layout : Layout
+  later_layout = grown c.layout tells.growth
+
   -- the catalogue then
   abbrev pub come_of : Catalogued
   come_of = record {
@@ -108,7 +119,7 @@ module _ (c : Catalogued) (stands : StandsInOrder c) (query : Coming) (fit : IsF
     expressions = c.expressions ++ query.expr ∷ [];
     ends = c.ends ++ range_with_len c.next_end (length new_lines);
     next_end = c.next_end + length new_lines;
-    layout = growth.layout;
+    layout = later_layout;
   }
 
   -- a stream that is there is a stream of the table
@@ -193,24 +204,24 @@ module _ (c : Catalogued) (stands : StandsInOrder c) (query : Coming) (fit : IsF
   lists = c.layout.kinds ++ kinds_of query.schema ∷ []
 
   -- the layout grew by its lines
-  lines_are : growth.told.lines ≡ new_lines
-  lines_are = grows.grown.lines ∙ ap (λ k. split_lines e k (k + 1)) same_n
+  lines_are : tells.lines ≡ new_lines
+  lines_are = grows.lines.lines_are ∙ ap (λ k. split_lines e k (k + 1)) same_n
 
-  pub grew : GrowInTurn lists new_lines growth.layout.kinds
-  grew = subst (λ (ls : List Line). GrowInTurn lists ls growth.layout.kinds) lines_are grows.grown.kinds
+  pub grew : GrowInTurn lists new_lines later_layout.kinds
+  grew = subst (λ (ls : List Line). GrowInTurn lists ls later_layout.kinds) lines_are grows.lines.kinds
 
-  pub kinds_many : length growth.layout.kinds ≡ end
+  pub kinds_many : length later_layout.kinds ≡ end
   kinds_many =
       let by = grow_by c stands (added_of query) fit in
       let here : GrowInTurn lists new_lines by.all = subst (λ k. GrowInTurn lists (split_lines e k (k + 1)) by.all) same_n by.grow in
-      ap length (grow_same lists new_lines growth.layout.kinds by.all grew here) ∙ by.size ∙ ap (λ k. (parts_of e (k + 1)).next) same_n
+      ap length (grow_same lists new_lines later_layout.kinds by.all grew here) ∙ by.size ∙ ap (λ k. (parts_of e (k + 1)).next) same_n
 
   -- numbers are left for its streams
-  pub kinds_up : length c.layout.kinds + 1 ≤ length growth.layout.kinds
+  pub kinds_up : length c.layout.kinds + 1 ≤ length later_layout.kinds
   kinds_up = omega (arith, kinds_many, up, same_n)
 
-  longer_kinds : IsLonger c.layout.kinds growth.layout.kinds
-  longer_kinds = longer_twice c.layout.kinds lists growth.layout.kinds (record { more = kinds_of query.schema ∷ []; is = refl }) (longer lists new_lines growth.layout.kinds grew)
+  longer_kinds : IsLonger c.layout.kinds later_layout.kinds
+  longer_kinds = longer_twice c.layout.kinds lists later_layout.kinds (record { more = kinds_of query.schema ∷ []; is = refl }) (longer lists new_lines later_layout.kinds grew)
 
   -- the query came
   pub has_come : HasCome c (added_of query) birth come_of
@@ -367,15 +378,15 @@ module _ (c : Catalogued) (stands : StandsInOrder c) (query : Coming) (fit : IsF
   hidden_lines : All (HasLine new_lines) (hidden_streams e (n + 1))
   hidden_lines =
       range_all (HasLine new_lines) (n + 1) (end - (n + 1))
-      (λ x above below. grow_has lists new_lines growth.layout.kinds grew x (omega (arith, above, same_n, length_push c.layout.kinds (kinds_of query.schema))) (omega (arith, below, kinds_many, up)))
+      (λ x above below. grow_has lists new_lines later_layout.kinds grew x (omega (arith, above, same_n, length_push c.layout.kinds (kinds_of query.schema))) (omega (arith, below, kinds_many, up)))
 
   own_lines : All (HasLine new_lines) (split_order e n (n + 1))
   own_lines =
       All-append (HasLine new_lines) (hidden_streams e (n + 1)) (n ∷ []) hidden_lines
       (All-cons (HasLine new_lines) n [] (any_right (λ (l : Line). l.out == n) (parts_of e (n + 1)).hidden (map (published_on n) (parts_of e (n + 1)).open_lines) (own_line (parts_of e (n + 1)).open_lines (some_lines e (n + 1)))) (All-nil (HasLine new_lines)))
 
-  order_is : growth.layout.order ≡ c.layout.order ++ split_order e n (n + 1)
-  order_is = grows.grown.order ∙ ap (λ k. c.layout.order ++ split_order e k (k + 1)) same_n
+  order_is : later_layout.order ≡ c.layout.order ++ split_order e n (n + 1)
+  order_is = grows.lines.order ∙ ap (λ k. c.layout.order ++ split_order e k (k + 1)) same_n
 
   all_lines : All (HasLine (lines_of (program_in c) ++ new_lines)) (c.layout.order ++ split_order e n (n + 1))
   all_lines =
@@ -383,46 +394,46 @@ module _ (c : Catalogued) (stands : StandsInOrder c) (query : Coming) (fit : IsF
       (All-weaker (HasLine (lines_of (program_in c))) (HasLine (lines_of (program_in c) ++ new_lines)) (λ s has. any_left (λ (l : Line). l.out == s) (lines_of (program_in c)) new_lines has) c.layout.order stands.laid.fits.only_outs)
       (All-weaker (HasLine new_lines) (HasLine (lines_of (program_in c) ++ new_lines)) (λ s has. any_right (λ (l : Line). l.out == s) (lines_of (program_in c)) new_lines has) (split_order e n (n + 1)) own_lines)
 
-  all_fit : All (LineFits growth.layout.kinds) (lines_of (program_in c) ++ new_lines)
+  all_fit : All (LineFits later_layout.kinds) (lines_of (program_in c) ++ new_lines)
   all_fit =
-      All-append (LineFits growth.layout.kinds) (lines_of (program_in c)) new_lines
-      (All-weaker (LineFits c.layout.kinds) (LineFits growth.layout.kinds) (λ line fits. fits_longer c.layout.kinds growth.layout.kinds line longer_kinds fits) (lines_of (program_in c)) stands.laid.fits.typed)
-      (grow_fits lists new_lines growth.layout.kinds grew)
+      All-append (LineFits later_layout.kinds) (lines_of (program_in c)) new_lines
+      (All-weaker (LineFits c.layout.kinds) (LineFits later_layout.kinds) (λ line fits. fits_longer c.layout.kinds later_layout.kinds line longer_kinds fits) (lines_of (program_in c)) stands.laid.fits.typed)
+      (grow_fits lists new_lines later_layout.kinds grew)
 
-  work_is_order : growth.layout.order ≡ work_order wider
+  work_is_order : later_layout.order ≡ work_order wider
   work_is_order = order_is ∙ ap (λ ns. ns ++ split_order e n (n + 1)) stands.laid.order ∙ sym ordered
 
-  outs_are : growth.layout.outs ≡ outs_of wider
+  outs_are : later_layout.outs ≡ outs_of wider
   outs_are =
-      grows.grown.outs ∙ (λ i. stands.laid.outs i ++ same_n i ∷ []) ∙ sym (map-append (λ (q : Query). q.stream) (program_in c).queries (new_query ∷ []))
+      grows.lines.outs ∙ (λ i. stands.laid.outs i ++ same_n i ∷ []) ∙ sym (map-append (λ (q : Query). q.stream) (program_in c).queries (new_query ∷ []))
 
-  printed : All (λ stream. IsTrue (is_in growth.layout.order stream)) growth.layout.outs
+  printed : All (λ stream. IsTrue (is_in later_layout.order stream)) later_layout.outs
   printed =
-      subst (λ (s : List ℕ × List ℕ). All (λ stream. IsTrue (is_in s.0 stream)) s.1) (λ i. (sym order_is i, sym (grows.grown.outs ∙ (λ j. c.layout.outs ++ same_n j ∷ [])) i))
+      subst (λ (s : List ℕ × List ℕ). All (λ stream. IsTrue (is_in s.0 stream)) s.1) (λ i. (sym order_is i, sym (grows.lines.outs ∙ (λ j. c.layout.outs ++ same_n j ∷ [])) i))
       (All-push (λ stream. IsTrue (is_in (c.layout.order ++ split_order e n (n + 1)) stream)) c.layout.outs n
       (All-weaker (λ stream. IsTrue (is_in c.layout.order stream)) (λ stream. IsTrue (is_in (c.layout.order ++ split_order e n (n + 1)) stream)) (λ s has. any_left (λ number. s == number) c.layout.order (split_order e n (n + 1)) has) c.layout.outs stands.laid.fits.printed)
       (any_right (λ number. n == number) c.layout.order (split_order e n (n + 1)) (own_in e n (n + 1))))
 
-  fits : LayoutFits (lines_of wider) growth.layout
+  fits : LayoutFits (lines_of wider) later_layout
   fits = record {
-    typed = subst (All (LineFits growth.layout.kinds)) (sym chained) all_fit;
+    typed = subst (All (LineFits later_layout.kinds)) (sym chained) all_fit;
     in_order = subst (IsInOrder (lines_of wider)) (sym work_is_order) (chain_ordered kinds (range_with_len 0 c.declared) wider.order wide.typed.in_turn wide.apart);
     all_outs = subst (λ (ns : List ℕ). All (λ (line : Line). IsTrue (is_in ns line.out)) (lines_of wider)) (sym work_is_order) (chain_outs wider.order);
     only_outs = subst (λ (s : List Line × List ℕ). All (HasLine s.0) s.1) (λ i. (sym chained i, sym order_is i)) all_lines;
     printed = printed;
   }
 
-  laid_kinds : All (λ stream. slice_get growth.layout.kinds stream ≡ Some (kinds stream)) (streams_there wider)
+  laid_kinds : All (λ stream. slice_get later_layout.kinds stream ≡ Some (kinds stream)) (streams_there wider)
   laid_kinds =
-      subst (All (λ stream. slice_get growth.layout.kinds stream ≡ Some (kinds stream))) (sym there_are)
-      (All-push (λ stream. slice_get growth.layout.kinds stream ≡ Some (kinds stream)) (streams_there (program_in c)) n
+      subst (All (λ stream. slice_get later_layout.kinds stream ≡ Some (kinds stream))) (sym there_are)
+      (All-push (λ stream. slice_get later_layout.kinds stream ≡ Some (kinds stream)) (streams_there (program_in c)) n
       (λ k d inside.
       let stream = get_or (streams_there (program_in c)) k d in
       let low : get_or (streams_there (program_in c)) k d < n = there_low (get_or (streams_there (program_in c)) k d) (Contains-get_or (streams_there (program_in c)) k d inside) in
-      get_longer c.layout.kinds growth.layout.kinds stream (kinds_in c.streams stream) longer_kinds (stands.laid.kinds k d inside) ∙ ap Some (alike stream low))
-      (get_longer lists growth.layout.kinds n (kinds_of query.schema) (longer lists new_lines growth.layout.kinds grew) (ap (slice_get lists) (sym same_n) ∙ get_next c.layout.kinds (kinds_of query.schema) []) ∙ ap Some (sym own_kinds)))
+      get_longer c.layout.kinds later_layout.kinds stream (kinds_in c.streams stream) longer_kinds (stands.laid.kinds k d inside) ∙ ap Some (alike stream low))
+      (get_longer lists later_layout.kinds n (kinds_of query.schema) (longer lists new_lines later_layout.kinds grew) (ap (slice_get lists) (sym same_n) ∙ get_next c.layout.kinds (kinds_of query.schema) []) ∙ ap Some (sym own_kinds)))
 
-  laid : IsLayoutOver all wider growth.layout
+  laid : IsLayoutOver all wider later_layout
   laid = record { order = work_is_order; outs = outs_are; long = kinds_many ∙ sym streams_many; kinds = laid_kinds; fits = fits }
 
   -- it stands in order
@@ -437,23 +448,30 @@ module _ (c : Catalogued) (stands : StandsInOrder c) (query : Coming) (fit : IsF
     born = subst (AllPairs (λ earlier later. IsUpTo earlier.birth later.birth)) (sym work_is) born;
     ended = subst (λ (p : Program). AreEnds (lines_of p) come_of.ends come_of.next_end) (sym program_is) ended;
     within = subst (All (λ q. hidden_end q ≤ length all)) (sym work_is) within;
-    laid = subst (λ (p : Program). IsLayoutOver all p growth.layout) (sym program_is) laid;
+    laid = subst (λ (p : Program). IsLayoutOver all p later_layout) (sym program_is) laid;
     few = subst (λ (p : Program). size (lines_of p) < 2 ^ 64) (sym program_is) few;
   }
 
-  -- and is held with its places and lines
-  pub come_held : (places : List ℕ) (lines : List Line) → HasPlaces c.order places → lines ≡ lines_of (program_in c) → IsHeld come_of (places ++ m ∷ []) (lines ++ growth.told.lines)
-  come_held places lines placed lines_same = record {
+  -- its share is that of its lines
+  order_many : length tells.growth.order ≡ length (split_order e n (n + 1))
+  order_many = omega (arith, ap length order_is, length-append c.layout.order tells.growth.order, length-append c.layout.order (split_order e n (n + 1)))
+
+  -- and is held with its places, lines and shares
+  pub come_held : (places : List ℕ) (lines : List Line) (shares : List Share) → HasPlaces c.order places → lines ≡ lines_of (program_in c) → shares ≡ map share_of (work_in c)
+      → IsHeld come_of (places ++ m ∷ []) (lines ++ tells.lines) (shares ++ record { lines = length tells.lines; streams = length tells.growth.order } ∷ [])
+  come_held places lines shares placed lines_same shared = record {
     stands = come_stands;
     placed = places_more c.order stands.numbered places placed;
     lines_are = (λ i. lines_same i ++ lines_are i) ∙ sym chained ∙ ap lines_of (sym program_is);
+    shared =
+        (λ i. shared i ++ record { lines = length (lines_are i); streams = order_many i } ∷ []) ∙ sym (map-append share_of (work_in c) (new_query ∷ [])) ∙ ap (map share_of) (sym work_is);
   }
 
   -- what is made is this catalogue
-  pub made_is : (name : List ℕ) (stream many lines_many : ℕ) (streams : List Entry) (order : List ℕ) (published : List Published) (expressions : List Expr) (ends : List ℕ) → name ≡ own.name → stream ≡ length c.layout.kinds → many ≡ length growth.layout.kinds - (stream + 1)
-      → lines_many ≡ length growth.told.lines → streams ≡ c.streams ++ record { name = name; schema = query.schema; declared = false } ∷ hidden_entries (length c.streams + 1) many → order ≡ c.order ++ m ∷ []
-      → published ≡ c.published ++ record { stream = stream; hidden = stream + 1; birth = birth } ∷ [] → expressions ≡ c.expressions ++ query.expr ∷ [] → ends ≡ c.ends ++ growth.told.ends
-      → (record { file = c.file; declared = c.declared; streams = streams; order = order; published = published; expressions = expressions; ends = ends; next_end = c.next_end + lines_many; layout = growth.layout }) ≡ come_of
+  pub made_is : (name : List ℕ) (stream many lines_many : ℕ) (streams : List Entry) (order : List ℕ) (published : List Published) (expressions : List Expr) (ends : List ℕ) → name ≡ own.name → stream ≡ length c.layout.kinds → many ≡ length later_layout.kinds - (stream + 1)
+      → lines_many ≡ length tells.lines → streams ≡ c.streams ++ record { name = name; schema = query.schema; declared = false } ∷ hidden_entries (length c.streams + 1) many → order ≡ c.order ++ m ∷ []
+      → published ≡ c.published ++ record { stream = stream; hidden = stream + 1; birth = birth } ∷ [] → expressions ≡ c.expressions ++ query.expr ∷ [] → ends ≡ c.ends ++ tells.ends
+      → (record { file = c.file; declared = c.declared; streams = streams; order = order; published = published; expressions = expressions; ends = ends; next_end = c.next_end + lines_many; layout = later_layout }) ≡ come_of
   made_is name stream many lines_many streams order published expressions ends name_is stream_is many_is lines_is streams_is order_is published_is expressions_is ends_is =
       let stream_n : stream ≡ n = stream_is ∙ same_n in
       let many_end : many ≡ end - (n + 1) = omega (arith, many_is, stream_n, kinds_many) in
@@ -470,24 +488,36 @@ module _ (c : Catalogued) (stands : StandsInOrder c) (query : Coming) (fit : IsF
         expressions = expressions_is i;
         ends = ends_are i;
         next_end = c.next_end + lines_many_is i;
-        layout = growth.layout;
+        layout = later_layout;
       }
 
   -- what is told of it
-  pub is_told : IsTold c new_query come_of growth.told
-  is_told = record { number = grows.number; lines = lines_are; ends = grows.ends ∙ ap (λ ls. range_with_len c.next_end (length ls)) lines_are; layout = grows.copy }
+  pub is_told : IsTold c new_query come_of tells
+  is_told = record { number = grows.number; lines = lines_are; ends = grows.ends ∙ ap (λ ls. range_with_len c.next_end (length ls)) lines_are; layout = refl }
 
 -- what was put behind others is taken back
 pub taken_back : {X : Type 0} (xs whole more : List X) (many : ℕ) → whole ≡ xs ++ more → many ≡ length xs → take many whole ≡ xs
 taken_back xs whole more many whole_is many_is = (λ i. take (many_is i) (whole_is i)) ∙ take-append_seam xs more
 
+-- the lines and the layout with a query's, without them
+pub lines_back : (chains whole : Chains) (more : List Line) (growth : Growth) (before : Before) → whole ≡ with_lines chains more growth → before.sizes ≡ sizes_of chains.layout → before.lines ≡ length chains.lines
+    → first_of whole before ≡ chains
+lines_back chains whole more growth before whole_is sizes lines =
+    let size : Sizes = sizes_of chains.layout in
+    let worked : take before.sizes.worked whole.layout.order ≡ chains.layout.order = taken_back chains.layout.order whole.layout.order growth.order before.sizes.worked (ap (λ (x : Chains). x.layout.order) whole_is) (ap (λ (x : Sizes). x.worked) sizes) in
+    let printed : take before.sizes.printed whole.layout.outs ≡ chains.layout.outs = taken_back chains.layout.outs whole.layout.outs growth.outs before.sizes.printed (ap (λ (x : Chains). x.layout.outs) whole_is) (ap (λ (x : Sizes). x.printed) sizes) in
+    let typed : take before.sizes.all whole.layout.kinds ≡ chains.layout.kinds = taken_back chains.layout.kinds whole.layout.kinds growth.kinds before.sizes.all (ap (λ (x : Chains). x.layout.kinds) whole_is) (ap (λ (x : Sizes). x.all) sizes) in
+    let first : take before.lines whole.lines ≡ chains.lines = taken_back chains.lines whole.lines more before.lines (ap (λ (x : Chains). x.lines) whole_is) lines in
+    λ i. record { lines = first i; layout = record { order = worked i; outs = printed i; kinds = typed i } }
+
 -- a catalogue is held whose parts are what they were
-pub held_back : (c : Catalogued) (places : List ℕ) (lines : List Line) → IsHeld c places lines → (streams : List Entry) (order : List ℕ) (published : List Published) (expressions : List Expr) (ends now : List ℕ) (now_lines : List Line)
-    → streams ≡ c.streams → order ≡ c.order → published ≡ c.published → expressions ≡ c.expressions → ends ≡ c.ends → now ≡ places → now_lines ≡ lines
-    → IsHeld (record { file = c.file; declared = c.declared; streams = streams; order = order; published = published; expressions = expressions; ends = ends; next_end = c.next_end; layout = c.layout }) now now_lines
-held_back c places lines held streams order published expressions ends now now_lines streams_is order_is published_is expressions_is ends_is now_is lines_is =
-    subst (λ (s : Catalogued × List ℕ × List Line). IsHeld s.0 s.1 s.2) (λ i. (
-      record { file = c.file; declared = c.declared; streams = sym streams_is i; order = sym order_is i; published = sym published_is i; expressions = sym expressions_is i; ends = sym ends_is i; next_end = c.next_end; layout = c.layout },
+pub held_back : (c : Catalogued) (places : List ℕ) (lines : List Line) (shares : List Share) → IsHeld c places lines shares → (streams : List Entry) (order : List ℕ) (published : List Published) (expressions : List Expr) (ends now : List ℕ) (chains : Chains) (now_shares : List Share)
+    → streams ≡ c.streams → order ≡ c.order → published ≡ c.published → expressions ≡ c.expressions → ends ≡ c.ends → now ≡ places → chains ≡ record { lines = lines; layout = c.layout } → now_shares ≡ shares
+    → IsHeld (record { file = c.file; declared = c.declared; streams = streams; order = order; published = published; expressions = expressions; ends = ends; next_end = c.next_end; layout = chains.layout }) now chains.lines now_shares
+held_back c places lines shares held streams order published expressions ends now chains now_shares streams_is order_is published_is expressions_is ends_is now_is chains_is shares_is =
+    subst (λ (s : Catalogued × List ℕ × List Line × List Share). IsHeld s.0 s.1 s.2 s.3) (λ i. (
+      record { file = c.file; declared = c.declared; streams = sym streams_is i; order = sym order_is i; published = sym published_is i; expressions = sym expressions_is i; ends = sym ends_is i; next_end = c.next_end; layout = (sym chains_is i).layout },
       sym now_is i,
-      sym lines_is i,
+      (sym chains_is i).lines,
+      sym shares_is i,
     )) held

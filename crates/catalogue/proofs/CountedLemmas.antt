@@ -2,7 +2,7 @@
 use Rattle.std.proofs.Common.{◌≡◌, ◌≢◌, ◌∙◌, ℕ, zero, suc, ◌+◌, ◌<◌, ◌≤◌, ◌||◌, List, [], ◌∷◌, Bool, true, false, length, map, take, get_or, refl, ap, subst, arith}
 use Rattle.std.specs.Prelude.{◌==◌, None, Some, slice_get}
 use Rattle.std.proofs.lemmas.List.{length-append, length-map}
-use Rattle.std.proofs.lemmas.List.Sums.{sum_by-cons, sum_by_more, sum_by_more_le}
+use Rattle.std.proofs.lemmas.List.Sums.{sum_by-cons, sum_by_more_le}
 use Rattle.std.proofs.lemmas.Option.{get_or_from_slice_get}
 use Rattle.event_types.proofs.NumberLemmas.{is_other, self_equal}
 use Rattle.expressions.specs.declared.expression.Expr.{Expr}
@@ -83,11 +83,7 @@ module _ (xs : List Expr) (place : ℕ) (x : Expr) (inside : place < length xs) 
   here : get_or xs place x ≡ x
   here = get_or_from_slice_get xs place x x there
 
-  -- the lines of one expression more
-  pub lines_more : lines_all (take (place + 1) xs) ≡ lines_all (take place xs) + lines_in (ex_of x)
-  lines_more = sum_by_more (λ (y : Expr). lines_in (ex_of y)) xs place x inside ∙ ap (λ (y : Expr). lines_all (take place xs) + lines_in (ex_of y)) here
-
-  -- are within all lines
+  -- the lines of one expression and of those before it are within all lines
   pub lines_within : lines_all (take place xs) + lines_in (ex_of x) ≤ lines_all xs
   lines_within = subst (λ (y : Expr). lines_all (take place xs) + lines_in (ex_of y) ≤ lines_all xs) here (sum_by_more_le (λ (y : Expr). lines_in (ex_of y)) xs place x inside)
 

@@ -170,7 +170,7 @@ module _ (c : Catalogued) (stands : StandsInOrder c) where
         ])
 
     -- a query with another number publishes another stream
-    other_stream : (i : ℕ) → i < length c.order → i ≢ number → (query_in c i).stream ≢ stream
+    pub other_stream : (i : ℕ) → i < length c.order → i ≢ number → (query_in c i).stream ≢ stream
     other_stream i inside other =
         let here = stands_at c.order stands.numbered i inside in
         work_apart (place_in c.order stands.numbered i) at (omega (arith, here.0, work_long)) at_work

@@ -6,6 +6,8 @@ pub mod CountLemmas
 pub mod DeclareLemmas
 pub mod FewLemmas
 pub mod FilingLemmas
+pub mod FoundLemmas
+pub mod GrownLemmas
 pub mod HeldLemmas
 pub mod LawLemmas
 pub mod LoadLemmas
@@ -37,12 +39,13 @@ pub mod WorkLemmas
 pub mod HoldingLemmas
 pub mod RemovingLemmas
 pub mod MovedLemmas
+pub mod MovingLemmas
 pub mod LeftProgramLemmas
 pub mod LinedLemmas
 pub mod LeftLemmas
 pub mod CountedLemmas
 pub mod LeftStreamsLemmas
-pub mod PartedLemmas
+pub mod ShareLemmas
 pub mod PutLemmas
 pub mod FittingLemmas
 pub mod OrderedLemmas

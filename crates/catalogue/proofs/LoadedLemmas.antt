@@ -63,7 +63,7 @@ named_by front (s ∷ more) rest number hidden (x ∷ xs) here reach =
     ∙ ap (λ qs. record { name = s.name; stream = number; hidden = hidden; expr = ex_of x; birth = None } ∷ qs) (ap (λ es. queries_of es (published_from (number + 1) next (map ex_of xs)) xs) (sym moved) ∙ later)
 
 -- as many publications as expressions
-from_many : (number hidden : ℕ) (xs : List Expr) → length (published_from number hidden (map ex_of xs)) ≡ length xs
+pub from_many : (number hidden : ℕ) (xs : List Expr) → length (published_from number hidden (map ex_of xs)) ≡ length xs
 from_many number hidden [] = refl
 from_many number hidden (x ∷ xs) = let rest = from_many (number + 1) (split.parts_of (ex_of x) hidden).next xs in omega (arith, rest)
 

@@ -99,17 +99,3 @@ pub map-remove : {X Y : Type 0} (f : X → Y) (xs : List X) (k : ℕ) → k < le
 map-remove f [] k within = absurd (omega (arith, within))
 map-remove f (x ∷ xs) zero within = refl
 map-remove f (x ∷ xs) (suc k) within = ap (λ ys. f x ∷ ys) (map-remove f xs k (omega (arith, within)))
-
--- one item more is taken out behind those that are
-pub without_more : {X : Type 0} (xs : List X) (first end : ℕ) → first ≤ end → end ≤ length xs → remove (without_part xs first end) first ≡ without_part xs first (end + 1)
-without_more xs first end up within =
-    let front : length (take first xs) ≡ first = length-take-le first xs (omega (arith, up, within)) in
-    let start : take first (without_part xs first end) ≡ take first xs = ap (λ n. take n (without_part xs first end)) (sym front) ∙ take-append_seam (take first xs) (drop end xs) in
-    let one : suc first ≡ length (take first xs) + 1 = omega (arith, front) in
-    let rest : drop (suc first) (without_part xs first end) ≡ drop (end + 1) xs =
-    ap (λ n. drop n (without_part xs first end)) one ∙ drop-append-add (take first xs) (drop end xs) 1 ∙ drop-drop 1 end xs in
-    λ t. start t ++ rest t
-
--- without one item
-pub without_one : {X : Type 0} (xs : List X) (k : ℕ) → without_part xs k (k + 1) ≡ remove xs k
-without_one xs k = ap (without_part xs k) (let one : k + 1 ≡ suc k = omega arith in one)

@@ -4,6 +4,7 @@ use Rattle.std.specs.List.{All, range_with_len}
 use Rattle.event_types.specs.declared.kind.Kind.{Kind}
 use Rattle.semantics.specs.Programs.{Query}
 use Rattle.automaton.specs.declared.line.Line.{Line}
+use Rattle.automaton.specs.Layouts.{grown}
 use Rattle.splitter.specs.Chains.{hidden_end}
 use Rattle.splitter.specs.Splitting.{split_lines}
 use Rattle.stream_schema.specs.Streams.{hidden_entries}
@@ -42,12 +43,12 @@ pub record HasCome (old : Catalogued) (added : AddedQuery) (birth : Option ℕ) 
   pub more : List (List Kind)
   pub kinds : new.layout.kinds ≡ old.layout.kinds ++ more
 
--- this is told of a query that came: its number, its lines, their ends, and the layout then
+-- this is told of a query that came: its number, its lines, their ends, and what the layout grew by
 pub record IsTold (old : Catalogued) (query : Query) (new : Catalogued) (told : Added) : Type 0 where
   pub number : told.query ≡ length old.order
   pub lines : told.lines ≡ lines_by query
   pub ends : told.ends ≡ range_with_len old.next_end (length (lines_by query))
-  pub layout : told.layout ≡ new.layout
+  pub layout : grown old.layout told.growth ≡ new.layout
 
 -- the text is taken as a query that came with a birth, and this is told of it
 pub record IsAdded (text : List ℕ) (birth : Option ℕ) (old new : Catalogued) (told : Added) : Type 0 where

@@ -2,6 +2,7 @@
 use Rattle.std.specs.Prelude.{◌≡◌, ◌≢◌, ◌<◌, ◌+◌, ◌-◌, ◌==◌, ℕ, nat_lt, if◌then◌else◌, List, ◌++◌, length, map, take, drop}
 use Rattle.std.specs.List.{position_or_len, remove}
 use Rattle.automaton.specs.declared.layout.Layout.{Layout}
+use Rattle.automaton.specs.Layouts.{HasPart, shrunk}
 use Rattle.semantics.specs.Programs.{Query}
 use Rattle.semantics.specs.Reading.{ReadsOnly}
 use Rattle.splitter.specs.Chains.{chain_lines, chain_order}
@@ -101,12 +102,13 @@ StaysFor c name UnknownQuery = HasNoQuery c name
 StaysFor c name (InUse reader) = IsInUse c name reader
 StaysFor c name Memory = Unit {0}
 
--- the query with a number left the old catalogue, and the new one is that without it; given out are the ends of its lines and the new layout
+-- the query with a number left the old catalogue, and the new one is that without it; given out are the ends of its lines, and the part that the layout loses
 pub record IsLeft (number : ℕ) (dropped : Dropped) (old new : Catalogued) : Type 0 where
   pub catalogue : new ≡ catalogue_without old number
   pub program : program_in new ≡ without_query (program_in old) (query_in old number).stream
   pub ends : dropped.ends ≡ ends_of old number
-  pub layout : dropped.layout ≡ new.layout
+  pub there : HasPart old.layout dropped.part
+  pub layout : shrunk old.layout dropped.part ≡ new.layout
 
 -- the query of this name left the old catalogue, where none read it
 pub record Leaves (name : List ℕ) (dropped : Dropped) (old new : Catalogued) : Type 0 where

@@ -18,13 +18,14 @@ pub mod Laws
 pub mod Verdicts
 pub mod Programs
 pub mod Changes
+pub mod Sharing
 pub mod Standing
 pub mod Loaded
 pub mod Adding
 pub mod Holding
 pub mod Leaving
 pub mod Counting
-pub mod Rest
+pub mod Part
 pub mod Coming
 pub mod Fitting
 pub mod Taking

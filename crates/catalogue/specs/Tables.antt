@@ -5,7 +5,9 @@ use Rattle.splitter.specs.Chains.{lines_of}
 use Rattle.cel_grammar.specs.Trees.{Statement}
 use Rattle.stream_schema.specs.Streams.{stream_names}
 use Rattle.catalogue.specs.declared.naming.Named.{Named}
-use Rattle.catalogue.specs.Catalogued.{Catalogued, program_in}
+use Rattle.catalogue.specs.declared.sharing.Share.{Share}
+use Rattle.catalogue.specs.Catalogued.{Catalogued, program_in, work_in}
+use Rattle.catalogue.specs.Sharing.{share_of}
 use Rattle.catalogue.specs.Standing.{StandsInOrder}
 use Rattle.catalogue.specs.Statements.{names_in, queries_in, query_names}
 use Rattle.catalogue.specs.Typing.{query_lines}
@@ -25,8 +27,9 @@ pub record HasPlaces (numbers : List ℕ) (places : List ℕ) : Type 0 where
   pub long : length places ≡ length numbers
   pub there : (place : ℕ) → place < length numbers → slice_index_or places (slice_index_or numbers place 0) 0 ≡ place
 
--- the catalogue stands in order, these are the places of its queries in the order of work, and these are its lines
-pub record IsHeld (c : Catalogued) (places : List ℕ) (lines : List Line) : Type 0 where
+-- the catalogue stands in order, these are the places of its queries in the order of work, these are its lines, and these are the shares that its queries have
+pub record IsHeld (c : Catalogued) (places : List ℕ) (lines : List Line) (shares : List Share) : Type 0 where
   pub stands : StandsInOrder c
   pub placed : HasPlaces c.order places
   pub lines_are : lines ≡ lines_of (program_in c)
+  pub shared : shares ≡ map share_of (work_in c)

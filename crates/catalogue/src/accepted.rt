@@ -11,6 +11,7 @@ ghost use Rattle.catalogue.specs.Standing.{IsLayoutOver, StandsInOrder};
 
 use crate::numbering::{Published, hide_up_to, number_all, numbers_below};
 use crate::placing::{chains_of, places_in};
+use crate::sharing::{Share, share_all};
 use automaton::{Layout, Lines};
 use cel_parser::File;
 use event_types::{List, Memory, Numbers, StreamId};
@@ -34,8 +35,10 @@ pub struct Catalogue {
     // In the order of work.
     pub(crate) published: List<Published>,
     pub(crate) expressions: List<Expr>,
+    // In the order of work.
+    pub(crate) shares: List<Share>,
     // For each query by its number its place in the order of work.
-    pub(crate) places: Vec<usize>,
+    pub(crate) places: Numbers,
     // For each line the number of its end.
     pub(crate) ends: Numbers,
     pub(crate) next_end: usize,
@@ -53,7 +56,7 @@ impl Model for Catalogue {
 
     ghost view = { λ c. record { file = c.file; declared = c.declared; streams = c.streams; order = c.order; published = c.published; expressions = c.expressions; ends = c.ends; next_end = c.next_end; layout = c.chains.layout } };
 
-    ghost invariant = { λ c. IsHeld (record { file = c.file; declared = c.declared; streams = c.streams; order = c.order; published = c.published; expressions = c.expressions; ends = c.ends; next_end = c.next_end; layout = c.chains.layout }) c.places.items c.chains.lines };
+    ghost invariant = { λ c. IsHeld (record { file = c.file; declared = c.declared; streams = c.streams; order = c.order; published = c.published; expressions = c.expressions; ends = c.ends; next_end = c.next_end; layout = c.chains.layout }) c.places c.chains.lines c.shares };
 }
 
 impl Catalogue {
@@ -72,11 +75,19 @@ impl Catalogue {
         ensures unchanged { IfOk result IsUnchanged }
     {
         let places = places_in(alloc, &order)?;
-        let chains = chains_of(alloc, &file, &streams, &order, &expressions, &places)?;
+        let chains = chains_of(
+            alloc,
+            &file,
+            &streams,
+            &order,
+            &expressions,
+            places.as_slice(),
+        )?;
         let declared = file.size() - order.len();
         let published = number_all(alloc, declared, &expressions)?;
         let mut streams = streams;
         hide_up_to(&mut streams, file.size(), chains.layout.kinds.len())?;
+        let shares = share_all(alloc, &published, &expressions)?;
         let ends = numbers_below(alloc, chains.lines.len())?;
         let next_end = ends.len();
         Ok(Catalogue {
@@ -86,6 +97,7 @@ impl Catalogue {
             order,
             published,
             expressions,
+            shares,
             places,
             ends,
             next_end,
@@ -174,6 +186,6 @@ impl Catalogue {
         ensures value { result ≡ position_or_len (λ other. query == other) self.now.order }
         ensures within { result < length self.now.order }
     {
-        self.places[query]
+        *self.places.get(query)
     }
 }

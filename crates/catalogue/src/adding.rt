@@ -19,7 +19,7 @@ use crate::fault::{AddFault, LoadFault, QueryFault};
 use crate::filing::query_of;
 use crate::naming::fault_of;
 use crate::statements::name;
-use automaton::{Layout, Lines};
+use automaton::{Growth, Lines};
 use cel_grammar::Statement;
 use cel_types::{elaborate, names_read};
 use event_types::{Memory, Numbers, Text};
@@ -28,13 +28,13 @@ use std::alloc::Global;
 use stream_schema::{Schema, Streams};
 
 /// What is told of a query that came to a catalogue: its number, its automaton lines, a new end number for each of
-/// them, and the layout of all lines then.
+/// them, and what the layout of all lines grows by.
 #[derive(Drop)]
 pub struct Added {
     pub query: usize,
     pub lines: Lines,
     pub ends: Numbers,
-    pub layout: Layout,
+    pub growth: Growth,
 }
 
 /// A query that was judged and may come to a catalogue: its statement, the schema of its stream, and its expression.
@@ -43,13 +43,6 @@ pub struct Coming {
     pub(crate) statement: Statement,
     pub(crate) schema: Schema,
     pub(crate) expr: Expr,
-}
-
-/// What a catalogue grows by with a query: what is told of it, and the layout of all lines then.
-#[derive(Drop)]
-pub struct Growth {
-    pub told: Added,
-    pub layout: Layout,
 }
 
 /// The one query of a text, typed over the streams that are there; or the text's first fault: of its length, its

@@ -1,9 +1,9 @@
 //! How many lines expressions have, and whether they read a stream.
-ghost use Rattle.std.specs.Prelude.{◌≡◌, ◌<◌, ◌≤◌, ◌^◌, length, take};
+ghost use Rattle.std.specs.Prelude.{◌≡◌, ◌<◌, ◌^◌};
 ghost use Rattle.expressions.specs.Views.{ex_of};
-ghost use Rattle.catalogue.specs.Counting.{lines_all, lines_in, reads, right_many};
+ghost use Rattle.catalogue.specs.Counting.{lines_in, reads, right_many};
 
-use event_types::{List, StreamId};
+use event_types::StreamId;
 use expressions::Expr;
 
 /// Whether the expression reads the stream.
@@ -46,17 +46,4 @@ fn count_right(expr: &Expr) -> usize
         Expr::Read(_) => 0,
         _ => count(expr),
     }
-}
-
-/// How many lines the first so many expressions have.
-pub fn count_all(expressions: &List<Expr>, many: usize) -> usize
-    requires within { many ≤ length expressions.now }
-    requires few { lines_all expressions.now < 2 ^ 64 }
-    ensures { result ≡ lines_all (take many expressions.now) }
-{
-    let mut lines = 0;
-    for place in 0..many {
-        lines += count(expressions.get(place));
-    }
-    lines
 }

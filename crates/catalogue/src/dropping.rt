@@ -1,41 +1,34 @@
 //! Queries that leave a catalogue.
-ghost use Rattle.std.specs.Prelude.{◌≡◌, ◌<◌, ◌↔◌, ℕ, Err, OnErr, IfErr, IfNone, IfOk, IfSome, OnOk, length};
+ghost use Rattle.std.specs.Prelude.{◌≡◌, ◌<◌, ◌↔◌, ◌==◌, ℕ, Err, OnErr, IfErr, IfNone, IfOk, IfSome, OnOk, length, position};
 ghost use Rattle.catalogue.specs.declared.fault.DropFault.TheVariants.{UnknownQuery};
 ghost use Rattle.catalogue.specs.Catalogued.{query_in};
 ghost use Rattle.catalogue.specs.Standing.{StandsInOrder};
-ghost use Rattle.catalogue.specs.Leaving.{HasName, IsFirstNamed, HasNoQuery, IsFirstReader, IsLeft, IsUnread, Leaves, LeavesUnread, StaysFor, catalogue_without, layout_without};
-ghost use Rattle.catalogue.specs.Rest.{IsPart, IsRest};
+ghost use Rattle.catalogue.specs.Leaving.{HasName, IsFirstNamed, HasNoQuery, IsFirstReader, IsLeft, IsUnread, Leaves, LeavesUnread, StaysFor, catalogue_without};
+ghost use Rattle.catalogue.specs.Part.{IsPart};
 
 use crate::accepted::Catalogue;
-use crate::counting::{count, count_all, does_read};
+use crate::counting::does_read;
 use crate::fault::DropFault;
-use crate::leaving::{add_part, add_streams, cut, move_down, without};
-use crate::placing::places_in;
-use automaton::Layout;
+use crate::leaving::{add_part, move_down};
+use crate::numbering::Published;
+use crate::sharing::share_before;
+use automaton::Shrinkage;
 use event_types::{List, Memory, Numbers, StreamId, Text};
 use std::alloc::Global;
 
-/// What is given out as a query leaves: the numbers of the ends of its lines, and the layout of the lines that stay.
+/// What is given out as a query leaves: the numbers of the ends of its lines, and what the layout of all lines loses.
 #[derive(Drop)]
 pub struct Dropped {
     pub ends: Numbers,
-    pub layout: Layout,
+    pub part: Shrinkage,
 }
 
-// The parts of a catalogue that are new once a query has left.
-#[derive(Drop)]
-struct Rest {
-    order: Numbers,
-    places: Vec<usize>,
-    ends: Numbers,
-    layout: Layout,
-}
-
-// Which lines are those of a query: from one place up to another.
-#[derive(Drop)]
+// Which lines are those of a query, from one place up to another, and what the layout loses with it.
+#[derive(Clone, Copy, Drop)]
 struct Part {
     first: usize,
     end: usize,
+    lost: Shrinkage,
 }
 
 impl Catalogue {
@@ -91,10 +84,11 @@ impl Catalogue {
         let part = self.part_of(query);
         let mut ends: Numbers = List::new(alloc);
         add_part(&mut ends, &self.ends, part.first, part.end)?;
-        let layout = self.layout_left(alloc, query)?;
-        let rest = self.rest_of(alloc, query, &part)?;
-        self.put(query, part, rest);
-        Ok(Dropped { ends, layout })
+        self.take_out(query, part);
+        Ok(Dropped {
+            ends,
+            part: part.lost,
+        })
     }
 
     // The number of the query of this name.
@@ -103,12 +97,13 @@ impl Catalogue {
         ensures first { IfSome result (IsFirstNamed self.now name.now) }
         ensures none { IfNone result (HasNoQuery self.now name.now) }
     {
-        for query in 0..self.order.len() {
-            if self.streams.name(self.stream_of(query)) == name {
-                return Some(query);
-            }
+        match self.streams.find(name) {
+            None => None,
+            Some(stream) => match publisher(self.published.as_slice(), stream) {
+                None => None,
+                Some(place) => Some(*self.order.get(place)),
+            },
         }
-        None
     }
 
     // The number of the first query that reads the stream.
@@ -124,76 +119,53 @@ impl Catalogue {
         None
     }
 
-    // Puts the new parts, and takes out what the query with this number has in the others.
-    fn put(&mut self, query: usize, part: Part, rest: Rest)
+    // Takes the query with this number out, which has this part of the lines and of the layout.
+    fn take_out(&mut self, query: usize, part: Part)
         requires within { query < length self.old.order }
         requires unread { IsUnread self.old query }
         requires part { IsPart self.old query part }
-        requires rest { IsRest self.old query rest }
         ensures { self.new ≡ catalogue_without self.old query }
     {
         let place = self.place(query);
         self.streams.retire(self.published.get(place).stream);
-        self.order = rest.order;
-        self.places = rest.places;
+        self.order.remove(place);
+        move_down(&mut self.order, query);
+        self.places.remove(query);
+        move_down(&mut self.places, place);
         self.published.remove(place);
         self.expressions.remove(place);
-        self.ends = rest.ends;
-        cut(&mut self.chains.lines, part.first, part.end);
-        self.chains.layout = rest.layout;
+        self.shares.remove(place);
+        self.ends.cut(part.first, part.end);
+        self.chains.lines.cut(part.first, part.end);
+        self.chains.layout.shrink(part.lost);
     }
 
-    // The new parts of the catalogue without the query with this number.
-    fn rest_of(&self, alloc: Global, query: usize, part: &Part) -> Result<Rest, Memory>
-        requires within { query < length self.now.order }
-        requires part { IsPart self.now query part.now }
-        ensures { IfOk result (IsRest self.now query) }
-    {
-        let place = self.place(query);
-        let others = without(alloc, &self.order, place, place + 1)?;
-        let order = move_down(alloc, &others, query)?;
-        let places = places_in(alloc, &order)?;
-        let ends = without(alloc, &self.ends, part.first, part.end)?;
-        let layout = self.layout_left(alloc, query)?;
-        Ok(Rest {
-            order,
-            places,
-            ends,
-            layout,
-        })
-    }
-
-    // Which lines are those of the query with this number.
+    // Which lines and which streams of the layout are those of the query with this number.
     fn part_of(&self, query: usize) -> Part
         requires { query < length self.now.order }
         ensures { IsPart self.now query result }
     {
         let place = self.place(query);
-        let first = count_all(&self.expressions, place);
-        let end = first + count(self.expressions.get(place));
-        Part { first, end }
+        let worked = self.chains.layout.order.len();
+        let before = share_before(&self.shares, place);
+        let own = self.shares.get(place);
+        let lost = Shrinkage {
+            first: before.streams,
+            end: before.streams + own.streams,
+            out: query,
+        };
+        prove!(lost.end <= worked);
+        Part {
+            first: before.lines,
+            end: before.lines + own.lines,
+            lost,
+        }
     }
+}
 
-    // The layout without the query with this number.
-    fn layout_left(&self, alloc: Global, query: usize) -> Result<Layout, Memory>
-        requires { query < length self.now.order }
-        ensures { IfOk result (λ layout. layout ≡ layout_without self.now query) }
-    {
-        let place = self.place(query);
-        let streams = self.chains.layout.kinds.len();
-        let mut order: Numbers = List::with_room(alloc, streams)?;
-        add_streams(&mut order, &self.published, &self.expressions, 0, place)?;
-        let many = self.order.len();
-        add_streams(
-            &mut order,
-            &self.published,
-            &self.expressions,
-            place + 1,
-            many,
-        )?;
-        let mut layout = self.chains.layout.copy(alloc)?;
-        layout.outs = without(alloc, &layout.outs, query, query + 1)?;
-        layout.order = order;
-        Ok(layout)
-    }
+// The place of the query that publishes the stream.
+fn publisher(published: &[Published], stream: StreamId) -> Option<usize>
+    ensures { result ≡ position (λ query. query.stream == stream) published.now }
+{
+    published.iter().position(|query| query.stream == stream)
 }

@@ -1,12 +1,14 @@
 //! What a catalogue has of a query that comes: its lines with their ends, and its place in the lists.
-ghost use Rattle.std.specs.Prelude.{◌≡◌, ◌+◌, ◌^◌, ◌<◌, ◌++◌, ◌∷◌, [], IfOk, OnOk, OnErr, length, sum_by};
+ghost use Rattle.std.specs.Prelude.{◌≡◌, ◌+◌, ◌^◌, ◌<◌, ◌++◌, ◌∷◌, [], IfOk, OnOk, OnErr, length, sum_by, take};
 ghost use Rattle.std.specs.List.{range_with_len};
 ghost use Rattle.expressions.specs.Views.{ex_of};
-ghost use Rattle.catalogue.specs.Fitting.{HasGrown, MayGrow};
+ghost use Rattle.catalogue.specs.Fitting.{HasGrown, IsGrown, MayGrow, first_of, with_lines};
 
+use crate::adding::Added;
 use crate::numbering::Published;
-use automaton::{Layout, Line, Lines};
-use event_types::{List, Memory, Numbers};
+use crate::sharing::Share;
+use automaton::{Growth, Layout, Lines, Sizes};
+use event_types::{Copied, List, Memory, Numbers};
 use expressions::Expr;
 use splitter::{Chains, Namer, add_query};
 use std::alloc::Global;
@@ -15,27 +17,64 @@ use stream_schema::Schema;
 // The most numbers of streams that a query takes: its own, and one for each hidden stream.
 const MOST: usize = 1_025;
 
-/// The automaton lines of a query whose stream has the next number and this schema, and the layout of all lines then.
+/// The automaton lines of a query, and what the layout of all lines grows by.
+#[derive(Drop)]
+pub struct Lined {
+    pub lines: Lines,
+    pub growth: Growth,
+}
+
+/// The automaton lines of a query whose stream has the next number and this schema, and what the layout grows by. The
+/// layout is used to find it, and is left as it was.
 pub fn lines_of_one(
     alloc: Global,
-    layout: &Layout,
+    layout: &mut Layout,
     schema: &Schema,
     expr: &Expr,
-) -> Result<Chains, Memory>
-    requires { MayGrow layout.now schema.now (ex_of expr.now) }
-    ensures { IfOk result (HasGrown layout.now schema.now (ex_of expr.now)) }
+) -> Result<Lined, Memory>
+    requires { MayGrow layout.old schema.now (ex_of expr.now) }
+    ensures ok { IfOk result (λ lined. HasGrown layout.old schema.now (ex_of expr.now) lined.lines lined.growth) }
+    ensures same { layout.new ≡ layout.old }
+{
+    let sizes = layout.sizes();
+    let lines = add_one(alloc, layout, schema, expr)?;
+    let growth = layout.growth_behind(alloc, sizes);
+    layout.cut_back(sizes);
+    Ok(Lined {
+        lines,
+        growth: growth?,
+    })
+}
+
+// The same lines, whose streams the layout has then.
+fn add_one(
+    alloc: Global,
+    layout: &mut Layout,
+    schema: &Schema,
+    expr: &Expr,
+) -> Result<Lines, Memory>
+    requires { MayGrow layout.old schema.now (ex_of expr.now) }
+    ensures ok { IfOk result (λ lines. IsGrown layout.old schema.now (ex_of expr.now) lines layout.new) }
+    ensures kept { OnErr result (layout.new ≡ layout.old) }
 {
     let stream = layout.kinds.len();
     if stream > usize::MAX - MOST {
         return Err(Memory);
     }
-    let mut layout = layout.copy(alloc)?;
-    layout.kinds.add(schema.kinds(alloc)?)?;
-    layout.outs.add(stream)?;
+    let sizes = layout.sizes();
+    let kinds = schema.kinds(alloc)?;
+    layout.kinds.add(kinds)?;
+    if let Err(_) = layout.outs.add(stream) {
+        layout.cut_back(sizes);
+        return Err(Memory);
+    }
     let mut lines: Lines = List::new(alloc);
     let mut namer = Namer::new(stream + 1);
-    add_query(alloc, expr, stream, &mut namer, &mut lines, &mut layout)?;
-    Ok(Chains { lines, layout })
+    if let Err(_) = add_query(alloc, expr, stream, &mut namer, &mut lines, layout) {
+        layout.cut_back(sizes);
+        return Err(Memory);
+    }
+    Ok(lines)
 }
 
 /// How many lines there are, and hops on them.
@@ -62,50 +101,79 @@ pub fn numbers_from(alloc: Global, first: usize, many: usize) -> Result<Numbers,
     Ok(numbers)
 }
 
-/// Puts lines and their ends behind those that are there.
+/// How many lines and queries there were, and how many streams in the layout, before a query came.
+#[derive(Clone, Copy, Drop)]
+pub struct Before {
+    pub sizes: Sizes,
+    pub lines: usize,
+    pub queries: usize,
+}
+
+/// Puts the lines and the ends of a query behind those that are there, with what the layout grows by and the query's share.
 pub fn put_lines(
     alloc: Global,
-    lines: &mut Lines,
+    chains: &mut Chains,
     ends: &mut Numbers,
-    more: &Lines,
-    more_ends: &Numbers,
+    shares: &mut List<Share>,
+    told: &Added,
 ) -> Result<(), Memory>
-    ensures lines { OnOk result (lines.new ≡ lines.old ++ more.now) }
-    ensures ends { OnOk result (ends.new ≡ ends.old ++ more_ends.now) }
-    ensures lines_kept { OnErr result (lines.new ≡ lines.old) }
+    ensures chains { OnOk result (chains.new ≡ with_lines chains.old told.now.lines told.now.growth) }
+    ensures ends { OnOk result (ends.new ≡ ends.old ++ told.now.ends) }
+    ensures shares { OnOk result (shares.new ≡ shares.old ++ record { lines = length told.now.lines; streams = length told.now.growth.order } ∷ []) }
+    ensures chains_kept { OnErr result (chains.new ≡ chains.old) }
     ensures ends_kept { OnErr result (ends.new ≡ ends.old) }
+    ensures shares_kept { OnErr result (shares.new ≡ shares.old) }
 {
-    let many = lines.len();
-    put_each_line(alloc, lines, more)?;
-    if let Err(_) = put_each_end(ends, more_ends) {
-        lines.truncate(many);
+    let lines = told.lines.copied(alloc)?;
+    let growth = told.growth.copy(alloc)?;
+    let many = ends.len();
+    put_each_end(ends, &told.ends)?;
+    let queries = shares.len();
+    let share = Share {
+        lines: told.lines.len(),
+        streams: told.growth.order.len(),
+    };
+    if let Err(_) = shares.add(share) {
+        ends.truncate(many);
+        return Err(Memory);
+    }
+    if let Err(_) = put_chains(chains, lines, growth) {
+        ends.truncate(many);
+        shares.truncate(queries);
         return Err(Memory);
     }
     Ok(())
 }
 
-// Puts equal lines behind those that are there.
-fn put_each_line(alloc: Global, lines: &mut Lines, more: &Lines) -> Result<(), Memory>
-    ensures ok { OnOk result (lines.new ≡ lines.old ++ more.now) }
-    ensures kept { OnErr result (lines.new ≡ lines.old) }
+// Puts lines behind those that are there, and lets the layout grow.
+fn put_chains(chains: &mut Chains, lines: Lines, growth: Growth) -> Result<(), Memory>
+    ensures ok { OnOk result (chains.new ≡ with_lines chains.old lines growth) }
+    ensures kept { OnErr result (chains.new ≡ chains.old) }
 {
-    let many = lines.len();
-    for line in more.as_slice() {
-        if let Err(_) = put_line(alloc, lines, line) {
-            lines.truncate(many);
-            return Err(Memory);
-        }
+    let many = chains.lines.len();
+    chains.lines.append(lines)?;
+    if let Err(_) = chains.layout.grow(growth) {
+        chains.lines.truncate(many);
+        return Err(Memory);
     }
     Ok(())
 }
 
-// Puts an equal line at the end.
-fn put_line(alloc: Global, lines: &mut Lines, line: &Line) -> Result<(), Memory>
-    ensures ok { OnOk result (lines.new ≡ lines.old ++ line.now ∷ []) }
-    ensures kept { OnErr result (lines.new ≡ lines.old) }
+/// Takes the lines and the ends of a query out that came last.
+pub fn take_lines_back(
+    chains: &mut Chains,
+    ends: &mut Numbers,
+    shares: &mut List<Share>,
+    before: Before,
+)
+    ensures chains { chains.new ≡ first_of chains.old before }
+    ensures ends { ends.new ≡ take before.lines ends.old }
+    ensures shares { shares.new ≡ take before.queries shares.old }
 {
-    let copy = line.copy(alloc)?;
-    lines.add(copy)
+    chains.lines.truncate(before.lines);
+    chains.layout.cut_back(before.sizes);
+    ends.truncate(before.lines);
+    shares.truncate(before.queries);
 }
 
 // Puts numbers behind those that are there.
@@ -126,18 +194,18 @@ fn put_each_end(ends: &mut Numbers, more: &Numbers) -> Result<(), Memory>
 /// Puts a query last in number and in the order of work.
 pub fn put_query(
     order: &mut Numbers,
-    places: &mut Vec<usize>,
+    places: &mut Numbers,
     published: &mut List<Published>,
     expressions: &mut List<Expr>,
     publication: Published,
     expr: Expr,
 ) -> Result<(), Memory>
     ensures order { OnOk result (order.new ≡ order.old ++ length order.old ∷ []) }
-    ensures places { OnOk result (places.new.items ≡ places.old.items ++ length order.old ∷ []) }
+    ensures places { OnOk result (places.new ≡ places.old ++ length order.old ∷ []) }
     ensures published { OnOk result (published.new ≡ published.old ++ publication ∷ []) }
     ensures expressions { OnOk result (expressions.new ≡ expressions.old ++ expr ∷ []) }
     ensures order_kept { OnErr result (order.new ≡ order.old) }
-    ensures places_kept { OnErr result (places.new.items ≡ places.old.items) }
+    ensures places_kept { OnErr result (places.new ≡ places.old) }
     ensures published_kept { OnErr result (published.new ≡ published.old) }
     ensures expressions_kept { OnErr result (expressions.new ≡ expressions.old) }
 {
@@ -149,7 +217,7 @@ pub fn put_query(
         return Err(Memory);
     }
     let many_places = places.len();
-    if let Err(_) = places.push(number) {
+    if let Err(_) = places.add(number) {
         order.truncate(number);
         published.truncate(many);
         return Err(Memory);

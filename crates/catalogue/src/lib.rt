@@ -22,6 +22,7 @@ mod numbering;
 mod placing;
 mod publishing;
 mod reading;
+mod sharing;
 mod statements;
 mod taking;
 

@@ -13,16 +13,27 @@ use std::alloc::Global;
 use stream_schema::Streams;
 
 /// For each number its place.
-pub fn places_in(alloc: Global, numbers: &Numbers) -> Result<Vec<usize>, Memory>
+pub fn places_in(alloc: Global, numbers: &Numbers) -> Result<Numbers, Memory>
     requires small { All (λ number. number < length numbers.now) numbers.now }
     requires distinct { AllPairs (λ x y. x ≢ y) numbers.now }
-    ensures { IfOk result (λ places. HasPlaces numbers.now places.items) }
+    ensures { IfOk result (λ places. HasPlaces numbers.now places) }
 {
-    let mut places = vec![in alloc; 0; numbers.len()]?;
+    let mut places = zeros(alloc, numbers.len())?;
     for place in 0..numbers.len() {
-        places[*numbers.get(place)] = place;
+        *places.get_mut(*numbers.get(place)) = place;
     }
     Ok(places)
+}
+
+// So many zeros.
+fn zeros(alloc: Global, many: usize) -> Result<Numbers, Memory>
+    ensures { IfOk result (λ numbers. length numbers ≡ many) }
+{
+    let mut numbers: Numbers = List::new(alloc);
+    for _ in 0..many {
+        numbers.add(0)?;
+    }
+    Ok(numbers)
 }
 
 /// The lines and the layout of the queries of these parts, which have these places in the order of work.

@@ -2,14 +2,16 @@
 ghost use Rattle.std.specs.Prelude.{◌≡◌, IfErr, IfOk, OnErr, OnOk};
 ghost use Rattle.catalogue.specs.Adding.{JudgesAdded, NotTaken, Taken};
 ghost use Rattle.catalogue.specs.Coming.{HasCome, IsAdded, IsLatest, IsTold, TellsAdded, coming};
-ghost use Rattle.catalogue.specs.Fitting.{IsGrowth};
+ghost use Rattle.catalogue.specs.Fitting.{MayTell};
 ghost use Rattle.catalogue.specs.Standing.{StandsInOrder};
 ghost use Rattle.catalogue.specs.Taking.{IsFit, added_of};
 
 use crate::accepted::Catalogue;
-use crate::adding::{Added, Coming, Growth, as_added, judge};
+use crate::adding::{Added, Coming, as_added, judge};
 use crate::fault::AddFault;
-use crate::growing::{lines_of_one, numbers_from, put_lines, put_query, size_of};
+use crate::growing::{
+    Before, lines_of_one, numbers_from, put_lines, put_query, size_of, take_lines_back,
+};
 use crate::numbering::Published;
 use crate::statements::name;
 use event_types::Memory;
@@ -60,13 +62,16 @@ impl Catalogue {
         ensures stands { OnOk result (StandsInOrder self.new) }
         ensures kept { OnErr result (self.new ≡ self.old) }
     {
-        let growth = self.growth(alloc, &query)?;
+        let told = self.told(alloc, &query)?;
         let statement = query.statement;
         let schema = query.schema;
-        let lines = self.chains.lines.len();
-        let queries = self.order.len();
-        let stream = self.chains.layout.kinds.len();
-        let hidden = growth.layout.kinds.len() - (stream + 1);
+        let before = Before {
+            sizes: self.chains.layout.sizes(),
+            lines: self.chains.lines.len(),
+            queries: self.order.len(),
+        };
+        let stream = before.sizes.all;
+        let hidden = told.growth.kinds.len() - 1;
         let publication = Published {
             stream,
             hidden: stream + 1,
@@ -74,10 +79,10 @@ impl Catalogue {
         };
         put_lines(
             alloc,
-            &mut self.chains.lines,
+            &mut self.chains,
             &mut self.ends,
-            &growth.told.lines,
-            &growth.told.ends,
+            &mut self.shares,
+            &told,
         )?;
         let put = put_query(
             &mut self.order,
@@ -88,46 +93,41 @@ impl Catalogue {
             query.expr,
         );
         if let Err(_) = put {
-            self.chains.lines.truncate(lines);
-            self.ends.truncate(lines);
+            take_lines_back(&mut self.chains, &mut self.ends, &mut self.shares, before);
             return Err(Memory);
         }
         if let Err(_) = self.streams.publish(name(&statement), schema, hidden) {
-            self.chains.lines.truncate(lines);
-            self.ends.truncate(lines);
-            self.order.truncate(queries);
-            self.places.truncate(queries);
-            self.published.truncate(queries);
-            self.expressions.truncate(queries);
+            take_lines_back(&mut self.chains, &mut self.ends, &mut self.shares, before);
+            self.order.truncate(before.queries);
+            self.places.truncate(before.queries);
+            self.published.truncate(before.queries);
+            self.expressions.truncate(before.queries);
             return Err(Memory);
         }
-        self.next_end += growth.told.lines.len();
-        self.chains.layout = growth.layout;
-        Ok(growth.told)
+        self.next_end += told.lines.len();
+        Ok(told)
     }
 
-    // What the catalogue grows by with a typed query.
-    fn growth(&self, alloc: Global, query: &Coming) -> Result<Growth, Memory>
-        requires { IsFit self.now.streams (added_of query.now) }
-        ensures { IfOk result (IsGrowth self.now (added_of query.now)) }
+    // What is told of a typed query that comes; its streams are laid out and taken back.
+    fn told(&mut self, alloc: Global, query: &Coming) -> Result<Added, Memory>
+        requires { IsFit self.old.streams (added_of query.now) }
+        ensures told { IfOk result (MayTell self.old (added_of query.now)) }
+        ensures same { self.new ≡ self.old }
     {
         if size_of(&self.chains.lines) > usize::MAX - MOST_OF_ONE {
             return Err(Memory);
         }
-        let chains = lines_of_one(alloc, &self.chains.layout, &query.schema, &query.expr)?;
-        let many = chains.lines.len();
+        let lined = lines_of_one(alloc, &mut self.chains.layout, &query.schema, &query.expr)?;
+        let many = lined.lines.len();
         if self.next_end > usize::MAX - many {
             return Err(Memory);
         }
-        let told = Added {
+        let ends = numbers_from(alloc, self.next_end, many)?;
+        Ok(Added {
             query: self.order.len(),
-            lines: chains.lines,
-            ends: numbers_from(alloc, self.next_end, many)?,
-            layout: chains.layout.copy(alloc)?,
-        };
-        Ok(Growth {
-            told,
-            layout: chains.layout,
+            lines: lined.lines,
+            ends,
+            growth: lined.growth,
         })
     }
 }

@@ -1,33 +1,42 @@
-use Rattle.std.proofs.Common.{◌≡◌, ◌∙◌, ◌<◌, false, true, length, sym, ap, subst, inl, inr, arith}
-use Rattle.std.specs.Str.{bytes_eq}
-use Rattle.std.proofs.lemmas.Bool.{cases_eq}
-use Rattle.std.proofs.lemmas.Slice.Eq.{bytes_eq-Decides}
-use Rattle.catalogue.specs.Catalogued.{Catalogued, query_in}
+use Rattle.std.proofs.Common.{◌≡◌, ◌≢◌, ◌∙◌, sym, ap, subst}
+use Rattle.std.specs.Prelude.{◌==◌, AllPairs, Contains, None, Some, position, slice_get}
+use Rattle.stream_schema.specs.Streams.{stream_names}
+use Rattle.catalogue.specs.declared.numbering.Published.{Published}
+use Rattle.catalogue.specs.Catalogued.{Catalogued}
 use Rattle.catalogue.specs.Tables.{IsHeld}
-use Rattle.catalogue.proofs.LeftProgramLemmas.{name_there}
+use Rattle.catalogue.proofs.FoundLemmas.{first_named, has_name, no_publisher, no_stream}
 use Rattle.catalogue.proofs.accepted.Catalogue.query_of.Goals as goal
 
--- a query that has the name
-pub returns-then-eq-clause-found : goal.returns-then-eq-clause-found
-returns-then-eq-clause-found c =
-    let held : IsHeld c.args.self.now c.self.inside.places.items c.self.inside.chains.lines = subst (λ (v : Catalogued). IsHeld v c.self.inside.places.items c.self.inside.chains.lines) c.self.view_is c.self.invariant in
-    let within : c.loop-query.query < length c.args.self.now.order = omega (arith, c.loop-query-test.true, c.len-query-end.ensures, ap (λ (v : Catalogued). length v.order) c.self.view_is) in
-    let is = name_there c.args.self.now held.stands c.loop-query.query within c.self.inside.streams c.stream_of.result c.name.result.now (ap (λ (v : Catalogued). v.streams) c.self.view_is) c.stream_of.ensures.value c.name.ensures in
-    record { within = within; name_is = is ∙ (bytes_eq-Decides c.name.result.now c.args.name.now).0 (sym c.eq.ensures ∙ c.if-eq.true) }
+-- no stream has the name
+pub returns-in-None-clause-none : goal.returns-in-None-clause-none
+returns-in-None-clause-none c =
+    let held : IsHeld c.args.self.now c.self.inside.places c.self.inside.chains.lines c.self.inside.shares = subst (λ (v : Catalogued). IsHeld v c.self.inside.places c.self.inside.chains.lines c.self.inside.shares) c.self.view_is c.self.invariant in
+    no_stream c.args.self.now held.stands c.args.name.now (λ has. c.find.ensures.absent.0 c.in-None.is (subst (λ (v : Catalogued). Contains (stream_names v.streams) c.args.name.now) (sym c.self.view_is) has))
 
--- none before it has the name
-pub returns-then-eq-clause-first : goal.returns-then-eq-clause-first
-returns-then-eq-clause-first c = c.loop-query.invariant
+-- a stream has it that no query publishes
+pub returns-in-None-publisher-clause-none : goal.returns-in-None-publisher-clause-none
+returns-in-None-publisher-clause-none c =
+    let held : IsHeld c.args.self.now c.self.inside.places c.self.inside.chains.lines c.self.inside.shares = subst (λ (v : Catalogued). IsHeld v c.self.inside.places c.self.inside.chains.lines c.self.inside.shares) c.self.view_is c.self.invariant in
+    let there : slice_get (stream_names c.args.self.now.streams) c.in-Some.stream ≡ Some c.args.name.now = ap (λ (v : Catalogued). slice_get (stream_names v.streams) c.in-Some.stream) (sym c.self.view_is) ∙ c.in-Some.ensures.found in
+    let distinct : AllPairs (λ x y. x ≢ y) (stream_names c.args.self.now.streams) = subst (λ (v : Catalogued). AllPairs (λ x y. x ≢ y) (stream_names v.streams)) c.self.view_is c.in-Some.ensures.distinct in
+    let found : position (λ (q : Published). q.stream == c.in-Some.stream) c.args.self.now.published ≡ None = (λ t. position (λ (q : Published). q.stream == c.in-Some.stream) ((ap (λ (v : Catalogued). v.published) (sym c.self.view_is) ∙ sym c.as_slice.ensures) t)) ∙ sym c.publisher.ensures ∙ c.in-None-publisher.is in
+    no_publisher c.args.self.now held.stands c.args.name.now c.in-Some.stream there distinct found
 
--- one query more hasn't it
-pub loop-query-preserved : goal.loop-query-preserved
-loop-query-preserved c = λ number less same. elim (cases_eq number c.loop-query.query) [
-  | inl here ↦
-      let held : IsHeld c.args.self.now c.self.inside.places.items c.self.inside.chains.lines = subst (λ (v : Catalogued). IsHeld v c.self.inside.places.items c.self.inside.chains.lines) c.self.view_is c.self.invariant in
-      let within : c.loop-query.query < length c.args.self.now.order = omega (arith, c.loop-query-test.true, c.len-query-end.ensures, ap (λ (v : Catalogued). length v.order) c.self.view_is) in
-      let is = name_there c.args.self.now held.stands c.loop-query.query within c.self.inside.streams c.stream_of.result c.name.result.now (ap (λ (v : Catalogued). v.streams) c.self.view_is) c.stream_of.ensures.value c.name.ensures in
-      let told : bytes_eq c.name.result.now c.args.name.now ≡ true = (bytes_eq-Decides c.name.result.now c.args.name.now).1 (sym is ∙ ap (λ n. (query_in c.args.self.now n).name) (sym here) ∙ same) in
-      let not : bytes_eq c.name.result.now c.args.name.now ≡ false = sym c.eq.ensures ∙ c.if-eq.false in
-      cc
-  | inr other ↦ c.loop-query.invariant number (omega (arith, less, other)) same
-]
+-- the query that publishes it has the name
+pub returns-in-Some-publisher-clause-found : goal.returns-in-Some-publisher-clause-found
+returns-in-Some-publisher-clause-found c =
+    let held : IsHeld c.args.self.now c.self.inside.places c.self.inside.chains.lines c.self.inside.shares = subst (λ (v : Catalogued). IsHeld v c.self.inside.places c.self.inside.chains.lines c.self.inside.shares) c.self.view_is c.self.invariant in
+    let there : slice_get (stream_names c.args.self.now.streams) c.in-Some.stream ≡ Some c.args.name.now = ap (λ (v : Catalogued). slice_get (stream_names v.streams) c.in-Some.stream) (sym c.self.view_is) ∙ c.in-Some.ensures.found in
+    let distinct : AllPairs (λ x y. x ≢ y) (stream_names c.args.self.now.streams) = subst (λ (v : Catalogued). AllPairs (λ x y. x ≢ y) (stream_names v.streams)) c.self.view_is c.in-Some.ensures.distinct in
+    let found : position (λ (q : Published). q.stream == c.in-Some.stream) c.args.self.now.published ≡ Some c.in-Some-publisher.place = (λ t. position (λ (q : Published). q.stream == c.in-Some.stream) ((ap (λ (v : Catalogued). v.published) (sym c.self.view_is) ∙ sym c.as_slice.ensures) t)) ∙ sym c.publisher.ensures ∙ c.in-Some-publisher.is in
+    let here : slice_get c.args.self.now.order c.in-Some-publisher.place ≡ Some c.get.result.now = ap (λ (v : Catalogued). slice_get v.order c.in-Some-publisher.place) (sym c.self.view_is) ∙ c.get.ensures in
+    has_name c.args.self.now held.stands c.args.name.now c.in-Some.stream there distinct c.in-Some-publisher.place c.get.result.now found here
+
+pub returns-in-Some-publisher-clause-first : goal.returns-in-Some-publisher-clause-first
+returns-in-Some-publisher-clause-first c =
+    let held : IsHeld c.args.self.now c.self.inside.places c.self.inside.chains.lines c.self.inside.shares = subst (λ (v : Catalogued). IsHeld v c.self.inside.places c.self.inside.chains.lines c.self.inside.shares) c.self.view_is c.self.invariant in
+    let there : slice_get (stream_names c.args.self.now.streams) c.in-Some.stream ≡ Some c.args.name.now = ap (λ (v : Catalogued). slice_get (stream_names v.streams) c.in-Some.stream) (sym c.self.view_is) ∙ c.in-Some.ensures.found in
+    let distinct : AllPairs (λ x y. x ≢ y) (stream_names c.args.self.now.streams) = subst (λ (v : Catalogued). AllPairs (λ x y. x ≢ y) (stream_names v.streams)) c.self.view_is c.in-Some.ensures.distinct in
+    let found : position (λ (q : Published). q.stream == c.in-Some.stream) c.args.self.now.published ≡ Some c.in-Some-publisher.place = (λ t. position (λ (q : Published). q.stream == c.in-Some.stream) ((ap (λ (v : Catalogued). v.published) (sym c.self.view_is) ∙ sym c.as_slice.ensures) t)) ∙ sym c.publisher.ensures ∙ c.in-Some-publisher.is in
+    let here : slice_get c.args.self.now.order c.in-Some-publisher.place ≡ Some c.get.result.now = ap (λ (v : Catalogued). slice_get v.order c.in-Some-publisher.place) (sym c.self.view_is) ∙ c.get.ensures in
+    first_named c.args.self.now held.stands c.args.name.now c.in-Some.stream there distinct c.in-Some-publisher.place c.get.result.now found here

@@ -1,51 +1,59 @@
-use Rattle.std.proofs.Common.{◌≡◌, ◌∙◌, ℕ, ◌+◌, ◌≤◌, ◌-◌, length, List, [], ◌∷◌, refl, sym, ap, subst, arith}
+use Rattle.std.proofs.Common.{◌≡◌, ◌∙◌, ℕ, ◌+◌, ◌-◌, length, List, [], ◌∷◌, refl, sym, ap, subst, arith}
+use Rattle.std.proofs.lemmas.List.{length-append, length-map}
+use Rattle.automaton.specs.declared.growth.Sizes.{Sizes}
 use Rattle.automaton.specs.declared.line.Line.{Line}
-use Rattle.catalogue.specs.Catalogued.{Catalogued}
+use Rattle.catalogue.specs.declared.growing.Before.{Before}
+use Rattle.catalogue.specs.declared.sharing.Share.{Share}
+use Rattle.catalogue.specs.Catalogued.{Catalogued, work_in}
 use Rattle.catalogue.specs.Coming.{HasCome, IsLatest}
-use Rattle.catalogue.specs.Fitting.{IsGrowth}
+use Rattle.catalogue.specs.Fitting.{MayTell}
+use Rattle.catalogue.specs.Sharing.{share_of}
 use Rattle.catalogue.specs.Taking.{IsFit, added_of}
 use Rattle.catalogue.specs.Tables.{IsHeld}
-use Rattle.catalogue.proofs.ComingLemmas.{come_held, come_of, has_come, held_back, kinds_up, made_is, taken_back}
+use Rattle.catalogue.proofs.ComingLemmas.{come_held, come_of, has_come, held_back, kinds_up, lines_back, made_is, taken_back}
+use Rattle.catalogue.proofs.LeftProgramLemmas.{work_long}
 use Rattle.catalogue.proofs.accepted.Catalogue.take.Goals as goal
 
--- the catalogue as it was
-abbrev view_of : goal.After-len → Catalogued
-view_of c = record {
-  file = c.self.inside.file;
-  declared = c.self.inside.declared;
-  streams = c.self.inside.streams;
-  order = c.self.inside.order;
-  published = c.self.inside.published;
-  expressions = c.self.inside.expressions;
-  ends = c.self.inside.ends;
-  next_end = c.self.inside.next_end;
-  layout = c.self.inside.chains.layout;
-}
-
-module _ (c : goal.After-len) where
-  fits : IsFit (view_of c).streams (added_of c.args.query)
-  fits = subst (λ (v : Catalogued). IsFit v.streams (added_of c.args.query)) (sym c.self.view_is) c.requires.fit
-
-  grows : IsGrowth (view_of c) (added_of c.args.query) c.in_ok-growth.growth
-  grows = subst (λ (v : Catalogued). IsGrowth v (added_of c.args.query) c.in_ok-growth.growth) (sym c.self.view_is) c.in_ok-growth.ensures
-
-  room : length c.self.inside.chains.layout.kinds + 1 ≤ length c.in_ok-growth.growth.layout.kinds
-  room = kinds_up (view_of c) c.self.invariant.stands c.args.query fits c.args.since (subst (IsLatest c.args.since) (sym c.self.view_is) c.requires.born) c.in_ok-growth.growth grows
-
 -- numbers are left for its streams
-pub overflow_add-hidden : goal.overflow_add-hidden
-overflow_add-hidden c = omega (arith, room c, c.len-stream.ensures, c.len.ensures, c.len.type_inv)
+pub overflow_add-publication : goal.overflow_add-publication
+overflow_add-publication c =
+    let view : Catalogued = record {
+      file = c.self.inside.file;
+      declared = c.self.inside.declared;
+      streams = c.self.inside.streams;
+      order = c.self.inside.order;
+      published = c.self.inside.published;
+      expressions = c.self.inside.expressions;
+      ends = c.self.inside.ends;
+      next_end = c.self.inside.next_end;
+      layout = c.self.inside.chains.layout;
+    } in
+    let is : view ≡ c.args.self.now = c.self.view_is ∙ c.in_ok-told.ensures.same in
+    let grows : MayTell view (added_of c.args.query) c.in_ok-told.told = subst (λ (v : Catalogued). MayTell v (added_of c.args.query) c.in_ok-told.told) (sym is) c.in_ok-told.ensures.told in
+    omega (arith, grows.lines.room, ap (λ (s : Sizes). s.all) c.sizes.ensures)
 
 pub overflow_sub-hidden : goal.overflow_sub-hidden
-overflow_sub-hidden c = omega (arith, room c, c.len-stream.ensures, c.len.ensures)
-
-pub overflow_add-publication : goal.overflow_add-publication
-overflow_add-publication c = omega (arith, room c, c.len-stream.ensures, c.len.ensures, c.len.type_inv)
+overflow_sub-hidden c =
+    let view : Catalogued = record {
+      file = c.self.inside.file;
+      declared = c.self.inside.declared;
+      streams = c.self.inside.streams;
+      order = c.self.inside.order;
+      published = c.self.inside.published;
+      expressions = c.self.inside.expressions;
+      ends = c.self.inside.ends;
+      next_end = c.self.inside.next_end;
+      layout = c.self.inside.chains.layout;
+    } in
+    let is : view ≡ c.args.self.now = c.self.view_is ∙ c.in_ok-told.ensures.same in
+    let fit : IsFit view.streams (added_of c.args.query) = subst (λ (v : Catalogued). IsFit v.streams (added_of c.args.query)) (sym is) c.requires.fit in
+    let grows : MayTell view (added_of c.args.query) c.in_ok-told.told = subst (λ (v : Catalogued). MayTell v (added_of c.args.query) c.in_ok-told.told) (sym is) c.in_ok-told.ensures.told in
+    let latest : IsLatest c.args.since view = subst (IsLatest c.args.since) (sym is) c.requires.born in
+    omega (arith, kinds_up view c.self.invariant.stands c.args.query fit c.args.since latest c.in_ok-told.told grows, length-append c.self.inside.chains.layout.kinds c.in_ok-told.told.growth.kinds, c.len-hidden.ensures)
 
 -- where there was no memory, the lines are taken back
 pub invariant_of-self-in-Err : goal.invariant_of-self-in-Err
 invariant_of-self-in-Err c =
-    let inside = c.self.inside in
     let view : Catalogued = record {
       file = c.self.inside.file;
       declared = c.self.inside.declared;
@@ -57,17 +65,21 @@ invariant_of-self-in-Err c =
       next_end = c.self.inside.next_end;
       layout = c.self.inside.chains.layout;
     } in
-    let told = c.in_ok-growth.growth.told in
-    let many : c.len-lines.result ≡ length inside.ends = c.len-lines.ensures ∙ ap length c.self.invariant.lines_are ∙ sym c.self.invariant.stands.ended.as_many in
-    held_back view inside.places.items inside.chains.lines c.self.invariant inside.streams c.put_query-put.new.order c.put_query-put.new.published c.put_query-put.new.expressions c.truncate-in-Err.new.self c.put_query-put.new.places.items c.truncate.new.self
-    refl c.in-Err.ensures.order_kept c.in-Err.ensures.published_kept c.in-Err.ensures.expressions_kept
-    (c.truncate-in-Err.ensures ∙ taken_back inside.ends c.put_lines.new.ends told.ends c.len-lines.result c.in_ok-put_lines.ensures.ends many) c.in-Err.ensures.places_kept
-    (c.truncate.ensures ∙ taken_back inside.chains.lines c.put_lines.new.lines told.lines c.len-lines.result c.in_ok-put_lines.ensures.lines c.len-lines.ensures)
+    let inside = c.self.inside in
+    let told = c.in_ok-told.told in
+    let stands = c.self.invariant.stands in
+    let before : Before = record { sizes = c.sizes.result; lines = c.len.result; queries = c.len-2.result } in
+    let many_ends : c.len.result ≡ length inside.ends = c.len.ensures ∙ ap length c.self.invariant.lines_are ∙ sym stands.ended.as_many in
+    let many_shares : c.len-2.result ≡ length inside.shares = c.len-2.ensures ∙ sym (ap length c.self.invariant.shared ∙ length-map (work_in view) share_of ∙ work_long view stands) in
+    let chains : c.take_lines_back.new.chains ≡ inside.chains = c.take_lines_back.ensures.chains ∙ lines_back inside.chains c.put_lines.new.chains told.lines told.growth before c.in_ok-put_lines.ensures.chains c.sizes.ensures c.len.ensures in
+    let ends : c.take_lines_back.new.ends ≡ inside.ends = c.take_lines_back.ensures.ends ∙ taken_back inside.ends c.put_lines.new.ends told.ends c.len.result c.in_ok-put_lines.ensures.ends many_ends in
+    let shares : c.take_lines_back.new.shares ≡ inside.shares = c.take_lines_back.ensures.shares ∙ taken_back inside.shares c.put_lines.new.shares _ c.len-2.result c.in_ok-put_lines.ensures.shares many_shares in
+    held_back view inside.places inside.chains.lines inside.shares c.self.invariant inside.streams c.put_query-put.new.order c.put_query-put.new.published c.put_query-put.new.expressions c.take_lines_back.new.ends c.put_query-put.new.places
+    c.take_lines_back.new.chains c.take_lines_back.new.shares refl c.in-Err.ensures.order_kept c.in-Err.ensures.published_kept c.in-Err.ensures.expressions_kept ends c.in-Err.ensures.places_kept chains shares
 
 -- and so is the query
 pub invariant_of-self-in-Err-publish : goal.invariant_of-self-in-Err-publish
 invariant_of-self-in-Err-publish c =
-    let inside = c.self.inside in
     let view : Catalogued = record {
       file = c.self.inside.file;
       declared = c.self.inside.declared;
@@ -79,19 +91,22 @@ invariant_of-self-in-Err-publish c =
       next_end = c.self.inside.next_end;
       layout = c.self.inside.chains.layout;
     } in
-    let told = c.in_ok-growth.growth.told in
+    let inside = c.self.inside in
+    let told = c.in_ok-told.told in
     let stands = c.self.invariant.stands in
-    let lines_many = c.len-lines.result in
-    let many = c.len-queries.result in
-    let ends_many : lines_many ≡ length inside.ends = c.len-lines.ensures ∙ ap length c.self.invariant.lines_are ∙ sym stands.ended.as_many in
-    held_back view inside.places.items inside.chains.lines c.self.invariant c.publish.new.self c.truncate-in-Err-publish-3.new.self c.truncate-in-Err-publish-5.new.self c.truncate-in-Err-publish-6.new.self c.truncate-in-Err-publish-2.new.self
-    c.truncate-in-Err-publish-4.new.self.items c.truncate-in-Err-publish.new.self c.in-Err-publish.ensures.kept
-    (c.truncate-in-Err-publish-3.ensures ∙ taken_back inside.order c.put_query-put.new.order (length inside.order ∷ []) many c.in_default.ensures.order c.len-queries.ensures)
-    (c.truncate-in-Err-publish-5.ensures ∙ taken_back inside.published c.put_query-put.new.published _ many c.in_default.ensures.published (c.len-queries.ensures ∙ sym stands.publish))
-    (c.truncate-in-Err-publish-6.ensures ∙ taken_back inside.expressions c.put_query-put.new.expressions (c.args.query.expr ∷ []) many c.in_default.ensures.expressions (c.len-queries.ensures ∙ sym stands.express))
-    (c.truncate-in-Err-publish-2.ensures ∙ taken_back inside.ends c.put_lines.new.ends told.ends lines_many c.in_ok-put_lines.ensures.ends ends_many)
-    (c.truncate-in-Err-publish-4.ensures.items ∙ taken_back inside.places.items c.put_query-put.new.places.items (length inside.order ∷ []) many c.in_default.ensures.places (c.len-queries.ensures ∙ sym c.self.invariant.placed.long))
-    (c.truncate-in-Err-publish.ensures ∙ taken_back inside.chains.lines c.put_lines.new.lines told.lines lines_many c.in_ok-put_lines.ensures.lines c.len-lines.ensures)
+    let before : Before = record { sizes = c.sizes.result; lines = c.len.result; queries = c.len-2.result } in
+    let many_ends : c.len.result ≡ length inside.ends = c.len.ensures ∙ ap length c.self.invariant.lines_are ∙ sym stands.ended.as_many in
+    let many_shares : c.len-2.result ≡ length inside.shares = c.len-2.ensures ∙ sym (ap length c.self.invariant.shared ∙ length-map (work_in view) share_of ∙ work_long view stands) in
+    let chains : c.take_lines_back-in-Err-publish.new.chains ≡ inside.chains = c.take_lines_back-in-Err-publish.ensures.chains ∙ lines_back inside.chains c.put_lines.new.chains told.lines told.growth before c.in_ok-put_lines.ensures.chains c.sizes.ensures c.len.ensures in
+    let ends : c.take_lines_back-in-Err-publish.new.ends ≡ inside.ends = c.take_lines_back-in-Err-publish.ensures.ends ∙ taken_back inside.ends c.put_lines.new.ends told.ends c.len.result c.in_ok-put_lines.ensures.ends many_ends in
+    let shares : c.take_lines_back-in-Err-publish.new.shares ≡ inside.shares = c.take_lines_back-in-Err-publish.ensures.shares ∙ taken_back inside.shares c.put_lines.new.shares _ c.len-2.result c.in_ok-put_lines.ensures.shares many_shares in
+    let many = c.len-2.result in
+    held_back view inside.places inside.chains.lines inside.shares c.self.invariant c.publish.new.self c.truncate.new.self c.truncate-in-Err-publish-2.new.self c.truncate-in-Err-publish-3.new.self c.take_lines_back-in-Err-publish.new.ends
+    c.truncate-in-Err-publish.new.self c.take_lines_back-in-Err-publish.new.chains c.take_lines_back-in-Err-publish.new.shares c.in-Err-publish.ensures.kept
+    (c.truncate.ensures ∙ taken_back inside.order c.put_query-put.new.order (length inside.order ∷ []) many c.in_default.ensures.order c.len-2.ensures)
+    (c.truncate-in-Err-publish-2.ensures ∙ taken_back inside.published c.put_query-put.new.published _ many c.in_default.ensures.published (c.len-2.ensures ∙ sym stands.publish))
+    (c.truncate-in-Err-publish-3.ensures ∙ taken_back inside.expressions c.put_query-put.new.expressions (c.args.query.expr ∷ []) many c.in_default.ensures.expressions (c.len-2.ensures ∙ sym stands.express)) ends
+    (c.truncate-in-Err-publish.ensures ∙ taken_back inside.places c.put_query-put.new.places (length inside.order ∷ []) many c.in_default.ensures.places (c.len-2.ensures ∙ sym c.self.invariant.placed.long)) chains shares
 
 -- else the query came
 module _ (c : goal.After-drop-statement-2) where
@@ -108,17 +123,20 @@ module _ (c : goal.After-drop-statement-2) where
     layout = c.self.inside.chains.layout;
   }
 
-  fit_then : IsFit was.streams (added_of c.args.query)
-  fit_then = subst (λ (v : Catalogued). IsFit v.streams (added_of c.args.query)) (sym c.self.view_is) c.requires.fit
+  was_is : was ≡ c.args.self.now
+  was_is = c.self.view_is ∙ c.in_ok-told.ensures.same
 
-  grows_then : IsGrowth was (added_of c.args.query) c.in_ok-growth.growth
-  grows_then = subst (λ (v : Catalogued). IsGrowth v (added_of c.args.query) c.in_ok-growth.growth) (sym c.self.view_is) c.in_ok-growth.ensures
+  fit_then : IsFit was.streams (added_of c.args.query)
+  fit_then = subst (λ (v : Catalogued). IsFit v.streams (added_of c.args.query)) (sym was_is) c.requires.fit
+
+  grows_then : MayTell was (added_of c.args.query) c.in_ok-told.told
+  grows_then = subst (λ (v : Catalogued). MayTell v (added_of c.args.query) c.in_ok-told.told) (sym was_is) c.in_ok-told.ensures.told
 
   latest_then : IsLatest c.args.since was
-  latest_then = subst (IsLatest c.args.since) (sym c.self.view_is) c.requires.born
+  latest_then = subst (IsLatest c.args.since) (sym was_is) c.requires.born
 
   abbrev came : Catalogued
-  came = come_of was c.self.invariant.stands c.args.query fit_then c.args.since latest_then c.in_ok-growth.growth grows_then
+  came = come_of was c.self.invariant.stands c.args.query fit_then c.args.since latest_then c.in_ok-told.told grows_then
 
   made : (record {
     file = c.self.inside.file;
@@ -128,24 +146,39 @@ module _ (c : goal.After-drop-statement-2) where
     published = c.put_query-put.new.published;
     expressions = c.put_query-put.new.expressions;
     ends = c.put_lines.new.ends;
-    next_end = c.self.inside.next_end + c.len-2.result;
-    layout = c.in_ok-growth.growth.layout;
+    next_end = c.self.inside.next_end + c.len-3.result;
+    layout = c.put_lines.new.chains.layout;
   }) ≡ came
   made =
-      made_is was c.self.invariant.stands c.args.query fit_then c.args.since latest_then c.in_ok-growth.growth grows_then c.name.result.now c.len-stream.result (c.len.result - (c.len-stream.result + 1)) c.len-2.result c.publish.new.self c.put_query-put.new.order
-      c.put_query-put.new.published c.put_query-put.new.expressions c.put_lines.new.ends c.name.ensures c.len-stream.ensures (ap (λ k. k - (c.len-stream.result + 1)) c.len.ensures) c.len-2.ensures c.in_default-publish.ensures.ok c.in_default.ensures.order
+      let up = kinds_up was c.self.invariant.stands c.args.query fit_then c.args.since latest_then c.in_ok-told.told grows_then in
+      let long = length-append c.self.inside.chains.layout.kinds c.in_ok-told.told.growth.kinds in
+      let stream : c.sizes.result.all ≡ length c.self.inside.chains.layout.kinds = ap (λ (s : Sizes). s.all) c.sizes.ensures in
+      (λ i. record {
+        file = c.self.inside.file;
+        declared = c.self.inside.declared;
+        streams = c.publish.new.self;
+        order = c.put_query-put.new.order;
+        published = c.put_query-put.new.published;
+        expressions = c.put_query-put.new.expressions;
+        ends = c.put_lines.new.ends;
+        next_end = c.self.inside.next_end + c.len-3.result;
+        layout = (c.in_ok-put_lines.ensures.chains i).layout;
+      })
+      ∙ made_is was c.self.invariant.stands c.args.query fit_then c.args.since latest_then c.in_ok-told.told grows_then c.name.result.now c.sizes.result.all (c.len-hidden.result - 1) c.len-3.result c.publish.new.self c.put_query-put.new.order
+      c.put_query-put.new.published c.put_query-put.new.expressions c.put_lines.new.ends c.name.ensures stream (omega (arith, stream, long, up, c.len-hidden.ensures)) c.len-3.ensures c.in_default-publish.ensures.ok c.in_default.ensures.order
       c.in_default.ensures.published c.in_default.ensures.expressions c.in_ok-put_lines.ensures.ends
 
 pub invariant_of-self-2 : goal.invariant_of-self-2
 invariant_of-self-2 c =
     let held =
-    come_held (was c) c.self.invariant.stands c.args.query (fit_then c) c.args.since (latest_then c) c.in_ok-growth.growth (grows_then c) c.self.inside.places.items c.self.inside.chains.lines c.self.invariant.placed c.self.invariant.lines_are in
-    subst (λ (s : Catalogued × List ℕ × List Line). IsHeld s.0 s.1 s.2) (λ i. (sym (made c) i, sym c.in_default.ensures.places i, sym c.in_ok-put_lines.ensures.lines i)) held
+    come_held (was c) c.self.invariant.stands c.args.query (fit_then c) c.args.since (latest_then c) c.in_ok-told.told (grows_then c) c.self.inside.places c.self.inside.chains.lines c.self.inside.shares c.self.invariant.placed c.self.invariant.lines_are c.self.invariant.shared in
+    subst (λ (s : Catalogued × List ℕ × List Line × List Share). IsHeld s.0 s.1 s.2 s.3)
+    (λ i. (sym (made c) i, sym c.in_default.ensures.places i, (sym c.in_ok-put_lines.ensures.chains i).lines, sym c.in_ok-put_lines.ensures.shares i)) held
 
 pub returns-clause-come : goal.returns-clause-come
 returns-clause-come c =
-    subst (λ (s : Catalogued × Catalogued). HasCome s.0 (added_of c.args.query) c.args.since s.1) (λ i. (c.self.view_is i, sym (made c) i))
-    (has_come (was c) c.self.invariant.stands c.args.query (fit_then c) c.args.since (latest_then c) c.in_ok-growth.growth (grows_then c))
+    subst (λ (s : Catalogued × Catalogued). HasCome s.0 (added_of c.args.query) c.args.since s.1) (λ i. (was_is c i, sym (made c) i))
+    (has_come (was c) c.self.invariant.stands c.args.query (fit_then c) c.args.since (latest_then c) c.in_ok-told.told (grows_then c))
 
 -- and they stand in order
 pub returns-clause-stands : goal.returns-clause-stands

@@ -2,7 +2,7 @@ use Rattle.std.proofs.Common.{subst, sym}
 use Rattle.catalogue.specs.Catalogued.{Catalogued}
 use Rattle.catalogue.specs.Taking.{IsFit, added_of}
 use Rattle.catalogue.proofs.FittingLemmas.{may_grow}
-use Rattle.catalogue.proofs.accepted.Catalogue.growth.Goals as goal
+use Rattle.catalogue.proofs.accepted.Catalogue.told.Goals as goal
 
 -- the query is typed over the streams that are known
 pub lines_of_one-requires : goal.lines_of_one-requires

@@ -1,0 +1,92 @@
+use Rattle.std.proofs.Common.{◌≡◌, ◌∙◌, ℕ, map, sym, ap, subst}
+use Rattle.std.specs.List.{remove}
+use Rattle.automaton.specs.Layouts.{shrunk}
+use Rattle.stream_schema.specs.Streams.{retired}
+use Rattle.catalogue.specs.Catalogued.{Catalogued, query_in, work_in}
+use Rattle.catalogue.specs.Leaving.{catalogue_without, layout_without, lines_before, lines_up_to, moved_down, place_of, without_part}
+use Rattle.catalogue.specs.Sharing.{share_of}
+use Rattle.catalogue.specs.Tables.{HasPlaces, IsHeld}
+use Rattle.catalogue.proofs.LeftLemmas.{left_stands, lines_left}
+use Rattle.catalogue.proofs.LeftProgramLemmas.{at_work, work_left}
+use Rattle.catalogue.proofs.MovedLemmas.{places_left}
+use Rattle.catalogue.proofs.RemovingLemmas.{map-remove}
+use Rattle.catalogue.proofs.PutLemmas.{stream_is, stream_published, stream_within}
+use Rattle.catalogue.proofs.accepted.Catalogue.take_out.Goals as goal
+
+-- the stream is there
+pub retire-requires-clause-within : goal.retire-requires-clause-within
+retire-requires-clause-within c =
+    let held : IsHeld c.args.self.now c.self.inside.places c.self.inside.chains.lines c.self.inside.shares = subst (λ (v : Catalogued). IsHeld v c.self.inside.places c.self.inside.chains.lines c.self.inside.shares) c.self.view_is c.self.invariant in
+    stream_within c.args.self.now held.stands c.args.query c.requires.within c.self.inside.published c.self.inside.streams (ap (λ (v : Catalogued). v.published) c.self.view_is) (ap (λ (v : Catalogued). v.streams) c.self.view_is) c.place-place.result
+    c.place-place.ensures.value c.get.result.now c.get.ensures
+
+-- and a query publishes it
+pub retire-requires-clause-published : goal.retire-requires-clause-published
+retire-requires-clause-published c =
+    let held : IsHeld c.args.self.now c.self.inside.places c.self.inside.chains.lines c.self.inside.shares = subst (λ (v : Catalogued). IsHeld v c.self.inside.places c.self.inside.chains.lines c.self.inside.shares) c.self.view_is c.self.invariant in
+    stream_published c.args.self.now held.stands c.args.query c.requires.within c.self.inside.published c.self.inside.streams (ap (λ (v : Catalogued). v.published) c.self.view_is) (ap (λ (v : Catalogued). v.streams) c.self.view_is) c.place-place.result
+    c.place-place.ensures.value c.get.result.now c.get.ensures
+
+module _ (c : goal.After-shrink) where
+  held : IsHeld c.args.self.now c.self.inside.places c.self.inside.chains.lines c.self.inside.shares
+  held = subst (λ (v : Catalogued). IsHeld v c.self.inside.places c.self.inside.chains.lines c.self.inside.shares) c.self.view_is c.self.invariant
+
+  order_is : c.move_down.new.numbers ≡ map (moved_down c.args.query) (remove c.args.self.now.order (place_of c.args.self.now c.args.query))
+  order_is = c.move_down.ensures ∙ ap (map (moved_down c.args.query)) (c.remove.ensures.others ∙ (λ t. remove (c.self.view_is t).order (c.place-place.ensures.value t)))
+
+  -- it is the catalogue without the query
+  made : (record {
+    file = c.self.inside.file;
+    declared = c.self.inside.declared;
+    streams = c.retire.new.self;
+    order = c.move_down.new.numbers;
+    published = c.remove-3.new.self;
+    expressions = c.remove-4.new.self;
+    ends = c.cut.new.self;
+    next_end = c.self.inside.next_end;
+    layout = c.shrink.new.self;
+  }) ≡ catalogue_without c.args.self.now c.args.query
+  made =
+      let now = c.args.self.now in
+      let own : c.get.result.now.stream ≡ (query_in now c.args.query).stream =
+      stream_is now held.stands c.args.query c.requires.within c.self.inside.published c.self.inside.streams (ap (λ (v : Catalogued). v.published) c.self.view_is) (ap (λ (v : Catalogued). v.streams) c.self.view_is) c.place-place.result
+      c.place-place.ensures.value c.get.result.now c.get.ensures in
+      let streams : c.retire.new.self ≡ retired now.streams (query_in now c.args.query).stream = c.retire.ensures ∙ (λ t. retired (c.self.view_is t).streams (own t)) in
+      let published : c.remove-3.new.self ≡ remove now.published (place_of now c.args.query) = c.remove-3.ensures.others ∙ (λ t. remove (c.self.view_is t).published (c.place-place.ensures.value t)) in
+      let expressions : c.remove-4.new.self ≡ remove now.expressions (place_of now c.args.query) = c.remove-4.ensures.others ∙ (λ t. remove (c.self.view_is t).expressions (c.place-place.ensures.value t)) in
+      let ends : c.cut.new.self ≡ without_part now.ends (lines_before now c.args.query) (lines_up_to now c.args.query) =
+      c.cut.ensures ∙ (λ t. without_part (c.self.view_is t).ends (c.requires.part.first t) (c.requires.part.end t)) in
+      let layout : c.shrink.new.self ≡ layout_without now c.args.query = c.shrink.ensures ∙ ap (λ (v : Catalogued). shrunk v.layout c.args.part.lost) c.self.view_is ∙ c.requires.part.lost in
+      λ t. record {
+        file = (c.self.view_is t).file;
+        declared = (c.self.view_is t).declared;
+        streams = streams t;
+        order = order_is t;
+        published = published t;
+        expressions = expressions t;
+        ends = ends t;
+        next_end = (c.self.view_is t).next_end;
+        layout = layout t;
+      }
+
+-- it stands in order
+pub invariant_of-self : goal.invariant_of-self
+invariant_of-self c =
+    let now = c.args.self.now in
+    let h = held c in
+    let at : ℕ = place_of now c.args.query in
+    let places : c.move_down-2.new.numbers ≡ map (moved_down at) (remove c.self.inside.places c.args.query) =
+    c.move_down-2.ensures ∙ (λ t. map (moved_down (c.place-place.ensures.value t)) (c.remove-2.ensures.others t)) in
+    let lines : c.cut-2.new.self ≡ without_part c.self.inside.chains.lines c.args.part.first c.args.part.end = c.cut-2.ensures in
+    let shares : c.remove-5.new.self ≡ map share_of (remove (work_in now) at) =
+    c.remove-5.ensures.others ∙ (λ t. remove (h.shared t) (c.place-place.ensures.value t)) ∙ sym (map-remove share_of (work_in now) at (at_work now h.stands c.args.query c.requires.within)) in
+    subst (λ (v : Catalogued). IsHeld v c.move_down-2.new.numbers c.cut-2.new.self c.remove-5.new.self) (sym (made c)) (record {
+      stands = left_stands now h.stands c.args.query c.requires.within c.requires.unread;
+      placed =
+          subst (HasPlaces (map (moved_down c.args.query) (remove now.order at))) (sym places) (places_left now.order c.self.inside.places h.stands.numbered h.placed c.args.query c.requires.within);
+      lines_are = lines ∙ (λ t. without_part (h.lines_are t) (c.requires.part.first t) (c.requires.part.end t)) ∙ sym (lines_left now h.stands c.args.query c.requires.within);
+      shared = shares ∙ ap (map share_of) (sym (work_left now h.stands c.args.query c.requires.within));
+    })
+
+pub returns : goal.returns
+returns c = made c

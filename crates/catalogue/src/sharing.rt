@@ -1,0 +1,73 @@
+//! How many of all lines and of all streams are those of each query.
+ghost use Rattle.std.specs.Prelude.{◌≡◌, ◌<◌, ◌≤◌, ◌^◌, [], IfOk, length, map, sum_by, take};
+ghost use Rattle.std.specs.List.{All};
+ghost use Rattle.expressions.specs.Views.{ex_of};
+ghost use Rattle.catalogue.specs.Catalogued.{queries_of, query_of};
+ghost use Rattle.catalogue.specs.Counting.{lines_all, lines_in};
+ghost use Rattle.catalogue.specs.Numbering.{HasNumbers};
+ghost use Rattle.catalogue.specs.Sharing.{share_of};
+
+use crate::counting::count;
+use crate::numbering::{Published, behind_hidden};
+use event_types::{List, Memory};
+use expressions::Expr;
+use std::alloc::Global;
+
+/// How many lines a query has, and how many streams these publish: its own, and hidden ones.
+#[derive(Clone, Copy, Drop)]
+pub struct Share {
+    pub lines: usize,
+    pub streams: usize,
+}
+
+/// The shares of queries in the order of work.
+pub fn share_all(
+    alloc: Global,
+    published: &List<Published>,
+    expressions: &List<Expr>,
+) -> Result<List<Share>, Memory>
+    requires typed { length published.now ≡ length expressions.now }
+    requires ahead { All (λ query. query.stream < query.hidden) published.now }
+    requires numbers { All (λ query. HasNumbers query.expr query.hidden) (queries_of [] published.now expressions.now) }
+    requires few { lines_all expressions.now < 2 ^ 64 }
+    ensures { IfOk result (λ shares. shares ≡ map share_of (queries_of [] published.now expressions.now)) }
+{
+    let mut shares: List<Share> = List::new(alloc);
+    for place in 0..published.len() {
+        let share = share_one(published.get(place), expressions.get(place));
+        shares.add(share)?;
+    }
+    Ok(shares)
+}
+
+// The share of one query.
+fn share_one(published: &Published, expr: &Expr) -> Share
+    requires ahead { published.now.stream < published.now.hidden }
+    requires numbers { HasNumbers (ex_of expr.now) published.now.hidden }
+    requires few { lines_in (ex_of expr.now) < 2 ^ 64 }
+    ensures { result ≡ share_of (query_of [] published.now expr.now) }
+{
+    let end = behind_hidden(expr, published.hidden);
+    Share {
+        lines: count(expr),
+        streams: end - published.hidden + 1,
+    }
+}
+
+/// What the first so many queries have together.
+pub fn share_before(shares: &List<Share>, many: usize) -> Share
+    requires within { many ≤ length shares.now }
+    requires lines { sum_by (λ share. share.lines) shares.now < 2 ^ 64 }
+    requires streams { sum_by (λ share. share.streams) shares.now < 2 ^ 64 }
+    ensures lines { result.lines ≡ sum_by (λ share. share.lines) (take many shares.now) }
+    ensures streams { result.streams ≡ sum_by (λ share. share.streams) (take many shares.now) }
+{
+    let mut lines = 0;
+    let mut streams = 0;
+    for place in 0..many {
+        let share = shares.get(place);
+        lines += share.lines;
+        streams += share.streams;
+    }
+    Share { lines, streams }
+}
