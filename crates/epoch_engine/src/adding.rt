@@ -46,7 +46,9 @@ impl Engine {
                 Ok(())
             }
             Err(fault) => {
-                self.plan.merged.remove_first(ends, ends.len());
+                self.plan
+                    .merged
+                    .remove_first(ends, ends.len(), &mut self.holdings.left);
                 drop_stores(self.plan.merged.network(), &mut self.holdings.stores);
                 Err(fault)
             }

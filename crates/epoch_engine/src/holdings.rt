@@ -11,16 +11,18 @@ use automaton::Network;
 use deadlines::{Deadlines, NEVER};
 use epoch_draft::{Stores, empty_stores};
 use event_types::Memory;
+use prefix_merge::Left;
 use std::alloc::Global;
 use stream_readers::KeyReaders;
 
 /// The bindings that wait at the states of a network, the keys that lead to them, and for each state a deadline
-/// until which none of its bindings expires.
+/// until which none of its bindings expires. Also a list of states that leave, which is used anew.
 #[derive(Drop)]
 pub struct Holdings {
     pub stores: Stores,
     pub keys: KeyReaders,
     pub deadlines: Deadlines,
+    pub left: Left,
 }
 
 impl Holdings {
@@ -36,6 +38,7 @@ impl Holdings {
             stores,
             keys: KeyReaders::new(alloc),
             deadlines,
+            left: Left::new(alloc),
         })
     }
 

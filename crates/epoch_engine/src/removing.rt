@@ -18,7 +18,9 @@ impl Engine {
         requires kinds { layout.kinds ≡ self.old.layout.kinds }
         ensures { Drops ends.now layout self.old self.new }
     {
-        self.plan.merged.remove_first(ends, ends.len());
+        let left = &mut self.holdings.left;
+        self.plan.merged.remove_first(ends, ends.len(), left);
+        left.clear();
         self.holdings.shrink(self.plan.merged.network());
         self.epoch.close();
         self.plan.layout = layout;

@@ -17,3 +17,4 @@ pub mod StartLemmas
 pub mod TurnLemmas
 pub mod UndoneLemmas
 pub mod ReadingLemmas
+pub mod ComingLemmas

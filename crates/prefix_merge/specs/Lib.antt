@@ -1,4 +1,5 @@
 pub mod Buckets
+pub mod Coming
 pub mod Counts
 pub mod Growth
 pub mod Holders

@@ -1,13 +1,14 @@
 //! Networks that grow by a line.
-ghost use Rattle.std.specs.Prelude.{◌≡◌, ◌≤◌, ℕ, IfOk, IsTrue, OnErr, Some, [], drop, false, length, max, ◌+◌, take};
+ghost use Rattle.std.specs.Prelude.{◌≡◌, ◌≤◌, ℕ, IfOk, IsTrue, OnErr, OnOk, Some, [], drop, false, length, max, ◌+◌, take};
 ghost use Rattle.automaton.specs.Changes.{RemovesState};
 ghost use Rattle.automaton.specs.States.{Net, edges_at, ends_at, is_used, root_at};
+ghost use Rattle.prefix_merge.specs.Coming.{ListsCome};
 ghost use Rattle.prefix_merge.specs.Growth.{AreUsedBelow, Grows, Plants, Reaches, end_of};
 ghost use Rattle.prefix_merge.specs.Merging.{HasEnd, IsLowestFree};
 
 use crate::indexed::Indexed;
 use automaton::{End, Hop, Line};
-use event_types::{Copied, Memory};
+use event_types::{Copied, Memory, Numbers};
 use std::alloc::Global;
 
 // The state to which the first hops of a line lead, and how many they are.
@@ -50,20 +51,21 @@ pub(crate) fn free_number(network: &Indexed, from: usize) -> usize
     number
 }
 
-// Adds the states of hops one after another, from a state on, and at the last one an end. Gives a number below
-// which each is used.
+// Adds the states of hops one after another, from a state on, and at the last one an end, and lists the numbers of
+// these states. Gives a number below which each is used.
 pub(crate) fn grow(
-    alloc: Global,
     network: &mut Indexed,
     from: usize,
     tip: usize,
     hops: &[Hop],
     end: End,
+    came: &mut Numbers,
 ) -> Result<usize, Memory>
     requires tip { IsTrue (is_used network.old tip) }
     requires from { AreUsedBelow network.old from }
     requires end { ¬ HasEnd network.old end.number }
     ensures grown { IfOk result (λ bound. Grows tip hops.now end network.old network.new) }
+    ensures came { OnOk result (ListsCome network.old network.new came.old came.new) }
     ensures bound { IfOk result (λ bound. AreUsedBelow network.new bound) }
     ensures kept { OnErr result (network.new ≡ network.old) }
 {
@@ -73,8 +75,9 @@ pub(crate) fn grow(
     };
     let number = free_number(network, from);
     let places = network.places();
-    network.add_hop(alloc, number, tip, hop)?;
-    match grow(alloc, network, number, number, rest, end) {
+    came.add(number)?;
+    network.add_hop(number, tip, hop)?;
+    match grow(network, number, number, rest, end, came) {
         Ok(bound) => Ok(bound),
         Err(fault) => {
             take_back(network, number, places);
@@ -83,25 +86,25 @@ pub(crate) fn grow(
     }
 }
 
-// Adds the root state of a line, the states of its hops and its end.
+// Adds the root state of a line, the states of its hops and its end, and lists the numbers of these states.
 pub(crate) fn plant(
-    alloc: Global,
     network: &mut Indexed,
     number: usize,
     line: &Line,
-    end: usize,
-    birth: Option<u64>,
+    end: End,
+    came: &mut Numbers,
 ) -> Result<usize, Memory>
     requires number { IsLowestFree network.old number }
-    requires end { ¬ HasEnd network.old end }
-    ensures planted { IfOk result (λ bound. Plants number line.now (end_of line.now end birth) network.old network.new) }
+    requires end { ¬ HasEnd network.old end.number }
+    ensures planted { IfOk result (λ bound. Plants number line.now end network.old network.new) }
+    ensures came { OnOk result (ListsCome network.old network.new came.old came.new) }
     ensures bound { IfOk result (λ bound. AreUsedBelow network.new bound) }
     ensures kept { OnErr result (network.new ≡ network.old) }
 {
-    let end = numbered_end(alloc, line, end, birth)?;
     let places = network.places();
-    network.add_root(alloc, number, line.root)?;
-    match grow(alloc, network, number, number, line.hops.as_slice(), end) {
+    came.add(number)?;
+    network.add_root(number, line.root)?;
+    match grow(network, number, number, line.hops.as_slice(), end, came) {
         Ok(bound) => Ok(bound),
         Err(fault) => {
             take_back(network, number, places);

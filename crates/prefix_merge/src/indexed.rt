@@ -23,6 +23,7 @@ use stream_readers::Readers;
 // each stream, unless memory was wanting. A contract sees the network.
 #[derive(Drop)]
 pub(crate) struct Indexed {
+    alloc: Global,
     network: Network,
     buckets: Buckets,
     holders: Holders,
@@ -61,6 +62,7 @@ impl Indexed {
         ensures { result ≡ [] }
     {
         Indexed {
+            alloc,
             network: Network::new(alloc),
             buckets: HashMap::new(alloc),
             holders: HashMap::new(alloc),
@@ -111,28 +113,17 @@ impl Indexed {
     }
 
     // A root state comes, without edges and ends.
-    pub(crate) fn add_root(
-        &mut self,
-        alloc: Global,
-        number: usize,
-        stream: StreamId,
-    ) -> Result<(), Memory>
+    pub(crate) fn add_root(&mut self, number: usize, stream: StreamId) -> Result<(), Memory>
         requires next { number ≤ length self.old }
         requires free { is_used self.old number ≡ false }
         ensures added { OnOk result (AddsRoot number stream self.old self.new) }
         ensures kept { OnErr result (self.new ≡ self.old) }
     {
-        self.network.add_root(alloc, number, stream)
+        self.network.add_root(self.alloc, number, stream)
     }
 
     // The waiting state of a hop comes, to which a forward edge leads from the state before it.
-    pub(crate) fn add_hop(
-        &mut self,
-        alloc: Global,
-        number: usize,
-        before: usize,
-        hop: &Hop,
-    ) -> Result<(), Memory>
+    pub(crate) fn add_hop(&mut self, number: usize, before: usize, hop: &Hop) -> Result<(), Memory>
         requires next { number ≤ length self.old }
         requires free { is_used self.old number ≡ false }
         requires before { IsTrue (is_used self.old before) }
@@ -140,9 +131,9 @@ impl Indexed {
         ensures kept { OnErr result (self.new ≡ self.old) }
     {
         let hash = entrance_hash(before, &hop.step, &hop.wait);
-        put(alloc, &mut self.buckets, hash, number)?;
+        put(self.alloc, &mut self.buckets, hash, number)?;
         let readers = with_hop(self.readers.take(), &self.network, number, before, hop);
-        let added = self.network.add_hop(alloc, number, before, hop);
+        let added = self.network.add_hop(self.alloc, number, before, hop);
         if added.is_err() {
             take_out(&mut self.buckets, hash, number);
         } else {

@@ -8,6 +8,7 @@ mod growth;
 mod hashing;
 mod indexed;
 mod laws;
+mod left;
 mod merged;
 mod pruning;
 mod reading;
@@ -17,4 +18,5 @@ pub use laws::{
     lines_are_its_own, lines_come_in_turn, states_are_counted, states_are_listed,
     states_are_prefixes, taken_back_is_before,
 };
+pub use left::Left;
 pub use merged::Merged;

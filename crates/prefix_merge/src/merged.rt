@@ -3,6 +3,8 @@ ghost use Rattle.std.specs.Prelude.{◌≡◌, ◌<◌, ◌↔◌, ℕ, [], IfOk
 ghost use Rattle.automaton.specs.NetworkLines.{HasEndings, HasLines};
 ghost use Rattle.automaton.specs.Plain.{numbered};
 ghost use Rattle.automaton.specs.States.{root_at};
+ghost use Rattle.prefix_merge.specs.Coming.{ListsCome, NotesLeft};
+ghost use Rattle.prefix_merge.specs.Growth.{end_of};
 ghost use Rattle.prefix_merge.specs.Insertion.{Inserts};
 ghost use Rattle.prefix_merge.specs.Merging.{HasEnd, IsMerged, IsSettled};
 ghost use Rattle.prefix_merge.specs.Removal.{Removes};
@@ -10,9 +12,10 @@ ghost use Rattle.stream_readers.specs.Readers.{AreReadersOf};
 
 use crate::growth::{free_number, grow, hops_from, numbered_end, plant, reach};
 use crate::indexed::Indexed;
+use crate::left::Left;
 use crate::pruning::{Roots, prune, shorten};
-use automaton::{Line, Lines, Network};
-use event_types::Memory;
+use automaton::{End, Line, Lines, Network};
+use event_types::{List, Memory, Numbers};
 use std::alloc::Global;
 use std::collections::HashMap;
 use std::marker::Model;
@@ -23,7 +26,7 @@ use stream_readers::Readers;
 /// `SELECT a FROM A NEXT {c} B` and `SELECT b FROM A NEXT {c} B` have two ends at one waiting state.
 #[derive(Drop)]
 pub struct Merged {
-    alloc: Global,
+    pub(crate) alloc: Global,
     network: Indexed,
     roots: Roots,
     // No number below it is free.
@@ -70,8 +73,9 @@ impl Merged {
         ensures merged { IfOk result IsMerged }
     {
         let mut merged = Merged::new(alloc);
+        let mut came = List::new(alloc);
         for place in 0..lines.len() {
-            merged.insert(lines.get(place), place, None)?;
+            merged.insert(lines.get(place), place, None, &mut came)?;
         }
         Ok(merged)
     }
@@ -106,66 +110,80 @@ impl Merged {
         self.network();
     }
 
-    /// Adds the states of a line's prefixes that aren't there, and its end with this number and this birth.
-    pub fn insert(&mut self, line: &Line, end: usize, birth: Option<u64>) -> Result<(), Memory>
+    /// Adds the states of a line's prefixes that aren't there, and its end with this number and this birth. Lists the
+    /// numbers of these states.
+    pub fn insert(
+        &mut self,
+        line: &Line,
+        end: usize,
+        birth: Option<u64>,
+        came: &mut Numbers,
+    ) -> Result<(), Memory>
         requires { ¬ HasEnd self.old end }
         ensures inserted { OnOk result (Inserts line.now end birth self.old self.new) }
+        ensures came { OnOk result (ListsCome self.old self.new came.old came.new) }
         ensures kept { OnErr result (self.new ≡ self.old) }
     {
+        let last = numbered_end(self.alloc, line, end, birth)?;
         match self.roots.get(&line.root).copied() {
-            Some(root) => self.add_from(root, line, end, birth),
-            None => self.add_whole(line, end, birth),
+            Some(root) => self.add_from(root, line, last, came),
+            None => self.add_whole(line, last, came),
         }
     }
 
-    /// Takes the end with this number away, and the states that no other end uses. Takes no memory.
-    pub fn remove(&mut self, end: usize)
+    /// Takes the end with this number away, and the states that no other end uses, and notes these. Takes no memory
+    /// where the list of these has room.
+    pub fn remove(&mut self, end: usize, left: &mut Left)
         requires { HasEnd self.old end }
-        ensures { Removes end self.old self.new }
+        ensures removed { Removes end self.old self.new }
+        ensures left { NotesLeft self.old self.new left.old left.new }
     {
         let state = self.network.holder(end);
         self.network.remove_end(state, end);
-        self.lowest = prune(&mut self.network, &mut self.roots, self.lowest, state);
+        self.lowest = prune(&mut self.network, &mut self.roots, self.lowest, state, left);
         shorten(&mut self.network);
     }
 
-    // Adds a line whose root state is there.
+    // Adds a line whose root state is there, with this end.
     fn add_from(
         &mut self,
         root: usize,
         line: &Line,
-        end: usize,
-        birth: Option<u64>,
+        end: End,
+        came: &mut Numbers,
     ) -> Result<(), Memory>
-        requires end { ¬ HasEnd self.old end }
+        requires end { ¬ HasEnd self.old end.number }
+        requires is { end ≡ end_of line.now end.number end.birth }
         requires root { root_at self.old root ≡ Some line.now.root }
-        ensures inserted { OnOk result (Inserts line.now end birth self.old self.new) }
+        ensures inserted { OnOk result (Inserts line.now end.number end.birth self.old self.new) }
+        ensures came { OnOk result (ListsCome self.old self.new came.old came.new) }
         ensures kept { OnErr result (self.new ≡ self.old) }
     {
         let reached = reach(&self.network, root, line);
         let hops = hops_from(line, reached.place);
-        let end = numbered_end(self.alloc, line, end, birth)?;
         self.lowest = grow(
-            self.alloc,
             &mut self.network,
             self.lowest,
             reached.state,
             hops,
             end,
+            came,
         )?;
         Ok(())
     }
 
-    // Adds a line whose root state isn't there.
-    fn add_whole(&mut self, line: &Line, end: usize, birth: Option<u64>) -> Result<(), Memory>
-        requires end { ¬ HasEnd self.old end }
+    // Adds a line whose root state isn't there, with this end.
+    fn add_whole(&mut self, line: &Line, end: End, came: &mut Numbers) -> Result<(), Memory>
+        requires end { ¬ HasEnd self.old end.number }
+        requires is { end ≡ end_of line.now end.number end.birth }
         requires root { (number : ℕ) → ¬ (root_at self.old number ≡ Some line.now.root) }
-        ensures inserted { OnOk result (Inserts line.now end birth self.old self.new) }
+        ensures inserted { OnOk result (Inserts line.now end.number end.birth self.old self.new) }
+        ensures came { OnOk result (ListsCome self.old self.new came.old came.new) }
         ensures kept { OnErr result (self.new ≡ self.old) }
     {
         let number = free_number(&self.network, self.lowest);
         self.roots.insert(line.root, number)?;
-        match plant(self.alloc, &mut self.network, number, line, end, birth) {
+        match plant(&mut self.network, number, line, end, came) {
             Ok(bound) => {
                 self.lowest = bound;
                 Ok(())

@@ -3,7 +3,7 @@ ghost use Rattle.std.specs.Prelude.{◌≡◌, IfOk, length};
 
 use automaton::{End, Hop, Hops, Line, Lines, Wait};
 use event_types::{Cmp, List, Memory, Value};
-use prefix_merge::Merged;
+use prefix_merge::{Left, Merged};
 use scalar_expr::{Pred, Scalar, normal};
 use std::alloc::Global;
 use std::test::Fail;
@@ -71,7 +71,7 @@ fn removed_line_takes_away_the_states_that_it_alone_uses(rt: HostRuntime) -> Res
     let lines = two(alloc, longer, shorter)?;
     let mut merged = Merged::of(alloc, &lines)?;
     assert_eq!(rt; merged.network().states(), 3);
-    merged.remove(0);
+    merged.remove(0, &mut Left::new(alloc));
     let network = merged.network();
     assert_eq!(rt; network.states(), 2);
     assert_eq!(rt; network.places(), 2);
@@ -88,8 +88,10 @@ fn freed_number_is_taken_again(rt: HostRuntime) -> Result<(), Fail> {
         line(alloc, 6, List::new(alloc)),
     )?;
     let mut merged = Merged::of(alloc, &lines)?;
-    merged.remove(0);
-    merged.insert(&line(alloc, 7, List::new(alloc)), 0, Some(4))?;
+    merged.remove(0, &mut Left::new(alloc));
+    let mut came = List::new(alloc);
+    merged.insert(&line(alloc, 7, List::new(alloc)), 0, Some(4), &mut came)?;
+    assert_eq!(rt; came.as_slice(), [0].as_slice());
     let network = merged.network();
     assert_eq!(rt; network.states(), 2);
     assert_eq!(rt; network.places(), 2);

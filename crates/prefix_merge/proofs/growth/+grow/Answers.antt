@@ -3,6 +3,7 @@ use Rattle.automaton.specs.declared.line.Hop.{Hop}
 use Rattle.automaton.specs.Changes.{RemovesState}
 use Rattle.automaton.specs.States.{Net}
 use Rattle.prefix_merge.specs.Growth.{Grows}
+use Rattle.prefix_merge.proofs.ComingLemmas.{come_twice, hop_come}
 use Rattle.prefix_merge.proofs.GrowthLemmas.{lowest_within}
 use Rattle.prefix_merge.proofs.UndoneLemmas.{hop_undone}
 use Rattle.prefix_merge.proofs.growth.+grow.Goals as goal
@@ -27,3 +28,9 @@ returns-in-Err-clause-kept t c =
     let removes = subst (λ (net : Net). RemovesState c.free_number-number.result net c.take_back.ensures.0) c.in-Err.ensures.kept c.take_back.ensures.1 in
     hop_undone c.free_number-number.result c.places-places.result c.args.tip c.in-Some.hop.now c.args.network.now c.add_hop.new.self c.take_back.ensures.0 c.take_back.new.network c.places-places.ensures.network c.requires.tip
     c.free_number-number.ensures.free (lowest_within c.args.network.now c.free_number-number.result c.free_number-number.ensures) c.places-places.ensures.value c.in_ok-add_hop.ensures.added removes c.take_back.ensures.2
+
+-- the hop's state comes, and then those of the rest, and each is listed
+pub returns-in-Ok-clause-came : goal.returns-in-Ok-clause-came
+returns-in-Ok-clause-came t c =
+    come_twice c.args.network.now c.add_hop.new.self c.grow.new.network c.args.came.now c.add.new.self c.grow.new.came
+    (hop_come c.free_number-number.result c.args.tip c.in-Some.hop.now c.args.network.now c.add_hop.new.self c.args.came.now c.add.new.self c.in_ok-add_hop.ensures.added c.in_ok-add.ensures.ok) c.in-Ok.ensures.came

@@ -1,8 +1,9 @@
-use Rattle.std.proofs.Common.{List, ap, drop, subst, sym}
+use Rattle.std.proofs.Common.{List, drop, subst, sym}
 use Rattle.automaton.specs.declared.line.Hop.{Hop}
 use Rattle.automaton.specs.declared.network.End.{End}
 use Rattle.automaton.specs.States.{Net}
 use Rattle.automaton.proofs.SlotLemmas.{at_used}
+use Rattle.prefix_merge.specs.Coming.{ListsCome}
 use Rattle.prefix_merge.specs.Growth.{Grows}
 use Rattle.prefix_merge.specs.Insertion.{Inserts}
 use Rattle.prefix_merge.specs.Merging.{HasEnd}
@@ -11,9 +12,7 @@ use Rattle.prefix_merge.proofs.merged.Merged.add_from.Goals as goal
 
 -- no end has the number
 pub grow-requires-clause-end : goal.grow-requires-clause-end
-grow-requires-clause-end c =
-    let number = ap (λ (end : End). end.number) c.in_ok-end.ensures in
-    subst (λ n. HasEnd c.self.inside.network n → ⊥) (sym number) (subst (λ (net : Net). HasEnd net c.args.end → ⊥) (sym c.self.view_is) c.requires.end)
+grow-requires-clause-end c = subst (λ (net : Net). HasEnd net c.args.end.number → ⊥) (sym c.self.view_is) c.requires.end
 
 -- the state is there
 pub grow-requires-clause-tip : goal.grow-requires-clause-tip
@@ -24,18 +23,28 @@ pub invariant_of-self-2 : goal.invariant_of-self-2
 invariant_of-self-2 c =
     let old = c.self.inside.network in
     let keeps = c.self.invariant in
-    let fresh = subst (λ (net : Net). HasEnd net c.args.end → ⊥) (sym c.self.view_is) c.requires.end in
-    let grows = subst (λ (end : End). Grows c.reach-reached.result.state (drop c.reach-reached.result.place c.args.line.now.hops) end old c.grow.new.network) c.in_ok-end.ensures
-    (subst (λ (hops : List Hop). Grows c.reach-reached.result.state hops c.in_ok-end.end old c.grow.new.network) c.hops_from-hops.ensures c.in_ok-self-inside.ensures.grown) in
-    let grown = grown_from old c.grow.new.network c.args.line.now c.reach-reached.result.state c.reach-reached.result.place c.args.end c.args.birth keeps.network keeps.merged keeps.last c.reach-reached.ensures.reached grows in
-    line_kept c.self.inside.roots c.in_ok-self-inside.field-0 old old c.grow.new.network c.args.line.now c.args.end c.args.birth grown fresh keeps.roots c.in_ok-self-inside.ensures.bound c.self.inside.roots c.self.inside.lowest keeps
+    let line = c.args.line.now in
+    let number = c.args.end.number in
+    let birth = c.args.end.birth in
+    let fresh = subst (λ (net : Net). HasEnd net number → ⊥) (sym c.self.view_is) c.requires.end in
+    let grows = subst (λ (end : End). Grows c.reach-reached.result.state (drop c.reach-reached.result.place line.hops) end old c.grow.new.network) c.requires.is
+    (subst (λ (hops : List Hop). Grows c.reach-reached.result.state hops c.args.end old c.grow.new.network) c.hops_from-hops.ensures c.in_ok-self-inside.ensures.grown) in
+    let grown = grown_from old c.grow.new.network line c.reach-reached.result.state c.reach-reached.result.place number birth keeps.network keeps.merged keeps.last c.reach-reached.ensures.reached grows in
+    line_kept c.self.inside.roots c.in_ok-self-inside.field-0 old old c.grow.new.network line number birth grown fresh keeps.roots c.in_ok-self-inside.ensures.bound c.self.inside.roots c.self.inside.lowest keeps
 
 pub returns-clause-inserted : goal.returns-clause-inserted
 returns-clause-inserted c =
     let old = c.self.inside.network in
     let keeps = c.self.invariant in
-    let fresh = subst (λ (net : Net). HasEnd net c.args.end → ⊥) (sym c.self.view_is) c.requires.end in
-    let grows = subst (λ (end : End). Grows c.reach-reached.result.state (drop c.reach-reached.result.place c.args.line.now.hops) end old c.grow.new.network) c.in_ok-end.ensures
-    (subst (λ (hops : List Hop). Grows c.reach-reached.result.state hops c.in_ok-end.end old c.grow.new.network) c.hops_from-hops.ensures c.in_ok-self-inside.ensures.grown) in
-    let grown = grown_from old c.grow.new.network c.args.line.now c.reach-reached.result.state c.reach-reached.result.place c.args.end c.args.birth keeps.network keeps.merged keeps.last c.reach-reached.ensures.reached grows in
-    subst (λ (net : Net). Inserts c.args.line.now c.args.end c.args.birth net c.grow.new.network) c.self.view_is (line_inserted old old c.grow.new.network c.args.line.now c.args.end c.args.birth grown fresh)
+    let line = c.args.line.now in
+    let number = c.args.end.number in
+    let birth = c.args.end.birth in
+    let fresh = subst (λ (net : Net). HasEnd net number → ⊥) (sym c.self.view_is) c.requires.end in
+    let grows = subst (λ (end : End). Grows c.reach-reached.result.state (drop c.reach-reached.result.place line.hops) end old c.grow.new.network) c.requires.is
+    (subst (λ (hops : List Hop). Grows c.reach-reached.result.state hops c.args.end old c.grow.new.network) c.hops_from-hops.ensures c.in_ok-self-inside.ensures.grown) in
+    let grown = grown_from old c.grow.new.network line c.reach-reached.result.state c.reach-reached.result.place number birth keeps.network keeps.merged keeps.last c.reach-reached.ensures.reached grows in
+    subst (λ (net : Net). Inserts line number birth net c.grow.new.network) c.self.view_is (line_inserted old old c.grow.new.network line number birth grown fresh)
+
+-- its states are listed
+pub returns-clause-came : goal.returns-clause-came
+returns-clause-came c = subst (λ (net : Net). ListsCome net c.grow.new.network c.args.came.now c.grow.new.came) c.self.view_is c.in_ok-self-inside.ensures.came

@@ -1,9 +1,11 @@
 use Rattle.std.proofs.Common.{subst}
 use Rattle.automaton.specs.States.{Net}
 use Rattle.automaton.proofs.ChangeLemmas.{removes_end_network}
+use Rattle.prefix_merge.specs.Coming.{NotesLeft}
 use Rattle.prefix_merge.specs.Removal.{Removes}
+use Rattle.prefix_merge.proofs.ComingLemmas.{end_left, left_twice, none_left}
 use Rattle.prefix_merge.proofs.RemovalLemmas.{end_pruning, line_removed, middle_below, middle_table, numbers_kept, state_used}
-use Rattle.prefix_merge.proofs.ShortLemmas.{below_short, merged_short, network_short, numbers_short, removed_short, table_short}
+use Rattle.prefix_merge.proofs.ShortLemmas.{below_short, merged_short, network_short, numbers_short, removed_short, table_short, used_short}
 use Rattle.prefix_merge.proofs.merged.Merged.remove.Goals as goal
 
 -- it is a network still
@@ -36,8 +38,8 @@ invariant_of-self c =
     }
 
 -- the line has left
-pub returns : goal.returns
-returns c =
+pub returns-clause-removed : goal.returns-clause-removed
+returns-clause-removed c =
     let keeps = c.self.invariant in
     let holds = c.holder-state.ensures in
     let old = c.self.inside.network in
@@ -49,3 +51,16 @@ returns c =
     let pruned = c.prune-self-inside.ensures.pruned middle place.0 pruning in
     subst (λ (net : Net). Removes c.args.end net c.shorten.new.network) c.self.view_is
     (removed_short c.prune-self-inside.new.network c.shorten.new.network c.shorten.ensures c.args.end old (line_removed old middle state c.args.end keeps.network keeps.merged keeps.numbers holds c.remove_end.ensures c.prune-self-inside.new.network pruned))
+
+-- the states that left are noted
+pub returns-clause-left : goal.returns-clause-left
+returns-clause-left c =
+    let old = c.self.inside.network in
+    let middle = c.remove_end.new.self in
+    let whole = c.prune-self-inside.new.network in
+    let short = c.shorten.new.network in
+    let before = c.args.left.now in
+    let after = c.prune-self-inside.new.left in
+    subst (λ (net : Net). NotesLeft net short before after) c.self.view_is
+    (left_twice old middle short before before after (none_left old middle before (end_left c.holder-state.result c.args.end old middle c.remove_end.ensures))
+    (left_twice middle whole short before after after c.prune-self-inside.ensures.left (none_left whole short after (used_short whole short c.shorten.ensures))))

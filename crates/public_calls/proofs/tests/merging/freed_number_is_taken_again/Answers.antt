@@ -7,4 +7,4 @@ remove-requires g c = (c.in_ok-merged.ensures.ends 0).1 (omega (arith, c.in_ok-l
 
 -- and then none
 pub insert-requires : goal.insert-requires
-insert-requires g c = λ has. ((c.remove.ensures.ends 0).0 has).1 refl
+insert-requires g c = λ has. ((c.remove.ensures.removed.ends 0).0 has).1 refl
