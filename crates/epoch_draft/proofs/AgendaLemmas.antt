@@ -1,7 +1,6 @@
 -- The streams that are due are made in the order of work.
-use Rattle.std.proofs.Common.{◌≡◌, ◌∙◌, sym, ap, refl, subst, inl, inr, ℕ, Bool, true, false, zero, suc, ◌+◌, ◌-◌, ◌^◌, ◌<◌, ◌≤◌, ◌⊎◌, length, get_or, map, set, take, drop, List, [], ◌∷◌, ◌++◌, arith}
-use Rattle.std.specs.Prelude.{Contains, Option, Some, None}
-use Rattle.std.specs.Option.{option_map}
+use Rattle.std.proofs.Common.{◌≡◌, ◌∙◌, sym, ap, refl, subst, inl, inr, ℕ, Bool, true, false, zero, suc, ◌+◌, ◌-◌, ◌<◌, ◌≤◌, ◌⊎◌, length, get_or, take, drop, List, [], ◌∷◌, ◌++◌, arith}
+use Rattle.std.specs.Prelude.{Contains, Option}
 use Rattle.std.specs.List.{All}
 use Rattle.std.specs.Ordering.{nat_cmp, match_ordering, MatchOrdering}
 use Rattle.std.specs.declared.cmp.Ordering.{Ordering}
@@ -10,18 +9,15 @@ use Rattle.std.specs.BTreeSet.{insert_key}
 use Rattle.std.specs.BTreeMap.Range.{IsLtBy}
 use Rattle.std.specs.Cmp.{ranks}
 use Rattle.std.proofs.Math.Seq.{drop-append_seam}
-use Rattle.std.proofs.lemmas.Grind.{get_or-set_at}
-use Rattle.std.proofs.lemmas.List.{get_or-map, get_or-set_other, length-drop, length-map, length-set, take_more}
+use Rattle.std.proofs.lemmas.List.{length-drop, take_more}
 use Rattle.std.proofs.lemmas.List.Elements.{All-contains, All-contains_itself, All-head, All-push, All-tail, All-weaker, Contains-append_cases, Contains-append_left, Contains-append_right, Contains-push, Contains-push_cases}
-use Rattle.std.proofs.lemmas.Bool.{true≢false}
 use Rattle.event_types.specs.Order.{sorted}
 use Rattle.event_types.specs.Tuple.{TupleView}
 use Rattle.binding_index.specs.declared.store.Store.{Store}
-use Rattle.automaton.specs.States.{Net, entrance_at}
-use Rattle.automaton.specs.declared.network.Entrance.{Entrance}
+use Rattle.automaton.specs.States.{Net}
 use Rattle.automaton.specs.declared.layout.Layout.{Layout}
-use Rattle.automaton.proofs.NumberLemmas.{are_same_or_not}
-use Rattle.epoch_draft.specs.Agenda.{AreFrom, ArePlaces, AreRead, IsPlanned, IsUnread, far_place, read_at, read_by}
+use Rattle.epoch_draft.specs.Agenda.{AreFrom, ArePlaces, IsPlannedIn, IsUnread}
+use Rattle.epoch_draft.specs.declared.stream_places.StreamPlaces.{StreamPlaces}
 use Rattle.epoch_draft.specs.Deriving.{CanDraw, news_of}
 use Rattle.epoch_draft.specs.Drafts.{DraftFits}
 use Rattle.epoch_draft.specs.Marks.{MarksMore}
@@ -31,11 +27,10 @@ use Rattle.epoch_draft.specs.declared.draft.Draft.{Draft}
 use Rattle.epoch_draft.specs.declared.draft.Pair.{Pair}
 use Rattle.epoch_draft.specs.declared.marks.Marks.{Marks}
 use Rattle.epoch_draft.proofs.DeriveLemmas.{AreReadInOrder, MadeUpTo, derived_rest, derived_step, derived_takes, order_stays}
-use Rattle.epoch_draft.proofs.DrawnLemmas.{entry_below}
 use Rattle.epoch_draft.proofs.UnreadLemmas.{skipped_meets}
 use Rattle.epoch_draft.proofs.GoingLemmas.{all_right}
 use Rattle.epoch_draft.proofs.MarkLemmas.{all_below}
-use Rattle.epoch_draft.proofs.Lists.{below_or_last, contains_more, contains_this, some_is, taken_all}
+use Rattle.epoch_draft.proofs.Lists.{taken_all}
 use Rattle.epoch_draft.specs.Tests.{tuple_work}
 use Rattle.epoch_draft.specs.Takes.{take_work}
 
@@ -107,18 +102,24 @@ abbrev pub AllPlanned : Net → List ℕ → List ℕ → ℕ → List ℕ → T
 AllPlanned net order due next keys = (k : ℕ) → next ≤ k → k < length order → Contains due (get_or order k 0) → Contains keys k ⊎ IsUnread net (get_or order k 0)
 
 -- the streams that are looked at are planned
-pub planned_first : (net : Net) (order : List ℕ) (streams : ℕ) (places due keys : List ℕ) (next : ℕ) → ArePlaces net order streams places → All (λ s. IsPlanned next (length order) keys (get_or places s 0)) due → AllPlanned net order due next keys
-planned_first net order streams places due keys next are planned k from lt c = go (are.each k lt)
+pub planned_first : (net : Net) (order : List ℕ) (streams : ℕ) (places : StreamPlaces) (due keys : List ℕ) (next : ℕ) → ArePlaces net order streams places → ((k : ℕ) → k < length order → get_or order k 0 < streams) → All (IsPlannedIn places next (length order) keys) due → AllPlanned net order due next keys
+planned_first net order streams places due keys next are below planned k from lt c = go (get_or places.read s false) refl
   where
-    go : (get_or places (get_or order k 0) 0 ≡ k) ⊎ IsUnread net (get_or order k 0) → Contains keys k ⊎ IsUnread net (get_or order k 0)
-    go (inl at) = inl
-        (subst (Contains keys) at (All-contains (λ s. IsPlanned next (length order) keys (get_or places s 0)) due (get_or order k 0) planned c (subst (λ (n : ℕ). next ≤ n) (sym at) from) (subst (λ (n : ℕ). n < length order) (sym at) lt)))
-    go (inr unread) = inr unread
+    s : ℕ
+    s = get_or order k 0
+
+    at : get_or places.places s 0 ≡ k
+    at = are.arranged k lt
+
+    go : (b : Bool) → get_or places.read s false ≡ b → Contains keys k ⊎ IsUnread net s
+    go true read = inl
+        (subst (Contains keys) at (All-contains (IsPlannedIn places next (length order) keys) due s planned c read (subst (λ (n : ℕ). next ≤ n) (sym at) from) (subst (λ (n : ℕ). n < length order) (sym at) lt)))
+    go false unread = inr (are.unread s (below k lt) unread)
 
 -- and so are those that were planned before, but for the first
-pub planned_next : (net : Net) (order : List ℕ) (streams : ℕ) (places keys rest now due fresh more : List ℕ) (next p : ℕ) → ArePlaces net order streams places → AllPlanned net order due next keys → next ≤ p → keys ≡ p ∷ rest → All (Contains now) rest
-    → more ≡ due ++ fresh → All (λ s. IsPlanned (p + 1) (length order) now (get_or places s 0)) fresh → AllPlanned net order more (p + 1) now
-planned_next net order streams places keys rest now due fresh more next p are was from is kept grown planned k after lt c =
+pub planned_next : (net : Net) (order : List ℕ) (streams : ℕ) (places : StreamPlaces) (keys rest now due fresh more : List ℕ) (next p : ℕ) → ArePlaces net order streams places → ((k : ℕ) → k < length order → get_or order k 0 < streams) → AllPlanned net order due next keys → next ≤ p → keys ≡ p ∷ rest → All (Contains now) rest
+    → more ≡ due ++ fresh → All (IsPlannedIn places (p + 1) (length order) now) fresh → AllPlanned net order more (p + 1) now
+planned_next net order streams places keys rest now due fresh more next p are below was from is kept grown planned k after lt c =
     go (Contains-append_cases due fresh (get_or order k 0) (subst (λ (ns : List ℕ). Contains ns (get_or order k 0)) grown c))
   where
     old : (k ≡ p) ⊎ Contains rest k → Contains now k
@@ -131,7 +132,7 @@ planned_next net order streams places keys rest now due fresh more next p are wa
 
     go : Contains due (get_or order k 0) ⊎ Contains fresh (get_or order k 0) → Contains now k ⊎ IsUnread net (get_or order k 0)
     go (inl c) = stays (was k (omega (arith, from, after)) lt c)
-    go (inr c) = planned_first net order streams places fresh now (p + 1) are planned k after lt c
+    go (inr c) = planned_first net order streams places fresh now (p + 1) are below planned k after lt c
 
 -- what is behind the marked numbers are the newly marked ones
 pub fresh_is : (old new : Marks) → (more : MarksMore old new) → drop (length old.numbers) new.numbers ≡ more.added
@@ -217,156 +218,15 @@ module _ (net : Net) (layout : Layout) (stores : List (Option Store)) (opened : 
       late k (inl c) = absurd (none (filled_list keys k c))
       late k (inr unread) = unread
 
--- the streams so far have their places, or no state reads them, and the others at least the order's length
-pub record ArePlacesUpTo (net : Net) (order : List ℕ) (streams : ℕ) (i : ℕ) (places : List ℕ) : Type 0 where
-  pub as_many : length places ≡ streams
-  pub each : (k : ℕ) → k < i → (get_or places (get_or order k 0) 0 ≡ k) ⊎ IsUnread net (get_or order k 0)
-  pub others : (s : ℕ) → s < streams → (length order ≤ get_or places s 0) ⊎ Contains (take i order) s
-  pub unread : (s : ℕ) → s < streams → length order < get_or places s 0 → IsUnread net s
-
-contains_taken : (order : List ℕ) (i k : ℕ) → k < i → i ≤ length order → Contains (take i order) (get_or order k 0)
-contains_taken order zero k lt below = absurd (omega (arith, lt))
-contains_taken order (suc i) k lt below = go (are_same_or_not k i) (contains_taken order i k)
-  where
-    next : i + 1 ≡ suc i
-    next = omega arith
-
-    go : (k ≡ i) ⊎ (k ≡ i → ⊥) → (k < i → i ≤ length order → Contains (take i order) (get_or order k 0)) → Contains (take (suc i) order) (get_or order k 0)
-    go (inl same) rest = subst (λ (m : ℕ). Contains (take (suc i) order) (get_or order m 0)) (sym same) (subst (λ (m : ℕ). Contains (take m order) (get_or order i 0)) next (contains_this order i 0 (omega (arith, below))))
-    go (inr other) rest = subst (λ (m : ℕ). Contains (take m order) (get_or order k 0)) next (contains_more order i 0 (get_or order k 0) (omega (arith, below)) (rest (omega (arith, lt, other)) (omega (arith, below))))
-
--- one stream more has its place
-pub places_more : (net : Net) (order : List ℕ) (streams i : ℕ) (places : List ℕ) → i < length order → get_or order i 0 < streams → (Contains (take i order) (get_or order i 0) → ⊥) → ArePlacesUpTo net order streams i places
-    → ArePlacesUpTo net order streams (i + 1) (set places (get_or order i 0) i)
-places_more net order streams i places lt below once was = record {
-  as_many = length-set places s i ∙ was.as_many;
-  each = λ k less. each k (below_or_last k i less);
-  others = λ t there. others t (are_same_or_not t s) (was.others t there);
-  unread = λ t there. unread t there (are_same_or_not t s);
-}
-  where
-    s : ℕ
-    s = get_or order i 0
-
-    there : s < length places
-    there = omega (arith, below, was.as_many)
-
-    earlier : (k : ℕ) → k < i → (get_or places (get_or order k 0) 0 ≡ k) ⊎ IsUnread net (get_or order k 0) → (get_or (set places s i) (get_or order k 0) 0 ≡ k) ⊎ IsUnread net (get_or order k 0)
-    earlier k less (inl at) = inl (get_or-set_other places s (get_or order k 0) i 0 (λ same. once (subst (Contains (take i order)) same (contains_taken order i k less (omega (arith, lt))))) ∙ at)
-    earlier k less (inr unread) = inr unread
-
-    each : (k : ℕ) → (k < i) ⊎ (k ≡ i) → (get_or (set places s i) (get_or order k 0) 0 ≡ k) ⊎ IsUnread net (get_or order k 0)
-    each k (inl less) = earlier k less (was.each k less)
-    each k (inr last) = inl (get_or-set_at places s (get_or order k 0) i 0 (ap (λ (m : ℕ). get_or order m 0) last) there ∙ sym last)
-
-    others : (t : ℕ) → (t ≡ s) ⊎ (t ≡ s → ⊥) → (length order ≤ get_or places t 0) ⊎ Contains (take i order) t → (length order ≤ get_or (set places s i) t 0) ⊎ Contains (take (i + 1) order) t
-    others t (inl same) h = inr (subst (Contains (take (i + 1) order)) (sym same) (contains_this order i 0 lt))
-    others t (inr other) (inl far) = inl (subst (λ (n : ℕ). length order ≤ n) (sym (get_or-set_other places s t i 0 other)) far)
-    others t (inr other) (inr c) = inr (contains_more order i 0 t lt c)
-
-    unread : (t : ℕ) → t < streams → (t ≡ s) ⊎ (t ≡ s → ⊥) → length order < get_or (set places s i) t 0 → IsUnread net t
-    unread t below (inl same) past = let at = get_or-set_at places s t i 0 same there in absurd (omega (arith, past, at, lt))
-    unread t below (inr other) past = was.unread t below (subst (λ (n : ℕ). length order < n) (get_or-set_other places s t i 0 other) past)
-
--- or no state reads it
-pub places_skip : (net : Net) (order : List ℕ) (streams i : ℕ) (places : List ℕ) → i < length order → IsUnread net (get_or order i 0) → ArePlacesUpTo net order streams i places → ArePlacesUpTo net order streams (i + 1) places
-places_skip net order streams i places lt unread was = record {
-  as_many = was.as_many;
-  each = λ k less. each k (below_or_last k i less);
-  others = λ t there. others t (was.others t there);
-  unread = was.unread;
-}
-  where
-    each : (k : ℕ) → (k < i) ⊎ (k ≡ i) → (get_or places (get_or order k 0) 0 ≡ k) ⊎ IsUnread net (get_or order k 0)
-    each k (inl less) = was.each k less
-    each k (inr last) = inr (subst (λ (m : ℕ). IsUnread net (get_or order m 0)) (sym last) unread)
-
-    others : (t : ℕ) → (length order ≤ get_or places t 0) ⊎ Contains (take i order) t → (length order ≤ get_or places t 0) ⊎ Contains (take (i + 1) order) t
-    others t (inl far) = inl far
-    others t (inr c) = inr (contains_more order i 0 t lt c)
-
--- no stream of the order has its place yet
-pub places_none : (net : Net) (order : List ℕ) (streams : ℕ) (read : List Bool) (places : List ℕ) → length order < 2 ^ 64 → AreRead net streams read → places ≡ map (far_place (length order)) read → ArePlacesUpTo net order streams 0 places
-places_none net order streams read places few are is = record {
-  as_many = ap length is ∙ length-map read (far_place (length order)) ∙ are.as_many;
-  each = λ k lt. absurd (omega (arith, lt));
-  others = λ s below. inl (far s (get_or read s false) refl (at s below));
-  unread = λ s below past. are.unread s below (missed s (get_or read s false) refl (at s below) past);
-}
-  where
-    at : (s : ℕ) → s < streams → get_or places s 0 ≡ far_place (length order) (get_or read s false)
-    at s below = ap (λ (ps : List ℕ). get_or ps s 0) is ∙ get_or-map (far_place (length order)) read s false 0 (let long = are.as_many in omega (arith, below, long))
-
-    far : (s : ℕ) (b : Bool) → get_or read s false ≡ b → get_or places s 0 ≡ far_place (length order) (get_or read s false) → length order ≤ get_or places s 0
-    far s true told placed = let same : get_or places s 0 ≡ length order = placed ∙ ap (far_place (length order)) told in omega (arith, same)
-    far s false told placed = let same : get_or places s 0 ≡ 2 ^ 64 - 1 = placed ∙ ap (far_place (length order)) told in omega (arith, same, few)
-
-    missed : (s : ℕ) (b : Bool) → get_or read s false ≡ b → get_or places s 0 ≡ far_place (length order) (get_or read s false) → length order < get_or places s 0 → get_or read s false ≡ false
-    missed s true told placed past = let same : get_or places s 0 ≡ length order = placed ∙ ap (far_place (length order)) told in absurd (omega (arith, same, past))
-    missed s false told placed past = told
-
--- all streams have their places
-pub places_all : (net : Net) (order : List ℕ) (streams i : ℕ) (places : List ℕ) → length order ≤ i → ArePlacesUpTo net order streams i places → ArePlaces net order streams places
-places_all net order streams i places all was = record {
-  as_many = was.as_many;
-  each = λ k lt. was.each k (omega (arith, lt, all));
-  others = λ s lt. others s (was.others s lt);
-  unread = was.unread;
-}
-  where
-    others : (s : ℕ) → (length order ≤ get_or places s 0) ⊎ Contains (take i order) s → (length order ≤ get_or places s 0) ⊎ Contains order s
-    others s (inl far) = inl far
-    others s (inr c) = inr (subst (λ (ns : List ℕ). Contains ns s) (taken_all order i all) c)
-
--- the states so far are told
-pub record AreReadBelow (net : Net) (streams i : ℕ) (read : List Bool) : Type 0 where
-  pub as_many : length read ≡ streams
-  pub told : (n s : ℕ) → n < i → s < streams → read_at net n ≡ Some s → get_or read s false ≡ true
-
--- one state more reads a stream
-pub read_more : (net : Net) (streams i s : ℕ) (read : List Bool) → read_at net i ≡ Some s → AreReadBelow net streams i read → AreReadBelow net streams (i + 1) (set read s true)
-read_more net streams i s read reads was = record {
-  as_many = length-set read s true ∙ was.as_many;
-  told = λ n t less below e. told n t (below_or_last n i less) (are_same_or_not t s) below e;
-}
-  where
-    told : (n t : ℕ) → (n < i) ⊎ (n ≡ i) → (t ≡ s) ⊎ (t ≡ s → ⊥) → t < streams → read_at net n ≡ Some t → get_or (set read s true) t false ≡ true
-    told n t at (inl same) below e = get_or-set_at read s t true false same (omega (arith, same, below, was.as_many))
-    told n t (inl less) (inr other) below e = get_or-set_other read s t true false other ∙ was.told n t less below e
-    told n t (inr last) (inr other) below e = absurd (other (some_is t s (sym e ∙ ap (read_at net) last ∙ reads)))
-
--- or reads none
-pub read_none : (net : Net) (streams i : ℕ) (read : List Bool) → read_at net i ≡ None → AreReadBelow net streams i read → AreReadBelow net streams (i + 1) read
-read_none net streams i read none was = record { as_many = was.as_many; told = λ n s less below e. told n s (below_or_last n i less) below e }
-  where
-    told : (n s : ℕ) → (n < i) ⊎ (n ≡ i) → s < streams → read_at net n ≡ Some s → get_or read s false ≡ true
-    told n s (inl less) below e = was.told n s less below e
-    told n s (inr last) below e = absurd (let no = sym none ∙ sym (ap (read_at net) last) ∙ e in cc)
-
--- there is no state past the last
-read_below : (net : Net) (n s : ℕ) → read_at net n ≡ Some s → n < length net
-read_below net n s e = go (entrance_at net n) refl e
-  where
-    go : (o : Option Entrance) → entrance_at net n ≡ o → option_map read_by o ≡ Some s → n < length net
-    go None is e = absurd (cc)
-    go (Some entrance) is e = entry_below net n entrance is
-
--- all states are told
-pub read_all : (net : Net) (streams i : ℕ) (read : List Bool) → length net ≤ i → AreReadBelow net streams i read → AreRead net streams read
-read_all net streams i read past was = record {
-  as_many = was.as_many;
-  unread = λ s lt down n e. absurd (true≢false (sym (was.told n s (let below = read_below net n s e in omega (arith, below, past)) lt e) ∙ down));
-}
-
--- one stream more is looked at: its place is planned, or not from the one place on and below the other
-pub planned_more : (places due keys : List ℕ) (i start end : ℕ) → i < length due → IsPlanned start end keys (get_or places (get_or due i 0) 0) → All (λ s. IsPlanned start end keys (get_or places s 0)) (take i due) → All (λ s. IsPlanned start end keys (get_or places s 0)) (take (i + 1) due)
+-- one stream more is looked at: its place is planned, or not from the one place on and below the other, or no state reads it
+pub planned_more : (places : StreamPlaces) (due keys : List ℕ) (i start end : ℕ) → i < length due → IsPlannedIn places start end keys (get_or due i 0) → All (IsPlannedIn places start end keys) (take i due) → All (IsPlannedIn places start end keys) (take (i + 1) due)
 planned_more places due keys i start end lt this was =
-    subst (All (λ s. IsPlanned start end keys (get_or places s 0))) (sym (take_more due i 0 lt)) (All-push (λ s. IsPlanned start end keys (get_or places s 0)) (take i due) (get_or due i 0) was this)
+    subst (All (IsPlannedIn places start end keys)) (sym (take_more due i 0 lt)) (All-push (IsPlannedIn places start end keys) (take i due) (get_or due i 0) was this)
 
 -- what was planned still is where no place is lost
-pub planned_kept : (places due old new : List ℕ) (start end : ℕ) → ((n : ℕ) → Contains old n → Contains new n) → All (λ s. IsPlanned start end old (get_or places s 0)) due → All (λ s. IsPlanned start end new (get_or places s 0)) due
+pub planned_kept : (places : StreamPlaces) (due old new : List ℕ) (start end : ℕ) → ((n : ℕ) → Contains old n → Contains new n) → All (IsPlannedIn places start end old) due → All (IsPlannedIn places start end new) due
 planned_kept places due old new start end kept was =
-    All-weaker (λ s. IsPlanned start end old (get_or places s 0)) (λ s. IsPlanned start end new (get_or places s 0)) (λ s planned from below. kept (get_or places s 0) (planned from below)) due was
+    All-weaker (IsPlannedIn places start end old) (IsPlannedIn places start end new) (λ s planned read from below. kept (get_or places.places s 0) (planned read from below)) due was
 
 -- the first place that is planned is one to come
 pub first_within : (start end p : ℕ) (keys rest : List ℕ) → keys ≡ p ∷ rest → AreFrom start end keys → (start ≤ p) × (p < end)
@@ -393,3 +253,7 @@ fresh_part old new more numbers known is at =
 pub fresh_below : (old new : Marks) (more : MarksMore old new) (bound : ℕ) → length new.flags ≡ bound → All (λ n. n < bound) more.added
 fresh_below old new more bound as_many =
     all_right (λ n. n < bound) old.numbers more.added (subst (All (λ n. n < bound)) more.is (subst (λ (m : ℕ). All (λ n. n < m) new.numbers) as_many (all_below new more.are new.numbers refl)))
+
+-- numbers below a bound are below a greater one
+pub below_more : (bound more : ℕ) (numbers : List ℕ) → bound ≤ more → All (λ n. n < bound) numbers → All (λ n. n < more) numbers
+below_more bound more numbers up = All-weaker (λ n. n < bound) (λ n. n < more) (λ n lt. omega (arith, lt, up)) numbers

@@ -22,6 +22,7 @@ pub mod MeetLemmas
 pub mod Moves
 pub mod OrderLemmas
 pub mod PairLemmas
+pub mod PlaceLemmas
 pub mod Pairs
 pub mod PurgeLemmas
 pub mod ReadyLemmas

@@ -125,3 +125,10 @@ on_ok_four (Err e) P Q R S U f p q s u = p
 -- what holds of all items holds of the one at a place
 pub all_at : {X : Type 0} (P : X → Type 0) (xs : List X) (i : ℕ) (x : X) → All P xs → slice_get xs i ≡ Some x → P x
 all_at P xs i x all e = subst P (get_or_from_slice_get xs i x x e) (All-get_or P xs i x (slice_get_within xs i x e) all)
+
+-- the first so many of a list of defaults
+pub taken_default : {X : Type 0} (d : X) (n : ℕ) (xs : List X) → ((k : ℕ) → get_or xs k d ≡ d) → (k : ℕ) → get_or (take n xs) k d ≡ d
+taken_default d zero xs all k = refl
+taken_default d (suc n) [] all k = refl
+taken_default d (suc n) (x ∷ xs) all zero = all zero
+taken_default d (suc n) (x ∷ xs) all (suc k) = taken_default d n xs (λ j. all (suc j)) k

@@ -1,10 +1,11 @@
--- The places of streams in the order of work, and those that are to come.
-use Rattle.std.specs.Prelude.{◌≡◌, ℕ, ◌-◌, ◌^◌, Bool, false, ◌<◌, ◌≤◌, ◌⊎◌, if◌then◌else◌, List, Contains, length, Option, Some, slice_index_or}
+-- The places of streams in the order of work, which streams are read, and the places that are to come.
+use Rattle.std.specs.Prelude.{◌≡◌, ℕ, Bool, false, true, ◌<◌, ◌≤◌, List, Contains, length, Option, Some, slice_index_or}
 use Rattle.std.specs.Option.{option_map}
 use Rattle.std.specs.List.{All}
 use Rattle.automaton.specs.States.{Net, entrance_at}
 use Rattle.automaton.specs.declared.network.Entrance.{Entrance}
 use Rattle.automaton.specs.declared.network.Entrance.TheVariants.{Root, Waiting}
+use Rattle.epoch_draft.specs.declared.stream_places.StreamPlaces.{StreamPlaces}
 
 -- the stream that is read by a state that is entered so: at a root its own, at a waiting state the one on which it waits
 abbrev pub read_by : Entrance → ℕ
@@ -19,21 +20,30 @@ read_at net number = option_map read_by (entrance_at net number)
 abbrev pub IsUnread : Net → ℕ → Type 0
 IsUnread net stream = (number : ℕ) → read_at net number ≡ Some stream → ⊥
 
--- of so many streams at least those are told that a state reads
-pub record AreRead (net : Net) (streams : ℕ) (read : List Bool) : Type 0 where
-  pub as_many : length read ≡ streams
-  pub unread : (stream : ℕ) → stream < streams → slice_index_or read stream false ≡ false → IsUnread net stream
+-- the streams that were told as read still are
+pub record StayTold (old new : List Bool) : Type 0 where
+  pub as_many : length new ≡ length old
+  pub kept : (stream : ℕ) → slice_index_or old stream false ≡ true → slice_index_or new stream false ≡ true
 
--- the place behind an order of a stream that isn't of it: the order's length where a state reads it, and else no place at all
-abbrev pub far_place : ℕ → Bool → ℕ
-far_place end is_read = if is_read then end else 2 ^ 64 - 1
+-- so they are, and so are those that these states read
+pub record AreTold (net : Net) (states : List ℕ) (old new : List Bool) : Type 0 where
+  pub stay : StayTold old new
+  pub told : (state stream : ℕ) → Contains states state → read_at net state ≡ Some stream → stream < length new → slice_index_or new stream false ≡ true
 
--- so many streams have their places in an order, but for such as no state reads; one that isn't of the order has at least the order's length, and more only where no state reads it
-pub record ArePlaces (net : Net) (order : List ℕ) (streams : ℕ) (places : List ℕ) : Type 0 where
-  pub as_many : length places ≡ streams
-  pub each : (place : ℕ) → place < length order → (slice_index_or places (slice_index_or order place 0) 0 ≡ place) ⊎ IsUnread net (slice_index_or order place 0)
-  pub others : (stream : ℕ) → stream < streams → (length order ≤ slice_index_or places stream 0) ⊎ Contains order stream
-  pub unread : (stream : ℕ) → stream < streams → length order < slice_index_or places stream 0 → IsUnread net stream
+-- each stream at one of the first so many places of a list has its place there
+abbrev pub AreArrangedUpTo : ℕ → List ℕ → List ℕ → Type 0
+AreArrangedUpTo end order places = (place : ℕ) → place < end → place < length order → slice_index_or places (slice_index_or order place 0) 0 ≡ place
+
+-- each stream of a list has its place there
+abbrev pub AreArranged : List ℕ → List ℕ → Type 0
+AreArranged order places = (place : ℕ) → place < length order → slice_index_or places (slice_index_or order place 0) 0 ≡ place
+
+-- there is room for so many streams at least, those of the order have their places, and of so many streams no state reads those that aren't told as read
+pub record ArePlaces (net : Net) (order : List ℕ) (streams : ℕ) (places : StreamPlaces) : Type 0 where
+  pub many_places : streams ≤ length places.places
+  pub many_read : streams ≤ length places.read
+  pub arranged : AreArranged order places.places
+  pub unread : (stream : ℕ) → stream < streams → slice_index_or places.read stream false ≡ false → IsUnread net stream
 
 -- all of these places are from one place on and below another
 abbrev pub AreFrom : ℕ → ℕ → List ℕ → Type 0
@@ -42,3 +52,7 @@ AreFrom start end = All (λ place. (start ≤ place) × (place < end))
 -- a place from one place on and below another is one of these
 abbrev pub IsPlanned : ℕ → ℕ → List ℕ → ℕ → Type 0
 IsPlanned start end agenda place = start ≤ place → place < end → Contains agenda place
+
+-- so is the place of a stream that is told as read
+abbrev pub IsPlannedIn : StreamPlaces → ℕ → ℕ → List ℕ → ℕ → Type 0
+IsPlannedIn places start end agenda stream = slice_index_or places.read stream false ≡ true → IsPlanned start end agenda (slice_index_or places.places stream 0)

@@ -8,6 +8,7 @@ pub mod Drafts
 pub mod Drawings
 pub mod Drawn
 pub mod EpochWork
+pub mod Filling
 pub mod Found
 pub mod Going
 pub mod Held

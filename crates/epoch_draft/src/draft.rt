@@ -50,17 +50,31 @@ impl Draft {
         ensures none_made { IfOk result (λ draft. (stream : ℕ) → slice_index_or draft.made stream [] ≡ []) }
         ensures no_beads { IfOk result (λ draft. (state : ℕ) → slice_index_or draft.beads state [] ≡ []) }
     {
-        let made = Made::make(alloc, streams)?;
-        let beads = empty_chains(alloc, states)?;
-        let due = Marks::make(alloc, streams)?;
-        let reached = Marks::make(alloc, states)?;
-        Ok(Draft {
+        let made = Made::make(alloc)?;
+        let mut draft = Draft {
             alloc,
             made,
-            beads,
-            due,
-            reached,
-        })
+            beads: List::new(alloc),
+            due: Marks::new(alloc),
+            reached: Marks::new(alloc),
+        };
+        draft.fit(states, streams)?;
+        Ok(draft)
+    }
+
+    /// Takes all tuples and all beads out, and makes room for exactly so many states and streams. After want of memory
+    /// the draft is of no more use.
+    pub(crate) fn fit(&mut self, states: usize, streams: usize) -> Result<(), Memory>
+        requires { DraftFits (length self.old.made) (length self.old.beads) self.old }
+        ensures fits { OnOk result (DraftFits streams states self.new) }
+        ensures none_made { OnOk result ((stream : ℕ) → slice_index_or self.new.made stream [] ≡ []) }
+        ensures no_beads { OnOk result ((state : ℕ) → slice_index_or self.new.beads state [] ≡ []) }
+    {
+        self.clear();
+        self.made.fit(streams)?;
+        fit_chains(&mut self.beads, states)?;
+        self.due.fit(streams)?;
+        self.reached.fit(states)
     }
 
     /// Takes all tuples and all beads out, and keeps the room. Takes no memory.
@@ -181,15 +195,17 @@ fn put_first(chain: &mut Chain<Instance>, bead: Bead<Instance>)
     std::mem::swap(chain, &mut whole);
 }
 
-// So many empty chains.
-fn empty_chains(alloc: Global, count: usize) -> Result<Beads, Memory>
-    ensures { IfOk result (λ chains. (length chains ≡ count) × ((place : ℕ) → slice_index_or chains place [] ≡ [])) }
+// Makes it so many chains, where all are empty. After want of memory there may be fewer.
+fn fit_chains(chains: &mut Beads, count: usize) -> Result<(), Memory>
+    requires { (place : ℕ) → slice_index_or chains.old place [] ≡ [] }
+    ensures as_many { OnOk result (length chains.new ≡ count) }
+    ensures empty { OnOk result ((place : ℕ) → slice_index_or chains.new place [] ≡ []) }
 {
-    let mut chains = List::new(alloc);
-    for _ in 0..count {
+    chains.truncate(count);
+    while chains.len() < count {
         chains.add(Chain::new())?;
     }
-    Ok(chains)
+    Ok(())
 }
 
 // Drops the beads of the chains at these places.

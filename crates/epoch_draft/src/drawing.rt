@@ -1,5 +1,5 @@
 //! What the first half of a closing makes.
-ghost use Rattle.std.specs.Prelude.{IfOk, length};
+ghost use Rattle.std.specs.Prelude.{IfOk, OnOk, length};
 ghost use Rattle.epoch_draft.specs.Drafts.{DraftFits};
 ghost use Rattle.epoch_draft.specs.Drawings.{IsStill};
 
@@ -32,6 +32,16 @@ impl Drawing {
             found: Found::new(alloc),
             agenda: Agenda::new(alloc),
         })
+    }
+
+    /// Forgets all that was drawn, and makes room for exactly so many states and streams. After want of memory the drawing
+    /// is of no more use.
+    pub fn fit(&mut self, states: usize, streams: usize) -> Result<(), Memory>
+        requires { DraftFits (length self.old.draft.made) (length self.old.draft.beads) self.old.draft }
+        ensures { OnOk result (IsStill streams states self.new) }
+    {
+        self.clear();
+        self.draft.fit(states, streams)
     }
 
     /// Forgets all that was drawn, and keeps the room. Takes no memory.

@@ -1,30 +1,47 @@
 //! Lists that are filled and emptied.
-ghost use Rattle.std.specs.Prelude.{◌≡◌, ℕ, ◌<◌, ◌⊎◌, [], Contains, IfOk, length, slice_index_or};
+ghost use Rattle.std.specs.Prelude.{◌≡◌, ℕ, ◌<◌, ◌≤◌, ◌⊎◌, [], Contains, OnOk, length, slice_index_or};
 ghost use Rattle.std.specs.List.{All};
+ghost use Rattle.epoch_draft.specs.Filling.{IsLengthened};
 
 use event_types::{List, Memory};
 use std::alloc::Global;
 
-/// So many times the item.
-pub fn filled<T: Copy>(alloc: Global, count: usize, item: T) -> Result<List<T>, Memory>
-    ensures { IfOk result (λ list. (length list ≡ count) × ((place : ℕ) → slice_index_or list place item ≡ item)) }
+/// Puts the item at the end of a list until there are so many. After want of memory there may be more than before.
+pub fn lengthen<T: Copy>(list: &mut List<T>, count: usize, item: T) -> Result<(), Memory>
+    ensures more { IsLengthened item list.old list.new }
+    ensures long { OnOk result (count ≤ length list.new) }
+    ensures within { length list.old ≤ count → length list.new ≤ count }
 {
-    let mut list = List::new(alloc);
-    for _ in 0..count {
+    while list.len() < count {
         list.add(item)?;
     }
-    Ok(list)
+    Ok(())
 }
 
-/// So many empty lists.
-pub fn empty_lists<T: Drop>(alloc: Global, count: usize) -> Result<List<List<T>>, Memory>
-    ensures { IfOk result (λ lists. (length lists ≡ count) × ((place : ℕ) → slice_index_or lists place [] ≡ [])) }
+/// Makes a list so many times the item, of which it has nothing else. After want of memory it may have fewer.
+pub fn fit<T: Copy>(list: &mut List<T>, count: usize, item: T) -> Result<(), Memory>
+    requires { (place : ℕ) → slice_index_or list.old place item ≡ item }
+    ensures as_many { OnOk result (length list.new ≡ count) }
+    ensures same { (place : ℕ) → slice_index_or list.new place item ≡ item }
 {
-    let mut lists = List::new(alloc);
-    for _ in 0..count {
+    list.truncate(count);
+    lengthen(list, count, item)
+}
+
+/// Puts empty lists at the end until there are so many. After want of memory there may be more than before.
+pub fn lengthen_lists<T: Drop>(
+    alloc: Global,
+    lists: &mut List<List<T>>,
+    count: usize,
+) -> Result<(), Memory>
+    ensures more { IsLengthened [] lists.old lists.new }
+    ensures long { OnOk result (count ≤ length lists.new) }
+    ensures within { length lists.old ≤ count → length lists.new ≤ count }
+{
+    while lists.len() < count {
         lists.add(List::new(alloc))?;
     }
-    Ok(lists)
+    Ok(())
 }
 
 /// Drops the items of the lists at these places, and keeps their room. Takes no memory.

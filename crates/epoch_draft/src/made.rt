@@ -7,7 +7,7 @@ ghost use Rattle.event_types.specs.Order.{sorted};
 ghost use Rattle.event_types.specs.Tuple.{TupleView};
 ghost use Rattle.epoch_draft.specs.Made.{ArePlaced, EndsWith, placed};
 
-use crate::filling::{clear_lists, empty_lists};
+use crate::filling::{clear_lists, lengthen_lists};
 use crate::placing::put_places_in_order;
 use crate::spare::Spare;
 use event_types::{List, Memory, Numbers, StreamId, Tuple, Tuples};
@@ -47,20 +47,28 @@ impl Model for Made {
 }
 
 impl Made {
-    /// So many streams without tuples.
-    pub(crate) fn make(alloc: Global, streams: usize) -> Result<Made, Memory>
-        ensures as_many { IfOk result (λ made. length made ≡ streams) }
-        ensures empty { IfOk result (λ made. (stream : ℕ) → slice_index_or made stream [] ≡ []) }
+    /// No stream, and so no tuple.
+    pub(crate) fn make(alloc: Global) -> Result<Made, Memory>
+        ensures { IfOk result (λ made. made ≡ []) }
     {
-        let places = empty_lists(alloc, streams)?;
         let spare = Spare::make(alloc)?;
         Ok(Made {
             alloc,
             tuples: List::new(alloc),
-            places,
+            places: List::new(alloc),
             sorting: Vec::new(alloc),
             spare,
         })
+    }
+
+    /// Makes it so many streams, where none has tuples. After want of memory there may be fewer.
+    pub(crate) fn fit(&mut self, streams: usize) -> Result<(), Memory>
+        requires { (stream : ℕ) → slice_index_or self.old stream [] ≡ [] }
+        ensures as_many { OnOk result (length self.new ≡ streams) }
+        ensures empty { (stream : ℕ) → slice_index_or self.new stream [] ≡ [] }
+    {
+        self.places.truncate(streams);
+        lengthen_lists(self.alloc, &mut self.places, streams)
     }
 
     /// The number of streams.

@@ -91,7 +91,7 @@ fn meet_read<L: Ledger>(
     ensures agenda { drawing.new.agenda.keys ≡ drawing.old.agenda.keys }
     ensures ticks { steps.new ≤ steps.old + stream_work stored.now.network.now (held stored.now.stores.now) stream tuples.now }
 {
-    if stored.layout.order.len() < stored.places[stream] {
+    if !*stored.places.read.get(stream) {
         return Ok(());
     }
     meet_stream(stored, drawing, stream, tuples, steps)

@@ -1,9 +1,9 @@
 //! Numbers that are marked.
-ghost use Rattle.std.specs.Prelude.{◌≡◌, ◌<◌, [], false, true, Contains, length, IfOk, OnOk};
+ghost use Rattle.std.specs.Prelude.{◌≡◌, ◌<◌, ◌≤◌, [], false, true, Contains, length, OnOk};
 ghost use Rattle.std.specs.List.{All};
 ghost use Rattle.epoch_draft.specs.Marks.{AreLowered, AreMarks, MarksMore};
 
-use crate::filling::filled;
+use crate::filling::{fit, lengthen};
 use event_types::{List, Memory, Numbers};
 use std::alloc::Global;
 
@@ -15,17 +15,40 @@ pub struct Marks {
 }
 
 impl Marks {
-    /// None of the numbers below the bound is marked.
-    pub fn make(alloc: Global, bound: usize) -> Result<Marks, Memory>
-        ensures are { IfOk result (λ marks. AreMarks marks) }
-        ensures none { IfOk result (λ marks. marks.numbers ≡ []) }
-        ensures as_many { IfOk result (λ marks. length marks.flags ≡ bound) }
+    /// No number is marked, and there is room for none. Takes no memory.
+    pub fn new(alloc: Global) -> Marks
+        ensures are { AreMarks result }
+        ensures flags { result.flags ≡ [] }
+        ensures none { result.numbers ≡ [] }
     {
-        let flags = filled(alloc, bound, false)?;
-        Ok(Marks {
-            flags,
+        Marks {
+            flags: List::new(alloc),
             numbers: List::new(alloc),
-        })
+        }
+    }
+
+    /// Makes room for the numbers below a bound, and for more where there was. Those that were marked still are, also
+    /// after want of memory.
+    pub fn grow(&mut self, bound: usize) -> Result<(), Memory>
+        requires { AreMarks self.old }
+        ensures are { AreMarks self.new }
+        ensures same { self.new.numbers ≡ self.old.numbers }
+        ensures longer { length self.old.flags ≤ length self.new.flags }
+        ensures long { OnOk result (bound ≤ length self.new.flags) }
+    {
+        lengthen(&mut self.flags, bound, false)
+    }
+
+    /// Takes each mark away, and makes room for exactly the numbers below a bound. After want of memory there may be
+    /// room for fewer.
+    pub(crate) fn fit(&mut self, bound: usize) -> Result<(), Memory>
+        requires { AreMarks self.old }
+        ensures are { AreMarks self.new }
+        ensures none { self.new.numbers ≡ [] }
+        ensures as_many { OnOk result (length self.new.flags ≡ bound) }
+    {
+        self.clear();
+        fit(&mut self.flags, bound, false)
     }
 
     /// Marks a number. After want of memory all that were marked still are.

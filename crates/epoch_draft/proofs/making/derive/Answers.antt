@@ -5,7 +5,7 @@ use Rattle.std.proofs.lemmas.List.Elements.{All-nil}
 use Rattle.std.proofs.lemmas.Option.{get_or_from_slice_get}
 use Rattle.event_types.specs.Order.{sorted}
 use Rattle.semantics.specs.Denotation.{streams_of}
-use Rattle.epoch_draft.specs.Agenda.{AreFrom, IsPlanned}
+use Rattle.epoch_draft.specs.Agenda.{AreFrom, IsPlannedIn}
 use Rattle.epoch_draft.specs.Deriving.{Derives, DrawnUpTo}
 use Rattle.epoch_draft.specs.Drafts.{DraftFits}
 use Rattle.epoch_draft.specs.EpochWork.{TakesNoMore, derived_tests, derived_work, pairs_work}
@@ -13,7 +13,7 @@ use Rattle.epoch_draft.specs.Held.{held}
 use Rattle.epoch_draft.specs.Suits.{TupleSuits}
 use Rattle.epoch_draft.specs.Takes.{take_work}
 use Rattle.epoch_draft.specs.Tests.{stream_work, tuple_work}
-use Rattle.epoch_draft.proofs.AgendaLemmas.{ended_until, first_within, fresh_below, fresh_part, planned_first, planned_next, popped_until, rest_within, takes_left, work_left}
+use Rattle.epoch_draft.proofs.AgendaLemmas.{ended_until, first_within, fresh_below, fresh_part, below_more, planned_first, planned_next, popped_until, rest_within, takes_left, work_left}
 use Rattle.epoch_draft.proofs.DeriveLemmas.{below, derived_rest, derived_step, derived_takes, drawn_of, made_suits, made_within, order_stays}
 use Rattle.epoch_draft.proofs.Lists.{on_ok, on_ok_three, taken_all}
 use Rattle.epoch_draft.proofs.MarkLemmas.{all_below}
@@ -22,10 +22,18 @@ use Rattle.epoch_draft.proofs.OrderLemmas.{drawn_in_order, takes_in_order}
 use Rattle.epoch_draft.proofs.StoreLemmas.{typed_has}
 use Rattle.epoch_draft.proofs.making.derive.Goals as goal
 
-pub plan-requires-clause-below : goal.plan-requires-clause-below
-plan-requires-clause-below g c =
+-- there is room for the streams that are due
+pub plan-requires-clause-places : goal.plan-requires-clause-places
+plan-requires-clause-places g c =
     let fits = c.requires.drawn.fits in
-    subst (λ (m : ℕ). All (λ n. n < m) c.as_slice.result.now) (fits.due_below ∙ sym c.requires.can_read.places.as_many) (all_below c.args.drawing.now.draft.due fits.due c.as_slice.result.now c.as_slice.ensures)
+    below_more (length c.args.drawing.now.draft.due.flags) (length c.args.stored.now.places.now.places) c.as_slice.result.now (let many = c.requires.can_read.places.many_places in omega (arith, many, fits.due_below))
+    (all_below c.args.drawing.now.draft.due fits.due c.as_slice.result.now c.as_slice.ensures)
+
+pub plan-requires-clause-read : goal.plan-requires-clause-read
+plan-requires-clause-read g c =
+    let fits = c.requires.drawn.fits in
+    below_more (length c.args.drawing.now.draft.due.flags) (length c.args.stored.now.places.now.read) c.as_slice.result.now (let many = c.requires.can_read.places.many_read in omega (arith, many, fits.due_below))
+    (all_below c.args.drawing.now.draft.due fits.due c.as_slice.result.now c.as_slice.ensures)
 
 pub plan-requires-clause-within : goal.plan-requires-clause-within
 plan-requires-clause-within g c = subst (AreFrom 0 c.len-end.result) (sym c.requires.none_planned) (All-nil _)
@@ -69,13 +77,23 @@ overflow_add-next g c =
     let end = c.len-end.ensures in omega (arith, lt, end)
 
 -- the streams that are newly due are of the layout
-pub plan-requires-in-Some-clause-below : goal.plan-requires-in-Some-clause-below
-plan-requires-in-Some-clause-below g c =
+pub plan-requires-in-Some-clause-places : goal.plan-requires-in-Some-clause-places
+plan-requires-in-Some-clause-places g c =
     let old = c.loop-place.drawing.draft.due in
     let new = c.derive_stream.new.drawing.draft.due in
     let derives = c.in_ok-derive_stream.ensures.derives in
-    let room = derives.meets.fits.due_below ∙ c.loop-place.invariant.made.until.fits.made ∙ sym c.requires.can_read.places.as_many in
-    subst (All (λ n. n < length c.args.stored.now.places.now)) (sym (fresh_part old new derives.meets.due c.as_slice-in-Some.result.now c.len-known.result c.as_slice-in-Some.ensures c.len-known.ensures)) (fresh_below old new derives.meets.due (length c.args.stored.now.places.now) room)
+    let room = derives.meets.fits.due_below ∙ c.loop-place.invariant.made.until.fits.made in
+    subst (All (λ n. n < length c.args.stored.now.places.now.places)) (sym (fresh_part old new derives.meets.due c.as_slice-in-Some.result.now c.len-known.result c.as_slice-in-Some.ensures c.len-known.ensures))
+    (below_more (length new.flags) (length c.args.stored.now.places.now.places) derives.meets.due.added (let many = c.requires.can_read.places.many_places in omega (arith, many, room)) (fresh_below old new derives.meets.due (length new.flags) refl))
+
+pub plan-requires-in-Some-clause-read : goal.plan-requires-in-Some-clause-read
+plan-requires-in-Some-clause-read g c =
+    let old = c.loop-place.drawing.draft.due in
+    let new = c.derive_stream.new.drawing.draft.due in
+    let derives = c.in_ok-derive_stream.ensures.derives in
+    let room = derives.meets.fits.due_below ∙ c.loop-place.invariant.made.until.fits.made in
+    subst (All (λ n. n < length c.args.stored.now.places.now.read)) (sym (fresh_part old new derives.meets.due c.as_slice-in-Some.result.now c.len-known.result c.as_slice-in-Some.ensures c.len-known.ensures))
+    (below_more (length new.flags) (length c.args.stored.now.places.now.read) derives.meets.due.added (let many = c.requires.can_read.places.many_read in omega (arith, many, room)) (fresh_below old new derives.meets.due (length new.flags) refl))
 
 pub plan-requires-in-Some-clause-within : goal.plan-requires-in-Some-clause-within
 plan-requires-in-Some-clause-within g c =
@@ -127,10 +145,10 @@ loop-place-preserved g c =
       };
       within = subst (λ (end : ℕ). AreFrom (p + 1) end now) c.len-end.ensures c.in_ok-plan-2.ensures.within;
       planned =
-          planned_next net layout.order (length layout.kinds) c.args.stored.now.places.now keys rest now old.due.numbers meets.due.added new.due.numbers c.loop-place.next p c.requires.can_read.places c.loop-place.invariant.planned within.0 removal
+          planned_next net layout.order (length layout.kinds) c.args.stored.now.places.now keys rest now old.due.numbers meets.due.added new.due.numbers c.loop-place.next p c.requires.can_read.places (below c.args.stored.now.network.now c.args.stored.now.layout.now c.args.stored.now.stores.now c.args.opened.now c.requires.can_draw) c.loop-place.invariant.planned within.0 removal
           (subst (λ (ks : List ℕ). All (Contains now) ks) c.derive_stream.ensures.agenda c.in_ok-plan-2.ensures.kept) meets.due.is
-          (subst (λ (end : ℕ). All (λ s. IsPlanned (p + 1) end now (get_or c.args.stored.now.places.now s 0)) meets.due.added) c.len-end.ensures
-          (subst (All (λ s. IsPlanned (p + 1) c.len-end.result now (get_or c.args.stored.now.places.now s 0))) (fresh_part old.due new.due meets.due c.as_slice-in-Some.result.now c.len-known.result c.as_slice-in-Some.ensures c.len-known.ensures)
+          (subst (λ (end : ℕ). All (IsPlannedIn c.args.stored.now.places.now (p + 1) end now) meets.due.added) c.len-end.ensures
+          (subst (All (IsPlannedIn c.args.stored.now.places.now (p + 1) c.len-end.result now)) (fresh_part old.due new.due meets.due c.as_slice-in-Some.result.now c.len-known.result c.as_slice-in-Some.ensures c.len-known.ensures)
           c.in_ok-plan-2.ensures.planned));
     }
 
@@ -244,6 +262,6 @@ loop-place-init g c =
       };
       within = subst (λ (end : ℕ). AreFrom 0 end keys) c.len-end.ensures c.in_ok-plan.ensures.within;
       planned =
-          planned_first net layout.order (length layout.kinds) places draft.due.numbers keys 0 c.requires.can_read.places
-          (subst (λ (end : ℕ). All (λ s. IsPlanned 0 end keys (get_or places s 0)) draft.due.numbers) c.len-end.ensures (subst (All (λ s. IsPlanned 0 c.len-end.result keys (get_or places s 0))) c.as_slice.ensures c.in_ok-plan.ensures.planned));
+          planned_first net layout.order (length layout.kinds) places draft.due.numbers keys 0 c.requires.can_read.places (below net layout stores opened c.requires.can_draw)
+          (subst (λ (end : ℕ). All (IsPlannedIn places 0 end keys) draft.due.numbers) c.len-end.ensures (subst (All (IsPlannedIn places 0 c.len-end.result keys)) c.as_slice.ensures c.in_ok-plan.ensures.planned));
     }

@@ -1,5 +1,6 @@
-use Rattle.std.proofs.Common.{◌<◌, sym, subst, get_or, append-nil, arith, List, []}
+use Rattle.std.proofs.Common.{◌∙◌, false, sym, subst, append-nil, arith, List, []}
 use Rattle.std.proofs.lemmas.List.Elements.{All-nil}
+use Rattle.std.proofs.lemmas.Option.{get_or_from_slice_get}
 use Rattle.epoch_draft.specs.Agenda.{IsUnread}
 use Rattle.epoch_draft.specs.Drafts.{Grows}
 use Rattle.epoch_draft.specs.Held.{held}
@@ -10,20 +11,20 @@ use Rattle.epoch_draft.proofs.UnreadLemmas.{moves_all_none, waits_read}
 use Rattle.epoch_draft.proofs.making.meet_read.Goals as goal
 
 -- no state reads the stream
-nobody_reads : (g : _) (c : goal.Then-len-stored g) → IsUnread c.args.stored.now.network.now c.args.stream
-nobody_reads g c = c.requires.places.unread c.args.stream c.requires.stream (subst (λ end. end < get_or c.args.stored.now.places.now c.args.stream 0) c.len.ensures c.if-len-stored.true)
+nobody_reads : (g : _) (c : goal.Then-not-get g) → IsUnread c.args.stored.now.network.now c.args.stream
+nobody_reads g c = c.requires.places.unread c.args.stream c.requires.stream (get_or_from_slice_get c.args.stored.now.places.now.read c.args.stream c.get.result.now false c.get.ensures ∙ c.if-not-get.true)
 
 -- so nothing comes of its tuples
-pub returns-then-len-stored-clause-grows : goal.returns-then-len-stored-clause-grows
-returns-then-len-stored-clause-grows g c =
+pub returns-then-not-get-clause-grows : goal.returns-then-not-get-clause-grows
+returns-then-not-get-clause-grows g c =
     let net = c.args.stored.now.network.now in
     let draft = c.args.drawing.now.draft in
     subst (λ (moves : List Move). Grows net moves draft draft) (sym (moves_all_none net (held c.args.stored.now.stores.now) c.args.stream (nobody_reads g c) c.args.tuples.now))
     (grows_none net draft c.requires.draft.fits)
 
 -- and none of them is listed
-pub returns-then-len-stored-clause-lists : goal.returns-then-len-stored-clause-lists
-returns-then-len-stored-clause-lists g c =
+pub returns-then-not-get-clause-lists : goal.returns-then-not-get-clause-lists
+returns-then-not-get-clause-lists g c =
     let net = c.args.stored.now.network.now in
     record {
       added = [];

@@ -1,0 +1,110 @@
+//! The places of streams in the order of work.
+ghost use Rattle.std.specs.Prelude.{◌≡◌, ◌<◌, ◌≤◌, ℕ, false, true, Contains, IfOk, OnOk, Some, length, slice_index_or, take};
+ghost use Rattle.std.specs.List.{All};
+ghost use Rattle.epoch_draft.specs.Agenda.{AreArranged, AreArrangedUpTo, ArePlaces, AreTold, StayTold, read_at};
+ghost use Rattle.epoch_draft.specs.Filling.{IsLengthened};
+
+use crate::filling::lengthen;
+use automaton::Network;
+use event_types::{List, Memory, Numbers, StreamId};
+use std::alloc::Global;
+
+/// By the stream's number its place in the order of work, counted from 0, and whether a state reads it. A stream that
+/// isn't of the order may have any place, and one that no state reads any more may still be told as read.
+#[derive(Drop)]
+pub struct StreamPlaces {
+    pub places: Numbers,
+    pub read: List<bool>,
+}
+
+impl StreamPlaces {
+    /// The places of so many streams, by the order and the states of a network.
+    pub fn make(
+        alloc: Global,
+        network: &Network,
+        order: &[StreamId],
+        streams: usize,
+    ) -> Result<StreamPlaces, Memory>
+        requires below { All (λ stream. stream < streams) order.now }
+        requires once { (place : ℕ) → place < length order.now → Contains (take place order.now) (slice_index_or order.now place 0) → ⊥ }
+        ensures { IfOk result (ArePlaces network.now order.now streams) }
+    {
+        let mut places = StreamPlaces {
+            places: List::new(alloc),
+            read: List::new(alloc),
+        };
+        places.grow(streams)?;
+        places.arrange(order, 0);
+        for state in 0..network.places() {
+            places.tell_of(network, state);
+        }
+        Ok(places)
+    }
+
+    /// Makes room for so many streams, of which those that come are read by no state. After want of memory there may be
+    /// room for more than before.
+    pub fn grow(&mut self, streams: usize) -> Result<(), Memory>
+        ensures places { IsLengthened 0 self.old.places self.new.places }
+        ensures read { IsLengthened false self.old.read self.new.read }
+        ensures many_places { OnOk result (streams ≤ length self.new.places) }
+        ensures many_read { OnOk result (streams ≤ length self.new.read) }
+    {
+        lengthen(&mut self.places, streams, 0)?;
+        lengthen(&mut self.read, streams, false)
+    }
+
+    /// Gives the streams of an order their places there, from one place on. Takes no memory.
+    pub fn arrange(&mut self, order: &[StreamId], from: usize)
+        requires below { All (λ stream. stream < length self.old.places) order.now }
+        requires once { (place : ℕ) → place < length order.now → Contains (take place order.now) (slice_index_or order.now place 0) → ⊥ }
+        requires before { AreArrangedUpTo from order.now self.old.places }
+        ensures arranged { AreArranged order.now self.new.places }
+        ensures as_many { length self.new.places ≡ length self.old.places }
+        ensures read { self.new.read ≡ self.old.read }
+    {
+        for place in from..order.len() {
+            *self.places.get_mut(order[place]) = place;
+        }
+    }
+
+    /// Tells the streams that the states with these numbers read. Takes no memory.
+    pub fn tell(&mut self, network: &Network, states: &[usize])
+        requires { All (λ state. state < length network.now) states.now }
+        ensures told { AreTold network.now states.now self.old.read self.new.read }
+        ensures places { self.new.places ≡ self.old.places }
+    {
+        for state in states {
+            self.tell_of(network, *state);
+        }
+    }
+
+    // Tells the stream that a state reads.
+    fn tell_of(&mut self, network: &Network, state: usize)
+        requires { state < length network.now }
+        ensures told { (stream : ℕ) → read_at network.now state ≡ Some stream → stream < length self.new.read → slice_index_or self.new.read stream false ≡ true }
+        ensures stay { StayTold self.old.read self.new.read }
+        ensures places { self.new.places ≡ self.old.places }
+    {
+        match stream_of(network, state) {
+            Some(stream) if stream < self.read.len() => *self.read.get_mut(stream) = true,
+            _ => {}
+        }
+    }
+}
+
+// The stream that a state reads.
+fn stream_of(network: &Network, number: usize) -> Option<StreamId>
+    requires { number < length network.now }
+    ensures { result ≡ read_at network.now number }
+{
+    if !network.used(number) {
+        return None;
+    }
+    match network.root(number) {
+        Some(stream) => Some(stream),
+        None => match network.wait(number) {
+            Some(wait) => Some(wait.stream),
+            None => None,
+        },
+    }
+}
