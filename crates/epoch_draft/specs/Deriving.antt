@@ -10,8 +10,6 @@ use Rattle.automaton.specs.Networks.{IsNetwork}
 use Rattle.automaton.specs.States.{Net}
 use Rattle.automaton.specs.Work.{is_in}
 use Rattle.automaton.specs.declared.layout.Layout.{Layout}
-use Rattle.stream_readers.specs.Readers.{AreReadersOf}
-use Rattle.stream_readers.specs.declared.reader.Reader.{Reader}
 use Rattle.epoch_laws.specs.BornLines.{BornLine}
 use Rattle.epoch_laws.specs.Closing.{IsEpoch, Stores}
 use Rattle.epoch_laws.specs.StoresStandFor.{Serves}
@@ -66,11 +64,6 @@ pub record CanDraw (net : Net) (layout : Layout) (stores : List (Option Store)) 
   pub below : EndsBelow net (length layout.kinds)
   pub order : All (λ stream. stream < length layout.kinds) layout.order
   pub underived : All (λ stream. slice_index_or opened stream [] ≡ []) layout.order
-
--- the readers are those of a network's streams, and each stream of a layout has one
-pub record AreReadersOfAll (net : Net) (layout : Layout) (readers : List Reader) : Type 0 where
-  pub are : AreReadersOf net readers
-  pub streams : length readers ≡ length layout.kinds
 
 -- each of these streams has its tuples in order
 abbrev pub AreOrdered : List (List TupleView) → List ℕ → Type 0

@@ -82,8 +82,8 @@ fn meet_read<L: Ledger>(
     steps: &mut Steps<L>,
 ) -> Result<(), Memory>
     requires stored { IsStoredNetwork stored.now }
-    requires places { ArePlaces stored.now.network.now stored.now.layout.now.order (length stored.now.readers.now) stored.now.places.now }
-    requires stream { stream < length stored.now.readers.now }
+    requires places { ArePlaces stored.now.network.now stored.now.layout.now.order (length stored.now.layout.now.kinds) stored.now.places.now }
+    requires stream { stream < length stored.now.layout.now.kinds }
     requires draft { IsDraftOf stored.now.network.now drawing.old.draft }
     requires suits { All (TupleSuits stored.now.network.now (held stored.now.stores.now) stream) tuples.now }
     ensures grows { OnOk result (Grows stored.now.network.now (moves_of_all stored.now.network.now (held stored.now.stores.now) stream tuples.now) drawing.old.draft drawing.new.draft) }
@@ -142,7 +142,6 @@ fn derive_stream<L: Ledger>(
     steps: &mut Steps<L>,
 ) -> Result<(), Memory>
     requires stored { IsStoredNetwork stored.now }
-    requires read { stream < length stored.now.readers.now }
     requires stream { stream < length drawing.old.draft.made }
     requires draft { IsDraftOf stored.now.network.now drawing.old.draft }
     requires suits { All (TupleSuits stored.now.network.now (held stored.now.stores.now) stream) (slice_index_or drawing.old.draft.made stream []) }

@@ -173,7 +173,6 @@ fn meet_tuple<L: Ledger>(
     steps: &mut Steps<L>,
 ) -> Result<(), Memory>
     requires stored { IsStoredNetwork stored.now }
-    requires stream { stream < length stored.now.readers.now }
     requires draft { IsDraftOf stored.now.network.now drawing.old.draft }
     requires suits { TupleSuits stored.now.network.now (held stored.now.stores.now) stream tuple.now }
     ensures grows { OnOk result (Grows stored.now.network.now (moves_of stored.now.network.now (held stored.now.stores.now) stream tuple.now) drawing.old.draft drawing.new.draft) }
@@ -210,7 +209,6 @@ pub(crate) fn meet_stream<L: Ledger>(
     steps: &mut Steps<L>,
 ) -> Result<(), Memory>
     requires stored { IsStoredNetwork stored.now }
-    requires stream { stream < length stored.now.readers.now }
     requires draft { IsDraftOf stored.now.network.now drawing.old.draft }
     requires suits { All (TupleSuits stored.now.network.now (held stored.now.stores.now) stream) tuples.now }
     ensures grows { OnOk result (Grows stored.now.network.now (moves_of_all stored.now.network.now (held stored.now.stores.now) stream tuples.now) drawing.old.draft drawing.new.draft) }

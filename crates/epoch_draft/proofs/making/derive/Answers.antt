@@ -51,7 +51,7 @@ derive_stream-requires-clause-stream g c =
 pub derive_stream-requires-clause-stored : goal.derive_stream-requires-clause-stored
 derive_stream-requires-clause-stored g c = record {
   network = c.requires.can_draw.network;
-  readers = c.requires.can_read.readers.are;
+  readers = c.requires.can_read.readers;
   stores = typed_has c.args.stored.now.network.now c.args.stored.now.layout.now.kinds c.args.stored.now.stores.now c.requires.can_draw.typed;
   led = c.requires.can_read.led;
 }

@@ -36,7 +36,7 @@ loop-stream-init g c = record {
 pub meet_read-requires-clause-stored : goal.meet_read-requires-clause-stored
 meet_read-requires-clause-stored g c = record {
   network = c.requires.can_draw.network;
-  readers = c.requires.can_read.readers.are;
+  readers = c.requires.can_read.readers;
   stores = typed_has c.args.stored.now.network.now c.args.stored.now.layout.now.kinds c.args.stored.now.stores.now c.requires.can_draw.typed;
   led = c.requires.can_read.led;
 }
