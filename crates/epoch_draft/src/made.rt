@@ -5,6 +5,7 @@ ghost use Rattle.std.specs.Prelude.{◌≡◌, ◌<◌, ◌⊎◌, ◌++◌, ◌
 ghost use Rattle.std.specs.List.{All};
 ghost use Rattle.event_types.specs.Order.{sorted};
 ghost use Rattle.event_types.specs.Tuple.{TupleView};
+ghost use Rattle.semantics.specs.Denotation.{joined};
 ghost use Rattle.epoch_draft.specs.Made.{ArePlaced, EndsWith, placed};
 
 use crate::filling::{clear_lists, lengthen_lists};
@@ -114,6 +115,16 @@ impl Made {
         ensures same { self.new ≡ self.old }
     {
         self.spare.copy(self.alloc, tuple)
+    }
+
+    /// The values of both, from the start of the left tuple to the detection of the right one, in room that is kept for
+    /// values, if any is. After want of memory all tuples are still there.
+    pub(crate) fn join(&mut self, left: &Tuple, right: &Tuple) -> Result<Tuple, Memory>
+        requires { left.now.at < right.now.from }
+        ensures value { IfOk result (λ tuple. tuple ≡ joined left.now right.now) }
+        ensures same { self.new ≡ self.old }
+    {
+        self.spare.join(self.alloc, left, right)
     }
 
     /// Puts the last tuple of a stream, `other`, behind those of a stream too. After want of memory the tuples are of no

@@ -21,13 +21,12 @@ use automaton::{Network, Turn, Wait};
 use event_types::{Memory, Tuple};
 use inst_chain::Look;
 use instances::{Instance, Waiting};
-use scalar_expr::{can_follow, holds, join, rebind};
-use std::alloc::Global;
+use scalar_expr::{can_follow, holds, rebind};
 use steps::{Ledger, Steps};
 
 // What the tuple makes of the binding, if it is eligible.
 fn pair_up<L: Ledger>(
-    alloc: Global,
+    draft: &mut Draft,
     wait: &Wait,
     binding: &Tuple,
     tuple: &Tuple,
@@ -35,10 +34,11 @@ fn pair_up<L: Ledger>(
 ) -> Result<Option<Tuple>, Memory>
     requires { WaitSuits wait.now binding.now tuple.now }
     ensures value { IfOk result (λ made. option_to_list made ≡ paired wait.now binding.now tuple.now) }
+    ensures same { draft.new ≡ draft.old }
     ensures ticks { steps.new ≤ steps.old + pair_work wait.now }
 {
     if can_follow(&wait.choose, binding, tuple, steps) {
-        follow(alloc, &wait.fold, binding, tuple, steps)
+        follow(draft, &wait.fold, binding, tuple, steps)
     } else {
         Ok(None)
     }
@@ -46,7 +46,7 @@ fn pair_up<L: Ledger>(
 
 // What the tuple, which is eligible, makes of the binding.
 fn follow<L: Ledger>(
-    alloc: Global,
+    draft: &mut Draft,
     fold: &Option<Turn>,
     binding: &Tuple,
     tuple: &Tuple,
@@ -55,13 +55,14 @@ fn follow<L: Ledger>(
     requires later { binding.now.at < tuple.now.from }
     requires suited { TurnSuits fold.now binding.now tuple.now }
     ensures value { IfOk result (λ made. option_to_list made ≡ followed fold.now binding.now tuple.now) }
+    ensures same { draft.new ≡ draft.old }
     ensures ticks { steps.new ≤ steps.old + turn_work fold.now }
 {
     match fold {
-        None => Ok(Some(join(alloc, binding, tuple)?)),
+        None => Ok(Some(draft.made.join(binding, tuple)?)),
         Some(turn) => {
             if holds(&turn.on, tuple, Some(binding), steps) {
-                Ok(Some(rebind(alloc, &turn.set, binding, tuple)?))
+                Ok(Some(rebind(draft.alloc, &turn.set, binding, tuple)?))
             } else {
                 Ok(None)
             }
@@ -84,7 +85,7 @@ fn meet_instance<L: Ledger>(
     ensures grows { OnOk result (Grows waiting.now.network.now (moves_from waiting.now.network.now waiting.now.state (paired_with waiting.now.wait.now tuple.now instance.now)) draft.old draft.new) }
     ensures ticks { steps.new ≤ steps.old + binding_work waiting.now.network.now waiting.now.state waiting.now.wait.now tuple.now instance.now }
 {
-    match pair_up(draft.alloc, waiting.wait, &instance.tuple, tuple, steps)? {
+    match pair_up(draft, waiting.wait, &instance.tuple, tuple, steps)? {
         Some(made) => {
             let left = Instance {
                 tuple: made,

@@ -1,7 +1,9 @@
 //! Room for values that is used again.
-ghost use Rattle.std.specs.Prelude.{◌≡◌, ◌++◌, [], IfOk, IfSome, OnOk};
+ghost use Rattle.std.specs.Prelude.{◌≡◌, ◌<◌, ◌++◌, [], IfOk, IfSome, OnOk};
+ghost use Rattle.semantics.specs.Denotation.{joined};
 
 use event_types::{Copied, List, Memory, Tuple, Tuples, Vals, Value};
+use scalar_expr::join;
 use std::alloc::Global;
 use std::marker::Model;
 
@@ -39,6 +41,23 @@ impl Spare {
         match self.take() {
             Some(vals) => copy_in(alloc, vals, tuple),
             None => tuple.copy(alloc),
+        }
+    }
+
+    /// The values of both, from the start of the left tuple to the detection of the right one, in one of the lists, if
+    /// any is kept.
+    pub(crate) fn join(
+        &mut self,
+        alloc: Global,
+        left: &Tuple,
+        right: &Tuple,
+    ) -> Result<Tuple, Memory>
+        requires { left.now.at < right.now.from }
+        ensures { IfOk result (λ tuple. tuple ≡ joined left.now right.now) }
+    {
+        match self.take() {
+            Some(vals) => join_in(alloc, vals, left, right),
+            None => join(alloc, left, right),
         }
     }
 
@@ -83,13 +102,30 @@ fn copy_in(alloc: Global, vals: Vals, tuple: &Tuple) -> Result<Tuple, Memory>
     }
 }
 
-// Puts equal values at the end, whole numbers without more ado.
+// The values of both, from the start of the left tuple to the detection of the right one, in a list that is empty.
+fn join_in(alloc: Global, vals: Vals, left: &Tuple, right: &Tuple) -> Result<Tuple, Memory>
+    requires empty { vals ≡ [] }
+    requires later { left.now.at < right.now.from }
+    ensures { IfOk result (λ tuple. tuple ≡ joined left.now right.now) }
+{
+    let mut vals = vals;
+    add_copies(alloc, &mut vals, left.vals().as_slice())?;
+    add_copies(alloc, &mut vals, right.vals().as_slice())?;
+    match Tuple::make(vals, left.from(), right.at()) {
+        Ok(tuple) => Ok(tuple),
+        Err(_) => unreachable!(),
+    }
+}
+
+// Puts equal values at the end, whole numbers and texts without more ado.
+#[inline(always)]
 fn add_copies(alloc: Global, vals: &mut Vals, more: &[Value]) -> Result<(), Memory>
     ensures { OnOk result (vals.new ≡ vals.old ++ more.now) }
 {
     for value in more {
         match value {
             Value::Int(number) => vals.add(Value::Int(*number))?,
+            Value::Text(text) => vals.add(Value::Text(text.copied(alloc)?))?,
             _ => vals.add(value.copied(alloc)?)?,
         }
     }
