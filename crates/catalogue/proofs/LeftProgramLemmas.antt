@@ -138,7 +138,7 @@ module _ (c : Catalogued) (stands : StandsInOrder c) where
     numbers_are = left_numbers c.order stands.numbered number small
 
     -- a query is that which had the number before
-    query_left : (k old : ℕ) → old < length c.order → old ≢ number → moved_down number old ≡ k → query_in left_catalogue k ≡ query_in c old
+    pub query_left : (k old : ℕ) → old < length c.order → old ≢ number → moved_down number old ≡ k → query_in left_catalogue k ≡ query_in c old
     query_left k old within other moved =
         let (i, inside, is, same) = found c.order stands.numbered number small old within other in
         let i_inside : i < length numbers = omega (arith, inside, length-map (remove c.order at) (moved_down number)) in

@@ -15,11 +15,11 @@ use Rattle.catalogue.specs.Standing.{AreNumbers}
 use Rattle.catalogue.specs.Tables.{HasPlaces}
 
 -- a number up to that one stays
-moved_low : (gone number : ℕ) → number ≤ gone → moved_down gone number ≡ number
+pub moved_low : (gone number : ℕ) → number ≤ gone → moved_down gone number ≡ number
 moved_low gone number below = ap (λ b. cond b (number - 1) number) (le-ltb gone number below)
 
 -- a greater one is one less
-moved_high : (gone number : ℕ) → gone < number → moved_down gone number ≡ number - 1
+pub moved_high : (gone number : ℕ) → gone < number → moved_down gone number ≡ number - 1
 moved_high gone number above = ap (λ b. cond b (number - 1) number) (lt-ltb gone number above)
 
 -- which of two ways another number goes
