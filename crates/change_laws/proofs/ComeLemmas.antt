@@ -5,7 +5,7 @@ use Rattle.std.specs.List.{All, range_with_len}
 use Rattle.std.proofs.lemmas.Grind.{flat_map-append}
 use Rattle.std.proofs.lemmas.List.Elements.{All-contains}
 use Rattle.std.proofs.lemmas.List.FromFn.{get_or-range_with_len, length-range_with_len}
-use Rattle.automaton.specs.Layouts.{LayoutFits}
+use Rattle.automaton.specs.Layouts.{LayoutFits, grown}
 use Rattle.automaton.specs.NetworkLines.{HasEndings}
 use Rattle.automaton.specs.Work.{is_in}
 use Rattle.automaton.specs.declared.layout.Layout.{Layout}
@@ -18,20 +18,17 @@ use Rattle.catalogue.specs.Catalogued.{Catalogued, program_in, work_in}
 use Rattle.catalogue.specs.Coming.{HasCome, IsTold, coming, lines_by}
 use Rattle.catalogue.specs.Standing.{StandsInOrder}
 use Rattle.catalogue.proofs.NewcomerLemmas.{newcomers_are_unknown}
-use Rattle.epoch_engine.specs.Adding.{BeginAs}
 use Rattle.epoch_engine.specs.AddingLaws.{LayoutGrows}
 use Rattle.epoch_engine.specs.EngineStandsFor.{EngineStandsFor}
 use Rattle.epoch_engine.specs.EngineView.{EngineView}
 use Rattle.epoch_engine.proofs.AddedLemmas.{added_stands}
 use Rattle.epoch_laws.specs.BornLines.{BornLine, lines_in}
-use Rattle.event_types.specs.declared.kind.Kind.{Kind}
 use Rattle.prefix_merge.specs.Merging.{HasEnd}
 use Rattle.prefix_merge.specs.Turns.{endings_with}
 use Rattle.semantics.specs.Programs.{Query}
 use Rattle.splitter.specs.Chains.{lines_of}
 use Rattle.splitter.specs.Splitting.{split_lines}
 use Rattle.splitter.proofs.ApartLemmas.{range_all}
-use Rattle.splitter.proofs.LineLemmas.{get_more}
 use Rattle.change_laws.specs.AtOne.{AreAtOne, ended_by, endings_in}
 use Rattle.change_laws.specs.Calls.{MayBeAdded}
 use Rattle.change_laws.specs.Laws.{ComingStands, ToldMayBeAdded}
@@ -67,7 +64,7 @@ module _ (added : AddedQuery) (birth : Option ℕ) (told : Added) (old new : Cat
   as_many : length told.ends ≡ length told.lines
   as_many = ap length is_told.ends ∙ length-range_with_len old.next_end (length (lines_by query)) ∙ sym (ap length is_told.lines)
 
-  fits_then : LayoutFits (lines_of (program_in old) ++ told.lines) told.layout
+  fits_then : LayoutFits (lines_of (program_in old) ++ told.lines) (grown old.layout told.growth)
   fits_then =
       subst (λ (s : List Line × Layout). LayoutFits s.0 s.1) (λ i. ((lines_then ∙ ap (λ ls. lines_of (program_in old) ++ ls) (sym is_told.lines)) i, sym is_told.layout i)) stands_then.laid.fits
 
@@ -80,13 +77,12 @@ module _ (added : AddedQuery) (birth : Option ℕ) (told : Added) (old new : Cat
       ∙ (λ i. ended_by (sym born_then i) (sym come.ends i))
 
   module _ (engine : EngineView) (at_one : AreAtOne old engine) where
-    begin_as : BeginAs engine.layout.kinds told.layout.kinds
-    begin_as stream known here =
-        ap (λ (layout : Layout). slice_get layout.kinds stream) is_told.layout ∙ ap (λ (kinds : List (List Kind)). slice_get kinds stream) come.kinds
-        ∙ get_more old.layout.kinds come.more stream known (ap (λ (layout : Layout). slice_get layout.kinds stream) (sym at_one.layout) ∙ here)
+    -- the engine's layout grows as the catalogue's
+    grown_alike : grown old.layout told.growth ≡ grown engine.layout told.growth
+    grown_alike = ap (λ (layout : Layout). grown layout told.growth) (sym at_one.layout)
 
     -- what is told may be added
-    pub may_be_added : MayBeAdded told.lines told.ends told.layout engine
+    pub may_be_added : MayBeAdded told.lines told.ends told.growth engine
     may_be_added = record {
       as_many = as_many;
       apart = subst (AllPairs (λ x y. x ≢ y)) (sym is_told.ends) (range_apart old.next_end (length (lines_by query)));
@@ -95,17 +91,16 @@ module _ (added : AddedQuery) (birth : Option ℕ) (told : Added) (old new : Cat
           (range_all (λ end. HasEnd engine.network end → ⊥) old.next_end (length (lines_by query)) (λ end above below has.
           let less : end < old.next_end = All-contains (λ e. e < old.next_end) old.ends end stands.ended.below (end_known old stands engine at_one end has) in
           absurd (omega (arith, less, above))));
-      fits = (lines_of (program_in old), has_lines old stands engine at_one, fits_then);
-      kinds = begin_as;
+      fits = (lines_of (program_in old), has_lines old stands engine at_one, subst (LayoutFits (lines_of (program_in old) ++ told.lines)) grown_alike fits_then);
     }
 
     -- the layout grows by the query's streams
-    grows : LayoutGrows (lines_in (born_lines (program_in old))) told.lines engine.layout told.layout
+    grows : LayoutGrows (lines_in (born_lines (program_in old))) told.lines engine.layout (grown engine.layout told.growth)
     grows = record {
       fits = subst (λ (s : List Line × Layout). LayoutFits s.0 s.1) (λ i. (sym (plain_chain (work_in old)) i, sym at_one.layout i)) stands.laid.fits;
-      fits_all = subst (λ (ls : List Line). LayoutFits (ls ++ told.lines) told.layout) (sym (plain_chain (work_in old))) fits_then;
+      fits_all = subst (λ (s : List Line × Layout). LayoutFits (s.0 ++ told.lines) s.1) (λ i. (sym (plain_chain (work_in old)) i, grown_alike i)) fits_then;
       unknown =
-          subst (λ (s : Layout × Layout). (stream : ℕ) → IsTrue (is_in s.1.order stream) → is_in s.0.order stream ≡ false → slice_get s.0.kinds stream ≡ None) (λ i. (sym at_one.layout i, sym is_told.layout i))
+          subst (λ (s : Layout × Layout). (stream : ℕ) → IsTrue (is_in s.1.order stream) → is_in s.0.order stream ≡ false → slice_get s.0.kinds stream ≡ None) (λ i. (sym at_one.layout i, (sym is_told.layout ∙ grown_alike) i))
           (newcomers_are_unknown old new added birth stands stands_then come);
     }
 
@@ -121,11 +116,11 @@ coming_stands = record {
     endings =
         subst (HasEndings after.network) (endings_then added before.closed_time told old new stands stands_then both.come both.is_told)
         (both.adds.inserted.endings (endings_in old) at_one.endings);
-    layout = both.adds.goes_over.same_layout ∙ both.is_told.layout;
+    layout = both.adds.goes_over.same_layout ∙ ap (λ (layout : Layout). grown layout told.growth) at_one.layout ∙ both.is_told.layout;
   };
   stands = λ added told old new before after history stands stands_then at_one both stands_for.
       subst (λ (lines : List BornLine). EngineStandsFor after lines history)
       (ap (λ (ls : List Line). born_lines (program_in old) ++ map (born_at before.closed_time) ls) both.is_told.lines ∙ sym (born_then added before.closed_time told old new stands stands_then both.come both.is_told))
-      (added_stands told.lines told.ends before.closed_time told.layout before after (born_lines (program_in old)) history stands_for both.closed refl (as_many added before.closed_time told old new stands stands_then both.come both.is_told) both.adds
+      (added_stands told.lines told.ends before.closed_time (grown before.layout told.growth) before after (born_lines (program_in old)) history stands_for both.closed refl (as_many added before.closed_time told old new stands stands_then both.come both.is_told) both.adds
       (grows added before.closed_time told old new stands stands_then both.come both.is_told before at_one));
 }

@@ -6,7 +6,7 @@ use Rattle.std.proofs.Math.Seq.{drop-cons}
 use Rattle.std.proofs.lemmas.Grind.{flat_map-append}
 use Rattle.std.proofs.lemmas.List.{drop-drop, length-drop, length-map, length-take-le, take-append-drop}
 use Rattle.std.proofs.lemmas.List.Elements.{All-map, All-weaker, All-contains_itself, Contains-append_left, Contains-append_right}
-use Rattle.automaton.specs.Layouts.{LayoutFits}
+use Rattle.automaton.specs.Layouts.{HasPart, LayoutFits, shrunk}
 use Rattle.automaton.specs.NetworkLines.{Ending, HasEndings}
 use Rattle.automaton.specs.Work.{ReadsNone, is_in}
 use Rattle.automaton.specs.declared.layout.Layout.{Layout}
@@ -140,30 +140,31 @@ module _ (number : ℕ) (old : Catalogued) (stands : StandsInOrder old) (within 
         ((sym left_ends ∙ ap (λ (c : Catalogued). c.ends) (sym left.catalogue)) i))
 
     module _ (stands_then : StandsInOrder new) where
-      pub fits_left : LayoutFits (map (λ (e : Ending). e.line) (staying dropped.ends (endings_in old))) dropped.layout
+      pub fits_left : LayoutFits (map (λ (e : Ending). e.line) (staying dropped.ends (endings_in old))) (shrunk old.layout dropped.part)
       fits_left =
           subst (λ (s : List Line × Layout). LayoutFits s.0 s.1) (λ i. (sym (ap (map (λ (e : Ending). e.line)) endings_left ∙ lines_are new stands_then) i, sym left.layout i)) stands_then.laid.fits
 
-      kinds_left : dropped.layout.kinds ≡ old.layout.kinds
-      kinds_left = ap (λ (layout : Layout). layout.kinds) left.layout ∙ ap (λ (c : Catalogued). c.layout.kinds) left.catalogue
-
       module _ (engine : EngineView) (at_one : AreAtOne old engine) where
+        -- the engine's layout shrinks as the catalogue's
+        shrunk_alike : shrunk old.layout dropped.part ≡ shrunk engine.layout dropped.part
+        shrunk_alike = ap (λ (layout : Layout). shrunk layout dropped.part) (sym at_one.layout)
+
         own_there : (end : ℕ) → Contains ns end → HasEnd engine.network end
         own_there end has = end_there old stands engine at_one end (subst (λ (es : List ℕ). Contains es end) (sym ends_is) (Contains-append_right ms (ns ++ os) end (Contains-append_left ns os end has)))
 
         -- what is given out may be removed
-        pub may_be_removed : MayBeRemoved dropped.ends dropped.layout engine
+        pub may_be_removed : MayBeRemoved dropped.ends dropped.part engine
         may_be_removed = record {
           apart = subst (AllPairs (λ x y. x ≢ y)) (sym left.ends) (first_apart ns os (second_apart ms (ns ++ os) apart));
           there = subst (All (HasEnd engine.network)) (sym left.ends) (All-weaker (Contains ns) (HasEnd engine.network) own_there ns (All-contains_itself ns));
-          fits = (endings_in old, at_one.endings, fits_left);
-          kinds = kinds_left ∙ ap (λ (layout : Layout). layout.kinds) (sym at_one.layout);
+          has_part = subst (λ (layout : Layout). HasPart layout dropped.part) (sym at_one.layout) left.there;
+          fits = (endings_in old, at_one.endings, subst (LayoutFits (map (λ (e : Ending). e.line) (staying dropped.ends (endings_in old)))) shrunk_alike fits_left);
         }
 
-        shrinks : LayoutShrinks dropped.ends (endings_in old) engine.layout dropped.layout
+        shrinks : LayoutShrinks dropped.ends (endings_in old) engine.layout (shrunk engine.layout dropped.part)
         shrinks = record {
           fits = subst (λ (s : List Line × Layout). LayoutFits s.0 s.1) (λ i. (sym (lines_are old stands) i, sym at_one.layout i)) stands.laid.fits;
-          fits_left = fits_left;
+          fits_left = subst (LayoutFits (map (λ (e : Ending). e.line) (staying dropped.ends (endings_in old)))) shrunk_alike fits_left;
         }
 
 -- what a catalogue gives out may be removed from its engine
@@ -176,11 +177,11 @@ leaving_stands = record {
   at_one = λ number dropped old new before after stands stands_then at_one both. record {
     merged = both.drops.goes_over.merged;
     endings = subst (HasEndings after.network) (endings_left number old stands both.within dropped new both.left) (both.drops.removed.endings (endings_in old) at_one.endings);
-    layout = both.drops.goes_over.same_layout ∙ both.left.layout;
+    layout = both.drops.goes_over.same_layout ∙ ap (λ (layout : Layout). shrunk layout dropped.part) at_one.layout ∙ both.left.layout;
   };
   stands = λ number dropped old new before after history stands stands_then at_one both stands_for.
       subst (λ (lines : List BornLine). EngineStandsFor after lines history) (ap (map born_by) (endings_left number old stands both.within dropped new both.left) ∙ born_are new stands_then)
-      (dropped_stands dropped.ends dropped.layout before after (endings_in old) history (subst (λ (lines : List BornLine). EngineStandsFor before lines history) (sym (born_are old stands)) stands_for) at_one.endings both.closed both.drops
+      (dropped_stands dropped.ends (shrunk before.layout dropped.part) before after (endings_in old) history (subst (λ (lines : List BornLine). EngineStandsFor before lines history) (sym (born_are old stands)) stands_for) at_one.endings both.closed both.drops
       (shrinks number old stands both.within dropped new both.left stands_then before at_one)
       (subst (λ (ends : List ℕ). ReadNoneThatGoes ends (endings_in old)) (sym both.left.ends) (none_read number old stands both.within both.unread)));
 }

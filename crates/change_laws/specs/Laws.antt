@@ -39,13 +39,13 @@ LastClosedIsLatest = (c : Catalogued) (engine : EngineView) (history : List Even
 abbrev pub ToldMayBeAdded : Type 0
 ToldMayBeAdded =
     (added : AddedQuery) (birth : Option ℕ) (told : Added) (old new : Catalogued) (engine : EngineView) → StandsInOrder old → StandsInOrder new → AreAtOne old engine
-    → HasCome old added birth new → IsTold old (coming old added birth) new told → MayBeAdded told.lines told.ends told.layout engine
+    → HasCome old added birth new → IsTold old (coming old added birth) new told → MayBeAdded told.lines told.ends told.growth engine
 
 -- what it gives out of a query that left may be removed from it
 abbrev pub DroppedMayBeRemoved : Type 0
 DroppedMayBeRemoved =
     (number : ℕ) (dropped : Dropped) (old new : Catalogued) (engine : EngineView) → StandsInOrder old → StandsInOrder new → AreAtOne old engine
-    → number < length old.order → IsLeft number dropped old new → MayBeRemoved dropped.ends dropped.layout engine
+    → number < length old.order → IsLeft number dropped old new → MayBeRemoved dropped.ends dropped.part engine
 
 -- where a query comes to both, they are at one again, and the engine stands for the program with the query and the same history
 pub record ComingStands : Type 0 where
