@@ -1,9 +1,9 @@
 //! Numbers that are marked.
-ghost use Rattle.std.specs.Prelude.{◌≡◌, ◌<◌, ◌≤◌, [], false, true, Contains, length, OnOk};
+ghost use Rattle.std.specs.Prelude.{◌≡◌, ◌<◌, [], false, true, Contains, length, OnOk};
 ghost use Rattle.std.specs.List.{All};
 ghost use Rattle.epoch_draft.specs.Marks.{AreLowered, AreMarks, MarksMore};
 
-use crate::filling::{fit, lengthen};
+use crate::filling::fit;
 use event_types::{List, Memory, Numbers};
 use std::alloc::Global;
 
@@ -25,18 +25,6 @@ impl Marks {
             flags: List::new(alloc),
             numbers: List::new(alloc),
         }
-    }
-
-    /// Makes room for the numbers below a bound, and for more where there was. Those that were marked still are, also
-    /// after want of memory.
-    pub fn grow(&mut self, bound: usize) -> Result<(), Memory>
-        requires { AreMarks self.old }
-        ensures are { AreMarks self.new }
-        ensures same { self.new.numbers ≡ self.old.numbers }
-        ensures longer { length self.old.flags ≤ length self.new.flags }
-        ensures long { OnOk result (bound ≤ length self.new.flags) }
-    {
-        lengthen(&mut self.flags, bound, false)
     }
 
     /// Takes each mark away, and makes room for exactly the numbers below a bound. After want of memory there may be

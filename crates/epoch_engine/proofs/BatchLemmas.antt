@@ -11,9 +11,10 @@ use Rattle.event_types.proofs.NumberLemmas.{other_number, same_number}
 use Rattle.epoch_draft.specs.Drafts.{DraftFits}
 use Rattle.epoch_draft.specs.declared.draft.Draft.{Draft}
 use Rattle.epoch_draft.proofs.AgendaLemmas.{first_or_other}
-use Rattle.epoch_engine.specs.Batches.{AreListed, ArePlacesOf, ArePrinted, HasPlaces, IsOfMade, made_for}
+use Rattle.epoch_engine.specs.Batches.{AreListed, ArePlacesOf, ArePrinted, ArePrints, IsOfMade, made_for}
 use Rattle.epoch_engine.specs.Entries.{AreEntriesOf, AreInOrder, AreWithin, lists_of, places_in, tuples_at}
 use Rattle.epoch_engine.specs.declared.entry.Entry.{Entry}
+use Rattle.epoch_engine.specs.declared.prints.Prints.{Prints}
 
 -- entries in order are the entries of their lists
 pub entries_of : (printed : ℕ) (made : List (List TupleView)) (entries : List Entry) → AreInOrder printed entries → AreWithin made entries → AreEntriesOf (lists_of printed made entries) made entries
@@ -34,12 +35,12 @@ listed_more outs places i entries entry lt at stream was = record {
 }
 
 -- entries for the places of the streams that are due
-pub printed_all : (outs : List ℕ) (streams : ℕ) (printed : List (List ℕ)) (made : List (List TupleView)) (due places : List ℕ) (entries : List Entry) → HasPlaces outs streams printed
-    → ((stream : ℕ) → (get_or made stream [] ≡ []) ⊎ Contains due stream) → ArePlacesOf printed due places → AreListed outs places entries → ArePrinted outs made entries
-printed_all outs streams printed made due places entries has all_due are listed = record {
+pub printed_all : (outs : List ℕ) (streams : ℕ) (prints : Prints) (made : List (List TupleView)) (due places : List ℕ) (entries : List Entry) → ArePrints outs streams prints
+    → ((stream : ℕ) → (get_or made stream [] ≡ []) ⊎ Contains due stream) → ArePlacesOf prints (length outs) due places → AreListed outs places entries → ArePrinted outs made entries
+printed_all outs streams prints made due places entries has all_due are listed = record {
   in_order = record {
     rise = subst IsStrictlyIncreasing (sym listed.places_are) are.rise;
-    below = subst (All (λ place. place < length outs)) (sym listed.places_are) (are.below (length outs) has.below);
+    below = subst (All (λ place. place < length outs)) (sym listed.places_are) are.noted.below;
   };
   streams = listed.streams;
   all = λ place lt. all place lt (all_due (get_or outs place 0));
@@ -47,7 +48,7 @@ printed_all outs streams printed made due places entries has all_due are listed 
   where
     all : (place : ℕ) → place < length outs → (get_or made (get_or outs place 0) [] ≡ []) ⊎ Contains due (get_or outs place 0) → (made_for outs made place ≡ []) ⊎ Contains (places_in entries) place
     all place lt (inl none) = inl none
-    all place lt (inr here) = inr (subst (λ (ps : List ℕ). Contains ps place) (sym listed.places_are) (are.all (get_or outs place 0) place here (has.all place lt)))
+    all place lt (inr here) = inr (subst (λ (ps : List ℕ). Contains ps place) (sym listed.places_are) (are.noted.all (get_or outs place 0) place here lt (λ once. has.arranged once place lt)))
 
 -- the streams of entries are those that are printed
 pub entries_within : (outs : List ℕ) (made : List (List TupleView)) (entries : List Entry) → All (λ stream. stream < length made) outs → ArePrinted outs made entries → AreWithin made entries

@@ -33,6 +33,7 @@ use Rattle.epoch_draft.specs.Deriving.{AreOpened, CanDraw}
 use Rattle.epoch_draft.specs.Drawings.{IsStill}
 use Rattle.epoch_draft.specs.Led.{AreLed}
 use Rattle.epoch_draft.specs.Drafts.{EndsBelow}
+use Rattle.epoch_draft.specs.Filling.{IsLengthened}
 use Rattle.epoch_draft.specs.Held.{SameStored, held, instances_in, shape_for, shape_of}
 use Rattle.epoch_draft.specs.Kindings.{EndFits}
 use Rattle.epoch_draft.specs.Stores.{AreNewStores}
@@ -292,6 +293,27 @@ touched_same tuples touched more h grown = record { are = grown.are; below = gro
     go : (t : ℕ) → (get_or tuples t [] ≡ []) ⊎ Contains touched.numbers t → (get_or tuples t [] ≡ []) ⊎ Contains more.numbers t
     go t (inl none) = inl none
     go t (inr there) = inr (marks_kept touched more grown t there)
+
+-- there may be more streams, which have no tuples
+pub touched_longer : (tuples more : List (List TupleView)) (touched now : Marks) → IsLengthened false touched.flags now.flags → now.numbers ≡ touched.numbers → IsLengthened [] tuples more → length now.flags ≡ length more → AreTouched tuples touched → AreTouched more now
+touched_longer tuples more touched now flags numbers longer many h = record {
+  are = record {
+    listed = λ n up. subst (λ (ns : List ℕ). Contains ns n) (sym numbers) (h.are.listed n (sym (flags.same n) ∙ up));
+    flagged = λ n c. flags.same n ∙ h.are.flagged n (subst (λ (ns : List ℕ). Contains ns n) numbers c);
+    once = subst (λ (ns : List ℕ). (place : ℕ) → place < length ns → Contains (take place ns) (get_or ns place 0) → ⊥) (sym numbers) h.are.once;
+  };
+  below = many;
+  all = λ s. go s (h.all s);
+}
+  where
+    go : (s : ℕ) → (get_or tuples s [] ≡ []) ⊎ Contains touched.numbers s → (get_or more s [] ≡ []) ⊎ Contains now.numbers s
+    go s (inl none) = inl (longer.same s ∙ none)
+    go s (inr there) = inr (subst (λ (ns : List ℕ). Contains ns s) (sym numbers) there)
+
+-- and they may be taken away again
+pub touched_back : (tuples back : List (List TupleView)) (touched : Marks) (flags : List Bool) (numbers : List ℕ) → flags ≡ touched.flags → numbers ≡ touched.numbers → back ≡ tuples → AreTouched tuples touched → AreTouched back (record { flags = flags; numbers = numbers })
+touched_back tuples back touched flags numbers same_flags same_numbers same h =
+    subst (λ (x : List (List TupleView) × Marks). AreTouched x.0 x.1) (λ i. (sym same i, record { flags = sym same_flags i; numbers = sym same_numbers i })) h
 
 -- each stream that has tuples is listed once
 pub opened_streams : (tuples : List (List TupleView)) (touched : Marks) (numbers : List ℕ) → AreTouched tuples touched → numbers ≡ touched.numbers → AreOpened tuples numbers

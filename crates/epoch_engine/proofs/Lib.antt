@@ -15,6 +15,7 @@ pub mod LineLemmas
 pub mod NetworkTests
 pub mod OverLemmas
 pub mod OverStandsLemmas
+pub mod PlanLemmas
 pub mod PrintedLemmas
 pub mod PurgeLemmas
 pub mod PurgedLemmas

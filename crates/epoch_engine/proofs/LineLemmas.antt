@@ -37,7 +37,7 @@ use Rattle.epoch_engine.proofs.EngineLemmas.{new_typed}
 use Rattle.epoch_engine.proofs.KindingLemmas.{step_kinds, step_kinds_are, turn_kinds, turn_kinds_are}
 
 -- a state is entered as its entrance says
-entered : (kinds : List (List Kind)) (net : Net) (kinding : Kinding) → StatesFit kinds net kinding → (n : ℕ) (e : Entrance) → entrance_at net n ≡ Some e → EntranceFits kinds kinding n e
+pub entered : (kinds : List (List Kind)) (net : Net) (kinding : Kinding) → StatesFit kinds net kinding → (n : ℕ) (e : Entrance) → entrance_at net n ≡ Some e → EntranceFits kinds kinding n e
 entered kinds net kinding fits n e is = go (state_at net n) refl
   where
     go : (o : Option State) → state_at net n ≡ o → EntranceFits kinds kinding n e

@@ -1,24 +1,33 @@
 -- Batches that are made of the tuples of streams. No public clause cites this module.
-use Rattle.std.specs.Prelude.{◌≡◌, ℕ, ◌<◌, ◌⊎◌, List, [], Contains, length, map, slice_index_or}
+use Rattle.std.specs.Prelude.{◌≡◌, ℕ, ◌<◌, ◌≤◌, ◌⊎◌, IsTrue, List, [], Contains, length, map, slice_index_or}
 use Rattle.std.specs.List.{All}
 use Rattle.std.specs.List.Sorted.{IsStrictlyIncreasing}
 use Rattle.event_types.specs.Tuple.{TupleView}
+use Rattle.epoch_draft.specs.Agenda.{AreArranged}
 use Rattle.epoch_draft.specs.Drafts.{DraftFits}
 use Rattle.epoch_engine.specs.Entries.{AreInOrder, AreWithin, places_in}
 use Rattle.epoch_engine.specs.declared.entry.Entry.{Entry}
+use Rattle.epoch_engine.specs.declared.prints.Prints.{Prints}
 use Rattle.epoch_engine.specs.declared.room.Room.{Room}
 
--- for each of so many streams at least the places at which it is printed, maybe more of those below the number of printed ones
-pub record HasPlaces (outs : List ℕ) (streams : ℕ) (printed : List (List ℕ)) : Type 0 where
-  pub as_many : length printed ≡ streams
-  pub below : (stream : ℕ) → All (λ place. place < length outs) (slice_index_or printed stream [])
-  pub all : (place : ℕ) → place < length outs → Contains (slice_index_or printed (slice_index_or outs place 0) []) place
+-- there is room for so many streams at least, and where each is printed once at most, it has its place
+pub record ArePrints (outs : List ℕ) (streams : ℕ) (prints : Prints) : Type 0 where
+  pub many : streams ≤ length prints.places
+  pub arranged : IsTrue prints.are_once → AreArranged outs prints.places
 
--- the places rise, what bounds the places of all streams bounds them, and all places of the streams that are due are among them
-pub record ArePlacesOf (printed : List (List ℕ)) (due places : List ℕ) : Type 0 where
+-- a place of a stream as far as is told: any place where streams may be printed more than once
+abbrev pub MayBePrinted : Prints → ℕ → ℕ → Type 0
+MayBePrinted prints stream place = IsTrue prints.are_once → slice_index_or prints.places stream 0 ≡ place
+
+-- the places are some of so many, and all of the streams that are due are among them
+pub record AreNoted (prints : Prints) (printed : ℕ) (due places : List ℕ) : Type 0 where
+  pub below : All (λ place. place < printed) places
+  pub all : (stream place : ℕ) → Contains due stream → place < printed → MayBePrinted prints stream place → Contains places place
+
+-- so they are, and they rise
+pub record ArePlacesOf (prints : Prints) (printed : ℕ) (due places : List ℕ) : Type 0 where
+  pub noted : AreNoted prints printed due places
   pub rise : IsStrictlyIncreasing places
-  pub below : (bound : ℕ) → ((stream : ℕ) → All (λ place. place < bound) (slice_index_or printed stream [])) → All (λ place. place < bound) places
-  pub all : (stream place : ℕ) → Contains due stream → Contains (slice_index_or printed stream []) place → Contains places place
 
 -- the tuples that were made for the stream that is printed at a place
 abbrev pub made_for : List ℕ → List (List TupleView) → ℕ → List TupleView

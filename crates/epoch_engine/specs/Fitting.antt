@@ -1,5 +1,5 @@
 -- Stores that are made to fit a network. No public clause cites this module.
-use Rattle.std.specs.Prelude.{◌≡◌, ⊤, ◌≤◌, ℕ, if◌then◌else◌, List, [], length, Option, Some, None, is_some, slice_index_or}
+use Rattle.std.specs.Prelude.{◌≡◌, ⊤, ◌≤◌, ◌⊎◌, ℕ, Contains, if◌then◌else◌, List, [], length, Option, Some, None, is_some, slice_index_or}
 use Rattle.std.specs.Option.{option_map}
 use Rattle.binding_index.specs.Leads.{ready_in}
 use Rattle.binding_index.specs.declared.store.Store.{Store}
@@ -44,3 +44,11 @@ pub record IsPadded (places : ℕ) (old new : List (Option Store)) : Type 0 wher
 pub record AreLeft (net : Net) (old new : List (Option Store)) : Type 0 where
   pub as_many : length new ≡ length net
   pub each : (number : ℕ) → slice_index_or new number None ≡ (if is_some (wait_at net number) then slice_index_or old number None else None)
+
+-- each waiting state has a store, but for some of these
+abbrev pub HaveStoresBut : Net → List ℕ → List (Option Store) → Type 0
+HaveStoresBut net states stores = (number : ℕ) (wait : Wait) → wait_at net number ≡ Some wait → slice_index_or stores number None ≡ None → Contains states number
+
+-- where no state waits there is no store, but for some of these
+abbrev pub HaveNoStoresBut : Net → List ℕ → List (Option Store) → Type 0
+HaveNoStoresBut net states stores = (number : ℕ) → wait_at net number ≡ None → (slice_index_or stores number None ≡ None) ⊎ Contains states number

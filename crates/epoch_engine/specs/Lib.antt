@@ -9,6 +9,7 @@ pub mod Entries
 pub mod Fitting
 pub mod Laws
 pub mod Offers
+pub mod Planning
 pub mod Running
 pub mod Starts
 pub mod Taking

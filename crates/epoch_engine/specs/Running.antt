@@ -1,5 +1,5 @@
 -- What holds of the parts of an engine. No public clause cites this module.
-use Rattle.std.specs.Prelude.{◌≡◌, ℕ, ◌⊎◌, false, Box, IfSome, IsTrue, List, [], Contains, length, Option, slice_index_or}
+use Rattle.std.specs.Prelude.{◌≡◌, ℕ, ◌⊎◌, Box, IfSome, IsTrue, List, [], Contains, length, Option, slice_index_or}
 use Rattle.std.specs.List.{All}
 use Rattle.std.specs.declared.alloc.Global.{Global}
 use Rattle.event_types.specs.Tuple.{TupleView}
@@ -7,7 +7,7 @@ use Rattle.binding_index.specs.declared.store.Store.{Store}
 use Rattle.automaton.specs.NetworkLines.{NetworkFits}
 use Rattle.automaton.specs.Work.{is_in}
 use Rattle.epoch_draft.specs.Agenda.{ArePlaces}
-use Rattle.epoch_draft.specs.Deriving.{AreReadersOfAll, CanDraw}
+use Rattle.epoch_draft.specs.Deriving.{CanDraw}
 use Rattle.epoch_draft.specs.Drafts.{DraftFits}
 use Rattle.epoch_draft.specs.Drawings.{IsStill}
 use Rattle.epoch_draft.specs.Led.{AreLed}
@@ -15,22 +15,17 @@ use Rattle.epoch_draft.specs.Marks.{AreMarks}
 use Rattle.epoch_draft.specs.Watching.{Watches}
 use Rattle.epoch_draft.specs.declared.drawing.Drawing.{Drawing}
 use Rattle.epoch_draft.specs.declared.marks.Marks.{Marks}
-use Rattle.epoch_engine.specs.Batches.{HasPlaces}
+use Rattle.epoch_engine.specs.Batches.{ArePrints}
 use Rattle.epoch_engine.specs.declared.epoch.Epoch.{Epoch}
 use Rattle.epoch_engine.specs.declared.holdings.Holdings.{Holdings}
 use Rattle.epoch_engine.specs.declared.plan.Plan.{Plan}
 use Rattle.epoch_engine.specs.declared.room.Room.{Room}
 
--- the readers are the network's, each stream has its place in the order of work, and each stream with kinds has at least the places at which it is printed
-pub record FindsStreams (plan : Plan) : Type 0 where
-  pub readers : AreReadersOfAll plan.merged plan.layout plan.readers
-  pub places : ArePlaces plan.merged plan.layout.order (length plan.layout.kinds) plan.places
-  pub places_printed : HasPlaces plan.layout.outs (length plan.layout.kinds) plan.out_places
-
--- all printed streams are derived, and unless the plan is stale streams are found by it
+-- all printed streams are derived, each stream has its place in the order of work, and each printed one that at which it is printed
 pub record IsPlan (plan : Plan) : Type 0 where
   pub printed : All (λ stream. IsTrue (is_in plan.layout.order stream)) plan.layout.outs
-  pub finds : plan.is_stale ≡ false → FindsStreams plan
+  pub places : ArePlaces plan.merged plan.layout.order (length plan.layout.kinds) plan.places
+  pub prints : ArePrints plan.layout.outs (length plan.layout.kinds) plan.prints
 
 -- at least those streams that have tuples are marked, maybe some more
 pub record AreTouched (tuples : List (List TupleView)) (touched : Marks) : Type 0 where

@@ -1,5 +1,5 @@
 //! The closing of an epoch.
-ghost use Rattle.std.specs.Prelude.{◌≡◌, ◌+◌, ◌≤◌, IsSome, OnErr, OnOk, false, length};
+ghost use Rattle.std.specs.Prelude.{◌≡◌, ◌+◌, ◌≤◌, IsSome, OnErr, OnOk, length};
 ghost use Rattle.epoch_draft.specs.Held.{SameStored};
 ghost use Rattle.epoch_draft.specs.Led.{AreLed};
 ghost use Rattle.epoch_draft.specs.Readying.{HaveRoom};
@@ -27,7 +27,6 @@ pub(crate) fn take_epoch<L: Ledger>(
     steps: &mut Steps<L>,
 ) -> Result<(), Memory>
     requires running { IsRunning plan.now holdings.old.stores epoch.now }
-    requires fresh { plan.now.is_stale ≡ false }
     requires led { AreLed plan.now.merged holdings.old.keys holdings.old.stores }
     requires watches { Watches holdings.old.deadlines holdings.old.stores }
     requires opened { IsSome epoch.now.time }
@@ -55,7 +54,6 @@ fn draw_epoch<L: Ledger>(
     steps: &mut Steps<L>,
 ) -> Result<(), Memory>
     requires running { IsRunning plan.now holdings.old.stores epoch.now }
-    requires fresh { plan.now.is_stale ≡ false }
     requires led { AreLed plan.now.merged holdings.old.keys holdings.old.stores }
     requires watches { Watches holdings.old.deadlines holdings.old.stores }
     requires still { IsStillFor plan.now room.old.drawing }
@@ -68,11 +66,14 @@ fn draw_epoch<L: Ledger>(
     ensures takes { OnOk result (TakesWithin plan.now holdings.new.stores epoch.now room.new.drawing) }
     ensures ticks { steps.new ≤ steps.old + drawing_work plan.now holdings.old.stores epoch.now }
 {
+    let Some(readers) = plan.merged.readers() else {
+        return Err(Memory);
+    };
     let stored = StoredNetwork {
         network: plan.merged.network(),
         layout: &plan.layout,
-        readers: &plan.readers,
-        places: plan.places.as_slice(),
+        readers,
+        places: &plan.places,
         keys: &holdings.keys,
         stores: &holdings.stores,
     };

@@ -33,7 +33,7 @@ pub struct Engine {
     pub(crate) plan: Plan,
     pub(crate) holdings: Holdings,
     pub(crate) epoch: Epoch,
-    // None while a batch is lent, after a closing was refused, and after lines came or left.
+    // None while a batch is lent, after a closing was refused, and where memory was wanting.
     pub(crate) room: Option<Box<Room>>,
     closed_time: Option<u64>,
 }

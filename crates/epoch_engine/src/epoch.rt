@@ -1,10 +1,11 @@
 //! The epoch that is open.
-ghost use Rattle.std.specs.Prelude.{◌≡◌, ℕ, ◌<◌, ◌∷◌, ◌++◌, [], None, length, slice_index_or, slice_set, IfErr, IfOk, OnErr, OnOk};
+ghost use Rattle.std.specs.Prelude.{◌≡◌, ℕ, ◌<◌, ◌≤◌, ◌∷◌, ◌++◌, [], None, false, length, slice_index_or, slice_set, IfErr, IfOk, OnErr, OnOk};
+ghost use Rattle.epoch_draft.specs.Filling.{IsLengthened};
 ghost use Rattle.epoch_engine.specs.Running.{AreTouched};
 
 use crate::spare::Spare;
-use epoch_draft::{Lists, Marks, empty_lists};
-use event_types::{Memory, StreamId, Tuple};
+use epoch_draft::{Lists, Marks, lengthen, lengthen_lists};
+use event_types::{List, Memory, StreamId, Tuple};
 use std::alloc::Global;
 
 /// The tuples of each stream, the streams that have some, the time, where an epoch is open, and the room that values of
@@ -25,15 +26,51 @@ impl Epoch {
         ensures touched { IfOk result (λ epoch. AreTouched epoch.tuples epoch.touched) }
         ensures time { IfOk result (λ epoch. epoch.time ≡ None) }
     {
-        let tuples = empty_lists(alloc, streams)?;
-        let touched = Marks::make(alloc, streams)?;
         let spare = Spare::make(alloc)?;
-        Ok(Epoch {
-            tuples,
-            touched,
+        let mut epoch = Epoch {
+            tuples: List::new(alloc),
+            touched: Marks::new(alloc),
             time: None,
             spare,
-        })
+        };
+        epoch.grow(alloc, streams)?;
+        Ok(epoch)
+    }
+
+    /// Makes room for so many streams. Want of memory leaves the tuples as they were.
+    pub(crate) fn grow(&mut self, alloc: Global, streams: usize) -> Result<(), Memory>
+        requires touched { AreTouched self.old.tuples self.old.touched }
+        requires streams { length self.old.tuples ≤ streams }
+        ensures as_many { OnOk result (length self.new.tuples ≡ streams) }
+        ensures more { OnOk result (IsLengthened [] self.old.tuples self.new.tuples) }
+        ensures kept { OnErr result (self.new.tuples ≡ self.old.tuples) }
+        ensures touched { AreTouched self.new.tuples self.new.touched }
+        ensures time { self.new.time ≡ self.old.time }
+    {
+        let had = self.tuples.len();
+        match self.lengthen(alloc, streams) {
+            Ok(()) => Ok(()),
+            Err(fault) => {
+                self.touched.flags.truncate(had);
+                self.tuples.truncate(had);
+                Err(fault)
+            }
+        }
+    }
+
+    // The same, where want of memory may leave more room than before.
+    fn lengthen(&mut self, alloc: Global, streams: usize) -> Result<(), Memory>
+        requires flags { length self.old.touched.flags ≤ streams }
+        requires tuples { length self.old.tuples ≤ streams }
+        ensures flags { IsLengthened false self.old.touched.flags self.new.touched.flags }
+        ensures tuples { IsLengthened [] self.old.tuples self.new.tuples }
+        ensures many_flags { OnOk result (length self.new.touched.flags ≡ streams) }
+        ensures many_tuples { OnOk result (length self.new.tuples ≡ streams) }
+        ensures numbers { self.new.touched.numbers ≡ self.old.touched.numbers }
+        ensures time { self.new.time ≡ self.old.time }
+    {
+        lengthen(&mut self.touched.flags, streams, false)?;
+        lengthen_lists(alloc, &mut self.tuples, streams)
     }
 
     /// Puts a tuple behind those of its stream. Want of memory hands it back.

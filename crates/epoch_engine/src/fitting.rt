@@ -1,7 +1,7 @@
 //! Stores that are made to fit a network.
-ghost use Rattle.std.specs.Prelude.{◌≡◌, ◌≢◌, ◌<◌, ◌≤◌, ℕ, None, if◌then◌else◌, is_some, IfOk, OnErr, OnOk, length, slice_index_or};
+ghost use Rattle.std.specs.Prelude.{◌≡◌, ◌≢◌, ◌<◌, ◌≤◌, ℕ, None, if◌then◌else◌, is_some, All, IfOk, OnErr, OnOk, length, slice_index_or};
 ghost use Rattle.automaton.specs.States.{wait_at};
-ghost use Rattle.epoch_engine.specs.Fitting.{AreGrown, AreLeft, IsEmptyFor, IsGrownSlot, IsPadded, KeepStores};
+ghost use Rattle.epoch_engine.specs.Fitting.{AreGrown, AreLeft, HaveNoStoresBut, HaveStoresBut, IsEmptyFor, IsGrownSlot, IsPadded, KeepStores};
 
 use automaton::Network;
 use binding_index::Store;
@@ -9,19 +9,22 @@ use epoch_draft::Stores;
 use event_types::Memory;
 use std::alloc::Global;
 
-// Gives an empty store to each waiting state that has none.
+// Gives an empty store to each waiting state of these numbers that has none; the others have theirs.
 pub(crate) fn add_stores(
     alloc: Global,
     network: &Network,
     stores: &mut Stores,
+    came: &[usize],
 ) -> Result<(), Memory>
-    requires { length stores.old ≤ length network.now }
+    requires shorter { length stores.old ≤ length network.now }
+    requires below { All (λ state. state < length network.now) came.now }
+    requires came { HaveStoresBut network.now came.now stores.old }
     ensures grown { OnOk result (AreGrown network.now stores.old stores.new) }
     ensures kept { OnErr result (KeepStores network.now stores.old stores.new) }
 {
     lengthen(stores, network.places())?;
-    for number in 0..network.places() {
-        add_store(alloc, network, stores, number)?;
+    for number in came {
+        add_store(alloc, network, stores, *number)?;
     }
     Ok(())
 }
@@ -82,6 +85,21 @@ pub(crate) fn drop_stores(network: &Network, stores: &mut Stores)
     stores.truncate(network.places());
     for number in 0..network.places() {
         drop_store(network, stores, number);
+    }
+}
+
+// Drops the stores of these numbers where no state waits, and the places behind the network's. Takes no memory.
+pub(crate) fn drop_noted(network: &Network, stores: &mut Stores, noted: &[usize])
+    requires longer { length network.now ≤ length stores.old }
+    requires noted { HaveNoStoresBut network.now noted.now stores.old }
+    ensures { AreLeft network.now stores.old stores.new }
+{
+    stores.truncate(network.places());
+    for number in noted {
+        if *number >= network.places() {
+            continue;
+        }
+        drop_store(network, stores, *number);
     }
 }
 

@@ -16,6 +16,7 @@ mod fitting;
 mod holdings;
 mod laws;
 mod plan;
+mod prints;
 mod removing;
 mod room;
 mod spare;

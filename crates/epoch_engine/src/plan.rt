@@ -1,28 +1,25 @@
 //! What an engine closes its epochs by.
-ghost use Rattle.std.specs.Prelude.{◌≡◌, ◌<◌, IfOk, OnOk, false};
+ghost use Rattle.std.specs.Prelude.{◌≡◌, ◌<◌, IfOk, IsTrue, OnOk, length};
 ghost use Rattle.std.specs.List.{All};
 ghost use Rattle.automaton.specs.NetworkLines.{NetworkFits};
-ghost use Rattle.epoch_engine.specs.Batches.{HasPlaces};
+ghost use Rattle.epoch_draft.specs.Agenda.{AreArrangedUpTo};
+ghost use Rattle.epoch_engine.specs.Planning.{AreReadBut, GrowsRoom, HasRoom};
 ghost use Rattle.epoch_engine.specs.Running.{IsPlan};
 
 use automaton::Layout;
-use epoch_draft::{empty_lists, places_of};
-use event_types::{List, Memory, Numbers};
+use crate::prints::Prints;
+use epoch_draft::StreamPlaces;
+use event_types::Memory;
 use prefix_merge::Merged;
 use std::alloc::Global;
-use stream_readers::Readers;
 
-/// A merged network and its layout, what reads each stream and its place in the order of work, and for each stream
-/// the places at which it is printed. Places are counted from 0. A stale plan is that of other lines, but for its
-/// network and its layout.
+/// A merged network and its layout, the places of streams in the order of work, and those at which they are printed.
 #[derive(Drop)]
 pub struct Plan {
     pub merged: Merged,
     pub layout: Layout,
-    pub readers: Readers,
-    pub places: Numbers,
-    pub out_places: List<Numbers>,
-    pub is_stale: bool,
+    pub places: StreamPlaces,
+    pub prints: Prints,
 }
 
 impl Plan {
@@ -32,68 +29,59 @@ impl Plan {
         ensures merged { IfOk result (λ plan. plan.merged ≡ merged) }
         ensures layout { IfOk result (λ plan. plan.layout ≡ layout) }
         ensures is { IfOk result IsPlan }
-        ensures fresh { IfOk result (λ plan. plan.is_stale ≡ false) }
     {
-        let mut plan = Plan {
+        let streams = layout.kinds.len();
+        let network = merged.network();
+        let places = StreamPlaces::make(alloc, network, layout.order.as_slice(), streams)?;
+        let mut prints = Prints::new(alloc);
+        prints.grow(streams)?;
+        prints.arrange(layout.outs.as_slice(), 0);
+        Ok(Plan {
             merged,
             layout,
-            readers: Readers::new(alloc),
-            places: List::new(alloc),
-            out_places: List::new(alloc),
-            is_stale: true,
-        };
-        plan.refresh(alloc)?;
-        Ok(plan)
+            places,
+            prints,
+        })
     }
 
-    /// Makes the readers and the places of streams anew, if the plan is stale. Want of memory leaves it so.
+    /// Makes room for so many streams. After want of memory there may be room for more than before.
+    pub(crate) fn grow(&mut self, streams: usize) -> Result<(), Memory>
+        ensures more { GrowsRoom self.old self.new }
+        ensures room { OnOk result (HasRoom streams self.new) }
+        ensures merged { self.new.merged ≡ self.old.merged }
+        ensures layout { self.new.layout ≡ self.old.layout }
+    {
+        self.places.grow(streams)?;
+        self.prints.grow(streams)
+    }
+
+    /// Goes over to its network and its layout, to which the states with these numbers came: tells what these read, and
+    /// gives the streams of the order of work and those that are printed their places, from one place on in each. Takes no
+    /// memory.
+    pub(crate) fn go_over(&mut self, came: &[usize], worked: usize, printed: usize)
+        requires fits { NetworkFits self.old.merged self.old.layout }
+        requires room { HasRoom (length self.old.layout.kinds) self.old }
+        requires came { All (λ state. state < length self.old.merged) came.now }
+        requires read { AreReadBut self.old came.now }
+        requires worked { AreArrangedUpTo worked self.old.layout.order self.old.places.places }
+        requires printed { IsTrue self.old.prints.are_once → AreArrangedUpTo printed self.old.layout.outs self.old.prints.places }
+        ensures is { IsPlan self.new }
+        ensures merged { self.new.merged ≡ self.old.merged }
+        ensures layout { self.new.layout ≡ self.old.layout }
+    {
+        self.places.tell(self.merged.network(), came);
+        self.places.arrange(self.layout.order.as_slice(), worked);
+        self.prints.arrange(self.layout.outs.as_slice(), printed);
+    }
+
+    /// Makes what reads each stream, where want of memory has left it out.
     #[inline(always)]
     pub(crate) fn refresh(&mut self, alloc: Global) -> Result<(), Memory>
-        requires fits { NetworkFits self.old.merged self.old.layout }
-        requires is { IsPlan self.old }
+        requires { IsPlan self.old }
         ensures is { IsPlan self.new }
-        ensures fresh { OnOk result (self.new.is_stale ≡ false) }
         ensures merged { self.new.merged ≡ self.old.merged }
         ensures layout { self.new.layout ≡ self.old.layout }
     {
-        if self.is_stale {
-            self.renew(alloc)
-        } else {
-            Ok(())
-        }
+        self.merged.refile(alloc)
     }
-
-    // Makes the readers and the places of streams anew. Want of memory leaves the plan as it was.
-    #[inline(never)]
-    fn renew(&mut self, alloc: Global) -> Result<(), Memory>
-        requires fits { NetworkFits self.old.merged self.old.layout }
-        requires is { IsPlan self.old }
-        ensures is { IsPlan self.new }
-        ensures fresh { OnOk result (self.new.is_stale ≡ false) }
-        ensures merged { self.new.merged ≡ self.old.merged }
-        ensures layout { self.new.layout ≡ self.old.layout }
-    {
-        let streams = self.layout.kinds.len();
-        let network = self.merged.network();
-        let readers = Readers::make(alloc, network, streams)?;
-        let places = places_of(alloc, network, self.layout.order.as_slice(), streams)?;
-        let out_places = printed_places(alloc, &self.layout.outs, streams)?;
-        self.readers = readers;
-        self.places = places;
-        self.out_places = out_places;
-        self.is_stale = false;
-        Ok(())
-    }
-}
-
-// For each of so many streams the places at which it stands, in ascending order.
-fn printed_places(alloc: Global, outs: &Numbers, streams: usize) -> Result<List<Numbers>, Memory>
-    requires { All (λ stream. stream < streams) outs.now }
-    ensures { IfOk result (HasPlaces outs.now streams) }
-{
-    let mut printed = empty_lists(alloc, streams)?;
-    for (place, stream) in outs.as_slice().iter().enumerate() {
-        printed.get_mut(*stream).add(place)?;
-    }
-    Ok(printed)
 }

@@ -1,30 +1,36 @@
 //! Lines that leave an engine.
-ghost use Rattle.std.specs.Prelude.{◌≡◌, ◌≢◌, None, All, AllPairs};
+ghost use Rattle.std.specs.Prelude.{◌≡◌, ◌≢◌, ◌<◌, ◌≤◌, None, All, AllPairs, length};
+ghost use Rattle.automaton.specs.Layouts.{shrunk};
 ghost use Rattle.prefix_merge.specs.Merging.{HasEnd};
 ghost use Rattle.epoch_engine.specs.Adding.{Drops, FitsWithout};
 
 use crate::engine::Engine;
-use automaton::Layout;
+use crate::room::fit_room;
+use automaton::Shrinkage;
 use event_types::Numbers;
 
 impl Engine {
-    /// Takes the lines of these ends away, with what waits at states that no other line has. The layout is one for the
-    /// lines that stay. Takes no memory.
-    pub fn remove(&mut self, ends: &Numbers, layout: Layout)
+    /// Takes the lines of these ends away, with what waits at states that no other line has. The layout without the part is
+    /// one for the lines that stay. Memory is asked for, for the numbers of the states that leave, and where it is wanting all
+    /// states are looked at.
+    pub fn remove(&mut self, ends: &Numbers, part: Shrinkage)
         requires closed { self.old.time ≡ None }
         requires apart { AllPairs (λ end other. end ≢ other) ends.now }
         requires there { All (HasEnd self.old.network) ends.now }
-        requires fits { FitsWithout self.old.network ends.now layout }
-        requires kinds { layout.kinds ≡ self.old.layout.kinds }
-        ensures { Drops ends.now layout self.old self.new }
+        requires up { part.first ≤ part.end }
+        requires within { part.end ≤ length self.old.layout.order }
+        requires printed { part.out < length self.old.layout.outs }
+        requires fits { FitsWithout self.old.network ends.now (shrunk self.old.layout part) }
+        ensures { Drops ends.now (shrunk self.old.layout part) self.old self.new }
     {
-        let left = &mut self.holdings.left;
-        self.plan.merged.remove_first(ends, ends.len(), left);
-        left.clear();
+        self.holdings.left.clear();
+        self.plan
+            .merged
+            .remove_first(ends, ends.len(), &mut self.holdings.left);
         self.holdings.shrink(self.plan.merged.network());
         self.epoch.close();
-        self.plan.layout = layout;
-        self.plan.is_stale = true;
-        self.room = None;
+        self.plan.layout.shrink(part);
+        self.plan.go_over(&[], part.first, part.out);
+        fit_room(&mut self.room, &self.plan);
     }
 }

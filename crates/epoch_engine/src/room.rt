@@ -1,13 +1,15 @@
 //! The room in which an epoch is closed.
-ghost use Rattle.std.specs.Prelude.{◌≡◌, ◌==◌, ◌<◌, ◌&&◌, ◌++◌, IfOk, IsTrue, OnOk, length};
+ghost use Rattle.std.specs.Prelude.{◌≡◌, ◌==◌, ◌<◌, ◌&&◌, ℕ, List, [], IfOk, IfSome, IsTrue, OnOk, length};
 ghost use Rattle.std.specs.List.{All};
 ghost use Rattle.automaton.specs.Networks.{IsNetwork};
 ghost use Rattle.epoch_draft.specs.Drafts.{DraftFits};
-ghost use Rattle.epoch_engine.specs.Batches.{AreListed, ArePlacesOf, ArePrinted};
-ghost use Rattle.epoch_engine.specs.Running.{FindsStreams, FitsPlan, IsStillFor};
+ghost use Rattle.epoch_engine.specs.Batches.{AreListed, AreNoted, ArePlacesOf, ArePrinted};
+ghost use Rattle.epoch_engine.specs.declared.prints.Prints.{Prints};
+ghost use Rattle.epoch_engine.specs.Running.{FitsPlan, IsPlan, IsStillFor};
 
 use crate::entry::{Entries, Entry};
 use crate::plan::Plan;
+use crate::prints::Prints;
 use epoch_draft::Drawing;
 use event_types::{List, Memory, Numbers};
 use std::alloc::Global;
@@ -39,6 +41,16 @@ impl Room {
         }
     }
 
+    /// Forgets what was drawn, and makes room for the streams and the states of a plan. After want of memory the room is
+    /// of no more use.
+    pub(crate) fn fit(&mut self, plan: &Plan) -> Result<(), Memory>
+        requires { DraftFits (length self.old.drawing.draft.made) (length self.old.drawing.draft.beads) self.old.drawing.draft }
+        ensures { OnOk result (IsStillFor plan.now self.new.drawing) }
+    {
+        let states = plan.merged.network().places();
+        self.drawing.fit(states, plan.layout.kinds.len())
+    }
+
     /// Whether there is room for the streams and the states of a plan.
     fn fits(&self, plan: &Plan) -> bool
         ensures { result ≡ ((length self.now.drawing.draft.made == length plan.now.layout.kinds) && (length self.now.drawing.draft.beads == length plan.now.merged)) }
@@ -63,43 +75,93 @@ impl Room {
     /// Lists an entry for each place at which a stream is printed that is due. After want of memory the entries are of
     /// no more use.
     pub(crate) fn list(&mut self, plan: &Plan) -> Result<(), Memory>
-        requires plan { FindsStreams plan.now }
+        requires plan { IsPlan plan.now }
         requires fits { FitsPlan plan.now self.old.drawing }
         ensures listed { OnOk result (ArePrinted plan.now.layout.outs self.old.drawing.draft.made self.new.entries) }
         ensures same { self.new.drawing ≡ self.old.drawing }
     {
         let due = self.drawing.draft.due.numbers.as_slice();
-        list_places(&mut self.places, &plan.out_places, due)?;
+        list_places(&mut self.places, &plan.prints, plan.layout.outs.len(), due)?;
         list_entries(&mut self.entries, &plan.layout.outs, self.places.as_slice())
     }
 }
 
-// The places at which these streams are printed, in ascending order.
+/// Fits the room that is kept, if any is, to a plan. Want of memory drops it.
+pub(crate) fn fit_room(kept: &mut Option<Box<Room>>, plan: &Plan)
+    requires { IfSome kept.old (λ room. DraftFits (length room.value.drawing.draft.made) (length room.value.drawing.draft.beads) room.value.drawing.draft) }
+    ensures { IfSome kept.new (λ room. IsStillFor plan.now room.value.drawing) }
+{
+    if let Some(mut room) = kept.take() {
+        if room.fit(plan).is_ok() {
+            *kept = Some(room);
+        }
+    }
+}
+
+// Places at which streams are printed, of so many, in ascending order: at least those of these streams.
 fn list_places(
     places: &mut Vec<usize>,
-    printed: &List<Numbers>,
+    prints: &Prints,
+    printed: usize,
     due: &[usize],
 ) -> Result<(), Memory>
-    requires { All (λ stream. stream < length printed.now) due.now }
-    ensures { OnOk result (ArePlacesOf printed.now due.now places.new.items) }
+    requires { All (λ stream. stream < length prints.now.places) due.now }
+    ensures { OnOk result (ArePlacesOf prints.now printed due.now places.new.items) }
 {
-    places.clear();
-    for stream in due {
-        append_places(places, printed.get(*stream).as_slice())?;
-    }
+    note_places(places, prints, printed, due)?;
     places.sort_unstable();
     places.dedup();
     Ok(())
 }
 
-// Puts places behind those that are there.
-#[inline(always)]
-fn append_places(places: &mut Vec<usize>, more: &[usize]) -> Result<(), Memory>
-    ensures { OnOk result (places.new.items ≡ places.old.items ++ more.now) }
+// Notes at least the places of these streams, as far as they are of so many.
+fn note_places(
+    places: &mut Vec<usize>,
+    prints: &Prints,
+    printed: usize,
+    due: &[usize],
+) -> Result<(), Memory>
+    requires { All (λ stream. stream < length prints.now.places) due.now }
+    ensures { OnOk result (AreNoted prints.now printed due.now places.new.items) }
 {
-    match more {
-        [place] => places.push(*place)?,
-        _ => places.extend_from_slice(more)?,
+    places.clear();
+    if prints.are_once {
+        return note_due(places, prints, printed, due);
+    }
+    note_all(places, printed)?;
+    Ok(())
+}
+
+// Notes the places of these streams, as far as they are of so many.
+#[inline(always)]
+fn note_due(
+    places: &mut Vec<usize>,
+    prints: &Prints,
+    printed: usize,
+    due: &[usize],
+) -> Result<(), Memory>
+    requires once { IsTrue prints.now.are_once }
+    requires empty { places.old.items ≡ [] }
+    requires below { All (λ stream. stream < length prints.now.places) due.now }
+    ensures { OnOk result (AreNoted prints.now printed due.now places.new.items) }
+{
+    for stream in due {
+        let place = *prints.places.get(*stream);
+        if place >= printed {
+            continue;
+        }
+        places.push(place)?;
+    }
+    Ok(())
+}
+
+// Notes so many places.
+fn note_all(places: &mut Vec<usize>, printed: usize) -> Result<(), Memory>
+    requires { places.old.items ≡ [] }
+    ensures { OnOk result ((prints : Prints) (due : List ℕ) → AreNoted prints printed due places.new.items) }
+{
+    for place in 0..printed {
+        places.push(place)?;
     }
     Ok(())
 }

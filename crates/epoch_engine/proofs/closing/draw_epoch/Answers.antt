@@ -3,7 +3,8 @@ use Rattle.semantics.specs.Denotation.{streams_of}
 use Rattle.automaton.specs.States.{Net}
 use Rattle.epoch_laws.specs.Closing.{Stores}
 use Rattle.epoch_draft.specs.Agenda.{ArePlaces}
-use Rattle.epoch_draft.specs.Deriving.{AreReadersOfAll, DrawnUpTo, news_of}
+use Rattle.stream_readers.specs.Readers.{AreReadersOf}
+use Rattle.epoch_draft.specs.Deriving.{DrawnUpTo, news_of}
 use Rattle.epoch_draft.specs.Drafts.{DraftFits}
 use Rattle.epoch_draft.specs.declared.drawing.Drawing.{Drawing}
 use Rattle.epoch_draft.proofs.StoreLemmas.{drawn_same, held_same, stored_same, typed_has}
@@ -23,12 +24,10 @@ draw-requires-clause-touched g c = opened_streams c.args.epoch.now.tuples c.args
 pub draw-requires-clause-can_read : goal.draw-requires-clause-can_read
 draw-requires-clause-can_read g c =
     let plan = c.args.plan.now in
-    let is = c.requires.running.plan_is.finds c.requires.fresh in
+    let is = c.requires.running.plan_is in
     record {
-      readers = subst (λ (net : Net). AreReadersOfAll net plan.layout plan.readers) (sym c.network.ensures.value) is.readers;
-      places =
-          subst (λ (net : Net). ArePlaces net plan.layout.order (length plan.layout.kinds) c.as_slice.result.now) (sym c.network.ensures.value)
-          (subst (λ (places : List ℕ). ArePlaces plan.merged plan.layout.order (length plan.layout.kinds) places) (sym c.as_slice.ensures) is.places);
+      readers = subst (λ (net : Net). AreReadersOf net c.in-Some.readers.now) (sym c.network.ensures.value) c.in-Some.ensures;
+      places = subst (λ (net : Net). ArePlaces net plan.layout.order (length plan.layout.kinds) plan.places) (sym c.network.ensures.value) is.places;
       led = subst (λ (net : Net). AreLed net c.args.holdings.now.keys c.args.holdings.now.stores) (sym c.network.ensures.value) c.requires.led;
     }
 

@@ -1,20 +1,24 @@
-use Rattle.std.proofs.Common.{◌≡◌, ◌∙◌, ap, refl, subst, sym, ℕ, List, length, take, true, arith}
-use Rattle.std.specs.Prelude.{All}
+use Rattle.std.proofs.Common.{◌≡◌, ◌∙◌, cond, map, refl, subst, sym, ℕ, List, [], get_or, length, take, arith}
+use Rattle.std.specs.Prelude.{All, is_some}
 use Rattle.std.proofs.lemmas.List.{take_all}
-use Rattle.event_types.specs.declared.kind.Kind.{Kind}
-use Rattle.automaton.specs.States.{Net}
-use Rattle.prefix_merge.specs.Merging.{HasEnd}
+use Rattle.automaton.specs.Layouts.{shrunk}
+use Rattle.automaton.specs.NetworkLines.{NetworkFits}
+use Rattle.automaton.specs.States.{Net, wait_at}
+use Rattle.automaton.specs.declared.layout.Layout.{Layout}
+use Rattle.prefix_merge.specs.Merging.{HasEnd, IsMerged}
 use Rattle.prefix_merge.specs.Turns.{RemovesAll}
-use Rattle.epoch_draft.specs.Typed.{IsTyped}
+use Rattle.epoch_draft.specs.Deriving.{CanDraw}
+use Rattle.epoch_draft.specs.Held.{instances_in}
+use Rattle.epoch_draft.specs.Led.{AreLed}
 use Rattle.epoch_draft.specs.Watching.{Watches}
 use Rattle.epoch_engine.specs.Adding.{Drops, FitsWithout}
 use Rattle.epoch_engine.specs.EngineView.{EngineView}
-use Rattle.epoch_engine.specs.Fitting.{AreLeft}
-use Rattle.epoch_engine.specs.declared.plan.Plan.{Plan}
+use Rattle.epoch_engine.specs.Fitting.{AreLeft, HaveNoStoresBut}
 use Rattle.epoch_engine.proofs.EngineLemmas.{view_of}
 use Rattle.epoch_engine.proofs.KindingLemmas.{fitting_typed}
 use Rattle.epoch_engine.proofs.LeaveLemmas.{left_led, left_typed, left_watched}
 use Rattle.epoch_engine.proofs.OverLemmas.{drawable, fits_left, left_held}
+use Rattle.epoch_engine.proofs.PlanLemmas.{left_storeless, listed}
 use Rattle.epoch_engine.proofs.engine.Engine.remove.Goals as goal
 
 -- the ends are there
@@ -24,39 +28,64 @@ remove_first-requires-clause-there c =
     subst (λ (ns : List ℕ). All (HasEnd c.self.inside.plan.merged) ns) (sym (take_all c.len.result ends (omega (arith, c.len.ensures))))
     (subst (λ (v : EngineView). All (HasEnd v.network) ends) (sym c.self.view_is) c.requires.there)
 
+-- what is held at states that left is noted
+pub shrink-requires-clause-noted : goal.shrink-requires-clause-noted
+shrink-requires-clause-noted c = λ none_missed.
+    (let e = c.self.inside in
+    let net = c.remove_first.new.self in
+    let removed = subst (λ (ns : List ℕ). RemovesAll ns e.plan.merged net) (take_all c.len.result c.args.ends.now (omega (arith, c.len.ensures))) c.remove_first.ensures.removed in
+    subst (λ (n : Net). HaveNoStoresBut n c.remove_first.new.left.numbers e.holdings.stores) (sym c.network.ensures.value)
+    (left_storeless e.plan.merged net e.plan.layout.kinds e.holdings.stores c.remove_first.new.left.numbers c.self.invariant.running.can_draw.typed removed.stay
+    (λ n there gone. listed c.remove_first.new.left n none_missed (c.remove_first.ensures.left.left n there gone))))
+
+-- the layout fits the network that is left
+pub go_over-requires-clause-fits : goal.go_over-requires-clause-fits
+go_over-requires-clause-fits c =
+    let e = c.self.inside in
+    let ends = c.args.ends.now in
+    let layout = shrunk e.plan.layout c.args.part in
+    let removed = subst (λ (ns : List ℕ). RemovesAll ns e.plan.merged c.remove_first.new.self) (take_all c.len.result ends (omega (arith, c.len.ensures))) c.remove_first.ensures.removed in
+    let without = subst (λ (v : EngineView). FitsWithout v.network ends (shrunk v.layout c.args.part)) (sym c.self.view_is) c.requires.fits in
+    subst (NetworkFits c.remove_first.new.self) (sym c.shrink-2.ensures) (fits_left e.plan.merged c.remove_first.new.self ends layout c.network.ensures.merged removed without)
+
 -- over the network that is left the parts fit
 pub invariant_of-self : goal.invariant_of-self
 invariant_of-self c =
     let e = c.self.inside in
     let ends = c.args.ends.now in
     let net = c.remove_first.new.self in
+    let plan = c.go_over.new.self in
+    let layout = shrunk e.plan.layout c.args.part in
     let settled = c.network.ensures.settled in
     let value = c.network.ensures.value in
     let removed = subst (λ (ns : List ℕ). RemovesAll ns e.plan.merged net) (take_all c.len.result ends (omega (arith, c.len.ensures))) c.remove_first.ensures.removed in
-    let without = subst (λ (v : EngineView). FitsWithout v.network ends c.args.layout) (sym c.self.view_is) c.requires.fits in
-    let kinds : c.args.layout.kinds ≡ e.plan.layout.kinds = c.requires.kinds ∙ ap (λ (v : EngineView). v.layout.kinds) (sym c.self.view_is) in
-    let fits = fits_left e.plan.merged net ends c.args.layout settled.merged removed without in
-    let typing = fitting_typed net c.args.layout fits in
+    let without = subst (λ (v : EngineView). FitsWithout v.network ends (shrunk v.layout c.args.part)) (sym c.self.view_is) c.requires.fits in
+    let fits = fits_left e.plan.merged net ends layout settled.merged removed without in
+    let typing = fitting_typed net layout fits in
+    let merged : plan.merged ≡ net = c.go_over.ensures.merged in
+    let same : plan.layout ≡ layout = c.go_over.ensures.layout ∙ c.shrink-2.ensures in
     let old = e.holdings.stores in
     let new = c.shrink.new.self.stores in
-    let typed = subst (λ (ks : List (List Kind)). IsTyped e.plan.merged ks old) (sym kinds) c.self.invariant.running.can_draw.typed in
+    let tuples = c.close.new.self.tuples in
+    let typed = c.self.invariant.running.can_draw.typed in
     let left = subst (λ (n : Net). AreLeft n old new) value c.shrink.ensures.stores in
     let deadlines = subst (λ (n : Net). c.shrink.new.self.deadlines ≡ take (length n) e.holdings.deadlines) value c.shrink.ensures.deadlines in
     let shorter = removed.shorter in
     let many = typed.as_many in
     record {
-      fits = fits;
+      fits = subst (λ (x : Net × Layout). NetworkFits x.0 x.1) (λ i. (sym merged i, sym same i)) fits;
       running = record {
-        plan_is = record { printed = fits.2.printed; finds = λ fresh. cc };
-        can_draw = drawable net c.args.layout new c.close.new.self.tuples fits settled.network
-            (left_typed e.plan.merged net c.args.layout.kinds old new typed removed.stay left typing.0 typing.1 settled.network)
-            (c.close.ensures.as_many ∙ c.self.invariant.running.can_draw.as_many ∙ ap length (sym kinds)) c.close.ensures.empty;
+        plan_is = c.go_over.ensures.is;
+        can_draw = subst (λ (x : Net × Layout). CanDraw x.0 x.1 new tuples) (λ i. (sym merged i, sym same i))
+            (drawable net layout new tuples fits settled.network (left_typed e.plan.merged net layout.kinds old new typed removed.stay left typing.0 typing.1 settled.network)
+            (c.close.ensures.as_many ∙ c.self.invariant.running.can_draw.as_many) c.close.ensures.empty);
         touched = c.close.ensures.touched;
       };
-      led = left_led e.plan.merged net c.args.layout.kinds old new typed removed.stay left e.holdings.keys c.shrink.new.self.keys c.self.invariant.led c.shrink.ensures.keys;
+      led = subst (λ (n : Net). AreLed n c.shrink.new.self.keys new) (sym merged)
+          (left_led e.plan.merged net layout.kinds old new typed removed.stay left e.holdings.keys c.shrink.new.self.keys c.self.invariant.led c.shrink.ensures.keys);
       watches = subst (λ (ds : List ℕ). Watches ds new) (sym deadlines)
-          (left_watched e.plan.merged net c.args.layout.kinds old new typed removed.stay left e.holdings.deadlines (omega (arith, shorter, many)) c.self.invariant.watches);
-      still = tt;
+          (left_watched e.plan.merged net layout.kinds old new typed removed.stay left e.holdings.deadlines (omega (arith, shorter, many)) c.self.invariant.watches);
+      still = c.fit_room.ensures;
     }
 
 -- contracts see the lines that are left
@@ -65,23 +94,25 @@ returns c =
     let e = c.self.inside in
     let ends = c.args.ends.now in
     let net = c.remove_first.new.self in
+    let plan = c.go_over.new.self in
+    let layout = shrunk e.plan.layout c.args.part in
     let settled = c.network.ensures.settled in
     let removed = subst (λ (ns : List ℕ). RemovesAll ns e.plan.merged net) (take_all c.len.result ends (omega (arith, c.len.ensures))) c.remove_first.ensures.removed in
-    let without = subst (λ (v : EngineView). FitsWithout v.network ends c.args.layout) (sym c.self.view_is) c.requires.fits in
-    let kinds : c.args.layout.kinds ≡ e.plan.layout.kinds = c.requires.kinds ∙ ap (λ (v : EngineView). v.layout.kinds) (sym c.self.view_is) in
-    let old = e.holdings.stores in
+    let without = subst (λ (v : EngineView). FitsWithout v.network ends (shrunk v.layout c.args.part)) (sym c.self.view_is) c.requires.fits in
+    let fits = fits_left e.plan.merged net ends layout settled.merged removed without in
+    let merged : plan.merged ≡ net = c.go_over.ensures.merged in
     let new = c.shrink.new.self.stores in
-    let plan : Plan = record e.plan { merged = net; layout = c.args.layout; is_stale = true } in
-    subst (λ (v : EngineView). Drops ends c.args.layout v (view_of plan new c.close.new.self e.closed_time)) c.self.view_is (record {
+    let left = left_held net e.holdings.stores new (subst (λ (n : Net). AreLeft n e.holdings.stores new) c.network.ensures.value c.shrink.ensures.stores) in
+    subst (λ (v : EngineView). Drops ends (shrunk v.layout c.args.part) v (view_of plan new c.close.new.self e.closed_time)) c.self.view_is (record {
       goes_over = record {
-        merged = settled.merged;
-        same_layout = refl;
-        fits = fits_left e.plan.merged net ends c.args.layout settled.merged removed without;
+        merged = subst IsMerged (sym merged) settled.merged;
+        same_layout = c.go_over.ensures.layout ∙ c.shrink-2.ensures;
+        fits = subst (λ (n : Net). NetworkFits n layout) (sym merged) fits;
         opened = c.close.ensures.empty;
-        as_many = c.close.ensures.as_many ∙ c.self.invariant.running.can_draw.as_many ∙ ap length (sym kinds);
+        as_many = c.close.ensures.as_many ∙ c.self.invariant.running.can_draw.as_many;
         none_open = c.close.ensures.time;
         same_closed = refl;
       };
-      removed = removed;
-      stores = left_held net old new (subst (λ (n : Net). AreLeft n old new) c.network.ensures.value c.shrink.ensures.stores);
+      removed = subst (RemovesAll ends e.plan.merged) (sym merged) removed;
+      stores = subst (λ (n : Net). (number : ℕ) → get_or (map instances_in new) number [] ≡ cond (is_some (wait_at n number)) (get_or (map instances_in e.holdings.stores) number []) []) (sym merged) left;
     })
