@@ -1,5 +1,5 @@
 -- Plans that are changed in place.
-use Rattle.std.proofs.Common.{◌≡◌, ◌∙◌, sym, ap, refl, subst, inl, inr, ℕ, zero, suc, Bool, true, false, ◌+◌, ◌<◌, ◌≤◌, ◌⊎◌, length, get_or, set, take, drop, List, [], ◌∷◌, ◌++◌, arith}
+use Rattle.std.proofs.Common.{◌≡◌, ◌∙◌, sym, ap, refl, subst, inl, inr, ℕ, zero, suc, Bool, true, false, ◌<◌, ◌≤◌, ◌⊎◌, length, get_or, take, drop, List, [], ◌∷◌, ◌++◌, arith}
 use Rattle.std.specs.Prelude.{Contains, IsTrue, Option, Some, None}
 use Rattle.std.specs.Option.{option_and_then, option_map}
 use Rattle.std.specs.List.{All, remove}
@@ -22,7 +22,7 @@ use Rattle.binding_index.specs.declared.store.Store.{Store}
 use Rattle.automaton.specs.declared.wait.Wait.{Wait}
 use Rattle.automaton.specs.declared.network.Entrance.TheVariants.{Root, Waiting}
 use Rattle.std.proofs.lemmas.Option.{slice_get_within}
-use Rattle.epoch_engine.specs.Planning.{AreReadBut, GrowsRoom, HasRoom}
+use Rattle.epoch_engine.specs.Planning.{AreReadBut, GrowsRoom}
 use Rattle.epoch_engine.specs.Running.{IsPlan}
 use Rattle.epoch_engine.specs.declared.plan.Plan.{Plan}
 use Rattle.automaton.specs.Work.{is_in}

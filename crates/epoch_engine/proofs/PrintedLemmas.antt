@@ -1,5 +1,5 @@
 -- The places at which streams are printed.
-use Rattle.std.proofs.Common.{◌≡◌, ◌∙◌, sym, ap, subst, inl, inr, ℕ, ◌+◌, ◌<◌, ◌≤◌, ◌⊎◌, eqb, length, get_or, set, List, [], ◌∷◌, ◌++◌, take, arith}
+use Rattle.std.proofs.Common.{◌≡◌, ◌∙◌, sym, ap, subst, inl, inr, ℕ, ◌+◌, ◌<◌, ◌⊎◌, eqb, length, get_or, set, List, [], ◌∷◌, ◌++◌, take}
 use Rattle.std.specs.Prelude.{Contains, IsTrue}
 use Rattle.std.specs.List.{All, dedup}
 use Rattle.std.specs.List.Sorted.{IsPermutation, IsSorted, IsStrictlyIncreasing}
@@ -14,7 +14,7 @@ use Rattle.std.proofs.lemmas.Map.Keys.{IsStrictlyIncreasing-dedup}
 use Rattle.automaton.proofs.NumberLemmas.{are_same_or_not}
 use Rattle.epoch_draft.specs.Agenda.{AreArrangedUpTo}
 use Rattle.epoch_draft.proofs.Lists.{below_or_last, more_contains, none_in}
-use Rattle.epoch_engine.specs.Batches.{AreNoted, ArePlacesOf, MayBePrinted}
+use Rattle.epoch_engine.specs.Batches.{AreNoted, ArePlacesOf}
 use Rattle.epoch_engine.specs.declared.prints.Prints.{Prints}
 
 -- one stream more has its place, if it isn't printed before

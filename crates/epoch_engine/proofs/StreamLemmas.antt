@@ -29,7 +29,7 @@ use Rattle.epoch_laws.specs.Histories.{events_before, streams_over}
 use Rattle.epoch_laws.specs.InstanceFlow.{completed_after, derived_after, each, flow_instances, given_after, waiting_behind, waiting_instances}
 use Rattle.epoch_laws.specs.Instances.{begins, bindings_of}
 use Rattle.epoch_laws.specs.Standing.{next_time}
-use Rattle.epoch_laws.specs.Times.{IsPast, before}
+use Rattle.epoch_laws.specs.Times.{IsPast}
 use Rattle.epoch_laws.proofs.Completed.{of_lines}
 use Rattle.epoch_laws.proofs.Each.{each_after}
 use Rattle.epoch_laws.proofs.Folds.{sound_past}

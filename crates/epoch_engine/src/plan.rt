@@ -6,8 +6,8 @@ ghost use Rattle.epoch_draft.specs.Agenda.{AreArrangedUpTo};
 ghost use Rattle.epoch_engine.specs.Planning.{AreReadBut, GrowsRoom, HasRoom};
 ghost use Rattle.epoch_engine.specs.Running.{IsPlan};
 
-use automaton::Layout;
 use crate::prints::Prints;
+use automaton::Layout;
 use epoch_draft::StreamPlaces;
 use event_types::Memory;
 use prefix_merge::Merged;

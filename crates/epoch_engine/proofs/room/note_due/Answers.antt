@@ -1,4 +1,4 @@
-use Rattle.std.proofs.Common.{◌≡◌, ◌∙◌, ◌∷◌, ◌++◌, ◌≤◌, ◌<◌, [], sym, ap, subst, ℕ, List, get_or, length, arith}
+use Rattle.std.proofs.Common.{◌∙◌, ◌∷◌, ◌++◌, ◌≤◌, ◌<◌, [], sym, ap, subst, ℕ, List, get_or, length, arith}
 use Rattle.std.proofs.lemmas.Option.{get_or_from_slice_get}
 use Rattle.epoch_draft.proofs.Lists.{taken_all}
 use Rattle.epoch_engine.proofs.PrintedLemmas.{NotedSoFar, noted_all, noted_more, noted_none, noted_past}

@@ -1,4 +1,4 @@
-use Rattle.std.proofs.Common.{◌≡◌, ◌∙◌, ◌-◌, ◌^◌, ◌++◌, ◌<◌, map, ap, refl, subst, sym, ℕ, List, get_or, length, replicate, take, true, arith}
+use Rattle.std.proofs.Common.{◌≡◌, ◌∙◌, ◌-◌, ◌^◌, ◌++◌, ◌<◌, map, ap, refl, subst, sym, ℕ, List, get_or, length, replicate, take, arith}
 use Rattle.std.specs.Prelude.{IsTrue, Option}
 use Rattle.std.proofs.lemmas.List.{length-replicate}
 use Rattle.event_types.specs.Tuple.{TupleView}

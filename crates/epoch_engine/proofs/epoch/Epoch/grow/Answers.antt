@@ -1,5 +1,4 @@
-use Rattle.std.proofs.Common.{◌≡◌, ◌∙◌, ap, sym, subst, ℕ, Bool, false, List, [], length, get_or, take}
-use Rattle.event_types.specs.Tuple.{TupleView}
+use Rattle.std.proofs.Common.{◌∙◌, ap, sym, ℕ, false, [], take}
 use Rattle.epoch_engine.proofs.EngineLemmas.{touched_back, touched_longer}
 use Rattle.epoch_engine.proofs.PlanLemmas.{cut_back}
 use Rattle.epoch_engine.proofs.epoch.Epoch.grow.Goals as goal

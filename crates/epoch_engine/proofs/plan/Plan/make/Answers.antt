@@ -1,4 +1,4 @@
-use Rattle.std.proofs.Common.{◌<◌, ◌≤◌, sym, subst, ℕ, List, get_or, length, take, arith}
+use Rattle.std.proofs.Common.{◌<◌, sym, subst, ℕ, List, get_or, length, take, arith}
 use Rattle.std.specs.Prelude.{Contains}
 use Rattle.std.specs.List.{All}
 use Rattle.automaton.specs.States.{Net}

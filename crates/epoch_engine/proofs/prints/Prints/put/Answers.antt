@@ -1,4 +1,4 @@
-use Rattle.std.proofs.Common.{◌<◌, length, arith}
+use Rattle.std.proofs.Common.{◌<◌, length}
 use Rattle.std.proofs.lemmas.List.Elements.{All-get_or}
 use Rattle.epoch_engine.proofs.PrintedLemmas.{put_more}
 use Rattle.epoch_engine.proofs.prints.Prints.put.Goals as goal
