@@ -1,6 +1,9 @@
 -- What is left of the work where the queries change.
-use Rattle.std.proofs.Common.{◌≡◌, ◌∙◌, sym, ap, refl, subst, ℕ, zero, suc, ◌+◌, ◌<◌, ◌++◌, ◌∷◌, [], true, false, cond, is_some, List, Ok, Option, Some, None, length, length-append, slice_get, append-nil, arith}
-use Rattle.std.specs.List.{All}
+use Rattle.std.proofs.Common.{◌≡◌, ◌∙◌, sym, ap, refl, subst, ℕ, zero, suc, ◌+◌, ◌-◌, ◌<◌, ◌≤◌, ◌++◌, ◌∷◌, [], true, false, cond, is_some, List, Ok, Option, Some, None, length, length-append, inl, inr, slice_get, append-nil, arith}
+use Rattle.std.specs.List.{All, remove}
+use Rattle.std.proofs.lemmas.Bool.{cases_lt}
+use Rattle.std.proofs.lemmas.List.Edits.{get_or-remove_above, get_or-remove_below, length-remove}
+use Rattle.automaton.specs.Layouts.{grown, shrunk}
 use Rattle.std.specs.Option.{option_or}
 use Rattle.std.proofs.lemmas.List.Elements.{All-append, All-cons, All-filter, All-nil, All-weaker}
 use Rattle.semantics.specs.Histories.{Event}
@@ -13,8 +16,10 @@ use Rattle.catalogue.specs.Adding.{AddedQuery}
 use Rattle.catalogue.specs.Catalogued.{Catalogued, query_in, work_in}
 use Rattle.catalogue.specs.Changes.{publishes_another}
 use Rattle.catalogue.specs.Coming.{HasCome, IsLatest, IsTold, coming}
-use Rattle.catalogue.specs.Leaving.{IsLeft, IsUnread}
+use Rattle.catalogue.specs.Leaving.{IsLeft, IsUnread, moved_down}
 use Rattle.catalogue.specs.Standing.{IsUpTo, StandsInOrder}
+use Rattle.catalogue.proofs.LeftProgramLemmas.{query_left}
+use Rattle.catalogue.proofs.MovedLemmas.{left_many, moved_high, moved_low}
 use Rattle.change_laws.specs.Calls.{ComesToBoth, LeavesBoth}
 use Rattle.change_laws.proofs.ComeLemmas.{coming_stands}
 use Rattle.change_laws.proofs.LeaveLemmas.{leaving_stands}
@@ -39,7 +44,8 @@ use Rattle.session.specs.declared.control.Change.TheVariants as change
 use Rattle.session.specs.declared.fault.SessionFault.{SessionFault}
 use Rattle.session.specs.declared.fault.SessionFault.TheVariants as fault
 use Rattle.session.specs.declared.work.Work.{Work}
-use Rattle.session.proofs.BatchLinesLemmas.{no_fronts, query_there}
+use Rattle.session.proofs.BatchLinesLemmas.{query_there}
+use Rattle.session.proofs.FrontLemmas.{remove_past}
 use Rattle.session.proofs.RunWorkLemmas.{both_hold}
 use Rattle.session.proofs.OwesLemmas.{control_closes, fails, goes_on, no_memory, now_fails, now_owes}
 
@@ -77,13 +83,13 @@ declared_after c d m entry history standing at set are =
 module _ (c d : Catalogued) (standing : StandsInOrder c) (standing_then : StandsInOrder d) (old new : Work) (at_work : IsAtWork c old) (closed : old.engine.time ≡ None) where
   -- a query came
   module _ (added : AddedQuery) (since : Option ℕ) (told : Added) (is_closed : since ≡ old.engine.closed_time) (come : HasCome c added since d) (is_told : IsTold c (coming c added since) d told)
-      (adds : Adds told.lines told.ends since told.layout old.engine new.engine) where
+      (adds : Adds told.lines told.ends since (grown old.engine.layout told.growth) old.engine new.engine) where
     both : ComesToBoth added told c d old.engine new.engine
     both = record {
       closed = closed;
       come = subst (λ birth. HasCome c added birth d) is_closed come;
       is_told = subst (λ birth. IsTold c (coming c added birth) d told) is_closed is_told;
-      adds = subst (λ birth. Adds told.lines told.ends birth told.layout old.engine new.engine) is_closed adds;
+      adds = subst (λ birth. Adds told.lines told.ends birth (grown old.engine.layout told.growth) old.engine new.engine) is_closed adds;
     }
 
     came_set : set_in d ≡ (after_entry (moment_at c old.engine) (course.Adds added)).set
@@ -140,7 +146,7 @@ module _ (c d : Catalogued) (standing : StandsInOrder c) (standing_then : Stands
     }
 
   -- a query left
-  module _ (number : ℕ) (dropped : Dropped) (within : number < length c.order) (unread : IsUnread c number) (left : IsLeft number dropped c d) (drops : Drops dropped.ends dropped.layout old.engine new.engine) where
+  module _ (number : ℕ) (dropped : Dropped) (within : number < length c.order) (unread : IsUnread c number) (left : IsLeft number dropped c d) (drops : Drops dropped.ends (shrunk old.engine.layout dropped.part) old.engine new.engine) where
     leaves : LeavesBoth number dropped c d old.engine new.engine
     leaves = record { closed = closed; within = within; unread = unread; left = left; drops = drops }
 
@@ -160,15 +166,49 @@ module _ (c d : Catalogued) (standing : StandsInOrder c) (standing_then : Stands
       };
     }
 
-    -- the work may go on, and all fronts are made anew
-    pub left_at_work : new.born ≡ old.born → new.fronts ≡ [] → IsAtWork d new
+    -- a query before it keeps its number
+    query_before : (place : ℕ) → place < number → query_in d place ≡ query_in c place
+    query_before place before =
+        ap (λ (x : Catalogued). query_in x place) left.catalogue
+        ∙ query_left c standing number within place place (omega (arith, before, within)) (λ same. absurd (omega (arith, same, before))) (moved_low number place (omega (arith, before)))
+
+    -- one behind it has one less
+    query_behind : (place : ℕ) → number ≤ place → place + 1 < length c.order → query_in d place ≡ query_in c (place + 1)
+    query_behind place behind inside =
+        let moved : moved_down number (place + 1) ≡ place = moved_high number (place + 1) (omega (arith, behind)) ∙ (let less : place + 1 - 1 ≡ place = omega arith in less) in
+        ap (λ (x : Catalogued). query_in x place) left.catalogue ∙ query_left c standing number within place (place + 1) inside (λ same. absurd (omega (arith, same, behind))) moved
+
+    -- so the other fronts are those of the queries that stay
+    fronts_left : (fronts : List (List ℕ)) → AreFronts c fronts → AreFronts d (remove fronts number)
+    fronts_left fronts are = elim (cases_lt number (length fronts)) [
+      | inl made ↦
+          let fewer = length-remove fronts number made in (
+            omega (arith, are.0, fewer, fewer_queries),
+            (λ place less. elim (cases_lt place number) [
+              | inl before ↦ get_or-remove_below fronts number [] place before made ∙ are.1 place (omega (arith, before, made)) ∙ ap (λ (q : Query). front_of q.name) (sym (query_before place before))
+              | inr behind ↦
+                  get_or-remove_above fronts number [] place behind made ∙ are.1 (place + 1) (omega (arith, less, fewer))
+                  ∙ ap (λ (q : Query). front_of q.name) (sym (query_behind place behind (omega (arith, less, fewer, are.0))))
+            ]),
+          )
+      | inr unmade ↦ subst (AreFronts d) (sym (remove_past fronts number unmade)) (
+        omega (arith, unmade, within, fewer_queries),
+        (λ place less. are.1 place less ∙ ap (λ (q : Query). front_of q.name) (sym (query_before place (omega (arith, less, unmade))))),
+      )
+    ]
+      where
+        fewer_queries : length d.order + 1 ≡ length c.order
+        fewer_queries = ap (λ (x : Catalogued). length x.order + 1) left.catalogue ∙ left_many c.order standing.numbered number within
+
+    -- the work may go on
+    pub left_at_work : new.born ≡ old.born → new.fronts ≡ remove old.fronts number → IsAtWork d new
     left_at_work born fronts = record {
       in_order = standing_then;
       at_one = leaving_stands.at_one number dropped c d old.engine new.engine standing standing_then at_work.at_one leaves;
       born = subst (λ time. IsLatest time d) (sym born)
           (subst (All (λ query. IsUpTo query.birth old.born)) (ap (λ (p : Program). p.order) (sym left.program))
           (All-filter (publishes_another (query_in c number).stream) (λ (query : Query). IsUpTo query.birth old.born) (work_in c) at_work.born));
-      fronts = subst (AreFronts d) (sym fronts) (no_fronts d);
+      fronts = subst (AreFronts d) (sym fronts) (fronts_left old.fronts at_work.fronts);
     }
 
 -- the queries after an entry hang on the queries before it and on the time that was seen

@@ -4,6 +4,7 @@ pub mod ClosedLemmas
 pub mod ClosingLemmas
 pub mod CountingLemmas
 pub mod FeedsLemmas
+pub mod FrontLemmas
 pub mod LinesLemmas
 pub mod NamesLemmas
 pub mod OwesLemmas

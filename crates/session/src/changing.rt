@@ -1,5 +1,6 @@
 //! The work on control lines that change the queries.
 ghost use Rattle.std.specs.Prelude.{◌≡◌, ℕ, ◌<◌, None, IfErr, OnOk, false, length};
+ghost use Rattle.std.specs.List.{remove};
 ghost use Rattle.cay_host.specs.Output.{SameButOutput};
 ghost use Rattle.catalogue.specs.Catalogued.{query_in};
 ghost use Rattle.catalogue.specs.Leaving.{IsUnread};
@@ -20,6 +21,7 @@ use crate::work::Work;
 use catalogue::{Catalogue, Coming};
 use cay_host::{Host, Ledger, Steps};
 use event_types::Memory;
+use result_text::Fronts;
 use std::alloc::Global;
 
 /// Closes the open epoch, whose rows are those of the queries that are there, and then changes the queries. Out of
@@ -84,9 +86,9 @@ fn bring(
         return Err(Memory);
     }
     let added = catalogue.take(alloc, query, since)?;
-    let layout = added.layout;
+    let growth = added.growth;
     work.engine
-        .add(alloc, &added.lines, &added.ends, since, layout)?;
+        .add(alloc, &added.lines, &added.ends, since, growth)?;
     work.born = since;
     Ok(())
 }
@@ -106,10 +108,18 @@ fn take_out(
     ensures at_work { OnOk result (IsAtWork catalogue.new work.new) }
 {
     let dropped = catalogue.drop_at(alloc, query)?;
-    let layout = dropped.layout;
-    work.engine.remove(&dropped.ends, layout);
-    work.fronts.clear();
+    work.engine.remove(&dropped.ends, dropped.part);
+    take_front(&mut work.fronts, query);
     Ok(())
+}
+
+// Takes the front of the query with this number out, if it was made.
+fn take_front(fronts: &mut Fronts, query: usize)
+    ensures { fronts.new ≡ remove fronts.old query }
+{
+    if query < fronts.len() {
+        fronts.remove(query);
+    }
 }
 
 // Whether the first time is before the second, where none is before all times.

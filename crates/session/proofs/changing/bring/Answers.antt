@@ -29,11 +29,6 @@ add-requires-clause-fits c =
     (told_may_be_added (added_of c.args.query) c.last_closed-since.result c.in_ok-added.added c.args.catalogue.now c.take.new.self c.args.work.now.engine c.requires.at_work.in_order c.in_ok-added.ensures.stands c.requires.at_work.at_one c.in_ok-added.ensures.come
     c.in_ok-added.ensures.told).fits
 
-pub add-requires-clause-kinds : goal.add-requires-clause-kinds
-add-requires-clause-kinds c =
-    (told_may_be_added (added_of c.args.query) c.last_closed-since.result c.in_ok-added.added c.args.catalogue.now c.take.new.self c.args.work.now.engine c.requires.at_work.in_order c.in_ok-added.ensures.stands c.requires.at_work.at_one c.in_ok-added.ensures.come
-    c.in_ok-added.ensures.told).kinds
-
 -- the queries have changed
 pub returns-clause-changed : goal.returns-clause-changed
 returns-clause-changed c =

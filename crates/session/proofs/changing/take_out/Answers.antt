@@ -16,9 +16,18 @@ pub remove-requires-clause-fits : goal.remove-requires-clause-fits
 remove-requires-clause-fits c =
     (dropped_may_be_removed c.args.query c.in_ok-dropped.dropped c.args.catalogue.now c.drop_at.new.self c.args.work.now.engine c.requires.at_work.in_order c.in_ok-dropped.ensures.stands c.requires.at_work.at_one c.requires.within c.in_ok-dropped.ensures.ok).fits
 
-pub remove-requires-clause-kinds : goal.remove-requires-clause-kinds
-remove-requires-clause-kinds c =
-    (dropped_may_be_removed c.args.query c.in_ok-dropped.dropped c.args.catalogue.now c.drop_at.new.self c.args.work.now.engine c.requires.at_work.in_order c.in_ok-dropped.ensures.stands c.requires.at_work.at_one c.requires.within c.in_ok-dropped.ensures.ok).kinds
+-- the layout has the part
+pub remove-requires-clause-up : goal.remove-requires-clause-up
+remove-requires-clause-up c =
+    (dropped_may_be_removed c.args.query c.in_ok-dropped.dropped c.args.catalogue.now c.drop_at.new.self c.args.work.now.engine c.requires.at_work.in_order c.in_ok-dropped.ensures.stands c.requires.at_work.at_one c.requires.within c.in_ok-dropped.ensures.ok).has_part.up
+
+pub remove-requires-clause-within : goal.remove-requires-clause-within
+remove-requires-clause-within c =
+    (dropped_may_be_removed c.args.query c.in_ok-dropped.dropped c.args.catalogue.now c.drop_at.new.self c.args.work.now.engine c.requires.at_work.in_order c.in_ok-dropped.ensures.stands c.requires.at_work.at_one c.requires.within c.in_ok-dropped.ensures.ok).has_part.within
+
+pub remove-requires-clause-printed : goal.remove-requires-clause-printed
+remove-requires-clause-printed c =
+    (dropped_may_be_removed c.args.query c.in_ok-dropped.dropped c.args.catalogue.now c.drop_at.new.self c.args.work.now.engine c.requires.at_work.in_order c.in_ok-dropped.ensures.stands c.requires.at_work.at_one c.requires.within c.in_ok-dropped.ensures.ok).has_part.printed
 
 -- the queries have changed
 pub returns-clause-changed : goal.returns-clause-changed
@@ -30,4 +39,4 @@ returns-clause-changed c =
 pub returns-clause-at_work : goal.returns-clause-at_work
 returns-clause-at_work c =
     left_at_work c.args.catalogue.now c.drop_at.new.self c.requires.at_work.in_order c.in_ok-dropped.ensures.stands c.args.work.now _ c.requires.at_work c.requires.closed c.args.query c.in_ok-dropped.dropped c.requires.within c.requires.unread c.in_ok-dropped.ensures.ok
-    c.remove.ensures refl c.clear.ensures
+    c.remove.ensures refl c.take_front.ensures
