@@ -27,6 +27,7 @@ pub mod RoomLemmas
 pub mod SmallLemmas
 pub mod StandLemmas
 pub mod StandingLemmas
+pub mod TallyLemmas
 pub mod TotalDeclarations
 pub mod TotalQueries
 pub mod TotalTypes

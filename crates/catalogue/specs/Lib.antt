@@ -29,4 +29,5 @@ pub mod Part
 pub mod Coming
 pub mod Fitting
 pub mod Taking
+pub mod Tallies
 pub mod Newcomers

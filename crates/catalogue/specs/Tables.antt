@@ -10,6 +10,7 @@ use Rattle.catalogue.specs.Catalogued.{Catalogued, program_in, work_in}
 use Rattle.catalogue.specs.Sharing.{share_of}
 use Rattle.catalogue.specs.Standing.{StandsInOrder}
 use Rattle.catalogue.specs.Statements.{names_in, queries_in, query_names}
+use Rattle.catalogue.specs.Tallies.{AreTallied}
 use Rattle.catalogue.specs.Typing.{query_lines}
 
 -- the tables have the names of the statements, and of the queries among them
@@ -27,9 +28,10 @@ pub record HasPlaces (numbers : List ℕ) (places : List ℕ) : Type 0 where
   pub long : length places ≡ length numbers
   pub there : (place : ℕ) → place < length numbers → slice_index_or places (slice_index_or numbers place 0) 0 ≡ place
 
--- the catalogue stands in order, these are the places of its queries in the order of work, these are its lines, and these are the shares that its queries have
-pub record IsHeld (c : Catalogued) (places : List ℕ) (lines : List Line) (shares : List Share) : Type 0 where
+-- the catalogue stands in order, these are the places of its queries in the order of work, these are its lines, these are the shares that its queries have, and these are the tallies of what they read
+pub record IsHeld (c : Catalogued) (places : List ℕ) (lines : List Line) (shares : List Share) (reads : List ℕ) : Type 0 where
   pub stands : StandsInOrder c
   pub placed : HasPlaces c.order places
   pub lines_are : lines ≡ lines_of (program_in c)
   pub shared : shares ≡ map share_of (work_in c)
+  pub tallied : AreTallied c.expressions reads

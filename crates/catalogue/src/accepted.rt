@@ -12,6 +12,7 @@ ghost use Rattle.catalogue.specs.Standing.{IsLayoutOver, StandsInOrder};
 use crate::numbering::{Published, hide_up_to, number_all, numbers_below};
 use crate::placing::{chains_of, places_in};
 use crate::sharing::{Share, share_all};
+use crate::tallying::tally_all;
 use automaton::{Layout, Lines};
 use cel_parser::File;
 use event_types::{List, Memory, Numbers, StreamId};
@@ -43,6 +44,8 @@ pub struct Catalogue {
     pub(crate) ends: Numbers,
     pub(crate) next_end: usize,
     pub(crate) chains: Chains,
+    // For each stream by number how many reads of it the expressions have; none behind the last one.
+    pub(crate) reads: Numbers,
 }
 
 impl Model for Catalogue {
@@ -56,7 +59,7 @@ impl Model for Catalogue {
 
     ghost view = { λ c. record { file = c.file; declared = c.declared; streams = c.streams; order = c.order; published = c.published; expressions = c.expressions; ends = c.ends; next_end = c.next_end; layout = c.chains.layout } };
 
-    ghost invariant = { λ c. IsHeld (record { file = c.file; declared = c.declared; streams = c.streams; order = c.order; published = c.published; expressions = c.expressions; ends = c.ends; next_end = c.next_end; layout = c.chains.layout }) c.places c.chains.lines c.shares };
+    ghost invariant = { λ c. IsHeld (record { file = c.file; declared = c.declared; streams = c.streams; order = c.order; published = c.published; expressions = c.expressions; ends = c.ends; next_end = c.next_end; layout = c.chains.layout }) c.places c.chains.lines c.shares c.reads };
 }
 
 impl Catalogue {
@@ -88,6 +91,7 @@ impl Catalogue {
         let mut streams = streams;
         hide_up_to(&mut streams, file.size(), chains.layout.kinds.len())?;
         let shares = share_all(alloc, &published, &expressions)?;
+        let reads = tally_all(alloc, &expressions)?;
         let ends = numbers_below(alloc, chains.lines.len())?;
         let next_end = ends.len();
         Ok(Catalogue {
@@ -102,6 +106,7 @@ impl Catalogue {
             ends,
             next_end,
             chains,
+            reads,
         })
     }
 

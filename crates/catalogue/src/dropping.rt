@@ -12,6 +12,7 @@ use crate::fault::DropFault;
 use crate::leaving::{add_part, move_down};
 use crate::numbering::Published;
 use crate::sharing::share_before;
+use crate::tallying::{tally_at, untally};
 use automaton::Shrinkage;
 use event_types::{List, Memory, Numbers, StreamId, Text};
 use std::alloc::Global;
@@ -111,6 +112,9 @@ impl Catalogue {
         ensures found { IfSome result (IsFirstReader self.now stream) }
         ensures none { IfNone result ((number : ℕ) → number < length self.now.order → LeavesUnread self.now stream number) }
     {
+        if tally_at(&self.reads, stream) == 0 {
+            return None;
+        }
         for query in 0..self.order.len() {
             if does_read(self.expr(query), stream) {
                 return Some(query);
@@ -133,6 +137,7 @@ impl Catalogue {
         self.places.remove(query);
         move_down(&mut self.places, place);
         self.published.remove(place);
+        untally(&mut self.reads, self.expressions.get(place));
         self.expressions.remove(place);
         self.shares.remove(place);
         self.ends.cut(part.first, part.end);

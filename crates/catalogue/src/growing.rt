@@ -1,18 +1,21 @@
 //! What a catalogue has of a query that comes: its lines with their ends, and its place in the lists.
-ghost use Rattle.std.specs.Prelude.{◌≡◌, ◌+◌, ◌^◌, ◌<◌, ◌++◌, ◌∷◌, [], IfOk, OnOk, OnErr, length, sum_by, take};
+ghost use Rattle.std.specs.Prelude.{◌≡◌, ◌+◌, ◌^◌, ◌<◌, ◌++◌, ◌∷◌, [], None, IfOk, OnOk, OnErr, false, length, sum_by, take};
 ghost use Rattle.std.specs.List.{range_with_len};
 ghost use Rattle.expressions.specs.Views.{ex_of};
+ghost use Rattle.stream_schema.specs.Streams.{hidden_entries, number_of};
 ghost use Rattle.catalogue.specs.Fitting.{HasGrown, IsGrown, MayGrow, first_of, with_lines};
+ghost use Rattle.catalogue.specs.Tallies.{AddsReads, StayTallied};
 
 use crate::adding::Added;
 use crate::numbering::Published;
 use crate::sharing::Share;
+use crate::tallying::{tally, untally};
 use automaton::{Growth, Layout, Lines, Sizes};
 use event_types::{Copied, List, Memory, Numbers};
 use expressions::Expr;
 use splitter::{Chains, Namer, add_query};
 use std::alloc::Global;
-use stream_schema::Schema;
+use stream_schema::{Schema, Streams};
 
 // The most numbers of streams that a query takes: its own, and one for each hidden stream.
 const MOST: usize = 1_025;
@@ -226,6 +229,29 @@ pub fn put_query(
         order.truncate(number);
         published.truncate(many);
         places.truncate(many_places);
+        return Err(Memory);
+    }
+    Ok(())
+}
+
+/// Tallies the reads of a query and publishes its stream with so many hidden ones. Want of memory drops the schema.
+pub fn publish(
+    streams: &mut Streams,
+    reads: &mut Numbers,
+    expr: &Expr,
+    name: &str,
+    schema: Schema,
+    hidden: usize,
+) -> Result<(), Memory>
+    requires { number_of name.now streams.old ≡ None }
+    ensures ok { OnOk result (streams.new ≡ streams.old ++ record { name = name.now; schema = schema; declared = false } ∷ hidden_entries (length streams.old + 1) hidden) }
+    ensures tallied { OnOk result (AddsReads (ex_of expr.now) reads.old reads.new) }
+    ensures kept { OnErr result (streams.new ≡ streams.old) }
+    ensures tallies_kept { OnErr result (StayTallied reads.old reads.new) }
+{
+    tally(reads, expr)?;
+    if let Err(_) = streams.publish(name, schema, hidden) {
+        untally(reads, expr);
         return Err(Memory);
     }
     Ok(())

@@ -25,6 +25,7 @@ mod reading;
 mod sharing;
 mod statements;
 mod taking;
+mod tallying;
 
 pub use accepted::Catalogue;
 pub use adding::{Added, Coming};

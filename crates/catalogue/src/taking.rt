@@ -10,7 +10,7 @@ use crate::accepted::Catalogue;
 use crate::adding::{Added, Coming, as_added, judge};
 use crate::fault::AddFault;
 use crate::growing::{
-    Before, lines_of_one, numbers_from, put_lines, put_query, size_of, take_lines_back,
+    Before, lines_of_one, numbers_from, publish, put_lines, put_query, size_of, take_lines_back,
 };
 use crate::numbering::Published;
 use crate::statements::name;
@@ -96,7 +96,15 @@ impl Catalogue {
             take_lines_back(&mut self.chains, &mut self.ends, &mut self.shares, before);
             return Err(Memory);
         }
-        if let Err(_) = self.streams.publish(name(&statement), schema, hidden) {
+        let published = publish(
+            &mut self.streams,
+            &mut self.reads,
+            self.expressions.get(before.queries),
+            name(&statement),
+            schema,
+            hidden,
+        );
+        if let Err(_) = published {
             take_lines_back(&mut self.chains, &mut self.ends, &mut self.shares, before);
             self.order.truncate(before.queries);
             self.places.truncate(before.queries);

@@ -133,11 +133,12 @@ invariant_of-result c =
     let parts = parts_of c.args.file c.args.streams c.args.order c.args.expressions in
     let layout = c.in_ok-chains.chains.layout in
     let there : AreThere (parts.declared ++ parts.published) = subst AreThere (sym (streams_whole (length c.args.file.statements - length c.args.order) c.args.streams)) c.requires.there in
-    subst (λ (v : Catalogued). IsHeld v c.in_ok-places.places c.in_ok-chains.chains.lines c.in_ok-shares.shares) (sym (made_loaded c)) (record {
+    subst (λ (v : Catalogued). IsHeld v c.in_ok-places.places c.in_ok-chains.chains.lines c.in_ok-shares.shares c.in_ok-reads.reads) (sym (made_loaded c)) (record {
       stands = loaded_stands parts c.requires.accepted c.requires.typed layout c.in_ok-chains.ensures.layout there;
       placed = c.in_ok-places.ensures;
       lines_are = c.in_ok-chains.ensures.lines ∙ ap lines_of (sym (program_is parts c.requires.accepted c.requires.typed layout c.in_ok-chains.ensures.layout));
       shared = c.in_ok-shares.ensures ∙ shares_unnamed [] (loaded c).streams c.in_ok-published.published c.args.expressions ∙ ap (λ (v : Catalogued). map share_of (queries_of (loaded c).streams v.published v.expressions)) (made_loaded c);
+      tallied = c.in_ok-reads.ensures;
     })
 
 -- holds what the text is judged to be

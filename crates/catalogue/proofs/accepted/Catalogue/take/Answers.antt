@@ -9,8 +9,11 @@ use Rattle.catalogue.specs.Coming.{HasCome, IsLatest}
 use Rattle.catalogue.specs.Fitting.{MayTell}
 use Rattle.catalogue.specs.Sharing.{share_of}
 use Rattle.catalogue.specs.Taking.{IsFit, added_of}
+use Rattle.expressions.specs.declared.expression.Expr.{Expr}
+use Rattle.expressions.specs.Views.{ex_of}
 use Rattle.catalogue.specs.Tables.{IsHeld}
-use Rattle.catalogue.proofs.ComingLemmas.{come_held, come_of, has_come, held_back, kinds_up, lines_back, made_is, taken_back}
+use Rattle.catalogue.specs.Tallies.{AddsReads}
+use Rattle.catalogue.proofs.ComingLemmas.{come_held, come_of, has_come, held_back, kinds_up, last_is, lines_back, made_is, taken_back}
 use Rattle.catalogue.proofs.LeftProgramLemmas.{work_long}
 use Rattle.catalogue.proofs.accepted.Catalogue.take.Goals as goal
 
@@ -74,12 +77,12 @@ invariant_of-self-in-Err c =
     let chains : c.take_lines_back.new.chains ≡ inside.chains = c.take_lines_back.ensures.chains ∙ lines_back inside.chains c.put_lines.new.chains told.lines told.growth before c.in_ok-put_lines.ensures.chains c.sizes.ensures c.len.ensures in
     let ends : c.take_lines_back.new.ends ≡ inside.ends = c.take_lines_back.ensures.ends ∙ taken_back inside.ends c.put_lines.new.ends told.ends c.len.result c.in_ok-put_lines.ensures.ends many_ends in
     let shares : c.take_lines_back.new.shares ≡ inside.shares = c.take_lines_back.ensures.shares ∙ taken_back inside.shares c.put_lines.new.shares _ c.len-2.result c.in_ok-put_lines.ensures.shares many_shares in
-    held_back view inside.places inside.chains.lines inside.shares c.self.invariant inside.streams c.put_query-put.new.order c.put_query-put.new.published c.put_query-put.new.expressions c.take_lines_back.new.ends c.put_query-put.new.places
-    c.take_lines_back.new.chains c.take_lines_back.new.shares refl c.in-Err.ensures.order_kept c.in-Err.ensures.published_kept c.in-Err.ensures.expressions_kept ends c.in-Err.ensures.places_kept chains shares
+    held_back view inside.places inside.chains.lines inside.shares inside.reads c.self.invariant inside.streams c.put_query-put.new.order c.put_query-put.new.published c.put_query-put.new.expressions c.take_lines_back.new.ends c.put_query-put.new.places
+    c.take_lines_back.new.chains c.take_lines_back.new.shares inside.reads refl c.in-Err.ensures.order_kept c.in-Err.ensures.published_kept c.in-Err.ensures.expressions_kept ends c.in-Err.ensures.places_kept chains shares (λ stream. refl)
 
 -- and so is the query
-pub invariant_of-self-in-Err-publish : goal.invariant_of-self-in-Err-publish
-invariant_of-self-in-Err-publish c =
+pub invariant_of-self-in-Err-published : goal.invariant_of-self-in-Err-published
+invariant_of-self-in-Err-published c =
     let view : Catalogued = record {
       file = c.self.inside.file;
       declared = c.self.inside.declared;
@@ -97,16 +100,16 @@ invariant_of-self-in-Err-publish c =
     let before : Before = record { sizes = c.sizes.result; lines = c.len.result; queries = c.len-2.result } in
     let many_ends : c.len.result ≡ length inside.ends = c.len.ensures ∙ ap length c.self.invariant.lines_are ∙ sym stands.ended.as_many in
     let many_shares : c.len-2.result ≡ length inside.shares = c.len-2.ensures ∙ sym (ap length c.self.invariant.shared ∙ length-map (work_in view) share_of ∙ work_long view stands) in
-    let chains : c.take_lines_back-in-Err-publish.new.chains ≡ inside.chains = c.take_lines_back-in-Err-publish.ensures.chains ∙ lines_back inside.chains c.put_lines.new.chains told.lines told.growth before c.in_ok-put_lines.ensures.chains c.sizes.ensures c.len.ensures in
-    let ends : c.take_lines_back-in-Err-publish.new.ends ≡ inside.ends = c.take_lines_back-in-Err-publish.ensures.ends ∙ taken_back inside.ends c.put_lines.new.ends told.ends c.len.result c.in_ok-put_lines.ensures.ends many_ends in
-    let shares : c.take_lines_back-in-Err-publish.new.shares ≡ inside.shares = c.take_lines_back-in-Err-publish.ensures.shares ∙ taken_back inside.shares c.put_lines.new.shares _ c.len-2.result c.in_ok-put_lines.ensures.shares many_shares in
+    let chains : c.take_lines_back-in-Err-published.new.chains ≡ inside.chains = c.take_lines_back-in-Err-published.ensures.chains ∙ lines_back inside.chains c.put_lines.new.chains told.lines told.growth before c.in_ok-put_lines.ensures.chains c.sizes.ensures c.len.ensures in
+    let ends : c.take_lines_back-in-Err-published.new.ends ≡ inside.ends = c.take_lines_back-in-Err-published.ensures.ends ∙ taken_back inside.ends c.put_lines.new.ends told.ends c.len.result c.in_ok-put_lines.ensures.ends many_ends in
+    let shares : c.take_lines_back-in-Err-published.new.shares ≡ inside.shares = c.take_lines_back-in-Err-published.ensures.shares ∙ taken_back inside.shares c.put_lines.new.shares _ c.len-2.result c.in_ok-put_lines.ensures.shares many_shares in
     let many = c.len-2.result in
-    held_back view inside.places inside.chains.lines inside.shares c.self.invariant c.publish.new.self c.truncate.new.self c.truncate-in-Err-publish-2.new.self c.truncate-in-Err-publish-3.new.self c.take_lines_back-in-Err-publish.new.ends
-    c.truncate-in-Err-publish.new.self c.take_lines_back-in-Err-publish.new.chains c.take_lines_back-in-Err-publish.new.shares c.in-Err-publish.ensures.kept
+    held_back view inside.places inside.chains.lines inside.shares inside.reads c.self.invariant c.publish-published.new.streams c.truncate.new.self c.truncate-in-Err-published-2.new.self c.truncate-in-Err-published-3.new.self c.take_lines_back-in-Err-published.new.ends
+    c.truncate-in-Err-published.new.self c.take_lines_back-in-Err-published.new.chains c.take_lines_back-in-Err-published.new.shares c.publish-published.new.reads c.in-Err-published.ensures.kept
     (c.truncate.ensures ∙ taken_back inside.order c.put_query-put.new.order (length inside.order ∷ []) many c.in_default.ensures.order c.len-2.ensures)
-    (c.truncate-in-Err-publish-2.ensures ∙ taken_back inside.published c.put_query-put.new.published _ many c.in_default.ensures.published (c.len-2.ensures ∙ sym stands.publish))
-    (c.truncate-in-Err-publish-3.ensures ∙ taken_back inside.expressions c.put_query-put.new.expressions (c.args.query.expr ∷ []) many c.in_default.ensures.expressions (c.len-2.ensures ∙ sym stands.express)) ends
-    (c.truncate-in-Err-publish.ensures ∙ taken_back inside.places c.put_query-put.new.places (length inside.order ∷ []) many c.in_default.ensures.places (c.len-2.ensures ∙ sym c.self.invariant.placed.long)) chains shares
+    (c.truncate-in-Err-published-2.ensures ∙ taken_back inside.published c.put_query-put.new.published _ many c.in_default.ensures.published (c.len-2.ensures ∙ sym stands.publish))
+    (c.truncate-in-Err-published-3.ensures ∙ taken_back inside.expressions c.put_query-put.new.expressions (c.args.query.expr ∷ []) many c.in_default.ensures.expressions (c.len-2.ensures ∙ sym stands.express)) ends
+    (c.truncate-in-Err-published.ensures ∙ taken_back inside.places c.put_query-put.new.places (length inside.order ∷ []) many c.in_default.ensures.places (c.len-2.ensures ∙ sym c.self.invariant.placed.long)) chains shares c.in-Err-published.ensures.tallies_kept
 
 -- else the query came
 module _ (c : goal.After-drop-statement-2) where
@@ -141,7 +144,7 @@ module _ (c : goal.After-drop-statement-2) where
   made : (record {
     file = c.self.inside.file;
     declared = c.self.inside.declared;
-    streams = c.publish.new.self;
+    streams = c.publish-published.new.streams;
     order = c.put_query-put.new.order;
     published = c.put_query-put.new.published;
     expressions = c.put_query-put.new.expressions;
@@ -156,7 +159,7 @@ module _ (c : goal.After-drop-statement-2) where
       (λ i. record {
         file = c.self.inside.file;
         declared = c.self.inside.declared;
-        streams = c.publish.new.self;
+        streams = c.publish-published.new.streams;
         order = c.put_query-put.new.order;
         published = c.put_query-put.new.published;
         expressions = c.put_query-put.new.expressions;
@@ -164,15 +167,23 @@ module _ (c : goal.After-drop-statement-2) where
         next_end = c.self.inside.next_end + c.len-3.result;
         layout = (c.in_ok-put_lines.ensures.chains i).layout;
       })
-      ∙ made_is was c.self.invariant.stands c.args.query fit_then c.args.since latest_then c.in_ok-told.told grows_then c.name.result.now c.sizes.result.all (c.len-hidden.result - 1) c.len-3.result c.publish.new.self c.put_query-put.new.order
-      c.put_query-put.new.published c.put_query-put.new.expressions c.put_lines.new.ends c.name.ensures stream (omega (arith, stream, long, up, c.len-hidden.ensures)) c.len-3.ensures c.in_default-publish.ensures.ok c.in_default.ensures.order
+      ∙ made_is was c.self.invariant.stands c.args.query fit_then c.args.since latest_then c.in_ok-told.told grows_then c.name.result.now c.sizes.result.all (c.len-hidden.result - 1) c.len-3.result c.publish-published.new.streams c.put_query-put.new.order
+      c.put_query-put.new.published c.put_query-put.new.expressions c.put_lines.new.ends c.name.ensures stream (omega (arith, stream, long, up, c.len-hidden.ensures)) c.len-3.ensures c.in_default-published.ensures.ok c.in_default.ensures.order
       c.in_default.ensures.published c.in_default.ensures.expressions c.in_ok-put_lines.ensures.ends
+
+  -- its reads are tallied
+  tallied : AddsReads (ex_of c.args.query.expr) c.self.inside.reads c.publish-published.new.reads
+  tallied =
+      let inside = c.self.inside in
+      let own : c.get.result.now ≡ c.args.query.expr = last_is inside.expressions c.put_query-put.new.expressions c.args.query.expr c.get.result.now c.len-2.result c.in_default.ensures.expressions (c.len-2.ensures ∙ sym c.self.invariant.stands.express) c.get.ensures in
+      subst (λ (x : Expr). AddsReads (ex_of x) inside.reads c.publish-published.new.reads) own c.in_default-published.ensures.tallied
 
 pub invariant_of-self-2 : goal.invariant_of-self-2
 invariant_of-self-2 c =
     let held =
-    come_held (was c) c.self.invariant.stands c.args.query (fit_then c) c.args.since (latest_then c) c.in_ok-told.told (grows_then c) c.self.inside.places c.self.inside.chains.lines c.self.inside.shares c.self.invariant.placed c.self.invariant.lines_are c.self.invariant.shared in
-    subst (λ (s : Catalogued × List ℕ × List Line × List Share). IsHeld s.0 s.1 s.2 s.3)
+    come_held (was c) c.self.invariant.stands c.args.query (fit_then c) c.args.since (latest_then c) c.in_ok-told.told (grows_then c) c.self.inside.places c.self.inside.chains.lines c.self.inside.shares c.self.inside.reads c.publish-published.new.reads c.self.invariant
+    (tallied c) in
+    subst (λ (s : Catalogued × List ℕ × List Line × List Share). IsHeld s.0 s.1 s.2 s.3 c.publish-published.new.reads)
     (λ i. (sym (made c) i, sym c.in_default.ensures.places i, (sym c.in_ok-put_lines.ensures.chains i).lines, sym c.in_ok-put_lines.ensures.shares i)) held
 
 pub returns-clause-come : goal.returns-clause-come

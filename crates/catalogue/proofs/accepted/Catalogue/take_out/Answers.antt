@@ -1,11 +1,14 @@
-use Rattle.std.proofs.Common.{◌≡◌, ◌∙◌, ℕ, map, sym, ap, subst}
+use Rattle.std.proofs.Common.{◌≡◌, ◌∙◌, ℕ, List, map, sym, ap, subst}
 use Rattle.std.specs.List.{remove}
 use Rattle.automaton.specs.Layouts.{shrunk}
 use Rattle.stream_schema.specs.Streams.{retired}
 use Rattle.catalogue.specs.Catalogued.{Catalogued, query_in, work_in}
 use Rattle.catalogue.specs.Leaving.{catalogue_without, layout_without, lines_before, lines_up_to, moved_down, place_of, without_part}
 use Rattle.catalogue.specs.Sharing.{share_of}
+use Rattle.expressions.specs.declared.expression.Expr.{Expr}
 use Rattle.catalogue.specs.Tables.{HasPlaces, IsHeld}
+use Rattle.catalogue.specs.Tallies.{AreTallied}
+use Rattle.catalogue.proofs.TallyLemmas.{tallied_less, tallied_one}
 use Rattle.catalogue.proofs.LeftLemmas.{left_stands, lines_left}
 use Rattle.catalogue.proofs.LeftProgramLemmas.{at_work, work_left}
 use Rattle.catalogue.proofs.MovedLemmas.{places_left}
@@ -16,20 +19,24 @@ use Rattle.catalogue.proofs.accepted.Catalogue.take_out.Goals as goal
 -- the stream is there
 pub retire-requires-clause-within : goal.retire-requires-clause-within
 retire-requires-clause-within c =
-    let held : IsHeld c.args.self.now c.self.inside.places c.self.inside.chains.lines c.self.inside.shares = subst (λ (v : Catalogued). IsHeld v c.self.inside.places c.self.inside.chains.lines c.self.inside.shares) c.self.view_is c.self.invariant in
+    let held : IsHeld c.args.self.now c.self.inside.places c.self.inside.chains.lines c.self.inside.shares c.self.inside.reads = subst (λ (v : Catalogued). IsHeld v c.self.inside.places c.self.inside.chains.lines c.self.inside.shares c.self.inside.reads) c.self.view_is c.self.invariant in
     stream_within c.args.self.now held.stands c.args.query c.requires.within c.self.inside.published c.self.inside.streams (ap (λ (v : Catalogued). v.published) c.self.view_is) (ap (λ (v : Catalogued). v.streams) c.self.view_is) c.place-place.result
     c.place-place.ensures.value c.get.result.now c.get.ensures
 
 -- and a query publishes it
 pub retire-requires-clause-published : goal.retire-requires-clause-published
 retire-requires-clause-published c =
-    let held : IsHeld c.args.self.now c.self.inside.places c.self.inside.chains.lines c.self.inside.shares = subst (λ (v : Catalogued). IsHeld v c.self.inside.places c.self.inside.chains.lines c.self.inside.shares) c.self.view_is c.self.invariant in
+    let held : IsHeld c.args.self.now c.self.inside.places c.self.inside.chains.lines c.self.inside.shares c.self.inside.reads = subst (λ (v : Catalogued). IsHeld v c.self.inside.places c.self.inside.chains.lines c.self.inside.shares c.self.inside.reads) c.self.view_is c.self.invariant in
     stream_published c.args.self.now held.stands c.args.query c.requires.within c.self.inside.published c.self.inside.streams (ap (λ (v : Catalogued). v.published) c.self.view_is) (ap (λ (v : Catalogued). v.streams) c.self.view_is) c.place-place.result
     c.place-place.ensures.value c.get.result.now c.get.ensures
 
+-- its reads are tallied
+pub untally-requires : goal.untally-requires
+untally-requires c = tallied_one c.self.inside.expressions c.place-place.result c.get-2.result.now c.get-2.ensures c.self.inside.reads c.self.invariant.tallied
+
 module _ (c : goal.After-shrink) where
-  held : IsHeld c.args.self.now c.self.inside.places c.self.inside.chains.lines c.self.inside.shares
-  held = subst (λ (v : Catalogued). IsHeld v c.self.inside.places c.self.inside.chains.lines c.self.inside.shares) c.self.view_is c.self.invariant
+  held : IsHeld c.args.self.now c.self.inside.places c.self.inside.chains.lines c.self.inside.shares c.self.inside.reads
+  held = subst (λ (v : Catalogued). IsHeld v c.self.inside.places c.self.inside.chains.lines c.self.inside.shares c.self.inside.reads) c.self.view_is c.self.invariant
 
   order_is : c.move_down.new.numbers ≡ map (moved_down c.args.query) (remove c.args.self.now.order (place_of c.args.self.now c.args.query))
   order_is = c.move_down.ensures ∙ ap (map (moved_down c.args.query)) (c.remove.ensures.others ∙ (λ t. remove (c.self.view_is t).order (c.place-place.ensures.value t)))
@@ -80,12 +87,14 @@ invariant_of-self c =
     let lines : c.cut-2.new.self ≡ without_part c.self.inside.chains.lines c.args.part.first c.args.part.end = c.cut-2.ensures in
     let shares : c.remove-5.new.self ≡ map share_of (remove (work_in now) at) =
     c.remove-5.ensures.others ∙ (λ t. remove (h.shared t) (c.place-place.ensures.value t)) ∙ sym (map-remove share_of (work_in now) at (at_work now h.stands c.args.query c.requires.within)) in
-    subst (λ (v : Catalogued). IsHeld v c.move_down-2.new.numbers c.cut-2.new.self c.remove-5.new.self) (sym (made c)) (record {
+    subst (λ (v : Catalogued). IsHeld v c.move_down-2.new.numbers c.cut-2.new.self c.remove-5.new.self c.untally.new.tallies) (sym (made c)) (record {
       stands = left_stands now h.stands c.args.query c.requires.within c.requires.unread;
       placed =
           subst (HasPlaces (map (moved_down c.args.query) (remove now.order at))) (sym places) (places_left now.order c.self.inside.places h.stands.numbered h.placed c.args.query c.requires.within);
       lines_are = lines ∙ (λ t. without_part (h.lines_are t) (c.requires.part.first t) (c.requires.part.end t)) ∙ sym (lines_left now h.stands c.args.query c.requires.within);
       shared = shares ∙ ap (map share_of) (sym (work_left now h.stands c.args.query c.requires.within));
+      tallied = subst (λ (xs : List Expr). AreTallied xs c.untally.new.tallies) (λ t. remove (c.self.view_is t).expressions (c.place-place.ensures.value t))
+          (tallied_less c.self.inside.expressions c.place-place.result c.get-2.result.now c.get-2.ensures c.self.inside.reads c.self.invariant.tallied c.untally.new.tallies c.untally.ensures);
     })
 
 pub returns : goal.returns
