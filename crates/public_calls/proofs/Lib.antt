@@ -1,2 +1,4 @@
+mod MonitorLemmas
 mod SpanLemmas
 mod TwoQueries
+mod TypedQueryLemmas

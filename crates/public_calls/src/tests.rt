@@ -1,15 +1,19 @@
 //! What no clause says: that memory is had.
 mod catalogues;
 mod chains;
+mod changes;
 mod closings;
 mod counts;
 mod engines;
 mod evaluation;
+mod expected;
 mod generated;
 mod hosts;
 mod indexes;
 mod merging;
+mod monitors;
 mod offering;
+mod orders;
 mod runs;
 mod texts;
 mod times;
