@@ -127,7 +127,20 @@ impl Monitor {
         take_out(&mut self.engine, dropped);
         Ok(())
     }
+
+    /// Lets go of the queries and of the engine, each by itself.
+    pub fn end(self) {
+        let Monitor { catalogue, engine } = self;
+        end_queries(catalogue);
+        end_engine(engine);
+    }
 }
+
+// Lets go of a catalogue.
+fn end_queries(_catalogue: Catalogue) {}
+
+// Lets go of an engine.
+fn end_engine(_engine: Engine) {}
 
 // The stream of an event is declared, and its values are of the stream's kinds.
 fn check_event(rt: &impl Abort, engine: &Engine, stream: StreamId, event: &Tuple)

@@ -215,16 +215,34 @@ impl Order {
             _ => self.offer(rt, alloc),
         }
     }
+
+    // Thirty things happen, and the open epoch is closed.
+    fn steps(&mut self, rt: &impl Abort, alloc: Global) -> Result<(), Memory> {
+        for _ in 0..30 {
+            self.step(rt, alloc)?;
+        }
+        self.close(rt, alloc)
+    }
+
+    // Lets go of the queries, of the engine and of the events.
+    fn end(self) {
+        let Order { monitor, .. } = self;
+        monitor.end();
+    }
+}
+
+// One order from its start to its end.
+fn goes_through(rt: &impl Abort, alloc: Global, seed: u64) -> Result<(), Memory> {
+    let mut order = Order::make(rt, alloc, seed)?;
+    let done = order.steps(rt, alloc);
+    order.end();
+    done
 }
 
 #[test]
 fn each_query_has_what_it_denotes_in_a_thousand_orders(rt: HostRuntime) -> Result<(), Fail> {
     for seed in 1..1001 {
-        let mut order = Order::make(&rt, rt.alloc(), seed)?;
-        for _ in 0..30 {
-            order.step(&rt, rt.alloc())?;
-        }
-        order.close(&rt, rt.alloc())?;
+        goes_through(&rt, rt.alloc(), seed)?;
     }
     Ok(())
 }
