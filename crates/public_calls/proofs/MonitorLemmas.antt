@@ -5,6 +5,7 @@ use Rattle.std.proofs.lemmas.List.Elements.{All-nil}
 use Rattle.event_types.specs.declared.memory.Memory.{Memory}
 use Rattle.event_types.specs.Tuple.{IsSound, TupleView}
 use Rattle.semantics.specs.Histories.{Event}
+use Rattle.automaton.specs.Layouts.{grown, shrunk}
 use Rattle.automaton.specs.NetworkLines.{HasEndings}
 use Rattle.automaton.specs.Plain.{numbered}
 use Rattle.automaton.specs.States.{Net}
@@ -74,24 +75,24 @@ module _ (c : Catalogued) (before : EngineView) (stands : Stands c before) where
   module _ (shut : before.time ≡ None) (new : Catalogued) (standing : StandsInOrder new) where
     -- once a query came
     module _ (text : List ℕ) (since : Option ℕ) (told : Added) (is : since ≡ before.closed_time) (added : IsAdded text since c new told) where
-      pub may_be_added : MayBeAdded told.lines told.ends told.layout before
+      pub may_be_added : MayBeAdded told.lines told.ends told.growth before
       may_be_added = told_may_be_added added.query since told c new before stands.1.in_order standing stands.1.at_one added.come added.is_told
 
-      pub came : (after : EngineView) → Adds told.lines told.ends since told.layout before after → Stands new after
+      pub came : (after : EngineView) → Adds told.lines told.ends since (grown before.layout told.growth) before after → Stands new after
       came after adds = (
         _,
         goes_on _ (course.come added.query told standing (record {
           closed = shut;
           come = subst (λ birth. HasCome c added.query birth new) is added.come;
           is_told = subst (λ birth. IsTold c (coming c added.query birth) new told) is added.is_told;
-          adds = subst (λ birth. Adds told.lines told.ends birth told.layout before after) is adds;
+          adds = subst (λ birth. Adds told.lines told.ends birth (grown before.layout told.growth) before after) is adds;
         })),
       )
 
     -- and once one left
     module _ (name : List ℕ) (dropped : Dropped) (leaves : Leaves name dropped c new) where
-      pub may_be_removed : MayBeRemoved dropped.ends dropped.layout before
+      pub may_be_removed : MayBeRemoved dropped.ends dropped.part before
       may_be_removed = dropped_may_be_removed leaves.number dropped c new before stands.1.in_order standing stands.1.at_one leaves.named.within leaves.left
 
-      pub left : (after : EngineView) → Drops dropped.ends dropped.layout before after → Stands new after
+      pub left : (after : EngineView) → Drops dropped.ends (shrunk before.layout dropped.part) before after → Stands new after
       left after drops = (_, goes_on _ (course.leave leaves.number dropped standing (record { closed = shut; within = leaves.named.within; unread = leaves.unread; left = leaves.left; drops = drops })))

@@ -1,6 +1,7 @@
 //! Queries that come and go beside an engine, by the calls of a catalogue and of an engine.
 ghost use Rattle.std.specs.Prelude.{◌≡◌, ◌<◌, None, IsSome, IsTrue, IfOk, OnErr};
 ghost use Rattle.event_types.specs.Tuple.{IsSound};
+ghost use Rattle.automaton.specs.Layouts.{grown, shrunk};
 ghost use Rattle.semantics.specs.Kinds.{ValueHasKind, ValuesHaveKinds};
 ghost use Rattle.change_laws.specs.Calls.{MayBeAdded, MayBeRemoved};
 ghost use Rattle.epoch_engine.specs.Adding.{Adds, Drops};
@@ -168,11 +169,11 @@ fn check_time(rt: &impl Abort, engine: &Engine, event: &Tuple)
 fn bring(rt: &impl Abort, alloc: Global, engine: &mut Engine, since: Option<u64>, added: Added)
     requires closed { engine.old.time ≡ None }
     requires since { since ≡ engine.old.closed_time }
-    requires may { MayBeAdded added.lines added.ends added.layout engine.old }
-    ensures { Adds added.lines added.ends since added.layout engine.old engine.new }
+    requires may { MayBeAdded added.lines added.ends added.growth engine.old }
+    ensures { Adds added.lines added.ends since (grown engine.old.layout added.growth) engine.old engine.new }
 {
-    let layout = added.layout;
-    match engine.add(alloc, &added.lines, &added.ends, since, layout) {
+    let growth = added.growth;
+    match engine.add(alloc, &added.lines, &added.ends, since, growth) {
         Ok(()) => {}
         Err(_) => panic!(rt; "no memory"),
     }
@@ -181,11 +182,10 @@ fn bring(rt: &impl Abort, alloc: Global, engine: &mut Engine, since: Option<u64>
 // Removes what a catalogue gave out of a query that left from an engine.
 fn take_out(engine: &mut Engine, dropped: Dropped)
     requires closed { engine.old.time ≡ None }
-    requires may { MayBeRemoved dropped.ends dropped.layout engine.old }
-    ensures { Drops dropped.ends dropped.layout engine.old engine.new }
+    requires may { MayBeRemoved dropped.ends dropped.part engine.old }
+    ensures { Drops dropped.ends (shrunk engine.old.layout dropped.part) engine.old engine.new }
 {
-    let layout = dropped.layout;
-    engine.remove(&dropped.ends, layout);
+    engine.remove(&dropped.ends, dropped.part);
 }
 
 // Closes the open epoch of an engine.
