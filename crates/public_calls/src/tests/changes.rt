@@ -131,11 +131,19 @@ const DEEDS: [Deed; 12] = [
     Deed::HasNo("Pair"),
 ];
 
+// Does it all.
+fn does_all(rt: &impl Abort, alloc: Global, monitor: &mut Monitor) -> Result<(), Memory> {
+    for deed in &DEEDS {
+        does(rt, alloc, monitor, *deed)?;
+    }
+    Ok(())
+}
+
 #[test]
 fn a_query_that_comes_shares_states_and_begins_anew(rt: HostRuntime) -> Result<(), Fail> {
     let mut monitor = Monitor::make(&rt, rt.alloc(), QUERIES)?;
-    for deed in &DEEDS {
-        does(&rt, rt.alloc(), &mut monitor, *deed)?;
-    }
+    let done = does_all(&rt, rt.alloc(), &mut monitor);
+    monitor.end();
+    done?;
     Ok(())
 }
