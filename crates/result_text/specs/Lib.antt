@@ -1,3 +1,4 @@
 pub mod Front
+pub mod Quick
 pub mod Tails
 pub mod Written

@@ -59,5 +59,13 @@ fn field_of(alloc: Global, text: &[u8]) -> Result<Vec<u8>, Memory>
 fn needs_quotes(text: &[u8]) -> bool
     ensures { result ≡ list_any is_special text.now }
 {
-    text.iter().any(|byte| *byte == b',' || *byte == b'"' || *byte == b'\r' || *byte == b'\n')
+    text.iter().any(|byte| is_special(*byte))
+}
+
+/// Whether a byte of a text calls for quotes.
+#[inline(always)]
+pub(crate) fn is_special(byte: u8) -> bool
+    ensures { result ≡ is_special byte }
+{
+    byte == b',' || byte == b'"' || byte == b'\r' || byte == b'\n'
 }

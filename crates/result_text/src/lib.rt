@@ -7,6 +7,7 @@ mod decimals;
 mod fields;
 mod front;
 mod lately;
+mod quick;
 mod rows;
 mod tails;
 

@@ -6,34 +6,40 @@ ghost use Rattle.result_text.specs.Written.{IsBetween, any_width, bytes_of};
 ghost use Rattle.semantics.specs.Report.{quoted};
 
 use crate::fields::{add_time, add_value, end, start, start_time};
+use crate::quick::write_quickly;
 use csv::{Writer, WriterBuilder};
 use event_types::{Memory, Tuple};
 use std::alloc::Global;
 use std::marker::Model;
-use std::mem;
 
-/// The tails of result lines, one behind another, as one `csv` writer writes them: the start, the detection and
+/// The tails of result lines, one behind another, as a `csv` writer writes them: the start, the detection and
 /// the values of a tuple, and an LF.
 #[derive(Drop)]
 pub struct Tails {
     alloc: Global,
+    bytes: Vec<u8>,
+    // Where a tail is written quickly.
+    room: [u8; ROOM],
+    // What writes the other tails, and keeps them too.
     writer: Writer<Vec<u8>>,
 }
 
 impl Model for Tails {
     ghost use Rattle.std.specs.Prelude.{List, ℕ};
-    ghost use Rattle.csv.specs.Writing.{writer_under};
     ghost use Rattle.result_text.specs.Written.{IsBetween};
 
     ghost Value = { List ℕ };
 
-    ghost view = { λ t. (writer_under t.writer).items };
+    ghost view = { λ t. t.bytes.items };
 
     ghost invariant = { λ t. IsBetween t.writer };
 }
 
 // So many bytes of tails are kept until they are taken away.
 const FULL: usize = 65536;
+
+// So many bytes has the room in which a tail is written quickly.
+const ROOM: usize = 1024;
 
 impl Tails {
     /// No tails. Takes no memory.
@@ -42,6 +48,8 @@ impl Tails {
     {
         Tails {
             alloc,
+            bytes: Vec::new(alloc),
+            room: [0; ROOM],
             writer: writer_over(Vec::new(alloc)),
         }
     }
@@ -50,16 +58,36 @@ impl Tails {
     pub fn as_slice(&self) -> &[u8]
         ensures { result.now ≡ self.now }
     {
-        self.writer.get_ref().as_slice()
+        self.bytes.as_slice()
     }
 
-    /// Puts the tail of a tuple's line behind the others. Out of line, since a writer holds a long buffer.
+    /// Puts the tail of a tuple's line behind the others. Out of line, since the writing of each field stands in line here.
     #[inline(never)]
     pub(crate) fn put(&mut self, tuple: &Tuple) -> Result<(), Memory>
         ensures { OnOk result (self.new ≡ self.old ++ tail_text tuple.now) }
     {
+        match write_quickly(&mut self.room, tuple) {
+            Some(start) => {
+                self.bytes
+                    .extend_from_slice(&self.room.as_slice()[start..])?;
+                Ok(())
+            }
+            None => self.put_slowly(tuple),
+        }
+    }
+
+    // Puts the tail of a tuple's line behind the others, as the writer writes it. Out of line, since few tails go this way.
+    #[inline(never)]
+    fn put_slowly(&mut self, tuple: &Tuple) -> Result<(), Memory>
+        ensures { OnOk result (self.new ≡ self.old ++ tail_text tuple.now) }
+    {
+        let begin = self.writer.get_ref().len();
         match write_tail(self.alloc, &mut self.writer, tuple) {
-            Ok(()) => Ok(()),
+            Ok(()) => {
+                self.bytes
+                    .extend_from_slice(&self.writer.get_ref().as_slice()[begin..])?;
+                Ok(())
+            }
             Err(_) => {
                 renew(&mut self.writer, self.alloc);
                 Err(Memory)
@@ -76,16 +104,13 @@ impl Tails {
         }
     }
 
-    // Takes the tails away, and keeps their room. Out of line, since a writer holds a long buffer.
-    #[inline(never)]
+    // Takes the tails away, and keeps their room.
     fn clear(&mut self)
         ensures { self.new ≡ [] }
     {
-        let fresh = writer_over(Vec::new(self.alloc));
-        let full = mem::replace(&mut self.writer, fresh);
-        if let Ok(mut bytes) = full.into_inner() {
-            bytes.clear();
-            self.writer = writer_over(bytes);
+        self.bytes.clear();
+        if !self.writer.get_ref().is_empty() {
+            renew(&mut self.writer, self.alloc);
         }
     }
 }
@@ -103,12 +128,10 @@ pub(crate) fn quote(alloc: Global, text: &[u8]) -> Result<Vec<u8>, Memory>
     }
 }
 
-// Puts a writer that has written nothing in the place of one that failed. Out of line, since a writer holds a
-// long buffer.
+// Puts a writer that has written nothing in the place of another. Out of line, since a writer holds a long buffer.
 #[inline(never)]
 fn renew(writer: &mut Writer<Vec<u8>>, alloc: Global)
-    ensures between { IsBetween writer.new }
-    ensures empty { (writer_under writer.new).items ≡ [] }
+    ensures { IsBetween writer.new }
 {
     *writer = writer_over(Vec::new(alloc));
 }
