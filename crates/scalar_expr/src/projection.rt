@@ -3,7 +3,7 @@ ghost use Rattle.std.specs.Prelude.{◌≡◌, ◌≤◌, ◌↔◌, ◌++◌, �
 ghost use Rattle.std.specs.List.{All};
 ghost use Rattle.std.specs.Option.{option_copied};
 ghost use Rattle.semantics.specs.Values.{applied, val};
-ghost use Rattle.scalar_expr.specs.Fits.{Fits};
+ghost use Rattle.scalar_expr.specs.Fits.{Fits, IsComputed};
 ghost use Rattle.scalar_expr.specs.Views.{sc_of};
 
 use crate::copying::copy_scalar;
@@ -123,9 +123,25 @@ fn add_value(
         Some(value) => add_copy(alloc, vals, value),
         None => match number_of(scalar, event, binding) {
             Some(number) => vals.add(Value::Int(number)),
-            None => vals.add(computed(scalar, event, binding).to_value(alloc)?),
+            None => add_computed(alloc, vals, scalar, event, binding),
         },
     }
+}
+
+// The same of DUR or of an operation, whatever its value is.
+#[inline(never)]
+fn add_computed(
+    alloc: Global,
+    vals: &mut Vals,
+    scalar: &Scalar,
+    event: &Tuple,
+    binding: Option<&Tuple>,
+) -> Result<(), Memory>
+    requires computed { IsComputed (sc_of scalar.now) }
+    requires fits { Fits (sc_of scalar.now) event.now (option_copied binding) }
+    ensures { OnOk result (vals.new ≡ vals.old ++ val (sc_of scalar.now) event.now (option_copied binding.entry) ∷ []) }
+{
+    vals.add(computed(scalar, event, binding).to_value(alloc)?)
 }
 
 // The tuple of these values and times, which are in order.

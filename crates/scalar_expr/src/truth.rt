@@ -35,14 +35,28 @@ pub fn holds<L: Ledger>(
 }
 
 // Whether each of the predicates holds.
+#[inline(never)]
 fn all_hold(parts: &[Pred], event: &Tuple, binding: Option<&Tuple>) -> bool
     requires { All (λ p. PredFits (pr_of p) event.now (option_copied binding)) parts.now }
     ensures { result ≡ list_all (λ p. truth (pr_of p) event.now (option_copied binding.entry)) parts.now }
 {
-    parts.iter().all(|part| is_true(part, event, binding))
+    parts.iter().all(|part| part_is_true(part, event, binding))
+}
+
+// Whether a predicate holds, a comparison without more ado.
+#[inline(always)]
+fn part_is_true(predicate: &Pred, event: &Tuple, binding: Option<&Tuple>) -> bool
+    requires { PredFits (pr_of predicate.now) event.now (option_copied binding) }
+    ensures { result ≡ truth (pr_of predicate.now) event.now (option_copied binding.entry) }
+{
+    match predicate {
+        Pred::Test(x, cmp, y) => test_is_true(x, *cmp, y, event, binding),
+        _ => is_true(predicate, event, binding),
+    }
 }
 
 // Whether a predicate holds.
+#[inline(never)]
 fn is_true(predicate: &Pred, event: &Tuple, binding: Option<&Tuple>) -> bool
     requires { PredFits (pr_of predicate.now) event.now (option_copied binding) }
     ensures { result ≡ truth (pr_of predicate.now) event.now (option_copied binding.entry) }
@@ -56,12 +70,17 @@ fn is_true(predicate: &Pred, event: &Tuple, binding: Option<&Tuple>) -> bool
     }
 }
 
-// Whether the values of two scalars compare so. Those that stand somewhere are compared in place.
+// Whether the values of two scalars compare so. Those that stand somewhere are compared in place, and DUR with its bound
+// without more ado.
+#[inline(always)]
 fn test_is_true(x: &Scalar, cmp: Cmp, y: &Scalar, event: &Tuple, binding: Option<&Tuple>) -> bool
     requires left { Fits (sc_of x.now) event.now (option_copied binding) }
     requires right { Fits (sc_of y.now) event.now (option_copied binding) }
     ensures { result ≡ truth (Test (sc_of x.now) cmp (sc_of y.now)) event.now (option_copied binding.entry) }
 {
+    if let (Scalar::Dur, Scalar::Lit(Value::Int(most))) = (x, y) {
+        return is_accepted(cmp, span(event, binding).cmp(most));
+    }
     match (
         value_in_place(x, event, binding),
         value_in_place(y, event, binding),
@@ -71,7 +90,7 @@ fn test_is_true(x: &Scalar, cmp: Cmp, y: &Scalar, event: &Tuple, binding: Option
     }
 }
 
-// Whether the values of two scalars compare so, a bound on DUR without more ado.
+// Whether the values of two scalars compare so, wherever they are.
 #[inline(never)]
 fn computed_test_is_true(
     x: &Scalar,
@@ -84,27 +103,31 @@ fn computed_test_is_true(
     requires right { Fits (sc_of y.now) event.now (option_copied binding) }
     ensures { result ≡ truth (Test (sc_of x.now) cmp (sc_of y.now)) event.now (option_copied binding.entry) }
 {
-    match (x, y) {
-        (Scalar::Dur, Scalar::Lit(Value::Int(most))) => {
-            is_accepted(cmp, span(event, binding).cmp(most))
-        }
-        _ => compares(
-            cmp,
-            value_of(x, event, binding),
-            value_of(y, event, binding),
-        ),
-    }
+    compares(
+        cmp,
+        value_of(x, event, binding),
+        value_of(y, event, binding),
+    )
 }
 
 // Whether two values compare so, whole numbers and texts where they stand.
+#[inline(always)]
 fn compares_in_place(cmp: Cmp, x: &Value, y: &Value) -> bool
     ensures { result ≡ is_met cmp (order_of x.now y.now) }
 {
     match (x, y) {
         (Value::Int(x), Value::Int(y)) => is_accepted(cmp, x.cmp(y)),
         (Value::Text(x), Value::Text(y)) => texts_compare(cmp, x.as_str(), y.as_str()),
-        _ => compares(cmp, x.look(), y.look()),
+        _ => compares_apart(cmp, x, y),
     }
+}
+
+// The same of any two values.
+#[inline(never)]
+fn compares_apart(cmp: Cmp, x: &Value, y: &Value) -> bool
+    ensures { result ≡ is_met cmp (order_of x.now y.now) }
+{
+    compares(cmp, x.look(), y.look())
 }
 
 /// Whether two values compare so: numbers by size, decimals of one scale by units, texts by bytes. Values of

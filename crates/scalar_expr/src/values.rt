@@ -12,6 +12,14 @@ pub(crate) fn add_copy(alloc: Global, vals: &mut Vals, value: &Value) -> Result<
     match value {
         Value::Int(number) => vals.add(Value::Int(*number)),
         Value::Text(text) => vals.add(Value::Text(text.copied(alloc)?)),
-        _ => vals.add(value.copied(alloc)?),
+        _ => add_apart(alloc, vals, value),
     }
+}
+
+// The same of any value.
+#[inline(never)]
+fn add_apart(alloc: Global, vals: &mut Vals, value: &Value) -> Result<(), Memory>
+    ensures { OnOk result (vals.new ≡ vals.old ++ value.now ∷ []) }
+{
+    vals.add(value.copied(alloc)?)
 }
