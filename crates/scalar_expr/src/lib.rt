@@ -33,7 +33,7 @@ pub use laws::{
 };
 pub use part::Part;
 pub use predicate::Pred;
-pub use projection::{Map, apply};
+pub use projection::{Map, apply, evaluate};
 pub use scalar::{Scalar, Scalars};
 pub use truth::{compares, holds};
 pub use valuation::value_of;

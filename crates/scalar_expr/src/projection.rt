@@ -86,21 +86,40 @@ pub fn apply(
     requires fits { All (λ s. Fits s event.now (option_copied binding)) projection.now.parts }
     ensures { IfOk result (λ tuple. tuple ≡ applied projection.now.parts event.now (option_copied binding.entry) from at) }
 {
-    let vals = values_of(alloc, projection.scalars(), event, binding)?;
+    let room = List::with_room(alloc, projection.parts.len())?;
+    let vals = evaluate(alloc, room, projection, event, binding)?;
     Ok(spanning(vals, from, at))
 }
 
-// The values of scalars.
+/// A projection's values over an event and a binding, in a list that is empty before.
+pub fn evaluate(
+    alloc: Global,
+    room: Vals,
+    projection: &Map,
+    event: &Tuple,
+    binding: Option<&Tuple>,
+) -> Result<Vals, Memory>
+    requires empty { room ≡ [] }
+    requires fits { All (λ s. Fits s event.now (option_copied binding)) projection.now.parts }
+    ensures { IfOk result (λ vals. vals ≡ map (λ s. val s event.now (option_copied binding.entry)) projection.now.parts) }
+{
+    let vals = values_of(alloc, room, projection.scalars(), event, binding)?;
+    Ok(vals)
+}
+
+// The values of scalars, in a list that is empty before.
 fn values_of(
     alloc: Global,
+    room: Vals,
     scalars: &[Scalar],
     event: &Tuple,
     binding: Option<&Tuple>,
 ) -> Result<Vals, Memory>
-    requires { All (λ s. Fits (sc_of s) event.now (option_copied binding)) scalars.now }
+    requires empty { room ≡ [] }
+    requires fits { All (λ s. Fits (sc_of s) event.now (option_copied binding)) scalars.now }
     ensures { IfOk result (λ vals. vals ≡ map (λ s. val (sc_of s) event.now (option_copied binding.entry)) scalars.now) }
 {
-    let mut vals = List::with_room(alloc, scalars.len())?;
+    let mut vals = room;
     'scalars: for scalar in scalars {
         add_value(alloc, &mut vals, scalar, event, binding)?;
     }

@@ -1,17 +1,5 @@
-use Rattle.std.proofs.Common.{◌∙◌, ap, map}
-use Rattle.std.specs.Option.{option_copied}
-use Rattle.semantics.specs.Scalars.{Sc}
-use Rattle.semantics.specs.Values.{val}
-use Rattle.scalar_expr.specs.Fits.{Fits}
-use Rattle.scalar_expr.specs.Views.{sc_of}
-use Rattle.scalar_expr.proofs.SeenLemmas.{All-seen, map-seen}
+use Rattle.std.proofs.Common.{◌∙◌}
 use Rattle.scalar_expr.proofs.projection.apply.Goals as goal
 
-pub values_of-requires : goal.values_of-requires
-values_of-requires c = All-seen (λ s. Fits s c.args.event.now (option_copied c.args.binding)) sc_of _ _ c.scalars.ensures c.requires.fits
-
 pub returns : goal.returns
-returns c =
-    let value = λ (s : Sc). val s c.args.event.now (option_copied c.args.binding) in
-    let vals = c.in_ok-vals.ensures ∙ map-seen value sc_of c.scalars.result.now ∙ ap (map value) c.scalars.ensures in
-    c.spanning.ensures ∙ (λ i. record { vals = vals i; from = c.args.from; at = c.args.at })
+returns c = c.spanning.ensures ∙ (λ i. record { vals = c.in_ok-vals.ensures i; from = c.args.from; at = c.args.at })
