@@ -39,6 +39,14 @@ impl<T: Drop> Bead<T> {
         }
     }
 
+    /// Puts a value in place of the bead's own, and gives that back. Takes no memory.
+    pub fn replace(&mut self, value: T) -> T
+        ensures new { self.new ≡ value }
+        ensures old { result ≡ self.old }
+    {
+        std::mem::replace(&mut self.node.value, value)
+    }
+
     /// Frees the bead. Takes no memory.
     pub fn into_value(self) -> T
         ensures { result ≡ self }

@@ -57,8 +57,8 @@ impl<T: Drop> Chain<T> {
         restore(&mut self.run, Some(whole));
     }
 
-    // Takes the first bead out.
-    pub(crate) fn pop(&mut self) -> Option<Bead<T>>
+    /// Takes the first bead out. None exactly where there is none. Takes no memory.
+    pub fn pop(&mut self) -> Option<Bead<T>>
         ensures items { self.old ≡ option_to_list result ++ self.new }
         ensures none { IfNone result (self.new ≡ []) }
     {

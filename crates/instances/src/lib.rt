@@ -12,6 +12,7 @@ mod eligibility;
 mod expiry;
 mod instance;
 mod plain_store;
+mod spent;
 mod waiting;
 
 pub use births::keep_after;
@@ -21,4 +22,5 @@ pub use eligibility::take_eligible;
 pub use expiry::{expires_at, purged_until};
 pub use instance::{Instance, Instances};
 pub use plain_store::PlainStore;
+pub use spent::SpentBeads;
 pub use waiting::Waiting;

@@ -9,6 +9,7 @@ use crate::contents::{add_copies, count_of};
 use crate::eligibility::take_eligible;
 use crate::expiry::purged_until;
 use crate::instance::{Instance, Instances};
+use crate::spent::SpentBeads;
 use crate::waiting::Waiting;
 use event_types::{List, Memory, Tuple};
 use inst_chain::{Bead, Chain, Look};
@@ -95,8 +96,14 @@ impl Waiting for PlainStore {
         self.chain.look()
     }
 
-    fn take<L: Ledger>(&mut self, event: &Tuple, choose: &Conj, steps: &mut Steps<L>) {
-        take_eligible(&mut self.chain, event, choose, steps);
+    fn take<L: Ledger>(
+        &mut self,
+        event: &Tuple,
+        choose: &Conj,
+        steps: &mut Steps<L>,
+        spent: &mut SpentBeads,
+    ) {
+        take_eligible(&mut self.chain, event, choose, steps, spent);
     }
 
     fn all(&self, alloc: Global) -> Result<Instances, Memory> {

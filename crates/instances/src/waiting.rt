@@ -9,6 +9,7 @@ ghost use Rattle.instances.specs.Bounds.{AreAliveUntil, alive_instances};
 ghost use Rattle.instances.specs.Keys.{BindingFits, EventFits, HasKey, IsKeyReady, KeepsUsedKeys, Key, candidates_of, unmatched};
 
 use crate::instance::{Instance, Instances};
+use crate::spent::SpentBeads;
 use event_types::{Memory, Tuple};
 use inst_chain::{Bead, Look};
 use scalar_expr::Conj;
@@ -33,8 +34,15 @@ pub trait Waiting {
         requires { EventFits (key self.now) event.now }
         ensures { result ≡ candidates_of (key self.now) event.now (instances self.now) };
 
-    /// Takes out the candidates for which the event is eligible. Takes no memory.
-    fn take<L: Ledger>(&mut self, event: &Tuple, choose: &Conj, steps: &mut Steps<L>)
+    /// Takes out the candidates for which the event is eligible, and keeps their beads among the spent ones. Takes no
+    /// memory.
+    fn take<L: Ledger>(
+        &mut self,
+        event: &Tuple,
+        choose: &Conj,
+        steps: &mut Steps<L>,
+        spent: &mut SpentBeads,
+    )
         requires event_fits { EventFits (key self.old) event.now }
         requires condition_fits { All (λ instance. AllFit choose.now event.now (Some instance.tuple)) (candidates_of (key self.old) event.now (instances self.old)) }
         ensures others { instances self.new ≡ unmatched (key self.old) choose.now event.now (instances self.old) }
