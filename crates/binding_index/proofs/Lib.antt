@@ -6,6 +6,7 @@ pub mod ExpiryLemmas
 pub mod KeyLemmas
 pub mod LeadLemmas
 pub mod MapLemmas
+pub mod NotedLemmas
 pub mod OnceLemmas
 pub mod OrderLemmas
 pub mod PairLemmas

@@ -19,6 +19,7 @@ use Rattle.binding_index.specs.Among.{is_key}
 use Rattle.binding_index.specs.Entries.{has_any, is_filled}
 use Rattle.binding_index.proofs.BucketLemmas.{found_own, in_order_permuted, kept_in_order, keyed_at}
 use Rattle.binding_index.proofs.EqualityLemmas.{key_flips}
+use Rattle.binding_index.proofs.NotedLemmas.{any_noted, none_noted}
 use Rattle.binding_index.proofs.SplitLemmas.{all_filled, first_filled}
 use Rattle.binding_index.proofs.StoreLemmas.{from_order, to_order}
 
@@ -98,22 +99,22 @@ module _ (place : ℕ) (bs : List Bucket) (keyed : AreKeyed place bs) (distinct 
       at h = All-contains (λ k. Contains (keys_of bs) k × Held k) (keys_of left) key (All-map (λ k. Contains (keys_of bs) k × Held k) (λ b. b.0) left left_held) h
 
 -- where the buckets without instances are cut off
-module _ (place filled : ℕ) (starts : List ℕ) (bs cs : List Bucket) (h : AreBuckets place filled starts bs) (cut : cs ≡ take filled bs) where
+module _ (place filled : ℕ) (starts : List ℕ) (bs cs : List Bucket) (h : AreBuckets place [] filled starts bs) (cut : cs ≡ take filled bs) where
   same : left place bs h.keyed h.distinct ≡ cs
-  same = sym (cut ∙ first_filled filled bs h.split)
+  same = sym (cut ∙ first_filled filled bs (none_noted filled bs h.split))
 
   long : length cs ≡ filled
   long = ap length cut ∙ length-take-le filled bs h.within
 
   -- what is left are the buckets of a store
-  pub cut_buckets : AreBuckets place filled starts cs
+  pub cut_buckets : AreBuckets place [] filled starts cs
   cut_buckets = record {
     distinct = subst (λ (xs : List Bucket). IsDistinct is_key (keys_of xs)) same (left_distinct place bs h.keyed h.distinct);
     keyed = subst (AreKeyed place) same (left_keyed place bs h.keyed h.distinct);
     start = λ n d lt. subst (StartsFrom (get_or starts n 0)) (sym (ap (λ (xs : List Bucket). get_or xs n d) cut ∙ get_or-take filled bs n d (omega (arith, lt, long)))) (h.start n d (let within = h.within in omega (arith, lt, long, within)));
     room = let within = h.within in let room = h.room in omega (arith, long, within, room);
     within = omega (arith, long);
-    split = subst (λ n. IsSplit n cs) long (subst (λ (xs : List Bucket). IsSplit (length xs) xs) same (all_filled bs));
+    split = any_noted [] filled cs (subst (λ n. IsSplit n cs) long (subst (λ (xs : List Bucket). IsSplit (length xs) xs) same (all_filled bs)));
   }
 
   -- no instance goes with those that are cut off
@@ -126,12 +127,12 @@ module _ (place filled : ℕ) (starts : List ℕ) (bs cs : List Bucket) (h : Are
       subst (λ (xs : List Bucket). Contains (keys_in_order xs) key ↔ (Contains (keys_in_order bs) key × Any (λ instance. value_at instance.tuple place ≡ key) (instances_in_order xs))) same (left_ready place bs h.keyed h.distinct key)
 
 -- where instances expired, they were taken out
-module _ (place filled : ℕ) (before : List ℕ) (test : Instance → Bool) (bs ds : List Bucket) (h : AreBuckets place filled before bs) (purged : IsPurged test bs ds) where
+module _ (place : ℕ) (noted : List ℕ) (filled : ℕ) (before : List ℕ) (test : Instance → Bool) (bs ds : List Bucket) (h : AreBuckets place noted filled before bs) (purged : IsPurged test bs ds) where
   purged_distinct : IsDistinct is_key (keys_of ds)
   purged_distinct = IsDistinct-IsPermutation is_key key_flips (keys_of bs) (keys_of ds) purged.same_keys h.distinct
 
   -- what is left are the buckets of a store
-  pub purged_buckets : (n : ℕ) (starts : List ℕ) → AreStarts starts ds → length ds ≤ length starts → n ≤ length ds → IsSplit n ds → AreBuckets place n starts ds
+  pub purged_buckets : (n : ℕ) (starts : List ℕ) → AreStarts starts ds → length ds ≤ length starts → n ≤ length ds → IsSplit n ds → AreBuckets place [] n starts ds
   purged_buckets n starts start room within split = record {
     distinct = purged_distinct;
     keyed = λ k d lt.
@@ -140,7 +141,7 @@ module _ (place filled : ℕ) (before : List ℕ) (test : Instance → Bool) (bs
     start = start;
     room = room;
     within = within;
-    split = split;
+    split = any_noted [] n ds split;
   }
 
   -- the keys are the same
@@ -154,20 +155,20 @@ module _ (place filled : ℕ) (before : List ℕ) (test : Instance → Bool) (bs
       ∙ ap (flat_map (λ key. filter test (instances_at bs key))) purged_keys ∙ sym (filter-flat_map test (instances_at bs) (keys_in_order bs))
 
 -- what is left of it, where the buckets without instances are then cut off
-module _ (place filled : ℕ) (before : List ℕ) (test : Instance → Bool) (bs ds cs : List Bucket) (h : AreBuckets place filled before bs) (purged : IsPurged test bs ds) (n : ℕ) (starts : List ℕ) (start : AreStarts starts ds) (room : length ds ≤ length starts) (within : n ≤ length ds) (split : IsSplit n ds) (cut : cs ≡ take n ds) where
-  are : AreBuckets place n starts ds
-  are = purged_buckets place filled before test bs ds h purged n starts start room within split
+module _ (place : ℕ) (noted : List ℕ) (filled : ℕ) (before : List ℕ) (test : Instance → Bool) (bs ds cs : List Bucket) (h : AreBuckets place noted filled before bs) (purged : IsPurged test bs ds) (n : ℕ) (starts : List ℕ) (start : AreStarts starts ds) (room : length ds ≤ length starts) (within : n ≤ length ds) (split : IsSplit n ds) (cut : cs ≡ take n ds) where
+  are : AreBuckets place [] n starts ds
+  are = purged_buckets place noted filled before test bs ds h purged n starts start room within split
 
   -- it is the buckets of a store
-  pub left_over : AreBuckets place n starts cs
+  pub left_over : AreBuckets place [] n starts cs
   left_over = cut_buckets place n starts ds cs are cut
 
   -- its instances are those that pass the test
   pub left_in_order : instances_in_order cs ≡ filter test (instances_in_order bs)
-  left_in_order = cut_in_order place n starts ds cs are cut ∙ purged_in_order place filled before test bs ds h purged
+  left_in_order = cut_in_order place n starts ds cs are cut ∙ purged_in_order place noted filled before test bs ds h purged
 
   -- the keys that stay are those that were ready and that an instance has which stays
   pub left_over_ready : (key : Value) → Contains (keys_in_order cs) key ↔ (Contains (keys_in_order bs) key × Any (λ instance. value_at instance.tuple place ≡ key) (instances_in_order cs))
   left_over_ready key =
-      subst (λ (ks : List Value). Contains (keys_in_order cs) key ↔ (Contains ks key × Any (λ instance. value_at instance.tuple place ≡ key) (instances_in_order cs))) (purged_keys place filled before test bs ds h purged)
+      subst (λ (ks : List Value). Contains (keys_in_order cs) key ↔ (Contains ks key × Any (λ instance. value_at instance.tuple place ≡ key) (instances_in_order cs))) (purged_keys place noted filled before test bs ds h purged)
       (cut_ready place n starts ds cs are cut key)

@@ -21,18 +21,19 @@ use Rattle.indexmap.specs.IndexMap.{set_value_at}
 use Rattle.semantics.specs.Values.{value_at}
 use Rattle.instances.specs.declared.instance.Instance.{Instance}
 use Rattle.binding_index.specs.Among.{is_among}
-use Rattle.binding_index.specs.Buckets.{AreBuckets, AreKeyed, AreSame, AreStarts, Bucket, IsKeyed, IsSplit, StartsFrom, instances_in_order, keys_in_order}
+use Rattle.binding_index.specs.Buckets.{AreBuckets, AreKeyed, AreSame, AreStarts, Bucket, IsKeyed, IsSplit, IsSplitAside, StartsFrom, instances_in_order, keys_in_order}
 use Rattle.binding_index.specs.Among.{is_key}
 use Rattle.binding_index.specs.Entries.{is_filled}
 use Rattle.inst_chain.specs.Heads.{head}
 use Rattle.scalar_expr.proofs.Bags.{permuted_from}
 use Rattle.binding_index.proofs.BucketLemmas.{in_order_permuted, same_distinct, same_in_order}
 use Rattle.binding_index.proofs.EqualityLemmas.{key_itself}
+use Rattle.binding_index.proofs.NotedLemmas.{any_noted}
 use Rattle.binding_index.proofs.StartLemmas.{other_time, own_time, starts_earlier, starts_written}
 use Rattle.binding_index.proofs.WriteLemmas.{all_at, all_written, keys_written, none_more, one_more}
 
 -- no bucket
-none : (place : ℕ) (starts : List ℕ) → AreBuckets place 0 starts []
+none : (place : ℕ) (starts : List ℕ) → AreBuckets place [] 0 starts []
 unfolding IsDistinct
 none place starts = record {
   distinct = tt;
@@ -40,23 +41,35 @@ none place starts = record {
   start = λ k d lt. absurd (omega arith);
   room = omega arith;
   within = omega arith;
-  split = λ k d lt. absurd (omega arith);
+  split = any_noted [] 0 [] (λ k d lt. absurd (omega arith));
 }
 
 -- an empty list of buckets is that of a store
-pub no_buckets : (place : ℕ) (starts : List ℕ) (bs : List Bucket) → bs ≡ [] → AreBuckets place 0 starts bs
-no_buckets place starts bs e = subst (AreBuckets place 0 starts) (sym e) (none place starts)
+pub no_buckets : (place : ℕ) (starts noted : List ℕ) (bs : List Bucket) → noted ≡ [] → bs ≡ [] → AreBuckets place noted 0 starts bs
+no_buckets place starts noted bs nothing e = subst (λ (ns : List ℕ). AreBuckets place ns 0 starts bs) (sym nothing) (subst (AreBuckets place [] 0 starts) (sym e) (none place starts))
 
 -- one bucket was written, and then stands where it should
-pub arranged : (place filled : ℕ) (starts : List ℕ) (bs : List Bucket) (i : ℕ) (key : Value) (v w : List Instance) (cs : List Bucket) → IsDistinct is_key (keys_of bs) → AreKeyed place bs → slice_get bs i ≡ Some (key, v)
-    → IsKeyed place (key, w) → AreSame (set_value_at bs i w) cs → AreStarts starts cs → length cs ≤ length starts → filled ≤ length cs → IsSplit filled cs → AreBuckets place filled starts cs
-arranged place filled starts bs i key v w cs d keyed at of_key same start room within split = record {
+pub arranged : (place : ℕ) (noted : List ℕ) (filled : ℕ) (starts : List ℕ) (bs : List Bucket) (i : ℕ) (key : Value) (v w : List Instance) (cs : List Bucket) → IsDistinct is_key (keys_of bs) → AreKeyed place bs → slice_get bs i ≡ Some (key, v)
+    → IsKeyed place (key, w) → AreSame (set_value_at bs i w) cs → AreStarts starts cs → length cs ≤ length starts → filled ≤ length cs → IsSplitAside noted filled cs → AreBuckets place noted filled starts cs
+arranged place noted filled starts bs i key v w cs d keyed at of_key same start room within split = record {
   distinct = same_distinct (set_value_at bs i w) cs same (subst (λ (ks : List Value). IsDistinct is_key ks) (sym (keys_written bs i w)) d);
   keyed = All-permutation (IsKeyed place) (set_value_at bs i w) cs same.permuted (all_written (IsKeyed place) bs i key v w at of_key keyed);
   start = start;
   room = room;
   within = within;
   split = split;
+}
+
+-- once the noted buckets are arranged, they are those of a store
+pub settled : (place : ℕ) (noted : List ℕ) (before filled : ℕ) (times starts : List ℕ) (bs cs : List Bucket) → AreBuckets place noted before times bs → AreSame bs cs → AreStarts starts cs → length cs ≤ length starts → filled ≤ length cs → IsSplit filled cs
+    → AreBuckets place [] filled starts cs
+settled place noted before filled times starts bs cs h same start room within split = record {
+  distinct = same_distinct bs cs same h.distinct;
+  keyed = All-permutation (IsKeyed place) bs cs same.permuted h.keyed;
+  start = start;
+  room = room;
+  within = within;
+  split = any_noted [] filled cs split;
 }
 
 -- the value that was read at a place of a tuple
@@ -99,7 +112,7 @@ not_missing bs key ready missing =
     contradiction e = cc
 
 -- an empty bucket of a new key, behind all others
-module _ (place filled : ℕ) (starts : List ℕ) (bs : List Bucket) (key : Value) (h : AreBuckets place filled starts bs) where
+module _ (place : ℕ) (noted : List ℕ) (filled : ℕ) (starts : List ℕ) (bs : List Bucket) (key : Value) (h : AreBuckets place noted filled starts bs) where
   abbrev new : Bucket
   new = (key, [])
 
@@ -107,9 +120,14 @@ module _ (place filled : ℕ) (starts : List ℕ) (bs : List Bucket) (key : Valu
   added_keyed : AreKeyed place (bs ++ new ∷ [])
   added_keyed = All-push (IsKeyed place) bs new h.keyed (All-nil _)
 
-  -- and the buckets with instances come first
-  added_split : IsSplit filled (bs ++ new ∷ [])
-  added_split n e lt = go n e (cases_eq n (length bs)) (let long = length-append bs (new ∷ []) in omega (arith, long, lt))
+  -- and the buckets are split as they were
+  added_split : IsSplitAside noted filled (bs ++ new ∷ [])
+  added_split = record {
+    before = λ n d low lt.
+        let few = h.within in
+        subst (λ (b : Bucket). (is_filled b ≡ true) ⊎ Contains noted n) (sym (front bs n d (omega (arith, low, few)))) (h.split.before n d low (omega (arith, low, few)));
+    behind = λ n d high lt. behind n d high (cases_eq n (length bs)) (let long = length-append bs (new ∷ []) in omega (arith, long, lt));
+  }
     where
       front : (cs : List Bucket) (n : ℕ) (e : Bucket) → n < length cs → get_or (cs ++ new ∷ []) n e ≡ get_or cs n e
       front [] n e lt = absurd (omega arith)
@@ -120,9 +138,9 @@ module _ (place filled : ℕ) (starts : List ℕ) (bs : List Bucket) (key : Valu
       back [] e = refl
       back (c ∷ cs) e = back cs e
 
-      go : (n : ℕ) (e : Bucket) → (n ≡ length bs) ⊎ (n ≡ length bs → ⊥) → n < length bs + 1 → is_filled (get_or (bs ++ new ∷ []) n e) ≡ nat_lt n filled
-      go n e (inl last) lt = ap (λ m. is_filled (get_or (bs ++ new ∷ []) m e)) last ∙ ap is_filled (back bs e) ∙ sym (le-ltb n filled (let few = h.within in omega (arith, few, last)))
-      go n e (inr other) lt = ap is_filled (front bs n e (omega (arith, lt))) ∙ h.split n e (omega (arith, lt))
+      behind : (n : ℕ) (d : Bucket) → filled ≤ n → (n ≡ length bs) ⊎ (n ≡ length bs → ⊥) → n < length bs + 1 → is_filled (get_or (bs ++ new ∷ []) n d) ≡ false
+      behind n d high (inl last) lt = ap (λ m. is_filled (get_or (bs ++ new ∷ []) m d)) last ∙ ap is_filled (back bs d)
+      behind n d high (inr other) lt = ap is_filled (front bs n d (omega (arith, lt, other))) ∙ h.split.behind n d high (omega (arith, lt, other))
 
   -- the keys that were ready are so still
   pub more_keys : All (Contains (keys_in_order (bs ++ new ∷ []))) (keys_in_order bs)
@@ -159,10 +177,10 @@ pub the_bead : (new link look : List Instance) (bead x : Instance) → new ≡ [
 the_bead new link look bead x empty linked seen first = let one : Some x ≡ Some bead = first ∙ ap head (seen ∙ linked ∙ ap (λ is. is ++ bead ∷ []) empty) in cc
 
 -- where an instance was put before those of its key, the buckets are those of a store
-pub linked : (place before filled : ℕ) (starts times : List ℕ) (bs : List Bucket) (i : ℕ) (key : Value) (had w : List Instance) (bead : Instance) (cs : List Bucket) → AreBuckets place before times bs → slice_get bs i ≡ Some (key, had) → w ≡ bead ∷ had
-    → value_at bead.tuple place ≡ key → AreSame (set_value_at bs i w) cs → AreStarts starts cs → length cs ≤ length starts → filled ≤ length cs → IsSplit filled cs → AreBuckets place filled starts cs
-linked place before filled starts times bs i key had w bead cs h at is of_key same start room within split =
-    arranged place filled starts bs i key had w cs h.distinct h.keyed at
+pub linked : (place : ℕ) (noted marked : List ℕ) (before filled : ℕ) (starts times : List ℕ) (bs : List Bucket) (i : ℕ) (key : Value) (had w : List Instance) (bead : Instance) (cs : List Bucket) → AreBuckets place noted before times bs → slice_get bs i ≡ Some (key, had) → w ≡ bead ∷ had
+    → value_at bead.tuple place ≡ key → AreSame (set_value_at bs i w) cs → AreStarts starts cs → length cs ≤ length starts → filled ≤ length cs → IsSplitAside marked filled cs → AreBuckets place marked filled starts cs
+linked place noted marked before filled starts times bs i key had w bead cs h at is of_key same start room within split =
+    arranged place marked filled starts bs i key had w cs h.distinct h.keyed at
     (All-same (λ (n : Instance). value_at n.tuple place ≡ key) w (bead ∷ had) is (All-cons (λ (n : Instance). value_at n.tuple place ≡ key) bead had of_key (all_at (IsKeyed place) bs i (key, had) at h.keyed))) same start room within split
 
 -- its bucket then has the earlier of its own start and the time that the place had
@@ -191,12 +209,12 @@ linked_in_order bs i key had w bead cs d at is same =
     permuted_from (same_in_order (set_value_at bs i w) cs same ∙ ap (λ x. instances_in_order (set_value_at bs i x)) is) (one_more bs i key bead had d at)
 
 -- where there was memory, an empty bucket of a new key was added, and else none
-module _ {X E : Type 0} (place filled : ℕ) (starts : List ℕ) (bs cs : List Bucket) (key : Value) (h : AreBuckets place filled starts bs) (r : Result X E) (ok : OnOk r (cs ≡ bs ++ (key, []) ∷ [])) (kept : OnErr r (cs ≡ bs)) (d : IsDistinct is_key (keys_of cs)) where
+module _ {X E : Type 0} (place : ℕ) (noted : List ℕ) (filled : ℕ) (starts : List ℕ) (bs cs : List Bucket) (key : Value) (h : AreBuckets place noted filled starts bs) (r : Result X E) (ok : OnOk r (cs ≡ bs ++ (key, []) ∷ [])) (kept : OnErr r (cs ≡ bs)) (d : IsDistinct is_key (keys_of cs)) where
   grown : (cs ≡ bs ++ (key, []) ∷ []) ⊎ (cs ≡ bs)
   grown = elim r as (λ (s : Result X E). OnOk s (cs ≡ bs ++ (key, []) ∷ []) → OnErr s (cs ≡ bs) → (cs ≡ bs ++ (key, []) ∷ []) ⊎ (cs ≡ bs)) [ Ok x ↦ λ o k. inl o | Err e ↦ λ o k. inr k ] ok kept
 
   -- the buckets are those of a store either way, with the times that their places then have
-  pub grown_buckets : (times : List ℕ) → AreStarts times cs → length cs ≤ length times → AreBuckets place filled times cs
+  pub grown_buckets : (times : List ℕ) → AreStarts times cs → length cs ≤ length times → AreBuckets place noted filled times cs
   grown_buckets times start room = record {
     distinct = d;
     keyed = keyed grown;
@@ -207,23 +225,23 @@ module _ {X E : Type 0} (place filled : ℕ) (starts : List ℕ) (bs cs : List B
   }
     where
       keyed : (cs ≡ bs ++ (key, []) ∷ []) ⊎ (cs ≡ bs) → AreKeyed place cs
-      keyed (inl e) = subst (AreKeyed place) (sym e) (added_keyed place filled starts bs key h)
+      keyed (inl e) = subst (AreKeyed place) (sym e) (added_keyed place noted filled starts bs key h)
       keyed (inr e) = subst (AreKeyed place) (sym e) h.keyed
 
       within : (cs ≡ bs ++ (key, []) ∷ []) ⊎ (cs ≡ bs) → filled ≤ length cs
       within (inl e) = let long = ap length e in let more = length-append bs ((key, []) ∷ []) in let few = h.within in omega (arith, long, more, few)
       within (inr e) = let long = ap length e in let few = h.within in omega (arith, long, few)
 
-      split : (cs ≡ bs ++ (key, []) ∷ []) ⊎ (cs ≡ bs) → IsSplit filled cs
-      split (inl e) = subst (IsSplit filled) (sym e) (added_split place filled starts bs key h)
-      split (inr e) = subst (IsSplit filled) (sym e) h.split
+      split : (cs ≡ bs ++ (key, []) ∷ []) ⊎ (cs ≡ bs) → IsSplitAside noted filled cs
+      split (inl e) = subst (IsSplitAside noted filled) (sym e) (added_split place noted filled starts bs key h)
+      split (inr e) = subst (IsSplitAside noted filled) (sym e) h.split
 
   -- the keys that were ready are so still
   pub grown_keys : All (Contains (keys_in_order cs)) (keys_in_order bs)
   grown_keys = go grown
     where
       go : (cs ≡ bs ++ (key, []) ∷ []) ⊎ (cs ≡ bs) → All (Contains (keys_in_order cs)) (keys_in_order bs)
-      go (inl e) = subst (λ (xs : List Bucket). All (Contains (keys_in_order xs)) (keys_in_order bs)) (sym e) (more_keys place filled starts bs key h)
+      go (inl e) = subst (λ (xs : List Bucket). All (Contains (keys_in_order xs)) (keys_in_order bs)) (sym e) (more_keys place noted filled starts bs key h)
       go (inr e) = subst (λ (xs : List Bucket). All (Contains (keys_in_order xs)) (keys_in_order bs)) (sym e) (All-contains_itself (keys_in_order bs))
 
   -- no other key became ready
@@ -231,7 +249,7 @@ module _ {X E : Type 0} (place filled : ℕ) (starts : List ℕ) (bs cs : List B
   grown_only k became = go grown
     where
       go : (cs ≡ bs ++ (key, []) ∷ []) ⊎ (cs ≡ bs) → Contains (keys_in_order bs) k ⊎ (key ≡ k)
-      go (inl e) = no_other_key place filled starts bs key h k (subst (λ (xs : List Bucket). Contains (keys_in_order xs) k) e became)
+      go (inl e) = no_other_key place noted filled starts bs key h k (subst (λ (xs : List Bucket). Contains (keys_in_order xs) k) e became)
       go (inr e) = inl (subst (λ (xs : List Bucket). Contains (keys_in_order xs) k) e became)
 
   -- the instances are the same
@@ -246,7 +264,7 @@ module _ {X E : Type 0} (place filled : ℕ) (starts : List ℕ) (bs cs : List B
   pub grown_key : OnOk r (Contains (keys_in_order cs) key)
   grown_key =
       elim r as (λ (s : Result X E). OnOk s (cs ≡ bs ++ (key, []) ∷ []) → OnOk s (Contains (keys_in_order cs) key)) [
-        | Ok x ↦ λ o. subst (λ (xs : List Bucket). Contains (keys_in_order xs) key) (sym o) (new_key place filled starts bs key h)
+        | Ok x ↦ λ o. subst (λ (xs : List Bucket). Contains (keys_in_order xs) key) (sym o) (new_key place noted filled starts bs key h)
         | Err e ↦ λ o. o
       ] ok
 

@@ -1,5 +1,5 @@
 -- Buckets of instances by key. No public clause cites this module.
-use Rattle.std.specs.Prelude.{◌≡◌, ℕ, ◌<◌, ◌≤◌, ◌≢◌, ◌⊎◌, Some, slice_get, Bool, true, false, not, nat_lt, List, [], length, slice_index_or}
+use Rattle.std.specs.Prelude.{◌≡◌, ℕ, ◌<◌, ◌≤◌, ◌≢◌, ◌⊎◌, Some, slice_get, Bool, true, false, not, nat_lt, List, [], length, slice_index_or, Contains}
 use Rattle.std.specs.List.{All, IsDistinct, filter, flat_map}
 use Rattle.std.specs.List.Sorted.{IsPermutation}
 use Rattle.std.specs.Map.{keys_of}
@@ -43,6 +43,16 @@ IsSplitBut place filled buckets = (number : ℕ) (d : Bucket) → number ≢ pla
 abbrev pub IsSplit : ℕ → List Bucket → Type 0
 IsSplit filled buckets = (number : ℕ) (d : Bucket) → number < length buckets → is_filled (slice_index_or buckets number d) ≡ nat_lt number filled
 
+-- those before a place have instances but for some that stand at noted places, and the others none
+pub record IsSplitAside (noted : List ℕ) (filled : ℕ) (buckets : List Bucket) : Type 0 where
+  pub before : (number : ℕ) (d : Bucket) → number < filled → number < length buckets → (is_filled (slice_index_or buckets number d) ≡ true) ⊎ Contains noted number
+  pub behind : (number : ℕ) (d : Bucket) → filled ≤ number → number < length buckets → is_filled (slice_index_or buckets number d) ≡ false
+
+-- the same, the one at another place aside
+pub record IsSplitAsideBut (place : ℕ) (noted : List ℕ) (filled : ℕ) (buckets : List Bucket) : Type 0 where
+  pub before : (number : ℕ) (d : Bucket) → number ≢ place → number < filled → number < length buckets → (is_filled (slice_index_or buckets number d) ≡ true) ⊎ Contains noted number
+  pub behind : (number : ℕ) (d : Bucket) → number ≢ place → filled ≤ number → number < length buckets → is_filled (slice_index_or buckets number d) ≡ false
+
 -- each instance of the bucket has its key
 abbrev pub IsKeyed : ℕ → Bucket → Type 0
 IsKeyed place bucket = All (λ instance. value_at instance.tuple place ≡ bucket.0) bucket.1
@@ -67,14 +77,14 @@ AreStarts starts buckets = (place : ℕ) (d : Bucket) → place < length buckets
 abbrev pub passed : ℕ → List Pr → List ℕ → ℕ
 passed time condition starts = length (filter (λ start. not (is_alive time condition (started start))) starts)
 
--- what holds of the buckets of a store: no key comes twice, each instance stands under its key and starts no earlier than the time of its bucket's place, each place has one, and the buckets with instances come first
-pub record AreBuckets (place filled : ℕ) (starts : List ℕ) (buckets : List Bucket) : Type 0 where
+-- what holds of the buckets of a store: no key comes twice, each instance stands under its key and starts no earlier than the time of its bucket's place, each place has one, and the buckets with instances come first, among them some that may have none and stand at noted places
+pub record AreBuckets (place : ℕ) (noted : List ℕ) (filled : ℕ) (starts : List ℕ) (buckets : List Bucket) : Type 0 where
   pub distinct : IsDistinct is_key (keys_of buckets)
   pub keyed : AreKeyed place buckets
   pub start : AreStarts starts buckets
   pub room : length buckets ≤ length starts
   pub within : filled ≤ length buckets
-  pub split : IsSplit filled buckets
+  pub split : IsSplitAside noted filled buckets
 
 -- the bucket of a key other than OVER stands at a place
 pub record HasBucketAt (buckets : List Bucket) (key : Value) (place : ℕ) : Type 0 where

@@ -60,14 +60,8 @@ pub(crate) fn arrange(
     filled
 }
 
-/// Where the bucket stands now that stood at a place, as the place after the last bucket with instances was `before` and
-/// is `filled`, since it had some and may have none now. It is a hint. Takes no memory.
-pub(crate) fn moved_to(place: usize, before: usize, filled: usize) -> usize {
-    if filled < before { filled } else { place }
-}
-
-// Exchanges two buckets and their times, unless they are one.
-fn exchange(buckets: &mut Buckets, starts: &mut Deadlines, place: usize, other: usize)
+/// Exchanges two buckets and their times, unless they are one. Takes no memory.
+pub(crate) fn exchange(buckets: &mut Buckets, starts: &mut Deadlines, place: usize, other: usize)
     requires place { place < length buckets.old.entries }
     requires other { other < length buckets.old.entries }
     requires room { length buckets.old.entries ≤ length starts.old }

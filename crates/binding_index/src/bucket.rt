@@ -8,7 +8,9 @@ ghost use Rattle.binding_index.specs.Entries.{has_any};
 
 use event_types::{Memory, Tuple};
 use inst_chain::{Chain, Look};
-use instances::{Instance, Instances, add_copies, count_of, keep_after, keep_alive, take_eligible};
+use instances::{
+    Instance, Instances, SpentBeads, add_copies, count_of, keep_after, keep_alive, take_eligible,
+};
 use scalar_expr::Conj;
 use std::alloc::Global;
 use std::marker::Model;
@@ -63,13 +65,19 @@ impl Bucket {
         add_copies(alloc, copies, &self.chain)
     }
 
-    /// Takes out the instances for which the event is eligible.
-    pub(crate) fn take<L: Ledger>(&mut self, event: &Tuple, choose: &Conj, steps: &mut Steps<L>)
+    /// Takes out the instances for which the event is eligible, and keeps their beads among the spent ones.
+    pub(crate) fn take<L: Ledger>(
+        &mut self,
+        event: &Tuple,
+        choose: &Conj,
+        steps: &mut Steps<L>,
+        spent: &mut SpentBeads,
+    )
         requires { All (λ instance. AllFit choose.now event.now (Some instance.tuple)) self.old }
         ensures others { self.new ≡ filter (λ instance. not (is_eligible choose.now instance.tuple event.now)) self.old }
         ensures ticks { steps.new ≤ steps.old + length self.old }
     {
-        take_eligible(&mut self.chain, event, choose, steps);
+        take_eligible(&mut self.chain, event, choose, steps, spent);
     }
 
     /// Puts the beads of a chain before the others, at once.

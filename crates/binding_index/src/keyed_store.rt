@@ -6,17 +6,17 @@ ghost use Rattle.instances.specs.Keys.{KeepsUsedKeys};
 ghost use Rattle.binding_index.specs.Among.{is_among};
 ghost use Rattle.binding_index.specs.KeyParts.{first_key as first_key_of, key_of_part};
 
-use crate::arranging::{arrange, moved_to};
 use crate::buckets::{Buckets, add_bucket, candidate_place, copy_all, count_all};
 use crate::cutting::keep_all_after;
+use crate::emptied::{MOST, arrange_noted, arrange_or_note};
 use crate::expiring::keep_all_alive;
 use crate::key::{KeyPart, first_key};
 use crate::near::{Near, place_near};
 use deadlines::Deadlines;
-use event_types::{Copied, Memory, Tuple, Value};
+use event_types::{Copied, List, Memory, Numbers, Tuple, Value};
 use indexmap::IndexMap;
 use inst_chain::{Bead, Chain, Look};
-use instances::{Instance, Instances, Waiting, purged_until};
+use instances::{Instance, Instances, SpentBeads, Waiting, purged_until};
 use scalar_expr::Conj;
 use std::alloc::Global;
 use std::marker::Model;
@@ -29,8 +29,10 @@ pub struct KeyedStore {
     key: KeyPart,
     // the instances of each key that is ready
     buckets: Buckets,
-    // how many buckets have instances; they come first
+    // the buckets from this place on have no instances, and those before have some, but for those at the noted places
     filled: usize,
+    // the noted places
+    emptied: Numbers,
     // by place, a time before which no instance of the bucket there starts
     starts: Deadlines,
     // where buckets were found last
@@ -50,7 +52,7 @@ impl Model for KeyedStore {
 
     ghost view = { λ s. record { condition = s.condition; key = key_of_part s.key; ready = keys_in_order s.buckets.entries; instances = instances_in_order s.buckets.entries } };
 
-    ghost invariant = { λ s. AreBuckets s.key.binding s.filled s.starts s.buckets.entries };
+    ghost invariant = { λ s. AreBuckets s.key.binding s.emptied s.filled s.starts s.buckets.entries };
 }
 
 impl KeyedStore {
@@ -64,12 +66,14 @@ impl KeyedStore {
     {
         let key = first_key(choose).unwrap();
         let condition = choose.copy(alloc)?;
+        let emptied = List::with_room(alloc, MOST)?;
         let starts = Deadlines::make(alloc, 0)?;
         Ok(KeyedStore {
             condition,
             key,
             buckets: IndexMap::new(alloc),
             filled: 0,
+            emptied,
             starts,
             near: Near::new(),
         })
@@ -89,6 +93,12 @@ impl KeyedStore {
         ensures same_condition { self.new.condition ≡ self.old.condition }
         ensures same_key { self.new.key ≡ self.old.key }
     {
+        self.filled = arrange_noted(
+            &mut self.buckets,
+            &mut self.starts,
+            self.filled,
+            &mut self.emptied,
+        );
         self.buckets.truncate(self.filled);
     }
 
@@ -100,6 +110,12 @@ impl KeyedStore {
         ensures same_key { self.new.key ≡ self.old.key }
     {
         if let Some(since) = since {
+            self.filled = arrange_noted(
+                &mut self.buckets,
+                &mut self.starts,
+                self.filled,
+                &mut self.emptied,
+            );
             self.filled = keep_all_after(&mut self.buckets, &mut self.starts, self.filled, since);
         }
     }
@@ -113,6 +129,12 @@ impl KeyedStore {
         ensures same_condition { self.new.condition ≡ self.old.condition }
         ensures same_key { self.new.key ≡ self.old.key }
     {
+        self.filled = arrange_noted(
+            &mut self.buckets,
+            &mut self.starts,
+            self.filled,
+            &mut self.emptied,
+        );
         self.filled = keep_all_alive(
             &mut self.buckets,
             &mut self.starts,
@@ -142,13 +164,23 @@ impl Waiting for KeyedStore {
         self.buckets[place].look()
     }
 
-    fn take<L: Ledger>(&mut self, event: &Tuple, choose: &Conj, steps: &mut Steps<L>) {
+    fn take<L: Ledger>(
+        &mut self,
+        event: &Tuple,
+        choose: &Conj,
+        steps: &mut Steps<L>,
+        spent: &mut SpentBeads,
+    ) {
         let key = event.vals().get(self.key.event);
         if let Some(place) = candidate_place(&self.near, &self.buckets, key) {
-            self.buckets[place].take(event, choose, steps);
-            let before = self.filled;
-            self.filled = arrange(&mut self.buckets, &mut self.starts, before, place);
-            self.near.note(key, moved_to(place, before, self.filled));
+            self.buckets[place].take(event, choose, steps, spent);
+            self.filled = arrange_or_note(
+                &mut self.buckets,
+                &mut self.starts,
+                self.filled,
+                &mut self.emptied,
+                place,
+            );
         }
     }
 
@@ -175,7 +207,13 @@ impl Waiting for KeyedStore {
             if let Some(place) = place_near(&self.near, &self.buckets, key) {
                 self.buckets[place].put(&mut chain);
                 self.starts.set(place, self.starts.get(place).min(from));
-                self.filled = arrange(&mut self.buckets, &mut self.starts, self.filled, place);
+                self.filled = arrange_or_note(
+                    &mut self.buckets,
+                    &mut self.starts,
+                    self.filled,
+                    &mut self.emptied,
+                    place,
+                );
             }
         }
     }

@@ -10,6 +10,7 @@ mod bucket;
 mod buckets;
 mod cutting;
 mod directory;
+mod emptied;
 mod entries;
 mod expiring;
 mod key;

@@ -9,7 +9,7 @@ use crate::key::first_key;
 use crate::keyed_store::KeyedStore;
 use event_types::{Memory, Tuple, Value};
 use inst_chain::{Bead, Look};
-use instances::{Instance, Instances, PlainStore, Waiting};
+use instances::{Instance, Instances, PlainStore, SpentBeads, Waiting};
 use scalar_expr::Conj;
 use std::alloc::Global;
 use steps::{Ledger, Steps};
@@ -78,10 +78,16 @@ impl Waiting for Store {
         }
     }
 
-    fn take<L: Ledger>(&mut self, event: &Tuple, choose: &Conj, steps: &mut Steps<L>) {
+    fn take<L: Ledger>(
+        &mut self,
+        event: &Tuple,
+        choose: &Conj,
+        steps: &mut Steps<L>,
+        spent: &mut SpentBeads,
+    ) {
         match self {
-            Store::Plain(store) => store.take(event, choose, steps),
-            Store::Keyed(store) => store.take(event, choose, steps),
+            Store::Plain(store) => store.take(event, choose, steps, spent),
+            Store::Keyed(store) => store.take(event, choose, steps, spent),
         }
     }
 
