@@ -32,7 +32,7 @@ use Rattle.epoch_draft.proofs.MarkLemmas.{marks_kept, marks_same, marks_trans}
 
 -- tuples of one stream
 made_fits : (old : Draft) (s : ℕ) (rows : List TupleView) (due : Marks) → DraftFits (length old.made) (length old.beads) old → MarksMore old.due due → Contains due.numbers s
-    → DraftFits (length old.made) (length old.beads) (record { alloc = old.alloc; made = set old.made s rows; beads = old.beads; due = due; reached = old.reached })
+    → DraftFits (length old.made) (length old.beads) (record { alloc = old.alloc; made = set old.made s rows; beads = old.beads; due = due; reached = old.reached; spent = old.spent })
 made_fits old s rows due fits more marked = record {
   made = length-set old.made s rows;
   beads = refl;
@@ -54,13 +54,13 @@ made_fits old s rows due fits more marked = record {
 
 -- the same where the lists are these
 pub set_fits : (old : Draft) (s : ℕ) (rows : List TupleView) (made : List (List TupleView)) (due : Marks) → DraftFits (length old.made) (length old.beads) old → MarksMore old.due due → Contains due.numbers s → made ≡ set old.made s rows
-    → DraftFits (length old.made) (length old.beads) (record { alloc = old.alloc; made = made; beads = old.beads; due = due; reached = old.reached })
+    → DraftFits (length old.made) (length old.beads) (record { alloc = old.alloc; made = made; beads = old.beads; due = due; reached = old.reached; spent = old.spent })
 set_fits old s rows made due fits more marked is =
-    subst (λ (lists : List (List TupleView)). DraftFits (length old.made) (length old.beads) (record { alloc = old.alloc; made = lists; beads = old.beads; due = due; reached = old.reached })) (sym is) (made_fits old s rows due fits more marked)
+    subst (λ (lists : List (List TupleView)). DraftFits (length old.made) (length old.beads) (record { alloc = old.alloc; made = lists; beads = old.beads; due = due; reached = old.reached; spent = old.spent })) (sym is) (made_fits old s rows due fits more marked)
 
 -- tuples that are put in order
 pub ordered_fits : (old : Draft) (made : List (List TupleView)) → DraftFits (length old.made) (length old.beads) old → length made ≡ length old.made → ((s : ℕ) → get_or made s [] ≡ sorted (get_or old.made s []))
-    → DraftFits (length old.made) (length old.beads) (record { alloc = old.alloc; made = made; beads = old.beads; due = old.due; reached = old.reached })
+    → DraftFits (length old.made) (length old.beads) (record { alloc = old.alloc; made = made; beads = old.beads; due = old.due; reached = old.reached; spent = old.spent })
 ordered_fits old made fits as_many ordered = record {
   made = as_many;
   beads = refl;
@@ -78,7 +78,7 @@ ordered_fits old made fits as_many ordered = record {
 
 -- beads of one state
 pub beads_fit : (old : Draft) (w : ℕ) (beads : List Instance) (reached : Marks) → DraftFits (length old.made) (length old.beads) old → MarksMore old.reached reached → Contains reached.numbers w
-    → DraftFits (length old.made) (length old.beads) (record { alloc = old.alloc; made = old.made; beads = set old.beads w beads; due = old.due; reached = reached })
+    → DraftFits (length old.made) (length old.beads) (record { alloc = old.alloc; made = old.made; beads = set old.beads w beads; due = old.due; reached = reached; spent = old.spent })
 beads_fit old w beads reached fits more marked = record {
   made = refl;
   beads = length-set old.beads w beads;
@@ -100,7 +100,7 @@ beads_fit old w beads reached fits more marked = record {
 
 -- the beads of states that are reached may be taken out
 pub linked_fits : (streams states : ℕ) (old : Draft) (beads : List (List Instance)) → DraftFits streams states old → length beads ≡ length old.beads → ((n : ℕ) → (Contains old.reached.numbers n → ⊥) → get_or beads n [] ≡ get_or old.beads n [])
-    → DraftFits streams states (record { alloc = old.alloc; made = old.made; beads = beads; due = old.due; reached = old.reached })
+    → DraftFits streams states (record { alloc = old.alloc; made = old.made; beads = beads; due = old.due; reached = old.reached; spent = old.spent })
 linked_fits streams states old beads fits as_many others = record {
   made = fits.made;
   beads = as_many ∙ fits.beads;
@@ -316,7 +316,7 @@ draft_of net start now was fits = record {
 }
 
 -- tuples that are taken out
-pub without_fits : (old : Draft) (s : ℕ) → DraftFits (length old.made) (length old.beads) old → DraftFits (length old.made) (length old.beads) (record { alloc = old.alloc; made = set old.made s []; beads = old.beads; due = old.due; reached = old.reached })
+pub without_fits : (old : Draft) (s : ℕ) → DraftFits (length old.made) (length old.beads) old → DraftFits (length old.made) (length old.beads) (record { alloc = old.alloc; made = set old.made s []; beads = old.beads; due = old.due; reached = old.reached; spent = old.spent })
 without_fits old s fits = record {
   made = length-set old.made s [];
   beads = refl;

@@ -10,7 +10,7 @@ use crate::made::Made;
 use crate::marks::Marks;
 use event_types::{List, Memory, StreamId, Tuple, Tuples};
 use inst_chain::{Bead, Chain};
-use instances::Instance;
+use instances::{Instance, SpentBeads};
 use std::alloc::Global;
 
 /// Tuples by stream.
@@ -19,9 +19,9 @@ pub type Lists = List<Tuples>;
 /// The beads of new instances, by the numbers of their states.
 pub type Beads = List<Chain<Instance>>;
 
-/// What an epoch brings: the tuples of derived streams, the beads of new instances, the streams for which
-/// tuples were made (`due`), and the states for which beads were (`reached`). New ones take their memory from
-/// `alloc`.
+/// What an epoch brings: the tuples of derived streams, the beads of new instances, the streams for which tuples were made
+/// (`due`), and the states for which beads were (`reached`). New ones take their memory from `alloc`, unless they stand in
+/// beads that are used again (`spent`).
 #[derive(Drop)]
 pub struct Draft {
     pub alloc: Global,
@@ -29,6 +29,7 @@ pub struct Draft {
     pub beads: Beads,
     pub due: Marks,
     pub reached: Marks,
+    pub(crate) spent: SpentBeads,
 }
 
 /// A waiting state and a tuple by which it was found: the state's number, and the tuple's stream and its
@@ -57,6 +58,7 @@ impl Draft {
             beads: List::new(alloc),
             due: Marks::new(alloc),
             reached: Marks::new(alloc),
+            spent: SpentBeads::new(),
         };
         draft.fit(states, streams)?;
         Ok(draft)
@@ -175,14 +177,31 @@ impl Draft {
         ensures fits { OnOk result (DraftFits (length self.old.made) (length self.old.beads) self.new) }
     {
         self.reached.mark(state)?;
-        match Bead::make(self.alloc, instance) {
-            Ok(bead) => {
-                put_first(self.beads.get_mut(state), bead);
-                Ok(())
-            }
-            Err(_) => Err(Memory),
-        }
+        let bead = bead_of(self.alloc, &mut self.made, &mut self.spent, instance)?;
+        put_first(self.beads.get_mut(state), bead);
+        Ok(())
     }
+}
+
+// A bead of an instance: a spent one, if any is kept, of whose instance the room of the values is kept.
+fn bead_of(
+    alloc: Global,
+    made: &mut Made,
+    spent: &mut SpentBeads,
+    instance: Instance,
+) -> Result<Bead<Instance>, Memory>
+    ensures value { IfOk result (λ bead. bead ≡ instance) }
+    ensures same { made.new ≡ made.old }
+{
+    let Some(mut bead) = spent.take() else {
+        return match Bead::make(alloc, instance) {
+            Ok(bead) => Ok(bead),
+            Err(_) => Err(Memory),
+        };
+    };
+    let old = bead.replace(instance);
+    made.keep_room(old.tuple);
+    Ok(bead)
 }
 
 // Puts a bead in front of a chain, at once however long it is. Takes no memory.

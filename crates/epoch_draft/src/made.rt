@@ -127,6 +127,13 @@ impl Made {
         self.spare.join(self.alloc, left, right)
     }
 
+    /// Drops a tuple that stands elsewhere, and keeps the room of its values for copies. Takes no memory.
+    pub(crate) fn keep_room(&mut self, tuple: Tuple)
+        ensures { self.new ≡ self.old }
+    {
+        self.spare.keep(tuple);
+    }
+
     /// Puts the last tuple of a stream, `other`, behind those of a stream too. After want of memory the tuples are of no
     /// more use.
     #[inline(always)]

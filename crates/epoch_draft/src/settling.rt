@@ -35,7 +35,7 @@ use binding_index::Store;
 use deadlines::Deadlines;
 use event_types::Tuple;
 use inst_chain::Chain;
-use instances::{Instance, Waiting};
+use instances::{Instance, SpentBeads, Waiting};
 use scalar_expr::Conj;
 use steps::{Ledger, Steps};
 
@@ -104,6 +104,7 @@ fn step<L: Ledger>(
         &drawing.draft.made,
         drawing.pairs.as_slice(),
         steps,
+        &mut drawing.draft.spent,
     );
     let draft = &mut drawing.draft;
     link_all(
@@ -123,6 +124,7 @@ fn take_all<L: Ledger>(
     made: &Made,
     pairs: &[Pair],
     steps: &mut Steps<L>,
+    spent: &mut SpentBeads,
 )
     requires stores { HasStores network.now stores.old }
     requires as_many { length made.now ≡ length opened.now }
@@ -132,7 +134,7 @@ fn take_all<L: Ledger>(
 {
     for pair in pairs {
         let tuple = tuple_of(opened, made, *pair);
-        take_at(network, stores, pair.state, tuple, steps);
+        take_at(network, stores, pair.state, tuple, steps, spent);
     }
 }
 
@@ -157,6 +159,7 @@ fn take_at<L: Ledger>(
     state: usize,
     tuple: &Tuple,
     steps: &mut Steps<L>,
+    spent: &mut SpentBeads,
 )
     requires used { IsTrue (is_used network.now state) }
     requires stores { HasStores network.now stores.old }
@@ -166,12 +169,18 @@ fn take_at<L: Ledger>(
     ensures ticks { steps.new ≤ steps.old + length (candidates_at network.now (held stores.old) tuple.now state) }
 {
     if let Some(wait) = network.wait(state) {
-        take_in(stores.get_mut(state), &wait.choose, tuple, steps);
+        take_in(stores.get_mut(state), &wait.choose, tuple, steps, spent);
     }
 }
 
 // Takes the instances out of a store that the tuple matches.
-fn take_in<L: Ledger>(slot: &mut Option<Store>, choose: &Conj, tuple: &Tuple, steps: &mut Steps<L>)
+fn take_in<L: Ledger>(
+    slot: &mut Option<Store>,
+    choose: &Conj,
+    tuple: &Tuple,
+    steps: &mut Steps<L>,
+    spent: &mut SpentBeads,
+)
     requires is_key { IsKeyOf (key_in slot.old) choose.now }
     requires key { EventFits (key_in slot.old) tuple.now }
     requires fits { All (λ instance. AllFit choose.now tuple.now (Some instance.tuple)) (instances_in slot.old) }
@@ -181,7 +190,7 @@ fn take_in<L: Ledger>(slot: &mut Option<Store>, choose: &Conj, tuple: &Tuple, st
     ensures ticks { steps.new ≤ steps.old + length (candidates_of (key_in slot.old) tuple.now (instances_in slot.old)) }
 {
     if let Some(store) = slot {
-        store.take(tuple, choose, steps);
+        store.take(tuple, choose, steps, spent);
     }
 }
 

@@ -73,9 +73,14 @@ impl Spare {
         ensures { tuples.new ≡ [] }
     {
         while let Some(tuple) = tuples.pop() {
-            if let Some(vals) = tuple.into_vals() {
-                self.put(vals);
-            }
+            self.keep(tuple);
+        }
+    }
+
+    /// Drops a tuple, and keeps the room of its values, unless another tuple shares them. Takes no memory.
+    pub(crate) fn keep(&mut self, tuple: Tuple) {
+        if let Some(vals) = tuple.into_vals() {
+            self.put(vals);
         }
     }
 

@@ -10,5 +10,5 @@ returns-clause-fits c =
     let rows = get_or old.made c.args.stream [] ++ c.args.tuple ∷ [] in
     let new = c.add.new.self in
     let due = c.mark.new.self in
-    on_ok c.add.result (new ≡ set old.made c.args.stream rows) (DraftFits (length old.made) (length old.beads) (record { alloc = old.alloc; made = new; beads = old.beads; due = due; reached = old.reached }))
+    on_ok c.add.result (new ≡ set old.made c.args.stream rows) (DraftFits (length old.made) (length old.beads) (record { alloc = old.alloc; made = new; beads = old.beads; due = due; reached = old.reached; spent = old.spent }))
     (set_fits old c.args.stream rows new due c.requires.fits c.mark.ensures.more c.in_ok-mark.ensures.marked) c.add.ensures

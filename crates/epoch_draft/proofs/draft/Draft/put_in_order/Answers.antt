@@ -21,5 +21,5 @@ pub returns-clause-fits : goal.returns-clause-fits
 returns-clause-fits c =
     let old = c.args.self.now in
     let made = c.put_in_order.new.self in
-    on_ok_two c.put_in_order.result (length made ≡ length old.made) ((s : ℕ) → get_or made s [] ≡ sorted (get_or old.made s [])) (DraftFits (length old.made) (length old.beads) (record { alloc = old.alloc; made = made; beads = old.beads; due = old.due; reached = old.reached }))
+    on_ok_two c.put_in_order.result (length made ≡ length old.made) ((s : ℕ) → get_or made s [] ≡ sorted (get_or old.made s [])) (DraftFits (length old.made) (length old.beads) (record { alloc = old.alloc; made = made; beads = old.beads; due = old.due; reached = old.reached; spent = old.spent }))
     (λ as_many ordered. ordered_fits old made c.requires as_many ordered) c.put_in_order.ensures.as_many c.put_in_order.ensures.ordered

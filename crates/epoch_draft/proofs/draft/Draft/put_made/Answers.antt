@@ -10,5 +10,5 @@ returns-clause-fits c =
     let rows = c.args.tuples.items in
     let new = c.put.new.self in
     let due = c.mark.new.self in
-    on_ok c.put.result (new ≡ set old.made c.args.stream rows) (DraftFits (length old.made) (length old.beads) (record { alloc = old.alloc; made = new; beads = old.beads; due = due; reached = old.reached }))
+    on_ok c.put.result (new ≡ set old.made c.args.stream rows) (DraftFits (length old.made) (length old.beads) (record { alloc = old.alloc; made = new; beads = old.beads; due = due; reached = old.reached; spent = old.spent }))
     (set_fits old c.args.stream rows new due c.requires.fits c.mark.ensures.more c.in_ok-mark.ensures.marked) c.put.ensures
