@@ -58,7 +58,7 @@ pub(crate) fn go_out<L: Ledger>(
         draft.add_copy(stream, tuple, last)?;
         return Ok(Some(stream));
     }
-    match pass_stages(draft.alloc, way.step, tuple, steps)? {
+    match pass_stages(draft, way.step, tuple, steps)? {
         Some(passed) => {
             draft.add_made(stream, passed)?;
             Ok(other_than(stream, last))
@@ -94,7 +94,7 @@ fn hand_out<L: Ledger>(
     if !is_read(end.birth, first) {
         return Ok(());
     }
-    match pass_made(draft.alloc, end.step.as_slice(), tuple, steps)? {
+    match pass_made(draft, end.step.as_slice(), tuple, steps)? {
         Some(passed) => draft.add_made(end.out, passed),
         None => Ok(()),
     }
@@ -127,7 +127,7 @@ pub(crate) fn go_into<L: Ledger>(
     ensures made { OnOk result (draft.new.made ≡ draft.old.made) }
     ensures ticks { steps.new ≤ steps.old + keeps step.now }
 {
-    match pass_on(draft.alloc, step, tuple, steps)? {
+    match pass_on(draft, step, tuple, steps)? {
         Some(passed) => {
             let instance = Instance {
                 tuple: passed,

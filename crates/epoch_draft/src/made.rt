@@ -1,17 +1,20 @@
 //! The tuples that an epoch brings, by stream.
 //!
 //! Contracts see a `Made` as the list of the streams' lists of tuples.
-ghost use Rattle.std.specs.Prelude.{◌≡◌, ◌<◌, ◌⊎◌, ◌++◌, ◌∷◌, [], Contains, IfOk, OnOk, Some, ℕ, length, map, slice_get, slice_index_or, slice_set};
+ghost use Rattle.std.specs.Prelude.{◌≡◌, ◌<◌, ◌⊎◌, ◌++◌, ◌∷◌, [], Contains, IfOk, None, OnOk, Some, ℕ, length, map, slice_get, slice_index_or, slice_set};
 ghost use Rattle.std.specs.List.{All};
 ghost use Rattle.event_types.specs.Order.{sorted};
 ghost use Rattle.event_types.specs.Tuple.{TupleView};
-ghost use Rattle.semantics.specs.Denotation.{joined};
+ghost use Rattle.scalar_expr.specs.Fits.{Fits};
+ghost use Rattle.semantics.specs.Denotation.{joined, selected};
+ghost use Rattle.semantics.specs.Runs.{rebound};
 ghost use Rattle.epoch_draft.specs.Made.{ArePlaced, EndsWith, placed};
 
 use crate::filling::{clear_lists, lengthen_lists};
 use crate::placing::put_places_in_order;
 use crate::spare::Spare;
 use event_types::{List, Memory, Numbers, StreamId, Tuple, Tuples};
+use scalar_expr::Map;
 use std::alloc::Global;
 use std::marker::Model;
 
@@ -132,6 +135,32 @@ impl Made {
         ensures { self.new ≡ self.old }
     {
         self.spare.keep(tuple);
+    }
+
+    /// The values of a projection over a tuple, with its times, in room that is kept for values, if any is. After want of
+    /// memory all tuples are still there.
+    pub(crate) fn project(&mut self, projection: &Map, tuple: &Tuple) -> Result<Tuple, Memory>
+        requires { All (λ s. Fits s tuple.now None) projection.now.parts }
+        ensures value { IfOk result (λ projected. projected ≡ selected projection.now.parts tuple.now) }
+        ensures same { self.new ≡ self.old }
+    {
+        self.spare.project(self.alloc, projection, tuple)
+    }
+
+    /// The new binding of an iteration, in room that is kept for values, if any is. After want of memory all tuples are
+    /// still there.
+    pub(crate) fn rebind(
+        &mut self,
+        projection: &Map,
+        binding: &Tuple,
+        event: &Tuple,
+    ) -> Result<Tuple, Memory>
+        requires later { binding.now.at < event.now.from }
+        requires fits { All (λ s. Fits s event.now (Some binding.now)) projection.now.parts }
+        ensures value { IfOk result (λ tuple. tuple ≡ rebound projection.now.parts binding.now event.now) }
+        ensures same { self.new ≡ self.old }
+    {
+        self.spare.rebind(self.alloc, projection, binding, event)
     }
 
     /// Puts the last tuple of a stream, `other`, behind those of a stream too. After want of memory the tuples are of no

@@ -21,7 +21,7 @@ use automaton::{Network, Turn, Wait};
 use event_types::{Memory, Tuple};
 use inst_chain::Look;
 use instances::{Instance, Waiting};
-use scalar_expr::{can_follow, holds, rebind};
+use scalar_expr::{can_follow, holds};
 use steps::{Ledger, Steps};
 
 // What the tuple makes of the binding, if it is eligible.
@@ -62,7 +62,7 @@ fn follow<L: Ledger>(
         None => Ok(Some(draft.made.join(binding, tuple)?)),
         Some(turn) => {
             if holds(&turn.on, tuple, Some(binding), steps) {
-                Ok(Some(rebind(draft.alloc, &turn.set, binding, tuple)?))
+                Ok(Some(draft.made.rebind(&turn.set, binding, tuple)?))
             } else {
                 Ok(None)
             }

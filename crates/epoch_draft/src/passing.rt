@@ -5,80 +5,85 @@ ghost use Rattle.epoch_draft.specs.Found.{IsFixedStage, IsLeftOf};
 ghost use Rattle.epoch_draft.specs.Suits.{StepSuits};
 ghost use Rattle.epoch_draft.specs.Work.{keeps};
 
+use crate::draft::Draft;
 use automaton::Stage;
 use event_types::{Memory, Tuple};
-use scalar_expr::{apply, holds};
-use std::alloc::Global;
+use scalar_expr::holds;
 use steps::{Ledger, Steps};
 
-/// What the tuple is after the stages, or nothing where one of them doesn't let it pass.
+/// What the tuple is after the stages, or nothing where one of them doesn't let it pass. Its values stand in room that the
+/// draft keeps for values, if it keeps any.
 #[inline(always)]
 pub(crate) fn pass_on<L: Ledger>(
-    alloc: Global,
+    draft: &mut Draft,
     step: &[Stage],
     tuple: &Tuple,
     steps: &mut Steps<L>,
 ) -> Result<Option<Tuple>, Memory>
     requires { StepSuits step.now tuple.now }
     ensures value { IfOk result (λ passed. passed ≡ pass step.now tuple.now) }
+    ensures same { draft.new ≡ draft.old }
     ensures ticks { steps.new ≤ steps.old + keeps step.now }
 {
     if step.is_empty() {
-        return Ok(Some(tuple.copy(alloc)?));
+        return Ok(Some(draft.made.copy(tuple)?));
     }
-    pass_stages(alloc, step, tuple, steps)
+    pass_stages(draft, step, tuple, steps)
 }
 
 /// The same of any stages.
 pub(crate) fn pass_stages<L: Ledger>(
-    alloc: Global,
+    draft: &mut Draft,
     step: &[Stage],
     tuple: &Tuple,
     steps: &mut Steps<L>,
 ) -> Result<Option<Tuple>, Memory>
     requires { StepSuits step.now tuple.now }
     ensures value { IfOk result (λ passed. passed ≡ pass step.now tuple.now) }
+    ensures same { draft.new ≡ draft.old }
     ensures ticks { steps.new ≤ steps.old + keeps step.now }
 {
     match step {
-        [] => Ok(Some(tuple.copy(alloc)?)),
+        [] => Ok(Some(draft.made.copy(tuple)?)),
         [Stage::Keep(condition), rest @ ..] => {
             if holds(condition, tuple, None, steps) {
-                pass_stages(alloc, rest, tuple, steps)
+                pass_stages(draft, rest, tuple, steps)
             } else {
                 Ok(None)
             }
         }
         [Stage::Make(projection), rest @ ..] => {
-            let made = apply(alloc, projection, tuple, None, tuple.from(), tuple.at())?;
-            pass_made(alloc, rest, made, steps)
+            let projected = draft.made.project(projection, tuple)?;
+            pass_made(draft, rest, projected, steps)
         }
     }
 }
 
 /// The same of a tuple that is handed over, and so isn't copied.
 pub(crate) fn pass_made<L: Ledger>(
-    alloc: Global,
+    draft: &mut Draft,
     step: &[Stage],
     tuple: Tuple,
     steps: &mut Steps<L>,
 ) -> Result<Option<Tuple>, Memory>
     requires { StepSuits step.now tuple }
     ensures value { IfOk result (λ passed. passed ≡ pass step.now tuple) }
+    ensures same { draft.new ≡ draft.old }
     ensures ticks { steps.new ≤ steps.old + keeps step.now }
 {
     match step {
         [] => Ok(Some(tuple)),
         [Stage::Keep(condition), rest @ ..] => {
             if holds(condition, &tuple, None, steps) {
-                pass_made(alloc, rest, tuple, steps)
+                pass_made(draft, rest, tuple, steps)
             } else {
                 Ok(None)
             }
         }
         [Stage::Make(projection), rest @ ..] => {
-            let made = apply(alloc, projection, &tuple, None, tuple.from(), tuple.at())?;
-            pass_made(alloc, rest, made, steps)
+            let projected = draft.made.project(projection, &tuple)?;
+            draft.made.keep_room(tuple);
+            pass_made(draft, rest, projected, steps)
         }
     }
 }

@@ -1,9 +1,12 @@
 //! Room for values that is used again.
-ghost use Rattle.std.specs.Prelude.{◌≡◌, ◌<◌, ◌++◌, [], IfOk, IfSome, OnOk};
-ghost use Rattle.semantics.specs.Denotation.{joined};
+ghost use Rattle.std.specs.Prelude.{◌≡◌, ◌<◌, ◌++◌, [], IfOk, IfSome, None, OnOk, Some};
+ghost use Rattle.std.specs.List.{All};
+ghost use Rattle.scalar_expr.specs.Fits.{Fits};
+ghost use Rattle.semantics.specs.Denotation.{joined, selected};
+ghost use Rattle.semantics.specs.Runs.{rebound};
 
 use event_types::{Copied, List, Memory, Tuple, Tuples, Vals, Value};
-use scalar_expr::join;
+use scalar_expr::{Map, evaluate, join};
 use std::alloc::Global;
 use std::marker::Model;
 
@@ -58,6 +61,55 @@ impl Spare {
         match self.take() {
             Some(vals) => join_in(alloc, vals, left, right),
             None => join(alloc, left, right),
+        }
+    }
+
+    /// The values of a projection over a tuple, with its times, in one of the lists, if any is kept.
+    pub(crate) fn project(
+        &mut self,
+        alloc: Global,
+        projection: &Map,
+        tuple: &Tuple,
+    ) -> Result<Tuple, Memory>
+        requires { All (λ s. Fits s tuple.now None) projection.now.parts }
+        ensures { IfOk result (λ projected. projected ≡ selected projection.now.parts tuple.now) }
+    {
+        let room = self.room(alloc, projection.parts.len())?;
+        let vals = evaluate(alloc, room, projection, tuple, None)?;
+        match Tuple::make(vals, tuple.from(), tuple.at()) {
+            Ok(projected) => Ok(projected),
+            Err(_) => unreachable!(),
+        }
+    }
+
+    /// The new binding of an iteration, in one of the lists, if any is kept.
+    pub(crate) fn rebind(
+        &mut self,
+        alloc: Global,
+        projection: &Map,
+        binding: &Tuple,
+        event: &Tuple,
+    ) -> Result<Tuple, Memory>
+        requires later { binding.now.at < event.now.from }
+        requires fits { All (λ s. Fits s event.now (Some binding.now)) projection.now.parts }
+        ensures { IfOk result (λ tuple. tuple ≡ rebound projection.now.parts binding.now event.now) }
+    {
+        let room = self.room(alloc, projection.parts.len())?;
+        let vals = evaluate(alloc, room, projection, event, Some(binding))?;
+        match Tuple::make(vals, binding.from(), event.at()) {
+            Ok(tuple) => Ok(tuple),
+            Err(_) => unreachable!(),
+        }
+    }
+
+    // An empty list: one of those that are kept, or else one with room for so many values.
+    #[inline(always)]
+    fn room(&mut self, alloc: Global, values: usize) -> Result<Vals, Memory>
+        ensures { IfOk result (λ vals. vals ≡ []) }
+    {
+        match self.take() {
+            Some(vals) => Ok(vals),
+            None => List::with_room(alloc, values),
         }
     }
 
