@@ -89,12 +89,7 @@ fn note(emptied: &mut Numbers, place: usize) -> bool
 }
 
 // The place after the last bucket that may have instances, once the bucket at `place` stands behind them, if it has none.
-fn set_back(
-    buckets: &mut Buckets,
-    starts: &mut Deadlines,
-    filled: usize,
-    place: usize,
-) -> usize
+fn set_back(buckets: &mut Buckets, starts: &mut Deadlines, filled: usize, place: usize) -> usize
     requires within { filled ≤ length buckets.old.entries }
     requires room { length buckets.old.entries ≤ length starts.old }
     requires starts { AreStarts starts.old buckets.old.entries }

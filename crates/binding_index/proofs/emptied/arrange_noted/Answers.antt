@@ -1,5 +1,4 @@
-use Rattle.std.proofs.Common.{◌∙◌, ap, subst, ℕ, List, ◌++◌}
-use Rattle.std.specs.Option.{option_to_list}
+use Rattle.std.proofs.Common.{subst, ℕ, List}
 use Rattle.binding_index.specs.Buckets.{IsSplitAside}
 use Rattle.binding_index.proofs.NotedLemmas.{same_on}
 use Rattle.binding_index.proofs.emptied.arrange_noted.Goals as goal

@@ -1,4 +1,4 @@
-use Rattle.std.proofs.Common.{◌∙◌, ◌++◌, ◌∷◌, [], ℕ, List, sym, subst, arith}
+use Rattle.std.proofs.Common.{◌∙◌, ℕ, List, sym, subst, arith}
 use Rattle.binding_index.specs.Buckets.{IsSplitAside}
 use Rattle.binding_index.proofs.MapLemmas.{filled_there}
 use Rattle.binding_index.proofs.NotedLemmas.{forward_noted, stays_noted, with_noted}
