@@ -2,6 +2,7 @@ pub mod BucketLemmas
 pub mod ColumnLemmas
 pub mod EntryLemmas
 pub mod FindLemmas
+pub mod HalvingLemmas
 pub mod HoldingLemmas
 pub mod IdLemmas
 pub mod KeepsLemmas

@@ -6,6 +6,7 @@ pub mod Entries
 pub mod Filing
 pub mod FixedParts
 pub mod Headings
+pub mod Ids
 pub mod Laws
 pub mod Limits
 pub mod Narrowing

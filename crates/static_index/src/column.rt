@@ -6,12 +6,12 @@ ghost use Rattle.static_index.specs.Buckets.{KeepsIds, KeepsOtherIds};
 ghost use Rattle.static_index.specs.Columns.{FindsUnder, ids_compared, ids_under};
 ghost use Rattle.static_index.specs.Headings.{Label, label};
 
-use crate::appending::{append, put, take_out};
 use crate::hashed::{Hashed, collect_hashed, put_hashed, take_hashed};
 use crate::heading::Heading;
+use crate::ids::{Ids, append};
 use crate::limits::Limits;
 use crate::spans::{Spans, collect_spans, put_span, take_span};
-use event_types::{Cmp, List, Memory, Numbers, Tuple, Value};
+use event_types::{Cmp, Memory, Numbers, Tuple, Value};
 use indexmap::IndexMap;
 use std::alloc::Global;
 use std::collections::BTreeMap;
@@ -26,7 +26,7 @@ pub(crate) struct Column {
     // under `<` and `<=`
     below: Limits,
     // under `<>`, whatever the literal
-    unequal: Numbers,
+    unequal: Ids,
     // in ranges of numbers that are bounded on both sides
     spans: Spans,
 }
@@ -37,7 +37,7 @@ impl Column {
             equal: IndexMap::new(alloc),
             above: Limits::new(alloc),
             below: Limits::new(alloc),
-            unequal: List::new(alloc),
+            unequal: Ids::new(alloc),
             spans: BTreeMap::new(alloc),
         }
     }
@@ -73,7 +73,7 @@ impl Column {
             Cmp::Eq => put_hashed(alloc, &mut self.equal, lit, id),
             Cmp::Gt | Cmp::Ge => self.above.put(alloc, lit, id),
             Cmp::Lt | Cmp::Le => self.below.put(alloc, lit, id),
-            Cmp::Ne => put(&mut self.unequal, id),
+            Cmp::Ne => self.unequal.put(id),
         }
     }
 
@@ -95,7 +95,7 @@ impl Column {
             Cmp::Eq => take_hashed(&mut self.equal, lit, id),
             Cmp::Gt | Cmp::Ge => self.above.take(lit, id),
             Cmp::Lt | Cmp::Le => self.below.take(lit, id),
-            Cmp::Ne => take_out(&mut self.unequal, id),
+            Cmp::Ne => self.unequal.take_out(id),
         }
     }
 

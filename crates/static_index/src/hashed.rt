@@ -3,13 +3,13 @@ ghost use Rattle.std.specs.Prelude.{◌≡◌, ◌++◌, Contains, OnOk};
 ghost use Rattle.event_types.specs.declared.value.Value.{Value};
 ghost use Rattle.static_index.specs.Buckets.{KeepsIds, KeepsOtherIds, hashed_ids};
 
-use crate::appending::{append, put, take_out};
-use event_types::{Copied, List, Memory, Numbers, Value};
+use crate::ids::{Ids, append};
+use event_types::{Copied, Memory, Numbers, Value};
 use indexmap::IndexMap;
 use std::alloc::Global;
 
 // A bucket of ids for each literal.
-pub(crate) type Hashed = IndexMap<Value, Numbers>;
+pub(crate) type Hashed = IndexMap<Value, Ids>;
 
 // Puts an id into the bucket of a literal.
 pub(crate) fn put_hashed(
@@ -22,11 +22,11 @@ pub(crate) fn put_hashed(
     ensures kept { (other : Value) → KeepsIds (hashed_ids buckets.old other) (hashed_ids buckets.new other) }
 {
     if let Some(bucket) = buckets.get_mut(lit) {
-        return put(bucket, id);
+        return bucket.put(id);
     }
     let key = lit.copied(alloc)?;
-    let mut bucket = List::new(alloc);
-    put(&mut bucket, id)?;
+    let mut bucket = Ids::new(alloc);
+    bucket.put(id)?;
     buckets.insert(key, bucket)?;
     Ok(())
 }
@@ -38,7 +38,7 @@ pub(crate) fn take_hashed(buckets: &mut Hashed, lit: &Value, id: usize)
     let Some(bucket) = buckets.get_mut(lit) else {
         return;
     };
-    take_out(bucket, id);
+    bucket.take_out(id);
     if bucket.len() == 0 {
         let _ = buckets.swap_remove(lit);
     }

@@ -4,7 +4,6 @@
 //! list of its conditions, each with its id and its fixed parts, where the ids ascend.
 #![tactic(auto)]
 
-mod appending;
 mod choosing;
 mod column;
 mod condition;
@@ -14,6 +13,7 @@ mod filing;
 mod fixed_part;
 mod hashed;
 mod heading;
+mod ids;
 mod index;
 mod laws;
 mod limits;

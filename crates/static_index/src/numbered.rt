@@ -6,14 +6,14 @@ ghost use Rattle.std.specs.Ordering.{int_cmp};
 ghost use Rattle.static_index.specs.Buckets.{KeepsIds, KeepsOtherIds, seen_bound, ids_between, numbered_ids};
 ghost use Rattle.static_index.specs.Spans.{FindsNear};
 
-use crate::appending::{append, put, take_out};
-use event_types::{List, Memory, Numbers, Value};
+use crate::ids::{Ids, append};
+use event_types::{Memory, Numbers, Value};
 use std::alloc::Global;
 use std::collections::BTreeMap;
 use std::ops::Bound;
 
 // A bucket of ids for each number.
-pub(crate) type Numbered = BTreeMap<i128, Numbers>;
+pub(crate) type Numbered = BTreeMap<i128, Ids>;
 
 // Puts an id into the bucket of a number.
 pub(crate) fn put_numbered(
@@ -26,10 +26,10 @@ pub(crate) fn put_numbered(
     ensures kept { (other : ℤ) → KeepsIds (numbered_ids buckets.old other) (numbered_ids buckets.new other) }
 {
     if let Some(bucket) = buckets.get_mut(&number) {
-        return put(bucket, id);
+        return bucket.put(id);
     }
-    let mut bucket = List::new(alloc);
-    put(&mut bucket, id)?;
+    let mut bucket = Ids::new(alloc);
+    bucket.put(id)?;
     buckets.insert(number, bucket)?;
     Ok(())
 }
@@ -41,7 +41,7 @@ pub(crate) fn take_numbered(buckets: &mut Numbered, number: i128, id: usize)
     let Some(bucket) = buckets.get_mut(&number) else {
         return;
     };
-    take_out(bucket, id);
+    bucket.take_out(id);
     if bucket.len() == 0 {
         let _ = buckets.remove(&number);
     }

@@ -6,15 +6,15 @@ ghost use Rattle.std.specs.Bound.{IsForward};
 ghost use Rattle.static_index.specs.Buckets.{FindsMet, FindsOnlyMet, KeepsIds, KeepsOtherIds, seen_bound, met_ids_between, ordered, ordered_ids};
 ghost use Rattle.event_types.specs.declared.comparison.Cmp.TheVariants.{Ge, Le};
 
-use crate::appending::{append, put, take_out};
-use event_types::{Cmp, Copied, List, Memory, Numbers, Value};
+use crate::ids::{Ids, append};
+use event_types::{Cmp, Copied, Memory, Numbers, Value};
 use scalar_expr::compares;
 use std::alloc::Global;
 use std::collections::BTreeMap;
 use std::ops::Bound;
 
 // A bucket of ids for each literal.
-pub(crate) type Ordered = BTreeMap<Value, Numbers>;
+pub(crate) type Ordered = BTreeMap<Value, Ids>;
 
 // Puts an id into the bucket of a literal.
 pub(crate) fn put_ordered(
@@ -27,11 +27,11 @@ pub(crate) fn put_ordered(
     ensures kept { (other : Value) → KeepsIds (ordered_ids buckets.old other) (ordered_ids buckets.new other) }
 {
     if let Some(bucket) = buckets.get_mut(lit) {
-        return put(bucket, id);
+        return bucket.put(id);
     }
     let key = lit.copied(alloc)?;
-    let mut bucket = List::new(alloc);
-    put(&mut bucket, id)?;
+    let mut bucket = Ids::new(alloc);
+    bucket.put(id)?;
     buckets.insert(key, bucket)?;
     Ok(())
 }
@@ -43,7 +43,7 @@ pub(crate) fn take_ordered(buckets: &mut Ordered, lit: &Value, id: usize)
     let Some(bucket) = buckets.get_mut(lit) else {
         return;
     };
-    take_out(bucket, id);
+    bucket.take_out(id);
     if bucket.len() == 0 {
         let _ = buckets.remove(lit);
     }

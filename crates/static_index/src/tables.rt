@@ -7,18 +7,18 @@ ghost use Rattle.static_index.specs.Buckets.{KeepsIds, KeepsOtherIds};
 ghost use Rattle.static_index.specs.Headings.{Label, label};
 ghost use Rattle.static_index.specs.Tables.{FindsFiled, equality, filed_ids, ids_in_column};
 
-use crate::appending::{append, put, take_out};
 use crate::column::Column;
 use crate::fixed_part::FixedPart;
 use crate::heading::{Heading, attr_under};
-use event_types::{List, Memory, Numbers, Tuple};
+use crate::ids::{Ids, append};
+use event_types::{Memory, Numbers, Tuple};
 use std::alloc::Global;
 use std::collections::BTreeMap;
 
 // Each id is filed under one heading, or without one among the rest.
 #[derive(Drop)]
 pub(crate) struct Tables {
-    rest: Numbers,
+    rest: Ids,
     // by the attribute
     columns: BTreeMap<usize, Column>,
 }
@@ -26,7 +26,7 @@ pub(crate) struct Tables {
 impl Tables {
     pub(crate) fn new(alloc: Global) -> Tables {
         Tables {
-            rest: List::new(alloc),
+            rest: Ids::new(alloc),
             columns: BTreeMap::new(alloc),
         }
     }
@@ -43,7 +43,7 @@ impl Tables {
     {
         match heading {
             Some(heading) => self.file_under(alloc, heading, id),
-            None => put(&mut self.rest, id),
+            None => self.rest.put(id),
         }
     }
 
@@ -72,7 +72,7 @@ impl Tables {
                     column.take(heading, id);
                 }
             }
-            None => take_out(&mut self.rest, id),
+            None => self.rest.take_out(id),
         }
     }
 

@@ -19,5 +19,5 @@ returns-in-Lt-clause-kept c = λ label n has.
 
 pub returns-in-Ne-clause-kept : goal.returns-in-Ne-clause-kept
 returns-in-Ne-clause-kept c = λ label n has.
-    let new : Column = record { equal = c.args.self.now.equal; above = c.args.self.now.above; below = c.args.self.now.below; unequal = c.put-in-Ne.new.ids; spans = c.args.self.now.spans } in
+    let new : Column = record { equal = c.args.self.now.equal; above = c.args.self.now.above; below = c.args.self.now.below; unequal = c.put-in-Ne.new.self; spans = c.args.self.now.spans } in
     column_kept c.args.self.now new n (λ k h. h) (λ k h. h) (λ k h. h) (λ h. c.put-in-Ne.ensures.kept n h) (λ span h. h) label has

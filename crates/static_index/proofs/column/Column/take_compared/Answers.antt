@@ -20,5 +20,5 @@ returns-in-Lt c = λ label n apart has.
 
 pub returns-in-Ne : goal.returns-in-Ne
 returns-in-Ne c = λ label n apart has.
-    let new : Column = record { equal = c.args.self.now.equal; above = c.args.self.now.above; below = c.args.self.now.below; unequal = c.take_out.new.ids; spans = c.args.self.now.spans } in
+    let new : Column = record { equal = c.args.self.now.equal; above = c.args.self.now.above; below = c.args.self.now.below; unequal = c.take_out.new.self; spans = c.args.self.now.spans } in
     column_kept c.args.self.now new n (λ k h. h) (λ k h. h) (λ k h. h) (λ h. others_stay _ _ c.take_out.ensures n apart h) (λ span h. h) label has

@@ -12,7 +12,7 @@ use Rattle.static_index.proofs.tables.Tables.forget.Goals as goal
 
 pub returns-in-None : goal.returns-in-None
 returns-in-None c = λ other n apart has.
-    let new : Tables = record { rest = c.take_out.new.ids; columns = c.args.self.now.columns } in
+    let new : Tables = record { rest = c.take_out.new.self; columns = c.args.self.now.columns } in
     filed_kept c.args.self.now new n (others_stay _ _ c.take_out.ensures n apart) (λ label h. h) other has
 
 pub returns-in-Some-get_mut : goal.returns-in-Some-get_mut
