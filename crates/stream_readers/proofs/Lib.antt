@@ -8,6 +8,7 @@ pub mod TargetLemmas
 pub mod SlotLemmas
 pub mod TakenLemmas
 pub mod ChangeLemmas
+pub mod EdgeLemmas
 pub mod EntryLemmas
 pub mod GrownLemmas
 pub mod PartedLemmas

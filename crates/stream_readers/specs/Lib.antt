@@ -1,4 +1,5 @@
 pub mod Changing
+pub mod Edges
 pub mod Filing
 pub mod Finding
 pub mod KeyTables

@@ -8,6 +8,7 @@
 #![tactic(auto)]
 
 mod changing;
+mod edge_places;
 mod filing;
 mod key_readers;
 mod leading;

@@ -1,6 +1,7 @@
 //! Places for targets, of which some are free.
 ghost use Rattle.std.specs.Prelude.{◌≡◌, ◌≢◌, ◌<◌, ◌≤◌, ◌&&◌, ℕ, None, OnErr, OnOk, Some, is_some, length, not};
 ghost use Rattle.std.specs.List.{All, flat_map};
+ghost use Rattle.stream_readers.specs.Edges.{StandsAt};
 ghost use Rattle.stream_readers.specs.Filing.{AreAtPlaces, at_places, filed_in, slot_at};
 ghost use Rattle.stream_readers.specs.Leaving.{left_by, moved_in};
 
@@ -57,6 +58,7 @@ pub(crate) fn put_slot(slots: &mut Slots, place: usize, target: Target) -> Resul
 pub(crate) fn clear_slot(slots: &mut Slots, place: usize)
     ensures here { slot_at slots.new place ≡ None }
     ensures others { (other : ℕ) → other ≢ place → slot_at slots.new other ≡ slot_at slots.old other }
+    ensures as_many { length slots.new ≡ length slots.old }
 {
     if place < slots.len() {
         *slots.get_mut(place) = None;
@@ -68,6 +70,7 @@ pub(crate) fn take_away(slots: &mut Slots, conditions: &mut StaticIndex, gone: T
     requires { AreAtPlaces slots.old conditions.old }
     ensures places { AreAtPlaces slots.new conditions.new }
     ensures left { filed_in slots.new conditions.new ≡ flat_map (left_by gone) (filed_in slots.old conditions.old) }
+    ensures edges { (state place : ℕ) → StandsAt slots.new state place → StandsAt slots.old state place }
 {
     let mut first = slots.len();
     for place in 0..slots.len() {

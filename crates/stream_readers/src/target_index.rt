@@ -5,12 +5,14 @@ ghost use Rattle.static_index.specs.FixedParts.{fixed_parts};
 ghost use Rattle.stream_readers.specs.Filing.{targets_met};
 ghost use Rattle.stream_readers.specs.Leaving.{left_by};
 
-use crate::slots::{Slots, clear_slot, free_place, gather, put_slot, take_away};
+use crate::edge_places::{EdgePlaces, part, with_edge};
+use crate::slots::{Slots, clear_slot, free_place, gather, put_slot};
 use crate::target::{Target, Targets};
 use event_types::{List, Memory, Numbers, Tuple};
 use scalar_expr::Conj;
 use static_index::StaticIndex;
 use std::alloc::Global;
+use std::collections::HashMap;
 use std::marker::Model;
 
 /// Targets, each under the fixed parts of a condition. An id of the index is the place of a target; a place
@@ -21,6 +23,8 @@ pub(crate) struct TargetIndex {
     conditions: StaticIndex,
     // Where a free place is looked for first.
     first: usize,
+    // The place of each edge, unless one came twice.
+    edges: Option<EdgePlaces>,
 }
 
 impl Model for TargetIndex {
@@ -29,11 +33,12 @@ impl Model for TargetIndex {
 
     ghost Value = { List Filed };
 
+    ghost use Rattle.stream_readers.specs.Edges.{MayHaveEdges};
     ghost use Rattle.stream_readers.specs.Filing.{AreAtPlaces, filed_in};
 
     ghost view = { λ s. filed_in s.slots s.conditions };
 
-    ghost invariant = { λ s. AreAtPlaces s.slots s.conditions };
+    ghost invariant = { λ s. AreAtPlaces s.slots s.conditions × MayHaveEdges s.edges s.slots };
 }
 
 impl TargetIndex {
@@ -45,6 +50,7 @@ impl TargetIndex {
             slots: List::new(alloc),
             conditions: StaticIndex::new(alloc),
             first: 0,
+            edges: Some(HashMap::new(alloc)),
         }
     }
 
@@ -54,6 +60,7 @@ impl TargetIndex {
         ensures kept { OnErr result (self.new ≡ self.old) }
     {
         let place = free_place(&self.slots, self.first);
+        self.edges = with_edge(self.edges.take(), &self.slots, target, place)?;
         put_slot(&mut self.slots, place, target)?;
         self.first = place;
         match self.conditions.add(place, condition) {
@@ -69,7 +76,7 @@ impl TargetIndex {
     pub(crate) fn leave(&mut self, gone: Target)
         ensures { self.new ≡ flat_map (left_by gone) self.old }
     {
-        let first = take_away(&mut self.slots, &mut self.conditions, gone);
+        let first = part(&mut self.edges, &mut self.slots, &mut self.conditions, gone);
         self.first = self.first.min(first);
     }
 

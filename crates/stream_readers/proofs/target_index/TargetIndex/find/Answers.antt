@@ -8,7 +8,7 @@ use Rattle.stream_readers.proofs.target_index.TargetIndex.find.Goals as goal
 pub gather-requires : goal.gather-requires
 gather-requires c =
     let slots = c.self.inside.slots in
-    subst (All (λ (place : ℕ). place < length slots)) (sym (c.as_slice.ensures ∙ c.in_ok-matching.ensures.value)) (places_met c.args.tuple.now slots c.self.inside.conditions c.self.invariant)
+    subst (All (λ (place : ℕ). place < length slots)) (sym (c.as_slice.ensures ∙ c.in_ok-matching.ensures.value)) (places_met c.args.tuple.now slots c.self.inside.conditions c.self.invariant.0)
 
 pub returns : goal.returns
 returns c =
