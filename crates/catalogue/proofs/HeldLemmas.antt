@@ -14,14 +14,9 @@ use Rattle.catalogue.specs.Parts.{Parts, IsAccepted, judged_of, queries_by}
 use Rattle.catalogue.specs.Judgement.{query_at}
 use Rattle.catalogue.specs.Reading.{reads_in}
 use Rattle.catalogue.specs.Standing.{AreNumbers}
-use Rattle.catalogue.specs.Tables.{HasPlaces}
+use Rattle.catalogue.specs.Tables.{HasFirstPlaces, HasPlaces}
 use Rattle.catalogue.proofs.CountLemmas.{order_count, statement_count}
 use Rattle.catalogue.proofs.PartLemmas.{published_count, stream_by}
-
--- the first so many of these numbers have their places
-pub record HasFirstPlaces (numbers places : List ℕ) (many : ℕ) : Type 0 where
-  pub long : length places ≡ length numbers
-  pub there : (place : ℕ) → place < many → get_or places (get_or numbers place 0) 0 ≡ place
 
 -- one more place is put
 pub HasFirstPlaces-set : (numbers places : List ℕ) (many number : ℕ) → AllPairs (λ x y. x ≢ y) numbers → many < length numbers → get_or numbers many 0 ≡ number → number < length numbers
@@ -45,7 +40,7 @@ all_placed numbers places many all was = record { long = was.long; there = λ pl
 
 module _ (order places : List ℕ) (are : AreNumbers order) (placed : HasPlaces order places) (query : ℕ) (small : query < length order) where
   -- the query stands at its place
-  at_place : (get_or places query 0 < length order) × (get_or order (get_or places query 0) 0 ≡ query)
+  pub at_place : (get_or places query 0 < length order) × (get_or order (get_or places query 0) 0 ≡ query)
   at_place =
       let (k, within, same) = (are.all query).1 small in
       let here : get_or order k 0 ≡ query = sym (get_or_default order k query 0 within) ∙ same in

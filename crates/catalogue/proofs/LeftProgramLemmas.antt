@@ -98,6 +98,13 @@ module _ (c : Catalogued) (stands : StandsInOrder c) where
         ]
       ]
 
+  -- and what they publish rises
+  pub published_rise : AllPairs (λ earlier later. earlier.stream < later.stream) c.published
+  published_rise i j d before inside =
+      let ascends = turn_ascends (kinds_in c.streams) (range_with_len 0 c.declared) (work_in c) stands.wide.typed.in_turn in
+      let less = ascends i j none_such before (omega (arith, inside, work_long, stands.publish)) in
+      omega (arith, less, stream_told c.streams c.published c.expressions i d none_such both_many (omega (arith, before, inside)), stream_told c.streams c.published c.expressions j d none_such both_many inside)
+
   module _ (number : ℕ) (small : number < length c.order) where
     abbrev at : ℕ
     at = place_of c number

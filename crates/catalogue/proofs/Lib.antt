@@ -53,3 +53,5 @@ pub mod OrderedLemmas
 pub mod ComingLemmas
 pub mod JudgeLemmas
 pub mod NewcomerLemmas
+pub mod HalvingLemmas
+pub mod LeftPlacesLemmas

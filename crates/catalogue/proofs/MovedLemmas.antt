@@ -12,7 +12,7 @@ use Rattle.event_types.proofs.NumberLemmas.{is_other, self_equal}
 use Rattle.semantics.specs.Programs.{Query}
 use Rattle.catalogue.specs.Leaving.{moved_down}
 use Rattle.catalogue.specs.Standing.{AreNumbers}
-use Rattle.catalogue.specs.Tables.{HasPlaces}
+use Rattle.catalogue.specs.Tables.{HasFirstPlaces, HasPlaces}
 
 -- a number up to that one stays
 pub moved_low : (gone number : ℕ) → number ≤ gone → moved_down gone number ≡ number
@@ -175,10 +175,10 @@ module _ (order : List ℕ) (are : AreNumbers order) where
       );
     }
 
--- the places of the numbers that are left, each behind that of the one that left one less
-pub places_left : (order places : List ℕ) (are : AreNumbers order) → HasPlaces order places → (gone : ℕ) → gone < length order
-    → HasPlaces (map (moved_down gone) (remove order (position_or_len (λ other. gone == other) order))) (map (moved_down (position_or_len (λ other. gone == other) order)) (remove places gone))
-places_left order places are placed gone small = record { long = long; there = there }
+-- those before the place of the one that left keep theirs
+pub first_left : (order places : List ℕ) (are : AreNumbers order) → HasPlaces order places → (gone : ℕ) → gone < length order
+    → HasFirstPlaces (map (moved_down gone) (remove order (position_or_len (λ other. gone == other) order))) (remove places gone) (position_or_len (λ other. gone == other) order)
+first_left order places are placed gone small = record { long = long; there = there }
   where
     at : ℕ
     at = position_or_len (λ other. gone == other) order
@@ -195,41 +195,21 @@ places_left order places are placed gone small = record { long = long; there = t
     places_long : length (remove places gone) + 1 ≡ length places
     places_long = let e = length-remove places gone inside in omega (arith, e)
 
-    long : length (map (moved_down at) (remove places gone)) ≡ length (map (moved_down gone) (remove order at))
-    long = omega (arith, length-map (remove places gone) (moved_down at), length-map (remove order at) (moved_down gone), rest_long, places_long, placed.long)
+    long : length (remove places gone) ≡ length (map (moved_down gone) (remove order at))
+    long = omega (arith, length-map (remove order at) (moved_down gone), rest_long, places_long, placed.long)
 
-    -- what a number that is left has as its place
-    found : (old : ℕ) → old < length order → old ≢ at → get_or (map (moved_down at) (remove places gone)) (moved_down gone (get_or order old 0)) 0 ≡ moved_down at old
-    found old old_inside other =
-        let n : ℕ = get_or order old 0 in
-        let n_small : n < length order = (are.all n).0 (Contains-get_or order old 0 old_inside) in
-        let n_other : n ≢ gone = λ same. other (sym (place_back order are old old_inside) ∙ ap (place_in order are) same) in
-        let place : get_or places n 0 ≡ old = placed.there old old_inside in
+    there : (place : ℕ) → place < at → get_or (remove places gone) (get_or (map (moved_down gone) (remove order at)) place 0) 0 ≡ place
+    there place before =
+        let n : ℕ = get_or order place 0 in
+        let within : place < length order = omega (arith, before, at_is.0) in
+        let n_small : n < length order = (are.all n).0 (Contains-get_or order place 0 within) in
+        let n_other : n ≢ gone = λ same. are.distinct place at 0 before at_is.0 (same ∙ sym at_is.1) in
+        let own : get_or places n 0 ≡ place = placed.there place within in
+        let moved : get_or (map (moved_down gone) (remove order at)) place 0 ≡ moved_down gone n =
+        get_or-map (moved_down gone) (remove order at) place 0 0 (omega (arith, before, at_is.0, rest_long)) ∙ ap (moved_down gone) (get_or-remove_below order at 0 place before at_is.0) in
         elim (side gone n n_other) [
-          | inl low ↦
-              ap (λ k. get_or (map (moved_down at) (remove places gone)) k 0) low.1 ∙ get_or-map (moved_down at) (remove places gone) n 0 0 (omega (arith, low.0, places_long, inside))
-              ∙ ap (moved_down at) (get_or-remove_below places gone 0 n low.0 inside ∙ place)
+          | inl low ↦ ap (λ k. get_or (remove places gone) k 0) (moved ∙ low.1) ∙ get_or-remove_below places gone 0 n low.0 inside ∙ own
           | inr high ↦
               let back : n - 1 + 1 ≡ n = omega (arith, high.0) in
-              ap (λ k. get_or (map (moved_down at) (remove places gone)) k 0) high.1 ∙ get_or-map (moved_down at) (remove places gone) (n - 1) 0 0 (omega (arith, high.0, places_long, n_small, placed.long))
-              ∙ ap (moved_down at) (get_or-remove_above places gone 0 (n - 1) (omega (arith, high.0)) inside ∙ ap (λ k. get_or places k 0) back ∙ place)
-        ]
-
-    at_order : (p old : ℕ) → p < length (remove order at) → get_or (remove order at) p 0 ≡ get_or order old 0 → old < length order → old ≢ at → moved_down at old ≡ p
-        → get_or (map (moved_down at) (remove places gone)) (get_or (map (moved_down gone) (remove order at)) p 0) 0 ≡ p
-    at_order p old p_inside same old_inside other moved =
-        ap (λ k. get_or (map (moved_down at) (remove places gone)) k 0) (get_or-map (moved_down gone) (remove order at) p 0 0 p_inside ∙ ap (moved_down gone) same) ∙ found old old_inside other ∙ moved
-
-    there : (p : ℕ) → p < length (map (moved_down gone) (remove order at)) → get_or (map (moved_down at) (remove places gone)) (get_or (map (moved_down gone) (remove order at)) p 0) 0 ≡ p
-    there p less =
-        let p_inside : p < length (remove order at) = omega (arith, less, length-map (remove order at) (moved_down gone)) in
-        elim (cases_lt p at) [
-          | inl before ↦
-              let other : p ≢ at = λ same. absurd (omega (arith, same, before)) in
-              let moved : moved_down at p ≡ p = elim (side at p other) [ inl low ↦ low.1 | inr high ↦ absurd (omega (arith, high.0, before)) ] in
-              at_order p p p_inside (get_or-remove_below order at 0 p before at_is.0) (omega (arith, p_inside, rest_long)) other moved
-          | inr past ↦
-              let other : p + 1 ≢ at = λ same. absurd (omega (arith, same, past)) in
-              let moved : moved_down at (p + 1) ≡ p = elim (side at (p + 1) other) [ inl low ↦ absurd (omega (arith, low.0, past)) | inr high ↦ high.1 ∙ (let less_one : p + 1 - 1 ≡ p = omega arith in less_one) ] in
-              at_order p (p + 1) p_inside (get_or-remove_above order at 0 p past at_is.0) (omega (arith, p_inside, rest_long)) other moved
+              ap (λ k. get_or (remove places gone) k 0) (moved ∙ high.1) ∙ get_or-remove_above places gone 0 (n - 1) (omega (arith, high.0)) inside ∙ ap (λ k. get_or places k 0) back ∙ own
         ]

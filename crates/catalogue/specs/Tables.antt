@@ -23,6 +23,11 @@ pub record ArePlaces (statements : List Statement) (lines : List ℕ) (some : Li
   pub queries : map (slice_get statements) places ≡ map Some (queries_in some)
   pub lines_are : map (slice_get lines) places ≡ map Some (query_lines some some_lines)
 
+-- the first so many of these numbers have their places
+pub record HasFirstPlaces (numbers : List ℕ) (places : List ℕ) (many : ℕ) : Type 0 where
+  pub long : length places ≡ length numbers
+  pub there : (place : ℕ) → place < many → slice_index_or places (slice_index_or numbers place 0) 0 ≡ place
+
 -- for each of these numbers its place among them
 pub record HasPlaces (numbers : List ℕ) (places : List ℕ) : Type 0 where
   pub long : length places ≡ length numbers

@@ -1,5 +1,5 @@
 //! Queries that leave a catalogue.
-ghost use Rattle.std.specs.Prelude.{◌≡◌, ◌<◌, ◌↔◌, ◌==◌, ℕ, Err, OnErr, IfErr, IfNone, IfOk, IfSome, OnOk, length, position};
+ghost use Rattle.std.specs.Prelude.{◌≡◌, ◌<◌, ◌↔◌, ◌==◌, ℕ, AllPairs, Err, OnErr, IfErr, IfNone, IfOk, IfSome, OnOk, length, position};
 ghost use Rattle.catalogue.specs.declared.fault.DropFault.TheVariants.{UnknownQuery};
 ghost use Rattle.catalogue.specs.Catalogued.{query_in};
 ghost use Rattle.catalogue.specs.Standing.{StandsInOrder};
@@ -9,9 +9,9 @@ ghost use Rattle.catalogue.specs.Part.{IsPart};
 use crate::accepted::Catalogue;
 use crate::counting::does_read;
 use crate::fault::DropFault;
-use crate::leaving::{add_part, move_down};
+use crate::leaving::{add_part, move_down, place_from};
 use crate::numbering::Published;
-use crate::sharing::share_before;
+use crate::sharing::share_from;
 use crate::tallying::{tally_at, untally};
 use automaton::Shrinkage;
 use event_types::{List, Memory, Numbers, StreamId, Text};
@@ -132,10 +132,10 @@ impl Catalogue {
     {
         let place = self.place(query);
         self.streams.retire(self.published.get(place).stream);
+        move_down(&mut self.order, &self.places, query);
         self.order.remove(place);
-        move_down(&mut self.order, query);
         self.places.remove(query);
-        move_down(&mut self.places, place);
+        place_from(&mut self.places, &self.order, place);
         self.published.remove(place);
         untally(&mut self.reads, self.expressions.get(place));
         self.expressions.remove(place);
@@ -151,26 +151,30 @@ impl Catalogue {
         ensures { IsPart self.now query result }
     {
         let place = self.place(query);
+        let lines = self.chains.lines.len();
         let worked = self.chains.layout.order.len();
-        let before = share_before(&self.shares, place);
         let own = self.shares.get(place);
+        let later = share_from(&self.shares, place);
         let lost = Shrinkage {
-            first: before.streams,
-            end: before.streams + own.streams,
+            first: worked - later.streams,
+            end: worked - later.streams + own.streams,
             out: query,
         };
         prove!(lost.end <= worked);
         Part {
-            first: before.lines,
-            end: before.lines + own.lines,
+            first: lines - later.lines,
+            end: lines - later.lines + own.lines,
             lost,
         }
     }
 }
 
-// The place of the query that publishes the stream.
+// The place of the query that publishes the stream, by halves: later queries publish greater ones.
 fn publisher(published: &[Published], stream: StreamId) -> Option<usize>
+    requires { AllPairs (λ earlier later. earlier.stream < later.stream) published.now }
     ensures { result ≡ position (λ query. query.stream == stream) published.now }
 {
-    published.iter().position(|query| query.stream == stream)
+    published
+        .binary_search_by_key(&stream, |query| query.stream)
+        .ok()
 }

@@ -1,6 +1,8 @@
-//! The numbers of what a query has in a list, and of what stays.
-ghost use Rattle.std.specs.Prelude.{◌≡◌, ◌≤◌, ◌-◌, ◌++◌, OnOk, length, map, take, drop};
+//! The numbers of what a query has in a list, and the numbers and places of those that stay.
+ghost use Rattle.std.specs.Prelude.{◌≡◌, ◌<◌, ◌≤◌, ◌-◌, ◌++◌, OnOk, length, map, take, drop};
 ghost use Rattle.catalogue.specs.Leaving.{moved_down};
+ghost use Rattle.catalogue.specs.Standing.{AreNumbers};
+ghost use Rattle.catalogue.specs.Tables.{HasFirstPlaces, HasPlaces};
 
 use event_types::{Memory, Numbers};
 
@@ -21,19 +23,28 @@ pub fn add_part(
     Ok(())
 }
 
-/// The numbers once that of this one has left: each greater one is one less.
-pub fn move_down(numbers: &mut Numbers, gone: usize)
-    ensures { numbers.new ≡ map (moved_down gone) numbers.old }
+/// The numbers in the order of work once that of this one has left: each greater one, which is found by its place, is
+/// one less.
+pub fn move_down(order: &mut Numbers, places: &Numbers, gone: usize)
+    requires numbers { AreNumbers order.old }
+    requires placed { HasPlaces order.old places.now }
+    requires there { gone < length order.old }
+    ensures { order.new ≡ map (moved_down gone) order.old }
 {
-    for place in 0..numbers.len() {
-        let number = *numbers.get(place);
-        *numbers.get_mut(place) = lowered(number, gone);
+    let many = order.len();
+    for number in gone + 1..many {
+        *order.get_mut(*places.get(number)) = number - 1;
     }
 }
 
-// The number, or one less where it is greater than that of the one that left.
-fn lowered(number: usize, gone: usize) -> usize
-    ensures { result ≡ moved_down gone number }
+/// The places of numbers of which those from a place on have moved up.
+pub fn place_from(places: &mut Numbers, numbers: &Numbers, first: usize)
+    requires numbers { AreNumbers numbers.now }
+    requires first { HasFirstPlaces numbers.now places.old first }
+    requires within { first ≤ length numbers.now }
+    ensures { HasPlaces numbers.now places.new }
 {
-    if gone < number { number - 1 } else { number }
+    for place in first..numbers.len() {
+        *places.get_mut(*numbers.get(place)) = place;
+    }
 }

@@ -1,5 +1,5 @@
 //! How many of all lines and of all streams are those of each query.
-ghost use Rattle.std.specs.Prelude.{◌≡◌, ◌<◌, ◌≤◌, ◌^◌, [], IfOk, length, map, sum_by, take};
+ghost use Rattle.std.specs.Prelude.{◌≡◌, ◌<◌, ◌≤◌, ◌+◌, ◌^◌, [], IfOk, length, map, sum_by, take};
 ghost use Rattle.std.specs.List.{All};
 ghost use Rattle.expressions.specs.Views.{ex_of};
 ghost use Rattle.catalogue.specs.Catalogued.{queries_of, query_of};
@@ -54,17 +54,17 @@ fn share_one(published: &Published, expr: &Expr) -> Share
     }
 }
 
-/// What the first so many queries have together.
-pub fn share_before(shares: &List<Share>, many: usize) -> Share
-    requires within { many ≤ length shares.now }
+/// What the queries from a place on have together.
+pub fn share_from(shares: &List<Share>, first: usize) -> Share
+    requires within { first ≤ length shares.now }
     requires lines { sum_by (λ share. share.lines) shares.now < 2 ^ 64 }
     requires streams { sum_by (λ share. share.streams) shares.now < 2 ^ 64 }
-    ensures lines { result.lines ≡ sum_by (λ share. share.lines) (take many shares.now) }
-    ensures streams { result.streams ≡ sum_by (λ share. share.streams) (take many shares.now) }
+    ensures lines { sum_by (λ share. share.lines) (take first shares.now) + result.lines ≡ sum_by (λ share. share.lines) shares.now }
+    ensures streams { sum_by (λ share. share.streams) (take first shares.now) + result.streams ≡ sum_by (λ share. share.streams) shares.now }
 {
     let mut lines = 0;
     let mut streams = 0;
-    for place in 0..many {
+    for place in first..shares.len() {
         let share = shares.get(place);
         lines += share.lines;
         streams += share.streams;

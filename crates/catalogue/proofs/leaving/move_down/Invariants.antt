@@ -1,8 +1,6 @@
-use Rattle.std.proofs.Common.{◌≡◌}
-use Rattle.catalogue.specs.Leaving.{moved_down}
-use Rattle.catalogue.proofs.MovingLemmas.{changed_first}
+use Rattle.catalogue.proofs.MovingLemmas.{AreMovedBelow}
 use Rattle.catalogue.proofs.leaving.move_down.Given as goal
 
 -- the numbers so far are moved down
-abbrev pub invariant-loop-place : goal.invariant-loop-place
-invariant-loop-place l = l.numbers ≡ changed_first (moved_down l.fn.gone) l.initial.numbers l.place
+abbrev pub invariant-loop-number : goal.invariant-loop-number
+invariant-loop-number l = AreMovedBelow l.initial.order l.fn.gone l.order l.number

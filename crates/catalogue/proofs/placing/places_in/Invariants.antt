@@ -1,4 +1,4 @@
-use Rattle.catalogue.proofs.HeldLemmas.{HasFirstPlaces}
+use Rattle.catalogue.specs.Tables.{HasFirstPlaces}
 use Rattle.catalogue.proofs.placing.places_in.Given as goal
 
 -- the numbers so far have their places

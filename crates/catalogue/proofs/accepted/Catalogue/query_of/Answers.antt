@@ -1,10 +1,11 @@
-use Rattle.std.proofs.Common.{◌≡◌, ◌≢◌, ◌∙◌, sym, ap, subst}
+use Rattle.std.proofs.Common.{◌≡◌, ◌≢◌, ◌∙◌, ◌<◌, sym, ap, subst}
 use Rattle.std.specs.Prelude.{◌==◌, AllPairs, Contains, None, Some, position, slice_get}
 use Rattle.stream_schema.specs.Streams.{stream_names}
 use Rattle.catalogue.specs.declared.numbering.Published.{Published}
 use Rattle.catalogue.specs.Catalogued.{Catalogued}
 use Rattle.catalogue.specs.Tables.{IsHeld}
 use Rattle.catalogue.proofs.FoundLemmas.{first_named, has_name, no_publisher, no_stream}
+use Rattle.catalogue.proofs.LeftProgramLemmas.{published_rise}
 use Rattle.catalogue.proofs.accepted.Catalogue.query_of.Goals as goal
 
 -- no stream has the name
@@ -12,6 +13,12 @@ pub returns-in-None-clause-none : goal.returns-in-None-clause-none
 returns-in-None-clause-none c =
     let held : IsHeld c.args.self.now c.self.inside.places c.self.inside.chains.lines c.self.inside.shares c.self.inside.reads = subst (λ (v : Catalogued). IsHeld v c.self.inside.places c.self.inside.chains.lines c.self.inside.shares c.self.inside.reads) c.self.view_is c.self.invariant in
     no_stream c.args.self.now held.stands c.args.name.now (λ has. c.find.ensures.absent.0 c.in-None.is (subst (λ (v : Catalogued). Contains (stream_names v.streams) c.args.name.now) (sym c.self.view_is) has))
+
+-- later queries publish greater streams
+pub publisher-requires : goal.publisher-requires
+publisher-requires c =
+    let held : IsHeld c.args.self.now c.self.inside.places c.self.inside.chains.lines c.self.inside.shares c.self.inside.reads = subst (λ (v : Catalogued). IsHeld v c.self.inside.places c.self.inside.chains.lines c.self.inside.shares c.self.inside.reads) c.self.view_is c.self.invariant in
+    subst (AllPairs (λ (earlier : Published) (later : Published). earlier.stream < later.stream)) (ap (λ (v : Catalogued). v.published) (sym c.self.view_is) ∙ sym c.as_slice.ensures) (published_rise c.args.self.now held.stands)
 
 -- a stream has it that no query publishes
 pub returns-in-None-publisher-clause-none : goal.returns-in-None-publisher-clause-none

@@ -1,4 +1,4 @@
-use Rattle.std.proofs.Common.{◌≡◌, ◌∙◌, ℕ, List, map, sym, ap, subst}
+use Rattle.std.proofs.Common.{◌≡◌, ◌∙◌, ◌<◌, ℕ, List, length, map, sym, ap, subst, arith}
 use Rattle.std.specs.List.{remove}
 use Rattle.automaton.specs.Layouts.{shrunk}
 use Rattle.stream_schema.specs.Streams.{retired}
@@ -11,7 +11,7 @@ use Rattle.catalogue.specs.Tallies.{AreTallied}
 use Rattle.catalogue.proofs.TallyLemmas.{tallied_less, tallied_one}
 use Rattle.catalogue.proofs.LeftLemmas.{left_stands, lines_left}
 use Rattle.catalogue.proofs.LeftProgramLemmas.{at_work, work_left}
-use Rattle.catalogue.proofs.MovedLemmas.{places_left}
+use Rattle.catalogue.proofs.LeftPlacesLemmas.{at_within, left_first, left_numbered, left_within, order_left}
 use Rattle.catalogue.proofs.RemovingLemmas.{map-remove}
 use Rattle.catalogue.proofs.PutLemmas.{stream_is, stream_published, stream_within}
 use Rattle.catalogue.proofs.accepted.Catalogue.take_out.Goals as goal
@@ -30,6 +30,31 @@ retire-requires-clause-published c =
     stream_published c.args.self.now held.stands c.args.query c.requires.within c.self.inside.published c.self.inside.streams (ap (λ (v : Catalogued). v.published) c.self.view_is) (ap (λ (v : Catalogued). v.streams) c.self.view_is) c.place-place.result
     c.place-place.ensures.value c.get.result.now c.get.ensures
 
+-- its number and its place are those that the catalogue had
+small_before : (view now : Catalogued) → view ≡ now → (query : ℕ) → query < length now.order → query < length view.order
+small_before view now is query small = let same = ap (λ (v : Catalogued). length v.order) is in omega (arith, small, same)
+
+place_before : (view now : Catalogued) → view ≡ now → (query place : ℕ) → place ≡ place_of now query → place ≡ place_of view query
+place_before view now is query place at = at ∙ ap (λ (v : Catalogued). place_of v query) (sym is)
+
+-- it stands in the order of work
+pub remove-requires : goal.remove-requires
+remove-requires c = at_within c.self.inside.order c.self.inside.places c.self.invariant.stands.numbered c.self.invariant.placed c.args.query (small_before _ c.args.self.now c.self.view_is c.args.query c.requires.within) c.place-place.result (place_before _ c.args.self.now c.self.view_is c.args.query c.place-place.result c.place-place.ensures.value) c.move_down.new.order c.move_down.ensures
+
+-- those that are left have numbers, and those before it their places
+pub place_from-requires-clause-numbers : goal.place_from-requires-clause-numbers
+place_from-requires-clause-numbers c =
+    left_numbered c.self.inside.order c.self.inside.places c.self.invariant.stands.numbered c.self.invariant.placed c.args.query (small_before _ c.args.self.now c.self.view_is c.args.query c.requires.within) c.place-place.result (place_before _ c.args.self.now c.self.view_is c.args.query c.place-place.result c.place-place.ensures.value) c.move_down.new.order c.move_down.ensures c.remove.new.self c.remove.ensures.others
+
+pub place_from-requires-clause-first : goal.place_from-requires-clause-first
+place_from-requires-clause-first c =
+    left_first c.self.inside.order c.self.inside.places c.self.invariant.stands.numbered c.self.invariant.placed c.args.query (small_before _ c.args.self.now c.self.view_is c.args.query c.requires.within) c.place-place.result (place_before _ c.args.self.now c.self.view_is c.args.query c.place-place.result c.place-place.ensures.value) c.move_down.new.order c.move_down.ensures c.remove.new.self c.remove.ensures.others c.remove-2.new.self
+    c.remove-2.ensures.others
+
+pub place_from-requires-clause-within : goal.place_from-requires-clause-within
+place_from-requires-clause-within c =
+    left_within c.self.inside.order c.self.inside.places c.self.invariant.stands.numbered c.self.invariant.placed c.args.query (small_before _ c.args.self.now c.self.view_is c.args.query c.requires.within) c.place-place.result (place_before _ c.args.self.now c.self.view_is c.args.query c.place-place.result c.place-place.ensures.value) c.move_down.new.order c.move_down.ensures c.remove.new.self c.remove.ensures.others
+
 -- its reads are tallied
 pub untally-requires : goal.untally-requires
 untally-requires c = tallied_one c.self.inside.expressions c.place-place.result c.get-2.result.now c.get-2.ensures c.self.inside.reads c.self.invariant.tallied
@@ -38,15 +63,17 @@ module _ (c : goal.After-shrink) where
   held : IsHeld c.args.self.now c.self.inside.places c.self.inside.chains.lines c.self.inside.shares c.self.inside.reads
   held = subst (λ (v : Catalogued). IsHeld v c.self.inside.places c.self.inside.chains.lines c.self.inside.shares c.self.inside.reads) c.self.view_is c.self.invariant
 
-  order_is : c.move_down.new.numbers ≡ map (moved_down c.args.query) (remove c.args.self.now.order (place_of c.args.self.now c.args.query))
-  order_is = c.move_down.ensures ∙ ap (map (moved_down c.args.query)) (c.remove.ensures.others ∙ (λ t. remove (c.self.view_is t).order (c.place-place.ensures.value t)))
+  order_is : c.remove.new.self ≡ map (moved_down c.args.query) (remove c.args.self.now.order (place_of c.args.self.now c.args.query))
+  order_is =
+      order_left c.self.inside.order c.self.inside.places c.self.invariant.stands.numbered c.self.invariant.placed c.args.query (small_before _ c.args.self.now c.self.view_is c.args.query c.requires.within) c.place-place.result (place_before _ c.args.self.now c.self.view_is c.args.query c.place-place.result c.place-place.ensures.value) c.move_down.new.order c.move_down.ensures c.remove.new.self c.remove.ensures.others
+      ∙ (λ t. map (moved_down c.args.query) (remove (c.self.view_is t).order (place_of (c.self.view_is t) c.args.query)))
 
   -- it is the catalogue without the query
   made : (record {
     file = c.self.inside.file;
     declared = c.self.inside.declared;
     streams = c.retire.new.self;
-    order = c.move_down.new.numbers;
+    order = c.remove.new.self;
     published = c.remove-3.new.self;
     expressions = c.remove-4.new.self;
     ends = c.cut.new.self;
@@ -82,15 +109,12 @@ invariant_of-self c =
     let now = c.args.self.now in
     let h = held c in
     let at : ℕ = place_of now c.args.query in
-    let places : c.move_down-2.new.numbers ≡ map (moved_down at) (remove c.self.inside.places c.args.query) =
-    c.move_down-2.ensures ∙ (λ t. map (moved_down (c.place-place.ensures.value t)) (c.remove-2.ensures.others t)) in
     let lines : c.cut-2.new.self ≡ without_part c.self.inside.chains.lines c.args.part.first c.args.part.end = c.cut-2.ensures in
     let shares : c.remove-5.new.self ≡ map share_of (remove (work_in now) at) =
     c.remove-5.ensures.others ∙ (λ t. remove (h.shared t) (c.place-place.ensures.value t)) ∙ sym (map-remove share_of (work_in now) at (at_work now h.stands c.args.query c.requires.within)) in
-    subst (λ (v : Catalogued). IsHeld v c.move_down-2.new.numbers c.cut-2.new.self c.remove-5.new.self c.untally.new.tallies) (sym (made c)) (record {
+    subst (λ (v : Catalogued). IsHeld v c.place_from.new.places c.cut-2.new.self c.remove-5.new.self c.untally.new.tallies) (sym (made c)) (record {
       stands = left_stands now h.stands c.args.query c.requires.within c.requires.unread;
-      placed =
-          subst (HasPlaces (map (moved_down c.args.query) (remove now.order at))) (sym places) (places_left now.order c.self.inside.places h.stands.numbered h.placed c.args.query c.requires.within);
+      placed = subst (λ (ns : List ℕ). HasPlaces ns c.place_from.new.places) (order_is c) c.place_from.ensures;
       lines_are = lines ∙ (λ t. without_part (h.lines_are t) (c.requires.part.first t) (c.requires.part.end t)) ∙ sym (lines_left now h.stands c.args.query c.requires.within);
       shared = shares ∙ ap (map share_of) (sym (work_left now h.stands c.args.query c.requires.within));
       tallied = subst (λ (xs : List Expr). AreTallied xs c.untally.new.tallies) (λ t. remove (c.self.view_is t).expressions (c.place-place.ensures.value t))
