@@ -68,6 +68,7 @@ impl<T> List<T> {
     }
 
     /// Puts the item at the end. Want of memory hands it back.
+    #[inline(always)]
     pub fn push(&mut self, item: T) -> Result<(), T>
         ensures ok { OnOk result (self.new ≡ self.old ++ item ∷ []) }
         ensures handed_back { IfErr result (λ back. back ≡ item) }

@@ -1,5 +1,6 @@
 //! Text in UTF-8.
-ghost use Rattle.std.specs.Prelude.{◌≡◌, ◌≤◌, IfOk, IsUtf8, length, refl, Some};
+ghost use Rattle.std.specs.Prelude.{◌≡◌, ◌≤◌, IfOk, IsTrue, IsUtf8, drop, length, refl, Some, take};
+ghost use Rattle.std.specs.Int.{to_le_bytes, w16, w32, w64};
 ghost use Rattle.event_types.specs.Held.{IsHeld, held_bytes};
 ghost use Rattle.std.specs.Ordering.{nat_cmp};
 ghost use Rattle.std.specs.Str.{bytes_eq};
@@ -86,6 +87,41 @@ fn short_of(source: &str) -> Held
     Held::Short(source.len() as u8, bytes)
 }
 
+// Whether bytes of one length that are held in place are found to be the same at once: eight, four and two of them, with
+// whatever stands behind the text.
+#[inline(always)]
+fn are_same(bytes: &[u8; SHORT], others: &[u8; SHORT]) -> bool
+    ensures { IsTrue result → bytes.now ≡ others.now }
+{
+    front(bytes) == front(others) && middle(bytes) == middle(others) && back(bytes) == back(others)
+}
+
+// The first eight bytes, as a number.
+#[inline(always)]
+fn front(bytes: &[u8; SHORT]) -> u64
+    ensures { to_le_bytes w64 result ≡ take 8 bytes.now }
+{
+    u64::from_le_bytes([
+        bytes[0], bytes[1], bytes[2], bytes[3], bytes[4], bytes[5], bytes[6], bytes[7],
+    ])
+}
+
+// The four bytes behind them, as a number.
+#[inline(always)]
+fn middle(bytes: &[u8; SHORT]) -> u32
+    ensures { to_le_bytes w32 result ≡ take 4 (drop 8 bytes.now) }
+{
+    u32::from_le_bytes([bytes[8], bytes[9], bytes[10], bytes[11]])
+}
+
+// The last two bytes, as a number.
+#[inline(always)]
+fn back(bytes: &[u8; SHORT]) -> u16
+    ensures { to_le_bytes w16 result ≡ drop 12 bytes.now }
+{
+    u16::from_le_bytes([bytes[12], bytes[13]])
+}
+
 // The text of bytes that were taken from one.
 fn text_of(bytes: &[u8]) -> &str
     requires { IsUtf8 bytes.now }
@@ -99,8 +135,13 @@ impl PartialEq for Text {
 
     ghost laws = { partial_equiv_from_equiv nat_list_eq_equiv };
 
+    #[inline(always)]
     fn eq(&self, other: &Self) -> bool {
-        self.as_str() == other.as_str()
+        match (&self.held, &other.held) {
+            (Held::Short(len, bytes), Held::Short(other_len, others))
+                if *len == *other_len && are_same(bytes, others) => { true }
+            _ => self.as_str() == other.as_str(),
+        }
     }
 }
 
