@@ -1,5 +1,5 @@
 //! The event of a line.
-ghost use Rattle.std.specs.Prelude.{◌≡◌, ◌+◌, ◌<◌, ◌≤◌, [], length, IfOk, IfErr, IfSome};
+ghost use Rattle.std.specs.Prelude.{◌≡◌, ◌+◌, ◌<◌, ◌≤◌, length, IfOk, IfErr, IfSome};
 ghost use Rattle.stream_schema.specs.Schema.{kinds_of};
 ghost use Rattle.stream_schema.specs.Streams.{number_of, schemas_of};
 ghost use Rattle.event_csv.specs.Event.{Tells, ValuesTell, counted_event, declared_stream, event, fields_event, no_value, span_of, stream_with, value_of, values_of};
@@ -28,39 +28,15 @@ pub fn read_event(alloc: Global, streams: &Streams, line: &[u8]) -> Result<Seen,
     ensures ok { IfOk result (λ seen. event streams.now line.now ≡ Ok seen) }
     ensures bad { IfErr result (Tells (event streams.now line.now)) }
 {
-    read_event_near(alloc, streams, 0, None, line)
-}
-
-/// The same, where the name of the stream `near` is compared before names are looked up. It may be any number: that of
-/// the event before is found soonest where lines of one stream follow one another. An event that is read quickly
-/// has its values in the list `spare`, if there is one, whose room is used again.
-#[inline(always)]
-pub fn read_event_near(
-    alloc: Global,
-    streams: &Streams,
-    near: StreamId,
-    spare: Option<Vals>,
-    line: &[u8],
-) -> Result<Seen, ReadFail>
-    requires line { IsLine line.now }
-    requires spare { IfSome spare (λ vals. vals ≡ []) }
-    ensures ok { IfOk result (λ seen. event streams.now line.now ≡ Ok seen) }
-    ensures bad { IfErr result (Tells (event streams.now line.now)) }
-{
-    match read_quickly(alloc, streams, near, spare, line) {
+    match read_quickly(alloc, streams, 0, None, line) {
         Some(seen) => Ok(seen),
-        None => read_slowly(alloc, streams, near, line),
+        None => read_slowly(alloc, streams, line),
     }
 }
 
 // The event of any line, or its first fault. Out of line, since a reader of `csv` holds a long buffer.
 #[inline(never)]
-fn read_slowly(
-    alloc: Global,
-    streams: &Streams,
-    near: StreamId,
-    line: &[u8],
-) -> Result<Seen, ReadFail>
+fn read_slowly(alloc: Global, streams: &Streams, line: &[u8]) -> Result<Seen, ReadFail>
     requires { IsLine line.now }
     ensures ok { IfOk result (λ seen. event streams.now line.now ≡ Ok seen) }
     ensures bad { IfErr result (Tells (event streams.now line.now)) }
@@ -69,22 +45,17 @@ fn read_slowly(
         return Err(ReadFail::Bad(LineFault::NotUtf8));
     };
     if is_plain(line) {
-        return read_fields(alloc, streams, near, Fields::Line(Some(text)));
+        return read_fields(alloc, streams, Fields::Line(Some(text)));
     }
     match record_of(alloc, line) {
         Err(_) => Err(ReadFail::Memory),
         Ok(None) => Err(ReadFail::Bad(LineFault::UnknownStream)),
-        Ok(Some(row)) => read_fields(alloc, streams, near, Fields::Row(&row, 0)),
+        Ok(Some(row)) => read_fields(alloc, streams, Fields::Row(&row, 0)),
     }
 }
 
 // The event of the fields of a line.
-fn read_fields(
-    alloc: Global,
-    streams: &Streams,
-    near: StreamId,
-    fields: Fields<'_>,
-) -> Result<Seen, ReadFail>
+fn read_fields(alloc: Global, streams: &Streams, fields: Fields<'_>) -> Result<Seen, ReadFail>
     ensures ok { IfOk result (λ seen. fields_event streams.now (fields_left fields.entry) ≡ Ok seen) }
     ensures bad { IfErr result (Tells (fields_event streams.now (fields_left fields.entry))) }
 {
@@ -93,7 +64,7 @@ fn read_fields(
     let Some(name) = fields.next() else {
         return Err(ReadFail::Bad(LineFault::UnknownStream));
     };
-    let Some(stream) = find_declared(streams, near, name) else {
+    let Some(stream) = find_declared(streams, 0, name) else {
         return Err(ReadFail::Bad(LineFault::UnknownStream));
     };
     read_tuple(alloc, stream, streams.schema(stream), got, fields)

@@ -93,13 +93,18 @@ fn text_of(bytes: &[u8], is_ascii: bool) -> Option<&str>
     requires { is_ascii ≡ true → IsAscii bytes.now }
     ensures { IfSome result (λ text. (text.now ≡ bytes.now) × IsUtf8 bytes.now) }
 {
-    if is_ascii {
+    if is_ascii || is_utf8(bytes) {
         return Some(unsafe { from_utf8_unchecked(bytes) });
     }
-    match from_utf8(bytes) {
-        Ok(text) => Some(text),
-        Err(_) => None,
-    }
+    None
+}
+
+// Whether the bytes are UTF-8. Out of line, so that a field of ASCII needs no room for a fault.
+#[inline(never)]
+fn is_utf8(bytes: &[u8]) -> bool
+    ensures { result ≡ true → IsUtf8 bytes.now }
+{
+    from_utf8(bytes).is_ok()
 }
 
 // The place of the first quote, if there is one, and a flag that is true only if all bytes before it are ASCII.

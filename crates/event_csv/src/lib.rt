@@ -18,7 +18,7 @@ mod place;
 mod quick;
 
 pub use control::{Control, ControlError, read_control};
-pub use event::{Seen, read_event, read_event_near};
+pub use event::{Seen, read_event};
 pub use fault::{LineFault, ReadFail};
 pub use feed::Feed;
 pub use got::Got;
@@ -26,3 +26,4 @@ pub use laws::{
     lines_have_their_first_fault, lines_stay, numbers_are_read_as_they_are_written,
     pieces_give_the_lines_of_the_text, undeclared_streams_change_no_event,
 };
+pub use quick::read_quickly;

@@ -1,6 +1,7 @@
 //! The quick reading of a line, field by field, in one pass and without the reader of `csv`. Every line that is an event
 //! by fields of few digits, and by texts in which no quote stands, is read so; any other is left, and its fault isn't told.
 ghost use Rattle.std.specs.Prelude.{◌≡◌, [], option_map, IfSome, Ok, Some};
+ghost use Rattle.event_csv.specs.Decimals.{units_of};
 ghost use Rattle.event_csv.specs.Event.{event};
 ghost use Rattle.event_csv.specs.Fed.{IsLine};
 ghost use Rattle.event_csv.specs.Quick.{DecFirst, IsFirst, PutsValue, SpanFirst, StreamFirst, WriteAll};
@@ -13,9 +14,11 @@ use event_types::{Kind, List, StreamId, Text, Tuple, Vals, Value};
 use std::alloc::Global;
 use stream_schema::{Schema, Streams};
 
-/// The event of a line, where it has one and is read quickly.
+/// The event of a line, where it has one and is read quickly. The name of the stream `near` is compared before names are
+/// looked up. It may be any number: that of the event before is found soonest where lines of one stream follow one
+/// another. The event has its values in the list `spare`, if there is one, whose room is used again.
 #[inline(always)]
-pub(crate) fn read_quickly(
+pub fn read_quickly(
     alloc: Global,
     streams: &Streams,
     near: StreamId,
@@ -130,8 +133,7 @@ fn take_values(
         if schema.size() <= place {
             return None;
         }
-        let (more, left) = put_value(alloc, schema.kind(place), text, vals)?;
-        vals = more;
+        let left = put_value(alloc, schema.kind(place), text, &mut vals)?;
         rest = left;
     }
     if vals.len() == schema.size() {
@@ -156,16 +158,20 @@ fn empty_vals(alloc: Global, size: usize, spare: Option<Vals>) -> Option<Vals>
 // Puts the value of the field at the front behind others, and gives the fields behind it. Each kind of value is put where
 // it is made, so that none is moved.
 #[inline(always)]
-fn put_value(alloc: Global, kind: Kind, text: &[u8], vals: Vals) -> Option<(Vals, Option<&[u8]>)>
-    ensures { IfSome result (λ r. PutsValue kind text.now vals r.0 (option_map (λ s. s.now) r.1)) }
+fn put_value<'a>(
+    alloc: Global,
+    kind: Kind,
+    text: &'a [u8],
+    vals: &mut Vals,
+) -> Option<Option<&'a [u8]>>
+    ensures { IfSome result (λ left. PutsValue kind text.now vals.old vals.new (option_map (λ s. s.now) left)) }
 {
-    let mut vals = vals;
     match kind {
         Kind::Int => {
             let (number, rest) = take_int(text)?;
             match vals.add(Value::Int(number)) {
                 Err(_) => None,
-                Ok(()) => Some((vals, rest)),
+                Ok(()) => Some(rest),
             }
         }
         Kind::Text => {
@@ -175,7 +181,7 @@ fn put_value(alloc: Global, kind: Kind, text: &[u8], vals: Vals) -> Option<(Vals
             };
             match vals.add(Value::Text(made)) {
                 Err(_) => None,
-                Ok(()) => Some((vals, rest)),
+                Ok(()) => Some(rest),
             }
         }
         Kind::Dec(places) => {
@@ -185,18 +191,27 @@ fn put_value(alloc: Global, kind: Kind, text: &[u8], vals: Vals) -> Option<(Vals
                 units,
             }) {
                 Err(_) => None,
-                Ok(()) => Some((vals, rest)),
+                Ok(()) => Some(rest),
             }
         }
     }
 }
 
-// The units of the decimal at the front, which has so many places, and the fields behind it.
-#[inline(never)]
+// The units of the decimal at the front, which has so many places, where they have 64 bits, and the fields behind it.
+#[inline(always)]
 fn take_decimal(places: u8, text: &[u8]) -> Option<(i128, Option<&[u8]>)>
     ensures { IfSome result (λ r. DecFirst places text.now r.0 (option_map (λ s. s.now) r.1)) }
 {
     let (field, rest) = take_field(text)?;
-    let units = units(places, field.as_bytes())?;
-    Some((units, rest))
+    let units = few_units(places, field.as_bytes())?;
+    Some((units as i128, rest))
+}
+
+// The units of a field of so many places, where they have 64 bits. Out of line, since few streams have decimals.
+#[inline(never)]
+fn few_units(places: u8, field: &[u8]) -> Option<i64>
+    ensures { IfSome result (λ number. units_of places field.now ≡ Some number) }
+{
+    let units = units(places, field)?;
+    i64::try_from(units).ok()
 }

@@ -16,8 +16,17 @@ use Rattle.courses.specs.Fits.{Fits}
 use Rattle.courses.specs.QuerySet.{set_in}
 use Rattle.session.specs.declared.control.Change.{Change}
 use Rattle.session.specs.declared.control.Change.TheVariants as change
+use Rattle.session.specs.declared.reading.Handed.{Handed}
+use Rattle.session.specs.declared.reading.Handed.TheVariants as handed
 use Rattle.session.specs.declared.reading.Next.{Next}
 use Rattle.session.specs.declared.reading.Next.TheVariants as next
+
+-- what is handed to the work on lines, as it was read
+abbrev pub read_as : Handed → Next
+read_as (handed.Event line) = next.Event line
+read_as (handed.Change made) = next.Change made
+read_as (handed.Refused refusal) = next.Refused refusal.value
+read_as handed.NotYet = next.NotYet
 
 -- the event that was read
 abbrev pub event_of : Seen → Event

@@ -25,25 +25,26 @@ use result_text::Fronts;
 use std::alloc::Global;
 
 /// Closes the open epoch, whose rows are those of the queries that are there, and then changes the queries. Out of
-/// line, so that the work on events stays short.
+/// line, and the change is taken out of its box here, so that the work on events stays short and has no room for it.
 #[inline(never)]
 pub fn work_on_change<H: Host, L: Ledger>(
     alloc: Global,
     host: &mut H,
     catalogue: &mut Catalogue,
     work: &mut Work,
-    made: Change,
+    made: Box<Change>,
     steps: &mut Steps<L>,
 ) -> Result<(), SessionFault>
     requires at_work { IsAtWork catalogue.old work.old }
-    requires may { MayBeMade catalogue.old made }
-    ensures more { OnOk result (TakesEntry catalogue.old catalogue.new (entry_by catalogue.old made) work.old work.new (H.told host.old) (H.told host.new)) }
+    requires may { MayBeMade catalogue.old made.value }
+    ensures more { OnOk result (TakesEntry catalogue.old catalogue.new (entry_by catalogue.old made.value) work.old work.new (H.told host.old) (H.told host.new)) }
     ensures at_work { OnOk result (IsAtWork catalogue.new work.new) }
-    ensures stops { IfErr result (λ fault. (number : ℕ) → StopsAtEntry catalogue.old number (entry_by catalogue.old made) work.old (H.told host.old) (H.told host.new) fault) }
+    ensures stops { IfErr result (λ fault. (number : ℕ) → StopsAtEntry catalogue.old number (entry_by catalogue.old made.value) work.old (H.told host.old) (H.told host.new) fault) }
     ensures quiet { BlamesWriting result (H.told host.old) (H.told host.new) }
     ensures same { SameButOutput (H.told host.old) (H.told host.new) }
     ensures tests { RisesByOpen catalogue.old work.old.engine steps.old steps.new }
 {
+    let made = Box::into_inner(made);
     close_open(alloc, host, catalogue, work, steps)?;
     change(alloc, catalogue, work, made)?;
     Ok(())

@@ -26,8 +26,8 @@ use event_csv::Seen;
 use event_types::Memory;
 use std::alloc::Global;
 
-/// Writes the rows, and refuses a line. Out of line, since it comes once.
-#[inline(never)]
+/// Writes the rows, and refuses a line. In line, so that the work on events hands out no room for a refusal.
+#[inline(always)]
 pub fn refuse<H: Host>(host: &mut H, work: &mut Work, refusal: Refusal) -> SessionFault
     ensures by { RefusesBy work.old.rows refusal (H.told host.old) (H.told host.new) result }
     ensures quiet { Blames result (H.told host.old) (H.told host.new) }

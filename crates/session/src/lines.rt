@@ -13,7 +13,7 @@ use crate::changing::work_on_change;
 use crate::closing::close_last;
 use crate::events::{refuse, work_on_event};
 use crate::fault::SessionFault;
-use crate::reading::{Next, last_reading, next_reading};
+use crate::reading::{Handed, Next, last_reading, next_reading};
 use crate::work::Work;
 use crate::writing::write_rows;
 use catalogue::Catalogue;
@@ -97,14 +97,13 @@ fn work_on_line<H: Host, L: Ledger>(
     let spare = work.engine.take_spare();
     match next_reading(alloc, catalogue, work.near, spare, feed) {
         Err(_) => Err(SessionFault::Memory),
-        Ok(Next::NotYet) => Ok(false),
-        Ok(Next::Refused(refusal)) => Err(refuse(host, work, refusal)),
-        Ok(Next::Event(line)) => {
+        Ok(Handed::NotYet) => Ok(false),
+        Ok(Handed::Refused(refusal)) => Err(refuse(host, work, Box::into_inner(refusal))),
+        Ok(Handed::Event(line)) => {
             work_on_event(alloc, host, catalogue, work, line, steps)?;
             Ok(true)
         }
-        Ok(Next::Change(made)) => {
-            let made = Box::into_inner(made);
+        Ok(Handed::Change(made)) => {
             work_on_change(alloc, host, catalogue, work, made, steps)?;
             Ok(true)
         }
@@ -129,7 +128,7 @@ pub fn work_on_rest<H: Host, L: Ledger>(
     ensures same { SameButOutput (H.told host.old) (H.told host.new) }
     ensures tests { RisesByLines catalogue.old feed.now true work.old.engine steps.old steps.new }
 {
-    match last_reading(alloc, catalogue, work.near, feed) {
+    match last_reading(alloc, catalogue, feed) {
         Err(_) => Err(SessionFault::Memory),
         Ok(Next::NotYet) => close_last(alloc, host, catalogue, work, steps),
         Ok(Next::Refused(refused)) => Err(refuse(host, work, refused)),
@@ -138,7 +137,6 @@ pub fn work_on_rest<H: Host, L: Ledger>(
             close_last(alloc, host, catalogue, work, steps)
         }
         Ok(Next::Change(made)) => {
-            let made = Box::into_inner(made);
             work_on_change(alloc, host, catalogue, work, made, steps)?;
             close_last(alloc, host, catalogue, work, steps)
         }

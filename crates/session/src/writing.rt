@@ -116,7 +116,8 @@ pub fn write_if_full<H: Host>(host: &mut H, rows: &mut Rows) -> Result<(), Faile
     }
 }
 
-/// Writes the rows, and takes them away. Takes no memory.
+/// Writes the rows, and takes them away. Takes no memory. Out of line, so that the work on events stays short.
+#[inline(never)]
 pub fn write_rows<H: Host>(host: &mut H, rows: &mut Rows) -> Result<(), Failed>
     ensures ok { OnOk result (Wrote rows.old (H.told host.old) (H.told host.new)) }
     ensures taken { OnOk result (rows.new ≡ []) }

@@ -10,11 +10,11 @@ pub fields-preserved : goal.fields-preserved
 fields-preserved c =
     let kinds = kinds_of c.args.schema.now in
     let first = option_map (λ (s : Bor (List ℕ)). s.now) c.args.rest in
-    let left = option_map (λ (s : Bor (List ℕ)). s.now) c.in_ok-more.left in
+    let left = option_map (λ (s : Bor (List ℕ)). s.now) c.in_ok-left.left in
     let kind = rw c.len-place.ensures at c.kind.ensures in
     let now : option_map (λ (s : Bor (List ℕ)). s.now) c.fields.rest ≡ Some c.in-Some.text.now = rw c.in-Some.is refl in
     let so : SoFar kinds first (Some c.in-Some.text.now) c.fields.vals = subst (λ (n : Option (List ℕ)). SoFar kinds first n c.fields.vals) now c.fields.invariant in
-    let puts = c.in_ok-more.ensures in
+    let puts = c.in_ok-left.ensures in
     rw puts.put (one-value kinds first c.in-Some.text.now left c.fields.vals c.kind.result puts.value so puts.first kind)
 
 pub returns-then-len-size : goal.returns-then-len-size

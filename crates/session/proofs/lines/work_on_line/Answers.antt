@@ -15,8 +15,8 @@ returns-in-Ok-Refused-clause-stops g c =
     let left = shows.2 false in
     let told = g.H.Host.told in
     λ history stands. stops_same false _ _ (stage_at c.args.catalogue.now c.args.work.now history) (told c.args.host.now) (told c.refuse.new.host) c.refuse.result left.1
-    (refuses false shows.0 left.0 (stage_at c.args.catalogue.now c.args.work.now history) c.in-Ok-Refused.refusal (told c.args.host.now) (told c.refuse.new.host) c.refuse.result
-    (refused_by c.args.catalogue.now c.args.work.now.engine shows.0 c.in-Ok-Refused.refusal shows.1) c.refuse.ensures.by)
+    (refuses false shows.0 left.0 (stage_at c.args.catalogue.now c.args.work.now history) c.in-Ok-Refused.refusal.value (told c.args.host.now) (told c.refuse.new.host) c.refuse.result
+    (refused_by c.args.catalogue.now c.args.work.now.engine shows.0 c.in-Ok-Refused.refusal.value shows.1) (rw c.into_inner.ensures at c.refuse.ensures.by))
 
 -- an event was taken
 pub returns-in_ok-work_on_event-in-Ok-Event-clause-progress : goal.returns-in_ok-work_on_event-in-Ok-Event-clause-progress
@@ -41,7 +41,7 @@ returns-in_err-work_on_event-in-Ok-Event-clause-stops g c =
 -- the queries were changed
 pub returns-in_ok-work_on_change-in-Ok-Change-clause-progress : goal.returns-in_ok-work_on_change-in-Ok-Change-clause-progress
 returns-in_ok-work_on_change-in-Ok-Change-clause-progress g c =
-    let shows = rw (sym c.into_inner-made.ensures) at (rw c.in-Ok-Change.field-0-is at c.in-Ok-Change.ensures.shows) in
+    let shows = rw c.in-Ok-Change.field-0-is at c.in-Ok-Change.ensures.shows in
     let more = rw c.take_spare-spare.ensures.kept at c.in_ok-work_on_change-in-Ok-Change.ensures.more in (
       λ history stands. took shows.0 (unread_lines c.args.feed.now false) (unread_lines c.next_reading.new.feed false) (shows.2 false) shows.1.0 (more history stands),
       let fewer = ap length (shows.2 false) in omega (arith, fewer),
@@ -50,7 +50,7 @@ returns-in_ok-work_on_change-in-Ok-Change-clause-progress g c =
 -- they weren't
 pub returns-in_err-work_on_change-in-Ok-Change-clause-stops : goal.returns-in_err-work_on_change-in-Ok-Change-clause-stops
 returns-in_err-work_on_change-in-Ok-Change-clause-stops g c =
-    let shows = rw (sym c.into_inner-made.ensures) at (rw c.in-Ok-Change.field-0-is at c.in-Ok-Change.ensures.shows) in
+    let shows = rw c.in-Ok-Change.field-0-is at c.in-Ok-Change.ensures.shows in
     let stops = rw c.take_spare-spare.ensures.kept at c.in_err-work_on_change-in-Ok-Change.ensures.stops in
     let p = err_from_is_err_and c.from_residual-in_err-work_on_change-in-Ok-Change.result c.from_residual-in_err-work_on_change-in-Ok-Change.ensures.1 in
     rw (p.1, p.2) (
@@ -98,10 +98,10 @@ returns-in_err-work_on_change-in-Ok-Change-clause-tests g c =
 
 pub returns-in_ok-work_on_change-in-Ok-Change-clause-moved : goal.returns-in_ok-work_on_change-in-Ok-Change-clause-moved
 returns-in_ok-work_on_change-in-Ok-Change-clause-moved g c =
-    let shows = rw (sym c.into_inner-made.ensures) at (rw c.in-Ok-Change.field-0-is at c.in-Ok-Change.ensures.shows) in
+    let shows = rw c.in-Ok-Change.field-0-is at c.in-Ok-Change.ensures.shows in
     let more = rw c.take_spare-spare.ensures.kept at c.in_ok-work_on_change-in-Ok-Change.ensures.more in
     let tests = rw c.take_spare-spare.ensures.kept at c.work_on_change.ensures.tests in
-    let made = c.into_inner-made.result in
+    let made = c.in-Ok-Change.made.value in
     λ is history stands. took_tests c.args.catalogue.now c.work_on_change.new.catalogue shows.0 _ _ (entry_by c.args.catalogue.now made) history c.args.work.now c.work_on_change.new.work _ _ c.args.steps.now c.work_on_change.new.steps (shows.2 false) shows.1.0 (more history stands) stands
     (by_change c.args.catalogue.now made c.args.work.now.engine _ _ tests)
 

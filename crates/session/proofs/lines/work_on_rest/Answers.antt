@@ -66,13 +66,13 @@ returns-in_err-work_on_event-in-Ok-Event-clause-ends g c =
 -- the queries were changed at the last line
 pub returns-in_ok-work_on_change-in-Ok-Change-clause-stands : goal.returns-in_ok-work_on_change-in-Ok-Change-clause-stands
 returns-in_ok-work_on_change-in-Ok-Change-clause-stands g c =
-    let shows = rw (sym c.into_inner-made.ensures) at (rw c.in-Ok-Change.field-0-is at c.in-Ok-Change.ensures.shows) in
+    let shows = rw c.in-Ok-Change.field-0-is at c.in-Ok-Change.ensures.shows in
     let last = c.close_last-in-Ok-Change in
     let old = c.args.catalogue.now in
     let new = c.work_on_change.new.catalogue in
     on_ok_weaker last.result
     (λ closed history stands. let takes = c.in_ok-work_on_change-in-Ok-Change.ensures.more history stands in
-    one_left old new history _ c.args.work.now last.new.work.engine shows.0 (entry_by old c.into_inner-made.result) c.work_on_change.new.work _ _ shows.2 shows.1.0 takes
+    one_left old new history _ c.args.work.now last.new.work.engine shows.0 (entry_by old c.in-Ok-Change.made.value) c.work_on_change.new.work _ _ shows.2 shows.1.0 takes
     (closed_stands_for new c.work_on_change.new.work.engine last.new.work.engine _ closed takes.stands)) last.ensures.shut
 
 pub returns-in_ok-work_on_change-in-Ok-Change-clause-through : goal.returns-in_ok-work_on_change-in-Ok-Change-clause-through
@@ -82,13 +82,13 @@ returns-in_ok-work_on_change-in-Ok-Change-clause-through g c =
 
 pub returns-in_ok-work_on_change-in-Ok-Change-clause-ends : goal.returns-in_ok-work_on_change-in-Ok-Change-clause-ends
 returns-in_ok-work_on_change-in-Ok-Change-clause-ends g c =
-    let shows = rw (sym c.into_inner-made.ensures) at (rw c.in-Ok-Change.field-0-is at c.in-Ok-Change.ensures.shows) in
+    let shows = rw c.in-Ok-Change.field-0-is at c.in-Ok-Change.ensures.shows in
     let old = c.args.catalogue.now in
     let then = c.work_on_change.new.catalogue in
     let last = c.close_last-in-Ok-Change in
     let new = c.work_on_change.new.work in
     λ history stands. let takes = c.in_ok-work_on_change-in-Ok-Change.ensures.more history stands in
-    let heard = history ++ events_at (entry_by old c.into_inner-made.result) in
+    let heard = history ++ events_at (entry_by old c.in-Ok-Change.made.value) in
     ends_same true _ _ (stage_at old c.args.work.now history) _ _ last.result shows.2
     (advances_ends true _ [] (stage_at old c.args.work.now history) (stage_at then new heard) _ _ _ last.result c.work_on_change.ensures.same.later
     (takes.advances true shows.0 [] shows.1.0) (last_ends then new heard _ _ last.result (last.ensures.ends _ takes.stands)))
@@ -96,7 +96,7 @@ returns-in_ok-work_on_change-in-Ok-Change-clause-ends g c =
 -- they weren't
 pub returns-in_err-work_on_change-in-Ok-Change-clause-ends : goal.returns-in_err-work_on_change-in-Ok-Change-clause-ends
 returns-in_err-work_on_change-in-Ok-Change-clause-ends g c =
-    let shows = rw (sym c.into_inner-made.ensures) at (rw c.in-Ok-Change.field-0-is at c.in-Ok-Change.ensures.shows) in
+    let shows = rw c.in-Ok-Change.field-0-is at c.in-Ok-Change.ensures.shows in
     let p = err_from_is_err_and c.from_residual-in_err-work_on_change-in-Ok-Change.result c.from_residual-in_err-work_on_change-in-Ok-Change.ensures.1 in
     rw (p.1, p.2) (
     λ history stands. stops_same true _ _ (stage_at c.args.catalogue.now c.args.work.now history) _ _ _ shows.2
@@ -134,9 +134,9 @@ returns-in_err-work_on_event-in-Ok-Event-clause-tests g c =
 
 pub returns-in_ok-work_on_change-in-Ok-Change-clause-tests : goal.returns-in_ok-work_on_change-in-Ok-Change-clause-tests
 returns-in_ok-work_on_change-in-Ok-Change-clause-tests g c =
-    let shows = rw (sym c.into_inner-made.ensures) at (rw c.in-Ok-Change.field-0-is at c.in-Ok-Change.ensures.shows) in
+    let shows = rw c.in-Ok-Change.field-0-is at c.in-Ok-Change.ensures.shows in
     let old = c.args.catalogue.now in
-    let made = c.into_inner-made.result in
+    let made = c.in-Ok-Change.made.value in
     last_entry_rises old c.work_on_change.new.catalogue c.args.feed.now shows.0 (entry_by old made) c.args.work.now c.work_on_change.new.work _ _ c.args.steps.now c.work_on_change.new.steps c.close_last-in-Ok-Change.new.steps shows.2 shows.1.0
     c.in_ok-work_on_change-in-Ok-Change.ensures.more (by_change old made c.args.work.now.engine _ _ c.work_on_change.ensures.tests) c.close_last-in-Ok-Change.ensures.tests
 

@@ -8,19 +8,19 @@ use Rattle.session.proofs.reading.read_line.Goals as goal
 
 -- the line begins with >
 pub read_change-requires-clause-control : goal.read_change-requires-clause-control
-read_change-requires-clause-control c = begins_control c.args.bytes.now c.requires.line c.if-bytes-eq62.true
+read_change-requires-clause-control c = begins_control c.args.bytes.now c.requires c.if-bytes-eq62.true
 
 -- it is an event line, and says an event
 pub returns-in-Ok-clause-says : goal.returns-in-Ok-clause-says
 returns-in-Ok-clause-says c =
     let set = set_in c.args.catalogue.now in
-    (refl, event_line set c.args.bytes.now (begins_plain c.args.bytes.now c.requires.line c.if-bytes-eq62.false) ∙ ap event_entry (rw c.streams.ensures.value at c.in-Ok.ensures.ok))
+    (refl, event_line set c.args.bytes.now (begins_plain c.args.bytes.now c.requires c.if-bytes-eq62.false) ∙ ap event_entry (rw c.streams.ensures.value at c.in-Ok.ensures.ok))
 
 -- or it has a fault
 pub returns-in-Err-Bad-clause-says : goal.returns-in-Err-Bad-clause-says
 returns-in-Err-Bad-clause-says c =
     let set = set_in c.args.catalogue.now in
-    (OfLine c.in-Err-Bad.why, event_line set c.args.bytes.now (begins_plain c.args.bytes.now c.requires.line c.if-bytes-eq62.false) ∙ ap event_entry (rw (c.in-Err-Bad.field-0-is, c.streams.ensures.value) at c.in-Err-Bad.ensures.bad), refl)
+    (OfLine c.in-Err-Bad.why, event_line set c.args.bytes.now (begins_plain c.args.bytes.now c.requires c.if-bytes-eq62.false) ∙ ap event_entry (rw (c.in-Err-Bad.field-0-is, c.streams.ensures.value) at c.in-Err-Bad.ensures.bad), refl)
 
 -- the event that was read fits its stream
 pub returns-in-Ok-clause-fits : goal.returns-in-Ok-clause-fits
