@@ -1,8 +1,9 @@
 -- What an event finds among the buckets of a store, and what stays when it takes.
-use Rattle.std.proofs.Common.{◌≡◌, ◌∙◌, sym, ap, subst, ℕ, inl, inr, not, cond, filter, List, []}
-use Rattle.std.specs.Prelude.{Some, slice_get}
-use Rattle.std.specs.List.{IsDistinct}
+use Rattle.std.proofs.Common.{◌≡◌, ◌∙◌, sym, ap, refl, subst, ℕ, inl, inr, not, cond, filter, List, []}
+use Rattle.std.specs.Prelude.{IsTrue, Option, Some, None, slice_get}
+use Rattle.std.specs.List.{All, IsDistinct}
 use Rattle.std.specs.Map.{keys_of, values_of}
+use Rattle.std.proofs.lemmas.List.Elements.{filter_passes}
 use Rattle.event_types.specs.Tuple.{TupleView}
 use Rattle.event_types.specs.declared.value.Value.{Value}
 use Rattle.indexmap.specs.IndexMap.{set_value_at}
@@ -10,13 +11,18 @@ use Rattle.semantics.specs.Nexts.{is_eligible}
 use Rattle.semantics.specs.Scalars.{Pr}
 use Rattle.semantics.specs.Values.{value_at}
 use Rattle.instances.specs.declared.instance.Instance.{Instance}
-use Rattle.instances.specs.Keys.{Key, candidates_of, is_matched, unmatched}
+use Rattle.instances.specs.Keys.{Key, candidates_of, is_matched, key_matches, unmatched}
 use Rattle.binding_index.specs.Buckets.{AreKeyed, AreSame, Bucket, HasBucketAt, HasNoCandidates, instances_in_order, instances_at}
 use Rattle.binding_index.specs.Among.{is_key}
 use Rattle.binding_index.proofs.BucketLemmas.{filter_in_order, same_in_order}
 use Rattle.binding_index.proofs.CandidateLemmas.{all_stay, candidates_are, no_candidates, over_stays, stay_at}
 use Rattle.binding_index.proofs.StoreLemmas.{value_there}
 use Rattle.binding_index.proofs.WriteLemmas.{keys_written, written_at}
+
+-- the key part holds for each candidate
+pub candidates_match : (key : Option Key) (event : TupleView) (is : List Instance) → All (λ (n : Instance). IsTrue (key_matches key event n.tuple)) (candidates_of key event is)
+candidates_match None event is = λ _ _ _. refl
+candidates_match (Some key) event is = filter_passes (λ (n : Instance). key_matches (Some key) event n.tuple) is
 
 module _ (key : Key) (event : TupleView) (bs : List Bucket) (keyed : AreKeyed key.binding bs) (distinct : IsDistinct is_key (keys_of bs)) where
   abbrev here : Value

@@ -1,5 +1,5 @@
 //! The order of the buckets: those with instances come first, each with the time of its place.
-ghost use Rattle.std.specs.Prelude.{◌≡◌, ◌<◌, ◌≤◌, Bool, length, OnOk};
+ghost use Rattle.std.specs.Prelude.{◌≡◌, ◌<◌, ◌≤◌, Bool, length, min, slice_index, slice_set, OnOk};
 ghost use Rattle.std.specs.List.{swap};
 ghost use Rattle.std.specs.List.Sorted.{IsPermutation};
 ghost use Rattle.instances.specs.declared.instance.Instance.{Instance};
@@ -21,6 +21,16 @@ pub(crate) fn make_room(buckets: &Buckets, starts: &mut Deadlines) -> Result<(),
         return Ok(());
     }
     starts.grow(*buckets.allocator(), starts.len().max(1))
+}
+
+/// Lowers the time of a place to this one, if that is earlier. Takes no memory.
+pub(crate) fn lower(starts: &mut Deadlines, place: usize, time: u128)
+    requires { place < length starts.old }
+    ensures { starts.new ≡ slice_set starts.old place (min (slice_index starts.old place) time) }
+{
+    if time < starts.get(place) {
+        starts.set(place, time);
+    }
 }
 
 /// The place after the last bucket with instances, once the bucket at `place` stands among them or behind

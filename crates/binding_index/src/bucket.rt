@@ -1,9 +1,10 @@
 //! The instances that have one key.
-ghost use Rattle.std.specs.Prelude.{◌≡◌, ◌+◌, ◌-◌, ◌^◌, ◌≤◌, ◌++◌, [], OnOk, Some, min, length, not, filter, All};
+ghost use Rattle.std.specs.Prelude.{◌≡◌, ◌+◌, ◌-◌, ◌^◌, ◌≤◌, ◌++◌, [], IsTrue, OnOk, Some, min, length, not, filter, All};
 ghost use Rattle.semantics.specs.Nexts.{is_eligible};
 ghost use Rattle.scalar_expr.specs.Fits.{AllFit};
 ghost use Rattle.instances.specs.Births.{began_after};
 ghost use Rattle.instances.specs.Bounds.{alive_instances};
+ghost use Rattle.instances.specs.Keys.{key_matches, key_of_places};
 ghost use Rattle.binding_index.specs.Entries.{has_any};
 
 use event_types::{Memory, Tuple};
@@ -11,7 +12,7 @@ use inst_chain::{Chain, Look};
 use instances::{
     Instance, Instances, SpentBeads, add_copies, count_of, keep_after, keep_alive, take_eligible,
 };
-use scalar_expr::Conj;
+use scalar_expr::{Conj, KeyPlaces};
 use std::alloc::Global;
 use std::marker::Model;
 use steps::{Ledger, Steps};
@@ -65,19 +66,22 @@ impl Bucket {
         add_copies(alloc, copies, &self.chain)
     }
 
-    /// Takes out the instances for which the event is eligible, and keeps their beads among the spent ones.
+    /// Takes out the instances for which the event is eligible, as it found them by this key, and keeps their beads among
+    /// the spent ones.
     pub(crate) fn take<L: Ledger>(
         &mut self,
         event: &Tuple,
         choose: &Conj,
+        key: KeyPlaces,
         steps: &mut Steps<L>,
         spent: &mut SpentBeads,
     )
-        requires { All (λ instance. AllFit choose.now event.now (Some instance.tuple)) self.old }
+        requires fits { All (λ instance. AllFit choose.now event.now (Some instance.tuple)) self.old }
+        requires found { All (λ instance. IsTrue (key_matches (key_of_places (Some key)) event.now instance.tuple)) self.old }
         ensures others { self.new ≡ filter (λ instance. not (is_eligible choose.now instance.tuple event.now)) self.old }
         ensures ticks { steps.new ≤ steps.old + length self.old }
     {
-        take_eligible(&mut self.chain, event, choose, steps, spent);
+        take_eligible(&mut self.chain, event, choose, Some(key), steps, spent);
     }
 
     /// Puts the beads of a chain before the others, at once.

@@ -1,5 +1,5 @@
 //! Buckets of instances by key.
-ghost use Rattle.std.specs.Prelude.{◌≡◌, ◌≤◌, ◌-◌, ◌^◌, ◌++◌, ◌∷◌, [], IfNone, IfOk, IfSome, None, OnErr, OnOk, length, flat_map, min};
+ghost use Rattle.std.specs.Prelude.{◌≡◌, ◌≤◌, ◌-◌, ◌^◌, ◌++◌, ◌∷◌, [], IfNone, IfOk, IfSome, None, OnErr, OnOk, length, flat_map, min, take};
 ghost use Rattle.std.specs.List.{IsDistinct};
 ghost use Rattle.std.specs.Map.{keys_of, lookup};
 ghost use Rattle.binding_index.specs.Buckets.{AreStarts, HasBucketAt, HasNoCandidates};
@@ -49,6 +49,15 @@ pub(crate) fn add_bucket(
     match buckets.insert(key, Bucket::new()) {
         Ok(_) => Ok(()),
         Err(_) => Err(Memory),
+    }
+}
+
+/// Forgets the buckets from a place on. Takes no memory.
+pub(crate) fn forget_from(buckets: &mut Buckets, place: usize)
+    ensures { buckets.new.entries ≡ take place buckets.old.entries }
+{
+    if place < buckets.len() {
+        buckets.truncate(place);
     }
 }
 

@@ -15,6 +15,7 @@ pub(crate) const MOST: usize = 16;
 /// The place after the last bucket that may have instances, once the bucket at `place` got some or lost some. The others
 /// were arranged but for those that are noted, where `filled` was that place. A bucket that has no instance any more is
 /// noted, and arranged at once if enough are noted. Takes no memory.
+#[inline(always)]
 pub(crate) fn arrange_or_note(
     buckets: &mut Buckets,
     starts: &mut Deadlines,
@@ -89,6 +90,7 @@ fn note(emptied: &mut Numbers, place: usize) -> bool
 }
 
 // The place after the last bucket that may have instances, once the bucket at `place` stands behind them, if it has none.
+#[inline(never)]
 fn set_back(buckets: &mut Buckets, starts: &mut Deadlines, filled: usize, place: usize) -> usize
     requires within { filled ≤ length buckets.old.entries }
     requires room { length buckets.old.entries ≤ length starts.old }

@@ -2,11 +2,12 @@
 ghost use Rattle.std.specs.Prelude.{◌≡◌, ◌+◌, ◌≤◌, [], All, IfOk, IsSome, OnOk, Some};
 ghost use Rattle.instances.specs.Births.{began_after};
 ghost use Rattle.instances.specs.Bounds.{alive_instances};
-ghost use Rattle.instances.specs.Keys.{KeepsUsedKeys};
+ghost use Rattle.instances.specs.Keys.{KeepsUsedKeys, key_of_places};
 ghost use Rattle.binding_index.specs.Among.{is_among};
 ghost use Rattle.binding_index.specs.KeyParts.{first_key as first_key_of, key_of_part};
 
-use crate::buckets::{Buckets, add_bucket, candidate_place, copy_all, count_all};
+use crate::arranging::lower;
+use crate::buckets::{Buckets, add_bucket, candidate_place, copy_all, count_all, forget_from};
 use crate::cutting::keep_all_after;
 use crate::emptied::{MOST, arrange_noted, arrange_or_note};
 use crate::expiring::keep_all_alive;
@@ -17,7 +18,7 @@ use event_types::{Copied, List, Memory, Numbers, Tuple, Value};
 use indexmap::IndexMap;
 use inst_chain::{Bead, Chain, Look};
 use instances::{Instance, Instances, SpentBeads, Waiting, purged_until};
-use scalar_expr::Conj;
+use scalar_expr::{Conj, KeyPlaces};
 use std::alloc::Global;
 use std::marker::Model;
 use steps::{Ledger, Steps};
@@ -79,6 +80,14 @@ impl KeyedStore {
         })
     }
 
+    /// The places of the attributes that are the key. Takes no memory.
+    pub fn key_places(&self) -> KeyPlaces
+        ensures { key_of_places (Some result) ≡ Some self.now.key }
+    {
+        let KeyPart { event, binding } = self.key;
+        KeyPlaces { event, binding }
+    }
+
     /// Whether there is room for an instance with this key. Takes no memory.
     pub fn is_ready(&self, key: &Value) -> bool
         ensures { result ≡ is_among key.now self.now.ready }
@@ -99,7 +108,7 @@ impl KeyedStore {
             self.filled,
             &mut self.emptied,
         );
-        self.buckets.truncate(self.filled);
+        forget_from(&mut self.buckets, self.filled);
     }
 
     // Takes out the instances that began no later than `since`, where it is given.
@@ -142,7 +151,7 @@ impl KeyedStore {
             &self.condition,
             now,
         );
-        self.buckets.truncate(self.filled);
+        forget_from(&mut self.buckets, self.filled);
         self.starts.earliest().min(u64::MAX as u128) as u64
     }
 }
@@ -171,9 +180,10 @@ impl Waiting for KeyedStore {
         steps: &mut Steps<L>,
         spent: &mut SpentBeads,
     ) {
+        let places = self.key_places();
         let key = event.vals().get(self.key.event);
         if let Some(place) = candidate_place(&self.near, &self.buckets, key) {
-            self.buckets[place].take(event, choose, steps, spent);
+            self.buckets[place].take(event, choose, places, steps, spent);
             self.filled = arrange_or_note(
                 &mut self.buckets,
                 &mut self.starts,
@@ -194,6 +204,7 @@ impl Waiting for KeyedStore {
             return Ok(());
         }
         let key = key.copied(*self.buckets.allocator())?;
+        self.near.note(&key, self.buckets.len());
         add_bucket(&mut self.buckets, &mut self.starts, key)
     }
 
@@ -206,7 +217,7 @@ impl Waiting for KeyedStore {
             let key = instance.tuple.vals().get(self.key.binding);
             if let Some(place) = place_near(&self.near, &self.buckets, key) {
                 self.buckets[place].put(&mut chain);
-                self.starts.set(place, self.starts.get(place).min(from));
+                lower(&mut self.starts, place, from);
                 self.filled = arrange_or_note(
                     &mut self.buckets,
                     &mut self.starts,

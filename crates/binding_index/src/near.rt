@@ -60,6 +60,7 @@ fn sort_of(key: &Value) -> usize
 
 /// The place of the entry of a key, which is looked for first where a key of its sort was found last. Takes no
 /// memory.
+#[inline(always)]
 pub(crate) fn place_near<V>(near: &Near, kept: &IndexMap<Value, V>, key: &Value) -> Option<usize>
     ensures found { IfSome result (IsKeptAt kept.now.entries key.now) }
     ensures absent { IfNone result (lookup (is_key key.now) kept.now.entries ≡ None) }
@@ -68,6 +69,15 @@ pub(crate) fn place_near<V>(near: &Near, kept: &IndexMap<Value, V>, key: &Value)
     if stands_at(kept, hint, key) {
         return Some(hint);
     }
+    place_apart(near, kept, key)
+}
+
+// The same, where it isn't looked for there.
+#[inline(never)]
+fn place_apart<V>(near: &Near, kept: &IndexMap<Value, V>, key: &Value) -> Option<usize>
+    ensures found { IfSome result (IsKeptAt kept.now.entries key.now) }
+    ensures absent { IfNone result (lookup (is_key key.now) kept.now.entries ≡ None) }
+{
     let place = place_of(kept, key)?;
     near.note(key, place);
     Some(place)

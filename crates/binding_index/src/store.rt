@@ -1,6 +1,6 @@
 //! The store of a waiting state.
 ghost use Rattle.std.specs.Prelude.{◌≡◌, [], IfOk};
-ghost use Rattle.instances.specs.Keys.{KeepsUsedKeys};
+ghost use Rattle.instances.specs.Keys.{KeepsUsedKeys, key_of_places};
 ghost use Rattle.binding_index.specs.Among.{is_among};
 ghost use Rattle.binding_index.specs.KeyParts.{first_key as first_key_of};
 ghost use Rattle.binding_index.specs.Stores.{condition_of, instances_of, key_of, ready_of};
@@ -10,7 +10,7 @@ use crate::keyed_store::KeyedStore;
 use event_types::{Memory, Tuple, Value};
 use inst_chain::{Bead, Look};
 use instances::{Instance, Instances, PlainStore, SpentBeads, Waiting};
-use scalar_expr::Conj;
+use scalar_expr::{Conj, KeyPlaces};
 use std::alloc::Global;
 use steps::{Ledger, Steps};
 
@@ -35,6 +35,16 @@ impl Store {
         }
         let store = PlainStore::make(alloc, choose)?;
         Ok(Store::Plain(store))
+    }
+
+    /// The places of the attributes that are the key, if there is one. Takes no memory.
+    pub fn key_places(&self) -> Option<KeyPlaces>
+        ensures { key_of_places result ≡ key_of self.now }
+    {
+        match self {
+            Store::Plain(_) => None,
+            Store::Keyed(store) => Some(store.key_places()),
+        }
     }
 
     /// Whether there is room for an instance with this key. A store without a key has no keys. Takes no

@@ -1,6 +1,7 @@
 //! What a tuple makes of the instances that wait at a state.
 ghost use Rattle.std.specs.Prelude.{◌≡◌, ◌+◌, ◌<◌, ◌≤◌, IfOk, IsTrue, OnOk, Some, length, option_to_list, sum_by};
 ghost use Rattle.std.specs.List.{All};
+ghost use Rattle.instances.specs.Keys.{key_matches, key_of_places};
 ghost use Rattle.automaton.specs.Networks.{IsNetwork};
 ghost use Rattle.automaton.specs.States.{is_used};
 ghost use Rattle.epoch_draft.specs.Drafts.{Grows, IsDraftOf};
@@ -20,24 +21,26 @@ use crate::waiting_state::WaitingState;
 use automaton::{Network, Turn, Wait};
 use event_types::{Memory, Tuple};
 use inst_chain::Look;
-use instances::{Instance, Waiting};
-use scalar_expr::{can_follow, holds};
+use instances::{Instance, Waiting, can_follow_found};
+use scalar_expr::{KeyPlaces, holds};
 use steps::{Ledger, Steps};
 
-// What the tuple makes of the binding, if it is eligible.
+// What the tuple makes of the binding, which it found by a key, if there is one, if it is eligible.
 fn pair_up<L: Ledger>(
     draft: &mut Draft,
     wait: &Wait,
+    key: Option<KeyPlaces>,
     binding: &Tuple,
     tuple: &Tuple,
     steps: &mut Steps<L>,
 ) -> Result<Option<Tuple>, Memory>
-    requires { WaitSuits wait.now binding.now tuple.now }
+    requires suits { WaitSuits wait.now binding.now tuple.now }
+    requires found { IsTrue (key_matches (key_of_places key) tuple.now binding.now) }
     ensures value { IfOk result (λ made. option_to_list made ≡ paired wait.now binding.now tuple.now) }
     ensures same { draft.new ≡ draft.old }
     ensures ticks { steps.new ≤ steps.old + pair_work wait.now }
 {
-    if can_follow(&wait.choose, binding, tuple, steps) {
+    if can_follow_found(&wait.choose, key, binding, tuple, steps) {
         follow(draft, &wait.fold, binding, tuple, steps)
     } else {
         Ok(None)
@@ -70,10 +73,11 @@ fn follow<L: Ledger>(
     }
 }
 
-// What the tuple makes of an instance leaves the state where it waits.
+// What the tuple makes of an instance, which it found by a key, if there is one, leaves the state where it waits.
 fn meet_instance<L: Ledger>(
     waiting: &WaitingState<'_>,
     draft: &mut Draft,
+    key: Option<KeyPlaces>,
     instance: &Instance,
     tuple: &Tuple,
     steps: &mut Steps<L>,
@@ -81,11 +85,12 @@ fn meet_instance<L: Ledger>(
     requires waiting { IsWaitingState waiting.now }
     requires draft { IsDraftOf waiting.now.network.now draft.old }
     requires suits { WaitSuits waiting.now.wait.now instance.now.tuple tuple.now }
+    requires found { IsTrue (key_matches (key_of_places key) tuple.now instance.now.tuple) }
     requires leaving { All (λ made. LeavingSuits waiting.now.network.now waiting.now.state made.tuple) (paired_with waiting.now.wait.now tuple.now instance.now) }
     ensures grows { OnOk result (Grows waiting.now.network.now (moves_from waiting.now.network.now waiting.now.state (paired_with waiting.now.wait.now tuple.now instance.now)) draft.old draft.new) }
     ensures ticks { steps.new ≤ steps.old + binding_work waiting.now.network.now waiting.now.state waiting.now.wait.now tuple.now instance.now }
 {
-    match pair_up(draft, waiting.wait, &instance.tuple, tuple, steps)? {
+    match pair_up(draft, waiting.wait, key, &instance.tuple, tuple, steps)? {
         Some(made) => {
             let left = Instance {
                 tuple: made,
@@ -101,6 +106,7 @@ fn meet_instance<L: Ledger>(
 fn meet_instances<L: Ledger>(
     waiting: &WaitingState<'_>,
     draft: &mut Draft,
+    key: Option<KeyPlaces>,
     mut instances: Look<'_, Instance>,
     tuple: &Tuple,
     steps: &mut Steps<L>,
@@ -108,12 +114,13 @@ fn meet_instances<L: Ledger>(
     requires waiting { IsWaitingState waiting.now }
     requires draft { IsDraftOf waiting.now.network.now draft.old }
     requires suits { All (λ instance. WaitSuits waiting.now.wait.now instance.tuple tuple.now) instances }
+    requires found { All (λ instance. IsTrue (key_matches (key_of_places key) tuple.now instance.tuple)) instances }
     requires leaving { All (λ made. LeavingSuits waiting.now.network.now waiting.now.state made.tuple) (met waiting.now.wait.now instances tuple.now) }
     ensures grows { OnOk result (Grows waiting.now.network.now (moves_from waiting.now.network.now waiting.now.state (met waiting.now.wait.now instances.entry tuple.now)) draft.old draft.new) }
     ensures ticks { steps.new ≤ steps.old + sum_by (binding_work waiting.now.network.now waiting.now.state waiting.now.wait.now tuple.now) instances.entry }
 {
     while let Some(instance) = instances.next() {
-        meet_instance(waiting, draft, instance, tuple, steps)?;
+        meet_instance(waiting, draft, key, instance, tuple, steps)?;
     }
     Ok(())
 }
@@ -145,7 +152,10 @@ pub(crate) fn meet_wait<L: Ledger>(
         wait,
     };
     match stores.get(state) {
-        Some(store) => meet_instances(&waiting, draft, store.candidates(tuple), tuple, steps),
+        Some(store) => {
+            let key = store.key_places();
+            meet_instances(&waiting, draft, key, store.candidates(tuple), tuple, steps)
+        }
         None => Ok(()),
     }
 }

@@ -8,12 +8,18 @@ use Rattle.semantics.specs.Nexts.{is_eligible}
 use Rattle.semantics.specs.Scalars.{Pr}
 use Rattle.semantics.specs.Truth.{is_met, order_of}
 use Rattle.semantics.specs.Values.{value_at}
+use Rattle.scalar_expr.specs.declared.alike.KeyPlaces.{KeyPlaces}
 use Rattle.instances.specs.declared.instance.Instance.{Instance}
 
 -- the key part of a condition: an attribute of the event equals one of the binding
 pub record Key : Type 0 where
   pub event : ℕ
   pub binding : ℕ
+
+-- the key whose attributes have these places, if places are given
+abbrev pub key_of_places : Option KeyPlaces → Option Key
+key_of_places None = None
+key_of_places (Some places) = Some (record { event = places.event; binding = places.binding })
 
 -- whether the key part holds for an event and a binding; without one every binding is looked at
 abbrev pub key_matches : Option Key → TupleView → TupleView → Bool

@@ -18,7 +18,7 @@ mod waiting;
 pub use births::keep_after;
 pub use bounds::{earliest_alive, keep_alive};
 pub use contents::{add_copies, count_of};
-pub use eligibility::take_eligible;
+pub use eligibility::{can_follow_found, take_eligible};
 pub use expiry::{expires_at, purged_until};
 pub use instance::{Instance, Instances};
 pub use plain_store::PlainStore;

@@ -103,7 +103,7 @@ impl Waiting for PlainStore {
         steps: &mut Steps<L>,
         spent: &mut SpentBeads,
     ) {
-        take_eligible(&mut self.chain, event, choose, steps, spent);
+        take_eligible(&mut self.chain, event, choose, None, steps, spent);
     }
 
     fn all(&self, alloc: Global) -> Result<Instances, Memory> {

@@ -5,6 +5,7 @@
 //! width and its scalars as terms.
 #![tactic(auto)]
 
+mod alike;
 mod arithmetic;
 mod canonical;
 mod conjunction;
@@ -22,6 +23,7 @@ mod truth;
 mod valuation;
 mod values;
 
+pub use alike::{KeyPlaces, can_follow_alike};
 pub use canonical::normal;
 pub use conjunction::Conj;
 pub use event_types::Cmp;

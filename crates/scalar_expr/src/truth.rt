@@ -45,7 +45,7 @@ fn all_hold(parts: &[Pred], event: &Tuple, binding: Option<&Tuple>) -> bool
 
 // Whether a predicate holds, a comparison without more ado.
 #[inline(always)]
-fn part_is_true(predicate: &Pred, event: &Tuple, binding: Option<&Tuple>) -> bool
+pub(crate) fn part_is_true(predicate: &Pred, event: &Tuple, binding: Option<&Tuple>) -> bool
     requires { PredFits (pr_of predicate.now) event.now (option_copied binding) }
     ensures { result ≡ truth (pr_of predicate.now) event.now (option_copied binding.entry) }
 {

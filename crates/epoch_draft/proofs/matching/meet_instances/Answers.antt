@@ -1,11 +1,12 @@
 use Rattle.std.proofs.Common.{◌≡◌, ◌∙◌, ap, subst, [], List, arith}
-use Rattle.std.specs.Prelude.{sum_by}
+use Rattle.std.specs.Prelude.{IsTrue, sum_by}
 use Rattle.std.proofs.lemmas.List.Sums.{sum_by-cons}
 use Rattle.stream_readers.specs.Ways.{ways_at}
 use Rattle.epoch_draft.specs.Work.{binding_work}
 use Rattle.std.specs.List.{All}
 use Rattle.std.proofs.lemmas.Grind.{flat_map-append}
 use Rattle.std.proofs.lemmas.List.Elements.{All-head, All-tail}
+use Rattle.instances.specs.Keys.{key_matches, key_of_places}
 use Rattle.instances.specs.declared.instance.Instance.{Instance}
 use Rattle.epoch_draft.specs.Moves.{Move, moves_from, moves_on}
 use Rattle.epoch_draft.specs.Pairs.{met, paired_with}
@@ -23,6 +24,11 @@ meet_instance-requires-clause-suits g c =
     let suits = λ (i : Instance). WaitSuits c.args.waiting.now.wait.now i.tuple c.args.tuple.now in
     All-head suits c.in-Some.instance.now c.next.new.self (subst (All suits) c.in-Some.ensures.rest c.loop-instance.invariant.suits)
 
+pub meet_instance-requires-clause-found : goal.meet_instance-requires-clause-found
+meet_instance-requires-clause-found g c =
+    let found = λ (i : Instance). IsTrue (key_matches (key_of_places c.args.key) c.args.tuple.now i.tuple) in
+    All-head found c.in-Some.instance.now c.next.new.self (subst (All found) c.in-Some.ensures.rest c.loop-instance.invariant.found)
+
 pub meet_instance-requires-clause-leaving : goal.meet_instance-requires-clause-leaving
 meet_instance-requires-clause-leaving g c =
     let w = c.args.waiting.now.wait.now in
@@ -39,12 +45,14 @@ loop-instance-preserved g c =
     let i = c.in-Some.instance.now in
     let rest = c.next.new.self in
     let suits = λ (i : Instance). WaitSuits w i.tuple t in
+    let found = λ (i : Instance). IsTrue (key_matches (key_of_places c.args.key) t i.tuple) in
     let leaving = λ (made : Instance). LeavingSuits net n made.tuple in
     let all : List Move = moves_from net n (met w c.args.instances t) in
     let a = moves_from net n (paired_with w t i) in
     let b = moves_from net n (met w rest t) in
     record {
       suits = All-tail suits i rest (subst (All suits) c.in-Some.ensures.rest c.loop-instance.invariant.suits);
+      found = All-tail found i rest (subst (All found) c.in-Some.ensures.rest c.loop-instance.invariant.found);
       leaving = all_right leaving (paired_with w t i) (met w rest t) (subst (λ (is : List Instance). All leaving (met w is t)) c.in-Some.ensures.rest c.loop-instance.invariant.leaving);
       follows =
           follows_more net a b all c.args.draft.now c.loop-instance.draft c.meet_instance.new.draft

@@ -1,10 +1,12 @@
 use Rattle.std.proofs.Common.{◌≡◌, ◌∙◌, sym, ap, subst, ◌+◌, ◌≤◌, ℕ, [], List}
-use Rattle.std.specs.Prelude.{Option, None, OnOk, sum_by}
+use Rattle.std.specs.Prelude.{IsTrue, Option, None, OnOk, sum_by}
 use Rattle.std.specs.List.{All}
 use Rattle.std.proofs.lemmas.Option.{get_or_from_slice_get}
-use Rattle.instances.specs.Keys.{EventFits}
+use Rattle.instances.specs.Keys.{EventFits, Key, key_matches}
 use Rattle.instances.specs.declared.instance.Instance.{Instance}
 use Rattle.binding_index.specs.KeyParts.{first_key}
+use Rattle.binding_index.specs.Stores.{instances_of, key_of}
+use Rattle.binding_index.proofs.TakeLemmas.{candidates_match}
 use Rattle.automaton.specs.declared.wait.Wait.{Wait}
 use Rattle.epoch_draft.specs.Drafts.{Grows}
 use Rattle.epoch_draft.specs.Held.{held, instances_in, key_in}
@@ -37,6 +39,13 @@ meet_instances-requires-clause-suits g c =
     let slot = get_or_from_slice_get stores n c.get.result.now None c.get.ensures ∙ c.in-Some-get.is in
     let is = found_there c.args.network.now stores n w c.in-Some-get.store t c.candidates.result c.requires.stores at slot c.candidates.ensures in
     subst (All suits) (sym is) (candidates_all suits (first_key w.choose) t (held stores n) (c.requires.suits w at).instances)
+
+pub meet_instances-requires-clause-found : goal.meet_instances-requires-clause-found
+meet_instances-requires-clause-found g c =
+    let t = c.args.tuple.now in
+    let store = c.in-Some-get.store in
+    let found = λ (k : Option Key) (i : Instance). IsTrue (key_matches k t i.tuple) in
+    subst (λ (k : Option Key). All (found k) c.candidates.result) (sym c.key_places-key.ensures) (subst (All (found (key_of store))) (sym c.candidates.ensures) (candidates_match (key_of store) t (instances_of store)))
 
 pub meet_instances-requires-clause-leaving : goal.meet_instances-requires-clause-leaving
 meet_instances-requires-clause-leaving g c =

@@ -20,17 +20,17 @@ invariant_of-self c =
     let before =
     settled c.self.inside.key.binding c.self.inside.emptied c.self.inside.filled c.arrange_noted-self-inside.result c.self.inside.starts c.arrange_noted-self-inside.new.starts c.self.inside.buckets.entries c.arrange_noted-self-inside.new.buckets.entries c.self.invariant c.arrange_noted-self-inside.ensures.same c.arrange_noted-self-inside.ensures.starts
     c.arrange_noted-self-inside.ensures.room c.arrange_noted-self-inside.ensures.within c.arrange_noted-self-inside.ensures.split in
-    subst (λ (ns : List ℕ). AreBuckets c.self.inside.key.binding ns c.keep_all_alive-self-inside.result c.keep_all_alive-self-inside.new.starts c.truncate.new.self.entries) (sym c.arrange_noted-self-inside.ensures.none)
-    (left_over c.self.inside.key.binding [] c.arrange_noted-self-inside.result c.arrange_noted-self-inside.new.starts (λ instance. is_alive (c.args.now + 1) c.self.inside.condition instance.tuple) c.arrange_noted-self-inside.new.buckets.entries c.keep_all_alive-self-inside.new.buckets.entries c.truncate.new.self.entries before
-    c.keep_all_alive-self-inside.ensures.purged c.keep_all_alive-self-inside.result c.keep_all_alive-self-inside.new.starts c.keep_all_alive-self-inside.ensures.starts c.keep_all_alive-self-inside.ensures.room c.keep_all_alive-self-inside.ensures.within c.keep_all_alive-self-inside.ensures.split c.truncate.ensures.entries)
+    subst (λ (ns : List ℕ). AreBuckets c.self.inside.key.binding ns c.keep_all_alive-self-inside.result c.keep_all_alive-self-inside.new.starts c.forget_from.new.buckets.entries) (sym c.arrange_noted-self-inside.ensures.none)
+    (left_over c.self.inside.key.binding [] c.arrange_noted-self-inside.result c.arrange_noted-self-inside.new.starts (λ instance. is_alive (c.args.now + 1) c.self.inside.condition instance.tuple) c.arrange_noted-self-inside.new.buckets.entries c.keep_all_alive-self-inside.new.buckets.entries c.forget_from.new.buckets.entries before
+    c.keep_all_alive-self-inside.ensures.purged c.keep_all_alive-self-inside.result c.keep_all_alive-self-inside.new.starts c.keep_all_alive-self-inside.ensures.starts c.keep_all_alive-self-inside.ensures.room c.keep_all_alive-self-inside.ensures.within c.keep_all_alive-self-inside.ensures.split c.forget_from.ensures)
 
 pub returns-clause-alive : goal.returns-clause-alive
 returns-clause-alive c =
     let before =
     settled c.self.inside.key.binding c.self.inside.emptied c.self.inside.filled c.arrange_noted-self-inside.result c.self.inside.starts c.arrange_noted-self-inside.new.starts c.self.inside.buckets.entries c.arrange_noted-self-inside.new.buckets.entries c.self.invariant c.arrange_noted-self-inside.ensures.same c.arrange_noted-self-inside.ensures.starts
     c.arrange_noted-self-inside.ensures.room c.arrange_noted-self-inside.ensures.within c.arrange_noted-self-inside.ensures.split in
-    rw (← c.self.view_is) (left_in_order c.self.inside.key.binding [] c.arrange_noted-self-inside.result c.arrange_noted-self-inside.new.starts (λ instance. is_alive (c.args.now + 1) c.self.inside.condition instance.tuple) c.arrange_noted-self-inside.new.buckets.entries c.keep_all_alive-self-inside.new.buckets.entries c.truncate.new.self.entries before
-    c.keep_all_alive-self-inside.ensures.purged c.keep_all_alive-self-inside.result c.keep_all_alive-self-inside.new.starts c.keep_all_alive-self-inside.ensures.starts c.keep_all_alive-self-inside.ensures.room c.keep_all_alive-self-inside.ensures.within c.keep_all_alive-self-inside.ensures.split c.truncate.ensures.entries
+    rw (← c.self.view_is) (left_in_order c.self.inside.key.binding [] c.arrange_noted-self-inside.result c.arrange_noted-self-inside.new.starts (λ instance. is_alive (c.args.now + 1) c.self.inside.condition instance.tuple) c.arrange_noted-self-inside.new.buckets.entries c.keep_all_alive-self-inside.new.buckets.entries c.forget_from.new.buckets.entries before
+    c.keep_all_alive-self-inside.ensures.purged c.keep_all_alive-self-inside.result c.keep_all_alive-self-inside.new.starts c.keep_all_alive-self-inside.ensures.starts c.keep_all_alive-self-inside.ensures.room c.keep_all_alive-self-inside.ensures.within c.keep_all_alive-self-inside.ensures.split c.forget_from.ensures
     ∙ ap (alive_instances (c.args.now + 1) c.self.inside.condition) (same_in_order c.self.inside.buckets.entries c.arrange_noted-self-inside.new.buckets.entries c.arrange_noted-self-inside.ensures.same))
 
 pub returns-clause-ready : goal.returns-clause-ready
@@ -38,10 +38,10 @@ returns-clause-ready c =
     let before =
     settled c.self.inside.key.binding c.self.inside.emptied c.self.inside.filled c.arrange_noted-self-inside.result c.self.inside.starts c.arrange_noted-self-inside.new.starts c.self.inside.buckets.entries c.arrange_noted-self-inside.new.buckets.entries c.self.invariant c.arrange_noted-self-inside.ensures.same c.arrange_noted-self-inside.ensures.starts
     c.arrange_noted-self-inside.ensures.room c.arrange_noted-self-inside.ensures.within c.arrange_noted-self-inside.ensures.split in
-    rw (← c.self.view_is) (λ key. subst (λ (ks : List Value). Contains (keys_in_order c.truncate.new.self.entries) key ↔ (Contains ks key × Any (λ instance. value_at instance.tuple c.self.inside.key.binding ≡ key) (instances_in_order c.truncate.new.self.entries)))
+    rw (← c.self.view_is) (λ key. subst (λ (ks : List Value). Contains (keys_in_order c.forget_from.new.buckets.entries) key ↔ (Contains ks key × Any (λ instance. value_at instance.tuple c.self.inside.key.binding ≡ key) (instances_in_order c.forget_from.new.buckets.entries)))
     (same_keys c.self.inside.buckets.entries c.arrange_noted-self-inside.new.buckets.entries c.arrange_noted-self-inside.ensures.same)
-    (left_over_ready c.self.inside.key.binding [] c.arrange_noted-self-inside.result c.arrange_noted-self-inside.new.starts (λ instance. is_alive (c.args.now + 1) c.self.inside.condition instance.tuple) c.arrange_noted-self-inside.new.buckets.entries c.keep_all_alive-self-inside.new.buckets.entries c.truncate.new.self.entries before
-    c.keep_all_alive-self-inside.ensures.purged c.keep_all_alive-self-inside.result c.keep_all_alive-self-inside.new.starts c.keep_all_alive-self-inside.ensures.starts c.keep_all_alive-self-inside.ensures.room c.keep_all_alive-self-inside.ensures.within c.keep_all_alive-self-inside.ensures.split c.truncate.ensures.entries key))
+    (left_over_ready c.self.inside.key.binding [] c.arrange_noted-self-inside.result c.arrange_noted-self-inside.new.starts (λ instance. is_alive (c.args.now + 1) c.self.inside.condition instance.tuple) c.arrange_noted-self-inside.new.buckets.entries c.keep_all_alive-self-inside.new.buckets.entries c.forget_from.new.buckets.entries before
+    c.keep_all_alive-self-inside.ensures.purged c.keep_all_alive-self-inside.result c.keep_all_alive-self-inside.new.starts c.keep_all_alive-self-inside.ensures.starts c.keep_all_alive-self-inside.ensures.room c.keep_all_alive-self-inside.ensures.within c.keep_all_alive-self-inside.ensures.split c.forget_from.ensures key))
 
 pub returns-clause-oldest : goal.returns-clause-oldest
 returns-clause-oldest c =
@@ -49,8 +49,8 @@ returns-clause-oldest c =
     settled c.self.inside.key.binding c.self.inside.emptied c.self.inside.filled c.arrange_noted-self-inside.result c.self.inside.starts c.arrange_noted-self-inside.new.starts c.self.inside.buckets.entries c.arrange_noted-self-inside.new.buckets.entries c.self.invariant c.arrange_noted-self-inside.ensures.same c.arrange_noted-self-inside.ensures.starts
     c.arrange_noted-self-inside.ensures.room c.arrange_noted-self-inside.ensures.within c.arrange_noted-self-inside.ensures.split in
     let are =
-    left_over c.self.inside.key.binding [] c.arrange_noted-self-inside.result c.arrange_noted-self-inside.new.starts (λ instance. is_alive (c.args.now + 1) c.self.inside.condition instance.tuple) c.arrange_noted-self-inside.new.buckets.entries c.keep_all_alive-self-inside.new.buckets.entries c.truncate.new.self.entries before
-    c.keep_all_alive-self-inside.ensures.purged c.keep_all_alive-self-inside.result c.keep_all_alive-self-inside.new.starts c.keep_all_alive-self-inside.ensures.starts c.keep_all_alive-self-inside.ensures.room c.keep_all_alive-self-inside.ensures.within c.keep_all_alive-self-inside.ensures.split c.truncate.ensures.entries in
-    start_in_order c.min.result c.truncate.new.self.entries are.distinct
-    (all_from c.min.result c.keep_all_alive-self-inside.new.starts c.truncate.new.self.entries
+    left_over c.self.inside.key.binding [] c.arrange_noted-self-inside.result c.arrange_noted-self-inside.new.starts (λ instance. is_alive (c.args.now + 1) c.self.inside.condition instance.tuple) c.arrange_noted-self-inside.new.buckets.entries c.keep_all_alive-self-inside.new.buckets.entries c.forget_from.new.buckets.entries before
+    c.keep_all_alive-self-inside.ensures.purged c.keep_all_alive-self-inside.result c.keep_all_alive-self-inside.new.starts c.keep_all_alive-self-inside.ensures.starts c.keep_all_alive-self-inside.ensures.room c.keep_all_alive-self-inside.ensures.within c.keep_all_alive-self-inside.ensures.split c.forget_from.ensures in
+    start_in_order c.min.result c.forget_from.new.buckets.entries are.distinct
+    (all_from c.min.result c.keep_all_alive-self-inside.new.starts c.forget_from.new.buckets.entries
     (All-weaker (λ (start : ℕ). c.earliest.result ≤ start) (λ (start : ℕ). c.min.result ≤ start) (λ start le. omega (arith, le, c.min.ensures)) c.keep_all_alive-self-inside.new.starts c.earliest.ensures) are.room are.start)

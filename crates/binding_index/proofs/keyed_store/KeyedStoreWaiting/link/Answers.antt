@@ -1,4 +1,4 @@
-use Rattle.std.proofs.Common.{◌≡◌, ◌∙◌, sym, ap, subst, ℕ, length, min, Contains, List, [], ◌∷◌, ◌++◌, arith}
+use Rattle.std.proofs.Common.{◌≡◌, ◌∙◌, sym, ap, refl, subst, ℕ, get_or, length, min, Contains, List, [], ◌∷◌, ◌++◌, arith}
 use Rattle.std.proofs.lemmas.List.{length-set}
 use Rattle.std.proofs.lemmas.Option.{slice_get_within}
 use Rattle.event_types.specs.Order.{sort_by, value_cmp}
@@ -32,8 +32,8 @@ arrange_or_note-self-inside-requires-clause-others c = noted_written c.self.insi
 pub arrange_or_note-self-inside-requires-clause-room : goal.arrange_or_note-self-inside-requires-clause-room
 arrange_or_note-self-inside-requires-clause-room c =
     let long = length_written c.self.inside.buckets.entries c.in-Some-place_near.place c.put.new.self in
-    let written = ap length c.set.ensures in
-    let same = length-set c.self.inside.starts c.in-Some-place_near.place c.min.result in
+    let written = ap length c.lower.ensures in
+    let same = length-set c.self.inside.starts c.in-Some-place_near.place (min (get_or c.self.inside.starts c.in-Some-place_near.place 0) c.from-from.result) in
     omega (arith, long, written, same, c.self.invariant.room)
 
 pub arrange_or_note-self-inside-requires-clause-starts : goal.arrange_or_note-self-inside-requires-clause-starts
@@ -46,9 +46,9 @@ arrange_or_note-self-inside-requires-clause-starts c =
     let is = value_there bs c.in-Some-place_near.place key had c.index_mut.result.now at c.index_mut.ensures.value in
     let front : c.link.new.self ≡ c.args.bead ∷ [] = c.link.ensures ∙ ap (λ (xs : List Instance). xs ++ c.args.bead ∷ []) c.new-chain.ensures in
     let now : c.put.new.self ≡ c.args.bead ∷ had = c.put.ensures ∙ (λ i. front i ++ is i) in
-    subst (λ (times : List ℕ). AreStarts times (set_value_at bs c.in-Some-place_near.place c.put.new.self)) (sym c.set.ensures)
-    (linked_starts c.self.inside.starts c.min.result c.from-from.result bs c.in-Some-place_near.place key had c.put.new.self c.args.bead at now c.self.invariant.room c.self.invariant.start
-    (c.min.ensures ∙ ap (λ n. min n c.from-from.result) c.get.ensures) (c.from-from.ensures.value ∙ ap (λ (n : Instance). n.tuple.from) bead))
+    subst (λ (times : List ℕ). AreStarts times (set_value_at bs c.in-Some-place_near.place c.put.new.self)) (sym c.lower.ensures)
+    (linked_starts c.self.inside.starts (min (get_or c.self.inside.starts c.in-Some-place_near.place 0) c.from-from.result) c.from-from.result bs c.in-Some-place_near.place key had c.put.new.self c.args.bead at now c.self.invariant.room c.self.invariant.start
+    refl (c.from-from.ensures.value ∙ ap (λ (n : Instance). n.tuple.from) bead))
 
 pub invariant_of-self : goal.invariant_of-self
 invariant_of-self c =

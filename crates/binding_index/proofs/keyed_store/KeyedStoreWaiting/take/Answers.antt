@@ -1,10 +1,10 @@
 use Rattle.std.proofs.Common.{◌≡◌, ◌∙◌, sym, ap, subst, length, filter, not, arith}
-use Rattle.std.specs.Prelude.{Some}
+use Rattle.std.specs.Prelude.{IsTrue, Option, Some}
 use Rattle.std.specs.List.{All}
 use Rattle.std.proofs.lemmas.List.Elements.{All-filter, All-same}
 use Rattle.std.proofs.lemmas.Option.{slice_get_within}
 use Rattle.event_types.specs.Order.{sort_by, value_cmp}
-use Rattle.instances.specs.Keys.{candidates_of}
+use Rattle.instances.specs.Keys.{Key, candidates_of, key_matches}
 use Rattle.instances.specs.declared.instance.Instance.{Instance}
 use Rattle.semantics.specs.Nexts.{is_eligible}
 use Rattle.semantics.specs.Values.{value_at}
@@ -15,15 +15,15 @@ use Rattle.binding_index.specs.KeyParts.{key_of_part}
 use Rattle.binding_index.proofs.BucketLemmas.{same_keys}
 use Rattle.binding_index.proofs.NotedLemmas.{noted_written}
 use Rattle.binding_index.proofs.StoreLemmas.{arranged, taken_starts, value_is, value_there}
-use Rattle.binding_index.proofs.TakeLemmas.{found_are, found_go, none_go}
+use Rattle.binding_index.proofs.TakeLemmas.{candidates_match, found_are, found_go, none_go}
 use Rattle.binding_index.proofs.WriteLemmas.{all_at, keys_written, length_written}
 use Rattle.binding_index.proofs.keyed_store.KeyedStoreWaiting.take.Goals as goal
 
 pub index_mut-requires : goal.index_mut-requires
 index_mut-requires g c = slice_get_within c.self.inside.buckets.entries c.in-Some.place (c.get-key.result.now, instances_at c.self.inside.buckets.entries c.get-key.result.now) c.in-Some.ensures.found.at
 
-pub take-requires : goal.take-requires
-take-requires g c =
+pub take-requires-clause-fits : goal.take-requires-clause-fits
+take-requires-clause-fits g c =
     let key = key_of_part c.self.inside.key in
     let bs = c.self.inside.buckets.entries in
     let are : c.index_mut.result.now ≡ candidates_of (Some key) c.args.event.now (instances_in_order bs) =
@@ -31,6 +31,17 @@ take-requires g c =
     c.index_mut.result.now c.index_mut.ensures.value in
     All-same (λ instance. AllFit c.args.choose.now c.args.event.now (Some instance.tuple)) c.index_mut.result.now (candidates_of (Some key) c.args.event.now (instances_in_order bs)) are
     (subst (λ (s : Keyed). All (λ (instance : Instance). AllFit c.args.choose.now c.args.event.now (Some instance.tuple)) (candidates_of (Some s.key) c.args.event.now s.instances)) (sym c.self.view_is) c.requires.condition_fits)
+
+pub take-requires-clause-found : goal.take-requires-clause-found
+take-requires-clause-found g c =
+    let key = key_of_part c.self.inside.key in
+    let bs = c.self.inside.buckets.entries in
+    let holds = λ (k : Option Key) (instance : Instance). IsTrue (key_matches k c.args.event.now instance.tuple) in
+    let are : c.index_mut.result.now ≡ candidates_of (Some key) c.args.event.now (instances_in_order bs) =
+    found_are key c.args.event.now bs c.self.invariant.keyed c.self.invariant.distinct c.get-key.result.now (value_is c.args.event.now c.vals.result.now c.self.inside.key.event c.get-key.result.now c.vals.ensures c.get-key.ensures) c.in-Some.place c.in-Some.ensures.found
+    c.index_mut.result.now c.index_mut.ensures.value in
+    subst (λ (k : Option Key). All (holds k) c.index_mut.result.now) (sym (c.key_places-places.ensures ∙ ap (λ (s : Keyed). Some s.key) (sym c.self.view_is)))
+    (All-same (holds (Some key)) c.index_mut.result.now (candidates_of (Some key) c.args.event.now (instances_in_order bs)) are (candidates_match (Some key) c.args.event.now (instances_in_order bs)))
 
 pub arrange_or_note-self-inside-requires-clause-within : goal.arrange_or_note-self-inside-requires-clause-within
 arrange_or_note-self-inside-requires-clause-within g c = let long = length_written c.self.inside.buckets.entries c.in-Some.place c.take.new.self in omega (arith, long, c.self.invariant.within)
