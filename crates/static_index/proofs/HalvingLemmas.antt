@@ -55,7 +55,7 @@ below_inserted x id (n ∷ ids) zero less all = (less, all)
 below_inserted x id (n ∷ ids) (suc place) less all = (all.0, below_inserted x id ids place less all.1)
 
 -- what is above a number is above a lesser one
-above_lesser : (x y : ℕ) (ids : List ℕ) → nat_cmp x y ≡ Less → AllByRecursion (λ z. nat_cmp y z ≡ Less) ids → AllByRecursion (λ z. nat_cmp x z ≡ Less) ids
+pub above_lesser : (x y : ℕ) (ids : List ℕ) → nat_cmp x y ≡ Less → AllByRecursion (λ z. nat_cmp y z ≡ Less) ids → AllByRecursion (λ z. nat_cmp x z ≡ Less) ids
 above_lesser x y [] less all = tt
 above_lesser x y (n ∷ ids) less all = (nat_cmp_total.trans x y n less all.0, above_lesser x y ids less all.1)
 

@@ -70,8 +70,7 @@ impl StaticIndex {
         self.filing.file(self.alloc, id, &entry)?;
         match self.entries.insert(id, entry) {
             Ok(()) => Ok(()),
-            Err(refused) => {
-                let (_, entry) = refused.value;
+            Err(entry) => {
                 self.filing.forget(id, &entry);
                 Err(Memory)
             }

@@ -1,35 +1,37 @@
-use Rattle.std.proofs.Common.{◌≡◌, ◌∙◌, ap, ℕ, List, get_or, sym, subst}
+use Rattle.std.proofs.Common.{◌∙◌, ap, sym, subst, set, Option}
 use Rattle.std.specs.BTreeMap.{is_at}
 use Rattle.std.specs.Map.{remove_entry}
 use Rattle.std.specs.Ordering.{nat_cmp}
-use Rattle.static_index.specs.Entries.{AreOrdered, IsAt}
+use Rattle.static_index.specs.Entries.{AreOrdered, entry_of}
+use Rattle.static_index.specs.Slots.{live}
 use Rattle.static_index.specs.declared.entry.Entry.{Entry}
-use Rattle.static_index.proofs.EntryLemmas.{entry_missing, none_taken_out, ordered_without, read_entry, taken_out}
+use Rattle.static_index.proofs.EntryLemmas.{live_missing, live_ordered, none_taken_out, read_live, set_in_order, unset_live}
 use Rattle.static_index.proofs.entries.Entries.remove.Goals as goal
 
 pub invariant_of-self : goal.invariant_of-self
-invariant_of-self c =
-    let here = subst (λ (es : List (ℕ × Entry)). IsAt c.args.id es c.in-Ok.place) (sym c.self.view_is) c.in-Ok.ensures.found in
-    subst AreOrdered (sym c.remove.ensures.items) (ordered_without c.args.id c.self.inside.held.items c.in-Ok.place c.self.invariant here)
+invariant_of-self c = set_in_order c.args.id c.self.inside.held.items c.in-Ok.place c.index_mut.result.now c.self.invariant c.in-Ok.ensures.found c.index_mut.ensures.value c.take-entry.new.self
 
 pub returns-in-Ok-clause-value : goal.returns-in-Ok-clause-value
 returns-in-Ok-clause-value c =
-    read_entry c.args.id c.args.self.now c.in-Ok.place c.remove.result (subst AreOrdered c.self.view_is c.self.invariant) c.in-Ok.ensures.found
-    (subst (λ (es : List (ℕ × Entry)). c.remove.result ≡ get_or es c.in-Ok.place c.remove.result) c.self.view_is c.remove.ensures.value)
+    c.take-entry.ensures.value ∙ read_live c.args.id c.self.inside.held.items c.in-Ok.place c.index_mut.result.now c.self.invariant c.in-Ok.ensures.found c.index_mut.ensures.value ∙ ap (entry_of c.args.id) c.self.view_is
 
 pub returns-in-Ok-clause-ordered : goal.returns-in-Ok-clause-ordered
 returns-in-Ok-clause-ordered c =
-    let here = subst (λ (es : List (ℕ × Entry)). IsAt c.args.id es c.in-Ok.place) (sym c.self.view_is) c.in-Ok.ensures.found in
-    subst AreOrdered (sym c.remove.ensures.items) (ordered_without c.args.id c.self.inside.held.items c.in-Ok.place c.self.invariant here)
+    let kept = set_in_order c.args.id c.self.inside.held.items c.in-Ok.place c.index_mut.result.now c.self.invariant c.in-Ok.ensures.found c.index_mut.ensures.value c.take-entry.new.self in
+    subst AreOrdered (sym c.count_gone.ensures) (live_ordered (set c.self.inside.held.items c.in-Ok.place (c.index_mut.result.now.0, c.take-entry.new.self)) kept)
 
 pub returns-in-Ok-clause-others : goal.returns-in-Ok-clause-others
 returns-in-Ok-clause-others c =
-    let here = subst (λ (es : List (ℕ × Entry)). IsAt c.args.id es c.in-Ok.place) (sym c.self.view_is) c.in-Ok.ensures.found in
-    c.remove.ensures.items ∙ taken_out c.args.id c.self.inside.held.items c.in-Ok.place here.0 c.self.invariant here.1 ∙ ap (remove_entry (is_at (nat_cmp c.args.id))) c.self.view_is
+    c.count_gone.ensures
+    ∙ ap (λ (o : Option Entry). live (set c.self.inside.held.items c.in-Ok.place (c.index_mut.result.now.0, o))) c.take-entry.ensures.after
+    ∙ unset_live c.args.id c.self.inside.held.items c.in-Ok.place c.index_mut.result.now c.self.invariant c.in-Ok.ensures.found c.index_mut.ensures.value
+    ∙ ap (remove_entry (is_at (nat_cmp c.args.id))) c.self.view_is
 
 pub returns-in-Err-clause-value : goal.returns-in-Err-clause-value
-returns-in-Err-clause-value c = sym (entry_missing c.args.id c.args.self.now c.in-Err.field-0 (subst AreOrdered c.self.view_is c.self.invariant) c.in-Err.ensures.missing)
+returns-in-Err-clause-value c = sym (ap (entry_of c.args.id) (sym c.self.view_is) ∙ live_missing c.args.id c.self.inside.held.items c.in-Err.field-0 c.in-Err.ensures.missing)
+
+pub returns-in-Err-clause-ordered : goal.returns-in-Err-clause-ordered
+returns-in-Err-clause-ordered c = subst AreOrdered c.self.view_is (live_ordered c.self.inside.held.items c.self.invariant)
 
 pub returns-in-Err-clause-others : goal.returns-in-Err-clause-others
-returns-in-Err-clause-others c =
-    sym (none_taken_out c.args.id c.args.self.now (entry_missing c.args.id c.args.self.now c.in-Err.field-0 (subst AreOrdered c.self.view_is c.self.invariant) c.in-Err.ensures.missing))
+returns-in-Err-clause-others c = sym (none_taken_out c.args.id c.args.self.now (sym (returns-in-Err-clause-value c)))
