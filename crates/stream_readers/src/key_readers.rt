@@ -17,6 +17,9 @@ use static_index::fixed_hold;
 use std::alloc::Global;
 use std::marker::Model;
 
+// How many pairs may come for each that the last sweep left, before the next one.
+const MOST_CAME: u64 = 4;
+
 /// Directories by the places of attributes.
 pub(crate) type Directories = List<Directory>;
 
@@ -95,7 +98,7 @@ impl KeyReaders {
     }
 
     /// Lets no key lead to a state whose store isn't ready for it, if more pairs of a key and a state came since
-    /// that was last done than there were pairs and streams then. Takes no memory.
+    /// that was last done than four times as many as there were pairs and streams then. Takes no memory.
     pub fn tidy(&mut self, stores: &[Option<Store>])
         ensures { AreTidied stores.now self.old self.new }
     {
@@ -110,7 +113,7 @@ impl KeyReaders {
     {
         let left = sweep_all(&mut self.streams, stores);
         self.came = 0;
-        self.most = left;
+        self.most = left.saturating_mul(MOST_CAME);
     }
 }
 
