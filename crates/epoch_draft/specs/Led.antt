@@ -1,17 +1,15 @@
 -- Keys that lead to the states where they are ready.
-use Rattle.std.specs.Prelude.{◌≡◌, ⊤, ℕ, IfSome, List, Option, Some, None, Contains, slice_index_or}
+use Rattle.std.specs.Prelude.{◌≡◌, ℕ, List, Option, Some, None, Contains, slice_index_or}
 use Rattle.std.specs.List.{All}
 use Rattle.event_types.specs.declared.value.Value.{Value}
 use Rattle.instances.specs.Keys.{IsKeyReady, Key}
 use Rattle.automaton.specs.States.{Net, wait_at}
 use Rattle.automaton.specs.declared.wait.Wait.{Wait}
-use Rattle.binding_index.specs.KeyParts.{key_of_part}
 use Rattle.binding_index.specs.Leads.{Leads, ready_in}
 use Rattle.binding_index.specs.declared.store.Store.{Store}
-use Rattle.stream_readers.specs.KeyTables.{IsFoundAt, KeyTable, LeadOn, LeadsFit, entries_at}
+use Rattle.stream_readers.specs.KeyTables.{KeyTable, LeadOn, LeadsFit, entries_at}
 use Rattle.stream_readers.specs.Leading.{lead_key, lead_key_at}
 use Rattle.epoch_draft.specs.Held.{instances_in, key_in}
-use Rattle.epoch_draft.specs.declared.readying.Lead.{Lead}
 
 -- the key of each instance of a state's store is ready there
 abbrev pub AreReadyIn : Option Store → Type 0
@@ -26,10 +24,14 @@ pub record StaysReady (old new : Option Store) : Type 0 where
 abbrev pub StayReady : List (Option Store) → List (Option Store) → Type 0
 StayReady old new = (number : ℕ) → StaysReady (slice_index_or old number None) (slice_index_or new number None)
 
+-- each of these keys leads to the state with a number, if the state is found by a key
+abbrev pub LeadBy : Net → KeyTable → ℕ → List Value → Type 0
+LeadBy net keys number ready =
+    (wait : Wait) (key : Key) → wait_at net number ≡ Some wait → lead_key wait.choose ≡ Some key → All (λ value. Leads (entries_at keys wait.stream key.event) value number) ready
+
 -- each key that is ready in the store of a state leads there, if the state is found by a key
 abbrev pub LeadTo : Net → KeyTable → ℕ → Option Store → Type 0
-LeadTo net keys number slot =
-    (wait : Wait) (key : Key) → wait_at net number ≡ Some wait → lead_key wait.choose ≡ Some key → All (λ value. Leads (entries_at keys wait.stream key.event) value number) (ready_in slot)
+LeadTo net keys number slot = LeadBy net keys number (ready_in slot)
 
 -- keys lead to states alone that are found by them; a key that is ready in the store of such a state leads there; and the key of each instance is ready
 pub record AreLed (net : Net) (keys : KeyTable) (stores : List (Option Store)) : Type 0 where
@@ -37,23 +39,11 @@ pub record AreLed (net : Net) (keys : KeyTable) (stores : List (Option Store)) :
   pub led : (number : ℕ) → LeadTo net keys number (slice_index_or stores number None)
   pub ready : (number : ℕ) → AreReadyIn (slice_index_or stores number None)
 
--- a state is found by a key on a stream
-pub record IsLeadOf (net : Net) (number : ℕ) (lead : Lead) : Type 0 where
-  pub state : lead.state ≡ number
-  pub key : lead_key_at net number ≡ Some (key_of_part lead.key)
-  pub found : IsFoundAt net lead.stream lead.key.event number
-
 -- the key of a store is that by which a state is found, if it is found by one
-abbrev pub HasKeyOf : Option Key → Option Lead → Type 0
-HasKeyOf key None = ⊤
-HasKeyOf key (Some lead) = key ≡ Some (key_of_part lead.key)
+abbrev pub HasKeyOf : Net → ℕ → Option Key → Type 0
+HasKeyOf net number found = (key : Key) → lead_key_at net number ≡ Some key → found ≡ Some key
 
--- each of these keys leads to a state, if it is found by a key
-abbrev pub LeadBy : KeyTable → Option Lead → List Value → Type 0
-LeadBy keys None ready = ⊤
-LeadBy keys (Some lead) ready = All (λ value. Leads (entries_at keys lead.stream lead.key.event) value lead.state) ready
-
--- keys lead where they led; and where the state is found as it says, they lead to states alone that are found by them, if they did
-pub record LeadMore (lead : Option Lead) (old new : KeyTable) : Type 0 where
+-- keys lead where they led; and they lead to states alone that are found by them, if they did
+pub record LeadMore (net : Net) (old new : KeyTable) : Type 0 where
   pub kept : LeadOn old new
-  pub fit : (net : Net) (number : ℕ) → IfSome lead (IsLeadOf net number) → LeadsFit net old → LeadsFit net new
+  pub fit : LeadsFit net old → LeadsFit net new

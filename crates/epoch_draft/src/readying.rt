@@ -1,34 +1,25 @@
 //! Room in the stores for what an epoch brings.
-ghost use Rattle.std.specs.Prelude.{◌≡◌, ◌<◌, [], ℕ, Contains, IfNone, IfSome, None, OnOk, length, slice_index_or};
+ghost use Rattle.std.specs.Prelude.{◌≡◌, ◌<◌, [], ◌∷◌, ℕ, Contains, IfSome, None, OnOk, length, slice_index_or};
 ghost use Rattle.std.specs.List.{All};
 ghost use Rattle.std.specs.Option.{option_copied};
 ghost use Rattle.instances.specs.Keys.{BindingFits, IsKeyReady};
 ghost use Rattle.binding_index.specs.Among.{is_among};
 ghost use Rattle.binding_index.specs.Leads.{ready_in};
 ghost use Rattle.binding_index.specs.Stores.{condition_of, instances_of, key_of, ready_of};
-ghost use Rattle.stream_readers.specs.Leading.{lead_key_at};
 ghost use Rattle.epoch_draft.specs.Drafts.{DraftFits};
 ghost use Rattle.epoch_draft.specs.Held.{SameStored, instances_in, key_in, shape_of};
-ghost use Rattle.epoch_draft.specs.Led.{AreLed, HasKeyOf, IsLeadOf, LeadBy, LeadMore};
+ghost use Rattle.epoch_draft.specs.Led.{AreLed, HasKeyOf, LeadBy, LeadMore};
 ghost use Rattle.epoch_draft.specs.Readying.{HasReadyAt, HasRoom, HaveKeyIn, HaveKeys, HaveRoom, HaveRoomIn};
 ghost use Rattle.epoch_draft.specs.Stores.{HasStores};
 
 use crate::draft::{Beads, Draft};
 use crate::stores::Stores;
 use automaton::Network;
-use binding_index::{KeyPart, Store};
-use event_types::{Memory, StreamId, Value};
+use binding_index::Store;
+use event_types::{Memory, Value};
 use inst_chain::{Chain, Look};
 use instances::{Instance, Waiting};
 use stream_readers::{KeyReaders, lead_key};
-
-/// A state that is found by a key: its number, the stream on which it waits, and the key.
-#[derive(Drop)]
-pub(crate) struct Lead {
-    pub state: usize,
-    pub stream: StreamId,
-    pub key: KeyPart,
-}
 
 /// Makes room in the stores for the beads of an epoch that was drawn, lets their keys lead to their states, and
 /// changes no instance. After want of memory there may be room for some that don't come.
@@ -73,49 +64,38 @@ fn make_room_at(
     ensures led { AreLed network.now keys.new stores.new }
 {
     for number in numbers {
-        let lead = lead_of(network, *number);
-        make_room_in(keys, &lead, stores.get_mut(*number), beads.get(*number))?;
+        make_room_in(
+            keys,
+            network,
+            *number,
+            stores.get_mut(*number),
+            beads.get(*number),
+        )?;
     }
     Ok(())
-}
-
-// How a state is found, if it is found by a key.
-fn lead_of(network: &Network, number: usize) -> Option<Lead>
-    requires { number < length network.now }
-    ensures found { IfSome result (IsLeadOf network.now number) }
-    ensures none { IfNone result (lead_key_at network.now number ≡ None) }
-{
-    if !network.used(number) {
-        return None;
-    }
-    let wait = network.wait(number)?;
-    let key = lead_key(&wait.choose)?;
-    Some(Lead {
-        state: number,
-        stream: wait.stream,
-        key,
-    })
 }
 
 // Makes room for beads in the store of a state, if it has one.
 fn make_room_in(
     keys: &mut KeyReaders,
-    lead: &Option<Lead>,
+    network: &Network,
+    number: usize,
     slot: &mut Option<Store>,
     beads: &Chain<Instance>,
 ) -> Result<(), Memory>
+    requires within { number < length network.now }
     requires fits { HaveKeyIn slot.old beads.now }
-    requires key { HasKeyOf (key_in slot.old) lead.now }
-    requires led { LeadBy keys.old lead.now (ready_in slot.old) }
+    requires key { HasKeyOf network.now number (key_in slot.old) }
+    requires led { LeadBy network.now keys.old number (ready_in slot.old) }
     ensures room { OnOk result (HaveRoomIn slot.new beads.now) }
-    ensures led { LeadBy keys.new lead.now (ready_in slot.new) }
-    ensures leads { LeadMore lead.now keys.old keys.new }
+    ensures led { LeadBy network.now keys.new number (ready_in slot.new) }
+    ensures leads { LeadMore network.now keys.old keys.new }
     ensures more { All (Contains (ready_in slot.new)) (ready_in slot.old) }
     ensures shape { shape_of slot.new ≡ shape_of slot.old }
     ensures instances { instances_in slot.new ≡ instances_in slot.old }
 {
     match slot {
-        Some(store) => make_room_for(keys, lead, store, beads.look()),
+        Some(store) => make_room_for(keys, network, number, store, beads.look()),
         None => Ok(()),
     }
 }
@@ -123,16 +103,18 @@ fn make_room_in(
 // Makes room for these instances in the store.
 fn make_room_for(
     keys: &mut KeyReaders,
-    lead: &Option<Lead>,
+    network: &Network,
+    number: usize,
     store: &mut Store,
     mut instances: Look<'_, Instance>,
 ) -> Result<(), Memory>
+    requires within { number < length network.now }
     requires fits { All (λ instance. BindingFits (key_of store.old) instance.tuple) instances }
-    requires key { HasKeyOf (key_of store.old) lead.now }
-    requires led { LeadBy keys.old lead.now (ready_of store.old) }
+    requires key { HasKeyOf network.now number (key_of store.old) }
+    requires led { LeadBy network.now keys.old number (ready_of store.old) }
     ensures room { OnOk result (All (HasRoom (key_of store.new) (ready_of store.new)) instances.entry) }
-    ensures led { LeadBy keys.new lead.now (ready_of store.new) }
-    ensures leads { LeadMore lead.now keys.old keys.new }
+    ensures led { LeadBy network.now keys.new number (ready_of store.new) }
+    ensures leads { LeadMore network.now keys.old keys.new }
     ensures more { All (Contains (ready_of store.new)) (ready_of store.old) }
     ensures condition { condition_of store.new ≡ condition_of store.old }
     ensures key { key_of store.new ≡ key_of store.old }
@@ -140,7 +122,7 @@ fn make_room_for(
 {
     let mut last = None;
     while let Some(instance) = instances.next() {
-        make_room_of(keys, lead, store, last, instance)?;
+        make_room_of(keys, network, number, store, last, instance)?;
         last = Some(instance);
     }
     Ok(())
@@ -150,32 +132,58 @@ fn make_room_for(
 // last instance, if there is one, there is room.
 fn make_room_of(
     keys: &mut KeyReaders,
-    lead: &Option<Lead>,
+    network: &Network,
+    number: usize,
     store: &mut Store,
     last: Option<&Instance>,
     instance: &Instance,
 ) -> Result<(), Memory>
+    requires within { number < length network.now }
     requires fits { BindingFits (key_of store.old) instance.now.tuple }
     requires last { IfSome (option_copied last) (HasRoom (key_of store.old) (ready_of store.old)) }
-    requires key { HasKeyOf (key_of store.old) lead.now }
-    requires led { LeadBy keys.old lead.now (ready_of store.old) }
+    requires key { HasKeyOf network.now number (key_of store.old) }
+    requires led { LeadBy network.now keys.old number (ready_of store.old) }
     ensures room { OnOk result (IsKeyReady (key_of store.old) (ready_of store.new) instance.now.tuple) }
-    ensures led { LeadBy keys.new lead.now (ready_of store.new) }
-    ensures leads { LeadMore lead.now keys.old keys.new }
+    ensures led { LeadBy network.now keys.new number (ready_of store.new) }
+    ensures leads { LeadMore network.now keys.old keys.new }
     ensures more { All (Contains (ready_of store.new)) (ready_of store.old) }
     ensures condition { condition_of store.new ≡ condition_of store.old }
     ensures key { key_of store.new ≡ key_of store.old }
     ensures same { instances_of store.new ≡ instances_of store.old }
 {
-    let Some(lead) = lead else {
+    let Some(places) = store.key_places() else {
         return store.ready(instance);
     };
-    let key = instance.tuple.vals().get(lead.key.binding);
-    if is_ready(store, last, lead.key.binding, key) {
+    let key = instance.tuple.vals().get(places.binding);
+    if is_ready(store, last, places.binding, key) {
         return Ok(());
     }
-    keys.note(lead.stream, lead.key.event, key, lead.state)?;
+    note_key(keys, network, number, key)?;
     store.ready(instance)
+}
+
+// Lets a key lead to a state, if the state is found by one.
+#[inline(never)]
+fn note_key(
+    keys: &mut KeyReaders,
+    network: &Network,
+    number: usize,
+    key: &Value,
+) -> Result<(), Memory>
+    requires { number < length network.now }
+    ensures led { OnOk result (LeadBy network.now keys.new number (key.now ∷ [])) }
+    ensures leads { LeadMore network.now keys.old keys.new }
+{
+    if !network.used(number) {
+        return Ok(());
+    }
+    let Some(wait) = network.wait(number) else {
+        return Ok(());
+    };
+    let Some(found) = lead_key(&wait.choose) else {
+        return Ok(());
+    };
+    keys.note(wait.stream, found.event, key, number)
 }
 
 // Whether a key is ready in the store: where the last instance has it, it is known to be.

@@ -8,9 +8,9 @@ use Rattle.instances.specs.declared.instance.Instance.{Instance}
 use Rattle.binding_index.specs.Leads.{ready_in}
 use Rattle.binding_index.specs.declared.store.Store.{Store}
 use Rattle.epoch_draft.specs.Held.{instances_in, key_in, shape_of}
-use Rattle.epoch_draft.specs.Led.{HasKeyOf, LeadBy}
+use Rattle.epoch_draft.specs.Led.{HasKeyOf, LeadTo}
 use Rattle.epoch_draft.specs.Readying.{HaveRoomIn}
-use Rattle.epoch_draft.proofs.LeadLemmas.{lead_from, lead_has, led_more}
+use Rattle.epoch_draft.proofs.LeadLemmas.{lead_has, led_more}
 use Rattle.epoch_draft.proofs.Lists.{taken_all}
 use Rattle.epoch_draft.proofs.ReadyLemmas.{readied_more, readied_none, stored_set}
 use Rattle.epoch_draft.proofs.StoreLemmas.{same_has, same_key}
@@ -19,26 +19,23 @@ use Rattle.epoch_draft.proofs.readying.make_room_at.Goals as goal
 pub loop-number-init : goal.loop-number-init
 loop-number-init c = record { readied = readied_none c.args.beads.now c.args.stores.now; led = c.requires.led }
 
-pub lead_of-lead-requires : goal.lead_of-lead-requires
-lead_of-lead-requires c =
-    let below = All-get_or (λ n. n < length c.args.stores.now) c.args.numbers.now c.loop-number.number-index 0 c.loop-number-test.true c.requires.within in
-    let many = c.requires.stores.as_many in omega (arith, below, many)
-
 pub make_room_in-requires : goal.make_room_in-requires
 make_room_in-requires c =
     let n = get_or c.args.numbers.now c.loop-number.number-index 0 in
     let old = c.args.stores.now in
     let now = c.loop-number.stores in
-    let lead = c.lead_of-lead.result in
     let beads = get_or_from_slice_get c.args.beads.now n c.get.result.now [] c.get.ensures in
     let slot = get_or_from_slice_get now n c.get_mut.result.now None c.get_mut.ensures.value in
     let same = c.loop-number.invariant.readied.same.same in
+    let below = All-get_or (λ n. n < length old) c.args.numbers.now c.loop-number.number-index 0 c.loop-number-test.true c.requires.within in
+    let many = c.requires.stores.as_many in
     record {
+      within = omega (arith, below, many);
       fits =
           subst (All (λ (i : Instance). BindingFits (key_in c.get_mut.result.now) i.tuple)) beads
           (subst (λ k. All (λ (i : Instance). BindingFits k i.tuple) (get_or c.args.beads.now n [])) (sym (same_key old now same n) ∙ ap key_in slot) (c.requires.keys n));
-      key = subst (λ (o : Option Store). HasKeyOf (key_in o) lead) slot (lead_has c.args.network.now n lead now c.lead_of-lead.ensures.found (same_has c.args.network.now old now same c.requires.stores));
-      led = subst (λ (o : Option Store). LeadBy c.loop-number.keys lead (ready_in o)) slot (lead_from c.args.network.now n lead c.loop-number.keys (get_or now n None) c.lead_of-lead.ensures.found (c.loop-number.invariant.led.led n));
+      key = subst (λ (o : Option Store). HasKeyOf c.args.network.now n (key_in o)) slot (lead_has c.args.network.now n now (same_has c.args.network.now old now same c.requires.stores));
+      led = subst (LeadTo c.args.network.now c.loop-number.keys n) slot (c.loop-number.invariant.led.led n);
     }
 
 -- want of memory leaves all instances
@@ -59,7 +56,7 @@ returns-in_err-make_room_in-clause-led c =
     let slot = sym (get_or_from_slice_get now n c.get_mut.result.now None c.get_mut.ensures.value) in
     let below = All-get_or (λ n. n < length c.args.stores.now) c.args.numbers.now c.loop-number.number-index 0 c.loop-number-test.true c.requires.within in
     let same = c.loop-number.invariant.readied.same.same.as_many in
-    led_more c.args.network.now c.loop-number.keys c.make_room_in.new.keys now n c.make_room_in.new.slot c.lead_of-lead.result (omega (arith, below, same)) c.lead_of-lead.ensures.found c.lead_of-lead.ensures.none c.make_room_in.ensures.leads
+    led_more c.args.network.now c.loop-number.keys c.make_room_in.new.keys now n c.make_room_in.new.slot (omega (arith, below, same)) c.make_room_in.ensures.leads
     c.make_room_in.ensures.led (subst (λ (o : Option Store). All (Contains (ready_in c.make_room_in.new.slot)) (ready_in o)) slot c.make_room_in.ensures.more) (c.make_room_in.ensures.shape ∙ ap shape_of slot) (c.make_room_in.ensures.instances ∙ ap instances_in slot)
     c.loop-number.invariant.led
 
@@ -79,7 +76,7 @@ loop-number-preserved c =
           readied_more ns i c.args.beads.now c.args.stores.now now c.make_room_in.new.slot c.loop-number-test.true (omega (arith, below, same)) (c.make_room_in.ensures.shape ∙ ap shape_of slot)
           (c.make_room_in.ensures.instances ∙ ap instances_in slot) (subst (HaveRoomIn c.make_room_in.new.slot) beads c.in_ok-make_room_in.ensures.room) c.loop-number.invariant.readied;
       led =
-          led_more c.args.network.now c.loop-number.keys c.make_room_in.new.keys now n c.make_room_in.new.slot c.lead_of-lead.result (omega (arith, below, same)) c.lead_of-lead.ensures.found c.lead_of-lead.ensures.none c.make_room_in.ensures.leads
+          led_more c.args.network.now c.loop-number.keys c.make_room_in.new.keys now n c.make_room_in.new.slot (omega (arith, below, same)) c.make_room_in.ensures.leads
           c.make_room_in.ensures.led (subst (λ (o : Option Store). All (Contains (ready_in c.make_room_in.new.slot)) (ready_in o)) slot c.make_room_in.ensures.more) (c.make_room_in.ensures.shape ∙ ap shape_of slot)
           (c.make_room_in.ensures.instances ∙ ap instances_in slot) c.loop-number.invariant.led;
     }

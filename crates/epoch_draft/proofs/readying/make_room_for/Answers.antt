@@ -23,7 +23,7 @@ loop-instance-init c = record {
   same = refl;
   found = c.requires.key;
   led = c.requires.led;
-  leads = more_none c.args.lead.now c.args.keys.now;
+  leads = more_none c.args.network.now c.args.keys.now;
 }
 
 pub make_room_of-requires : goal.make_room_of-requires
@@ -31,6 +31,7 @@ make_room_of-requires c =
     let was = c.loop-instance.invariant in
     let fits = λ (i : Instance). BindingFits (key_of c.loop-instance.store) i.tuple in
     record {
+      within = c.requires.within;
       fits = All-head fits c.in-Some.instance.now c.next.new.self (subst (All fits) c.in-Some.ensures.rest was.keys);
       key = was.found;
       last = was.last;
@@ -60,14 +61,14 @@ loop-instance-preserved c =
       condition = c.make_room_of.ensures.condition ∙ was.condition;
       key = same ∙ was.key;
       same = c.make_room_of.ensures.same ∙ was.same;
-      found = subst (λ (k : Option Key). HasKeyOf k c.args.lead.now) (sym same) was.found;
+      found = subst (λ (k : Option Key). HasKeyOf c.args.network.now c.args.number k) (sym same) was.found;
       led = c.make_room_of.ensures.led;
-      leads = leads_trans c.args.lead.now c.args.keys.now c.loop-instance.keys c.make_room_of.new.keys was.leads c.make_room_of.ensures.leads;
+      leads = leads_trans c.args.network.now c.args.keys.now c.loop-instance.keys c.make_room_of.new.keys was.leads c.make_room_of.ensures.leads;
     }
 
 -- want of memory leaves what leads to the state
 pub returns-in_err-make_room_of-clause-leads : goal.returns-in_err-make_room_of-clause-leads
-returns-in_err-make_room_of-clause-leads c = leads_trans c.args.lead.now c.args.keys.now c.loop-instance.keys c.make_room_of.new.keys c.loop-instance.invariant.leads c.make_room_of.ensures.leads
+returns-in_err-make_room_of-clause-leads c = leads_trans c.args.network.now c.args.keys.now c.loop-instance.keys c.make_room_of.new.keys c.loop-instance.invariant.leads c.make_room_of.ensures.leads
 
 pub returns-in_err-make_room_of-clause-more : goal.returns-in_err-make_room_of-clause-more
 returns-in_err-make_room_of-clause-more c = more_trans (ready_of c.args.store.now) (ready_of c.loop-instance.store) (ready_of c.make_room_of.new.store) c.loop-instance.invariant.more c.make_room_of.ensures.more

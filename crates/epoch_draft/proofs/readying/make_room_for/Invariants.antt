@@ -20,9 +20,9 @@ invariant-loop-instance l = record {
   condition : condition_of l.store ≡ condition_of l.initial.store;
   key : key_of l.store ≡ key_of l.initial.store;
   same : instances_of l.store ≡ instances_of l.initial.store;
-  found : HasKeyOf (key_of l.store) l.lead;
-  led : LeadBy l.keys l.lead (ready_of l.store);
-  leads : LeadMore l.lead l.initial.keys l.keys;
+  found : HasKeyOf l.network l.number (key_of l.store);
+  led : LeadBy l.network l.keys l.number (ready_of l.store);
+  leads : LeadMore l.network l.initial.keys l.keys;
 }
 
 abbrev pub decreases-loop-instance : goal.decreases-loop-instance
