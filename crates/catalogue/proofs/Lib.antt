@@ -55,3 +55,5 @@ pub mod JudgeLemmas
 pub mod NewcomerLemmas
 pub mod HalvingLemmas
 pub mod LeftPlacesLemmas
+pub mod OwnLemmas
+pub mod SizeLemmas

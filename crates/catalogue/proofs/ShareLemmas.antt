@@ -1,5 +1,5 @@
 -- How many lines and streams queries have together, and which are those of one query.
-use Rattle.std.proofs.Common.{◌≡◌, ◌∙◌, ℕ, zero, suc, ◌+◌, ◌-◌, ◌≤◌, ◌<◌, ◌^◌, List, [], ◌∷◌, ◌++◌, length, map, take, drop, get_or, refl, sym, ap, arith}
+use Rattle.std.proofs.Common.{◌≡◌, ◌∙◌, ℕ, zero, suc, ◌+◌, ◌≤◌, ◌<◌, ◌^◌, List, [], ◌∷◌, ◌++◌, length, map, take, drop, get_or, refl, sym, ap, arith}
 use Rattle.std.specs.Prelude.{None, Some, slice_get, sum_by}
 use Rattle.std.specs.List.{All, range_with_len, remove}
 use Rattle.std.proofs.lemmas.List.Elements.{All-cons, All-nil}
@@ -129,14 +129,14 @@ module _ (c : Catalogued) (stands : StandsInOrder c) (number : ℕ) (small : num
     own_is = share_at (work_in c) (place_of c number) none own within (sym (λ i. slice_get (shared i) (is i)) ∙ there)
 
     -- both are within all lines and streams
-    lines_up : before.lines + own.lines ≤ sum_by (λ share. share.lines) shares
+    pub lines_up : before.lines + own.lines ≤ sum_by (λ share. share.lines) shares
     lines_up = up (λ (share : Share). share.lines) lines
 
-    streams_up : before.streams + own.streams ≤ sum_by (λ share. share.streams) shares
+    pub streams_up : before.streams + own.streams ≤ sum_by (λ share. share.streams) shares
     streams_up = up (λ (share : Share). share.streams) streams
 
     -- these are its lines and its streams
-    part_is : IsPart c number (record { first = before.lines; end = before.lines + own.lines; lost = record { first = before.streams; end = before.streams + own.streams; out = number } })
+    pub part_is : IsPart c number (record { first = before.lines; end = before.lines + own.lines; lost = record { first = before.streams; end = before.streams + own.streams; out = number } })
     part_is =
         let own_lines : own.lines ≡ lines_many (query_in c number) = ap (λ (s : Share). s.lines) own_is in
         let own_streams : own.streams ≡ length (streams_of (query_in c number)) = ap (λ (s : Share). s.streams) own_is in
@@ -156,30 +156,3 @@ module _ (c : Catalogued) (stands : StandsInOrder c) (number : ℕ) (small : num
           };
           lost = λ i. record { order = without i; outs = remove c.layout.outs number; kinds = c.layout.kinds };
         }
-
-  -- those before the query's own are counted from the end
-  module _ (lines worked : ℕ) (many : lines ≡ length (lines_of (program_in c))) (many_worked : worked ≡ length c.layout.order) (own later : Share) (there : slice_get shares place ≡ Some own) (behind : sum_by (λ share. share.lines) (take place shares) + later.lines ≡ sum_by (λ share. share.lines) shares) (behind_worked : sum_by (λ share. share.streams) (take place shares) + later.streams ≡ sum_by (λ share. share.streams) shares) where
-    pub later_lines : later.lines ≤ lines
-    later_lines = omega (arith, behind, lines_all, many)
-
-    pub later_streams : later.streams ≤ worked
-    later_streams = omega (arith, behind_worked, streams_all, many_worked)
-
-    abbrev before : Share
-    before = record { lines = lines - later.lines; streams = worked - later.streams }
-
-    lines_before_it : before.lines ≡ sum_by (λ share. share.lines) (take place shares)
-    lines_before_it = omega (arith, behind, lines_all, many)
-
-    streams_before_it : before.streams ≡ sum_by (λ share. share.streams) (take place shares)
-    streams_before_it = omega (arith, behind_worked, streams_all, many_worked)
-
-    pub lines_up_to_it : lines - later.lines + own.lines ≤ lines
-    lines_up_to_it = let up = lines_up before own lines_before_it streams_before_it there in omega (arith, up, lines_all, many)
-
-    pub streams_up_to_it : worked - later.streams + own.streams ≤ worked
-    streams_up_to_it = let up = streams_up before own lines_before_it streams_before_it there in omega (arith, up, streams_all, many_worked)
-
-    -- and these are its own
-    pub part_behind : IsPart c number (record { first = lines - later.lines; end = lines - later.lines + own.lines; lost = record { first = worked - later.streams; end = worked - later.streams + own.streams; out = number } })
-    part_behind = part_is before own lines_before_it streams_before_it there

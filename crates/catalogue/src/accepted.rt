@@ -9,6 +9,7 @@ ghost use Rattle.catalogue.specs.Loaded.{HoldsJudged, IsUnchanged};
 ghost use Rattle.catalogue.specs.Parts.{IsAccepted, parts_of, judged_of};
 ghost use Rattle.catalogue.specs.Standing.{IsLayoutOver, StandsInOrder};
 
+use crate::growing::size_of;
 use crate::numbering::{Published, hide_up_to, number_all, numbers_below};
 use crate::placing::{chains_of, places_in};
 use crate::sharing::{Share, share_all};
@@ -40,10 +41,14 @@ pub struct Catalogue {
     pub(crate) shares: List<Share>,
     // For each query by its number its place in the order of work.
     pub(crate) places: Numbers,
+    // From this place on each query's number is its place.
+    pub(crate) own: usize,
     // For each line the number of its end.
     pub(crate) ends: Numbers,
     pub(crate) next_end: usize,
     pub(crate) chains: Chains,
+    // How many lines there are, and hops on them.
+    pub(crate) size: usize,
     // For each stream by number how many reads of it the expressions have; none behind the last one.
     pub(crate) reads: Numbers,
 }
@@ -55,11 +60,11 @@ impl Model for Catalogue {
 
     ghost coded = { catalogued_code };
 
-    ghost use Rattle.catalogue.specs.Tables.{IsHeld};
+    ghost use Rattle.catalogue.specs.Tables.{IsKept};
 
     ghost view = { λ c. record { file = c.file; declared = c.declared; streams = c.streams; order = c.order; published = c.published; expressions = c.expressions; ends = c.ends; next_end = c.next_end; layout = c.chains.layout } };
 
-    ghost invariant = { λ c. IsHeld (record { file = c.file; declared = c.declared; streams = c.streams; order = c.order; published = c.published; expressions = c.expressions; ends = c.ends; next_end = c.next_end; layout = c.chains.layout }) c.places c.chains.lines c.shares c.reads };
+    ghost invariant = { λ c. IsKept (record { file = c.file; declared = c.declared; streams = c.streams; order = c.order; published = c.published; expressions = c.expressions; ends = c.ends; next_end = c.next_end; layout = c.chains.layout }) c.places c.chains.lines c.shares c.reads c.own c.size };
 }
 
 impl Catalogue {
@@ -86,6 +91,7 @@ impl Catalogue {
             &expressions,
             places.as_slice(),
         )?;
+        let size = size_of(chains.lines.as_slice());
         let declared = file.size() - order.len();
         let published = number_all(alloc, declared, &expressions)?;
         let mut streams = streams;
@@ -93,6 +99,7 @@ impl Catalogue {
         let shares = share_all(alloc, &published, &expressions)?;
         let reads = tally_all(alloc, &expressions)?;
         let ends = numbers_below(alloc, chains.lines.len())?;
+        let own = order.len();
         let next_end = ends.len();
         Ok(Catalogue {
             file,
@@ -103,9 +110,11 @@ impl Catalogue {
             expressions,
             shares,
             places,
+            own,
             ends,
             next_end,
             chains,
+            size,
             reads,
         })
     }

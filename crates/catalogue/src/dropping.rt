@@ -9,9 +9,10 @@ ghost use Rattle.catalogue.specs.Part.{IsPart};
 use crate::accepted::Catalogue;
 use crate::counting::does_read;
 use crate::fault::DropFault;
-use crate::leaving::{add_part, move_down, place_from};
+use crate::growing::size_of;
+use crate::leaving::{add_part, leave};
 use crate::numbering::Published;
-use crate::sharing::share_from;
+use crate::sharing::{Share, share_before};
 use crate::tallying::{tally_at, untally};
 use automaton::Shrinkage;
 use event_types::{List, Memory, Numbers, StreamId, Text};
@@ -132,15 +133,13 @@ impl Catalogue {
     {
         let place = self.place(query);
         self.streams.retire(self.published.get(place).stream);
-        move_down(&mut self.order, &self.places, query);
-        self.order.remove(place);
-        self.places.remove(query);
-        place_from(&mut self.places, &self.order, place);
+        self.own = leave(&mut self.order, &mut self.places, self.own, query);
         self.published.remove(place);
         untally(&mut self.reads, self.expressions.get(place));
         self.expressions.remove(place);
         self.shares.remove(place);
         self.ends.cut(part.first, part.end);
+        self.size -= size_of(&self.chains.lines.as_slice()[part.first..part.end]);
         self.chains.lines.cut(part.first, part.end);
         self.chains.layout.shrink(part.lost);
     }
@@ -151,19 +150,20 @@ impl Catalogue {
         ensures { IsPart self.now query result }
     {
         let place = self.place(query);
-        let lines = self.chains.lines.len();
-        let worked = self.chains.layout.order.len();
         let own = self.shares.get(place);
-        let later = share_from(&self.shares, place);
+        let all = Share {
+            lines: self.chains.lines.len(),
+            streams: self.chains.layout.order.len(),
+        };
+        let before = share_before(&self.shares, place, all);
         let lost = Shrinkage {
-            first: worked - later.streams,
-            end: worked - later.streams + own.streams,
+            first: before.streams,
+            end: before.streams + own.streams,
             out: query,
         };
-        prove!(lost.end <= worked);
         Part {
-            first: lines - later.lines,
-            end: lines - later.lines + own.lines,
+            first: before.lines,
+            end: before.lines + own.lines,
             lost,
         }
     }

@@ -10,7 +10,7 @@ use crate::adding::Added;
 use crate::numbering::Published;
 use crate::sharing::Share;
 use crate::tallying::{tally, untally};
-use automaton::{Growth, Layout, Lines, Sizes};
+use automaton::{Growth, Layout, Line, Lines, Sizes};
 use event_types::{Copied, List, Memory, Numbers};
 use expressions::Expr;
 use splitter::{Chains, Namer, add_query};
@@ -81,12 +81,12 @@ fn add_one(
 }
 
 /// How many lines there are, and hops on them.
-pub fn size_of(lines: &Lines) -> usize
+pub fn size_of(lines: &[Line]) -> usize
     requires { sum_by (λ line. 1 + length line.hops) lines.now < 2 ^ 64 }
     ensures { result ≡ sum_by (λ line. 1 + length line.hops) lines.now }
 {
     let mut size = 0;
-    for line in lines.as_slice() {
+    for line in lines {
         size += 1 + line.hops.len();
     }
     size

@@ -54,17 +54,37 @@ fn share_one(published: &Published, expr: &Expr) -> Share
     }
 }
 
-/// What the queries from a place on have together.
-pub fn share_from(shares: &List<Share>, first: usize) -> Share
-    requires within { first ≤ length shares.now }
+/// What the queries before a place have together, where all have so much: they are counted from the nearer end.
+pub fn share_before(shares: &List<Share>, place: usize, all: Share) -> Share
+    requires within { place ≤ length shares.now }
+    requires lines { all.lines ≡ sum_by (λ share. share.lines) shares.now }
+    requires streams { all.streams ≡ sum_by (λ share. share.streams) shares.now }
+    ensures lines { result.lines ≡ sum_by (λ share. share.lines) (take place shares.now) }
+    ensures streams { result.streams ≡ sum_by (λ share. share.streams) (take place shares.now) }
+{
+    let many = shares.len();
+    if place <= many / 2 {
+        return share_between(shares, 0, place);
+    }
+    let later = share_between(shares, place, many);
+    Share {
+        lines: all.lines - later.lines,
+        streams: all.streams - later.streams,
+    }
+}
+
+// What the queries from a place up to another have together.
+fn share_between(shares: &List<Share>, first: usize, end: usize) -> Share
+    requires up { first ≤ end }
+    requires within { end ≤ length shares.now }
     requires lines { sum_by (λ share. share.lines) shares.now < 2 ^ 64 }
     requires streams { sum_by (λ share. share.streams) shares.now < 2 ^ 64 }
-    ensures lines { sum_by (λ share. share.lines) (take first shares.now) + result.lines ≡ sum_by (λ share. share.lines) shares.now }
-    ensures streams { sum_by (λ share. share.streams) (take first shares.now) + result.streams ≡ sum_by (λ share. share.streams) shares.now }
+    ensures lines { sum_by (λ share. share.lines) (take first shares.now) + result.lines ≡ sum_by (λ share. share.lines) (take end shares.now) }
+    ensures streams { sum_by (λ share. share.streams) (take first shares.now) + result.streams ≡ sum_by (λ share. share.streams) (take end shares.now) }
 {
     let mut lines = 0;
     let mut streams = 0;
-    for place in first..shares.len() {
+    for place in first..end {
         let share = shares.get(place);
         lines += share.lines;
         streams += share.streams;

@@ -113,6 +113,7 @@ impl Catalogue {
             return Err(Memory);
         }
         self.next_end += told.lines.len();
+        self.size += size_of(told.lines.as_slice());
         Ok(told)
     }
 
@@ -122,7 +123,7 @@ impl Catalogue {
         ensures told { IfOk result (MayTell self.old (added_of query.now)) }
         ensures same { self.new ≡ self.old }
     {
-        if size_of(&self.chains.lines) > usize::MAX - MOST_OF_ONE {
+        if self.size > usize::MAX - MOST_OF_ONE {
             return Err(Memory);
         }
         let lined = lines_of_one(alloc, &mut self.chains.layout, &query.schema, &query.expr)?;

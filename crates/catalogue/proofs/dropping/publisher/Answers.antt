@@ -1,4 +1,4 @@
-use Rattle.std.proofs.Common.{◌≡◌, ◌∙◌, rules}
+use Rattle.std.proofs.Common.{◌∙◌, rules}
 use Rattle.std.proofs.lemmas.List.Sorted.{answers_always}
 use Rattle.catalogue.specs.declared.numbering.Published.{Published}
 use Rattle.catalogue.proofs.HalvingLemmas.{found_by_halves}

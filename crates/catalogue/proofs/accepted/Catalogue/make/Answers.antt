@@ -12,6 +12,7 @@ use Rattle.std.proofs.lemmas.List.{length-map}
 use Rattle.splitter.specs.Chains.{chain_end, lines_of}
 use Rattle.catalogue.specs.Catalogued.{Catalogued, program_in, queries_of}
 use Rattle.catalogue.specs.Sharing.{share_of}
+use Rattle.catalogue.specs.Judgement.{program_of}
 use Rattle.catalogue.specs.Loaded.{HoldsJudged, IsUnchanged}
 use Rattle.catalogue.specs.Tables.{IsHeld}
 use Rattle.catalogue.proofs.ChainedLemmas.{many_streams, streams_whole, work_room}
@@ -19,6 +20,9 @@ use Rattle.catalogue.proofs.HeldLemmas.{order_numbers, sizes}
 use Rattle.catalogue.proofs.LoadedLemmas.{from_many, loaded_holds, loaded_of, loaded_stands, loaded_unchanged, made_is, program_is, room_up}
 use Rattle.catalogue.proofs.CountedLemmas.{chain_count, lines_most}
 use Rattle.catalogue.proofs.LeftStreamsLemmas.{all_numbered}
+use Rattle.automaton.specs.declared.line.Line.{Line}
+use Rattle.catalogue.proofs.FewLemmas.{lines_few}
+use Rattle.catalogue.proofs.SizeLemmas.{size}
 use Rattle.catalogue.proofs.ShareLemmas.{published_ahead, shares_unnamed}
 use Rattle.catalogue.proofs.accepted.Catalogue.make.Goals as goal
 
@@ -127,19 +131,26 @@ share_all-requires-clause-few c =
     let stands = loaded_stands parts c.requires.accepted c.requires.typed c.in_ok-chains.chains.layout c.in_ok-chains.ensures.layout there in
     omega (arith, chain_count loaded.streams loaded.published c.args.expressions (stands.publish ∙ sym stands.express), lines_most (lines_of (program_in loaded)), stands.few)
 
+-- its lines and the hops on them are few
+pub size_of-size-requires : goal.size_of-size-requires
+size_of-size-requires c =
+    let is : c.as_slice-2.result.now ≡ lines_of (program_of (judged_of (parts_of c.args.file c.args.streams c.args.order c.args.expressions))) = c.as_slice-2.ensures ∙ c.in_ok-chains.ensures.lines in
+    subst (λ (lines : List Line). size lines < 2 ^ 64) (sym is) (lines_few (parts_of c.args.file c.args.streams c.args.order c.args.expressions) c.requires.accepted)
+
 -- so it stands in order
 pub invariant_of-result : goal.invariant_of-result
 invariant_of-result c =
     let parts = parts_of c.args.file c.args.streams c.args.order c.args.expressions in
     let layout = c.in_ok-chains.chains.layout in
     let there : AreThere (parts.declared ++ parts.published) = subst AreThere (sym (streams_whole (length c.args.file.statements - length c.args.order) c.args.streams)) c.requires.there in
-    subst (λ (v : Catalogued). IsHeld v c.in_ok-places.places c.in_ok-chains.chains.lines c.in_ok-shares.shares c.in_ok-reads.reads) (sym (made_loaded c)) (record {
+    let held = subst (λ (v : Catalogued). IsHeld v c.in_ok-places.places c.in_ok-chains.chains.lines c.in_ok-shares.shares c.in_ok-reads.reads) (sym (made_loaded c)) (record {
       stands = loaded_stands parts c.requires.accepted c.requires.typed layout c.in_ok-chains.ensures.layout there;
       placed = c.in_ok-places.ensures;
       lines_are = c.in_ok-chains.ensures.lines ∙ ap lines_of (sym (program_is parts c.requires.accepted c.requires.typed layout c.in_ok-chains.ensures.layout));
       shared = c.in_ok-shares.ensures ∙ shares_unnamed [] (loaded c).streams c.in_ok-published.published c.args.expressions ∙ ap (λ (v : Catalogued). map share_of (queries_of (loaded c).streams v.published v.expressions)) (made_loaded c);
       tallied = c.in_ok-reads.ensures;
-    })
+    }) in
+    record { held = held; owned = λ place up within. absurd (omega (arith, up, within, c.len-own.ensures)); sized = c.size_of-size.ensures ∙ ap size c.as_slice-2.ensures }
 
 -- holds what the text is judged to be
 pub returns-clause-holds : goal.returns-clause-holds

@@ -19,4 +19,4 @@ lines_of_one-requires c =
       layout = c.self.inside.chains.layout;
     } in
     let fit : IsFit view.streams (added_of c.args.query.now) = subst (λ (v : Catalogued). IsFit v.streams (added_of c.args.query.now)) (sym c.self.view_is) c.requires in
-    may_grow view c.self.invariant.stands (added_of c.args.query.now) fit
+    may_grow view c.self.invariant.held.stands (added_of c.args.query.now) fit

@@ -1,6 +1,6 @@
 use Rattle.std.proofs.Common.{◌≡◌, ◌+◌, take}
 use Rattle.std.specs.Prelude.{sum_by}
-use Rattle.catalogue.proofs.sharing.share_from.Given as goal
+use Rattle.catalogue.proofs.sharing.share_between.Given as goal
 
 -- the lines and the streams so far
 abbrev pub invariant-loop-place : goal.invariant-loop-place

@@ -1,10 +1,9 @@
 use Rattle.std.proofs.Common.{◌≡◌, ◌∙◌, ◌+◌, ◌<◌, ◌≤◌, ℕ, List, length, get_or, take, ap, subst, arith}
 use Rattle.std.specs.Prelude.{sum_by}
-use Rattle.std.proofs.lemmas.List.{take_all}
 use Rattle.std.proofs.lemmas.List.Sums.{sum_by_more, sum_by_more_le}
 use Rattle.std.proofs.lemmas.Option.{get_or_from_slice_get}
 use Rattle.catalogue.specs.declared.sharing.Share.{Share}
-use Rattle.catalogue.proofs.sharing.share_from.Goals as goal
+use Rattle.catalogue.proofs.sharing.share_between.Goals as goal
 
 module _ (c : goal.After-get-share) where
   abbrev shares : List Share
@@ -14,7 +13,7 @@ module _ (c : goal.After-get-share) where
   here = get_or_from_slice_get shares c.loop-place.place c.get-share.result.now c.get-share.result.now c.get-share.ensures
 
   inside : c.loop-place.place < length shares
-  inside = omega (arith, c.loop-place-test.true, c.len-place-end.ensures)
+  inside = omega (arith, c.loop-place-test.true, c.requires.within)
 
   most : (f : Share → ℕ) → sum_by f (take c.loop-place.place shares) + f c.get-share.result.now ≤ sum_by f shares
   most f = subst (λ (s : Share). sum_by f (take c.loop-place.place shares) + f s ≤ sum_by f shares) here (sum_by_more_le f shares c.loop-place.place c.get-share.result.now inside)
@@ -31,12 +30,3 @@ overflow_add-streams c = omega (arith, most c (λ share. share.streams), c.loop-
 
 pub loop-place-preserved : goal.loop-place-preserved
 loop-place-preserved c = (omega (arith, c.loop-place.invariant.0, more c (λ share. share.lines)), omega (arith, c.loop-place.invariant.1, more c (λ share. share.streams)))
-
--- up to the last query
-pub returns-clause-lines : goal.returns-clause-lines
-returns-clause-lines c =
-    c.loop-place.invariant.0 ∙ ap (sum_by (λ (share : Share). share.lines)) (take_all c.loop-place.place c.args.shares.now (omega (arith, c.loop-place-test.false, c.len-place-end.ensures)))
-
-pub returns-clause-streams : goal.returns-clause-streams
-returns-clause-streams c =
-    c.loop-place.invariant.1 ∙ ap (sum_by (λ (share : Share). share.streams)) (take_all c.loop-place.place c.args.shares.now (omega (arith, c.loop-place-test.false, c.len-place-end.ensures)))
