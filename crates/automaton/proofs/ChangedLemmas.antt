@@ -1,5 +1,5 @@
 -- Networks that changed, as the code has them.
-use Rattle.std.proofs.Common.{◌≡◌, ◌⊎◌, ◌∙◌, sym, ap, refl, subst, inl, inr, ℕ, ◌+◌, ◌-◌, ◌<◌, ◌≤◌, max, true, false, get_or, length, set, take, [], arith}
+use Rattle.std.proofs.Common.{◌≡◌, ◌⊎◌, ◌∙◌, sym, ap, refl, subst, inl, inr, ℕ, ◌+◌, ◌-◌, ◌<◌, ◌≤◌, ◌==◌, max, true, false, get_or, length, set, take, [], arith}
 use Rattle.std.specs.Prelude.{Option, Some, None, Result, Ok, Err, OnOk, OnErr, IfSome, is_some, count_by}
 use Rattle.std.proofs.lemmas.List.{length-set, set-get_or}
 use Rattle.automaton.specs.declared.line.Hop.{Hop}
@@ -11,7 +11,7 @@ use Rattle.automaton.specs.Growing.{edged, placed, unedged}
 use Rattle.automaton.specs.Networks.{IsNetwork}
 use Rattle.automaton.specs.States.{Net, before_at, edges_at, edges_in, entrance_in, is_used, state_at, tells}
 use Rattle.automaton.proofs.ChangeLemmas.{adds_end_network, adds_hop_network, adds_root_network, network_alike, removes_end_network}
-use Rattle.automaton.proofs.ClearedLemmas.{before_used, none_entered, removes_state_network, told_not}
+use Rattle.automaton.proofs.ClearedLemmas.{before_used, none_entered, removes_state_network, told_not, told_so}
 use Rattle.automaton.proofs.CountLemmas.{count-set}
 use Rattle.automaton.proofs.GrowingLemmas.{same_read}
 use Rattle.event_types.proofs.NumberLemmas.{other_number}
@@ -134,6 +134,11 @@ module _ (number : ℕ) (slots : Net) (used : is_used slots number ≡ true) (la
   pub from_below : (before : Option ℕ) → before ≡ before_at slots number → IfSome before (λ from. from < length slots)
   from_below None from = tt
   from_below (Some before) from = used_below slots before (before_used slots is number before (sym from))
+
+  -- one edge leads there from it
+  pub from_one : (before : Option ℕ) → before ≡ before_at slots number → IfSome before (λ from. count_by (λ edge. edge == number) (edges_at slots from) ≡ 1)
+  from_one None from = tt
+  from_one (Some before) from = is.edges before number ∙ told_so before (before_at slots number) (sym from)
 
   edge_stays : (slot : Option State) → is_some (without_edge number slot) ≡ is_some slot
   edge_stays None = refl

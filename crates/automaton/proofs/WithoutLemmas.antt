@@ -1,12 +1,12 @@
 -- Lists without the items that fail a test.
-use Rattle.std.proofs.Common.{◌≡◌, ◌∙◌, sym, ap, refl, subst, ℕ, suc, ◌+◌, ◌≤◌, ◌==◌, Bool, true, false, not, cond, length, take, drop, add-one, List, [], ◌∷◌, ◌++◌, append_assoc, append-nil, arith}
+use Rattle.std.proofs.Common.{◌≡◌, ◌∙◌, sym, ap, refl, subst, ℕ, zero, suc, ◌+◌, ◌≤◌, ◌==◌, Bool, true, false, not, cond, length, take, drop, add-one, List, [], ◌∷◌, ◌++◌, append_assoc, append-nil, arith}
 use Rattle.std.specs.Prelude.{Some, count_by, slice_get}
 use Rattle.std.specs.List.{filter, remove}
 use Rattle.std.proofs.Math.Seq.{drop-cons}
 use Rattle.std.proofs.lemmas.List.{drop_all, length-append, length-take, take_all}
 use Rattle.std.proofs.lemmas.List.{take-append-le, drop-append-le}
 use Rattle.std.proofs.lemmas.Option.{get_or_from_slice_get, slice_get_within}
-use Rattle.automaton.proofs.CountLemmas.{bit, count-cons}
+use Rattle.automaton.proofs.CountLemmas.{bit, count-cons, count-has}
 use Rattle.automaton.proofs.EqualityLemmas.{take_read}
 use Rattle.event_types.proofs.NumberLemmas.{is_other, is_same, same_number}
 
@@ -91,3 +91,36 @@ count-gone number (x ∷ xs) = go (count-gone number xs) (x == number) refl
         let counted = count-cons (λ y. y == number) x (filter (λ y. not (y == number)) xs) in
         let zero' : bit (x == number) ≡ 0 = ap bit is in
         omega (arith, rest)
+
+module _ {X : Type 0} (is : X → Bool) where
+  -- where none is it, none is taken out
+  without_none : (xs : List X) → count_by is xs ≡ 0 → filter (λ x. not (is x)) xs ≡ xs
+  without_none [] none = refl
+  without_none (x ∷ xs) none = go (is x) (sym (count-cons is x xs) ∙ none) (without_none xs)
+    where
+      go : (b : Bool) → bit b + count_by is xs ≡ 0 → (count_by is xs ≡ 0 → filter (λ y. not (is y)) xs ≡ xs) → cond (not b) (x ∷ filter (λ y. not (is y)) xs) (filter (λ y. not (is y)) xs) ≡ x ∷ xs
+      go true none more = absurd (omega (arith, none))
+      go false none more = ap (λ ys. x ∷ ys) (more (omega (arith, none)))
+
+  -- what stands at a place and is it counts
+  counts : (xs : List X) (place : ℕ) (y : X) → slice_get xs place ≡ Some y → is y ≡ true → 1 ≤ count_by is xs
+  counts xs place y at passes = count-has is xs place y (slice_get_within xs place y at) (ap is (get_or_from_slice_get xs place y y at) ∙ passes)
+
+  -- the only one is taken out where it stands, by induction on the items
+  pub without_only : (xs : List X) (place : ℕ) (y : X) → count_by is xs ≡ 1 → slice_get xs place ≡ Some y → is y ≡ true → remove xs place ≡ filter (λ x. not (is x)) xs
+  without_only [] place y one at passes = absurd (cc)
+  without_only (x ∷ xs) zero y one at passes =
+      let same : x ≡ y = cc in
+      let here : is x ≡ true = ap is same ∙ passes in
+      let counted : bit (is x) + count_by is xs ≡ 1 = sym (count-cons is x xs) ∙ one in
+      let rest : 1 + count_by is xs ≡ 1 = ap (λ b. bit b + count_by is xs) (sym here) ∙ counted in
+      sym (ap (λ b. cond (not b) (x ∷ filter (λ z. not (is z)) xs) (filter (λ z. not (is z)) xs)) here ∙ without_none xs (omega (arith, rest)))
+  without_only (x ∷ xs) (suc place) y one at passes = go (is x) (sym (count-cons is x xs) ∙ one) (without_only xs place y)
+    where
+      has : 1 ≤ count_by is xs
+      has = counts xs place y at passes
+
+      go : (b : Bool) → bit b + count_by is xs ≡ 1 → (count_by is xs ≡ 1 → slice_get xs place ≡ Some y → is y ≡ true → remove xs place ≡ filter (λ z. not (is z)) xs)
+          → x ∷ remove xs place ≡ cond (not b) (x ∷ filter (λ z. not (is z)) xs) (filter (λ z. not (is z)) xs)
+      go true counted more = absurd (let one_more = counted in omega (arith, has, one_more))
+      go false counted more = ap (λ zs. x ∷ zs) (more (omega (arith, counted)) at passes)

@@ -1,8 +1,8 @@
 //! Networks that grow and shrink by a state, an edge or an end.
-ghost use Rattle.std.specs.Prelude.{◌≡◌, ◌<◌, ◌≤◌, ◌-◌, ◌↔◌, [], IfSome, IsTrue, OnErr, OnOk, Some, false, length, take};
+ghost use Rattle.std.specs.Prelude.{◌≡◌, ◌<◌, ◌≤◌, ◌-◌, ◌==◌, ◌↔◌, [], IfSome, IsTrue, OnErr, OnOk, Some, count_by, false, length, take};
 ghost use Rattle.automaton.specs.Changes.{AddsEnd, AddsHop, AddsRoot, RemovesEnd, RemovesState, without_edge, without_end, without_number, without_numbered};
 ghost use Rattle.automaton.specs.Growing.{edged, placed, unedged, without_last};
-ghost use Rattle.automaton.specs.States.{Net, before_at, edges_at, entrance_at, entrance_in, is_used};
+ghost use Rattle.automaton.specs.States.{Net, before_at, edges_at, edges_in, ends_at, ends_in, entrance_at, entrance_in, is_used};
 ghost use Rattle.automaton.specs.declared.network.Entrance.TheVariants.{Waiting};
 
 use super::{End, Ends, Entrance, Network, State};
@@ -87,9 +87,10 @@ impl Network {
         put_end(&mut self.slots[state], end)
     }
 
-    /// The ends of this number leave a state. Takes no memory.
+    /// The only end of this number leaves a state. Takes no memory.
     pub fn remove_end(&mut self, state: usize, number: usize)
-        requires { IsTrue (is_used self.old state) }
+        requires used { IsTrue (is_used self.old state) }
+        requires one { count_by (λ end. end.number == number) (ends_at self.old state) ≡ 1 }
         ensures { RemovesEnd state number self.old self.new }
     {
         drop_end(&mut self.slots[state], number);
@@ -178,7 +179,8 @@ fn cut_edge(slot: &mut Option<State>)
 
 // Takes the forward edge to a state away, where one leads there.
 fn drop_edge(slots: &mut Vec<Option<State>>, before: Option<usize>, next: usize)
-    requires { IfSome before (λ from. from < length slots.old.items) }
+    requires below { IfSome before (λ from. from < length slots.old.items) }
+    requires one { IfSome before (λ from. count_by (λ edge. edge == next) (edges_at slots.old.items from) ≡ 1) }
     ensures { slots.new.items ≡ unedged before next slots.old.items }
 {
     if let Some(from) = before {
@@ -186,8 +188,9 @@ fn drop_edge(slots: &mut Vec<Option<State>>, before: Option<usize>, next: usize)
     }
 }
 
-// Takes the forward edge to a state away.
+// Takes the only forward edge to a state away.
 fn cut_edges(slot: &mut Option<State>, next: usize)
+    requires { count_by (λ edge. edge == next) (edges_in slot.old) ≡ 1 }
     ensures { slot.new ≡ without_edge next slot.old }
 {
     if let Some(state) = slot {
@@ -195,8 +198,9 @@ fn cut_edges(slot: &mut Option<State>, next: usize)
     }
 }
 
-// Takes the end of this number away.
+// Takes the only end of this number away.
 fn drop_end(slot: &mut Option<State>, number: usize)
+    requires { count_by (λ end. end.number == number) (ends_in slot.old) ≡ 1 }
     ensures { slot.new ≡ without_end number slot.old }
 {
     if let Some(state) = slot {
@@ -204,8 +208,34 @@ fn drop_end(slot: &mut Option<State>, number: usize)
     }
 }
 
-// Takes a number out.
+// Takes the only one of this number out. It is found by halving where the numbers rise.
 fn drop_number(numbers: &mut Numbers, number: usize)
+    requires { count_by (λ other. other == number) numbers.old ≡ 1 }
+    ensures { numbers.new ≡ without_number number numbers.old }
+{
+    let place = numbers.as_slice().partition_point(|other| *other < number);
+    if place < numbers.len() && *numbers.get(place) == number {
+        numbers.remove(place);
+    } else {
+        scan_number(numbers, number);
+    }
+}
+
+// Takes the only end of this number out. It is found by halving where the numbers rise.
+fn drop_numbered(ends: &mut Ends, number: usize)
+    requires { count_by (λ end. end.number == number) ends.old ≡ 1 }
+    ensures { ends.new ≡ without_numbered number ends.old }
+{
+    let place = ends.as_slice().partition_point(|end| end.number < number);
+    if place < ends.len() && ends.get(place).number == number {
+        ends.remove(place);
+    } else {
+        scan_numbered(ends, number);
+    }
+}
+
+// Takes a number out, wherever it stands.
+fn scan_number(numbers: &mut Numbers, number: usize)
     ensures { numbers.new ≡ without_number number numbers.old }
 {
     let mut place = 0;
@@ -218,8 +248,8 @@ fn drop_number(numbers: &mut Numbers, number: usize)
     }
 }
 
-// Takes the ends of this number out.
-fn drop_numbered(ends: &mut Ends, number: usize)
+// Takes the ends of this number out, wherever they stand.
+fn scan_numbered(ends: &mut Ends, number: usize)
     ensures { ends.new ≡ without_numbered number ends.old }
 {
     let mut place = 0;

@@ -1,15 +1,22 @@
 use Rattle.std.proofs.Common.{◌≡◌, ◌∙◌, ◌-◌, IsTrue, [], None, ap, set, subst, sym}
 use Rattle.automaton.specs.Changes.{RemovesState}
 use Rattle.automaton.specs.States.{Net, before_at, edges_at, is_used}
-use Rattle.automaton.proofs.ChangedLemmas.{Holds, from_below, state_left, state_removed}
+use Rattle.automaton.proofs.ChangedLemmas.{Holds, from_below, from_one, state_left, state_removed}
 use Rattle.automaton.proofs.network.Network.remove_state.Goals as goal
 
 -- the state before it is there
-pub drop_edge-requires : goal.drop_edge-requires
-drop_edge-requires c =
+pub drop_edge-requires-clause-below : goal.drop_edge-requires-clause-below
+drop_edge-requires-clause-below c =
     let used = subst (λ (net : Net). IsTrue (is_used net c.args.number)) (sym c.self.view_is) c.requires.used in
     let last = subst (λ (net : Net). edges_at net c.args.number ≡ []) (sym c.self.view_is) c.requires.last in
     from_below c.args.number c.self.inside.slots.items used last c.self.invariant.2 c.before-before.result (c.before-before.ensures ∙ ap (λ (net : Net). before_at net c.args.number) (sym c.self.view_is))
+
+-- and one edge leads from there
+pub drop_edge-requires-clause-one : goal.drop_edge-requires-clause-one
+drop_edge-requires-clause-one c =
+    let used = subst (λ (net : Net). IsTrue (is_used net c.args.number)) (sym c.self.view_is) c.requires.used in
+    let last = subst (λ (net : Net). edges_at net c.args.number ≡ []) (sym c.self.view_is) c.requires.last in
+    from_one c.args.number c.self.inside.slots.items used last c.self.invariant.2 c.before-before.result (c.before-before.ensures ∙ ap (λ (net : Net). before_at net c.args.number) (sym c.self.view_is))
 
 -- the state leaves
 pub invariant_of-self : goal.invariant_of-self

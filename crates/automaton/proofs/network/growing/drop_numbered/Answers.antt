@@ -1,11 +1,10 @@
-use Rattle.automaton.proofs.WithoutLemmas.{is_dropped, is_kept, kept_more, kept_without}
+use Rattle.std.proofs.Common.{◌==◌, ◌∙◌}
+use Rattle.event_types.proofs.NumberLemmas.{is_same}
+use Rattle.automaton.specs.declared.network.End.{End}
+use Rattle.automaton.proofs.WithoutLemmas.{without_only}
 use Rattle.automaton.proofs.network.growing.drop_numbered.Goals as goal
 
--- the end is taken out
-pub loop-place-preserved-then-get-number : goal.loop-place-preserved-then-get-number
-loop-place-preserved-then-get-number c =
-    kept_without _ c.args.ends.now c.loop-place.ends c.remove.new.self c.loop-place.place c.get.result.now c.get.ensures (is_dropped c.get.result.now.number c.args.number c.if-get-number.true) c.remove.ensures.others c.loop-place.invariant
-
--- another is kept
-pub loop-place-preserved : goal.loop-place-preserved
-loop-place-preserved c = kept_more _ c.args.ends.now c.loop-place.ends c.loop-place.place c.get.result.now c.get.ensures (is_kept c.get.result.now.number c.args.number c.if-get-number.false) c.loop-place.invariant
+-- the end stands where halving leads
+pub returns-then-get-number : goal.returns-then-get-number
+returns-then-get-number c =
+    c.remove.ensures.others ∙ without_only (λ (end : End). end.number == c.args.number) c.args.ends.now c.partition_point-place.result c.get.result.now c.requires c.get.ensures (is_same c.get.result.now.number c.args.number c.if-get-number.true)

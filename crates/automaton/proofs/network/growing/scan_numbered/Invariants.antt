@@ -1,7 +1,7 @@
 use Rattle.std.proofs.Common.{◌-◌, ◌==◌, length, not}
 use Rattle.automaton.specs.declared.network.End.{End}
 use Rattle.automaton.proofs.WithoutLemmas.{IsKept}
-use Rattle.automaton.proofs.network.growing.drop_numbered.Given as goal
+use Rattle.automaton.proofs.network.growing.scan_numbered.Given as goal
 
 -- the ends so far are kept or taken out
 abbrev pub invariant-loop-place : goal.invariant-loop-place

@@ -1,6 +1,6 @@
 use Rattle.std.proofs.Common.{◌-◌, ◌==◌, length, not}
 use Rattle.automaton.proofs.WithoutLemmas.{IsKept}
-use Rattle.automaton.proofs.network.growing.drop_number.Given as goal
+use Rattle.automaton.proofs.network.growing.scan_number.Given as goal
 
 -- the numbers so far are kept or taken out
 abbrev pub invariant-loop-place : goal.invariant-loop-place
