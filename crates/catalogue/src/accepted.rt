@@ -9,6 +9,7 @@ ghost use Rattle.catalogue.specs.Loaded.{HoldsJudged, IsUnchanged};
 ghost use Rattle.catalogue.specs.Parts.{IsAccepted, parts_of, judged_of};
 ghost use Rattle.catalogue.specs.Standing.{IsLayoutOver, StandsInOrder};
 
+use crate::boxes::Boxes;
 use crate::growing::size_of;
 use crate::numbering::{Published, hide_up_to, number_all, numbers_below};
 use crate::placing::{chains_of, places_in};
@@ -35,8 +36,8 @@ pub struct Catalogue {
     // The numbers of the queries in the order of work.
     pub(crate) order: Numbers,
     // In the order of work.
-    pub(crate) published: List<Published>,
-    pub(crate) expressions: List<Expr>,
+    pub(crate) published: Boxes<Published>,
+    pub(crate) expressions: Boxes<Expr>,
     // In the order of work.
     pub(crate) shares: List<Share>,
     // For each query by its number its place in the order of work.
@@ -98,6 +99,8 @@ impl Catalogue {
         hide_up_to(&mut streams, file.size(), chains.layout.kinds.len())?;
         let shares = share_all(alloc, &published, &expressions)?;
         let reads = tally_all(alloc, &expressions)?;
+        let published = Boxes::of(alloc, published)?;
+        let expressions = Boxes::of(alloc, expressions)?;
         let ends = numbers_below(alloc, chains.lines.len())?;
         let own = order.len();
         let next_end = ends.len();

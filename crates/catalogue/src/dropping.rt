@@ -7,6 +7,7 @@ ghost use Rattle.catalogue.specs.Leaving.{HasName, IsFirstNamed, HasNoQuery, IsF
 ghost use Rattle.catalogue.specs.Part.{IsPart};
 
 use crate::accepted::Catalogue;
+use crate::boxes::Boxes;
 use crate::counting::does_read;
 use crate::fault::DropFault;
 use crate::growing::size_of;
@@ -101,7 +102,7 @@ impl Catalogue {
     {
         match self.streams.find(name) {
             None => None,
-            Some(stream) => match publisher(self.published.as_slice(), stream) {
+            Some(stream) => match publisher(&self.published, stream) {
                 None => None,
                 Some(place) => Some(*self.order.get(place)),
             },
@@ -170,11 +171,12 @@ impl Catalogue {
 }
 
 // The place of the query that publishes the stream, by halves: later queries publish greater ones.
-fn publisher(published: &[Published], stream: StreamId) -> Option<usize>
+fn publisher(published: &Boxes<Published>, stream: StreamId) -> Option<usize>
     requires { AllPairs (λ earlier later. earlier.stream < later.stream) published.now }
     ensures { result ≡ position (λ query. query.stream == stream) published.now }
 {
     published
+        .as_slice()
         .binary_search_by_key(&stream, |query| query.stream)
         .ok()
 }

@@ -7,6 +7,7 @@ ghost use Rattle.catalogue.specs.Fitting.{HasGrown, IsGrown, MayGrow, first_of, 
 ghost use Rattle.catalogue.specs.Tallies.{AddsReads, StayTallied};
 
 use crate::adding::Added;
+use crate::boxes::Boxes;
 use crate::numbering::Published;
 use crate::sharing::Share;
 use crate::tallying::{tally, untally};
@@ -198,8 +199,8 @@ fn put_each_end(ends: &mut Numbers, more: &Numbers) -> Result<(), Memory>
 pub fn put_query(
     order: &mut Numbers,
     places: &mut Numbers,
-    published: &mut List<Published>,
-    expressions: &mut List<Expr>,
+    published: &mut Boxes<Published>,
+    expressions: &mut Boxes<Expr>,
     publication: Published,
     expr: Expr,
 ) -> Result<(), Memory>

@@ -8,6 +8,7 @@
 mod accepted;
 mod adding;
 mod arranging;
+mod boxes;
 mod counting;
 mod declaring;
 mod dropping;

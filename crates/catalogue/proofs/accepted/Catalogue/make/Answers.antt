@@ -76,7 +76,7 @@ module _ (c : goal.After-len-next_end) where
   abbrev loaded : Catalogued
   loaded = loaded_of (parts_of c.args.file c.args.streams c.args.order c.args.expressions) c.requires.accepted c.requires.typed c.in_ok-chains.chains.layout c.in_ok-chains.ensures.layout
 
-  made_loaded : (record {
+  lists_loaded : (record {
     file = c.args.file;
     declared = c.size.result - c.len.result;
     streams = c.hide_up_to.new.streams;
@@ -87,11 +87,37 @@ module _ (c : goal.After-len-next_end) where
     next_end = c.len-next_end.result;
     layout = c.in_ok-chains.chains.layout;
   }) ≡ loaded
-  made_loaded =
+  lists_loaded =
       let size : c.size.result ≡ length c.args.file.statements = c.size.ensures.value in
       let queries : c.len.result ≡ length c.args.order = c.len.ensures in
       made_is c.args.file c.args.streams c.args.order c.args.expressions c.requires.accepted c.requires.typed c.in_ok-chains.chains c.in_ok-chains.ensures (c.size.result - c.len.result) c.size-2.result c.len-2.result c.len-3.result c.len-next_end.result
       c.hide_up_to.new.streams c.in_ok-published.published c.in_ok-ends.ends (omega (arith, size, queries)) c.size-2.ensures.value c.len-2.ensures c.len-3.ensures c.in_ok-hide_up_to.ensures c.in_ok-published.ensures c.in_ok-ends.ensures c.len-next_end.ensures
+
+  -- also with its lists in boxes
+  made_loaded : (record {
+    file = c.args.file;
+    declared = c.size.result - c.len.result;
+    streams = c.hide_up_to.new.streams;
+    order = c.args.order;
+    published = c.in_ok-published-2.published;
+    expressions = c.in_ok-expressions.expressions;
+    ends = c.in_ok-ends.ends;
+    next_end = c.len-next_end.result;
+    layout = c.in_ok-chains.chains.layout;
+  }) ≡ loaded
+  made_loaded =
+      (λ i. record {
+        file = c.args.file;
+        declared = c.size.result - c.len.result;
+        streams = c.hide_up_to.new.streams;
+        order = c.args.order;
+        published = c.in_ok-published-2.ensures i;
+        expressions = c.in_ok-expressions.ensures i;
+        ends = c.in_ok-ends.ends;
+        next_end = c.len-next_end.result;
+        layout = c.in_ok-chains.chains.layout;
+      })
+      ∙ lists_loaded
 
 -- each query has what it publishes
 pub share_all-requires-clause-typed : goal.share_all-requires-clause-typed
@@ -147,7 +173,7 @@ invariant_of-result c =
       stands = loaded_stands parts c.requires.accepted c.requires.typed layout c.in_ok-chains.ensures.layout there;
       placed = c.in_ok-places.ensures;
       lines_are = c.in_ok-chains.ensures.lines ∙ ap lines_of (sym (program_is parts c.requires.accepted c.requires.typed layout c.in_ok-chains.ensures.layout));
-      shared = c.in_ok-shares.ensures ∙ shares_unnamed [] (loaded c).streams c.in_ok-published.published c.args.expressions ∙ ap (λ (v : Catalogued). map share_of (queries_of (loaded c).streams v.published v.expressions)) (made_loaded c);
+      shared = c.in_ok-shares.ensures ∙ shares_unnamed [] (loaded c).streams c.in_ok-published.published c.args.expressions ∙ ap (λ (v : Catalogued). map share_of (queries_of (loaded c).streams v.published v.expressions)) (lists_loaded c);
       tallied = c.in_ok-reads.ensures;
     }) in
     record { held = held; owned = λ place up within. absurd (omega (arith, up, within, c.len-own.ensures)); sized = c.size_of-size.ensures ∙ ap size c.as_slice-2.ensures }
