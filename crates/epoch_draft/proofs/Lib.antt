@@ -22,7 +22,7 @@ pub mod MeetLemmas
 pub mod Moves
 pub mod OrderLemmas
 pub mod PairLemmas
-pub mod PlaceLemmas
+pub mod PlacesLemmas
 pub mod Pairs
 pub mod PurgeLemmas
 pub mod ReadyLemmas
@@ -33,6 +33,7 @@ pub mod StoreLemmas
 pub mod SuitLemmas
 pub mod SumLemmas
 pub mod TakeLemmas
+pub mod ToldLemmas
 pub mod TypedLemmas
 pub mod TypingLemmas
 pub mod UnreadLemmas

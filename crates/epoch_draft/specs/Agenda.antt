@@ -5,6 +5,7 @@ use Rattle.std.specs.List.{All}
 use Rattle.automaton.specs.States.{Net, entrance_at}
 use Rattle.automaton.specs.declared.network.Entrance.{Entrance}
 use Rattle.automaton.specs.declared.network.Entrance.TheVariants.{Root, Waiting}
+use Rattle.epoch_draft.specs.Places.{AreArranged}
 use Rattle.epoch_draft.specs.declared.stream_places.StreamPlaces.{StreamPlaces}
 
 -- the stream that is read by a state that is entered so: at a root its own, at a waiting state the one on which it waits
@@ -29,14 +30,6 @@ pub record StayTold (old new : List Bool) : Type 0 where
 pub record AreTold (net : Net) (states : List ℕ) (old new : List Bool) : Type 0 where
   pub stay : StayTold old new
   pub told : (state stream : ℕ) → Contains states state → read_at net state ≡ Some stream → stream < length new → slice_index_or new stream false ≡ true
-
--- each stream at one of the first so many places of a list has its place there
-abbrev pub AreArrangedUpTo : ℕ → List ℕ → List ℕ → Type 0
-AreArrangedUpTo end order places = (place : ℕ) → place < end → place < length order → slice_index_or places (slice_index_or order place 0) 0 ≡ place
-
--- each stream of a list has its place there
-abbrev pub AreArranged : List ℕ → List ℕ → Type 0
-AreArranged order places = (place : ℕ) → place < length order → slice_index_or places (slice_index_or order place 0) 0 ≡ place
 
 -- there is room for so many streams at least, those of the order have their places, and of so many streams no state reads those that aren't told as read
 pub record ArePlaces (net : Net) (order : List ℕ) (streams : ℕ) (places : StreamPlaces) : Type 0 where

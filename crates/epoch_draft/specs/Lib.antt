@@ -19,6 +19,7 @@ pub mod Marks
 pub mod Meeting
 pub mod Moves
 pub mod Pairs
+pub mod Places
 pub mod Purging
 pub mod Readying
 pub mod Settling

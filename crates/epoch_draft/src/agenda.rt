@@ -54,7 +54,7 @@ fn plan_each(
         if !*places.read.get(*stream) {
             continue;
         }
-        let place = *places.places.get(*stream);
+        let place = places.places.place(*stream);
         if place < start || place >= end {
             continue;
         }

@@ -6,12 +6,12 @@
 //!
 //! `draw` reads a `StoredNetwork` and changes a `Drawing` alone, and the count of steps; `settle` goes by a `ClosingEpoch`.
 //!
-//! Contracts see a `Made` as the list of the streams' lists of tuples, and each other public type as its fields. A
-//! `Drawing` is a `Draft`, its pairs, and lists that are used anew. A `Draft` is the tuples made for each derived
-//! stream, the beads made for each state as a list of instances, and the `Marks` of the streams and the states that have
-//! some. `Marks` are flags by number and the numbers whose flags are up, each once. A `Pair` is the number of a waiting
-//! state and a tuple by its stream and its place there. A `PlacedTuples` shows what a `Made` keeps: tuples, and for each
-//! stream the places of its own.
+//! Contracts see a `Made` as the list of the streams' lists of tuples, `Places` as the list of the places by stream, and
+//! each other public type as its fields. A `Drawing` is a `Draft`, its pairs, and lists that are used anew. A `Draft` is
+//! the tuples made for each derived stream, the beads made for each state as a list of instances, and the `Marks` of the
+//! streams and the states that have some. `Marks` are flags by number and the numbers whose flags are up, each once. A
+//! `Pair` is the number of a waiting state and a tuple by its stream and its place there. A `PlacedTuples` shows what a
+//! `Made` keeps: tuples, and for each stream the places of its own.
 //!
 //! Each half states a bound on its tests of conditions, whatever it answers. Both together test no more than
 //! `epoch_work` says of the tuples of the epoch.
@@ -29,6 +29,7 @@ mod marks;
 mod matching;
 mod meeting;
 mod passing;
+mod places;
 mod placing;
 mod purging;
 mod readying;
@@ -46,6 +47,7 @@ pub use filling::{lengthen, lengthen_lists};
 pub use made::{Made, PlacedTuples};
 pub use making::draw;
 pub use marks::Marks;
+pub use places::Places;
 pub use purging::purge_all;
 pub use readying::make_room;
 pub use settling::{ClosingEpoch, settle};

@@ -1,19 +1,21 @@
 //! The places of streams in the order of work.
-ghost use Rattle.std.specs.Prelude.{◌≡◌, ◌<◌, ◌≤◌, ℕ, false, true, Contains, IfOk, OnOk, Some, length, slice_index_or, take};
+ghost use Rattle.std.specs.Prelude.{◌≡◌, ◌<◌, ◌≤◌, ℕ, false, true, IfOk, OnOk, Some, length, slice_index_or};
 ghost use Rattle.std.specs.List.{All};
-ghost use Rattle.epoch_draft.specs.Agenda.{AreArranged, AreArrangedUpTo, ArePlaces, AreTold, StayTold, read_at};
+ghost use Rattle.epoch_draft.specs.Agenda.{ArePlaces, AreTold, StayTold, read_at};
 ghost use Rattle.epoch_draft.specs.Filling.{IsLengthened};
+ghost use Rattle.epoch_draft.specs.Places.{StandOnce};
 
 use crate::filling::lengthen;
+use crate::places::Places;
 use automaton::Network;
-use event_types::{List, Memory, Numbers, StreamId};
+use event_types::{List, Memory, StreamId};
 use std::alloc::Global;
 
 /// By the stream's number its place in the order of work, counted from 0, and whether a state reads it. A stream that
 /// isn't of the order may have any place, and one that no state reads any more may still be told as read.
 #[derive(Drop)]
 pub struct StreamPlaces {
-    pub places: Numbers,
+    pub places: Places,
     pub read: List<bool>,
 }
 
@@ -26,15 +28,15 @@ impl StreamPlaces {
         streams: usize,
     ) -> Result<StreamPlaces, Memory>
         requires below { All (λ stream. stream < streams) order.now }
-        requires once { (place : ℕ) → place < length order.now → Contains (take place order.now) (slice_index_or order.now place 0) → ⊥ }
+        requires once { StandOnce order.now }
         ensures { IfOk result (ArePlaces network.now order.now streams) }
     {
         let mut places = StreamPlaces {
-            places: List::new(alloc),
+            places: Places::new(alloc),
             read: List::new(alloc),
         };
         places.grow(streams)?;
-        places.arrange(order, 0);
+        places.places.arrange(order, 0);
         for state in 0..network.places() {
             places.tell_of(network, state);
         }
@@ -49,22 +51,8 @@ impl StreamPlaces {
         ensures many_places { OnOk result (streams ≤ length self.new.places) }
         ensures many_read { OnOk result (streams ≤ length self.new.read) }
     {
-        lengthen(&mut self.places, streams, 0)?;
+        self.places.grow(streams)?;
         lengthen(&mut self.read, streams, false)
-    }
-
-    /// Gives the streams of an order their places there, from one place on. Takes no memory.
-    pub fn arrange(&mut self, order: &[StreamId], from: usize)
-        requires below { All (λ stream. stream < length self.old.places) order.now }
-        requires once { (place : ℕ) → place < length order.now → Contains (take place order.now) (slice_index_or order.now place 0) → ⊥ }
-        requires before { AreArrangedUpTo from order.now self.old.places }
-        ensures arranged { AreArranged order.now self.new.places }
-        ensures as_many { length self.new.places ≡ length self.old.places }
-        ensures read { self.new.read ≡ self.old.read }
-    {
-        for place in from..order.len() {
-            *self.places.get_mut(order[place]) = place;
-        }
     }
 
     /// Tells the streams that the states with these numbers read. Takes no memory.

@@ -1,15 +1,16 @@
 -- Plans that are changed in place.
-use Rattle.std.proofs.Common.{◌≡◌, ◌∙◌, sym, ap, refl, subst, inl, inr, ℕ, zero, suc, Bool, true, false, ◌<◌, ◌≤◌, ◌⊎◌, length, get_or, take, drop, List, [], ◌∷◌, ◌++◌, arith}
+use Rattle.std.proofs.Common.{◌≡◌, ◌∙◌, sym, ap, refl, subst, inl, inr, ℕ, zero, suc, Bool, true, false, ◌+◌, ◌-◌, ◌<◌, ◌≤◌, ◌⊎◌, length, get_or, take, drop, List, [], ◌∷◌, ◌++◌, arith}
 use Rattle.std.specs.Prelude.{Contains, IsTrue, Option, Some, None}
 use Rattle.std.specs.Option.{option_and_then, option_map}
 use Rattle.std.specs.List.{All, remove}
-use Rattle.std.proofs.lemmas.List.{ext_get_or, get_or-take, get_or_append_left, length-take}
-use Rattle.std.proofs.lemmas.List.Edits.{get_or-remove_below}
+use Rattle.std.proofs.lemmas.List.{ext_get_or, get_or-append_right, get_or-drop, get_or-take, get_or_append_left, length-append, length-drop, length-take}
+use Rattle.std.proofs.lemmas.List.Edits.{get_or-remove_above, get_or-remove_below, length-remove}
 use Rattle.automaton.specs.States.{Net, entrance_at, is_used, state_at, wait_at, wait_by}
 use Rattle.automaton.proofs.SlotLemmas.{entry_there}
 use Rattle.std.specs.Prelude.{is_some}
 use Rattle.automaton.specs.declared.network.Entrance.{Entrance}
-use Rattle.epoch_draft.specs.Agenda.{AreArranged, AreArrangedUpTo, ArePlaces, IsUnread, read_at, read_by}
+use Rattle.epoch_draft.specs.Agenda.{ArePlaces, IsUnread, read_at, read_by}
+use Rattle.epoch_draft.specs.Places.{AreArranged, AreArrangedUpTo, HaveLeft}
 use Rattle.epoch_draft.specs.Filling.{IsLengthened}
 use Rattle.prefix_merge.specs.Coming.{Notes}
 use Rattle.prefix_merge.specs.declared.left.Left.{Left}
@@ -54,17 +55,32 @@ pub arranged_longer : (order more places longer : List ℕ) → AreArranged orde
 arranged_longer order more places longer are grew k lt inside =
     subst (λ (s : ℕ). get_or longer s 0 ≡ k) (sym (get_or_append_left order more 0 k lt)) (grew.same (get_or order k 0) ∙ are k lt)
 
--- and one that lost a part up to there
-pub arranged_cut : (order places : List ℕ) (first end : ℕ) → first ≤ length order → AreArranged order places → AreArrangedUpTo first (take first order ++ drop end order) places
-arranged_cut order places first end within are k lt inside =
-    subst (λ (s : ℕ). get_or places s 0 ≡ k)
-    (sym (get_or_append_left (take first order) (drop end order) 0 k (let short = length-take first order in omega (arith, short, lt, within)) ∙ get_or-take first order k 0 lt))
-    (are k (omega (arith, lt, within)))
+-- streams behind a part that left had places that are greater by as many
+pub cut_left : (order places : List ℕ) (first end : ℕ) → first ≤ end → end ≤ length order → AreArranged order places → HaveLeft first (end - first) (take first order ++ drop end order) places
+cut_left order places first end up within are = record { before = before; behind = behind }
+  where
+    short : length (take first order) ≡ first
+    short = (let is = length-take first order in omega (arith, is, up, within))
 
--- or one item
-pub arranged_without : (outs places : List ℕ) (out : ℕ) → out < length outs → AreArranged outs places → AreArrangedUpTo out (remove outs out) places
-arranged_without outs places out within are k lt inside =
-    subst (λ (s : ℕ). get_or places s 0 ≡ k) (sym (get_or-remove_below outs out 0 k lt within)) (are k (omega (arith, lt, within)))
+    before : AreArrangedUpTo first (take first order ++ drop end order) places
+    before k lt inside =
+        subst (λ (s : ℕ). get_or places s 0 ≡ k) (sym (get_or_append_left (take first order) (drop end order) 0 k (omega (arith, short, lt)) ∙ get_or-take first order k 0 lt))
+        (are k (omega (arith, lt, up, within)))
+
+    behind : (k : ℕ) → first ≤ k → k < length (take first order ++ drop end order) → get_or places (get_or (take first order ++ drop end order) k 0) 0 ≡ k + (end - first)
+    behind k from inside =
+        let was = end + (k - first) in
+        let lies : get_or (take first order ++ drop end order) k 0 ≡ get_or order was 0 = get_or-append_right (take first order) (drop end order) first k 0 short from ∙ get_or-drop end order (k - first) 0 in
+        let many = length-append (take first order) (drop end order) in
+        let rest = length-drop end order in
+        ap (λ (s : ℕ). get_or places s 0) lies ∙ are was (omega (arith, short, from, inside, many, rest, within)) ∙ omega (arith, from, up)
+
+-- so had those behind one that left
+pub without_left : (outs places : List ℕ) (out : ℕ) → out < length outs → AreArranged outs places → HaveLeft out 1 (remove outs out) places
+without_left outs places out within are = record {
+  before = λ k lt inside. ap (λ (s : ℕ). get_or places s 0) (get_or-remove_below outs out 0 k lt within) ∙ are k (omega (arith, lt, within));
+  behind = λ k from inside. ap (λ (s : ℕ). get_or places s 0) (get_or-remove_above outs out 0 k from within) ∙ are (k + 1) (let shorter = length-remove outs out within in omega (arith, shorter, inside));
+}
 
 -- what was put at the end is taken away again
 pub cut_back : {X : Type 0} (d : X) (old new : List X) → IsLengthened d old new → take (length old) new ≡ old

@@ -12,7 +12,7 @@ use Rattle.std.proofs.lemmas.List.Kept.{Contains-dedup_nat}
 use Rattle.std.proofs.lemmas.List.Sorted.{All-permutation, Contains-permutation}
 use Rattle.std.proofs.lemmas.Map.Keys.{IsStrictlyIncreasing-dedup}
 use Rattle.automaton.proofs.NumberLemmas.{are_same_or_not}
-use Rattle.epoch_draft.specs.Agenda.{AreArrangedUpTo}
+use Rattle.epoch_draft.specs.Places.{AreArrangedUpTo}
 use Rattle.epoch_draft.proofs.Lists.{below_or_last, more_contains, none_in}
 use Rattle.epoch_engine.specs.Batches.{AreNoted, ArePlacesOf}
 use Rattle.epoch_engine.specs.declared.prints.Prints.{Prints}

@@ -3,7 +3,7 @@ use Rattle.std.specs.Prelude.{◌≡◌, ℕ, ◌<◌, ◌≤◌, ◌⊎◌, IsT
 use Rattle.std.specs.List.{All}
 use Rattle.std.specs.List.Sorted.{IsStrictlyIncreasing}
 use Rattle.event_types.specs.Tuple.{TupleView}
-use Rattle.epoch_draft.specs.Agenda.{AreArranged}
+use Rattle.epoch_draft.specs.Places.{AreArranged}
 use Rattle.epoch_draft.specs.Drafts.{DraftFits}
 use Rattle.epoch_engine.specs.Entries.{AreInOrder, AreWithin, places_in}
 use Rattle.epoch_engine.specs.declared.entry.Entry.{Entry}

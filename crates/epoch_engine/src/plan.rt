@@ -1,13 +1,13 @@
 //! What an engine closes its epochs by.
-ghost use Rattle.std.specs.Prelude.{◌≡◌, ◌<◌, IfOk, IsTrue, OnOk, length};
+ghost use Rattle.std.specs.Prelude.{◌≡◌, ◌<◌, ◌≤◌, ◌-◌, [], IfOk, IsTrue, OnOk, length};
 ghost use Rattle.std.specs.List.{All};
 ghost use Rattle.automaton.specs.NetworkLines.{NetworkFits};
-ghost use Rattle.epoch_draft.specs.Agenda.{AreArrangedUpTo};
+ghost use Rattle.epoch_draft.specs.Places.{AreArrangedUpTo, HaveLeft};
 ghost use Rattle.epoch_engine.specs.Planning.{AreReadBut, GrowsRoom, HasRoom};
 ghost use Rattle.epoch_engine.specs.Running.{IsPlan};
 
 use crate::prints::Prints;
-use automaton::Layout;
+use automaton::{Layout, Shrinkage};
 use epoch_draft::StreamPlaces;
 use event_types::Memory;
 use prefix_merge::Merged;
@@ -70,8 +70,28 @@ impl Plan {
         ensures layout { self.new.layout ≡ self.old.layout }
     {
         self.places.tell(self.merged.network(), came);
-        self.places.arrange(self.layout.order.as_slice(), worked);
+        let order = self.layout.order.as_slice();
+        self.places.places.arrange(order, worked);
         self.prints.arrange(self.layout.outs.as_slice(), printed);
+    }
+
+    /// Goes over to its network and its layout, which this part has left: gives the streams of the order of work and those
+    /// that are printed their places, at the cost of the nearer side in each. Takes no memory.
+    pub(crate) fn leave(&mut self, part: Shrinkage)
+        requires fits { NetworkFits self.old.merged self.old.layout }
+        requires room { HasRoom (length self.old.layout.kinds) self.old }
+        requires read { AreReadBut self.old [] }
+        requires worked { HaveLeft part.first (part.end - part.first) self.old.layout.order self.old.places.places }
+        requires printed { IsTrue self.old.prints.are_once → HaveLeft part.out 1 self.old.layout.outs self.old.prints.places }
+        requires up { part.first ≤ part.end }
+        ensures is { IsPlan self.new }
+        ensures merged { self.new.merged ≡ self.old.merged }
+        ensures layout { self.new.layout ≡ self.old.layout }
+    {
+        let order = self.layout.order.as_slice();
+        let gone = part.end - part.first;
+        self.places.places.leave(order, part.first, gone);
+        self.prints.leave(self.layout.outs.as_slice(), part.out);
     }
 
     /// Makes what reads each stream, where want of memory has left it out.

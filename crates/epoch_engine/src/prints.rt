@@ -1,18 +1,18 @@
 //! The places at which streams are printed.
 ghost use Rattle.std.specs.Prelude.{◌≡◌, ◌≢◌, ◌+◌, ◌<◌, ◌≤◌, [], IsTrue, OnOk, false, length, slice_index_or};
 ghost use Rattle.std.specs.List.{All};
-ghost use Rattle.epoch_draft.specs.Agenda.{AreArranged, AreArrangedUpTo};
 ghost use Rattle.epoch_draft.specs.Filling.{IsLengthened};
+ghost use Rattle.epoch_draft.specs.Places.{AreArranged, AreArrangedUpTo, HaveLeft};
 
-use epoch_draft::lengthen;
-use event_types::{List, Memory, Numbers, StreamId};
+use epoch_draft::Places;
+use event_types::{Memory, StreamId};
 use std::alloc::Global;
 
 /// By the stream's number the place at which it is printed, counted from 0. A stream that isn't printed may have any
 /// place. Where a stream is printed more than once, `are_once` is down, and no place is told.
 #[derive(Drop)]
 pub struct Prints {
-    pub places: Numbers,
+    pub places: Places,
     pub are_once: bool,
 }
 
@@ -22,7 +22,7 @@ impl Prints {
         ensures { result.places ≡ [] }
     {
         Prints {
-            places: List::new(alloc),
+            places: Places::new(alloc),
             are_once: true,
         }
     }
@@ -33,7 +33,7 @@ impl Prints {
         ensures long { OnOk result (streams ≤ length self.new.places) }
         ensures once { self.new.are_once ≡ self.old.are_once }
     {
-        lengthen(&mut self.places, streams, 0)
+        self.places.grow(streams)
     }
 
     /// Gives the printed streams their places, from one place on. Takes no memory.
@@ -50,6 +50,21 @@ impl Prints {
         }
     }
 
+    /// Gives the printed streams, which another has left at one place, their places, at the cost of the nearer side where
+    /// each was printed once. Takes no memory.
+    pub(crate) fn leave(&mut self, outs: &[StreamId], out: usize)
+        requires below { All (λ stream. stream < length self.old.places) outs.now }
+        requires left { IsTrue self.old.are_once → HaveLeft out 1 outs.now self.old.places }
+        ensures arranged { IsTrue self.new.are_once → AreArranged outs.now self.new.places }
+        ensures as_many { length self.new.places ≡ length self.old.places }
+    {
+        if self.are_once {
+            self.places.leave(outs, out, 1);
+        } else {
+            self.arrange(outs, 0);
+        }
+    }
+
     // Gives the stream that is printed at a place that place, unless it is printed before.
     fn put(&mut self, outs: &[StreamId], place: usize)
         requires place { place < length outs.now }
@@ -62,7 +77,7 @@ impl Prints {
             self.are_once = false;
             return;
         }
-        *self.places.get_mut(outs[place]) = place;
+        self.places.put(outs[place], place);
     }
 
     // Whether the stream that is printed at a place is printed at its own one before.
@@ -71,7 +86,7 @@ impl Prints {
         requires below { All (λ stream. stream < length self.now.places) outs.now }
         ensures { result ≡ false → slice_index_or self.now.places (slice_index_or outs.now place 0) 0 < place → slice_index_or outs.now (slice_index_or self.now.places (slice_index_or outs.now place 0) 0) 0 ≢ slice_index_or outs.now place 0 }
     {
-        let had = *self.places.get(outs[place]);
+        let had = self.places.place(outs[place]);
         had < place && outs[had] == outs[place]
     }
 }

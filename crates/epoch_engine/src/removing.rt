@@ -30,7 +30,7 @@ impl Engine {
         self.holdings.shrink(self.plan.merged.network());
         self.epoch.close();
         self.plan.layout.shrink(part);
-        self.plan.go_over(&[], part.first, part.out);
+        self.plan.leave(part);
         fit_room(&mut self.room, &self.plan);
     }
 }

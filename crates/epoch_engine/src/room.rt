@@ -146,7 +146,7 @@ fn note_due(
     ensures { OnOk result (AreNoted prints.now printed due.now places.new.items) }
 {
     for stream in due {
-        let place = *prints.places.get(*stream);
+        let place = prints.places.place(*stream);
         if place >= printed {
             continue;
         }

@@ -43,10 +43,10 @@ loop-stream-preserved-then-place-start c = record {
       (λ up from below. absurd (outside (subst (λ (n : ℕ). c.args.start ≤ n) is from) (subst (λ (n : ℕ). n < c.args.end) is below))) c.loop-stream.invariant.planned;
 }
   where
-    is : get_or c.args.places.now.places (get_or c.args.due.now c.loop-stream.stream-index 0) 0 ≡ c.get-place.result.now
-    is = get_or_from_slice_get c.args.places.now.places (get_or c.args.due.now c.loop-stream.stream-index 0) c.get-place.result.now 0 c.get-place.ensures
+    is : get_or c.args.places.now.places (get_or c.args.due.now c.loop-stream.stream-index 0) 0 ≡ c.place-place.result
+    is = get_or_from_slice_get c.args.places.now.places (get_or c.args.due.now c.loop-stream.stream-index 0) c.place-place.result 0 c.place-place.ensures
 
-    outside : c.args.start ≤ c.get-place.result.now → c.get-place.result.now < c.args.end → ⊥
+    outside : c.args.start ≤ c.place-place.result → c.place-place.result < c.args.end → ⊥
     outside from below =
         elim c.then-place-start.branch [
           | then-place-start-via-then-place-start w ↦ absurd (let e = w.if-place-start.true in omega (arith, e, from))
@@ -56,8 +56,8 @@ loop-stream-preserved-then-place-start c = record {
 -- one that is
 pub loop-stream-preserved : goal.loop-stream-preserved
 loop-stream-preserved c =
-    let place = c.get-place.result.now in
-    let at = get_or_from_slice_get c.args.places.now.places (get_or c.args.due.now c.loop-stream.stream-index 0) place 0 c.get-place.ensures in
+    let place = c.place-place.result in
+    let at = get_or_from_slice_get c.args.places.now.places (get_or c.args.due.now c.loop-stream.stream-index 0) place 0 c.place-place.ensures in
     let old = c.loop-stream.agenda.keys in
     let new = c.note.new.agenda.keys in
     let is = c.in_ok-note.ensures in

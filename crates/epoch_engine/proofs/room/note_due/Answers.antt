@@ -10,7 +10,7 @@ loop-stream-init c = noted_none c.args.prints.now c.args.printed c.args.places.n
 -- a place that isn't one of so many
 pub loop-stream-preserved-then-place-printed : goal.loop-stream-preserved-then-place-printed
 loop-stream-preserved-then-place-printed c =
-    let at = get_or_from_slice_get c.args.prints.now.places (get_or c.args.due.now c.loop-stream.stream-index 0) c.get-place.result.now 0 c.get-place.ensures in
+    let at = get_or_from_slice_get c.args.prints.now.places (get_or c.args.due.now c.loop-stream.stream-index 0) c.place-place.result 0 c.place-place.ensures in
     let past = c.if-place-printed.true in
     noted_past c.args.prints.now c.args.printed c.args.due.now c.loop-stream.places.items c.loop-stream.stream-index c.loop-stream-test.true
     (λ lt. absurd (let less = subst (λ (n : ℕ). n < c.args.printed) at lt in omega (arith, less, past))) c.loop-stream.invariant
@@ -18,7 +18,7 @@ loop-stream-preserved-then-place-printed c =
 -- one that is
 pub loop-stream-preserved : goal.loop-stream-preserved
 loop-stream-preserved c =
-    let at = get_or_from_slice_get c.args.prints.now.places (get_or c.args.due.now c.loop-stream.stream-index 0) c.get-place.result.now 0 c.get-place.ensures in
+    let at = get_or_from_slice_get c.args.prints.now.places (get_or c.args.due.now c.loop-stream.stream-index 0) c.place-place.result 0 c.place-place.ensures in
     let inside = c.if-place-printed.false in
     noted_more c.args.prints.now c.args.printed c.args.due.now c.loop-stream.places.items c.push.new.self.items c.loop-stream.stream-index c.loop-stream-test.true
     (subst (λ (n : ℕ). n < c.args.printed) (sym at) (omega (arith, inside))) (c.in_ok-push.ensures.items ∙ ap (λ (n : ℕ). c.loop-stream.places.items ++ n ∷ []) (sym at)) c.loop-stream.invariant

@@ -1,7 +1,7 @@
 use Rattle.std.proofs.Common.{◌≤◌, sym, subst, ℕ, List, length, arith}
-use Rattle.epoch_draft.specs.Agenda.{AreArranged}
+use Rattle.epoch_draft.specs.Places.{AreArranged}
 use Rattle.epoch_draft.proofs.AgendaLemmas.{below_more}
-use Rattle.epoch_draft.proofs.PlaceLemmas.{read_all, read_more}
+use Rattle.epoch_draft.proofs.ToldLemmas.{read_all, read_more}
 use Rattle.epoch_draft.proofs.stream_places.StreamPlaces.make.Goals as goal
 
 -- there is room for the streams of the order

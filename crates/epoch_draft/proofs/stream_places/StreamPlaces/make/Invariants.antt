@@ -1,6 +1,6 @@
 use Rattle.std.proofs.Common.{◌≤◌, length}
-use Rattle.epoch_draft.specs.Agenda.{AreArranged}
-use Rattle.epoch_draft.proofs.PlaceLemmas.{AreReadBelow}
+use Rattle.epoch_draft.specs.Places.{AreArranged}
+use Rattle.epoch_draft.proofs.ToldLemmas.{AreReadBelow}
 use Rattle.epoch_draft.proofs.stream_places.StreamPlaces.make.Given as goal
 
 -- the streams have their places, and those of the states so far are told

@@ -1,7 +1,7 @@
 use Rattle.std.proofs.Common.{◌∙◌, ◌≤◌, ℕ, List, length, refl, subst, arith}
 use Rattle.epoch_draft.specs.Agenda.{AreTold}
 use Rattle.epoch_draft.proofs.Lists.{taken_all}
-use Rattle.epoch_draft.proofs.PlaceLemmas.{told_more, told_none}
+use Rattle.epoch_draft.proofs.ToldLemmas.{told_more, told_none}
 use Rattle.epoch_draft.proofs.stream_places.StreamPlaces.tell.Goals as goal
 
 pub loop-state-init : goal.loop-state-init

@@ -10,7 +10,7 @@ use Rattle.binding_index.specs.declared.store.Store.{Store}
 use Rattle.prefix_merge.specs.Merging.{HasEnd, IsMerged}
 use Rattle.prefix_merge.specs.Turns.{InsertsAll, InsertsFirst}
 use Rattle.stream_readers.specs.KeyTables.{KeyTable}
-use Rattle.epoch_draft.specs.Agenda.{AreArrangedUpTo}
+use Rattle.epoch_draft.specs.Places.{AreArrangedUpTo}
 use Rattle.epoch_draft.specs.Deriving.{CanDraw}
 use Rattle.epoch_draft.specs.Held.{instances_in}
 use Rattle.epoch_draft.specs.Led.{AreLed}

@@ -1,4 +1,4 @@
-use Rattle.std.proofs.Common.{◌≡◌, ◌∙◌, cond, map, refl, subst, sym, ℕ, List, [], get_or, length, take, arith}
+use Rattle.std.proofs.Common.{◌≡◌, ◌∙◌, ◌-◌, ◌<◌, ◌≤◌, cond, map, refl, subst, sym, ℕ, List, [], get_or, length, take, arith}
 use Rattle.std.specs.Prelude.{All, is_some}
 use Rattle.std.proofs.lemmas.List.{take_all}
 use Rattle.automaton.specs.Layouts.{shrunk}
@@ -10,6 +10,7 @@ use Rattle.prefix_merge.specs.Turns.{RemovesAll}
 use Rattle.epoch_draft.specs.Deriving.{CanDraw}
 use Rattle.epoch_draft.specs.Held.{instances_in}
 use Rattle.epoch_draft.specs.Led.{AreLed}
+use Rattle.epoch_draft.specs.Places.{HaveLeft}
 use Rattle.epoch_draft.specs.Watching.{Watches}
 use Rattle.epoch_engine.specs.Adding.{Drops, FitsWithout}
 use Rattle.epoch_engine.specs.EngineView.{EngineView}
@@ -18,7 +19,7 @@ use Rattle.epoch_engine.proofs.EngineLemmas.{view_of}
 use Rattle.epoch_engine.proofs.KindingLemmas.{fitting_typed}
 use Rattle.epoch_engine.proofs.LeaveLemmas.{left_led, left_typed, left_watched}
 use Rattle.epoch_engine.proofs.OverLemmas.{drawable, fits_left, left_held}
-use Rattle.epoch_engine.proofs.PlanLemmas.{left_storeless, listed}
+use Rattle.epoch_engine.proofs.PlanLemmas.{cut_left, left_storeless, listed, without_left}
 use Rattle.epoch_engine.proofs.engine.Engine.remove.Goals as goal
 
 -- the ends are there
@@ -39,8 +40,8 @@ shrink-requires-clause-noted c = λ none_missed.
     (λ n there gone. listed c.remove_first.new.left n none_missed (c.remove_first.ensures.left.left n there gone))))
 
 -- the layout fits the network that is left
-pub go_over-requires-clause-fits : goal.go_over-requires-clause-fits
-go_over-requires-clause-fits c =
+pub leave-requires-clause-fits : goal.leave-requires-clause-fits
+leave-requires-clause-fits c =
     let e = c.self.inside in
     let ends = c.args.ends.now in
     let layout = shrunk e.plan.layout c.args.part in
@@ -48,13 +49,30 @@ go_over-requires-clause-fits c =
     let without = subst (λ (v : EngineView). FitsWithout v.network ends (shrunk v.layout c.args.part)) (sym c.self.view_is) c.requires.fits in
     subst (NetworkFits c.remove_first.new.self) (sym c.shrink-2.ensures) (fits_left e.plan.merged c.remove_first.new.self ends layout c.network.ensures.merged removed without)
 
+-- the streams that are left had their places, and those behind the part greater ones
+pub leave-requires-clause-worked : goal.leave-requires-clause-worked
+leave-requires-clause-worked c =
+    let plan = c.self.inside.plan in
+    let part = c.args.part in
+    let within = subst (λ (v : EngineView). part.end ≤ length v.layout.order) (sym c.self.view_is) c.requires.within in
+    subst (λ (l : Layout). HaveLeft part.first (part.end - part.first) l.order plan.places.places) (sym c.shrink-2.ensures)
+    (cut_left plan.layout.order plan.places.places part.first part.end c.requires.up within c.self.invariant.running.plan_is.places.arranged)
+
+pub leave-requires-clause-printed : goal.leave-requires-clause-printed
+leave-requires-clause-printed c = λ once.
+    (let plan = c.self.inside.plan in
+    let part = c.args.part in
+    let there = subst (λ (v : EngineView). part.out < length v.layout.outs) (sym c.self.view_is) c.requires.printed in
+    subst (λ (l : Layout). HaveLeft part.out 1 l.outs plan.prints.places) (sym c.shrink-2.ensures)
+    (without_left plan.layout.outs plan.prints.places part.out there (c.self.invariant.running.plan_is.prints.arranged once)))
+
 -- over the network that is left the parts fit
 pub invariant_of-self : goal.invariant_of-self
 invariant_of-self c =
     let e = c.self.inside in
     let ends = c.args.ends.now in
     let net = c.remove_first.new.self in
-    let plan = c.go_over.new.self in
+    let plan = c.leave.new.self in
     let layout = shrunk e.plan.layout c.args.part in
     let settled = c.network.ensures.settled in
     let value = c.network.ensures.value in
@@ -62,8 +80,8 @@ invariant_of-self c =
     let without = subst (λ (v : EngineView). FitsWithout v.network ends (shrunk v.layout c.args.part)) (sym c.self.view_is) c.requires.fits in
     let fits = fits_left e.plan.merged net ends layout settled.merged removed without in
     let typing = fitting_typed net layout fits in
-    let merged : plan.merged ≡ net = c.go_over.ensures.merged in
-    let same : plan.layout ≡ layout = c.go_over.ensures.layout ∙ c.shrink-2.ensures in
+    let merged : plan.merged ≡ net = c.leave.ensures.merged in
+    let same : plan.layout ≡ layout = c.leave.ensures.layout ∙ c.shrink-2.ensures in
     let old = e.holdings.stores in
     let new = c.shrink.new.self.stores in
     let tuples = c.close.new.self.tuples in
@@ -75,7 +93,7 @@ invariant_of-self c =
     record {
       fits = subst (λ (x : Net × Layout). NetworkFits x.0 x.1) (λ i. (sym merged i, sym same i)) fits;
       running = record {
-        plan_is = c.go_over.ensures.is;
+        plan_is = c.leave.ensures.is;
         can_draw = subst (λ (x : Net × Layout). CanDraw x.0 x.1 new tuples) (λ i. (sym merged i, sym same i))
             (drawable net layout new tuples fits settled.network (left_typed e.plan.merged net layout.kinds old new typed removed.stay left typing.0 typing.1 settled.network)
             (c.close.ensures.as_many ∙ c.self.invariant.running.can_draw.as_many) c.close.ensures.empty);
@@ -94,19 +112,19 @@ returns c =
     let e = c.self.inside in
     let ends = c.args.ends.now in
     let net = c.remove_first.new.self in
-    let plan = c.go_over.new.self in
+    let plan = c.leave.new.self in
     let layout = shrunk e.plan.layout c.args.part in
     let settled = c.network.ensures.settled in
     let removed = subst (λ (ns : List ℕ). RemovesAll ns e.plan.merged net) (take_all c.len.result ends (omega (arith, c.len.ensures))) c.remove_first.ensures.removed in
     let without = subst (λ (v : EngineView). FitsWithout v.network ends (shrunk v.layout c.args.part)) (sym c.self.view_is) c.requires.fits in
     let fits = fits_left e.plan.merged net ends layout settled.merged removed without in
-    let merged : plan.merged ≡ net = c.go_over.ensures.merged in
+    let merged : plan.merged ≡ net = c.leave.ensures.merged in
     let new = c.shrink.new.self.stores in
     let left = left_held net e.holdings.stores new (subst (λ (n : Net). AreLeft n e.holdings.stores new) c.network.ensures.value c.shrink.ensures.stores) in
     subst (λ (v : EngineView). Drops ends (shrunk v.layout c.args.part) v (view_of plan new c.close.new.self e.closed_time)) c.self.view_is (record {
       goes_over = record {
         merged = subst IsMerged (sym merged) settled.merged;
-        same_layout = c.go_over.ensures.layout ∙ c.shrink-2.ensures;
+        same_layout = c.leave.ensures.layout ∙ c.shrink-2.ensures;
         fits = subst (λ (n : Net). NetworkFits n layout) (sym merged) fits;
         opened = c.close.ensures.empty;
         as_many = c.close.ensures.as_many ∙ c.self.invariant.running.can_draw.as_many;

@@ -2,7 +2,8 @@ use Rattle.std.proofs.Common.{◌<◌, sym, subst, ℕ, List, get_or, length, ta
 use Rattle.std.specs.Prelude.{Contains}
 use Rattle.std.specs.List.{All}
 use Rattle.automaton.specs.States.{Net}
-use Rattle.epoch_draft.specs.Agenda.{AreArranged, ArePlaces}
+use Rattle.epoch_draft.specs.Agenda.{ArePlaces}
+use Rattle.epoch_draft.specs.Places.{AreArranged}
 use Rattle.epoch_draft.proofs.AgendaLemmas.{below_more}
 use Rattle.epoch_engine.proofs.EngineLemmas.{order_below, order_once, outs_below}
 use Rattle.epoch_engine.proofs.plan.Plan.make.Goals as goal

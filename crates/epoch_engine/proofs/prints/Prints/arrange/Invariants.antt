@@ -1,6 +1,6 @@
 use Rattle.std.proofs.Common.{◌≡◌, length}
 use Rattle.std.specs.Prelude.{IsTrue}
-use Rattle.epoch_draft.specs.Agenda.{AreArrangedUpTo}
+use Rattle.epoch_draft.specs.Places.{AreArrangedUpTo}
 use Rattle.epoch_engine.proofs.prints.Prints.arrange.Given as goal
 
 -- the streams so far have their places, if each is printed once

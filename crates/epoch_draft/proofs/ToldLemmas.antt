@@ -1,39 +1,13 @@
--- Streams are given their places and told as read, one by one.
-use Rattle.std.proofs.Common.{◌≡◌, ◌∙◌, sym, ap, refl, subst, inl, inr, ℕ, zero, suc, Bool, true, false, ◌+◌, ◌<◌, ◌≤◌, ◌⊎◌, length, get_or, set, take, List, [], arith}
+-- Streams are told as read, one by one.
+use Rattle.std.proofs.Common.{◌≡◌, ◌∙◌, sym, ap, refl, inl, inr, ℕ, Bool, true, false, ◌+◌, ◌<◌, ◌≤◌, ◌⊎◌, length, get_or, take, List, [], arith}
 use Rattle.std.specs.Prelude.{Contains, Option, Some, None}
 use Rattle.std.specs.Option.{option_map}
 use Rattle.std.proofs.lemmas.Bool.{true≢false}
-use Rattle.std.proofs.lemmas.Grind.{get_or-set_at}
-use Rattle.std.proofs.lemmas.List.{get_or-set_other}
 use Rattle.automaton.specs.States.{Net, entrance_at}
 use Rattle.automaton.specs.declared.network.Entrance.{Entrance}
-use Rattle.automaton.proofs.NumberLemmas.{are_same_or_not}
-use Rattle.epoch_draft.specs.Agenda.{AreArrangedUpTo, AreTold, IsUnread, StayTold, read_at, read_by}
+use Rattle.epoch_draft.specs.Agenda.{AreTold, IsUnread, StayTold, read_at, read_by}
 use Rattle.epoch_draft.proofs.DrawnLemmas.{entry_below}
-use Rattle.epoch_draft.proofs.Lists.{below_or_last, contains_more, contains_this, more_contains, none_in}
-
--- an item before a place is among the items before it
-pub contains_taken : (order : List ℕ) (i k : ℕ) → k < i → i ≤ length order → Contains (take i order) (get_or order k 0)
-contains_taken order zero k lt below = absurd (omega (arith, lt))
-contains_taken order (suc i) k lt below = go (are_same_or_not k i) (contains_taken order i k)
-  where
-    next : i + 1 ≡ suc i
-    next = omega arith
-
-    go : (k ≡ i) ⊎ (k ≡ i → ⊥) → (k < i → i ≤ length order → Contains (take i order) (get_or order k 0)) → Contains (take (suc i) order) (get_or order k 0)
-    go (inl same) rest = subst (λ (m : ℕ). Contains (take (suc i) order) (get_or order m 0)) (sym same) (subst (λ (m : ℕ). Contains (take m order) (get_or order i 0)) next (contains_this order i 0 (omega (arith, below))))
-    go (inr other) rest = subst (λ (m : ℕ). Contains (take m order) (get_or order k 0)) next (contains_more order i 0 (get_or order k 0) (omega (arith, below)) (rest (omega (arith, lt, other)) (omega (arith, below))))
-
--- one stream more has its place
-pub arranged_more : (order places : List ℕ) (i : ℕ) → i < length order → get_or order i 0 < length places → (Contains (take i order) (get_or order i 0) → ⊥) → AreArrangedUpTo i order places → AreArrangedUpTo (i + 1) order (set places (get_or order i 0) i)
-arranged_more order places i lt there once was k less inside = go (below_or_last k i less)
-  where
-    s : ℕ
-    s = get_or order i 0
-
-    go : (k < i) ⊎ (k ≡ i) → get_or (set places s i) (get_or order k 0) 0 ≡ k
-    go (inl less) = get_or-set_other places s (get_or order k 0) i 0 (λ same. once (subst (Contains (take i order)) same (contains_taken order i k less (omega (arith, lt))))) ∙ was k less inside
-    go (inr last) = get_or-set_at places s (get_or order k 0) i 0 (ap (λ (m : ℕ). get_or order m 0) last) there ∙ sym last
+use Rattle.epoch_draft.proofs.Lists.{below_or_last, more_contains, none_in}
 
 -- what was told still is
 pub told_trans : (a b c : List Bool) → StayTold a b → StayTold b c → StayTold a c
