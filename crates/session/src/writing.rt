@@ -47,8 +47,7 @@ fn make_fronts(
 }
 
 /// Appends the result lines of each query's tuples, behind fronts that are made where there are none yet. Where the
-/// batch has no entry, nothing is made.
-// Out of line, so that its loop stands alone.
+/// batch has no entry, nothing is made. Out of line, so that its loop stands alone.
 #[inline(never)]
 pub fn put_batch(
     alloc: Global,

@@ -1,4 +1,4 @@
-use Rattle.std.proofs.Common.{◌∙◌, sym, arith}
+use Rattle.std.proofs.Common.{sym, arith}
 use Rattle.session.proofs.FrontLemmas.{remove_past}
 use Rattle.session.proofs.changing.take_front.Goals as goal
 
