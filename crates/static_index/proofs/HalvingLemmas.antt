@@ -1,5 +1,5 @@
 -- Ids in order, found by halving.
-use Rattle.std.proofs.Common.{◌≡◌, ◌∙◌, ap, refl, sym, subst, ℕ, zero, suc, ◌<◌, ◌≤◌, ◌⊎◌, inl, inr, ◌==◌, nat_lt, Bool, true, false, not, cond, filter, List, [], ◌∷◌, length, get_or, Some, slice_get, Contains, Result, Ok, Err, IfOk, IfErr, OnOk, is_ok, arith}
+use Rattle.std.proofs.Common.{◌≡◌, ◌∙◌, ap, refl, sym, subst, ℕ, zero, suc, ◌<◌, ◌≤◌, ◌⊎◌, inl, inr, ◌==◌, nat_lt, true, false, not, cond, filter, List, [], ◌∷◌, length, get_or, Some, slice_get, Contains, Result, Ok, Err, IfOk, IfErr, OnOk, OnErr, arith}
 use Rattle.std.specs.declared.cmp.Ordering.TheVariants.{Less}
 use Rattle.std.specs.List.{AllByRecursion, insert, remove}
 use Rattle.std.specs.List.Sorted.{IsBinarySearchResult, IsNonDecreasingBy, IsSearchInRange, IsStrictlySortedBy}
@@ -11,6 +11,7 @@ use Rattle.std.proofs.lemmas.List.Elements.{Contains-append_right}
 use Rattle.std.proofs.lemmas.List.Kept.{IsStrictlySortedBy-filter}
 use Rattle.std.proofs.lemmas.Map.Keys.{Less-from_sorted}
 use Rattle.std.proofs.lemmas.Option.{get_or_from_slice_get, slice_get-get_or, slice_get_within}
+use Rattle.smallvec.specs.SmallVec.{SmallVec}
 use Rattle.static_index.specs.Conditions.{Ascends}
 use Rattle.static_index.specs.Ids.{HasAt, LacksAt}
 
@@ -132,18 +133,10 @@ none_taken id ids place lacks = others_all id ids each
         go (inl before) = let lt = lacks.smaller_before k n before at in grind (arith, nat_tests)
         go (inr from) = let lt = lacks.greater_after k n from at in grind (arith, nat_tests)
 
--- an id that may have been put where it is missing
-pub ascend_maybe : (b : Bool) (id : ℕ) (ids new : List ℕ) (place : ℕ) → new ≡ cond b (insert ids place id) ids → LacksAt id ids place → Ascends ids → Ascends new
-ascend_maybe true id ids new place is lacks up = subst Ascends (sym is) (ascend_inserted id ids place lacks up)
-ascend_maybe false id ids new place is lacks up = subst Ascends (sym is) up
-
-pub contains_maybe : {T E : Type 0} (r : Result T E) (id : ℕ) (ids new : List ℕ) (place : ℕ) → new ≡ cond (is_ok r) (insert ids place id) ids → OnOk r (Contains new id)
-contains_maybe (Ok x) id ids new place is = subst (λ (ms : List ℕ). Contains ms id) (sym is) (contains_inserted id ids place)
-contains_maybe (Err x) id ids new place is = tt
-
-pub kept_maybe : (b : Bool) (id : ℕ) (ids new : List ℕ) (place : ℕ) → new ≡ cond b (insert ids place id) ids → (m : ℕ) → Contains ids m → Contains new m
-kept_maybe true id ids new place is m has = subst (λ (ms : List ℕ). Contains ms m) (sym is) (kept_inserted id ids place m has)
-kept_maybe false id ids new place is m has = subst (λ (ms : List ℕ). Contains ms m) (sym is) has
+-- an id that was put where it is missing, unless there was no memory
+pub ascend_tried : {T E : Type 0} (r : Result T E) (id : ℕ) (old new : SmallVec ℕ) (place : ℕ) → OnOk r (new.items ≡ insert old.items place id) → OnErr r (new ≡ old) → LacksAt id old.items place → Ascends old.items → Ascends new.items
+ascend_tried (Ok x) id old new place put kept lacks up = subst Ascends (sym put) (ascend_inserted id old.items place lacks up)
+ascend_tried (Err x) id old new place put kept lacks up = subst (λ (v : SmallVec ℕ). Ascends v.items) (sym kept) up
 
 -- an id that stands at a place is there
 pub stands : (id : ℕ) (ids : List ℕ) (place : ℕ) → HasAt id ids place → Contains ids id

@@ -9,6 +9,7 @@ pub mod KeepsLemmas
 pub mod LawLemmas
 pub mod LimitLemmas
 pub mod NarrowLemmas
+pub mod NumberRangeLemmas
 pub mod RangeLemmas
 pub mod ScanLemmas
 pub mod SpanLemmas

@@ -14,9 +14,9 @@ use Rattle.static_index.specs.declared.filing.Filing.{Filing}
 
 -- an id is filed under the first part of its condition, and under what was chosen, which an event meets where all the parts hold
 pub record IsFiled (filing : Filing) (id : ℕ) (entry : Entry) : Type 0 where
-  pub covers : Covers entry.parts entry.choice
+  pub covers : Covers entry.parts entry.choice.value
   pub first : Contains (filed_ids filing.firsts (label_of entry.parts (Part 0))) id
-  pub choice : Contains (filed_ids filing.choices (label_of entry.parts entry.choice)) id
+  pub choice : Contains (filed_ids filing.choices (label_of entry.parts entry.choice.value)) id
 
 -- each id but one stays filed
 abbrev pub KeepsOthers : ℕ → Filing → Filing → Type 0
@@ -30,4 +30,4 @@ FindsAsked asked event filing found = (n : ℕ) (e : Entry) → IsFiled filing n
 pub record Keeps (entries : List (ℕ × Entry)) (filing : Filing) : Type 0 where
   pub ordered : AreOrdered entries
   pub filed : All (λ e. IsFiled filing e.0 e.1) entries
-  pub best : All (λ e. IsBest e.1.choice e.1.parts) entries
+  pub best : All (λ e. IsBest e.1.choice.value e.1.parts) entries

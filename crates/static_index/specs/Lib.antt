@@ -10,6 +10,7 @@ pub mod Ids
 pub mod Laws
 pub mod Limits
 pub mod Narrowing
+pub mod Ranges
 pub mod Slots
 pub mod Spans
 pub mod Table

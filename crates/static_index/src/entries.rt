@@ -23,6 +23,8 @@ pub(crate) struct Entries {
 // An id, and its entry if it has one.
 type Slot = (usize, Option<Entry>);
 
+const _: () = prove!(size_of::<Slot>() == 80);
+
 impl Model for Entries {
     ghost use Rattle.std.specs.Prelude.{ℕ, List};
     ghost use Rattle.static_index.specs.declared.entry.Entry.{Entry};

@@ -1,12 +1,13 @@
 //! What an index keeps of each condition.
-use crate::fixed_part::FixedParts;
+use crate::ranged_parts::RangedParts;
 use crate::span::Span;
 
 // The fixed parts of a condition, and under what `matching` finds it.
 #[derive(Drop)]
 pub(crate) struct Entry {
-    pub(crate) parts: FixedParts,
-    pub(crate) choice: Choice,
+    pub(crate) parts: RangedParts,
+    // on the heap, since only adding and removing read it
+    pub(crate) choice: Box<Choice>,
 }
 
 // Under what a condition is found.

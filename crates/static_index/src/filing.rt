@@ -5,8 +5,8 @@ ghost use Rattle.static_index.specs.Filing.{FindsAsked, IsFiled, KeepsOthers};
 
 use crate::choosing::choose;
 use crate::entry::{Asked, Choice, Entry};
-use crate::fixed_part::FixedParts;
 use crate::heading::heading_of;
+use crate::ranged_parts::RangedParts;
 use crate::tables::Tables;
 use event_types::{Memory, Numbers, Tuple};
 use std::alloc::Global;
@@ -27,16 +27,16 @@ impl Filing {
     }
 
     // Under what a condition is found by the fewest events.
-    pub(crate) fn choose(&self, parts: &FixedParts) -> Choice
+    pub(crate) fn choose(&self, parts: &RangedParts) -> Choice
         ensures best { IsBest result parts.now }
         ensures covers { Covers parts.now result }
     {
-        choose(&self.choices, parts)
+        choose(&self.choices, parts.list())
     }
 
     // Files an id. Want of memory leaves the others as they were, and the id under no heading or under any.
     pub(crate) fn file(&mut self, alloc: Global, id: usize, entry: &Entry) -> Result<(), Memory>
-        requires { Covers entry.now.parts entry.now.choice }
+        requires { Covers entry.now.parts entry.now.choice.value }
         ensures ok { OnOk result (IsFiled self.new id entry.now) }
         ensures kept { KeepsOthers id self.old self.new }
     {
@@ -44,7 +44,7 @@ impl Filing {
             .file(alloc, heading_of(&entry.parts, Choice::Part(0)), id)?;
         let filed = self
             .choices
-            .file(alloc, heading_of(&entry.parts, entry.choice), id);
+            .file(alloc, heading_of(&entry.parts, *entry.choice), id);
         if filed.is_err() {
             self.firsts
                 .forget(heading_of(&entry.parts, Choice::Part(0)), id);
@@ -59,7 +59,7 @@ impl Filing {
         self.firsts
             .forget(heading_of(&entry.parts, Choice::Part(0)), id);
         self.choices
-            .forget(heading_of(&entry.parts, entry.choice), id);
+            .forget(heading_of(&entry.parts, *entry.choice), id);
     }
 
     // Puts the ids that an event may meet behind those that are there.

@@ -5,6 +5,7 @@ ghost use Rattle.static_index.specs.Headings.{Part, attr_of, label, label_of};
 
 use crate::entry::Choice;
 use crate::fixed_part::{FixedPart, FixedParts};
+use crate::ranged_parts::RangedParts;
 use crate::span::Span;
 
 // A fixed part of the conditions, or a span in which a number of the event lies where they hold.
@@ -25,11 +26,11 @@ pub(crate) fn attr_under(heading: Heading<'_>) -> usize
 }
 
 // The heading that was chosen, if there is one.
-pub(crate) fn heading_of(parts: &FixedParts, choice: Choice) -> Option<Heading<'_>>
+pub(crate) fn heading_of(parts: &RangedParts, choice: Choice) -> Option<Heading<'_>>
     ensures { option_map label result ≡ label_of parts.now choice }
 {
     match choice {
-        Choice::Part(place) => part_at(parts, place),
+        Choice::Part(place) => part_at(parts.list(), place),
         Choice::Span(span) => Some(Heading::Span(span)),
     }
 }

@@ -4,13 +4,15 @@ ghost use Rattle.static_index.specs.Buckets.{KeepsIds};
 ghost use Rattle.static_index.specs.Ids.{HasAt, LacksAt};
 
 use event_types::{Memory, Numbers};
+use smallvec::SmallVec;
 use std::alloc::Global;
 use std::marker::Model;
 
-// Ids in ascending order, each once, so that one is found by halving.
+// Ids in ascending order, each once, so that one is found by halving. Two stand in the list itself; where more come, all
+// stand on the heap.
 #[derive(Drop)]
 pub(crate) struct Ids {
-    held: Vec<usize>,
+    held: SmallVec<usize, 2>,
 }
 
 impl Model for Ids {
@@ -31,7 +33,7 @@ impl Ids {
         ensures { result ≡ [] }
     {
         Ids {
-            held: Vec::new(alloc),
+            held: SmallVec::new(alloc),
         }
     }
 
@@ -42,6 +44,7 @@ impl Ids {
     }
 
     // The ids in their order. Takes no memory.
+    #[inline(always)]
     pub(crate) fn as_slice(&self) -> &[usize]
         ensures { result.now ≡ self.now }
     {
@@ -74,11 +77,12 @@ impl Ids {
         ensures found { IfOk result (HasAt id self.now) }
         ensures missing { IfErr result (LacksAt id self.now) }
     {
-        self.held.binary_search(&id)
+        self.held.as_slice().binary_search(&id)
     }
 }
 
 // Puts ids behind those that are there.
+#[inline(always)]
 pub(crate) fn append(found: &mut Numbers, ids: &Ids) -> Result<(), Memory>
     ensures { OnOk result (found.new ≡ found.old ++ ids.now) }
 {

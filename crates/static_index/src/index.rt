@@ -9,6 +9,7 @@ use crate::entries::Entries;
 use crate::entry::{Asked, Entry};
 use crate::filing::Filing;
 use crate::narrowing::narrow;
+use crate::ranged_parts::RangedParts;
 use event_types::{List, Memory, Numbers, Tuple};
 use scalar_expr::Conj;
 use std::alloc::Global;
@@ -64,8 +65,8 @@ impl StaticIndex {
         ensures ok { OnOk result (self.new ≡ with_condition (record { id = id; parts = fixed_parts condition.now }) self.old) }
         ensures kept { OnErr result (self.new ≡ self.old) }
     {
-        let parts = copy_fixed(self.alloc, condition)?;
-        let choice = self.filing.choose(&parts);
+        let parts = RangedParts::new(copy_fixed(self.alloc, condition)?);
+        let choice = Box::new(self.alloc, self.filing.choose(&parts))?;
         let entry = Entry { parts, choice };
         self.filing.file(self.alloc, id, &entry)?;
         match self.entries.insert(id, entry) {

@@ -7,21 +7,24 @@ ghost use Rattle.static_index.specs.Table.{holds_as};
 
 use crate::entry::Asked;
 use crate::fixed_part::{FixedPart, FixedParts};
+use crate::ranged_parts::RangedParts;
 use event_types::{Cmp, Tuple, Value};
 use scalar_expr::compares;
 
 // Whether the parts that are asked hold for an event.
-pub(crate) fn holds(parts: &FixedParts, asked: Asked, event: &Tuple) -> bool
+#[inline(always)]
+pub(crate) fn holds(parts: &RangedParts, asked: Asked, event: &Tuple) -> bool
     ensures { result ≡ holds_as asked event.now parts.now }
 {
     match asked {
-        Asked::First => is_met_by_first(parts, event),
-        Asked::All => is_met_by_all(parts, event),
+        Asked::First => is_met_by_first(parts.list(), event),
+        Asked::All => parts.all_hold(event),
     }
 }
 
-// Whether all the parts hold.
-fn is_met_by_all(parts: &FixedParts, event: &Tuple) -> bool
+// Whether all the parts hold, asked one by one. Out of line, since their range tells most events.
+#[inline(never)]
+pub(crate) fn are_met(parts: &FixedParts, event: &Tuple) -> bool
     ensures { result ≡ all_hold event.now parts.now }
 {
     parts.as_slice().iter().all(|part| meets_part(part, event))

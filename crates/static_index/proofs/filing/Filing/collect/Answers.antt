@@ -17,5 +17,5 @@ pub returns-in-All : goal.returns-in-All
 returns-in-All c =
     let event = c.args.event.now in
     on_ok_weaker c.collect-in-All.result
-    (λ gives. λ n e filed holds. gives (label_of e.parts e.choice) n (filed.covers event (subst (λ a. holds_as a event e.parts ≡ true) c.in-All.is holds)) filed.choice)
+    (λ gives. λ n e filed holds. gives (label_of e.parts e.choice.value) n (filed.covers event (subst (λ a. holds_as a event e.parts ≡ true) c.in-All.is holds)) filed.choice)
     c.collect-in-All.ensures

@@ -5,6 +5,7 @@ use Rattle.static_index.specs.Conditions.{Condition, with_condition}
 use Rattle.static_index.specs.Filing.{IsFiled}
 use Rattle.static_index.specs.FixedParts.{fixed_parts}
 use Rattle.static_index.specs.Table.{conditions_of}
+use Rattle.static_index.specs.declared.entry.Choice.{Choice}
 use Rattle.static_index.specs.declared.entry.Entry.{Entry}
 use Rattle.static_index.proofs.EntryLemmas.{no_entry}
 use Rattle.static_index.proofs.KeepsLemmas.{All-insert, apart_all, refiled}
@@ -32,15 +33,16 @@ invariant_of-self-in-Ok c =
     let old = c.self.inside.filing in
     let new = c.file.new.self in
     let entries = c.self.inside.entries in
-    let entry : Entry = record { parts = c.in_ok-parts.parts; choice = c.choose-choice.result } in
+    let entry : Entry = record { parts = c.new-parts.result; choice = c.in_ok-choice.choice } in
     let others = refiled old new c.args.id entries c.file.ensures.kept
     (apart_all (λ (e : ℕ × Entry). IsFiled old e.0 e.1) c.args.id entries (rw c.self.view_is c.requires) c.self.invariant.filed) in
+    let best = subst (λ (choice : Choice). IsBest choice c.new-parts.result) (sym c.in_ok-choice.ensures.ok) c.choose.ensures.best in
     record {
       ordered = c.in-Ok.ensures.ordered;
       filed = subst (All (λ (e : ℕ × Entry). IsFiled new e.0 e.1)) (sym c.in-Ok.ensures.ok) (All-insert (λ (e : ℕ × Entry). IsFiled new e.0 e.1) c.args.id entry entries c.in_ok-file.ensures.ok others);
       best =
-          subst (All (λ (e : ℕ × Entry). IsBest e.1.choice e.1.parts)) (sym c.in-Ok.ensures.ok)
-          (All-insert (λ (e : ℕ × Entry). IsBest e.1.choice e.1.parts) c.args.id entry entries c.choose-choice.ensures.best c.self.invariant.best);
+          subst (All (λ (e : ℕ × Entry). IsBest e.1.choice.value e.1.parts)) (sym c.in-Ok.ensures.ok)
+          (All-insert (λ (e : ℕ × Entry). IsBest e.1.choice.value e.1.parts) c.args.id entry entries best c.self.invariant.best);
     }
 
 pub invariant_of-self-in-Err : goal.invariant_of-self-in-Err
@@ -55,14 +57,14 @@ invariant_of-self-in-Err c =
     record {
       ordered = c.in-Err.ensures.ordered;
       filed = subst (All (λ (e : ℕ × Entry). IsFiled new e.0 e.1)) (sym c.in-Err.ensures.kept) left;
-      best = subst (All (λ (e : ℕ × Entry). IsBest e.1.choice e.1.parts)) (sym c.in-Err.ensures.kept) c.self.invariant.best;
+      best = subst (All (λ (e : ℕ × Entry). IsBest e.1.choice.value e.1.parts)) (sym c.in-Err.ensures.kept) c.self.invariant.best;
     }
 
 pub returns-in-Ok-clause-ok : goal.returns-in-Ok-clause-ok
 returns-in-Ok-clause-ok c =
     let one : Condition = record { id = c.args.id; parts = fixed_parts c.args.condition.now } in
-    let entry : Entry = record { parts = c.in_ok-parts.parts; choice = c.choose-choice.result } in
+    let entry : Entry = record { parts = c.new-parts.result; choice = c.in_ok-choice.choice } in
     ap conditions_of c.in-Ok.ensures.ok
     ∙ conditions_of-insert c.args.id entry c.self.inside.entries (rw c.self.view_is c.requires)
-    ∙ ap (λ parts. with_condition (record { id = c.args.id; parts = parts }) (conditions_of c.self.inside.entries)) c.in_ok-parts.ensures
+    ∙ ap (λ parts. with_condition (record { id = c.args.id; parts = parts }) (conditions_of c.self.inside.entries)) (c.new-parts.ensures ∙ c.in_ok-copy_fixed.ensures)
     ∙ ap (with_condition one) c.self.view_is

@@ -19,9 +19,9 @@ invariant_of-self c =
       ordered = c.in-Some.ensures.ordered;
       filed = subst (All (λ (e : ℕ × Entry). IsFiled new e.0 e.1)) (sym c.in-Some.ensures.others) left;
       best =
-          subst (All (λ (e : ℕ × Entry). IsBest e.1.choice e.1.parts)) (sym c.in-Some.ensures.others)
-          (All-weaker (λ (e : ℕ × Entry). (e.0 ≢ c.args.id) × IsBest e.1.choice e.1.parts) (λ e. IsBest e.1.choice e.1.parts) (λ e h. h.1) _
-          (apart_removed (λ (e : ℕ × Entry). IsBest e.1.choice e.1.parts) c.args.id c.self.inside.entries c.self.invariant.ordered c.self.invariant.best));
+          subst (All (λ (e : ℕ × Entry). IsBest e.1.choice.value e.1.parts)) (sym c.in-Some.ensures.others)
+          (All-weaker (λ (e : ℕ × Entry). (e.0 ≢ c.args.id) × IsBest e.1.choice.value e.1.parts) (λ e. IsBest e.1.choice.value e.1.parts) (λ e h. h.1) _
+          (apart_removed (λ (e : ℕ × Entry). IsBest e.1.choice.value e.1.parts) c.args.id c.self.inside.entries c.self.invariant.ordered c.self.invariant.best));
     }
 
 pub invariant_of-self-in_default : goal.invariant_of-self-in_default
@@ -33,9 +33,9 @@ invariant_of-self-in_default c =
       ordered = c.in_default.ensures.ordered;
       filed = subst (All (λ (e : ℕ × Entry). IsFiled old e.0 e.1)) (sym c.in_default.ensures.others) left;
       best =
-          subst (All (λ (e : ℕ × Entry). IsBest e.1.choice e.1.parts)) (sym c.in_default.ensures.others)
-          (All-weaker (λ (e : ℕ × Entry). (e.0 ≢ c.args.id) × IsBest e.1.choice e.1.parts) (λ e. IsBest e.1.choice e.1.parts) (λ e h. h.1) _
-          (apart_removed (λ (e : ℕ × Entry). IsBest e.1.choice e.1.parts) c.args.id c.self.inside.entries c.self.invariant.ordered c.self.invariant.best));
+          subst (All (λ (e : ℕ × Entry). IsBest e.1.choice.value e.1.parts)) (sym c.in_default.ensures.others)
+          (All-weaker (λ (e : ℕ × Entry). (e.0 ≢ c.args.id) × IsBest e.1.choice.value e.1.parts) (λ e. IsBest e.1.choice.value e.1.parts) (λ e h. h.1) _
+          (apart_removed (λ (e : ℕ × Entry). IsBest e.1.choice.value e.1.parts) c.args.id c.self.inside.entries c.self.invariant.ordered c.self.invariant.best));
     }
 
 pub returns-in-Some : goal.returns-in-Some
