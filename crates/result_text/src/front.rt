@@ -6,13 +6,15 @@ ghost use Rattle.semantics.specs.Report.{is_special, quoted};
 
 use crate::tails::quote;
 use event_types::{List, Memory};
+use smallvec::SmallVec;
 use std::alloc::Global;
 use std::marker::Model;
 
-/// The front of a query's result lines: its name, quoted where it has to be, and a comma.
+/// The front of a query's result lines: its name, quoted where it has to be, and a comma. A front of up to 24 bytes
+/// stands in place; a longer one stands on the heap.
 #[derive(Drop)]
 pub struct Front {
-    bytes: Vec<u8>,
+    bytes: SmallVec<u8, 24>,
 }
 
 impl Model for Front {
@@ -37,6 +39,7 @@ impl Front {
     }
 
     /// The bytes of the front.
+    #[inline(always)]
     pub(crate) fn as_slice(&self) -> &[u8]
         ensures { result.now ≡ self.now }
     {
@@ -45,14 +48,14 @@ impl Front {
 }
 
 // A text as a field, which is copied where no byte of it calls for quotes.
-fn field_of(alloc: Global, text: &[u8]) -> Result<Vec<u8>, Memory>
+fn field_of(alloc: Global, text: &[u8]) -> Result<SmallVec<u8, 24>, Memory>
     ensures { IfOk result (λ field. field.items ≡ quoted text.now) }
 {
     if needs_quotes(text) {
-        return quote(alloc, text);
+        let field = quote(alloc, text)?;
+        return Ok(SmallVec::from_slice(alloc, field.as_slice())?);
     }
-    let field = Vec::from_slice(alloc, text)?;
-    Ok(field)
+    Ok(SmallVec::from_slice(alloc, text)?)
 }
 
 // Whether a text as a field needs quotes.
