@@ -1,5 +1,5 @@
 -- Buckets of which those with instances come first.
-use Rattle.std.proofs.Common.{◌≡◌, ◌∙◌, sym, ap, refl, ℕ, zero, suc, ◌+◌, ◌-◌, ◌<◌, ◌≤◌, ◌⊎◌, inl, inr, Bool, true, false, cond, get_or, take, length, List, [], ◌∷◌, nat_lt, arith}
+use Rattle.std.proofs.Common.{◌≡◌, ◌∙◌, sym, ap, refl, ℕ, zero, suc, ◌-◌, ◌<◌, ◌≤◌, ◌⊎◌, inl, inr, true, false, cond, get_or, take, length, List, [], ◌∷◌, nat_lt, arith}
 use Rattle.std.specs.List.{filter, swap}
 use Rattle.std.proofs.lemmas.Bool.{cases_eq, le-ltb, lt-ltb}
 use Rattle.std.proofs.lemmas.Bool.Decides.{nat_tests}
@@ -25,29 +25,12 @@ set_aside filled place bs cs within lt long split gone e n d low = go (cases_eq 
         near : nat_lt n filled ≡ nat_lt n (filled - 1)
         near = grind (arith, nat_tests)
 
--- a bucket that got an instance changes places with the first one that has none
-pub set_forward : (filled place : ℕ) (bs cs : List Bucket) → place < length bs → filled ≤ place → length cs ≡ length bs → IsSplitBut place filled bs
-    → ((d : Bucket) → is_filled (get_or bs place d) ≡ true) → cs ≡ swap bs place filled → IsSplit (filled + 1) cs
-set_forward filled place bs cs within le long split got e n d low = go (cases_eq n filled) (cases_eq n place)
-  where
-    moved : (get_or cs place d ≡ get_or bs filled d) × (get_or cs filled d ≡ get_or bs place d) × ((m : ℕ) → (m ≡ place → ⊥) → (m ≡ filled → ⊥) → get_or cs m d ≡ get_or bs m d)
-    moved = swapped_from_swap bs cs place filled d within (omega arith) e
-
-    go : (n ≡ filled) ⊎ (n ≡ filled → ⊥) → (n ≡ place) ⊎ (n ≡ place → ⊥) → is_filled (get_or cs n d) ≡ nat_lt n (filled + 1)
-    go (inl last) _ = ap (λ m. is_filled (get_or cs m d)) last ∙ ap is_filled moved.1 ∙ got d ∙ sym (lt-ltb n (filled + 1) (omega arith))
-    go (inr other) (inl here) =
-        ap (λ m. is_filled (get_or cs m d)) here ∙ ap is_filled moved.0 ∙ split filled d (λ h. other (here ∙ sym h)) (omega arith) ∙ le-ltb filled filled (omega arith) ∙ sym (le-ltb n (filled + 1) (omega arith))
-    go (inr other) (inr apart) = ap is_filled (moved.2 n apart other) ∙ split n d apart (omega arith) ∙ near
-      where
-        near : nat_lt n filled ≡ nat_lt n (filled + 1)
-        near = grind (arith, nat_tests)
-
--- a bucket that stands where it should
-pub stands : (filled place : ℕ) (bs : List Bucket) → IsSplitBut place filled bs → ((d : Bucket) → is_filled (get_or bs place d) ≡ nat_lt place filled) → IsSplit filled bs
-stands filled place bs split here n d lt = go (cases_eq n place)
+-- a bucket with instances stands among the first
+pub stands : (filled place : ℕ) (bs : List Bucket) → place < filled → IsSplitBut place filled bs → ((d : Bucket) → is_filled (get_or bs place d) ≡ true) → IsSplit filled bs
+stands filled place bs low split here n d lt = go (cases_eq n place)
   where
     go : (n ≡ place) ⊎ (n ≡ place → ⊥) → is_filled (get_or bs n d) ≡ nat_lt n filled
-    go (inl e) = ap (λ m. is_filled (get_or bs m d)) e ∙ here d ∙ ap (λ m. nat_lt m filled) (sym e)
+    go (inl e) = ap (λ m. is_filled (get_or bs m d)) e ∙ here d ∙ sym (lt-ltb n filled (omega arith))
     go (inr apart) = split n d apart lt
 
 -- all that are kept have instances
@@ -71,9 +54,3 @@ first_filled (suc filled) (b ∷ bs) split =
   where
     less : (n filled : ℕ) → nat_lt (suc n) (suc filled) ≡ nat_lt n filled
     less n filled = grind (arith, nat_tests)
-
--- a bucket that isn't moved stands where it should
-pub where_it_should : (has : Bool) (place filled : ℕ) → ((place < filled) × (has ≡ true)) ⊎ (filled ≤ place) → ((filled ≤ place) × (has ≡ false)) ⊎ (place < filled) → has ≡ nat_lt place filled
-where_it_should has place filled (inl h) k = h.1 ∙ sym (lt-ltb place filled h.0)
-where_it_should has place filled (inr h) (inl k) = k.1 ∙ sym (le-ltb place filled h)
-where_it_should has place filled (inr h) (inr k) = absurd (omega arith)

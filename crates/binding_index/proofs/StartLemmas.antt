@@ -2,14 +2,15 @@
 use Rattle.std.proofs.Common.{◌≡◌, ◌∙◌, sym, ap, refl, subst, ℕ, zero, suc, ◌<◌, ◌≤◌, ◌⊎◌, inl, inr, Bool, true, false, get_or, length, length-append, set, List, [], ◌∷◌, ◌++◌, arith}
 use Rattle.std.specs.Prelude.{Some, slice_get}
 use Rattle.std.specs.List.{All, filter, swap}
-use Rattle.std.proofs.lemmas.Bool.{cases_eq, cases_lt}
+use Rattle.std.proofs.lemmas.Bool.{cases_eq, cases_lt, le-ltb}
 use Rattle.std.proofs.lemmas.List.Edits.{swapped_from_swap}
 use Rattle.std.proofs.lemmas.List.Elements.{All-nil, All-same, All-weaker}
 use Rattle.std.proofs.lemmas.Option.{get_or_from_slice_get}
 use Rattle.event_types.specs.declared.value.Value.{Value}
 use Rattle.indexmap.specs.IndexMap.{set_value_at}
 use Rattle.instances.specs.declared.instance.Instance.{Instance}
-use Rattle.binding_index.specs.Buckets.{AreStarts, Bucket, StartFrom, StartsFrom}
+use Rattle.binding_index.specs.Buckets.{AreStarts, Bucket, IsSplit, StartFrom, StartsFrom}
+use Rattle.binding_index.proofs.BucketLemmas.{empty}
 use Rattle.binding_index.proofs.WriteLemmas.{length_written, others_written, there_written}
 
 -- an earlier time serves too
@@ -83,6 +84,15 @@ fewer_pass test (x ∷ xs) (suc i) time lt was is = go (fewer_pass test xs i tim
     go : length (filter test (set xs i time)) < length (filter test xs) → (t : Bool) → test x ≡ t → length (filter test (x ∷ set xs i time)) < length (filter test (x ∷ xs))
     go rest true e = rw e (omega (arith, rest))
     go rest false e = rw e rest
+
+-- a bucket without instances starts no earlier than any time
+pub starts_behind : (filled place time : ℕ) (starts : List ℕ) (bs : List Bucket) → filled ≤ place → IsSplit filled bs → AreStarts starts bs → AreStarts (set starts place time) bs
+starts_behind filled place time starts bs behind split start n d lt = go (cases_eq n place)
+  where
+    go : (n ≡ place) ⊎ (n ≡ place → ⊥) → StartsFrom (get_or (set starts place time) n 0) (get_or bs n d)
+    go (inl here) =
+        All-same (λ (x : Instance). get_or (set starts place time) n 0 ≤ x.tuple.from) _ _ (empty (get_or bs n d).1 (split n d lt ∙ le-ltb n filled (omega (arith, here, behind)))) (All-nil _)
+    go (inr other) = subst (λ (start' : ℕ). StartsFrom start' (get_or bs n d)) (sym (other_time starts place time n other)) (start n d lt)
 
 -- an empty bucket behind the others starts no earlier than any time
 pub starts_added : (starts : List ℕ) (bs : List Bucket) (key : Value) → AreStarts starts bs → AreStarts starts (bs ++ (key, []) ∷ [])

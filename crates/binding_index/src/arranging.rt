@@ -33,8 +33,8 @@ pub(crate) fn lower(starts: &mut Deadlines, place: usize, time: u128)
     }
 }
 
-/// The place after the last bucket with instances, once the bucket at `place` stands among them or behind
-/// them, as it has some. The others did, where `filled` was the place after the last of them. A bucket that is
+/// The place after the last bucket with instances, once the bucket at `place`, which stands among them, stands behind
+/// them if it has none. The others have some, where `filled` was the place after the last of them. A bucket that is
 /// moved takes its time along. Takes no memory.
 pub(crate) fn arrange(
     buckets: &mut Buckets,
@@ -43,7 +43,7 @@ pub(crate) fn arrange(
     place: usize,
 ) -> usize
     requires within { filled ≤ length buckets.old.entries }
-    requires there { place < length buckets.old.entries }
+    requires there { place < filled }
     requires room { length buckets.old.entries ≤ length starts.old }
     requires others { IsSplitBut place filled buckets.old.entries }
     requires starts { AreStarts starts.old buckets.old.entries }
@@ -53,19 +53,12 @@ pub(crate) fn arrange(
     ensures split { IsSplit result buckets.new.entries }
     ensures starts { AreStarts starts.new buckets.new.entries }
     ensures same_starts { IsPermutation starts.old starts.new }
-    ensures near { place < filled → place ≤ result }
-    ensures pass { (test : Instance → Bool) → place < filled → PassFrom test place buckets.old.entries → PassFrom test place buckets.new.entries }
+    ensures near { place ≤ result }
+    ensures pass { (test : Instance → Bool) → PassFrom test place buckets.old.entries → PassFrom test place buckets.new.entries }
 {
-    // `len` is called for its clause that the number of buckets is below 2^63
-    let _len = buckets.len();
-    let has_some = buckets[place].has_some();
-    if place < filled && !has_some {
+    if !buckets[place].has_some() {
         exchange(buckets, starts, place, filled - 1);
         return filled - 1;
-    }
-    if filled <= place && has_some {
-        exchange(buckets, starts, place, filled);
-        return filled + 1;
     }
     filled
 }

@@ -9,8 +9,9 @@ ghost use Rattle.binding_index.specs.Leads.{Leads, StandOnce, is_ready_at, pairs
 
 use crate::entries::place_of;
 use crate::store::Store;
-use event_types::{Copied, List, Memory, Numbers, Value};
+use event_types::{Copied, Memory, Value};
 use indexmap::IndexMap;
+use short_lists::ShortList;
 use std::alloc::Global;
 use std::marker::Model;
 
@@ -18,7 +19,7 @@ use std::marker::Model;
 /// with a key.
 #[derive(Drop)]
 pub struct Directory {
-    states: IndexMap<Value, Numbers>,
+    states: IndexMap<Value, ShortList>,
     // how many pairs of a key and a state there are, or 2^64-1 where there are more
     pairs: u64,
 }
@@ -88,7 +89,7 @@ impl Directory {
             keep_ready(states, key, stores);
         }
         self.states.retain(
-            |_key: &Value, states: &mut Numbers| -> bool
+            |_key: &Value, states: &mut ShortList| -> bool
                 ensures { (result ≡ has_any states.old) × (states.new ≡ states.old) }
             { has_some(states) },
         );
@@ -97,7 +98,7 @@ impl Directory {
 }
 
 // Lets a key lead to a state; gives how many pairs were added.
-fn lead(states: &mut IndexMap<Value, Numbers>, key: &Value, state: usize) -> Result<u64, Memory>
+fn lead(states: &mut IndexMap<Value, ShortList>, key: &Value, state: usize) -> Result<u64, Memory>
     ensures added { IfOk result (λ added. pairs_of states.new.entries ≡ pairs_of states.old.entries + added) }
     ensures ok { OnOk result ((other : Value) (number : ℕ) → Leads states.new.entries other number ↔ (Leads states.old.entries other number ⊎ ((key.now ≡ other) × (state ≡ number)))) }
     ensures kept { OnErr result (states.new.entries ≡ states.old.entries) }
@@ -108,7 +109,7 @@ fn lead(states: &mut IndexMap<Value, Numbers>, key: &Value, state: usize) -> Res
     }
     let alloc = *states.allocator();
     let key = key.copied(alloc)?;
-    let mut numbers = List::new(alloc);
+    let mut numbers = ShortList::new(alloc);
     let added = add(&mut numbers, state)?;
     match states.insert(key, numbers) {
         Ok(_) => Ok(added),
@@ -117,7 +118,7 @@ fn lead(states: &mut IndexMap<Value, Numbers>, key: &Value, state: usize) -> Res
 }
 
 // Adds a state's number, unless it is there; gives how many were added.
-fn add(states: &mut Numbers, state: usize) -> Result<u64, Memory>
+fn add(states: &mut ShortList, state: usize) -> Result<u64, Memory>
     ensures added { IfOk result (λ added. length states.new ≡ length states.old + added) }
     ensures ok { OnOk result ((number : ℕ) → Contains states.new number ↔ (Contains states.old number ⊎ (state ≡ number))) }
     ensures kept { OnErr result (states.new ≡ states.old) }
@@ -126,14 +127,12 @@ fn add(states: &mut Numbers, state: usize) -> Result<u64, Memory>
     if states.as_slice().contains(&state) {
         return Ok(0);
     }
-    match states.push(state) {
-        Ok(()) => Ok(1),
-        Err(_) => Err(Memory),
-    }
+    states.add(state)?;
+    Ok(1)
 }
 
 // The number of pairs, or 2^64-1 where there are more.
-fn count_pairs(states: &IndexMap<Value, Numbers>) -> u64
+fn count_pairs(states: &IndexMap<Value, ShortList>) -> u64
     ensures { result ≡ min (pairs_of states.now.entries) (2 ^ 64 - 1) }
 {
     let mut count: u64 = 0;
@@ -144,21 +143,21 @@ fn count_pairs(states: &IndexMap<Value, Numbers>) -> u64
 }
 
 // Whether there is a number.
-fn has_some(states: &Numbers) -> bool
+fn has_some(states: &ShortList) -> bool
     ensures { result ≡ has_any states.now }
 {
     states.len() > 0
 }
 
 // Keeps the states in whose stores the key is ready.
-fn keep_ready(states: &mut Numbers, key: &Value, stores: &[Option<Store>])
+fn keep_ready(states: &mut ShortList, key: &Value, stores: &[Option<Store>])
     ensures { states.new ≡ filter (λ number. is_ready_at stores.now number key.now) states.old }
 {
     let mut kept = 0;
     for place in 0..states.len() {
-        let state = *states.get(place);
+        let state = states.as_slice()[place];
         if is_ready(stores, state, key) {
-            *states.get_mut(kept) = state;
+            states.set(kept, state);
             kept += 1;
         }
     }

@@ -51,8 +51,8 @@ fn first_before(starts: &Deadlines, time: u128) -> Option<usize>
     starts.first_until(time.checked_sub(1)?)
 }
 
-// Takes the instances that no event after `now` can match out of the bucket at a place, if one stands there, as
-// its time has passed, and gives the place another time. It gives the place after the last bucket with instances.
+// Takes the instances that no event after `now` can match out of the bucket at a place, if that has any, as its
+// time has passed, and gives the place another time. It gives the place after the last bucket with instances.
 fn expire_at(
     buckets: &mut Buckets,
     starts: &mut Deadlines,
@@ -76,7 +76,7 @@ fn expire_at(
     ensures fewer { passed (now + 1) condition.now starts.new < passed (now + 1) condition.now starts.old }
 {
     let earliest = earliest_alive(condition, now);
-    if place >= buckets.len() {
+    if place >= filled {
         starts.set(place, NEVER);
         return filled;
     }

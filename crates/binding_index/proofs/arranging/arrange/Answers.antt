@@ -2,46 +2,29 @@ use Rattle.std.proofs.Common.{◌∙◌, ◌-◌, sym, arith}
 use Rattle.std.proofs.lemmas.List.Sorted.{IsPermutation-swap}
 use Rattle.binding_index.proofs.CutLemmas.{pass_swapped}
 use Rattle.binding_index.proofs.MapLemmas.{filled_there}
-use Rattle.binding_index.proofs.SplitLemmas.{set_aside, set_forward, stands, where_it_should}
+use Rattle.binding_index.proofs.SplitLemmas.{set_aside, stands}
 use Rattle.binding_index.proofs.StartLemmas.{starts_swapped}
 use Rattle.binding_index.proofs.arranging.arrange.Goals as goal
 
 pub returns-then-not-has_some-clause-split : goal.returns-then-not-has_some-clause-split
 returns-then-not-has_some-clause-split c =
-    set_aside c.args.filled c.args.place c.args.buckets.now.entries c.exchange.new.buckets.entries c.requires.within c.if-place-filled.true c.exchange.ensures.as_many c.requires.others
-    (λ d. filled_there c.args.buckets.now.entries c.args.place c.index.result.now c.index.ensures d ∙ sym c.has_some-has_some.ensures ∙ c.if-not-has_some.true) c.exchange.ensures.buckets
+    set_aside c.args.filled c.args.place c.args.buckets.now.entries c.exchange.new.buckets.entries c.requires.within c.requires.there c.exchange.ensures.as_many c.requires.others
+    (λ d. filled_there c.args.buckets.now.entries c.args.place c.index.result.now c.index.ensures d ∙ sym c.has_some.ensures ∙ c.if-not-has_some.true) c.exchange.ensures.buckets
 
 pub returns-then-not-has_some-clause-starts : goal.returns-then-not-has_some-clause-starts
 returns-then-not-has_some-clause-starts c =
-    starts_swapped c.args.starts.now c.exchange.new.starts c.args.buckets.now.entries c.exchange.new.buckets.entries c.args.place (c.args.filled - 1) c.requires.there (omega (arith, c.if-place-filled.true, c.requires.within)) c.requires.room c.exchange.ensures.as_many
+    starts_swapped c.args.starts.now c.exchange.new.starts c.args.buckets.now.entries c.exchange.new.buckets.entries c.args.place (c.args.filled - 1) (omega (arith, c.requires.there, c.requires.within)) (omega (arith, c.requires.there, c.requires.within)) c.requires.room c.exchange.ensures.as_many
     c.exchange.ensures.buckets c.exchange.ensures.starts c.requires.starts
 
 pub returns-then-not-has_some-clause-same_starts : goal.returns-then-not-has_some-clause-same_starts
 returns-then-not-has_some-clause-same_starts c =
-    let room = c.requires.room in
-    IsPermutation-swap c.args.starts.now c.exchange.new.starts c.args.place (c.args.filled - 1) (omega (arith, room, c.requires.there)) (omega (arith, room, c.if-place-filled.true, c.requires.within)) c.exchange.ensures.starts
-
-pub returns-then-has_some-clause-split : goal.returns-then-has_some-clause-split
-returns-then-has_some-clause-split c =
-    set_forward c.args.filled c.args.place c.args.buckets.now.entries c.exchange-then-has_some.new.buckets.entries c.requires.there c.if-filled-place.true c.exchange-then-has_some.ensures.as_many c.requires.others
-    (λ d. filled_there c.args.buckets.now.entries c.args.place c.index.result.now c.index.ensures d ∙ sym c.has_some-has_some.ensures ∙ c.if-has_some.true) c.exchange-then-has_some.ensures.buckets
-
-pub returns-then-has_some-clause-starts : goal.returns-then-has_some-clause-starts
-returns-then-has_some-clause-starts c =
-    starts_swapped c.args.starts.now c.exchange-then-has_some.new.starts c.args.buckets.now.entries c.exchange-then-has_some.new.buckets.entries c.args.place c.args.filled c.requires.there (omega (arith, c.if-filled-place.true, c.requires.there)) c.requires.room c.exchange-then-has_some.ensures.as_many
-    c.exchange-then-has_some.ensures.buckets c.exchange-then-has_some.ensures.starts c.requires.starts
-
-pub returns-then-has_some-clause-same_starts : goal.returns-then-has_some-clause-same_starts
-returns-then-has_some-clause-same_starts c =
-    let room = c.requires.room in
-    IsPermutation-swap c.args.starts.now c.exchange-then-has_some.new.starts c.args.place c.args.filled (omega (arith, room, c.requires.there)) (omega (arith, room, c.if-filled-place.true, c.requires.there)) c.exchange-then-has_some.ensures.starts
+    IsPermutation-swap c.args.starts.now c.exchange.new.starts c.args.place (c.args.filled - 1) (omega (arith, c.requires.room, c.requires.there, c.requires.within)) (omega (arith, c.requires.room, c.requires.there, c.requires.within)) c.exchange.ensures.starts
 
 pub returns-clause-split : goal.returns-clause-split
 returns-clause-split c =
-    stands c.args.filled c.args.place c.args.buckets.now.entries c.requires.others
-    (λ d. filled_there c.args.buckets.now.entries c.args.place c.index.result.now c.index.ensures d ∙ sym c.has_some-has_some.ensures
-    ∙ where_it_should c.has_some-has_some.result c.args.place c.args.filled c.else-place-filled.either c.else-filled-place.either)
+    stands c.args.filled c.args.place c.args.buckets.now.entries c.requires.there c.requires.others
+    (λ d. filled_there c.args.buckets.now.entries c.args.place c.index.result.now c.index.ensures d ∙ sym c.has_some.ensures ∙ c.if-not-has_some.false)
 
 pub returns-then-not-has_some-clause-pass : goal.returns-then-not-has_some-clause-pass
-returns-then-not-has_some-clause-pass c test lt =
-    pass_swapped test c.args.place c.args.filled c.args.buckets.now.entries c.exchange.new.buckets.entries lt c.requires.within c.exchange.ensures.as_many c.exchange.ensures.buckets
+returns-then-not-has_some-clause-pass c test =
+    pass_swapped test c.args.place c.args.filled c.args.buckets.now.entries c.exchange.new.buckets.entries c.requires.there c.requires.within c.exchange.ensures.as_many c.exchange.ensures.buckets

@@ -8,9 +8,6 @@ use Rattle.binding_index.proofs.cutting.cut_at.Goals as goal
 pub arrange-requires-clause-within : goal.arrange-requires-clause-within
 arrange-requires-clause-within c = let long = length_written c.args.buckets.now.entries c.args.place c.keep_after.new.self in omega (arith, long, c.requires.within)
 
-pub arrange-requires-clause-there : goal.arrange-requires-clause-there
-arrange-requires-clause-there c = let long = length_written c.args.buckets.now.entries c.args.place c.keep_after.new.self in omega (arith, long, c.requires.there, c.requires.within)
-
 pub arrange-requires-clause-room : goal.arrange-requires-clause-room
 arrange-requires-clause-room c = let long = length_written c.args.buckets.now.entries c.args.place c.keep_after.new.self in omega (arith, long, c.requires.room)
 
@@ -28,5 +25,5 @@ returns-clause-began c =
 
 pub returns-clause-from : goal.returns-clause-from
 returns-clause-from c =
-    c.arrange.ensures.pass (λ instance. is_after (Some c.args.birth) instance.first) c.requires.there
+    c.arrange.ensures.pass (λ instance. is_after (Some c.args.birth) instance.first)
     (pass_written (λ instance. is_after (Some c.args.birth) instance.first) c.args.place c.args.buckets.now.entries c.index_mut.result.now c.keep_after.new.self c.index_mut.ensures.value c.keep_after.ensures c.requires.behind)

@@ -5,14 +5,20 @@ use Rattle.std.proofs.lemmas.List.Sorted.{length_permutation}
 use Rattle.scalar_expr.proofs.Bags.{filter_permuted}
 use Rattle.instances.specs.Alive.{is_alive}
 use Rattle.instances.specs.Bounds.{started}
+use Rattle.binding_index.specs.Buckets.{AreStarts}
 use Rattle.binding_index.proofs.ExpiryLemmas.{purged_there, starts_purged}
-use Rattle.binding_index.proofs.StartLemmas.{fewer_pass}
+use Rattle.binding_index.proofs.StartLemmas.{fewer_pass, starts_behind}
 use Rattle.binding_index.proofs.WriteLemmas.{length_written, split_written}
 use Rattle.binding_index.proofs.expiring.expire_at.Goals as goal
 
--- no bucket stands there, and the place gets a time that never passes
-pub returns-then-place-len-clause-fewer : goal.returns-then-place-len-clause-fewer
-returns-then-place-len-clause-fewer c =
+-- the bucket there has no instances, whatever time its place gets
+pub returns-then-place-filled-clause-starts : goal.returns-then-place-filled-clause-starts
+returns-then-place-filled-clause-starts c =
+    subst (λ (times : List ℕ). AreStarts times c.args.buckets.now.entries) (sym c.set.ensures) (starts_behind c.args.filled c.args.place 340282366920938463463374607431768211455 c.args.starts.now c.args.buckets.now.entries c.if-place-filled.true c.requires.split c.requires.starts)
+
+-- and that time never passes
+pub returns-then-place-filled-clause-fewer : goal.returns-then-place-filled-clause-fewer
+returns-then-place-filled-clause-fewer c =
     let test = λ (start : ℕ). not (is_alive (c.args.now + 1) c.args.condition.now (started start)) in
     subst (λ (times : List ℕ). length (filter test times) < length (filter test c.args.starts.now)) (sym c.set.ensures)
     (fewer_pass test c.args.starts.now c.args.place 340282366920938463463374607431768211455 c.requires.there (ap not c.requires.passed)
@@ -20,9 +26,6 @@ returns-then-place-len-clause-fewer c =
 
 pub arrange-requires-clause-within : goal.arrange-requires-clause-within
 arrange-requires-clause-within c = let long = length_written c.args.buckets.now.entries c.args.place c.keep_alive-oldest.new.self in omega (arith, long, c.requires.within)
-
-pub arrange-requires-clause-there : goal.arrange-requires-clause-there
-arrange-requires-clause-there c = let long = length_written c.args.buckets.now.entries c.args.place c.keep_alive-oldest.new.self in omega (arith, long, c.if-place-len.false, c.len.ensures.len)
 
 pub arrange-requires-clause-room : goal.arrange-requires-clause-room
 arrange-requires-clause-room c =
