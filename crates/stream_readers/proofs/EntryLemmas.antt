@@ -18,7 +18,7 @@ use Rattle.static_index.specs.declared.fixed_part.FixedPart.{FixedPart}
 use Rattle.stream_readers.specs.Filing.{Filed, filed_to, waiting_as}
 use Rattle.stream_readers.specs.Finding.{is_plain_on, is_root_on}
 use Rattle.stream_readers.specs.Leading.{lead_key_in}
-use Rattle.stream_readers.specs.Targets.{end_at, step_of, targets_at}
+use Rattle.stream_readers.specs.Targets.{end_at, end_by, step_of, targets_at}
 use Rattle.stream_readers.specs.Ways.{first_parts, parts_in}
 use Rattle.stream_readers.specs.declared.target.Target.TheVariants.{Edge}
 use Rattle.stream_readers.proofs.ChangeLemmas.{given_below, passing_given, passing_one, row_of}
@@ -33,7 +33,7 @@ edge_filed net number = record { target = Edge number; parts = first_parts (step
 -- the ends of a state from a place on, as they are filed
 abbrev pub ends_filed : ℕ → ℕ → List End → List Filed
 ends_filed number place [] = []
-ends_filed number place (end ∷ ends) = record { target = end_at number place; parts = first_parts end.step } ∷ ends_filed number (place + 1) ends
+ends_filed number place (end ∷ ends) = record { target = end_by number place end.step; parts = first_parts end.step } ∷ ends_filed number (place + 1) ends
 
 -- what is filed of a state that may be there, where it is a root of a stream
 abbrev pub entry_of : (ℕ → Filed) → ℕ → ℕ → Option State → List Filed
@@ -59,18 +59,18 @@ targets_given net stream = given_below (entry net stream) (length net)
 abbrev pub waits_given : Net → ℕ → List Condition
 waits_given net stream = given_below (λ k. row_of k (asked_at net stream k)) (length net)
 
-ends_as : (net : Net) (n : ℕ) (before after : List End) → ends_at net n ≡ before ++ after → map (filed_to net) (map (end_at n) (range_with_len (length before) (length after))) ≡ ends_filed n (length before) after
+ends_as : (net : Net) (n : ℕ) (before after : List End) → ends_at net n ≡ before ++ after → map (filed_to net) (map (end_at net n) (range_with_len (length before) (length after))) ≡ ends_filed n (length before) after
 ends_as net n before [] is = refl
 ends_as net n before (end ∷ after) is =
-    ap (λ (o : Option End). record { target = end_at n (length before); parts = first_parts (step_of o) } ∷ map (filed_to net) (map (end_at n) (range_with_len (length before + 1) (length after))))
+    ap (λ (o : Option End). record { target = end_by n (length before) (step_of o); parts = first_parts (step_of o) } ∷ map (filed_to net) (map (end_at net n) (range_with_len (length before + 1) (length after))))
     (ap (λ (ends : List End). slice_get ends (length before)) is ∙ at_seam before after end)
-    ∙ ap (λ fs. record { target = end_at n (length before); parts = first_parts end.step } ∷ fs)
-    (ap (λ m. map (filed_to net) (map (end_at n) (range_with_len m (length after)))) (sym (length-append before (end ∷ []))) ∙ ends_as net n (before ++ end ∷ []) after (is ∙ sym (append_assoc before (end ∷ []) after))
+    ∙ ap (λ fs. record { target = end_by n (length before) end.step; parts = first_parts end.step } ∷ fs)
+    (ap (λ m. map (filed_to net) (map (end_at net n) (range_with_len m (length after)))) (sym (length-append before (end ∷ []))) ∙ ends_as net n (before ++ end ∷ []) after (is ∙ sym (append_assoc before (end ∷ []) after))
     ∙ ap (λ m. ends_filed n m after) (length-append before (end ∷ [])))
 
 pub state_as : (net : Net) (n : ℕ) → map (filed_to net) (targets_at net n) ≡ map (edge_filed net) (edges_at net n) ++ ends_filed n 0 (ends_at net n)
 state_as net n =
-    let places = map (end_at n) (range_with_len 0 (length (ends_at net n))) in
+    let places = map (end_at net n) (range_with_len 0 (length (ends_at net n))) in
     map-append (filed_to net) (map Edge (edges_at net n)) places ∙ ap (λ fs. fs ++ map (filed_to net) places) (map-map (filed_to net) Edge (edges_at net n))
     ∙ ap (λ fs. map (edge_filed net) (edges_at net n) ++ fs) (ends_as net n [] (ends_at net n) refl)
 

@@ -13,7 +13,7 @@ use Rattle.static_index.specs.Conditions.{Condition, ids_of, with_condition}
 use Rattle.automaton.specs.States.{Net, edges_at, ends_at}
 use Rattle.automaton.specs.declared.network.End.{End}
 use Rattle.stream_readers.specs.Filing.{Filed, filed_to}
-use Rattle.stream_readers.specs.Targets.{end_at, step_of, targets_at}
+use Rattle.stream_readers.specs.Targets.{end_at, end_by, step_of, targets_at}
 use Rattle.stream_readers.specs.Ways.{first_parts}
 use Rattle.stream_readers.specs.declared.target.Target.TheVariants.{Edge}
 
@@ -65,26 +65,26 @@ mapped_more f xs i d old now new lt was is =
     (ap (λ ys. old ++ ys) (sym (ap (map f) (take_more xs i d lt) ∙ map-append f (take i xs) (get_or xs i d ∷ []))))
 
 -- one end more
-pub ends_more : (net : Net) (number place : ℕ) (end : End) (old now new : List Filed) → slice_get (ends_at net number) place ≡ Some end → IsPermutation now (old ++ map (λ place. filed_to net (end_at number place)) (range_with_len 0 place))
-    → IsPermutation new (now ++ record { target = end_at number place; parts = first_parts end.step } ∷ []) → IsPermutation new (old ++ map (λ place. filed_to net (end_at number place)) (range_with_len 0 (place + 1)))
+pub ends_more : (net : Net) (number place : ℕ) (end : End) (old now new : List Filed) → slice_get (ends_at net number) place ≡ Some end → IsPermutation now (old ++ map (λ place. filed_to net (end_at net number place)) (range_with_len 0 place))
+    → IsPermutation new (now ++ record { target = end_by number place end.step; parts = first_parts end.step } ∷ []) → IsPermutation new (old ++ map (λ place. filed_to net (end_at net number place)) (range_with_len 0 (place + 1)))
 ends_more net number place end old now new here was is =
-    let filed : ℕ → Filed = λ place. filed_to net (end_at number place) in
+    let filed : ℕ → Filed = λ place. filed_to net (end_at net number place) in
     permuted_to
     (pushed_on old (map filed (range_with_len 0 place)) now new (filed place) was
-    (permuted_to is (ap (λ (o : Option End). now ++ record { target = end_at number place; parts = first_parts (step_of o) } ∷ []) (sym here))))
+    (permuted_to is (ap (λ (o : Option End). now ++ record { target = end_by number place (step_of o); parts = first_parts (step_of o) } ∷ []) (sym here))))
     (ap (λ ys. old ++ ys) (sym (ap (map filed) (numbers_more place) ∙ map-append filed (range_with_len 0 place) (place ∷ []))))
 
 -- the edges and the ends of a root
 pub both_added : (net : Net) (number : ℕ) (old now new : List Filed) → IsPermutation now (old ++ map (λ state. filed_to net (Edge state)) (edges_at net number))
-    → IsPermutation new (now ++ map (λ place. filed_to net (end_at number place)) (range_with_len 0 (length (ends_at net number)))) → IsPermutation new (old ++ map (filed_to net) (targets_at net number))
+    → IsPermutation new (now ++ map (λ place. filed_to net (end_at net number place)) (range_with_len 0 (length (ends_at net number)))) → IsPermutation new (old ++ map (filed_to net) (targets_at net number))
 both_added net number old now new one two =
     let edges = edges_at net number in
     let places = range_with_len 0 (length (ends_at net number)) in
-    let ends = map (λ place. filed_to net (end_at number place)) places in
+    let ends = map (λ place. filed_to net (end_at net number place)) places in
     let ways = map (λ state. filed_to net (Edge state)) edges in
     permuted_to (IsPermutation-trans new (now ++ ends) ((old ++ ways) ++ ends) two (IsPermutation-append_left ends now (old ++ ways) one))
     (append_assoc old ways ends
     ∙ ap (λ fs. old ++ fs)
-    (sym (map-append (filed_to net) (map Edge edges) (map (end_at number) places)
-    ∙ ap (λ fs. fs ++ map (filed_to net) (map (end_at number) places)) (map-map (filed_to net) Edge edges)
-    ∙ ap (λ fs. ways ++ fs) (map-map (filed_to net) (end_at number) places))))
+    (sym (map-append (filed_to net) (map Edge edges) (map (end_at net number) places)
+    ∙ ap (λ fs. fs ++ map (filed_to net) (map (end_at net number) places)) (map-map (filed_to net) Edge edges)
+    ∙ ap (λ fs. ways ++ fs) (map-map (filed_to net) (end_at net number) places))))

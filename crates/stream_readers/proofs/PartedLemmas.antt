@@ -17,28 +17,33 @@ use Rattle.stream_readers.specs.Changing.{Files, Parts}
 use Rattle.stream_readers.specs.Filing.{Filed, filed_under}
 use Rattle.stream_readers.specs.Leaving.{left_by, moved}
 use Rattle.stream_readers.specs.Readers.{AreReadersOf}
-use Rattle.stream_readers.specs.Targets.{end_at}
+use Rattle.stream_readers.specs.Targets.{end_by}
 use Rattle.stream_readers.specs.Ways.{first_parts}
 use Rattle.stream_readers.specs.declared.reader.Reader.{Reader}
 use Rattle.stream_readers.specs.declared.target.Target.{Target}
 use Rattle.stream_readers.specs.declared.target.Target.TheVariants.{Edge}
+use Rattle.stream_readers.specs.declared.target.Target.TheVariants as target
 use Rattle.stream_readers.proofs.ChangeLemmas.{given_alike, given_twice}
 use Rattle.stream_readers.proofs.EntryLemmas.{edge_filed, edges_alike, ends_filed, entry, entry_of, no_root, past_unused, stays, targets_given, unused_entry, waits_alike}
 use Rattle.stream_readers.proofs.GrownLemmas.{targets_alike, targets_at_one, targets_come, targets_leave, targets_stay, waiting_alike, waits_stay}
 
+-- an end as it leaves: only its state and its place tell which it is
+abbrev pub gone_at : ℕ → ℕ → Target
+gone_at number place = target.End (record { state = number; place = place; passes = false })
+
 -- one end more is filed last
-ends_last : (number place : ℕ) (ends : List End) (end : End) → ends_filed number place (ends ++ end ∷ []) ≡ ends_filed number place ends ++ record { target = end_at number (place + length ends); parts = first_parts end.step } ∷ []
-ends_last number place [] end = ap (λ k. record { target = end_at number k; parts = first_parts end.step } ∷ []) (let e : place ≡ place + 0 = omega arith in e)
+ends_last : (number place : ℕ) (ends : List End) (end : End) → ends_filed number place (ends ++ end ∷ []) ≡ ends_filed number place ends ++ record { target = end_by number (place + length ends) end.step; parts = first_parts end.step } ∷ []
+ends_last number place [] end = ap (λ k. record { target = end_by number k end.step; parts = first_parts end.step } ∷ []) (let e : place ≡ place + 0 = omega arith in e)
 ends_last number place (first ∷ ends) end =
-    ap (λ fs. record { target = end_at number place; parts = first_parts first.step } ∷ fs)
-    (ends_last number (place + 1) ends end ∙ ap (λ k. ends_filed number (place + 1) ends ++ record { target = end_at number k; parts = first_parts end.step } ∷ []) (let e : (place + 1) + length ends ≡ place + suc (length ends) = omega arith in e))
+    ap (λ fs. record { target = end_by number place first.step; parts = first_parts first.step } ∷ fs)
+    (ends_last number (place + 1) ends end ∙ ap (λ k. ends_filed number (place + 1) ends ++ record { target = end_by number k end.step; parts = first_parts end.step } ∷ []) (let e : (place + 1) + length ends ≡ place + suc (length ends) = omega arith in e))
 
 -- ends behind one that left stand a place before
-behind : (number gone place : ℕ) (ends : List End) → gone < place → flat_map (left_by (end_at number gone)) (ends_filed number place ends) ≡ ends_filed number (place - 1) ends
+behind : (number gone place : ℕ) (ends : List End) → gone < place → flat_map (left_by (gone_at number gone)) (ends_filed number place ends) ≡ ends_filed number (place - 1) ends
 behind number gone place [] lt = refl
 behind number gone place (end ∷ ends) lt =
-    ap (λ o. filed_under (first_parts end.step) o ++ flat_map (left_by (end_at number gone)) (ends_filed number (place + 1) ends)) here
-    ∙ ap (λ fs. record { target = end_at number (place - 1); parts = first_parts end.step } ∷ fs) (behind number gone (place + 1) ends (omega arith) ∙ ap (λ k. ends_filed number k ends) (let e : (place + 1) - 1 ≡ (place - 1) + 1 = omega arith in e))
+    ap (λ o. filed_under (first_parts end.step) o ++ flat_map (left_by (gone_at number gone)) (ends_filed number (place + 1) ends)) here
+    ∙ ap (λ fs. record { target = end_by number (place - 1) end.step; parts = first_parts end.step } ∷ fs) (behind number gone (place + 1) ends (omega arith) ∙ ap (λ k. ends_filed number k ends) (let e : (place + 1) - 1 ≡ (place - 1) + 1 = omega arith in e))
   where
     past : {m n : ℕ} → n < m → nat_lt m n ≡ false
     past {m} {n} lt = grind (arith, nat_tests)
@@ -46,10 +51,10 @@ behind number gone place (end ∷ ends) lt =
     apart : {m n : ℕ} → n < m → (m == n) ≡ false
     apart {m} {n} lt = is_other m n (λ e. absurd (omega (arith, lt, e)))
 
-    here : moved (end_at number gone) (end_at number place) ≡ Some (end_at number (place - 1))
+    here : moved (gone_at number gone) (end_by number place end.step) ≡ Some (end_by number (place - 1) end.step)
     here =
-        ap (λ b. cond (not b || nat_lt place gone) (Some (end_at number place)) (cond (place == gone) None (Some (end_at number (place - 1))))) (self_equal number)
-        ∙ ap (λ b. cond b (Some (end_at number place)) (cond (place == gone) None (Some (end_at number (place - 1))))) (past lt) ∙ ap (λ b. cond b None (Some (end_at number (place - 1)))) (apart lt)
+        ap (λ b. cond (not b || nat_lt place gone) (Some (end_by number place end.step)) (cond (place == gone) None (Some (end_by number (place - 1) end.step)))) (self_equal number)
+        ∙ ap (λ b. cond b (Some (end_by number place end.step)) (cond (place == gone) None (Some (end_by number (place - 1) end.step)))) (past lt) ∙ ap (λ b. cond b None (Some (end_by number (place - 1) end.step))) (apart lt)
 
 abbrev no_ends : List End
 no_ends = []
@@ -59,46 +64,46 @@ nothing_less zero = refl
 nothing_less (suc at) = refl
 
 -- an end that leaves
-end_left : (number place at : ℕ) (ends : List End) → flat_map (left_by (end_at number (place + at))) (ends_filed number place ends) ≡ ends_filed number place (remove ends at)
+end_left : (number place at : ℕ) (ends : List End) → flat_map (left_by (gone_at number (place + at))) (ends_filed number place ends) ≡ ends_filed number place (remove ends at)
 end_left number place at [] = ap (λ (es : List End). ends_filed number place es) (sym (nothing_less at))
 end_left number place zero (end ∷ ends) =
-    ap (λ k. flat_map (left_by (end_at number k)) (ends_filed number place (end ∷ ends))) (let e : place + 0 ≡ place = omega arith in e)
-    ∙ ap (λ o. filed_under (first_parts end.step) o ++ flat_map (left_by (end_at number place)) (ends_filed number (place + 1) ends)) here
+    ap (λ k. flat_map (left_by (gone_at number k)) (ends_filed number place (end ∷ ends))) (let e : place + 0 ≡ place = omega arith in e)
+    ∙ ap (λ o. filed_under (first_parts end.step) o ++ flat_map (left_by (gone_at number place)) (ends_filed number (place + 1) ends)) here
     ∙ behind number place (place + 1) ends (omega arith) ∙ ap (λ k. ends_filed number k ends) (let e : (place + 1) - 1 ≡ place = omega arith in e)
   where
     even : (m : ℕ) → nat_lt m m ≡ false
     even m = grind (arith, nat_tests)
 
-    here : moved (end_at number place) (end_at number place) ≡ None
+    here : moved (gone_at number place) (end_by number place end.step) ≡ None
     here =
-        ap (λ b. cond (not b || nat_lt place place) (Some (end_at number place)) (cond (place == place) None (Some (end_at number (place - 1))))) (self_equal number)
-        ∙ ap (λ b. cond b (Some (end_at number place)) (cond (place == place) None (Some (end_at number (place - 1))))) (even place) ∙ ap (λ b. cond b None (Some (end_at number (place - 1)))) (self_equal place)
+        ap (λ b. cond (not b || nat_lt place place) (Some (end_by number place end.step)) (cond (place == place) None (Some (end_by number (place - 1) end.step)))) (self_equal number)
+        ∙ ap (λ b. cond b (Some (end_by number place end.step)) (cond (place == place) None (Some (end_by number (place - 1) end.step)))) (even place) ∙ ap (λ b. cond b None (Some (end_by number (place - 1) end.step))) (self_equal place)
 end_left number place (suc at) (end ∷ ends) =
-    ap (λ o. filed_under (first_parts end.step) o ++ flat_map (left_by (end_at number (place + suc at))) (ends_filed number (place + 1) ends)) here
-    ∙ ap (λ fs. record { target = end_at number place; parts = first_parts end.step } ∷ fs)
-    (ap (λ k. flat_map (left_by (end_at number k)) (ends_filed number (place + 1) ends)) (let e : place + suc at ≡ (place + 1) + at = omega arith in e) ∙ end_left number (place + 1) at ends)
+    ap (λ o. filed_under (first_parts end.step) o ++ flat_map (left_by (gone_at number (place + suc at))) (ends_filed number (place + 1) ends)) here
+    ∙ ap (λ fs. record { target = end_by number place end.step; parts = first_parts end.step } ∷ fs)
+    (ap (λ k. flat_map (left_by (gone_at number k)) (ends_filed number (place + 1) ends)) (let e : place + suc at ≡ (place + 1) + at = omega arith in e) ∙ end_left number (place + 1) at ends)
   where
-    here : moved (end_at number (place + suc at)) (end_at number place) ≡ Some (end_at number place)
+    here : moved (gone_at number (place + suc at)) (end_by number place end.step) ≡ Some (end_by number place end.step)
     here =
-        ap (λ b. cond (not b || nat_lt place (place + suc at)) (Some (end_at number place)) (cond (place == (place + suc at)) None (Some (end_at number (place - 1))))) (self_equal number)
-        ∙ ap (λ b. cond b (Some (end_at number place)) (cond (place == (place + suc at)) None (Some (end_at number (place - 1))))) (is_below place (place + suc at) (omega arith))
+        ap (λ b. cond (not b || nat_lt place (place + suc at)) (Some (end_by number place end.step)) (cond (place == (place + suc at)) None (Some (end_by number (place - 1) end.step)))) (self_equal number)
+        ∙ ap (λ b. cond b (Some (end_by number place end.step)) (cond (place == (place + suc at)) None (Some (end_by number (place - 1) end.step)))) (is_below place (place + suc at) (omega arith))
 
 -- the ends of another state stay
-ends_stay : (number gone other place : ℕ) (ends : List End) → (other == number) ≡ false → flat_map (left_by (end_at number gone)) (ends_filed other place ends) ≡ ends_filed other place ends
+ends_stay : (number gone other place : ℕ) (ends : List End) → (other == number) ≡ false → flat_map (left_by (gone_at number gone)) (ends_filed other place ends) ≡ ends_filed other place ends
 ends_stay number gone other place [] differs = refl
 ends_stay number gone other place (end ∷ ends) differs =
-    ap (λ b. filed_under (first_parts end.step) (cond (not b || nat_lt place gone) (Some (end_at other place)) (cond (place == gone) None (Some (end_at other (place - 1))))) ++ flat_map (left_by (end_at number gone)) (ends_filed other (place + 1) ends)) differs
-    ∙ ap (λ fs. record { target = end_at other place; parts = first_parts end.step } ∷ fs) (ends_stay number gone other (place + 1) ends differs)
+    ap (λ b. filed_under (first_parts end.step) (cond (not b || nat_lt place gone) (Some (end_by other place end.step)) (cond (place == gone) None (Some (end_by other (place - 1) end.step)))) ++ flat_map (left_by (gone_at number gone)) (ends_filed other (place + 1) ends)) differs
+    ∙ ap (λ fs. record { target = end_by other place end.step; parts = first_parts end.step } ∷ fs) (ends_stay number gone other (place + 1) ends differs)
 
 -- edges stay where an end leaves
-edges_stay : (net : Net) (number gone : ℕ) (edges : List ℕ) → flat_map (left_by (end_at number gone)) (map (edge_filed net) edges) ≡ map (edge_filed net) edges
+edges_stay : (net : Net) (number gone : ℕ) (edges : List ℕ) → flat_map (left_by (gone_at number gone)) (map (edge_filed net) edges) ≡ map (edge_filed net) edges
 edges_stay net number gone [] = refl
 edges_stay net number gone (edge ∷ edges) = ap (λ fs. edge_filed net edge ∷ fs) (edges_stay net number gone edges)
 
 -- ends stay where an edge leaves
 pub ends_kept : (gone number place : ℕ) (ends : List End) → flat_map (left_by (Edge gone)) (ends_filed number place ends) ≡ ends_filed number place ends
 ends_kept gone number place [] = refl
-ends_kept gone number place (end ∷ ends) = ap (λ fs. record { target = end_at number place; parts = first_parts end.step } ∷ fs) (ends_kept gone number (place + 1) ends)
+ends_kept gone number place (end ∷ ends) = ap (λ fs. record { target = end_by number place end.step; parts = first_parts end.step } ∷ fs) (ends_kept gone number (place + 1) ends)
 
 -- an edge that leaves
 pub edge_left : (net : Net) (gone : ℕ) (edges : List ℕ) → flat_map (left_by (Edge gone)) (map (edge_filed net) edges) ≡ map (edge_filed net) (without_number gone edges)
@@ -153,17 +158,17 @@ module _ (old new : Net) (network : IsNetwork old) where
             let out = ap (λ n. tells s (root_at old n)) e ∙ none in no_root new s k (ap (λ o. tells s (option_and_then root_by o)) (end_entered k) ∙ out) ∙ sym (no_root old s k out)
         go false differs = end_others s k (other_number k state differs)
 
-    end_more : (s : ℕ) → tells s (root_at old state) ≡ true → entry new s state ≡ entry old s state ++ record { target = end_at state (length (ends_at old state)); parts = first_parts end.step } ∷ []
+    end_more : (s : ℕ) → tells s (root_at old state) ≡ true → entry new s state ≡ entry old s state ++ record { target = end_by state (length (ends_at old state)) end.step; parts = first_parts end.step } ∷ []
     end_more s told = ap (entry_of (edge_filed new) s state) adds.here ∙ go (state_at old state) told (end_edges state)
       where
         go : (o : Option State) → tells s (root_in o) ≡ true → map (edge_filed new) (edges_in o) ≡ map (edge_filed old) (edges_in o)
-            → entry_of (edge_filed new) s state (with_end end o) ≡ entry_of (edge_filed old) s state o ++ record { target = end_at state (length (ends_in o)); parts = first_parts end.step } ∷ []
+            → entry_of (edge_filed new) s state (with_end end o) ≡ entry_of (edge_filed old) s state o ++ record { target = end_by state (length (ends_in o)) end.step; parts = first_parts end.step } ∷ []
         go None told edges = absurd (cc)
         go (Some st) told edges =
             let own = map (edge_filed old) st.edges in
-            let x : List Filed = record { target = end_at state (length st.ends); parts = first_parts end.step } ∷ [] in
+            let x : List Filed = record { target = end_by state (length st.ends) end.step; parts = first_parts end.step } ∷ [] in
             ap (λ b. cond b (map (edge_filed new) st.edges ++ ends_filed state 0 (st.ends ++ end ∷ [])) []) told
-            ∙ ap (λ fs. fs ++ ends_filed state 0 (st.ends ++ end ∷ [])) edges ∙ ap (λ fs. own ++ fs) (ends_last state 0 st.ends end ∙ ap (λ k. ends_filed state 0 st.ends ++ record { target = end_at state k; parts = first_parts end.step } ∷ []) (let e : 0 + length st.ends ≡ length st.ends = omega arith in e))
+            ∙ ap (λ fs. fs ++ ends_filed state 0 (st.ends ++ end ∷ [])) edges ∙ ap (λ fs. own ++ fs) (ends_last state 0 st.ends end ∙ ap (λ k. ends_filed state 0 st.ends ++ record { target = end_by state k end.step; parts = first_parts end.step } ∷ []) (let e : 0 + length st.ends ≡ length st.ends = omega arith in e))
             ∙ sym (append_assoc own (ends_filed state 0 st.ends) x) ∙ ap (λ b. cond b (own ++ ends_filed state 0 st.ends) [] ++ x) (sym told)
 
     end_there : is_used new state ≡ true
@@ -174,7 +179,7 @@ module _ (old new : Net) (network : IsNetwork old) where
         go (Some st) some = refl
 
     -- an end comes to a root
-    pub end_comes : (stream : ℕ) (readers filed : List Reader) → Some stream ≡ root_at old state → Files stream (record { target = end_at state (length (ends_at old state)); parts = first_parts end.step } ∷ []) readers filed → AreReadersOf old readers → AreReadersOf new filed
+    pub end_comes : (stream : ℕ) (readers filed : List Reader) → Some stream ≡ root_at old state → Files stream (record { target = end_by state (length (ends_at old state)) end.step; parts = first_parts end.step } ∷ []) readers filed → AreReadersOf old readers → AreReadersOf new filed
     end_comes stream readers filed root files are = λ s. record {
       targets =
           targets_come old new readers filed stream x files (λ s. (are s).targets)
@@ -184,7 +189,7 @@ module _ (old new : Net) (network : IsNetwork old) where
     }
       where
         x : List Filed
-        x = record { target = end_at state (length (ends_at old state)); parts = first_parts end.step } ∷ []
+        x = record { target = end_by state (length (ends_at old state)) end.step; parts = first_parts end.step } ∷ []
 
     -- and to a waiting state
     pub no_end_comes : (readers : List Reader) → None ≡ root_at old state → AreReadersOf old readers → AreReadersOf new readers
@@ -218,40 +223,40 @@ module _ (old new : Net) (network : IsNetwork old) where
         go false differs = stays old new s k (cut_edges k) (removes.others k (other_number k state differs))
 
     module _ (place : ℕ) (only : without_numbered number (ends_at old state) ≡ remove (ends_at old state) place) where
-      cut_here : (s : ℕ) → entry new s state ≡ flat_map (left_by (end_at state place)) (entry old s state)
+      cut_here : (s : ℕ) → entry new s state ≡ flat_map (left_by (gone_at state place)) (entry old s state)
       cut_here s = ap (entry_of (edge_filed new) s state) removes.here ∙ go (state_at old state) (cut_edges state) only
         where
           go : (o : Option State) → map (edge_filed new) (edges_in o) ≡ map (edge_filed old) (edges_in o) → without_numbered number (ends_in o) ≡ remove (ends_in o) place
-              → entry_of (edge_filed new) s state (without_end number o) ≡ flat_map (left_by (end_at state place)) (entry_of (edge_filed old) s state o)
+              → entry_of (edge_filed new) s state (without_end number o) ≡ flat_map (left_by (gone_at state place)) (entry_of (edge_filed old) s state o)
           go None edges ends = refl
           go (Some st) edges ends =
               let b = tells s (root_in (Some st)) in
               ap (λ fs. cond b (fs ++ ends_filed state 0 (without_numbered number st.ends)) []) (edges ∙ sym (edges_stay old state place st.edges))
-              ∙ ap (λ fs. cond b (flat_map (left_by (end_at state place)) (map (edge_filed old) st.edges) ++ fs) [])
-              (ap (ends_filed state 0) ends ∙ sym (end_left state 0 place st.ends) ∙ ap (λ k. flat_map (left_by (end_at state k)) (ends_filed state 0 st.ends)) (let e : 0 + place ≡ place = omega arith in e))
-              ∙ sym (left_entry (end_at state place) b (map (edge_filed old) st.edges) (ends_filed state 0 st.ends))
+              ∙ ap (λ fs. cond b (flat_map (left_by (gone_at state place)) (map (edge_filed old) st.edges) ++ fs) [])
+              (ap (ends_filed state 0) ends ∙ sym (end_left state 0 place st.ends) ∙ ap (λ k. flat_map (left_by (gone_at state k)) (ends_filed state 0 st.ends)) (let e : 0 + place ≡ place = omega arith in e))
+              ∙ sym (left_entry (gone_at state place) b (map (edge_filed old) st.edges) (ends_filed state 0 st.ends))
 
-      cut_other : (s k : ℕ) → (k == state) ≡ false → entry new s k ≡ flat_map (left_by (end_at state place)) (entry old s k)
+      cut_other : (s k : ℕ) → (k == state) ≡ false → entry new s k ≡ flat_map (left_by (gone_at state place)) (entry old s k)
       cut_other s k differs =
           let b = tells s (root_at old k) in
           let edges = map (edge_filed old) (edges_at old k) in
           let ends = ends_filed k 0 (ends_at old k) in
           stays old new s k (cut_edges k) (removes.others k (other_number k state differs))
           ∙ ap (λ fs. cond b (fs ++ ends) []) (sym (edges_stay old state place (edges_at old k)))
-          ∙ ap (λ fs. cond b (flat_map (left_by (end_at state place)) edges ++ fs) []) (sym (ends_stay state place k 0 (ends_at old k) differs)) ∙ sym (left_entry (end_at state place) b edges ends)
+          ∙ ap (λ fs. cond b (flat_map (left_by (gone_at state place)) edges ++ fs) []) (sym (ends_stay state place k 0 (ends_at old k) differs)) ∙ sym (left_entry (gone_at state place) b edges ends)
 
-      cut_each : (s k : ℕ) → entry new s k ≡ flat_map (left_by (end_at state place)) (entry old s k)
+      cut_each : (s k : ℕ) → entry new s k ≡ flat_map (left_by (gone_at state place)) (entry old s k)
       cut_each s k = go (k == state) refl
         where
-          go : (b : Bool) → (k == state) ≡ b → entry new s k ≡ flat_map (left_by (end_at state place)) (entry old s k)
-          go true is = subst (λ (n : ℕ). entry new s n ≡ flat_map (left_by (end_at state place)) (entry old s n)) (sym (same_number k state is)) (cut_here s)
+          go : (b : Bool) → (k == state) ≡ b → entry new s k ≡ flat_map (left_by (gone_at state place)) (entry old s k)
+          go true is = subst (λ (n : ℕ). entry new s n ≡ flat_map (left_by (gone_at state place)) (entry old s n)) (sym (same_number k state is)) (cut_here s)
           go false differs = cut_other s k differs
 
       -- an end leaves a root
-      pub end_leaves : (stream : ℕ) (readers left : List Reader) → Some stream ≡ root_at old state → Parts stream (end_at state place) readers left → AreReadersOf old readers → AreReadersOf new left
+      pub end_leaves : (stream : ℕ) (readers left : List Reader) → Some stream ≡ root_at old state → Parts stream (gone_at state place) readers left → AreReadersOf old readers → AreReadersOf new left
       end_leaves stream readers left root parts are = λ s. record {
         targets =
-            targets_leave old new readers left stream (end_at state place) parts (λ s. (are s).targets) (targets_left old new stream (end_at state place) (cut_each stream))
+            targets_leave old new readers left stream (gone_at state place) parts (λ s. (are s).targets) (targets_left old new stream (gone_at state place) (cut_each stream))
             (λ other differs. targets_alike old new other (cut_same other (ap (tells other) (sym root) ∙ differs))) s;
         waits = waits_stay old new readers left parts.waits (λ s. (are s).waits) (λ s. waiting_alike old new s (λ k. waits_alike old new s k (cut_entered k))) s;
       }

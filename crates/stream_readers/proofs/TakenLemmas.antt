@@ -122,7 +122,7 @@ module _ (gone : Target) (old new : Slots) (conditions : List Condition) (at : A
       by_target (Edge left) (Edge n) is = by_edge left n (n == left) is
       by_target (Edge left) (End here) is = absurd (cc)
       by_target (End left) (Edge n) is = is
-      by_target (End left) (End here) is = absurd (by_end (not (here.state == left.state) || nat_lt here.place left.place) (here.place == left.place) here (record { state = here.state; place = here.place - 1 }) is)
+      by_target (End left) (End here) is = absurd (by_end (not (here.state == left.state) || nat_lt here.place left.place) (here.place == left.place) here (record { state = here.state; place = here.place - 1; passes = here.passes }) is)
 
       go : (o : Option Target) → slot_at old place ≡ o → moved_in gone o ≡ Some (Edge state) → slot_at old place ≡ Some (Edge state)
       go None was is = absurd (cc)

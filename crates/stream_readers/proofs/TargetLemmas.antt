@@ -49,9 +49,9 @@ ends_used net n place lt = go (state_at net n) lt
 targets_are : (net : Net) → IsNetwork net → (n : ℕ) → All (IsTarget net) (targets_at net n)
 targets_are net network n =
     let count = length (ends_at net n) in
-    All-append (IsTarget net) (map target.Edge (edges_at net n)) (map (end_at n) (range_with_len 0 count)) (All-map (IsTarget net) target.Edge (edges_at net n) (edges_used net network n))
-    (All-map (IsTarget net) (end_at n) (range_with_len 0 count)
-    (All-weaker (λ (k : ℕ). k < count) (λ k. IsTarget net (end_at n k)) (λ k lt. (ends_used net n k lt, lt)) (range_with_len 0 count) (range_below 0 count count (omega arith))))
+    All-append (IsTarget net) (map target.Edge (edges_at net n)) (map (end_at net n) (range_with_len 0 count)) (All-map (IsTarget net) target.Edge (edges_at net n) (edges_used net network n))
+    (All-map (IsTarget net) (end_at net n) (range_with_len 0 count)
+    (All-weaker (λ (k : ℕ). k < count) (λ k. IsTarget net (end_at net n k)) (λ k lt. (ends_used net n k lt, lt, refl)) (range_with_len 0 count) (range_below 0 count count (omega arith))))
 
 -- those of the roots of a stream are there
 pub targets_there : (net : Net) → IsNetwork net → (stream : ℕ) → All (IsTarget net) (targets_on net stream)
@@ -66,12 +66,12 @@ into_ways net [] = refl
 into_ways net (k ∷ states) = ap (λ ways. Into k ∷ ways) (into_ways net states)
 
 -- the ends behind the first ones, by their places
-out_ways : (net : Net) (n : ℕ) (before after : List End) → ends_at net n ≡ before ++ after → flat_map (way_of net) (map (end_at n) (range_with_len (length before) (length after))) ≡ map Out after
+out_ways : (net : Net) (n : ℕ) (before after : List End) → ends_at net n ≡ before ++ after → flat_map (way_of net) (map (end_at net n) (range_with_len (length before) (length after))) ≡ map Out after
 out_ways net n before [] is = refl
 out_ways net n before (end ∷ after) is =
-    ap (λ o. out_by o ++ flat_map (way_of net) (map (end_at n) (range_with_len (length before + 1) (length after)))) (ap (λ (ends : List End). slice_get ends (length before)) is ∙ at_seam before after end)
+    ap (λ o. out_by o ++ flat_map (way_of net) (map (end_at net n) (range_with_len (length before + 1) (length after)))) (ap (λ (ends : List End). slice_get ends (length before)) is ∙ at_seam before after end)
     ∙ ap (λ ways. Out end ∷ ways)
-    (ap (λ m. flat_map (way_of net) (map (end_at n) (range_with_len m (length after)))) (sym (length-append before (end ∷ []))) ∙ out_ways net n (before ++ end ∷ []) after (is ∙ sym (append_assoc before (end ∷ []) after)))
+    (ap (λ m. flat_map (way_of net) (map (end_at net n) (range_with_len m (length after)))) (sym (length-append before (end ∷ []))) ∙ out_ways net n (before ++ end ∷ []) after (is ∙ sym (append_assoc before (end ∷ []) after)))
 
 -- nothing goes back to a root
 root_backs : (net : Net) (stream n : ℕ) → is_root_on net stream n ≡ true → backs_by n (wait_at net n) ≡ []
@@ -87,8 +87,8 @@ root_ways : (net : Net) (stream n : ℕ) → is_root_on net stream n ≡ true �
 root_ways net stream n is =
     let edges = map Into (edges_at net n) in
     let ends = map Out (ends_at net n) in
-    flat_map-append (way_of net) (map target.Edge (edges_at net n)) (map (end_at n) (range_with_len 0 (length (ends_at net n))))
-    ∙ ap (λ ways. ways ++ flat_map (way_of net) (map (end_at n) (range_with_len 0 (length (ends_at net n))))) (into_ways net (edges_at net n)) ∙ ap (λ ways. edges ++ ways) (out_ways net n [] (ends_at net n) refl)
+    flat_map-append (way_of net) (map target.Edge (edges_at net n)) (map (end_at net n) (range_with_len 0 (length (ends_at net n))))
+    ∙ ap (λ ways. ways ++ flat_map (way_of net) (map (end_at net n) (range_with_len 0 (length (ends_at net n))))) (into_ways net (edges_at net n)) ∙ ap (λ ways. edges ++ ways) (out_ways net n [] (ends_at net n) refl)
     ∙ ap (λ ways. edges ++ ways) (sym (append-nil ends)) ∙ ap (λ ways. edges ++ (ends ++ ways)) (sym (root_backs net stream n is))
 
 -- the targets of the roots of a stream lead on the ways out of these roots

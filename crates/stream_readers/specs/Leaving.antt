@@ -10,7 +10,7 @@ use Rattle.stream_readers.specs.declared.target.Target.TheVariants as target
 abbrev pub moved_end : EndPlace → EndPlace → Option Target
 moved_end left end =
     if not (end.state == left.state) || nat_lt end.place left.place then Some (target.End end)
-    else if end.place == left.place then None else Some (target.End (record { state = end.state; place = end.place - 1 }))
+    else if end.place == left.place then None else Some (target.End (record { state = end.state; place = end.place - 1; passes = end.passes }))
 
 -- what a target is once another has left
 abbrev pub moved : Target → Target → Option Target

@@ -8,7 +8,7 @@ ghost use Rattle.stream_readers.specs.Readers.{AreReadersOf};
 
 use crate::leading::lead_key;
 use crate::streams::{Streams, drop_target, drop_wait, file_target, file_wait};
-use crate::target::{EndPlace, Target};
+use crate::target::{EndPlace, Target, end_by};
 use automaton::{End, Ends, Hop, Network};
 use event_types::Memory;
 use std::alloc::Global;
@@ -73,7 +73,7 @@ pub(crate) fn file_end(
         return Ok(());
     };
     let place = network.ends(state).len();
-    let target = Target::End(EndPlace { state, place });
+    let target = end_by(state, place, &end.step);
     file_target(alloc, readers, stream, target, &end.step)
 }
 
@@ -87,7 +87,12 @@ pub(crate) fn drop_end(readers: &mut Streams, network: &Network, state: usize, n
     network.places();
     if let Some(stream) = network.root(state) {
         let place = place_of(network.ends(state), number);
-        drop_target(readers, stream, Target::End(EndPlace { state, place }));
+        let gone = EndPlace {
+            state,
+            place,
+            passes: false,
+        };
+        drop_target(readers, stream, Target::End(gone));
     }
 }
 

@@ -11,7 +11,7 @@ ghost use Rattle.stream_readers.specs.Targets.{end_at, targets_at};
 ghost use Rattle.stream_readers.specs.Ways.{first_parts};
 ghost use Rattle.stream_readers.specs.declared.target.Target.TheVariants.{Edge};
 
-use crate::target::{EndPlace, Target};
+use crate::target::{Target, end_by};
 use crate::target_index::TargetIndex;
 use automaton::{Network, Stage, Step};
 use event_types::Memory;
@@ -120,15 +120,12 @@ fn add_ends(
     number: usize,
 ) -> Result<(), Memory>
     requires { IsTrue (is_used network.now number) }
-    ensures { OnOk result (IsPermutation index.new (index.old ++ map (λ place. filed_to network.now (end_at number place)) (range_with_len 0 (length (ends_at network.now number))))) }
+    ensures { OnOk result (IsPermutation index.new (index.old ++ map (λ place. filed_to network.now (end_at network.now number place)) (range_with_len 0 (length (ends_at network.now number))))) }
 {
     let ends = network.ends(number);
     for place in 0..ends.len() {
-        let target = Target::End(EndPlace {
-            state: number,
-            place,
-        });
-        add_target(alloc, index, target, &ends.get(place).step)?;
+        let step = &ends.get(place).step;
+        add_target(alloc, index, end_by(number, place, step), step)?;
     }
     Ok(())
 }

@@ -1,8 +1,9 @@
 use Rattle.std.proofs.Common.{◌∙◌, ap, sym, subst, length, ◌∷◌, []}
 use Rattle.std.proofs.lemmas.Result.{on_ok_weaker}
 use Rattle.stream_readers.specs.Changing.{Files}
-use Rattle.stream_readers.specs.Targets.{end_at}
+use Rattle.stream_readers.specs.Targets.{end_by}
 use Rattle.stream_readers.specs.Ways.{first_parts}
+use Rattle.stream_readers.specs.declared.target.Target.{Target}
 use Rattle.stream_readers.proofs.PartedLemmas.{end_comes, no_end_comes}
 use Rattle.stream_readers.proofs.filing.file_end.Goals as goal
 
@@ -18,5 +19,6 @@ returns c =
     on_ok_weaker c.file_target.result
     (λ files new adds.
     end_comes old new c.places.ensures.network c.args.state c.args.end.now c.requires.used adds c.in-Some.stream c.args.readers.now c.file_target.new.readers (sym c.in-Some.is ∙ c.root.ensures)
-    (subst (λ n. Files c.in-Some.stream (record { target = end_at c.args.state n; parts = first_parts c.args.end.now.step } ∷ []) c.args.readers.now c.file_target.new.readers) at files) c.requires.readers)
+    (subst (λ n. Files c.in-Some.stream (record { target = end_by c.args.state n c.args.end.now.step; parts = first_parts c.args.end.now.step } ∷ []) c.args.readers.now c.file_target.new.readers) at
+    (subst (λ (t : Target). Files c.in-Some.stream (record { target = t; parts = first_parts c.args.end.now.step } ∷ []) c.args.readers.now c.file_target.new.readers) c.end_by-target.ensures files)) c.requires.readers)
     c.file_target.ensures

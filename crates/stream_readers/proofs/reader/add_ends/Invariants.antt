@@ -7,4 +7,4 @@ use Rattle.stream_readers.proofs.reader.add_ends.Given as goal
 
 -- the ends so far are added
 abbrev pub invariant-loop-place : goal.invariant-loop-place
-invariant-loop-place l = IsPermutation l.index (l.initial.index ++ map (λ place. filed_to l.network (end_at l.number place)) (range_with_len 0 l.place))
+invariant-loop-place l = IsPermutation l.index (l.initial.index ++ map (λ place. filed_to l.network (end_at l.network l.number place)) (range_with_len 0 l.place))
