@@ -18,6 +18,7 @@ use Rattle.automaton.specs.declared.step.Stage.{Stage}
 use Rattle.automaton.specs.declared.step.Stage.TheVariants.{Keep, Make}
 use Rattle.static_index.specs.FixedParts.{all_hold, fixed_part_of, fixed_parts, holds_if_any, part_holds}
 use Rattle.static_index.specs.declared.fixed_part.FixedPart.{FixedPart}
+use Rattle.stream_readers.specs.Targets.{only_fixed}
 use Rattle.epoch_draft.specs.Found.{IsFixedStage, IsLeftOf}
 
 -- each class of comparison
@@ -99,3 +100,10 @@ left_behind (Make m ∷ step) stage is fixed = absurd (subst IsFixedStage (sym (
 -- a step is left of itself
 pub left_whole : (step : List Stage) → IsLeftOf step step
 left_whole step = record { passes = λ tuple holds. refl; suits = λ tuple suits. suits; fewer = omega arith }
+
+-- of a step that asks nothing but fixed parts and changes nothing there is nothing left
+pub none_left : (step : List Stage) → only_fixed step ≡ true → IsLeftOf step []
+none_left [] all = left_whole []
+none_left (Keep condition ∷ []) all = left_behind (Keep condition ∷ []) (Keep condition) refl all
+none_left (Keep condition ∷ stage ∷ step) all = absurd (cc)
+none_left (Make m ∷ step) all = absurd (cc)

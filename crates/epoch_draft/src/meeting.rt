@@ -21,7 +21,7 @@ use crate::draft::{Draft, Pair};
 use crate::drawing::Drawing;
 use crate::going::{WayOut, go_into, go_out};
 use crate::matching::meet_wait;
-use crate::passing::left_of;
+use crate::passing::{left_of, left_unless};
 use crate::stored_network::StoredNetwork;
 use automaton::Network;
 use event_types::{Memory, StreamId, Tuple};
@@ -157,7 +157,7 @@ fn go<L: Ledger>(
         }
         Target::End(place) => {
             let end = network.ends(place.state).get(place.place);
-            let step = left_of(end.step.as_slice());
+            let step = left_unless(place.passes, end.step.as_slice());
             go_out(draft, &WayOut { end, step }, tuple, tuple.at(), last, steps)
         }
     }

@@ -1,6 +1,7 @@
 //! Tuples on their way through steps, with the number of tests.
-ghost use Rattle.std.specs.Prelude.{◌≡◌, ◌+◌, ◌≤◌, IfOk, IsTrue};
+ghost use Rattle.std.specs.Prelude.{◌≡◌, ◌+◌, ◌≤◌, true, IfOk, IsTrue};
 ghost use Rattle.automaton.specs.Steps.{pass};
+ghost use Rattle.stream_readers.specs.Targets.{only_fixed};
 ghost use Rattle.epoch_draft.specs.Found.{IsFixedStage, IsLeftOf};
 ghost use Rattle.epoch_draft.specs.Suits.{StepSuits};
 ghost use Rattle.epoch_draft.specs.Work.{keeps};
@@ -97,6 +98,15 @@ pub(crate) fn left_of(step: &[Stage]) -> &[Stage]
         Some(stage) if is_fixed_stage(stage) => &step[1..],
         _ => step,
     }
+}
+
+/// The same of a step that may be known to ask nothing but fixed parts, and is not looked at then. Takes no memory.
+#[inline(always)]
+pub(crate) fn left_unless(passes: bool, step: &[Stage]) -> &[Stage]
+    requires { passes ≡ true → only_fixed step.now ≡ true }
+    ensures { IsLeftOf step.now result.now }
+{
+    if passes { &[] } else { left_of(step) }
 }
 
 // Whether a stage is a condition of fixed parts alone.

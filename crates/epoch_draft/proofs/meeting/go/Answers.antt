@@ -5,7 +5,7 @@ use Rattle.std.proofs.lemmas.List.Elements.{All-head}
 use Rattle.automaton.specs.States.{Net, ends_at}
 use Rattle.automaton.specs.declared.network.End.{End}
 use Rattle.automaton.specs.declared.step.Stage.{Stage}
-use Rattle.stream_readers.specs.Targets.{out_by, way_of}
+use Rattle.stream_readers.specs.Targets.{IsTarget, only_fixed, out_by, step_of, way_of}
 use Rattle.stream_readers.specs.Ways.{Into, MeetsParts, Out, Way}
 use Rattle.stream_readers.specs.declared.target.Target.{Target}
 use Rattle.epoch_laws.specs.Instances.{began, begins}
@@ -24,6 +24,16 @@ go_into-requires-clause-suits g c =
     let left = subst (λ (step : List Stage). IsLeftOf step c.left_of-step.result.now) (c.as_slice.ensures ∙ c.step.ensures) c.left_of-step.ensures in
     left.suits x (All-head (WaySuits net x) (Into c.in-Edge.state) [] (subst (λ (t : Target). All (WaySuits net x) (way_of net t)) c.in-Edge.is c.requires.suits))
 
+-- where the target says so, the end's step asks nothing but fixed parts
+pub left_unless-step-requires : goal.left_unless-step-requires
+left_unless-step-requires g c = λ passes.
+    let net = c.args.network.now in
+    let place = c.in-End.place in
+    let end = c.get-end.result.now in
+    let got : slice_get (ends_at net place.state) place.place ≡ Some end = ap (λ es. slice_get es place.place) (sym c.ends.ensures) ∙ c.get-end.ensures in
+    let told = (subst (IsTarget net) c.in-End.is c.requires.target).2 in
+    ap only_fixed (c.as_slice-in-End.ensures ∙ ap step_of (sym got)) ∙ sym told ∙ passes
+
 pub go_out-requires-clause-below : goal.go_out-requires-clause-below
 go_out-requires-clause-below g c =
     let net = c.args.network.now in
@@ -39,7 +49,7 @@ go_out-requires-clause-suits g c =
     let place = c.in-End.place in
     let end = c.get-end.result.now in
     let got : slice_get (ends_at net place.state) place.place ≡ Some end = ap (λ es. slice_get es place.place) (sym c.ends.ensures) ∙ c.get-end.ensures in
-    let left = subst (λ (step : List Stage). IsLeftOf step c.left_of-step-in-End.result.now) c.as_slice-in-End.ensures c.left_of-step-in-End.ensures in
+    let left = subst (λ (step : List Stage). IsLeftOf step c.left_unless-step.result.now) c.as_slice-in-End.ensures c.left_unless-step.ensures in
     left.suits x
     (All-head (WaySuits net x) (Out end) []
     (subst (λ (o : Option End). All (WaySuits net x) (out_by o)) got (subst (λ (t : Target). All (WaySuits net x) (way_of net t)) c.in-End.is c.requires.suits)))
@@ -51,7 +61,7 @@ go_out-requires-clause-passes g c =
     let place = c.in-End.place in
     let end = c.get-end.result.now in
     let got : slice_get (ends_at net place.state) place.place ≡ Some end = ap (λ es. slice_get es place.place) (sym c.ends.ensures) ∙ c.get-end.ensures in
-    let left = subst (λ (step : List Stage). IsLeftOf step c.left_of-step-in-End.result.now) c.as_slice-in-End.ensures c.left_of-step-in-End.ensures in
+    let left = subst (λ (step : List Stage). IsLeftOf step c.left_unless-step.result.now) c.as_slice-in-End.ensures c.left_unless-step.ensures in
     left.passes x
     (All-head (MeetsParts net x) (Out end) []
     (subst (λ (o : Option End). All (MeetsParts net x) (out_by o)) got (subst (λ (t : Target). All (MeetsParts net x) (way_of net t)) c.in-End.is c.requires.met)))
