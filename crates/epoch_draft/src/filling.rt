@@ -4,6 +4,7 @@ ghost use Rattle.std.specs.List.{All};
 ghost use Rattle.epoch_draft.specs.Filling.{IsLengthened};
 
 use event_types::{List, Memory};
+use short_lists::ShortList;
 use std::alloc::Global;
 
 /// Puts the item at the end of a list until there are so many. After want of memory there may be more than before.
@@ -44,8 +45,24 @@ pub fn lengthen_lists<T: Drop>(
     Ok(())
 }
 
-/// Drops the items of the lists at these places, and keeps their room. Takes no memory.
-pub(crate) fn clear_lists<T: Drop>(lists: &mut List<List<T>>, numbers: &[usize])
+/// Puts empty lists of numbers at the end until there are so many. After want of memory there may be more than before.
+pub(crate) fn lengthen_short_lists(
+    alloc: Global,
+    lists: &mut List<ShortList>,
+    count: usize,
+) -> Result<(), Memory>
+    ensures more { IsLengthened [] lists.old lists.new }
+    ensures long { OnOk result (count ≤ length lists.new) }
+    ensures within { length lists.old ≤ count → length lists.new ≤ count }
+{
+    while lists.len() < count {
+        lists.add(ShortList::new(alloc))?;
+    }
+    Ok(())
+}
+
+/// Drops the numbers of the lists at these places, and keeps their room. Takes no memory.
+pub(crate) fn clear_short_lists(lists: &mut List<ShortList>, numbers: &[usize])
     requires numbers { All (λ number. number < length lists.old) numbers.now }
     requires others { (place : ℕ) → (slice_index_or lists.old place [] ≡ []) ⊎ Contains numbers.now place }
     ensures as_many { length lists.new ≡ length lists.old }

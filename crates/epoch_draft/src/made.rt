@@ -10,11 +10,12 @@ ghost use Rattle.semantics.specs.Denotation.{joined, selected};
 ghost use Rattle.semantics.specs.Runs.{rebound};
 ghost use Rattle.epoch_draft.specs.Made.{ArePlaced, EndsWith, placed};
 
-use crate::filling::{clear_lists, lengthen_lists};
+use crate::filling::{clear_short_lists, lengthen_short_lists};
 use crate::placing::put_places_in_order;
 use crate::spare::Spare;
-use event_types::{List, Memory, Numbers, StreamId, Tuple, Tuples};
+use event_types::{List, Memory, StreamId, Tuple, Tuples};
 use scalar_expr::Map;
+use short_lists::ShortList;
 use std::alloc::Global;
 use std::marker::Model;
 
@@ -25,7 +26,7 @@ use std::marker::Model;
 pub struct Made {
     alloc: Global,
     tuples: Tuples,
-    places: List<Numbers>,
+    places: List<ShortList>,
     sorting: Vec<usize>,
     spare: Spare,
 }
@@ -35,7 +36,7 @@ pub struct Made {
 #[derive(Clone, Copy, Drop)]
 pub struct PlacedTuples<'a> {
     pub tuples: &'a [Tuple],
-    pub places: &'a [Numbers],
+    pub places: &'a [ShortList],
 }
 
 impl Model for Made {
@@ -72,7 +73,7 @@ impl Made {
         ensures empty { (stream : ℕ) → slice_index_or self.new stream [] ≡ [] }
     {
         self.places.truncate(streams);
-        lengthen_lists(self.alloc, &mut self.places, streams)
+        lengthen_short_lists(self.alloc, &mut self.places, streams)
     }
 
     /// The number of streams.
@@ -87,7 +88,8 @@ impl Made {
         requires { place < length (slice_index_or self.now stream []) }
         ensures { slice_get (slice_index_or self.now stream []) place ≡ Some result.now }
     {
-        self.tuples.get(*self.places.get(stream).get(place))
+        let places = self.places.get(stream).as_slice();
+        self.tuples.get(places[place])
     }
 
     /// All tuples, and the places of each stream. Takes no memory.
@@ -171,8 +173,8 @@ impl Made {
         requires other { 0 < length (slice_index_or self.old other []) }
         ensures { (tuple : TupleView) → EndsWith (slice_index_or self.old other []) tuple → OnOk result (self.new ≡ slice_set self.old stream (slice_index_or self.old stream [] ++ tuple ∷ [])) }
     {
-        let places = self.places.get(other);
-        let place = *places.get(places.len() - 1);
+        let places = self.places.get(other).as_slice();
+        let place = places[places.len() - 1];
         self.places.get_mut(stream).add(place)
     }
 
@@ -183,7 +185,7 @@ impl Made {
         ensures taken { OnOk result (self.new ≡ slice_set self.old stream []) }
     {
         let places = self.places.get(stream).as_slice();
-        let tuples = copies(self.alloc, self.tuples.as_slice(), places)?;
+        let tuples = copies(self.alloc, &mut self.spare, self.tuples.as_slice(), places)?;
         self.places.get_mut(stream).clear();
         Ok(tuples)
     }
@@ -234,19 +236,24 @@ impl Made {
         ensures as_many { length self.new ≡ length self.old }
         ensures empty { (stream : ℕ) → slice_index_or self.new stream [] ≡ [] }
     {
-        clear_lists(&mut self.places, streams);
+        clear_short_lists(&mut self.places, streams);
         self.spare.empty(&mut self.tuples);
     }
 }
 
-// Copies of the tuples at these places.
-fn copies(alloc: Global, tuples: &[Tuple], places: &[usize]) -> Result<Vec<Tuple>, Memory>
+// Copies of the tuples at these places, in room that is kept for their values, if any is.
+fn copies(
+    alloc: Global,
+    spare: &mut Spare,
+    tuples: &[Tuple],
+    places: &[usize],
+) -> Result<Vec<Tuple>, Memory>
     requires { All (λ place. place < length tuples.now) places.now }
     ensures { IfOk result (λ copies. copies.items ≡ placed tuples.now places.now) }
 {
     let mut copies = Vec::with_capacity(alloc, places.len())?;
     for place in places {
-        copies.push(tuples[*place].copy(alloc)?)?;
+        copies.push(spare.copy(alloc, &tuples[*place])?)?;
     }
     Ok(copies)
 }

@@ -4,13 +4,14 @@ ghost use Rattle.std.specs.List.{All};
 ghost use Rattle.event_types.specs.Order.{sorted};
 ghost use Rattle.epoch_draft.specs.Made.{place_cmp, placed};
 
-use event_types::{Memory, Numbers, Tuple};
+use event_types::{Memory, Tuple};
+use short_lists::ShortList;
 use std::cmp::Ordering;
 
 /// Puts places in the order of the tuples there. `room` is used anew. After want of memory the places are of no more
 /// use.
 pub(crate) fn put_places_in_order(
-    places: &mut Numbers,
+    places: &mut ShortList,
     tuples: &[Tuple],
     room: &mut Vec<usize>,
 ) -> Result<(), Memory>
@@ -26,23 +27,23 @@ pub(crate) fn put_places_in_order(
 }
 
 // The same for two places. Takes no memory.
-fn put_two_in_order(places: &mut Numbers, tuples: &[Tuple])
+fn put_two_in_order(places: &mut ShortList, tuples: &[Tuple])
     requires two { length places.old ≡ 2 }
     requires below { All (λ place. place < length tuples.now) places.old }
     ensures below { All (λ place. place < length tuples.now) places.new }
     ensures ordered { placed tuples.now places.new ≡ sorted (placed tuples.now places.old) }
 {
-    let first = *places.get(0);
-    let second = *places.get(1);
+    let both = places.as_slice();
+    let (first, second) = (both[0], both[1]);
     if tuples[first] > tuples[second] {
-        *places.get_mut(0) = second;
-        *places.get_mut(1) = first;
+        places.set(0, second);
+        places.set(1, first);
     }
 }
 
 // The same for any number of places.
 fn put_many_in_order(
-    places: &mut Numbers,
+    places: &mut ShortList,
     tuples: &[Tuple],
     room: &mut Vec<usize>,
 ) -> Result<(), Memory>
@@ -76,7 +77,7 @@ fn compare(tuples: &[Tuple], one: usize, other: usize) -> Ordering
 }
 
 // Makes these the numbers of a list, or after want of memory some of them.
-fn fill(list: &mut Numbers, numbers: &[usize]) -> Result<(), Memory>
+fn fill(list: &mut ShortList, numbers: &[usize]) -> Result<(), Memory>
     ensures filled { OnOk result (list.new ≡ numbers.now) }
     ensures part { (count : ℕ) × (list.new ≡ take count numbers.now) }
 {
