@@ -7,7 +7,8 @@ ghost use Rattle.epoch_engine.specs.Entries.{AreEntriesOf, lists_of};
 
 use crate::entry::Entry;
 use crate::room::Room;
-use event_types::{Numbers, Tuple};
+use event_types::Tuple;
+use short_lists::ShortList;
 use std::marker::Model;
 
 /// What a batch shows: entries by ascending places, tuples, and for each stream, by its number, the places of its own
@@ -17,7 +18,7 @@ use std::marker::Model;
 pub struct Printed<'a> {
     pub entries: &'a [Entry],
     pub tuples: &'a [Tuple],
-    pub places: &'a [Numbers],
+    pub places: &'a [ShortList],
 }
 
 /// The results of an epoch: for each stream that is printed its tuples in their order. They stand in the room in
