@@ -1,15 +1,16 @@
 -- Networks that change by a state, an edge or an end stay networks.
-use Rattle.std.proofs.Common.{◌≡◌, ◌⊎◌, ◌∙◌, sym, ap, refl, subst, inl, inr, ℕ, ◌+◌, ◌==◌, Bool, true, false, IsTrue, [], ◌∷◌, ◌++◌, arith}
+use Rattle.std.proofs.Common.{◌≡◌, ◌⊎◌, ◌∙◌, sym, ap, refl, subst, inl, inr, ℕ, ◌+◌, ◌==◌, Bool, true, false, IsTrue, List, [], ◌∷◌, ◌++◌, arith}
 use Rattle.std.specs.Prelude.{Option, Some, None, is_some, count_by}
+use Rattle.std.specs.List.{swap_remove}
 use Rattle.std.specs.Option.{option_and_then}
 use Rattle.automaton.specs.declared.line.Hop.{Hop}
 use Rattle.automaton.specs.declared.network.End.{End}
 use Rattle.automaton.specs.declared.network.Entrance.{Entrance}
 use Rattle.automaton.specs.declared.network.State.{State}
-use Rattle.automaton.specs.Changes.{AddsEnd, AddsHop, AddsRoot, RemovesEnd, without_end}
+use Rattle.automaton.specs.Changes.{AddsEnd, AddsHop, AddsRoot, RemovesEnd, with_ends}
 use Rattle.automaton.specs.Networks.{IsAt, IsNetwork}
 use Rattle.automaton.specs.Prefixes.{Prefix, Root, After}
-use Rattle.automaton.specs.States.{Net, before_at, before_by, before_in, edges_at, edges_in, entrance_at, entrance_in, is_used, root_by, state_at, tells}
+use Rattle.automaton.specs.States.{Net, before_at, before_by, before_in, edges_at, edges_in, ends_at, entrance_at, entrance_in, is_used, root_by, state_at, tells}
 use Rattle.automaton.proofs.CountLemmas.{bit, count-push}
 use Rattle.event_types.proofs.NumberLemmas.{is_other, is_same}
 use Rattle.automaton.proofs.NumberLemmas.{are_same_or_not}
@@ -54,20 +55,22 @@ adds_end_network state end old new adds = network_alike old new
     (reads_alike entrance_in old new state (ap entrance_in adds.here ∙ end_entry end (state_at old state)) adds.others)
     (reads_alike edges_in old new state (ap edges_in adds.here ∙ end_edges end (state_at old state)) adds.others)
 
--- a state without an end has the same entry
-pub gone_entry : (number : ℕ) (slot : Option State) → entrance_in (without_end number slot) ≡ entrance_in slot
-gone_entry number None = refl
-gone_entry number (Some state) = refl
+-- a state with other ends has the same entry
+pub ends_entry : (ends : List End) (slot : Option State) → entrance_in (with_ends ends slot) ≡ entrance_in slot
+ends_entry ends None = refl
+ends_entry ends (Some state) = refl
 
-gone_edges : (number : ℕ) (slot : Option State) → edges_in (without_end number slot) ≡ edges_in slot
-gone_edges number None = refl
-gone_edges number (Some state) = refl
+ends_edges : (ends : List End) (slot : Option State) → edges_in (with_ends ends slot) ≡ edges_in slot
+ends_edges ends None = refl
+ends_edges ends (Some state) = refl
 
 -- a network without an end is a network
-pub removes_end_network : (state number : ℕ) (old new : Net) → RemovesEnd state number old new → IsNetwork old → IsNetwork new
-removes_end_network state number old new removes = network_alike old new
-    (reads_alike entrance_in old new state (ap entrance_in removes.here ∙ gone_entry number (state_at old state)) removes.others)
-    (reads_alike edges_in old new state (ap edges_in removes.here ∙ gone_edges number (state_at old state)) removes.others)
+pub removes_end_network : (state place : ℕ) (old new : Net) → RemovesEnd state place old new → IsNetwork old → IsNetwork new
+removes_end_network state place old new removes =
+    let left = swap_remove (ends_at old state) place removes.gone in
+    network_alike old new
+    (reads_alike entrance_in old new state (ap entrance_in removes.here ∙ ends_entry left (state_at old state)) removes.others)
+    (reads_alike edges_in old new state (ap edges_in removes.here ∙ ends_edges left (state_at old state)) removes.others)
 
 -- a number that no state had
 module _ (old new : Net) (number : ℕ) (free : is_used old number ≡ false) where

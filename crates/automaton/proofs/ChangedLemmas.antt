@@ -1,15 +1,16 @@
 -- Networks that changed, as the code has them.
-use Rattle.std.proofs.Common.{◌≡◌, ◌⊎◌, ◌∙◌, sym, ap, refl, subst, inl, inr, ℕ, ◌+◌, ◌-◌, ◌<◌, ◌≤◌, ◌==◌, max, true, false, get_or, length, set, take, [], arith}
-use Rattle.std.specs.Prelude.{Option, Some, None, Result, Ok, Err, OnOk, OnErr, IfSome, is_some, count_by}
+use Rattle.std.proofs.Common.{◌≡◌, ◌⊎◌, ◌∙◌, sym, ap, refl, subst, inl, inr, ℕ, ◌+◌, ◌-◌, ◌<◌, ◌≤◌, ◌==◌, max, true, false, get_or, length, set, take, List, [], arith}
+use Rattle.std.specs.Prelude.{Option, Some, None, Result, Ok, Err, OnOk, OnErr, IfSome, is_some, count_by, slice_get}
+use Rattle.std.specs.List.{swap_remove}
 use Rattle.std.proofs.lemmas.List.{length-set, set-get_or}
 use Rattle.automaton.specs.declared.line.Hop.{Hop}
 use Rattle.automaton.specs.declared.network.End.{End}
 use Rattle.automaton.specs.declared.network.Entrance.TheVariants as entrance
 use Rattle.automaton.specs.declared.network.State.{State}
-use Rattle.automaton.specs.Changes.{AddsEnd, AddsHop, AddsRoot, RemovesEnd, RemovesState, with_edge, with_end, without_edge, without_end}
-use Rattle.automaton.specs.Growing.{edged, placed, unedged}
+use Rattle.automaton.specs.Changes.{AddsEnd, AddsHop, AddsRoot, RemovesEnd, RemovesState, with_edge, with_end, with_ends, without_edge}
+use Rattle.automaton.specs.Growing.{LosesEnd, edged, placed, unedged}
 use Rattle.automaton.specs.Networks.{IsNetwork}
-use Rattle.automaton.specs.States.{Net, before_at, edges_at, edges_in, entrance_in, is_used, state_at, tells}
+use Rattle.automaton.specs.States.{Net, before_at, edges_at, edges_in, ends_in, entrance_in, is_used, state_at, tells}
 use Rattle.automaton.proofs.ChangeLemmas.{adds_end_network, adds_hop_network, adds_root_network, network_alike, removes_end_network}
 use Rattle.automaton.proofs.ClearedLemmas.{before_used, none_entered, removes_state_network, told_not, told_so}
 use Rattle.automaton.proofs.CountLemmas.{count-set}
@@ -56,23 +57,25 @@ module _ (states state : ℕ) (slots : Net) (used : is_used slots state ≡ true
         adds_end_network state end slots (set slots state put) (end_added end put_is) holds.1,
       )
 
-  gone_is_some : (number : ℕ) (slot : Option State) → is_some (without_end number slot) ≡ is_some slot
-  gone_is_some number None = refl
-  gone_is_some number (Some present) = refl
+  ends_are_some : (ends : List End) (slot : Option State) → is_some (with_ends ends slot) ≡ is_some slot
+  ends_are_some ends None = refl
+  ends_are_some ends (Some present) = refl
 
   -- an end left
-  pub end_removed : (number : ℕ) → put ≡ without_end number read → RemovesEnd state number slots (set slots state put)
-  end_removed number put_is = record {
-    here = changed_here slots state put inside ∙ put_is ∙ ap (without_end number) there;
+  pub end_removed : (place : ℕ) → LosesEnd place read put → RemovesEnd state place slots (set slots state put)
+  end_removed place loses = record {
+    gone = loses.gone;
+    there = (λ i. slice_get (ends_in (sym there i)) place) ∙ loses.there;
+    here = changed_here slots state put inside ∙ loses.same ∙ (λ i. with_ends (swap_remove (ends_in (there i)) place loses.gone) (there i));
     others = λ other ne. changed_other slots state put other ne;
     places = length-set slots state put;
   }
 
   -- it is the same without an end
-  pub end_left : (number : ℕ) → put ≡ without_end number read → Holds states (set slots state put)
-  end_left number put_is = (
-    holds.0 ∙ sym (count-set is_some slots state put None inside (ap is_some (put_is ∙ ap (without_end number) there) ∙ gone_is_some number (state_at slots state))),
-    removes_end_network state number slots (set slots state put) (end_removed number put_is) holds.1,
+  pub end_left : (place : ℕ) → LosesEnd place read put → Holds states (set slots state put)
+  end_left place loses = (
+    holds.0 ∙ sym (count-set is_some slots state put None inside (ap is_some loses.same ∙ ends_are_some (swap_remove (ends_in read) place loses.gone) read ∙ ap is_some there)),
+    removes_end_network state place slots (set slots state put) (end_removed place loses) holds.1,
   )
 
 -- a root state came

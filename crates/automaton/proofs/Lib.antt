@@ -13,6 +13,7 @@ pub mod PlacedLemmas
 pub mod PlainLemmas
 pub mod RootLemmas
 pub mod SlotLemmas
+pub mod TakingLemmas
 pub mod TypingLemmas
 pub mod WithoutLemmas
 pub mod WorkLemmas

@@ -1,12 +1,12 @@
 -- Networks that a state, an edge or an end comes to or leaves.
-use Rattle.std.specs.Prelude.{◌≡◌, ◌≢◌, ℕ, ◌+◌, ◌==◌, max, false, not, List, [], ◌∷◌, ◌++◌, Option, Some, None, count_by, is_some, length}
-use Rattle.std.specs.List.{filter}
+use Rattle.std.specs.Prelude.{◌≡◌, ◌≢◌, ℕ, ◌+◌, ◌==◌, max, false, not, List, [], ◌∷◌, ◌++◌, Option, Some, None, count_by, is_some, length, slice_get}
+use Rattle.std.specs.List.{filter, swap_remove}
 use Rattle.automaton.specs.declared.line.Hop.{Hop}
 use Rattle.automaton.specs.declared.network.End.{End}
 use Rattle.automaton.specs.declared.network.Entrance.{Entrance}
 use Rattle.automaton.specs.declared.network.Entrance.TheVariants as entrance
 use Rattle.automaton.specs.declared.network.State.{State}
-use Rattle.automaton.specs.States.{Net, before_at, state_at, tells}
+use Rattle.automaton.specs.States.{Net, before_at, ends_at, state_at, tells}
 
 -- a state that is entered so, without edges and ends
 abbrev pub bare : Entrance → Option State
@@ -26,19 +26,15 @@ with_end end (Some state) = Some (record { entrance = state.entrance; edges = st
 abbrev pub without_number : ℕ → List ℕ → List ℕ
 without_number number numbers = filter (λ other. not (other == number)) numbers
 
--- the ends but those of this number
-abbrev pub without_numbered : ℕ → List End → List End
-without_numbered number ends = filter (λ end. not (end.number == number)) ends
+-- the state with these ends
+abbrev pub with_ends : List End → Option State → Option State
+with_ends ends None = None
+with_ends ends (Some state) = Some (record { entrance = state.entrance; edges = state.edges; ends = ends })
 
 -- the state without its forward edge to this number
 abbrev pub without_edge : ℕ → Option State → Option State
 without_edge next None = None
 without_edge next (Some state) = Some (record { entrance = state.entrance; edges = without_number next state.edges; ends = state.ends })
-
--- the state without the ends of this number
-abbrev pub without_end : ℕ → Option State → Option State
-without_end number None = None
-without_end number (Some state) = Some (record { entrance = state.entrance; edges = state.edges; ends = without_numbered number state.ends })
 
 -- a root state comes, at this number
 pub record AddsRoot (number stream : ℕ) (old new : Net) : Type 0 where
@@ -59,9 +55,11 @@ pub record AddsEnd (state : ℕ) (end : End) (old new : Net) : Type 0 where
   pub others : (other : ℕ) → other ≢ state → state_at new other ≡ state_at old other
   pub places : length new ≡ length old
 
--- each end of this number leaves a state
-pub record RemovesEnd (state number : ℕ) (old new : Net) : Type 0 where
-  pub here : state_at new state ≡ without_end number (state_at old state)
+-- the end at a place of a state leaves, and the last one there takes its place
+pub record RemovesEnd (state place : ℕ) (old new : Net) : Type 0 where
+  pub gone : End
+  pub there : slice_get (ends_at old state) place ≡ Some gone
+  pub here : state_at new state ≡ with_ends (swap_remove (ends_at old state) place gone) (state_at old state)
   pub others : (other : ℕ) → other ≢ state → state_at new other ≡ state_at old other
   pub places : length new ≡ length old
 

@@ -1,6 +1,6 @@
 -- Networks that grow by a state, an edge or an end. No public clause cites this.
-use Rattle.std.specs.Prelude.{◌≡◌, ℕ, ◌+◌, ◌-◌, ◌==◌, ◌||◌, IsTrue, if◌then◌else◌, is_some, List, [], ◌∷◌, ◌++◌, length, nat_lt, take, Option, Some, None, Contains, slice_set, sum_by, count_by}
-use Rattle.std.specs.List.{list_any}
+use Rattle.std.specs.Prelude.{◌≡◌, ℕ, ◌+◌, ◌-◌, ◌==◌, ◌||◌, IsTrue, if◌then◌else◌, is_some, List, [], ◌∷◌, ◌++◌, length, nat_lt, take, Option, Some, None, Contains, slice_get, slice_set, sum_by, count_by}
+use Rattle.std.specs.List.{list_any, swap_remove}
 use Rattle.std.specs.List.Sorted.{IsPermutation}
 use Rattle.automaton.specs.declared.line.Hop.{Hop}
 use Rattle.automaton.specs.declared.line.Line.{Line}
@@ -8,12 +8,12 @@ use Rattle.automaton.specs.declared.network.End.{End}
 use Rattle.automaton.specs.declared.network.Entrance.TheVariants as entrance
 use Rattle.automaton.specs.declared.network.State.{State}
 pub use Rattle.automaton.specs.Changes.{with_edge, with_end}
-use Rattle.automaton.specs.Changes.{without_edge}
+use Rattle.automaton.specs.Changes.{with_ends, without_edge}
 use Rattle.automaton.specs.NetworkLines.{ArePlaces, endings_by}
 use Rattle.automaton.specs.Networks.{IsNetwork}
 use Rattle.automaton.specs.Plain.{IsPlain, numbered}
 use Rattle.automaton.specs.Prefixes.{Prefix, beginnings, hops_of, prefixes, root_of}
-use Rattle.automaton.specs.States.{Net, before_at, before_in, edges_at, ends_at, is_used, root_in, state_at, tells}
+use Rattle.automaton.specs.States.{Net, before_at, before_in, edges_at, ends_at, ends_in, is_used, root_in, state_at, tells}
 
 -- the network with a root state for a stream, where none was found
 abbrev pub rooted : ℕ → Option ℕ → Net → Net
@@ -32,6 +32,18 @@ ended tip end net = slice_set net tip (with_end end (state_at net tip))
 abbrev pub without_last : Option State → Option State
 without_last None = None
 without_last (Some state) = Some (record { entrance = state.entrance; edges = take (length state.edges - 1) state.edges; ends = state.ends })
+
+-- the item at a place was taken out, and the last one took its place
+pub record IsTakenOver {X : Type 0} (place : ℕ) (old new : List X) : Type 0 where
+  pub gone : X
+  pub there : slice_get old place ≡ Some gone
+  pub rest : new ≡ swap_remove old place gone
+
+-- a state lost the end at a place, and the last one there took its place
+pub record LosesEnd (place : ℕ) (old new : Option State) : Type 0 where
+  pub gone : End
+  pub there : slice_get (ends_in old) place ≡ Some gone
+  pub same : new ≡ with_ends (swap_remove (ends_in old) place gone) old
 
 -- the network with a state at a number, which is the next one at most
 abbrev pub placed : ℕ → Option State → Net → Net

@@ -1,5 +1,5 @@
 -- A line that came and is taken away again leaves the network as it was.
-use Rattle.std.proofs.Common.{◌≡◌, ◌⊎◌, ◌∙◌, sym, ap, refl, subst, inl, inr, ℕ, ◌-◌, ◌<◌, ◌≤◌, Bool, true, false, length, arith}
+use Rattle.std.proofs.Common.{◌≡◌, ◌⊎◌, ◌∙◌, sym, ap, refl, subst, inl, inr, ℕ, zero, suc, ◌-◌, ◌<◌, ◌≤◌, Bool, true, false, length, arith}
 use Rattle.std.specs.Prelude.{Contains, Option, Some, None, is_some}
 use Rattle.std.specs.List.{filter, list_any}
 use Rattle.std.proofs.lemmas.Bool.{cases_lt}
@@ -13,13 +13,14 @@ use Rattle.automaton.proofs.ChangeLemmas.{nothing_there}
 use Rattle.automaton.proofs.SlotLemmas.{KeepsEntries, at_kept, at_one, at_used, entry_there, used_below}
 use Rattle.prefix_merge.specs.Insertion.{Inserts}
 use Rattle.prefix_merge.specs.Laws.{TakenBackIsBefore}
-use Rattle.prefix_merge.specs.Merging.{EndsInState, IsMerged}
+use Rattle.prefix_merge.specs.Merging.{EndsInState, IsMerged, ends_numbered}
 use Rattle.prefix_merge.specs.Removal.{Removes}
 use Rattle.prefix_merge.proofs.EndingLemmas.{ends_none}
 use Rattle.prefix_merge.proofs.GrowthLemmas.{any_end}
+use Rattle.prefix_merge.proofs.NumberedLemmas.{any_left, counted_there, end_there, last_left, none_numbered, other_end}
 use Rattle.prefix_merge.proofs.PrefixLemmas.{at_beginning}
-use Rattle.prefix_merge.proofs.RemovalLemmas.{any_left, other_end}
 use Rattle.prefix_merge.proofs.StartLemmas.{stay_keeps}
+use Rattle.prefix_merge.proofs.SwapLemmas.{swapped_last}
 
 -- states that are entered alike, with the same edges and ends
 same_state : (a b : Option State) → is_some a ≡ true → is_some b ≡ true → entrance_in a ≡ entrance_in b → edges_in a ≡ edges_in b → ends_in a ≡ ends_in b → a ≡ b
@@ -47,6 +48,19 @@ module _ (line : Line) (end : ℕ) (birth : Option ℕ) (old middle new : Net) (
       by_use : (b : Bool) → is_used old number ≡ b → b ≡ true
       by_use true used = refl
       by_use false free = let no : false ≡ true = sym (ap (list_any any_end) (ends_none old number free)) ∙ some in cc
+
+  -- the ends are those of before
+  ends_back : (number : ℕ) → ends_at new number ≡ ends_at old number
+  ends_back number = by_count (ends_numbered middle end number) refl
+    where
+      by_count : (n : ℕ) → ends_numbered middle end number ≡ n → ends_at new number ≡ ends_at old number
+      by_count zero none = removes.other_ends number none ∙ sym (none_numbered end (ends_at middle number) none) ∙ inserts.old_ends number
+      by_count (suc n) some =
+          let place = counted_there end (ends_at middle number) (omega (arith, some)) in
+          let stands = end_there end (ends_at middle number) place.0 place.1 in
+          removes.ends_left number place.0 stands.end stands.there stands.its
+          ∙ swapped_last (ends_at middle number) place.0 stands.end stands.there (inserts.end_last number place.0 place.1)
+          ∙ sym (last_left end place.0 stands.end (ends_at middle number) stands.there stands.its (inserts.end_last number)) ∙ inserts.old_ends number
 
   middle_used : (number : ℕ) → is_used new number ≡ true → is_used middle number ≡ true
   middle_used number used = sym (entry_there (state_at middle number)) ∙ ap is_some (sym (removes.stay number used)) ∙ entry_there (state_at new number) ∙ used
@@ -81,7 +95,7 @@ module _ (line : Line) (end : ℕ) (birth : Option ℕ) (old middle new : Net) (
           let there = forth number used in
           same_state (state_at new number) (state_at old number) there used (removes.stay number there ∙ inserts.stay number used)
           (removes.edges_left number there ∙ (λ i. filter (λ m. same_used m i) (edges_at middle number)) ∙ inserts.old_edges number)
-          (removes.ends_left number ∙ inserts.old_ends number)
+          (ends_back number)
 
   no_longer : (a b : Net) → ((number : ℕ) → is_used a number ≡ is_used b number) → EndsInState a → length a ≤ length b
   no_longer a b same last = by_order (cases_lt (length b) (length a))

@@ -1,7 +1,7 @@
 -- States in buckets.
 use Rattle.std.proofs.Common.{◌≡◌, ◌⊎◌, ◌∙◌, sym, ap, refl, inl, inr, subst, ℕ, ◌+◌, ◌-◌, ◌<◌, ◌≤◌, ◌==◌, ◌&&◌, Bool, true, false, cond, nat_eq, get_or, length, take, List, [], ◌∷◌, arith}
 use Rattle.std.specs.Prelude.{Contains, Option, Some, None, Result, Ok, Err, count_by}
-use Rattle.std.specs.List.{remove}
+use Rattle.std.specs.List.{remove, swap_remove}
 use Rattle.std.specs.HashMap.{HashMap}
 use Rattle.std.specs.Option.{IfNone, unwrap_or}
 use Rattle.std.specs.Result.{OnErr, OnOk, is_err}
@@ -12,8 +12,8 @@ use Rattle.automaton.specs.declared.network.End.{End}
 use Rattle.automaton.specs.declared.network.Entrance.TheVariants as entrance
 use Rattle.automaton.specs.declared.network.State.{State}
 use Rattle.automaton.specs.Changes.{AddsEnd, AddsHop, AddsRoot, RemovesEnd, RemovesState, without_edge}
-use Rattle.automaton.specs.States.{Net, before_at, entrance_at, entrance_in, is_used, state_at, tells}
-use Rattle.automaton.proofs.ChangeLemmas.{gone_entry, nothing_there}
+use Rattle.automaton.specs.States.{Net, before_at, ends_at, entrance_at, entrance_in, is_used, state_at, tells}
+use Rattle.automaton.proofs.ChangeLemmas.{ends_entry, nothing_there}
 use Rattle.automaton.proofs.CountLemmas.{bit, count-cons}
 use Rattle.automaton.proofs.NumberLemmas.{are_same_or_not}
 use Rattle.automaton.proofs.SlotLemmas.{edge_entry, end_entry}
@@ -233,8 +233,8 @@ pub buckets_end : {S : Type 0} (buckets : HashMap ℕ (List ℕ) S) (state : ℕ
 buckets_end buckets state end old new are adds = buckets_kept buckets state old new are (ap entrance_in adds.here ∙ end_entry end (state_at old state)) adds.others
 
 -- where one leaves
-pub buckets_endless : {S : Type 0} (buckets : HashMap ℕ (List ℕ) S) (state number : ℕ) (old new : Net) → AreInBuckets buckets old → RemovesEnd state number old new → AreInBuckets buckets new
-buckets_endless buckets state number old new are removes = buckets_kept buckets state old new are (ap entrance_in removes.here ∙ gone_entry number (state_at old state)) removes.others
+pub buckets_endless : {S : Type 0} (buckets : HashMap ℕ (List ℕ) S) (state place : ℕ) (old new : Net) → AreInBuckets buckets old → RemovesEnd state place old new → AreInBuckets buckets new
+buckets_endless buckets state place old new are removes = buckets_kept buckets state old new are (ap entrance_in removes.here ∙ ends_entry (swap_remove (ends_at old state) place removes.gone) (state_at old state)) removes.others
 
 -- where none of the states in the bucket of a hop is entered by it, none is
 pub none_entered : {S : Type 0} (buckets : HashMap ℕ (List ℕ) S) (net : Net) (before hash : ℕ) (hop : Hop) (states : List ℕ) (found : Option ℕ) → AreInBuckets buckets net → hash ≡ hash_of before hop.step hop.wait → bucket_at buckets hash ≡ states

@@ -1,9 +1,10 @@
 -- States that come and leave, one after another.
 use Rattle.std.proofs.Common.{◌≡◌, ◌∙◌, sym, ap, refl, subst, ℕ, ◌+◌, ◌<◌, ◌==◌, Bool, true, false, IsTrue, length, List, [], ◌∷◌, ◌++◌, arith}
 use Rattle.std.specs.Prelude.{All, Contains, Option, Some, None, is_some, max}
+use Rattle.std.specs.List.{swap_remove}
 use Rattle.std.proofs.lemmas.List.Elements.{All-append, All-cons, All-nil, All-weaker, Contains-append_left, Contains-push}
-use Rattle.automaton.specs.Changes.{AddsEnd, AddsHop, AddsRoot, RemovesEnd, RemovesState, with_edge, with_end, without_edge, without_end}
-use Rattle.automaton.specs.States.{Net, before_at, is_used, state_at, tells}
+use Rattle.automaton.specs.Changes.{AddsEnd, AddsHop, AddsRoot, RemovesEnd, RemovesState, with_edge, with_end, with_ends, without_edge}
+use Rattle.automaton.specs.States.{Net, before_at, ends_at, is_used, state_at, tells}
 use Rattle.automaton.specs.declared.line.Hop.{Hop}
 use Rattle.automaton.specs.declared.network.End.{End}
 use Rattle.automaton.specs.declared.network.State.{State}
@@ -48,15 +49,15 @@ one_left number old new before after removes noted kept = record { left = λ n u
     go n used unused false is = absurd (not_both old n used (sym (still n (other_number n number is) (tells n (before_at old number)) refl) ∙ unused))
 
 -- no state leaves with an end
-pub end_left : (state number : ℕ) (old new : Net) → RemovesEnd state number old new → (n : ℕ) → is_used new n ≡ is_used old n
-end_left state number old new removes n = go (n == state) refl
+pub end_left : (state place : ℕ) (old new : Net) → RemovesEnd state place old new → (n : ℕ) → is_used new n ≡ is_used old n
+end_left state place old new removes n = go (n == state) refl
   where
-    cut : (o : Option State) → is_some (without_end number o) ≡ is_some o
-    cut None = refl
-    cut (Some state) = refl
+    cut : (ends : List End) (o : Option State) → is_some (with_ends ends o) ≡ is_some o
+    cut ends None = refl
+    cut ends (Some state) = refl
 
     go : (b : Bool) → (n == state) ≡ b → is_used new n ≡ is_used old n
-    go true is = ap (is_used new) (same_number n state is) ∙ ap is_some removes.here ∙ cut (state_at old state) ∙ ap (is_used old) (sym (same_number n state is))
+    go true is = ap (is_used new) (same_number n state is) ∙ ap is_some removes.here ∙ cut (swap_remove (ends_at old state) place removes.gone) (state_at old state) ∙ ap (is_used old) (sym (same_number n state is))
     go false differs = ap is_some (removes.others n (other_number n state differs))
 
 -- the same states come one after another

@@ -1,36 +1,32 @@
--- The table of the states at which ends stand.
-use Rattle.std.proofs.Common.{◌≡◌, ◌⊎◌, ◌∙◌, sym, ap, refl, inl, inr, subst, ℕ, ◌+◌, ◌-◌, ◌<◌, ◌≤◌, ◌==◌, true, false, cond, nat_eq, length, take, List, [], ◌∷◌, ◌++◌, arith}
-use Rattle.std.specs.Prelude.{◌↔◌, Option, Some, None, count_by}
+-- The table of where ends stand.
+use Rattle.std.proofs.Common.{◌≡◌, ◌⊎◌, ◌∙◌, sym, ap, refl, inl, inr, subst, ℕ, ◌-◌, ◌<◌, ◌≤◌, true, false, cond, nat_eq, length, take, [], ◌∷◌, ◌++◌, arith}
+use Rattle.std.specs.Prelude.{◌↔◌, Option, Some, None}
 use Rattle.std.specs.HashMap.{HashMap, get}
-use Rattle.std.proofs.lemmas.List.Sums.{sum_by-append}
 use Rattle.automaton.specs.declared.line.Hop.{Hop}
 use Rattle.automaton.specs.declared.network.End.{End}
 use Rattle.automaton.specs.declared.network.State.{State}
-use Rattle.automaton.specs.Changes.{AddsEnd, AddsHop, AddsRoot, RemovesEnd, RemovesState, without_edge, without_end, without_numbered}
+use Rattle.automaton.specs.Changes.{AddsEnd, AddsHop, AddsRoot, RemovesState, without_edge}
 use Rattle.automaton.specs.States.{Net, before_at, ends_at, ends_in, is_used, state_at, tells}
-use Rattle.automaton.proofs.CountLemmas.{bit, count-cons}
 use Rattle.automaton.proofs.NumberLemmas.{are_same_or_not}
 use Rattle.automaton.proofs.SlotLemmas.{edge_ends, end_ends}
 use Rattle.event_types.proofs.NumberLemmas.{is_other, is_same}
-use Rattle.prefix_merge.specs.Holders.{AreHolders, TellsOf}
-use Rattle.prefix_merge.specs.Merging.{HasEnd, ends_numbered}
+use Rattle.prefix_merge.specs.declared.holders.EndSpot.{EndSpot}
+use Rattle.prefix_merge.specs.Holders.{AreHolders, StandsAt, TellsOf}
+use Rattle.prefix_merge.specs.Merging.{HasEnd, number_at}
 use Rattle.prefix_merge.proofs.BucketLemmas.{short_states}
 use Rattle.prefix_merge.proofs.EndingLemmas.{ends_none}
-use Rattle.prefix_merge.proofs.RemovalLemmas.{counted_gone, counted_other}
-
--- how many of some ends have a number
-abbrev with_number : ℕ → List End → ℕ
-with_number number ends = count_by (λ (end : End). end.number == number) ends
+use Rattle.prefix_merge.proofs.NumberedLemmas.{none_behind, number_in, pushed_else, pushed_here, there_has, with_number}
+use Rattle.prefix_merge.proofs.SpotLemmas.{are_one_spot, none_some, other_place, some_is}
 
 -- each state has the same ends
 abbrev pub HaveSameEnds : Net → Net → Type 0
 HaveSameEnds old new = (state : ℕ) → ends_at new state ≡ ends_at old state
 
 -- then the table tells where they stand
-pub holders_same : {S : Type 0} (table : HashMap ℕ ℕ S) (old new : Net) → HaveSameEnds old new → AreHolders table old → AreHolders table new
-holders_same table old new same are number state = (
-  λ found. subst (λ ends. 1 ≤ with_number number ends) (sym (same state)) ((are number state).0 found),
-  λ some. (are number state).1 (subst (λ ends. 1 ≤ with_number number ends) (same state) some),
+pub holders_same : {S : Type 0} (table : HashMap ℕ EndSpot S) (old new : Net) → HaveSameEnds old new → AreHolders table old → AreHolders table new
+holders_same table old new same are number spot = (
+  λ found. ap (λ ends. number_in ends spot.place) (same spot.state) ∙ (are number spot).0 found,
+  λ there. (are number spot).1 (ap (λ ends. number_in ends spot.place) (sym (same spot.state)) ∙ there),
 )
 
 -- and no other number has an end
@@ -86,115 +82,74 @@ left_ends number old new endless removes state = by_number (are_same_or_not stat
 pub short_ends : (old : Net) → 0 < length old → is_used old (length old - 1) ≡ false → HaveSameEnds old (take (length old - 1) old)
 short_ends old some free state = ap ends_in (short_states old some free state)
 
-some_is : (m n : ℕ) → ◌≡◌ {A = Option ℕ} (Some m) (Some n) → m ≡ n
-some_is m n e = cc
-
 -- an end of a new number comes to a state
-pub holders_more : {S : Type 0} (table more : HashMap ℕ ℕ S) (state : ℕ) (end : End) (old new : Net) → AreHolders table old → is_used old state ≡ true → (HasEnd old end.number → ⊥) → TellsOf end.number (Some state) table more → AddsEnd state end old new
-    → AreHolders more new
-holders_more table more state end old new are used fresh tells' adds number other = by_number (are_same_or_not end.number number)
+module _ (state : ℕ) (end : End) (old new : Net) (used : is_used old state ≡ true) (adds : AddsEnd state end old new) where
+  abbrev its_spot : EndSpot
+  its_spot = record { state = state; place = length (ends_at old state) }
+
+  more_ends : ends_at new state ≡ ends_at old state ++ end ∷ []
+  more_ends = ap ends_in adds.here ∙ end_ends end (state_at old state) used
+
+  stands_here : StandsAt new end.number its_spot
+  stands_here = ap (λ ends. number_in ends (length (ends_at old state))) more_ends ∙ pushed_here (ends_at old state) end
+
+  stands_else : (spot : EndSpot) → (spot ≡ its_spot → ⊥) → number_at new spot.state spot.place ≡ number_at old spot.state spot.place
+  stands_else spot other = by_state (are_same_or_not spot.state state)
+    where
+      by_state : (spot.state ≡ state) ⊎ (spot.state ≡ state → ⊥) → number_at new spot.state spot.place ≡ number_at old spot.state spot.place
+      by_state (inl same) =
+          ap (λ s. number_at new s spot.place) same ∙ ap (λ ends. number_in ends spot.place) more_ends ∙ pushed_else (ends_at old state) end spot.place (other_place spot its_spot other same)
+          ∙ ap (λ s. number_at old s spot.place) (sym same)
+      by_state (inr ne) = ap (λ slot. number_in (ends_in slot) spot.place) (adds.others spot.state ne)
+
+  pub holders_more : {S : Type 0} (table more : HashMap ℕ EndSpot S) → AreHolders table old → (HasEnd old end.number → ⊥) → TellsOf end.number (Some (record { state = state; place = length (ends_at old state) })) table more → AreHolders more new
+  holders_more table more are fresh tells' number spot = by_number (are_same_or_not end.number number)
+    where
+      -- the number of the end
+      here : end.number ≡ number → (get nat_eq more number ≡ Some spot) ↔ StandsAt new number spot
+      here same = (
+        λ found. subst (StandsAt new number) (some_is its_spot spot (sym told ∙ found)) (stands_here ∙ ap (λ n. Some n) same),
+        λ there. told ∙ ap (λ s. Some s) (sym (by_spot (are_one_spot spot its_spot) there)),
+      )
+        where
+          told : get nat_eq more number ≡ Some its_spot
+          told = tells' number ∙ ap (λ b. cond b (Some its_spot) (get nat_eq table number)) (is_same end.number number same)
+
+          by_spot : (spot ≡ its_spot) ⊎ (spot ≡ its_spot → ⊥) → StandsAt new number spot → spot ≡ its_spot
+          by_spot (inl is) there = is
+          by_spot (inr other) there = absurd (fresh (there_has old end.number spot.state spot.place (sym (stands_else spot other) ∙ there ∙ ap (λ n. Some n) (sym same))))
+
+      -- another number
+      elsewhere : (end.number ≡ number → ⊥) → (get nat_eq more number ≡ Some spot) ↔ StandsAt new number spot
+      elsewhere ne = (λ found. stood (are_one_spot spot its_spot) ((are number spot).0 (sym told ∙ found)), λ there. told ∙ (are number spot).1 (stands (are_one_spot spot its_spot) there))
+        where
+          told : get nat_eq more number ≡ get nat_eq table number
+          told = tells' number ∙ ap (λ b. cond b (Some its_spot) (get nat_eq table number)) (is_other end.number number ne)
+
+          stood : (spot ≡ its_spot) ⊎ (spot ≡ its_spot → ⊥) → StandsAt old number spot → StandsAt new number spot
+          stood (inl is) there = absurd (none_some number (sym (none_behind (ends_at old state) (length (ends_at old state)) (omega arith)) ∙ subst (StandsAt old number) is there))
+          stood (inr other) there = stands_else spot other ∙ there
+
+          stands : (spot ≡ its_spot) ⊎ (spot ≡ its_spot → ⊥) → StandsAt new number spot → StandsAt old number spot
+          stands (inl is) there = absurd (ne (some_is end.number number (sym stands_here ∙ subst (StandsAt new number) is there)))
+          stands (inr other) there = sym (stands_else spot other) ∙ there
+
+      by_number : (end.number ≡ number) ⊎ (end.number ≡ number → ⊥) → (get nat_eq more number ≡ Some spot) ↔ StandsAt new number spot
+      by_number (inl same) = here same
+      by_number (inr ne) = elsewhere ne
+
+-- it was noted where an end stands that didn't come, and forgotten again
+pub holders_back : {S : Type 0} (table more less : HashMap ℕ EndSpot S) (end : ℕ) (noted : EndSpot) (net : Net) → AreHolders table net → (HasEnd net end → ⊥) → TellsOf end (Some noted) table more → TellsOf end None more less → AreHolders less net
+holders_back table more less end noted net are fresh tells' forgotten number spot = by_number (are_same_or_not end number)
   where
-    counted_here : ends_numbered new number state ≡ ends_numbered old number state + bit (end.number == number)
-    counted_here =
-        let whole : ends_numbered new number state ≡ with_number number (ends_at old state ++ end ∷ []) = ap (with_number number) (ap ends_in adds.here ∙ end_ends end (state_at old state) used) in
-        let sum : with_number number (ends_at old state ++ end ∷ []) ≡ with_number number (ends_at old state) + with_number number (end ∷ []) = sum_by-append _ (ends_at old state) (end ∷ []) in
-        let one : with_number number (end ∷ []) ≡ bit (end.number == number) + with_number number [] = count-cons (λ (e : End). e.number == number) end [] in
-        let none : with_number number [] ≡ 0 = refl in omega (arith, whole, sum, one, none)
-
-    counted_else : (place : ℕ) → (place ≡ state → ⊥) → ends_numbered new number place ≡ ends_numbered old number place
-    counted_else place apart = ap (λ slot. with_number number (ends_in slot)) (adds.others place apart)
-
-    -- the number of the end
-    here : end.number ≡ number → (get nat_eq more number ≡ Some other) ↔ (1 ≤ ends_numbered new number other)
-    here same = (
-      λ found. (let one : bit (end.number == number) ≡ 1 = ap bit (is_same end.number number same) in
-          subst (λ place. 1 ≤ ends_numbered new number place) (some_is state other (sym told ∙ found)) (omega (arith, counted_here, one))),
-      λ some. told ∙ ap Some (sym (at_state (are_same_or_not other state) some)),
-    )
-      where
-        told : get nat_eq more number ≡ Some state
-        told = tells' number ∙ ap (λ b. cond b (Some state) (get nat_eq table number)) (is_same end.number number same)
-
-        at_state : (other ≡ state) ⊎ (other ≡ state → ⊥) → 1 ≤ ends_numbered new number other → other ≡ state
-        at_state (inl is) some = is
-        at_state (inr apart) some = absurd (fresh (other, subst (λ n. 1 ≤ ends_numbered old n other) (sym same) (subst (λ m. 1 ≤ m) (counted_else other apart) some)))
-
-    -- another number
-    elsewhere : (end.number ≡ number → ⊥) → (get nat_eq more number ≡ Some other) ↔ (1 ≤ ends_numbered new number other)
-    elsewhere ne = (λ found. subst (λ m. 1 ≤ m) (sym whole) ((are number other).0 (sym told ∙ found)), λ some. told ∙ (are number other).1 (subst (λ m. 1 ≤ m) whole some))
-      where
-        told : get nat_eq more number ≡ get nat_eq table number
-        told = tells' number ∙ ap (λ b. cond b (Some state) (get nat_eq table number)) (is_other end.number number ne)
-
-        counted : (place : ℕ) → (place ≡ state) ⊎ (place ≡ state → ⊥) → ends_numbered new number place ≡ ends_numbered old number place
-        counted place (inl same) =
-            let none : bit (end.number == number) ≡ 0 = ap bit (is_other end.number number ne) in
-            subst (λ p. ends_numbered new number p ≡ ends_numbered old number p) (sym same) (omega (arith, counted_here, none))
-        counted place (inr apart) = counted_else place apart
-
-        whole : ends_numbered new number other ≡ ends_numbered old number other
-        whole = counted other (are_same_or_not other state)
-
-    by_number : (end.number ≡ number) ⊎ (end.number ≡ number → ⊥) → (get nat_eq more number ≡ Some other) ↔ (1 ≤ ends_numbered new number other)
-    by_number (inl same) = here same
-    by_number (inr ne) = elsewhere ne
-
--- the state of an end was noted that didn't come, and forgotten again
-pub holders_back : {S : Type 0} (table more less : HashMap ℕ ℕ S) (end state : ℕ) (net : Net) → AreHolders table net → (HasEnd net end → ⊥) → TellsOf end (Some state) table more → TellsOf end None more less → AreHolders less net
-holders_back table more less end state net are fresh noted forgotten number place = by_number (are_same_or_not end number)
-  where
-    by_number : (end ≡ number) ⊎ (end ≡ number → ⊥) → (get nat_eq less number ≡ Some place) ↔ (1 ≤ ends_numbered net number place)
-    by_number (inl same) = (λ found. absurd (let no : ◌≡◌ {A = Option ℕ} None (Some place) = sym told ∙ found in cc), λ some. absurd (fresh (place, subst (λ n. 1 ≤ ends_numbered net n place) (sym same) some)))
+    by_number : (end ≡ number) ⊎ (end ≡ number → ⊥) → (get nat_eq less number ≡ Some spot) ↔ StandsAt net number spot
+    by_number (inl same) = (λ found. absurd (none_some spot (sym told ∙ found)), λ there. absurd (fresh (there_has net end spot.state spot.place (there ∙ ap (λ n. Some n) (sym same)))))
       where
         told : get nat_eq less number ≡ None
         told = forgotten number ∙ ap (λ b. cond b None (get nat_eq more number)) (is_same end number same)
-    by_number (inr ne) = (λ found. (are number place).0 (sym told ∙ found), λ some. told ∙ (are number place).1 some)
+    by_number (inr ne) = (λ found. (are number spot).0 (sym told ∙ found), λ there. told ∙ (are number spot).1 there)
       where
         told : get nat_eq less number ≡ get nat_eq table number
         told =
             forgotten number ∙ ap (λ b. cond b None (get nat_eq more number)) (is_other end number ne)
-            ∙ noted number ∙ ap (λ b. cond b (Some state) (get nat_eq table number)) (is_other end number ne)
-
--- the end of a number leaves its state
-pub holders_less : {S : Type 0} (table less : HashMap ℕ ℕ S) (state number : ℕ) (old new : Net) → AreHolders table old → 1 ≤ ends_numbered old number state → TellsOf number None table less → RemovesEnd state number old new → AreHolders less new
-holders_less table less state number old new are has tells' removes other place = by_number (are_same_or_not number other)
-  where
-    without : (slot : Option State) → ends_in (without_end number slot) ≡ without_numbered number (ends_in slot)
-    without None = refl
-    without (Some present) = refl
-
-    ends_here : ends_at new state ≡ without_numbered number (ends_at old state)
-    ends_here = ap ends_in removes.here ∙ without (state_at old state)
-
-    -- no end has the number
-    gone : number ≡ other → (get nat_eq less other ≡ Some place) ↔ (1 ≤ ends_numbered new other place)
-    gone same = (λ found. absurd (let no : ◌≡◌ {A = Option ℕ} None (Some place) = sym told ∙ found in cc), λ some. absurd (none (are_same_or_not place state) some))
-      where
-        told : get nat_eq less other ≡ None
-        told = tells' other ∙ ap (λ b. cond b None (get nat_eq table other)) (is_same number other same)
-
-        none : (place ≡ state) ⊎ (place ≡ state → ⊥) → 1 ≤ ends_numbered new other place → ⊥
-        none (inl is) some =
-            let zero' : ends_numbered new other place ≡ 0 = ap (ends_numbered new other) is ∙ ap (λ n. with_number n (ends_at new state)) (sym same) ∙ ap (with_number number) ends_here ∙ counted_gone number (ends_at old state) in
-            absurd (omega (arith, some, zero'))
-        none (inr apart) some =
-            let had : 1 ≤ ends_numbered old number place = subst (λ n. 1 ≤ ends_numbered old n place) (sym same) (subst (λ slot. 1 ≤ with_number other (ends_in slot)) (removes.others place apart) some) in
-            apart (some_is place state (sym ((are number place).1 had) ∙ (are number state).1 has))
-
-    -- another number
-    elsewhere : (number ≡ other → ⊥) → (get nat_eq less other ≡ Some place) ↔ (1 ≤ ends_numbered new other place)
-    elsewhere ne = (λ found. subst (λ m. 1 ≤ m) (sym whole) ((are other place).0 (sym told ∙ found)), λ some. told ∙ (are other place).1 (subst (λ m. 1 ≤ m) whole some))
-      where
-        told : get nat_eq less other ≡ get nat_eq table other
-        told = tells' other ∙ ap (λ b. cond b None (get nat_eq table other)) (is_other number other ne)
-
-        counted : (place ≡ state) ⊎ (place ≡ state → ⊥) → ends_numbered new other place ≡ ends_numbered old other place
-        counted (inl is) = ap (ends_numbered new other) is ∙ ap (with_number other) ends_here ∙ counted_other number other (ends_at old state) ne ∙ ap (ends_numbered old other) (sym is)
-        counted (inr apart) = ap (λ slot. with_number other (ends_in slot)) (removes.others place apart)
-
-        whole : ends_numbered new other place ≡ ends_numbered old other place
-        whole = counted (are_same_or_not place state)
-
-    by_number : (number ≡ other) ⊎ (number ≡ other → ⊥) → (get nat_eq less other ≡ Some place) ↔ (1 ≤ ends_numbered new other place)
-    by_number (inl same) = gone same
-    by_number (inr ne) = elsewhere ne
+            ∙ tells' number ∙ ap (λ b. cond b (Some noted) (get nat_eq table number)) (is_other end number ne)

@@ -1,5 +1,5 @@
 -- A line that comes to a merged network.
-use Rattle.std.proofs.Common.{◌≡◌, ◌⊎◌, ◌∙◌, ◌↔◌, sym, ap, refl, subst, inl, inr, ℕ, zero, suc, ◌<◌, ◌≤◌, ◌==◌, true, false, not, cond, nat_eq, length, get_or, drop, take, List, [], ◌∷◌, ◌++◌, append-nil, arith}
+use Rattle.std.proofs.Common.{◌≡◌, ◌⊎◌, ◌∙◌, ◌↔◌, sym, ap, refl, subst, inl, inr, ℕ, zero, suc, ◌+◌, ◌<◌, ◌≤◌, ◌==◌, true, false, not, cond, nat_eq, length, length-append, get_or, drop, take, List, [], ◌∷◌, ◌++◌, append-nil, arith}
 use Rattle.std.specs.Prelude.{Option, Some, None, slice_get}
 use Rattle.std.specs.HashMap.{HashMap, get}
 use Rattle.std.specs.Option.{option_and_then}
@@ -11,7 +11,7 @@ use Rattle.std.proofs.lemmas.Option.{slice_get-get_or}
 use Rattle.automaton.specs.declared.line.Hop.{Hop}
 use Rattle.automaton.specs.declared.line.Line.{Line}
 use Rattle.automaton.specs.declared.network.End.{End}
-use Rattle.automaton.specs.Changes.{AddsRoot, without_numbered}
+use Rattle.automaton.specs.Changes.{AddsRoot}
 use Rattle.automaton.specs.Networks.{IsAt, IsNetwork}
 use Rattle.automaton.specs.Prefixes.{Prefix, Root, extended, path}
 use Rattle.automaton.specs.States.{Net, before_by, ends_at, is_used, root_at, root_in}
@@ -21,10 +21,10 @@ use Rattle.automaton.proofs.NumberLemmas.{are_same_or_not}
 use Rattle.automaton.proofs.RootLemmas.{whole_none}
 use Rattle.automaton.proofs.SlotLemmas.{at_used}
 use Rattle.prefix_merge.specs.Growth.{AreUsedBelow, Grows, IsTable, Keeps, Reaches, end_of}
-use Rattle.prefix_merge.specs.Insertion.{Inserts}
-use Rattle.prefix_merge.specs.Merging.{EndsInState, HasEnd, IsLowestFree, IsMerged, ends_numbered}
+use Rattle.prefix_merge.specs.Insertion.{Inserts, without_numbered}
+use Rattle.prefix_merge.specs.Merging.{EndsInState, HasEnd, IsLowestFree, IsMerged, ends_numbered, number_at}
 use Rattle.prefix_merge.proofs.EndingLemmas.{endings_are, ends_are, own_numbers}
-use Rattle.prefix_merge.proofs.RemovalLemmas.{none_numbered}
+use Rattle.prefix_merge.proofs.NumberedLemmas.{none_numbered, number_in, pushed_else, there_has}
 use Rattle.prefix_merge.proofs.StartLemmas.{HasGrown, found_growing, line_grown, none_from_root, root_growing}
 
 -- a prefix with hops behind it, and more hops
@@ -73,6 +73,21 @@ module _ (old base new : Net) (line : Line) (end : ℕ) (birth : Option ℕ) (gr
           ∙ (λ i. without_old grown.last i ++ cond (not (is_same end end refl i)) (end_of line end birth ∷ []) []) ∙ append-nil (ends_at old grown.last) ∙ ap (ends_at old) (sym same)
       by_number (inr ne) = ap (without_numbered end) (grown.others number ne) ∙ without_old number
 
+  -- the line's end stands behind the others
+  end_last : (number place : ℕ) → number_at new number place ≡ Some end → place + 1 ≡ length (ends_at new number)
+  end_last number place there = by_number (are_same_or_not number grown.last)
+    where
+      here : (place ≡ length (ends_at old grown.last)) ⊎ (place ≡ length (ends_at old grown.last) → ⊥) → number_in (ends_at old grown.last ++ end_of line end birth ∷ []) place ≡ Some end → place ≡ length (ends_at old grown.last)
+      here (inl is) told = is
+      here (inr other) told = absurd (fresh (there_has old end grown.last place (sym (pushed_else (ends_at old grown.last) (end_of line end birth) place other) ∙ told)))
+
+      by_number : (number ≡ grown.last) ⊎ (number ≡ grown.last → ⊥) → place + 1 ≡ length (ends_at new number)
+      by_number (inl same) =
+          let is = here (are_same_or_not place (length (ends_at old grown.last))) (ap (λ ends. number_in ends place) (sym grown.more) ∙ ap (λ n. number_at new n place) (sym same) ∙ there) in
+          let longer = length-append (ends_at old grown.last) (end_of line end birth ∷ []) in
+          let whole : length (ends_at new number) ≡ length (ends_at old grown.last ++ end_of line end birth ∷ []) = ap (λ n. length (ends_at new n)) same ∙ ap length grown.more in omega (arith, is, longer, whole)
+      by_number (inr ne) = absurd (fresh (there_has old end number place (ap (λ ends. number_in ends place) (sym (grown.others number ne)) ∙ there)))
+
 -- so the line has been inserted
 pub line_inserted : (old base new : Net) (line : Line) (end : ℕ) (birth : Option ℕ) → HasGrown old base (path line) (end_of line end birth) new → (HasEnd old end → ⊥) → Inserts line end birth old new
 line_inserted old base new line end birth grown fresh = record {
@@ -82,6 +97,7 @@ line_inserted old base new line end birth grown fresh = record {
   endings = endings_are old base new line end birth grown grown.network;
   old_edges = grown.old_edges;
   old_ends = old_ends old base new line end birth grown fresh;
+  end_last = end_last old base new line end birth grown fresh;
   ends = ends_are old base new line end birth grown;
 }
 

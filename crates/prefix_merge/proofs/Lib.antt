@@ -8,12 +8,16 @@ pub mod GrowthLemmas
 pub mod HolderLemmas
 pub mod InsertionLemmas
 pub mod LawLemmas
+pub mod MovedLemmas
+pub mod NumberedLemmas
 pub mod PrefixLemmas
 pub mod PruningLemmas
 pub mod RemovalLemmas
 pub mod RootLemmas
 pub mod ShortLemmas
+pub mod SpotLemmas
 pub mod StartLemmas
+pub mod SwapLemmas
 pub mod TurnLemmas
 pub mod UndoneLemmas
 pub mod ReadingLemmas

@@ -1,117 +1,98 @@
 -- A line that leaves a merged network.
-use Rattle.std.proofs.Common.{◌≡◌, ◌≢◌, ◌⊎◌, ◌∙◌, ◌↔◌, sym, ap, refl, subst, inl, inr, ℕ, zero, suc, ◌+◌, ◌≤◌, ◌==◌, Bool, true, false, not, ◌||◌, cond, IsTrue, length, List, [], ◌∷◌, map, arith}
-use Rattle.std.specs.Prelude.{Contains, Option, Some, None, count_by, is_some}
+use Rattle.std.proofs.Common.{◌≡◌, ◌≢◌, ◌⊎◌, ◌∙◌, ◌↔◌, sym, ap, refl, subst, inl, inr, ℕ, zero, suc, ◌≤◌, ◌==◌, Bool, true, false, IsTrue, length, List, [], ◌∷◌, map, arith}
+use Rattle.std.specs.Prelude.{Contains, Option, Some, None, is_some, slice_get}
 use Rattle.std.specs.HashMap.{HashMap}
-use Rattle.std.specs.List.{filter, flat_map, list_any, range_with_len}
+use Rattle.std.specs.List.{filter, flat_map, list_any, range_with_len, swap_remove}
 use Rattle.std.specs.List.Sorted.{IsPermutation}
-use Rattle.std.specs.Option.{option_and_then}
-use Rattle.scalar_expr.proofs.Bags.{filter-flat_map, filter_permuted, flat_map_each}
+use Rattle.std.specs.Option.{option_and_then, option_map}
+use Rattle.std.proofs.lemmas.List.Sorted.{IsPermutation-append_left, IsPermutation-append_right, IsPermutation-map, IsPermutation-refl, IsPermutation-trans, list_any-IsPermutation, sum_by-IsPermutation}
+use Rattle.scalar_expr.proofs.Bags.{filter-flat_map, filter_permuted, permuted_from, permuted_to}
 use Rattle.automaton.specs.declared.network.End.{End}
 use Rattle.automaton.specs.declared.network.State.{State}
-use Rattle.automaton.specs.Changes.{RemovesEnd, without_end, without_numbered}
+use Rattle.automaton.specs.Changes.{RemovesEnd, with_ends}
 use Rattle.automaton.specs.NetworkLines.{Ending, HasEndings, ending_at, endings_by}
 use Rattle.automaton.specs.Networks.{IsAt, IsNetwork}
 use Rattle.automaton.specs.Prefixes.{Prefix, beginnings}
 use Rattle.automaton.specs.States.{Net, edges_at, edges_in, ends_at, ends_in, entrance_at, entrance_in, is_used, root_at, root_by, state_at}
-use Rattle.automaton.proofs.ChangeLemmas.{gone_entry, reads_alike, removes_end_network}
-use Rattle.automaton.proofs.CountLemmas.{bit, count-cons}
-use Rattle.event_types.proofs.NumberLemmas.{is_other, same_number}
+use Rattle.automaton.proofs.ChangeLemmas.{ends_entry, reads_alike, removes_end_network}
+use Rattle.automaton.proofs.CountLemmas.{bit}
 use Rattle.automaton.proofs.NumberLemmas.{are_same_or_not}
 use Rattle.automaton.proofs.SlotLemmas.{KeepsEntries, at_kept, at_one, at_used, entry_there}
+use Rattle.prefix_merge.specs.declared.holders.EndSpot.{EndSpot}
 use Rattle.prefix_merge.specs.Growth.{AreUsedBelow, IsTable}
-use Rattle.prefix_merge.specs.Merging.{HasEnd, HasOwnNumbers, IsMerged, IsUsedBy, ends_numbered}
+use Rattle.prefix_merge.specs.Holders.{StandsAt}
+use Rattle.prefix_merge.specs.Insertion.{without_numbered}
+use Rattle.prefix_merge.specs.Merging.{HasEnd, HasOwnNumbers, IsMerged, IsUsedBy, ends_numbered, number_at}
 use Rattle.prefix_merge.specs.Pruning.{IsPruned, IsPruning}
 use Rattle.prefix_merge.specs.Removal.{Removes}
 use Rattle.prefix_merge.proofs.AnyLemmas.{none_unused}
 use Rattle.prefix_merge.proofs.EndingLemmas.{ends_none}
 use Rattle.prefix_merge.proofs.GrowthLemmas.{any_end}
+use Rattle.prefix_merge.proofs.NumberedLemmas.{any_left, counted_gone, counted_other, ends_put, lines_left, none_numbered, other_end, other_ending, others_left, there_counted, with_number}
 use Rattle.prefix_merge.proofs.PrefixLemmas.{at_beginning}
 use Rattle.prefix_merge.proofs.StartLemmas.{edges_stay}
 
--- whether an end has another number
-abbrev pub other_end : ℕ → End → Bool
-other_end number end = not (end.number == number)
-
--- ends without those of a number
-pub none_numbered : (number : ℕ) (ends : List End) → count_by (λ (e : End). e.number == number) ends ≡ 0 → without_numbered number ends ≡ ends
-none_numbered number [] none = refl
-none_numbered number (end ∷ ends) none = go (none_numbered number ends) (end.number == number) refl
-  where
-    go : (count_by (λ (e : End). e.number == number) ends ≡ 0 → without_numbered number ends ≡ ends) → (b : Bool) → (end.number == number) ≡ b → cond (not b) (end ∷ without_numbered number ends) (without_numbered number ends) ≡ end ∷ ends
-    go rest true is =
-        let counted = count-cons (λ (e : End). e.number == number) end ends in let one : bit (end.number == number) ≡ 1 = ap bit is in absurd (omega (arith, none, counted, one))
-    go rest false is = let counted = count-cons (λ (e : End). e.number == number) end ends in ap (λ es. end ∷ es) (rest (omega (arith, none, counted)))
-
-pub counted_other : (number other : ℕ) (ends : List End) → (number ≡ other → ⊥) → count_by (λ (e : End). e.number == other) (without_numbered number ends) ≡ count_by (λ (e : End). e.number == other) ends
-counted_other number other [] ne = refl
-counted_other number other (end ∷ ends) ne = go (counted_other number other ends ne) (end.number == number) refl ∙ sym (count-cons (λ (e : End). e.number == other) end ends)
-  where
-    go : count_by (λ (e : End). e.number == other) (without_numbered number ends) ≡ count_by (λ (e : End). e.number == other) ends → (b : Bool) → (end.number == number) ≡ b
-        → count_by (λ (e : End). e.number == other) (cond (not b) (end ∷ without_numbered number ends) (without_numbered number ends)) ≡ bit (end.number == other) + count_by (λ (e : End). e.number == other) ends
-    go rest true is =
-        let same = same_number end.number number is in
-        let zero' : bit (end.number == other) ≡ 0 = ap bit (is_other end.number other (λ e. ne (sym same ∙ e))) in
-        omega (arith, rest, zero')
-    go rest false is = count-cons (λ (e : End). e.number == other) end (without_numbered number ends) ∙ ap (λ n. bit (end.number == other) + n) rest
-
-pub counted_gone : (number : ℕ) (ends : List End) → count_by (λ (e : End). e.number == number) (without_numbered number ends) ≡ 0
-counted_gone number [] = refl
-counted_gone number (end ∷ ends) = go (counted_gone number ends) (end.number == number) refl
-  where
-    go : count_by (λ (e : End). e.number == number) (without_numbered number ends) ≡ 0 → (b : Bool) → (end.number == number) ≡ b
-        → count_by (λ (e : End). e.number == number) (cond (not b) (end ∷ without_numbered number ends) (without_numbered number ends)) ≡ 0
-    go rest true is = rest
-    go rest false is =
-        let counted = count-cons (λ (e : End). e.number == number) end (without_numbered number ends) in
-        let zero' : bit (end.number == number) ≡ 0 = ap bit is in
-        omega (arith, rest, counted, zero')
-
--- some end is left where one has another number
-pub any_left : (number : ℕ) (ends : List End) → list_any any_end (without_numbered number ends) ≡ list_any (other_end number) ends
-any_left number [] = refl
-any_left number (end ∷ ends) = go (any_left number ends) (not (end.number == number))
-  where
-    go : list_any any_end (without_numbered number ends) ≡ list_any (other_end number) ends → (b : Bool) → list_any any_end (cond b (end ∷ without_numbered number ends) (without_numbered number ends)) ≡ (b || list_any (other_end number) ends)
-    go rest true = refl
-    go rest false = rest
-
--- the lines of the ends but that of a number
-abbrev other_ending : ℕ → Ending → Bool
-other_ending number ending = not (ending.number == number)
-
-lines_left : (number : ℕ) (prefix : Prefix) (ends : List End) → map (ending_at prefix) (without_numbered number ends) ≡ filter (other_ending number) (map (ending_at prefix) ends)
-lines_left number prefix [] = refl
-lines_left number prefix (end ∷ ends) = go (lines_left number prefix ends) (not (end.number == number))
-  where
-    go : map (ending_at prefix) (without_numbered number ends) ≡ filter (other_ending number) (map (ending_at prefix) ends) → (b : Bool)
-        → map (ending_at prefix) (cond b (end ∷ without_numbered number ends) (without_numbered number ends))
-        ≡ cond b (ending_at prefix end ∷ filter (other_ending number) (map (ending_at prefix) ends)) (filter (other_ending number) (map (ending_at prefix) ends))
-    go rest true = ap (λ es. ending_at prefix end ∷ es) rest
-    go rest false = rest
+-- what gives a permutation of each gives one of all
+each_permuted : {X Y : Type 0} (f g : X → List Y) → ((x : X) → IsPermutation (f x) (g x)) → (xs : List X) → IsPermutation (flat_map f xs) (flat_map g xs)
+each_permuted f g same [] = IsPermutation-refl []
+each_permuted f g same (x ∷ xs) =
+    IsPermutation-trans _ _ _ (IsPermutation-append_left (flat_map f xs) (f x) (g x) (same x)) (IsPermutation-append_right (g x) (flat_map f xs) (flat_map g xs) (each_permuted f g same xs))
 
 -- the end leaves
-module _ (old middle : Net) (state end : ℕ) (network : IsNetwork old) (merged : IsMerged old) (own : HasOwnNumbers old) (has : 1 ≤ ends_numbered old end state) (removes : RemovesEnd state end old middle) where
+module _ (old middle : Net) (state place end : ℕ) (network : IsNetwork old) (merged : IsMerged old) (own : HasOwnNumbers old) (there : number_at old state place ≡ Some end) (removes : RemovesEnd state place old middle) where
+  has : 1 ≤ ends_numbered old end state
+  has = there_counted end (ends_at old state) place there
+
   middle_entry : (number : ℕ) → entrance_at middle number ≡ entrance_at old number
-  middle_entry = reads_alike entrance_in old middle state (ap entrance_in removes.here ∙ gone_entry end (state_at old state)) removes.others
+  middle_entry = reads_alike entrance_in old middle state (ap entrance_in removes.here ∙ ends_entry (swap_remove (ends_at old state) place removes.gone) (state_at old state)) removes.others
 
   -- without the end the states are the same
   pub middle_used : (number : ℕ) → is_used middle number ≡ is_used old number
   middle_used number = sym (entry_there (state_at middle number)) ∙ ap is_some (middle_entry number) ∙ entry_there (state_at old number)
 
-  ends_without : (slot : Option State) → ends_in (without_end end slot) ≡ without_numbered end (ends_in slot)
-  ends_without None = refl
-  ends_without (Some present) = refl
+  -- the others are left, and the last one has its place
+  ends_here : ends_at middle state ≡ swap_remove (ends_at old state) place removes.gone
+  ends_here = ap ends_in removes.here ∙ ends_put (swap_remove (ends_at old state) place removes.gone) (state_at old state) place removes.gone removes.there
 
-  middle_ends : (number : ℕ) → ends_at middle number ≡ without_numbered end (ends_at old number)
+  its_number : removes.gone.number ≡ end
+  its_number = let same : Some removes.gone.number ≡ Some end = ap (option_map (λ (e : End). e.number)) (sym removes.there) ∙ there in cc
+
+  -- no end has the number at another state
+  none_else : (number : ℕ) → (number ≡ state → ⊥) → ends_numbered old end number ≡ 0
+  none_else number ne = by_count (ends_numbered old end number) refl
+    where
+      by_count : (n : ℕ) → ends_numbered old end number ≡ n → n ≡ 0
+      by_count zero is = refl
+      by_count (suc n) is = absurd (ne (own.apart end number state (omega (arith, is)) has))
+
+  -- at each state stand the ends but it, in whatever order
+  middle_ends : (number : ℕ) → IsPermutation (ends_at middle number) (without_numbered end (ends_at old number))
   middle_ends number = by_number (are_same_or_not number state)
     where
-      zero_else : (n : ℕ) → ends_numbered old end number ≡ n → (number ≡ state → ⊥) → n ≡ 0
-      zero_else zero is ne = refl
-      zero_else (suc n) is ne = absurd (ne (own.apart end number state (omega (arith, is)) has))
+      by_number : (number ≡ state) ⊎ (number ≡ state → ⊥) → IsPermutation (ends_at middle number) (without_numbered end (ends_at old number))
+      by_number (inl same) =
+          subst (λ n. IsPermutation (ends_at middle n) (without_numbered end (ends_at old n))) (sym same)
+          (permuted_from ends_here (others_left end place removes.gone (ends_at old state) removes.there its_number (own.one end state)))
+      by_number (inr ne) = permuted_from (ap ends_in (removes.others number ne) ∙ sym (none_numbered end (ends_at old number) (none_else number ne))) (IsPermutation-refl (without_numbered end (ends_at old number)))
 
-      by_number : (number ≡ state) ⊎ (number ≡ state → ⊥) → ends_at middle number ≡ without_numbered end (ends_at old number)
-      by_number (inl same) = ap (ends_at middle) same ∙ ap ends_in removes.here ∙ ends_without (state_at old state) ∙ ap (λ n. without_numbered end (ends_at old n)) (sym same)
-      by_number (inr ne) = ap ends_in (removes.others number ne) ∙ sym (none_numbered end (ends_at old number) (zero_else (ends_numbered old end number) refl ne))
+  -- where no end has the number, the ends are the same
+  middle_others : (number : ℕ) → ends_numbered old end number ≡ 0 → ends_at middle number ≡ ends_at old number
+  middle_others number none = by_number (are_same_or_not number state)
+    where
+      by_number : (number ≡ state) ⊎ (number ≡ state → ⊥) → ends_at middle number ≡ ends_at old number
+      by_number (inl same) = let none_here : ends_numbered old end state ≡ 0 = ap (ends_numbered old end) (sym same) ∙ none in let some = has in absurd (omega (arith, none_here, some))
+      by_number (inr ne) = ap ends_in (removes.others number ne)
+
+  -- and where it stands, the last one takes its place
+  middle_left : ((spot : EndSpot) → StandsAt old end spot → spot ≡ record { state = state; place = place }) → (number at : ℕ) (gone : End) → slice_get (ends_at old number) at ≡ Some gone → gone.number ≡ end → ends_at middle number ≡ swap_remove (ends_at old number) at gone
+  middle_left only number at gone stands its =
+      let same = only (record { state = number; place = at }) (ap (option_map (λ (e : End). e.number)) stands ∙ ap (λ n. Some n) its) in
+      let at_state : number ≡ state = ap (λ (spot : EndSpot). spot.state) same in
+      let at_place : at ≡ place = ap (λ (spot : EndSpot). spot.place) same in
+      let here : slice_get (ends_at old state) place ≡ Some gone = (λ i. slice_get (ends_at old (sym at_state i)) (sym at_place i)) ∙ stands in
+      let one : Some removes.gone ≡ Some gone = sym removes.there ∙ here in
+      let both : removes.gone ≡ gone = cc in
+      ap (ends_at middle) at_state ∙ ends_here ∙ (λ i. swap_remove (ends_at old (sym at_state i)) (sym at_place i) (both i))
 
   -- the end stands at a state
   pub state_used : is_used old state ≡ true
@@ -130,7 +111,7 @@ module _ (old middle : Net) (state end : ℕ) (network : IsNetwork old) (merged 
   -- pruning begins at that state
   pub end_pruning : (prefix : Prefix) → IsAt old state prefix → IsPruning middle prefix state middle
   end_pruning prefix here = record {
-    left = record { network = removes_end_network state end old middle removes network; stay = λ number used. refl; ends = λ number. refl; edges = λ number used. sym (edges_stay middle (removes_end_network state end old middle removes network) number); places = refl };
+    left = record { network = removes_end_network state place old middle removes network; stay = λ number used. refl; ends = λ number. refl; edges = λ number used. sym (edges_stay middle (removes_end_network state place old middle removes network) number); places = refl };
     here = at_kept old middle on state prefix here;
     apart = λ number other p at_number at_other. merged.apart number other p (at_kept middle old off number p at_number) (at_kept middle old off other p at_other);
     needed = λ number p at_number. by_use p (merged.needed number p (at_kept middle old off number p at_number));
@@ -157,8 +138,8 @@ module _ (old middle : Net) (state end : ℕ) (network : IsNetwork old) (merged 
     new_keeps : KeepsEntries new old
     new_keeps number e is = let used : is_used new number ≡ true = sym (entry_there (state_at new number)) ∙ ap is_some is in sym (new_entry number used) ∙ is
 
-    new_ends : (number : ℕ) → ends_at new number ≡ without_numbered end (ends_at old number)
-    new_ends number = pruned.left.ends number ∙ middle_ends number
+    new_ends : (number : ℕ) → IsPermutation (ends_at new number) (without_numbered end (ends_at old number))
+    new_ends number = permuted_from (pruned.left.ends number) (middle_ends number)
 
     used_before : (number : ℕ) → is_used new number ≡ true → is_used old number ≡ true
     used_before number used = sym (entry_there (state_at old number)) ∙ ap is_some (sym (new_entry number used)) ∙ entry_there (state_at new number) ∙ used
@@ -169,7 +150,7 @@ module _ (old middle : Net) (state end : ℕ) (network : IsNetwork old) (merged 
         subst (IsAt new number) (at_one old number place.0 p (at_kept new old new_keeps number place.0 place.1) here) place.1
 
     any_new : (number : ℕ) → list_any any_end (ends_at new number) ≡ list_any (other_end end) (ends_at old number)
-    any_new number = ap (list_any any_end) (new_ends number) ∙ any_left end (ends_at old number)
+    any_new number = list_any-IsPermutation any_end (ends_at new number) (without_numbered end (ends_at old number)) (new_ends number) ∙ any_left end (ends_at old number)
 
     -- an end stands at a state that is there
     used_by_ends : (number : ℕ) → IsTrue (list_any any_end (ends_at new number)) → is_used new number ≡ true
@@ -194,11 +175,14 @@ module _ (old middle : Net) (state end : ℕ) (network : IsNetwork old) (merged 
             let same = merged.apart there.0 number p (at_kept new old new_keeps there.0 p there.1) here in
             subst (λ n. IsTrue (is_used new n)) same (at_used new there.0 p there.1)
 
+    counted_new : (number other : ℕ) → ends_numbered new other number ≡ with_number other (without_numbered end (ends_at old number))
+    counted_new number other = sym (sum_by-IsPermutation (λ (e : End). bit (e.number == other)) (ends_at new number) (without_numbered end (ends_at old number)) (new_ends number))
+
     numbered_same : (number other : ℕ) → (other ≡ end → ⊥) → ends_numbered new other number ≡ ends_numbered old other number
-    numbered_same number other ne = ap (count_by (λ (e : End). e.number == other)) (new_ends number) ∙ counted_other end other (ends_at old number) (λ e. ne (sym e))
+    numbered_same number other ne = counted_new number other ∙ counted_other end other (ends_at old number) (λ e. ne (sym e))
 
     numbered_gone : (number : ℕ) → ends_numbered new end number ≡ 0
-    numbered_gone number = ap (count_by (λ (e : End). e.number == end)) (new_ends number) ∙ counted_gone end (ends_at old number)
+    numbered_gone number = counted_new number end ∙ counted_gone end (ends_at old number)
 
     gone_not : (number other : ℕ) → 1 ≤ ends_numbered new other number → other ≡ end → ⊥
     gone_not number other some same = let none : ends_numbered new other number ≡ 0 = ap (λ n. ends_numbered new n number) same ∙ numbered_gone number in absurd (omega (arith, none, some))
@@ -224,7 +208,7 @@ module _ (old middle : Net) (state end : ℕ) (network : IsNetwork old) (merged 
     endings_are endings had = record {
       places = had.places;
       are_places = λ number used. at_new number (had.places number) used (had.are_places number (used_before number used));
-      same = subst (λ es. IsPermutation es (filter (other_ending end) endings)) (sym left) (filter_permuted (other_ending end) (endings_by had.places old) endings had.same);
+      same = IsPermutation-trans _ _ _ left (filter_permuted (other_ending end) (endings_by had.places old) endings had.same);
     }
       where
         after : ℕ → List Ending
@@ -233,28 +217,33 @@ module _ (old middle : Net) (state end : ℕ) (network : IsNetwork old) (merged 
         before : ℕ → List Ending
         before number = map (ending_at (had.places number)) (ends_at old number)
 
-        left : endings_by had.places new ≡ filter (other_ending end) (endings_by had.places old)
-        left =
-            ap (λ n. flat_map after (range_with_len 0 n)) (pruned.left.places ∙ removes.places)
-            ∙ flat_map_each after (λ number. filter (other_ending end) (before number))
-            (λ number. ap (map (ending_at (had.places number))) (new_ends number) ∙ lines_left end (had.places number) (ends_at old number)) (range_with_len 0 (length old))
-            ∙ sym (filter-flat_map (other_ending end) before (range_with_len 0 (length old)))
+        each : (number : ℕ) → IsPermutation (after number) (filter (other_ending end) (before number))
+        each number =
+            permuted_to (IsPermutation-map (ending_at (had.places number)) (ends_at new number) (without_numbered end (ends_at old number)) (new_ends number))
+            (lines_left end (had.places number) (ends_at old number))
 
-    edges_cut : (slot : Option State) → edges_in (without_end end slot) ≡ edges_in slot
-    edges_cut None = refl
-    edges_cut (Some present) = refl
+        left : IsPermutation (endings_by had.places new) (filter (other_ending end) (endings_by had.places old))
+        left =
+            permuted_from (ap (λ n. flat_map after (range_with_len 0 n)) (pruned.left.places ∙ removes.places))
+            (permuted_to (each_permuted after (λ number. filter (other_ending end) (before number)) each (range_with_len 0 (length old)))
+            (sym (filter-flat_map (other_ending end) before (range_with_len 0 (length old)))))
+
+    edges_same : (ends : List End) (slot : Option State) → edges_in (with_ends ends slot) ≡ edges_in slot
+    edges_same ends None = refl
+    edges_same ends (Some present) = refl
 
     middle_edges : (number : ℕ) → edges_at middle number ≡ edges_at old number
-    middle_edges = reads_alike edges_in old middle state (ap edges_in removes.here ∙ edges_cut (state_at old state)) removes.others
+    middle_edges = reads_alike edges_in old middle state (ap edges_in removes.here ∙ edges_same (swap_remove (ends_at old state) place removes.gone) (state_at old state)) removes.others
 
     -- so the line has left
-    pub line_removed : Removes end old new
-    line_removed = record {
+    pub line_removed : ((spot : EndSpot) → StandsAt old end spot → spot ≡ record { state = state; place = place }) → Removes end old new
+    line_removed only = record {
       stay = new_entry;
       states = states_are;
       endings = endings_are;
       edges_left = λ number used. pruned.left.edges number used ∙ ap (filter (is_used new)) (middle_edges number);
-      ends_left = new_ends;
+      other_ends = λ number none. pruned.left.ends number ∙ middle_others number none;
+      ends_left = λ number at gone stands its. pruned.left.ends number ∙ middle_left only number at gone stands its;
       ends = ends_are;
     }
 

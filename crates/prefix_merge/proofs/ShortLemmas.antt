@@ -101,7 +101,8 @@ module _ (whole short : Net) (is : IsShortened whole short) where
     );
     endings = λ endings had. endings_short (filter (λ (ending : Ending). not (ending.number == end)) endings) (removes.endings endings had);
     edges_left = λ number used. ap edges_in (is.same number) ∙ removes.edges_left number (sym (used_short number) ∙ used) ∙ (λ i. filter (λ m. is_some (sym (is.same m) i)) (edges_at old number));
-    ends_left = λ number. ap ends_in (is.same number) ∙ removes.ends_left number;
+    other_ends = λ number none. ap ends_in (is.same number) ∙ removes.other_ends number none;
+    ends_left = λ number place gone there its. ap ends_in (is.same number) ∙ removes.ends_left number place gone there its;
     ends = λ other. (
       (λ (has : HasEnd short other). (removes.ends other).0 (has.0, subst (λ n. 1 ≤ n) (numbered_short other has.0) has.1)),
       λ has. let there = (removes.ends other).1 has in (there.0, subst (λ n. 1 ≤ n) (sym (numbered_short other there.0)) there.1),

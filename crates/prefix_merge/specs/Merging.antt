@@ -1,6 +1,7 @@
 -- Merged networks, in which lines that begin alike share their states.
-use Rattle.std.specs.Prelude.{◌≡◌, ◌≤◌, ◌<◌, ◌-◌, ◌==◌, ℕ, Bool, true, false, IsTrue, Contains, count_by, length}
+use Rattle.std.specs.Prelude.{◌≡◌, ◌≤◌, ◌<◌, ◌-◌, ◌==◌, ℕ, Bool, true, false, IsTrue, Contains, Option, count_by, length, slice_get}
 use Rattle.std.specs.List.{list_any}
+use Rattle.std.specs.Option.{option_map}
 use Rattle.automaton.specs.declared.network.End.{End}
 use Rattle.automaton.specs.Networks.{IsAt, IsNetwork}
 use Rattle.automaton.specs.Prefixes.{Prefix, beginnings}
@@ -26,6 +27,10 @@ pub record IsMerged (net : Net) : Type 0 where
 -- how many ends at a state have the number
 abbrev pub ends_numbered : Net → ℕ → ℕ → ℕ
 ends_numbered net number state = count_by (λ end. end.number == number) (ends_at net state)
+
+-- the number of the end at a place of a state, where one stands there
+abbrev pub number_at : Net → ℕ → ℕ → Option ℕ
+number_at net state place = option_map (λ end. end.number) (slice_get (ends_at net state) place)
 
 -- an end has the number
 abbrev pub HasEnd : Net → ℕ → Type 0

@@ -1,16 +1,17 @@
 //! Networks whose waiting states are found by how they are entered.
-ghost use Rattle.std.specs.Prelude.{◌≡◌, ◌≢◌, ◌<◌, ◌≤◌, ◌-◌, ◌==◌, ℕ, [], Contains, IfNone, IfSome, IsTrue, None, OnErr, OnOk, Some, count_by, false, if◌then◌else◌, length, nat_eq, take};
-ghost use Rattle.std.specs.HashMap.{get};
+ghost use Rattle.std.specs.Prelude.{◌≡◌, ◌≢◌, ◌<◌, ◌≤◌, ◌-◌, ◌==◌, ℕ, [], Contains, IfNone, IfSome, IsTrue, OnErr, OnOk, Some, count_by, false, if◌then◌else◌, length, take};
 ghost use Rattle.automaton.specs.Changes.{AddsEnd, AddsHop, AddsRoot, RemovesEnd, RemovesState};
 ghost use Rattle.automaton.specs.Networks.{IsNetwork};
 ghost use Rattle.automaton.specs.States.{edges_at, ends_at, entrance_at, is_used};
 ghost use Rattle.automaton.specs.declared.network.Entrance.TheVariants.{Waiting};
 ghost use Rattle.prefix_merge.specs.Buckets.{HaveSame, IsPut, IsTakenFrom, IsTakenOut};
-ghost use Rattle.prefix_merge.specs.Holders.{TellsOf};
-ghost use Rattle.prefix_merge.specs.Merging.{HasEnd, ends_numbered};
+ghost use Rattle.prefix_merge.specs.Holders.{StandsAt};
+ghost use Rattle.prefix_merge.specs.Merging.{HasEnd};
+ghost use Rattle.prefix_merge.specs.declared.holders.EndSpot.{EndSpot};
 ghost use Rattle.stream_readers.specs.Readers.{AreReadersOf};
 
 use crate::hashing::entrance_hash;
+use crate::holders::{EndSpot, Holders, forget, note, note_moved, number_there};
 use crate::reading::{with_end, with_hop, without_end, without_state};
 use automaton::{End, Hop, Network};
 use event_types::{List, Memory, Numbers, StreamId};
@@ -19,7 +20,7 @@ use std::collections::HashMap;
 use std::marker::Model;
 use stream_readers::Readers;
 
-// A network, its waiting states in buckets by a hash of how each is entered, the state of each end, and what reads
+// A network, its waiting states in buckets by a hash of how each is entered, where each end stands, and what reads
 // each stream, unless memory was wanting. A contract sees the network.
 #[derive(Drop)]
 pub(crate) struct Indexed {
@@ -32,9 +33,6 @@ pub(crate) struct Indexed {
 
 // The states in the bucket of each hash.
 type Buckets = HashMap<u64, Numbers>;
-
-// The state at which the end of each number stands.
-type Holders = HashMap<usize, usize>;
 
 impl Model for Indexed {
     ghost use Rattle.std.specs.Prelude.{List, Option};
@@ -142,13 +140,14 @@ impl Indexed {
         added
     }
 
-    // The state at which the end with this number stands.
-    pub(crate) fn holder(&self, number: usize) -> usize
+    // Where the end with this number stands.
+    pub(crate) fn holder(&self, number: usize) -> EndSpot
         requires { HasEnd self.now number }
-        ensures { 1 ≤ ends_numbered self.now number result }
+        ensures there { StandsAt self.now number result }
+        ensures only { (other : EndSpot) → StandsAt self.now number other → other ≡ result }
     {
         match self.holders.get(&number) {
-            Some(state) => *state,
+            Some(spot) => *spot,
             None => unreachable!(),
         }
     }
@@ -161,7 +160,8 @@ impl Indexed {
         ensures kept { OnErr result (self.new ≡ self.old) }
     {
         let number = end.number;
-        note(&mut self.holders, number, state)?;
+        let place = self.network.ends(state).len();
+        note(&mut self.holders, number, EndSpot { state, place })?;
         let readers = with_end(self.readers.take(), &self.network, state, &end);
         let added = self.network.add_end(state, end);
         if added.is_err() {
@@ -172,14 +172,17 @@ impl Indexed {
         added
     }
 
-    // The only end of this number leaves its state.
-    pub(crate) fn remove_end(&mut self, state: usize, number: usize)
-        requires { ends_numbered self.old number state ≡ 1 }
-        ensures { RemovesEnd state number self.old self.new }
+    // The end of this number, which stands there, leaves, and the last one of its state takes its place. Takes no
+    // memory.
+    pub(crate) fn remove_end(&mut self, number: usize, spot: EndSpot)
+        requires { StandsAt self.old number spot }
+        ensures { RemovesEnd spot.state spot.place self.old self.new }
     {
-        self.readers = without_end(self.readers.take(), &self.network, state, number);
-        self.network.remove_end(state, number);
+        self.readers = without_end(self.readers.take(), &self.network, spot.state, spot.place);
+        self.network.remove_end(spot.state, spot.place);
         forget(&mut self.holders, number);
+        let moved = number_there(&self.network, spot);
+        note_moved(&mut self.holders, moved, spot);
     }
 
     // A state without edges and ends leaves, with the edge that leads to it.
@@ -202,22 +205,6 @@ impl Indexed {
     {
         self.network.shrink();
     }
-}
-
-// Notes the state of an end.
-fn note(holders: &mut Holders, end: usize, state: usize) -> Result<(), Memory>
-    ensures ok { OnOk result (TellsOf end (Some state) holders.old holders.new) }
-    ensures kept { OnErr result ((other : ℕ) → get nat_eq holders.new other ≡ get nat_eq holders.old other) }
-{
-    holders.insert(end, state)?;
-    Ok(())
-}
-
-// Forgets the state of an end.
-fn forget(holders: &mut Holders, end: usize)
-    ensures { TellsOf end None holders.old holders.new }
-{
-    holders.remove(&end);
 }
 
 // The first of the states that is entered from this one through the hop.

@@ -6,6 +6,7 @@
 
 mod growth;
 mod hashing;
+mod holders;
 mod indexed;
 mod laws;
 mod left;

@@ -138,9 +138,15 @@ impl Merged {
         ensures removed { Removes end self.old self.new }
         ensures left { NotesLeft self.old self.new left.old left.new }
     {
-        let state = self.network.holder(end);
-        self.network.remove_end(state, end);
-        self.lowest = prune(&mut self.network, &mut self.roots, self.lowest, state, left);
+        let spot = self.network.holder(end);
+        self.network.remove_end(end, spot);
+        self.lowest = prune(
+            &mut self.network,
+            &mut self.roots,
+            self.lowest,
+            spot.state,
+            left,
+        );
         shorten(&mut self.network);
     }
 

@@ -1,9 +1,8 @@
 //! What reads each stream of a network, as a state or an end is to come or to leave. After want of memory there
 //! are no readers.
-ghost use Rattle.std.specs.Prelude.{◌≡◌, IfSome, IsTrue, [], false};
+ghost use Rattle.std.specs.Prelude.{◌≡◌, ◌<◌, IfSome, IsTrue, [], false, length};
 ghost use Rattle.automaton.specs.Changes.{AddsEnd, AddsHop, RemovesEnd, RemovesState};
 ghost use Rattle.automaton.specs.States.{Net, edges_at, ends_at, is_used};
-ghost use Rattle.prefix_merge.specs.Merging.{ends_numbered};
 ghost use Rattle.stream_readers.specs.Readers.{AreReadersOf};
 
 use automaton::{End, Hop, Network};
@@ -47,20 +46,20 @@ pub(crate) fn with_end(
     }
 }
 
-// The readers of a network that the only end of this number is to leave.
+// The readers of a network that the end at a place of a state is to leave.
 pub(crate) fn without_end(
     readers: Option<Readers>,
     network: &Network,
     state: usize,
-    number: usize,
+    place: usize,
 ) -> Option<Readers>
     requires readers { IfSome readers (AreReadersOf network.now) }
     requires used { IsTrue (is_used network.now state) }
-    requires one { ends_numbered network.now number state ≡ 1 }
-    ensures { IfSome result (λ left. (new : Net) → RemovesEnd state number network.now new → AreReadersOf new left) }
+    requires there { place < length (ends_at network.now state) }
+    ensures { IfSome result (λ left. (new : Net) → RemovesEnd state place network.now new → AreReadersOf new left) }
 {
     let mut readers = readers?;
-    readers.remove_end(network, state, number);
+    readers.remove_end(network, state, place);
     Some(readers)
 }
 

@@ -7,7 +7,7 @@ use Rattle.std.specs.List.Sorted.{IsPermutation}
 use Rattle.std.proofs.lemmas.Bool.Decides.{nat_tests}
 use Rattle.std.proofs.lemmas.Grind.{flat_map-append}
 use Rattle.std.proofs.lemmas.List.{map-append}
-use Rattle.std.proofs.lemmas.List.Sorted.{IsPermutation-append_comm, IsPermutation-append_left, IsPermutation-append_right, IsPermutation-trans}
+use Rattle.std.proofs.lemmas.List.Sorted.{IsPermutation-append, IsPermutation-append_comm, IsPermutation-append_left, IsPermutation-append_right, IsPermutation-refl, IsPermutation-trans}
 use Rattle.event_types.proofs.NumberLemmas.{is_below, other_number, same_number}
 use Rattle.scalar_expr.proofs.Bags.{flat_map_each, permuted_from, permuted_to}
 use Rattle.static_index.specs.Conditions.{Condition, ids_of, with_condition, without}
@@ -31,6 +31,15 @@ module _ {X : Type 0} where
   pub given_alike : (f g : ℕ → List X) (n m : ℕ) → ((k : ℕ) → g k ≡ f k) → ((k : ℕ) → n ≤ k → f k ≡ []) → ((k : ℕ) → m ≤ k → g k ≡ []) → given_below g m ≡ given_below f n
   given_alike f g n m same none none' =
       sym (given_more g m n none') ∙ flat_map_each g f same (range_with_len 0 (m + n)) ∙ ap (given_below f) (let e : m + n ≡ n + m = omega arith in e) ∙ given_more f n m none
+
+  -- and where each gives it in another order
+  pub given_permuted : (f g : ℕ → List X) (n m : ℕ) → ((k : ℕ) → IsPermutation (f k) (g k)) → ((k : ℕ) → n ≤ k → f k ≡ []) → ((k : ℕ) → m ≤ k → g k ≡ []) → IsPermutation (given_below f n) (given_below g m)
+  given_permuted f g n m same none none' =
+      permuted_from (sym (given_more f n m none) ∙ ap (given_below f) (let e : n + m ≡ m + n = omega arith in e)) (permuted_to (each (range_with_len 0 (m + n))) (given_more g m n none'))
+    where
+      each : (numbers : List ℕ) → IsPermutation (flat_map f numbers) (flat_map g numbers)
+      each [] = IsPermutation-refl []
+      each (k ∷ numbers) = IsPermutation-append (f k) (g k) (flat_map f numbers) (flat_map g numbers) (same k) (each numbers)
 
   -- numbers past one
   rest_same : (f g : ℕ → List X) (n a len : ℕ) → ((k : ℕ) → (k ≡ n → ⊥) → g k ≡ f k) → n < a → flat_map g (range_with_len a len) ≡ flat_map f (range_with_len a len)

@@ -1,14 +1,12 @@
 -- Readers of a network that a state leaves.
-use Rattle.std.proofs.Common.{◌≡◌, ◌∙◌, sym, ap, refl, subst, ℕ, zero, suc, ◌+◌, ◌==◌, ◌&&◌, not, Bool, true, false, cond, get_or, length, List, [], ◌∷◌, ◌++◌, map, arith}
-use Rattle.std.specs.Prelude.{Option, Some, None, count_by, is_some, slice_get, take}
+use Rattle.std.proofs.Common.{◌≡◌, ◌∙◌, sym, ap, refl, subst, ℕ, ◌+◌, ◌==◌, ◌&&◌, not, Bool, true, false, cond, length, List, [], ◌∷◌, ◌++◌, map, arith}
+use Rattle.std.specs.Prelude.{Option, Some, None, count_by, is_some}
 use Rattle.std.specs.Option.{option_and_then, option_map, unwrap_or}
-use Rattle.std.specs.List.{All, flat_map, range_with_len, remove}
-use Rattle.std.proofs.lemmas.List.Elements.{All-append, All-cons, All-head, All-nil, All-tail}
-use Rattle.std.proofs.lemmas.List.{take_more}
+use Rattle.std.specs.List.{flat_map, range_with_len}
 use Rattle.std.proofs.lemmas.List.Sums.{sum_by-cons}
-use Rattle.std.proofs.lemmas.Option.{slice_get_within}
-use Rattle.event_types.proofs.NumberLemmas.{is_other, is_same, other_number, same_number, self_equal}
-use Rattle.automaton.specs.Changes.{RemovesState, without_edge, without_number, without_numbered}
+use Rattle.std.proofs.lemmas.List.Sorted.{IsPermutation-refl}
+use Rattle.event_types.proofs.NumberLemmas.{other_number, same_number, self_equal}
+use Rattle.automaton.specs.Changes.{RemovesState, without_edge, without_number}
 use Rattle.automaton.specs.Networks.{IsNetwork}
 use Rattle.automaton.specs.States.{Net, before_at, edges_at, edges_in, ends_at, entrance_at, entrance_in, is_used, root_at, root_by, root_in, state_at, step_by, tells, wait_at}
 use Rattle.automaton.specs.declared.network.End.{End}
@@ -21,13 +19,15 @@ use Rattle.stream_readers.specs.Filing.{Filed, has_id}
 use Rattle.stream_readers.specs.Leading.{lead_key}
 use Rattle.stream_readers.specs.Leaving.{left_by}
 use Rattle.stream_readers.specs.Ways.{first_parts, parts_in}
+use Rattle.scalar_expr.proofs.Bags.{permuted_from}
+use Rattle.stream_readers.specs.declared.leaving.Gone.TheVariants as leaving
 use Rattle.stream_readers.specs.declared.reader.Reader.{Reader}
 use Rattle.stream_readers.specs.declared.target.Target.TheVariants.{Edge}
 use Rattle.stream_readers.proofs.ChangeLemmas.{given_below, row_has, row_lacks, row_left, row_of}
 use Rattle.stream_readers.proofs.EntryLemmas.{asked, asked_at, edge_filed, ends_filed, entry, entry_of, no_root, stays, unused_asked, unused_entry, used_within, waits_alike, waits_given}
 use Rattle.stream_readers.proofs.GrownLemmas.{targets_alike, targets_leave, targets_stay, wait_given, wait_leaves, waiting_alike, waits_stay}
 use Rattle.stream_readers.specs.Readers.{reader_at}
-use Rattle.stream_readers.proofs.SlotLemmas.{at_got, has_from, has_not}
+use Rattle.stream_readers.proofs.SlotLemmas.{has_from, has_not}
 use Rattle.instances.specs.Keys.{Key}
 use Rattle.stream_readers.proofs.PartedLemmas.{edge_left, ends_kept, left_entry, targets_left}
 
@@ -96,23 +96,23 @@ module _ (old new : Net) (network : IsNetwork old) (number : ℕ) (removes : Rem
   gone_here : (s : ℕ) → entry new s number ≡ []
   gone_here s = unused_entry new s number (ap is_some removes.here)
 
-  gone_other : (s k : ℕ) → (k ≡ number → ⊥) → entry new s k ≡ flat_map (left_by (Edge number)) (entry old s k)
+  gone_other : (s k : ℕ) → (k ≡ number → ⊥) → entry new s k ≡ flat_map (left_by (leaving.Edge number)) (entry old s k)
   gone_other s k other = ap (entry_of (edge_filed new) s k) (gone_slot k other) ∙ go (state_at old k)
     where
-      go : (o : Option State) → entry_of (edge_filed new) s k (without_edge number o) ≡ flat_map (left_by (Edge number)) (entry_of (edge_filed old) s k o)
+      go : (o : Option State) → entry_of (edge_filed new) s k (without_edge number o) ≡ flat_map (left_by (leaving.Edge number)) (entry_of (edge_filed old) s k o)
       go None = refl
       go (Some st) =
           let b = tells s (root_in (Some st)) in
           ap (λ fs. cond b (fs ++ ends_filed k 0 st.ends) []) (gone_edges st.edges ∙ sym (edge_left old number st.edges))
-          ∙ ap (λ fs. cond b (flat_map (left_by (Edge number)) (map (edge_filed old) st.edges) ++ fs) []) (sym (ends_kept number k 0 st.ends))
-          ∙ sym (left_entry (Edge number) b (map (edge_filed old) st.edges) (ends_filed k 0 st.ends))
+          ∙ ap (λ fs. cond b (flat_map (left_by (leaving.Edge number)) (map (edge_filed old) st.edges) ++ fs) []) (sym (ends_kept number k 0 st.ends))
+          ∙ sym (left_entry (leaving.Edge number) b (map (edge_filed old) st.edges) (ends_filed k 0 st.ends))
 
-  gone_each : (s k : ℕ) → entry new s k ≡ flat_map (left_by (Edge number)) (entry old s k)
+  gone_each : (s k : ℕ) → entry new s k ≡ flat_map (left_by (leaving.Edge number)) (entry old s k)
   gone_each s k = go (k == number) refl
     where
-      go : (b : Bool) → (k == number) ≡ b → entry new s k ≡ flat_map (left_by (Edge number)) (entry old s k)
+      go : (b : Bool) → (k == number) ≡ b → entry new s k ≡ flat_map (left_by (leaving.Edge number)) (entry old s k)
       go true is =
-          subst (λ (n : ℕ). entry new s n ≡ flat_map (left_by (Edge number)) (entry old s n)) (sym (same_number k number is)) (gone_here s ∙ sym (ap (flat_map (left_by (Edge number))) (gone_none s)))
+          subst (λ (n : ℕ). entry new s n ≡ flat_map (left_by (leaving.Edge number)) (entry old s n)) (sym (same_number k number is)) (gone_here s ∙ sym (ap (flat_map (left_by (leaving.Edge number))) (gone_none s)))
       go false differs = gone_other s k (other_number k number differs)
 
   -- where the edge isn't filed all stays
@@ -128,9 +128,9 @@ module _ (old new : Net) (network : IsNetwork old) (number : ℕ) (removes : Rem
           stays old new s k (ap (map (edge_filed new)) (sym (gone_apart k told)) ∙ gone_edges (edges_at old k) ∙ ap (map (edge_filed old)) (gone_apart k told)) (removes.others k (other_number k number differs) told)
 
   -- the edge leaves, where the state before is a root
-  pub edge_leaves : (before stream : ℕ) (readers left : List Reader) → Some before ≡ before_at old number → Some stream ≡ root_at old before → Parts stream (Edge number) readers left → HaveTargets old readers → HaveTargets new left
+  pub edge_leaves : (before stream : ℕ) (readers left : List Reader) → Some before ≡ before_at old number → Some stream ≡ root_at old before → Parts stream (leaving.Edge number) readers left → HaveTargets old readers → HaveTargets new left
   edge_leaves before stream readers left from root parts have =
-      targets_leave old new readers left stream (Edge number) parts have (targets_left old new stream (Edge number) (gone_each stream)) (λ other differs. targets_alike old new other (gone_still other (out other differs)))
+      targets_leave old new readers left stream (leaving.Edge number) parts have (targets_left old new stream (leaving.Edge number) (λ k. permuted_from (sym (gone_each stream k)) (IsPermutation-refl (entry new stream k)))) (λ other differs. targets_alike old new other (gone_still other (out other differs)))
     where
       out : (other : ℕ) → (stream == other) ≡ false → (k : ℕ) → tells k (before_at old number) ≡ true → tells other (root_at old k) ≡ false
       out other differs k told = let e = same_number before k (ap (tells k) from ∙ told) in ap (λ n. tells other (root_at old n)) (sym e) ∙ ap (tells other) (sym root) ∙ differs
@@ -201,51 +201,3 @@ plain_listed net number wait readers used is plain have =
 pub unused_unlisted : (net : Net) (number stream : ℕ) (readers : List Reader) → is_used net number ≡ false → HaveWaits net readers → HasId number (reader_at readers stream).waits → ⊥
 unused_unlisted net number stream readers unused have =
     has_not number (reader_at readers stream).waits (ap (has_id number) (wait_given net readers have stream) ∙ row_lacks (asked_at net stream) number (range_with_len 0 (length net)) (unused_asked net stream number unused))
-
--- ends of which none has a number
-none_numbered : (number : ℕ) (ends : List End) → count_by (λ end. end.number == number) ends ≡ 0 → without_numbered number ends ≡ ends
-none_numbered number [] none = refl
-none_numbered number (end ∷ ends) none = go (end.number == number) (sym (sum_by-cons (λ (end : End). cond (end.number == number) 1 0) end ends) ∙ none) (none_numbered number ends)
-  where
-    rest : List End
-    rest = without_numbered number ends
-
-    go : (b : Bool) → cond b 1 0 + count_by (λ end. end.number == number) ends ≡ 0 → (count_by (λ end. end.number == number) ends ≡ 0 → rest ≡ ends) → cond (not b) (end ∷ rest) rest ≡ end ∷ ends
-    go true none more = absurd (omega (arith, none))
-    go false none more = ap (λ es. end ∷ es) (more (omega (arith, none)))
-
--- the only end of a number, behind ends of which none has it
-pub only_numbered : (number place : ℕ) (ends : List End) (here : End) → All (λ end. (end.number == number) ≡ false) (take place ends) → slice_get ends place ≡ Some here → here.number ≡ number → count_by (λ end. end.number == number) ends ≡ 1
-    → without_numbered number ends ≡ remove ends place
-only_numbered number place [] here none at same one = absurd (cc)
-only_numbered number zero (end ∷ ends) here none at same one =
-    let e : end ≡ here = cc in
-    let is : (end.number == number) ≡ true = is_same end.number number (ap (λ (end : End). end.number) e ∙ same) in
-    let counted = sym (sum_by-cons (λ (end : End). cond (end.number == number) 1 0) end ends) ∙ one in
-    let rest : 1 + count_by (λ end. end.number == number) ends ≡ 1 = ap (λ b. cond b 1 0 + count_by (λ end. end.number == number) ends) (sym is) ∙ counted in
-    ap (λ b. cond (not b) (end ∷ without_numbered number ends) (without_numbered number ends)) is ∙ none_numbered number ends (omega (arith, rest))
-only_numbered number (suc place) (end ∷ ends) here none at same one =
-    let is = All-head (λ (end : End). (end.number == number) ≡ false) end (take place ends) none in
-    let counted = sym (sum_by-cons (λ (end : End). cond (end.number == number) 1 0) end ends) ∙ one in
-    let rest : 0 + count_by (λ end. end.number == number) ends ≡ 1 = ap (λ b. cond b 1 0 + count_by (λ end. end.number == number) ends) (sym is) ∙ counted in
-    ap (λ b. cond (not b) (end ∷ without_numbered number ends) (without_numbered number ends)) is
-    ∙ ap (λ es. end ∷ es) (only_numbered number place ends here (All-tail (λ (end : End). (end.number == number) ≡ false) end (take place ends) none) at same (omega (arith, rest)))
-
--- where none has it, none is counted
-pub none_counted : (number : ℕ) (ends : List End) → All (λ end. (end.number == number) ≡ false) ends → count_by (λ end. end.number == number) ends ≡ 0
-none_counted number [] none = refl
-none_counted number (end ∷ ends) none =
-    sum_by-cons (λ (end : End). cond (end.number == number) 1 0) end ends ∙ ap (λ b. cond b 1 0 + count_by (λ end. end.number == number) ends) (All-head (λ (end : End). (end.number == number) ≡ false) end ends none)
-    ∙ (let more = none_counted number ends (All-tail (λ (end : End). (end.number == number) ≡ false) end ends none) in omega (arith, more))
-
--- one end more, that hasn't the number
-pub none_more : (number place : ℕ) (ends : List End) (here : End) → All (λ end. (end.number == number) ≡ false) (take place ends) → slice_get ends place ≡ Some here → (here.number ≡ number → ⊥) → All (λ end. (end.number == number) ≡ false) (take (place + 1) ends)
-none_more number place ends here none at other =
-    let P : End → Type 0 = λ end. (end.number == number) ≡ false in
-    subst (All P) (sym (take_more ends place here (slice_get_within ends place here at)))
-    (All-append P (take place ends) (get_or ends place here ∷ []) none (All-cons P (get_or ends place here) [] (subst P (sym (at_got ends place here here at)) (is_other here.number number other)) (All-nil P)))
-
--- all items of a list
-pub take_whole : {X : Type 0} (xs : List X) → take (length xs) xs ≡ xs
-take_whole [] = refl
-take_whole (x ∷ xs) = ap (λ ys. x ∷ ys) (take_whole xs)

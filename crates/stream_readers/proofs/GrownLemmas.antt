@@ -24,7 +24,7 @@ use Rattle.stream_readers.specs.Leaving.{left_by}
 use Rattle.stream_readers.specs.Readers.{AreReadersOf, reader_at}
 use Rattle.stream_readers.specs.Ways.{first_parts}
 use Rattle.stream_readers.specs.declared.reader.Reader.{Reader}
-use Rattle.stream_readers.specs.declared.target.Target.{Target}
+use Rattle.stream_readers.specs.declared.leaving.Gone.{Gone}
 use Rattle.stream_readers.specs.declared.target.Target.TheVariants.{Edge}
 use Rattle.stream_readers.proofs.ChangeLemmas.{given_alike, given_at, row_given, row_of}
 use Rattle.stream_readers.proofs.EntryLemmas.{asked, asked_at, edge_filed, edges_alike, ends_filed, entry, entry_of, no_root, past_unused, stays, targets_each, targets_given, unused_asked, unused_entry, unused_slot, used_within, waits_alike, waits_each, waits_given}
@@ -86,14 +86,14 @@ module _ (old new : Net) where
             permuted_from (files.others other apart) (permuted_to (have_given old before have other) (sym (others other (is_other stream other (λ e. apart (sym e))))))
 
     -- a target that leaves one stream
-    pub targets_leave : (stream : ℕ) (gone : Target) → Parts stream gone before after → HaveTargets old before → flat_map (left_by gone) (targets_given old stream) ≡ targets_given new stream
+    pub targets_leave : (stream : ℕ) (gone : Gone) → Parts stream gone before after → HaveTargets old before → IsPermutation (flat_map (left_by gone) (targets_given old stream)) (targets_given new stream)
         → ((other : ℕ) → (stream == other) ≡ false → targets_given new other ≡ targets_given old other) → HaveTargets new after
     targets_leave stream gone parts have here others = given_have new after (λ other. go other (other == stream) refl)
       where
         go : (other : ℕ) (b : Bool) → (other == stream) ≡ b → IsPermutation (reader_at after other).targets (targets_given new other)
         go other true is =
             subst (λ (s : ℕ). IsPermutation (reader_at after s).targets (targets_given new s)) (sym (same_number other stream is))
-            (permuted_from parts.here (permuted_to (flat_map_permuted (left_by gone) _ _ (have_given old before have stream)) here))
+            (permuted_from parts.here (IsPermutation-trans _ _ _ (flat_map_permuted (left_by gone) _ _ (have_given old before have stream)) here))
         go other false differs =
             let apart = other_number other stream differs in
             permuted_from (parts.others other apart) (permuted_to (have_given old before have other) (sym (others other (is_other stream other (λ e. apart (sym e))))))

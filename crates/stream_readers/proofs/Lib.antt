@@ -8,7 +8,9 @@ pub mod TargetLemmas
 pub mod SlotLemmas
 pub mod TakenLemmas
 pub mod ChangeLemmas
-pub mod EdgeLemmas
+pub mod NamingLemmas
+pub mod PlaceLemmas
+pub mod EndLemmas
 pub mod EntryLemmas
 pub mod GrownLemmas
 pub mod PartedLemmas

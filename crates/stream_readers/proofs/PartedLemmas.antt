@@ -1,117 +1,50 @@
 -- Readers of a network that an end comes to, or that an end or a state leaves.
-use Rattle.std.proofs.Common.{◌≡◌, ◌∙◌, sym, ap, refl, subst, ℕ, zero, suc, ◌+◌, ◌-◌, ◌<◌, ◌==◌, ◌||◌, not, nat_lt, Bool, true, false, cond, length, List, [], ◌∷◌, ◌++◌, map, append_assoc, arith}
+use Rattle.std.proofs.Common.{◌≡◌, ◌∙◌, sym, ap, refl, subst, ℕ, ◌+◌, ◌-◌, ◌<◌, ◌==◌, not, Bool, true, false, cond, length, List, [], ◌∷◌, ◌++◌, map, append_assoc, arith}
 use Rattle.std.specs.Prelude.{Option, Some, None, is_some}
 use Rattle.std.specs.Option.{option_and_then, option_map, unwrap_or}
-use Rattle.std.specs.List.{flat_map, range_with_len, remove}
-use Rattle.std.proofs.lemmas.Bool.Decides.{nat_tests}
+use Rattle.std.specs.List.{flat_map, range_with_len, swap_remove}
+use Rattle.std.specs.List.Sorted.{IsPermutation}
 use Rattle.std.proofs.lemmas.Grind.{flat_map-append}
-use Rattle.std.proofs.lemmas.List.Sorted.{IsPermutation-refl}
-use Rattle.event_types.proofs.NumberLemmas.{is_below, is_other, other_number, same_number, self_equal}
-use Rattle.scalar_expr.proofs.Bags.{permuted_from}
-use Rattle.automaton.specs.Changes.{AddsEnd, RemovesEnd, with_end, without_end, without_number, without_numbered}
+use Rattle.std.proofs.lemmas.List.Sorted.{IsPermutation-append_right, IsPermutation-refl, IsPermutation-sym}
+use Rattle.std.proofs.lemmas.Option.{slice_get_within}
+use Rattle.event_types.proofs.NumberLemmas.{other_number, same_number, self_equal}
+use Rattle.scalar_expr.proofs.Bags.{permuted_from, permuted_to}
+use Rattle.automaton.specs.Changes.{AddsEnd, RemovesEnd, with_end, with_ends, without_number}
 use Rattle.automaton.specs.Networks.{IsNetwork}
 use Rattle.automaton.specs.States.{Net, edges_at, edges_in, ends_at, ends_in, entrance_at, entrance_in, is_used, root_at, root_by, root_in, state_at, step_at, step_by, tells}
 use Rattle.automaton.specs.declared.network.End.{End}
 use Rattle.automaton.specs.declared.network.State.{State}
 use Rattle.stream_readers.specs.Changing.{Files, Parts}
 use Rattle.stream_readers.specs.Filing.{Filed, filed_under}
-use Rattle.stream_readers.specs.Leaving.{left_by, moved}
+use Rattle.stream_readers.specs.Leaving.{left_by}
 use Rattle.stream_readers.specs.Readers.{AreReadersOf}
-use Rattle.stream_readers.specs.Targets.{end_by}
 use Rattle.stream_readers.specs.Ways.{first_parts}
+use Rattle.stream_readers.specs.declared.leaving.Gone.{Gone}
+use Rattle.stream_readers.specs.declared.leaving.Gone.TheVariants as leaving
 use Rattle.stream_readers.specs.declared.reader.Reader.{Reader}
-use Rattle.stream_readers.specs.declared.target.Target.{Target}
 use Rattle.stream_readers.specs.declared.target.Target.TheVariants.{Edge}
-use Rattle.stream_readers.specs.declared.target.Target.TheVariants as target
-use Rattle.stream_readers.proofs.ChangeLemmas.{given_alike, given_twice}
+use Rattle.stream_readers.proofs.ChangeLemmas.{given_permuted, given_twice}
+use Rattle.stream_readers.proofs.EndLemmas.{end_filed, end_left, ends_last, ends_stay, gone_at}
 use Rattle.stream_readers.proofs.EntryLemmas.{edge_filed, edges_alike, ends_filed, entry, entry_of, no_root, past_unused, stays, targets_given, unused_entry, waits_alike}
 use Rattle.stream_readers.proofs.GrownLemmas.{targets_alike, targets_at_one, targets_come, targets_leave, targets_stay, waiting_alike, waits_stay}
 
--- an end as it leaves: only its state and its place tell which it is
-abbrev pub gone_at : ℕ → ℕ → Target
-gone_at number place = target.End (record { state = number; place = place; passes = false })
-
--- one end more is filed last
-ends_last : (number place : ℕ) (ends : List End) (end : End) → ends_filed number place (ends ++ end ∷ []) ≡ ends_filed number place ends ++ record { target = end_by number (place + length ends) end.step; parts = first_parts end.step } ∷ []
-ends_last number place [] end = ap (λ k. record { target = end_by number k end.step; parts = first_parts end.step } ∷ []) (let e : place ≡ place + 0 = omega arith in e)
-ends_last number place (first ∷ ends) end =
-    ap (λ fs. record { target = end_by number place first.step; parts = first_parts first.step } ∷ fs)
-    (ends_last number (place + 1) ends end ∙ ap (λ k. ends_filed number (place + 1) ends ++ record { target = end_by number k end.step; parts = first_parts end.step } ∷ []) (let e : (place + 1) + length ends ≡ place + suc (length ends) = omega arith in e))
-
--- ends behind one that left stand a place before
-behind : (number gone place : ℕ) (ends : List End) → gone < place → flat_map (left_by (gone_at number gone)) (ends_filed number place ends) ≡ ends_filed number (place - 1) ends
-behind number gone place [] lt = refl
-behind number gone place (end ∷ ends) lt =
-    ap (λ o. filed_under (first_parts end.step) o ++ flat_map (left_by (gone_at number gone)) (ends_filed number (place + 1) ends)) here
-    ∙ ap (λ fs. record { target = end_by number (place - 1) end.step; parts = first_parts end.step } ∷ fs) (behind number gone (place + 1) ends (omega arith) ∙ ap (λ k. ends_filed number k ends) (let e : (place + 1) - 1 ≡ (place - 1) + 1 = omega arith in e))
-  where
-    past : {m n : ℕ} → n < m → nat_lt m n ≡ false
-    past {m} {n} lt = grind (arith, nat_tests)
-
-    apart : {m n : ℕ} → n < m → (m == n) ≡ false
-    apart {m} {n} lt = is_other m n (λ e. absurd (omega (arith, lt, e)))
-
-    here : moved (gone_at number gone) (end_by number place end.step) ≡ Some (end_by number (place - 1) end.step)
-    here =
-        ap (λ b. cond (not b || nat_lt place gone) (Some (end_by number place end.step)) (cond (place == gone) None (Some (end_by number (place - 1) end.step)))) (self_equal number)
-        ∙ ap (λ b. cond b (Some (end_by number place end.step)) (cond (place == gone) None (Some (end_by number (place - 1) end.step)))) (past lt) ∙ ap (λ b. cond b None (Some (end_by number (place - 1) end.step))) (apart lt)
-
-abbrev no_ends : List End
-no_ends = []
-
-nothing_less : (at : ℕ) → remove no_ends at ≡ no_ends
-nothing_less zero = refl
-nothing_less (suc at) = refl
-
--- an end that leaves
-end_left : (number place at : ℕ) (ends : List End) → flat_map (left_by (gone_at number (place + at))) (ends_filed number place ends) ≡ ends_filed number place (remove ends at)
-end_left number place at [] = ap (λ (es : List End). ends_filed number place es) (sym (nothing_less at))
-end_left number place zero (end ∷ ends) =
-    ap (λ k. flat_map (left_by (gone_at number k)) (ends_filed number place (end ∷ ends))) (let e : place + 0 ≡ place = omega arith in e)
-    ∙ ap (λ o. filed_under (first_parts end.step) o ++ flat_map (left_by (gone_at number place)) (ends_filed number (place + 1) ends)) here
-    ∙ behind number place (place + 1) ends (omega arith) ∙ ap (λ k. ends_filed number k ends) (let e : (place + 1) - 1 ≡ place = omega arith in e)
-  where
-    even : (m : ℕ) → nat_lt m m ≡ false
-    even m = grind (arith, nat_tests)
-
-    here : moved (gone_at number place) (end_by number place end.step) ≡ None
-    here =
-        ap (λ b. cond (not b || nat_lt place place) (Some (end_by number place end.step)) (cond (place == place) None (Some (end_by number (place - 1) end.step)))) (self_equal number)
-        ∙ ap (λ b. cond b (Some (end_by number place end.step)) (cond (place == place) None (Some (end_by number (place - 1) end.step)))) (even place) ∙ ap (λ b. cond b None (Some (end_by number (place - 1) end.step))) (self_equal place)
-end_left number place (suc at) (end ∷ ends) =
-    ap (λ o. filed_under (first_parts end.step) o ++ flat_map (left_by (gone_at number (place + suc at))) (ends_filed number (place + 1) ends)) here
-    ∙ ap (λ fs. record { target = end_by number place end.step; parts = first_parts end.step } ∷ fs)
-    (ap (λ k. flat_map (left_by (gone_at number k)) (ends_filed number (place + 1) ends)) (let e : place + suc at ≡ (place + 1) + at = omega arith in e) ∙ end_left number (place + 1) at ends)
-  where
-    here : moved (gone_at number (place + suc at)) (end_by number place end.step) ≡ Some (end_by number place end.step)
-    here =
-        ap (λ b. cond (not b || nat_lt place (place + suc at)) (Some (end_by number place end.step)) (cond (place == (place + suc at)) None (Some (end_by number (place - 1) end.step)))) (self_equal number)
-        ∙ ap (λ b. cond b (Some (end_by number place end.step)) (cond (place == (place + suc at)) None (Some (end_by number (place - 1) end.step)))) (is_below place (place + suc at) (omega arith))
-
--- the ends of another state stay
-ends_stay : (number gone other place : ℕ) (ends : List End) → (other == number) ≡ false → flat_map (left_by (gone_at number gone)) (ends_filed other place ends) ≡ ends_filed other place ends
-ends_stay number gone other place [] differs = refl
-ends_stay number gone other place (end ∷ ends) differs =
-    ap (λ b. filed_under (first_parts end.step) (cond (not b || nat_lt place gone) (Some (end_by other place end.step)) (cond (place == gone) None (Some (end_by other (place - 1) end.step)))) ++ flat_map (left_by (gone_at number gone)) (ends_filed other (place + 1) ends)) differs
-    ∙ ap (λ fs. record { target = end_by other place end.step; parts = first_parts end.step } ∷ fs) (ends_stay number gone other (place + 1) ends differs)
-
 -- edges stay where an end leaves
-edges_stay : (net : Net) (number gone : ℕ) (edges : List ℕ) → flat_map (left_by (gone_at number gone)) (map (edge_filed net) edges) ≡ map (edge_filed net) edges
-edges_stay net number gone [] = refl
-edges_stay net number gone (edge ∷ edges) = ap (λ fs. edge_filed net edge ∷ fs) (edges_stay net number gone edges)
+edges_stay : (net : Net) (number place last : ℕ) (edges : List ℕ) → flat_map (left_by (gone_at number place last)) (map (edge_filed net) edges) ≡ map (edge_filed net) edges
+edges_stay net number place last [] = refl
+edges_stay net number place last (edge ∷ edges) = ap (λ fs. edge_filed net edge ∷ fs) (edges_stay net number place last edges)
 
 -- ends stay where an edge leaves
-pub ends_kept : (gone number place : ℕ) (ends : List End) → flat_map (left_by (Edge gone)) (ends_filed number place ends) ≡ ends_filed number place ends
+pub ends_kept : (gone number place : ℕ) (ends : List End) → flat_map (left_by (leaving.Edge gone)) (ends_filed number place ends) ≡ ends_filed number place ends
 ends_kept gone number place [] = refl
-ends_kept gone number place (end ∷ ends) = ap (λ fs. record { target = end_by number place end.step; parts = first_parts end.step } ∷ fs) (ends_kept gone number (place + 1) ends)
+ends_kept gone number place (end ∷ ends) = ap (λ fs. end_filed number place end ∷ fs) (ends_kept gone number (place + 1) ends)
 
 -- an edge that leaves
-pub edge_left : (net : Net) (gone : ℕ) (edges : List ℕ) → flat_map (left_by (Edge gone)) (map (edge_filed net) edges) ≡ map (edge_filed net) (without_number gone edges)
+pub edge_left : (net : Net) (gone : ℕ) (edges : List ℕ) → flat_map (left_by (leaving.Edge gone)) (map (edge_filed net) edges) ≡ map (edge_filed net) (without_number gone edges)
 edge_left net gone [] = refl
 edge_left net gone (edge ∷ edges) = go (edge == gone) (edge_left net gone edges)
   where
     rest : List Filed
-    rest = flat_map (left_by (Edge gone)) (map (edge_filed net) edges)
+    rest = flat_map (left_by (leaving.Edge gone)) (map (edge_filed net) edges)
 
     go : (b : Bool) → rest ≡ map (edge_filed net) (without_number gone edges)
         → filed_under (first_parts (step_at net edge)) (cond b None (Some (Edge edge))) ++ rest ≡ map (edge_filed net) (cond (not b) (edge ∷ without_number gone edges) (without_number gone edges))
@@ -119,15 +52,15 @@ edge_left net gone (edge ∷ edges) = go (edge == gone) (edge_left net gone edge
     go false more = ap (λ fs. edge_filed net edge ∷ fs) more
 
 -- what is left of what is filed of a state
-pub left_entry : (gone : Target) (b : Bool) (edges ends : List Filed) → flat_map (left_by gone) (cond b (edges ++ ends) []) ≡ cond b (flat_map (left_by gone) edges ++ flat_map (left_by gone) ends) []
+pub left_entry : (gone : Gone) (b : Bool) (edges ends : List Filed) → flat_map (left_by gone) (cond b (edges ++ ends) []) ≡ cond b (flat_map (left_by gone) edges ++ flat_map (left_by gone) ends) []
 left_entry gone true edges ends = flat_map-append (left_by gone) edges ends
 left_entry gone false edges ends = refl
 
--- what is left of what is filed of all states
-pub targets_left : (old new : Net) (stream : ℕ) (gone : Target) → ((k : ℕ) → entry new stream k ≡ flat_map (left_by gone) (entry old stream k)) → flat_map (left_by gone) (targets_given old stream) ≡ targets_given new stream
+-- what is left of what is filed of all states, in whatever order
+pub targets_left : (old new : Net) (stream : ℕ) (gone : Gone) → ((k : ℕ) → IsPermutation (flat_map (left_by gone) (entry old stream k)) (entry new stream k)) → IsPermutation (flat_map (left_by gone) (targets_given old stream)) (targets_given new stream)
 targets_left old new stream gone same =
-    given_twice (left_by gone) (entry old stream) (range_with_len 0 (length old))
-    ∙ sym (given_alike (λ k. flat_map (left_by gone) (entry old stream k)) (entry new stream) (length old) (length new) same (λ k le. ap (flat_map (left_by gone)) (unused_entry old stream k (past_unused old k le)))
+    permuted_from (given_twice (left_by gone) (entry old stream) (range_with_len 0 (length old)))
+    (given_permuted (λ k. flat_map (left_by gone) (entry old stream k)) (entry new stream) (length old) (length new) same (λ k le. ap (flat_map (left_by gone)) (unused_entry old stream k (past_unused old k le)))
     (λ k le. unused_entry new stream k (past_unused new k le)))
 
 module _ (old new : Net) (network : IsNetwork old) where
@@ -158,17 +91,17 @@ module _ (old new : Net) (network : IsNetwork old) where
             let out = ap (λ n. tells s (root_at old n)) e ∙ none in no_root new s k (ap (λ o. tells s (option_and_then root_by o)) (end_entered k) ∙ out) ∙ sym (no_root old s k out)
         go false differs = end_others s k (other_number k state differs)
 
-    end_more : (s : ℕ) → tells s (root_at old state) ≡ true → entry new s state ≡ entry old s state ++ record { target = end_by state (length (ends_at old state)) end.step; parts = first_parts end.step } ∷ []
+    end_more : (s : ℕ) → tells s (root_at old state) ≡ true → entry new s state ≡ entry old s state ++ end_filed state (length (ends_at old state)) end ∷ []
     end_more s told = ap (entry_of (edge_filed new) s state) adds.here ∙ go (state_at old state) told (end_edges state)
       where
         go : (o : Option State) → tells s (root_in o) ≡ true → map (edge_filed new) (edges_in o) ≡ map (edge_filed old) (edges_in o)
-            → entry_of (edge_filed new) s state (with_end end o) ≡ entry_of (edge_filed old) s state o ++ record { target = end_by state (length (ends_in o)) end.step; parts = first_parts end.step } ∷ []
+            → entry_of (edge_filed new) s state (with_end end o) ≡ entry_of (edge_filed old) s state o ++ end_filed state (length (ends_in o)) end ∷ []
         go None told edges = absurd (cc)
         go (Some st) told edges =
             let own = map (edge_filed old) st.edges in
-            let x : List Filed = record { target = end_by state (length st.ends) end.step; parts = first_parts end.step } ∷ [] in
+            let x : List Filed = end_filed state (length st.ends) end ∷ [] in
             ap (λ b. cond b (map (edge_filed new) st.edges ++ ends_filed state 0 (st.ends ++ end ∷ [])) []) told
-            ∙ ap (λ fs. fs ++ ends_filed state 0 (st.ends ++ end ∷ [])) edges ∙ ap (λ fs. own ++ fs) (ends_last state 0 st.ends end ∙ ap (λ k. ends_filed state 0 st.ends ++ record { target = end_by state k end.step; parts = first_parts end.step } ∷ []) (let e : 0 + length st.ends ≡ length st.ends = omega arith in e))
+            ∙ ap (λ fs. fs ++ ends_filed state 0 (st.ends ++ end ∷ [])) edges ∙ ap (λ fs. own ++ fs) (ends_last state 0 st.ends end ∙ ap (λ k. ends_filed state 0 st.ends ++ end_filed state k end ∷ []) (let e : 0 + length st.ends ≡ length st.ends = omega arith in e))
             ∙ sym (append_assoc own (ends_filed state 0 st.ends) x) ∙ ap (λ b. cond b (own ++ ends_filed state 0 st.ends) [] ++ x) (sym told)
 
     end_there : is_used new state ≡ true
@@ -179,7 +112,7 @@ module _ (old new : Net) (network : IsNetwork old) where
         go (Some st) some = refl
 
     -- an end comes to a root
-    pub end_comes : (stream : ℕ) (readers filed : List Reader) → Some stream ≡ root_at old state → Files stream (record { target = end_by state (length (ends_at old state)) end.step; parts = first_parts end.step } ∷ []) readers filed → AreReadersOf old readers → AreReadersOf new filed
+    pub end_comes : (stream : ℕ) (readers filed : List Reader) → Some stream ≡ root_at old state → Files stream (end_filed state (length (ends_at old state)) end ∷ []) readers filed → AreReadersOf old readers → AreReadersOf new filed
     end_comes stream readers filed root files are = λ s. record {
       targets =
           targets_come old new readers filed stream x files (λ s. (are s).targets)
@@ -189,7 +122,7 @@ module _ (old new : Net) (network : IsNetwork old) where
     }
       where
         x : List Filed
-        x = record { target = end_by state (length (ends_at old state)) end.step; parts = first_parts end.step } ∷ []
+        x = end_filed state (length (ends_at old state)) end ∷ []
 
     -- and to a waiting state
     pub no_end_comes : (readers : List Reader) → None ≡ root_at old state → AreReadersOf old readers → AreReadersOf new readers
@@ -198,16 +131,18 @@ module _ (old new : Net) (network : IsNetwork old) where
       waits = waits_stay old new readers readers (λ s. refl) (λ s. (are s).waits) (λ s. waiting_alike old new s (λ k. waits_alike old new s k (end_entered k))) s;
     }
 
-  module _ (state number : ℕ) (removes : RemovesEnd state number old new) where
+  module _ (state place : ℕ) (removes : RemovesEnd state place old new) where
     cut_entered : (m : ℕ) → entrance_at new m ≡ entrance_at old m
     cut_entered m = go (m == state) refl
       where
-        kept : (o : Option State) → entrance_in (without_end number o) ≡ entrance_in o
-        kept None = refl
-        kept (Some state) = refl
+        kept : (ends : List End) (o : Option State) → entrance_in (with_ends ends o) ≡ entrance_in o
+        kept ends None = refl
+        kept ends (Some state) = refl
 
         go : (b : Bool) → (m == state) ≡ b → entrance_at new m ≡ entrance_at old m
-        go true is = let e = same_number m state is in ap (entrance_at new) e ∙ ap entrance_in removes.here ∙ kept (state_at old state) ∙ ap (entrance_at old) (sym e)
+        go true is =
+            let e = same_number m state is in
+            ap (entrance_at new) e ∙ ap entrance_in removes.here ∙ kept (swap_remove (ends_at old state) place removes.gone) (state_at old state) ∙ ap (entrance_at old) (sym e)
         go false differs = ap entrance_in (removes.others m (other_number m state differs))
 
     cut_edges : (k : ℕ) → map (edge_filed new) (edges_at old k) ≡ map (edge_filed old) (edges_at old k)
@@ -222,41 +157,44 @@ module _ (old new : Net) (network : IsNetwork old) where
             let out = ap (λ n. tells s (root_at old n)) e ∙ none in no_root new s k (ap (λ o. tells s (option_and_then root_by o)) (cut_entered k) ∙ out) ∙ sym (no_root old s k out)
         go false differs = stays old new s k (cut_edges k) (removes.others k (other_number k state differs))
 
-    module _ (place : ℕ) (only : without_numbered number (ends_at old state) ≡ remove (ends_at old state) place) where
-      cut_here : (s : ℕ) → entry new s state ≡ flat_map (left_by (gone_at state place)) (entry old s state)
-      cut_here s = ap (entry_of (edge_filed new) s state) removes.here ∙ go (state_at old state) (cut_edges state) only
+    module _ (last : ℕ) (at_last : last ≡ length (ends_at old state) - 1) where
+      cut_here : (s : ℕ) → IsPermutation (flat_map (left_by (gone_at state place last)) (entry old s state)) (entry new s state)
+      cut_here s = permuted_to (go (state_at old state) (cut_edges state) (slice_get_within (ends_at old state) place removes.gone removes.there) at_last) (ap (entry_of (edge_filed new) s state) (sym removes.here))
         where
-          go : (o : Option State) → map (edge_filed new) (edges_in o) ≡ map (edge_filed old) (edges_in o) → without_numbered number (ends_in o) ≡ remove (ends_in o) place
-              → entry_of (edge_filed new) s state (without_end number o) ≡ flat_map (left_by (gone_at state place)) (entry_of (edge_filed old) s state o)
-          go None edges ends = refl
-          go (Some st) edges ends =
-              let b = tells s (root_in (Some st)) in
-              ap (λ fs. cond b (fs ++ ends_filed state 0 (without_numbered number st.ends)) []) (edges ∙ sym (edges_stay old state place st.edges))
-              ∙ ap (λ fs. cond b (flat_map (left_by (gone_at state place)) (map (edge_filed old) st.edges) ++ fs) [])
-              (ap (ends_filed state 0) ends ∙ sym (end_left state 0 place st.ends) ∙ ap (λ k. flat_map (left_by (gone_at state k)) (ends_filed state 0 st.ends)) (let e : 0 + place ≡ place = omega arith in e))
-              ∙ sym (left_entry (gone_at state place) b (map (edge_filed old) st.edges) (ends_filed state 0 st.ends))
+          go : (o : Option State) → map (edge_filed new) (edges_in o) ≡ map (edge_filed old) (edges_in o) → place < length (ends_in o) → last ≡ length (ends_in o) - 1
+              → IsPermutation (flat_map (left_by (gone_at state place last)) (entry_of (edge_filed old) s state o)) (entry_of (edge_filed new) s state (with_ends (swap_remove (ends_in o) place removes.gone) o))
+          go None edges lt at = absurd (omega (arith, lt))
+          go (Some st) edges lt at =
+              let own = map (edge_filed old) st.edges in
+              permuted_from (left_entry (gone_at state place last) (tells s (root_in (Some st))) own (ends_filed state 0 st.ends))
+              (permuted_to (rooted (tells s (root_in (Some st)))) (ap (λ fs. cond (tells s (root_in (Some st))) (fs ++ ends_filed state 0 (swap_remove st.ends place removes.gone)) []) (edges_stay old state place last st.edges ∙ sym edges)))
+            where
+              rooted : (b : Bool)
+                  → IsPermutation (cond b (flat_map (left_by (gone_at state place last)) (map (edge_filed old) st.edges) ++ flat_map (left_by (gone_at state place last)) (ends_filed state 0 st.ends)) []) (cond b (flat_map (left_by (gone_at state place last)) (map (edge_filed old) st.edges) ++ ends_filed state 0 (swap_remove st.ends place removes.gone)) [])
+              rooted true = IsPermutation-append_right (flat_map (left_by (gone_at state place last)) (map (edge_filed old) st.edges)) _ _ (IsPermutation-sym _ _ (end_left state place last st.ends removes.gone lt at))
+              rooted false = IsPermutation-refl []
 
-      cut_other : (s k : ℕ) → (k == state) ≡ false → entry new s k ≡ flat_map (left_by (gone_at state place)) (entry old s k)
+      cut_other : (s k : ℕ) → (k == state) ≡ false → flat_map (left_by (gone_at state place last)) (entry old s k) ≡ entry new s k
       cut_other s k differs =
           let b = tells s (root_at old k) in
           let edges = map (edge_filed old) (edges_at old k) in
           let ends = ends_filed k 0 (ends_at old k) in
-          stays old new s k (cut_edges k) (removes.others k (other_number k state differs))
-          ∙ ap (λ fs. cond b (fs ++ ends) []) (sym (edges_stay old state place (edges_at old k)))
-          ∙ ap (λ fs. cond b (flat_map (left_by (gone_at state place)) edges ++ fs) []) (sym (ends_stay state place k 0 (ends_at old k) differs)) ∙ sym (left_entry (gone_at state place) b edges ends)
+          left_entry (gone_at state place last) b edges ends
+          ∙ ap (λ fs. cond b (flat_map (left_by (gone_at state place last)) edges ++ fs) []) (ends_stay state place last k 0 (ends_at old k) differs) ∙ ap (λ fs. cond b (fs ++ ends) []) (edges_stay old state place last (edges_at old k))
+          ∙ sym (stays old new s k (cut_edges k) (removes.others k (other_number k state differs)))
 
-      cut_each : (s k : ℕ) → entry new s k ≡ flat_map (left_by (gone_at state place)) (entry old s k)
+      cut_each : (s k : ℕ) → IsPermutation (flat_map (left_by (gone_at state place last)) (entry old s k)) (entry new s k)
       cut_each s k = go (k == state) refl
         where
-          go : (b : Bool) → (k == state) ≡ b → entry new s k ≡ flat_map (left_by (gone_at state place)) (entry old s k)
-          go true is = subst (λ (n : ℕ). entry new s n ≡ flat_map (left_by (gone_at state place)) (entry old s n)) (sym (same_number k state is)) (cut_here s)
-          go false differs = cut_other s k differs
+          go : (b : Bool) → (k == state) ≡ b → IsPermutation (flat_map (left_by (gone_at state place last)) (entry old s k)) (entry new s k)
+          go true is = subst (λ (n : ℕ). IsPermutation (flat_map (left_by (gone_at state place last)) (entry old s n)) (entry new s n)) (sym (same_number k state is)) (cut_here s)
+          go false differs = permuted_from (cut_other s k differs) (IsPermutation-refl (entry new s k))
 
       -- an end leaves a root
-      pub end_leaves : (stream : ℕ) (readers left : List Reader) → Some stream ≡ root_at old state → Parts stream (gone_at state place) readers left → AreReadersOf old readers → AreReadersOf new left
+      pub end_leaves : (stream : ℕ) (readers left : List Reader) → Some stream ≡ root_at old state → Parts stream (gone_at state place last) readers left → AreReadersOf old readers → AreReadersOf new left
       end_leaves stream readers left root parts are = λ s. record {
         targets =
-            targets_leave old new readers left stream (gone_at state place) parts (λ s. (are s).targets) (targets_left old new stream (gone_at state place) (cut_each stream))
+            targets_leave old new readers left stream (gone_at state place last) parts (λ s. (are s).targets) (targets_left old new stream (gone_at state place last) (cut_each stream))
             (λ other differs. targets_alike old new other (cut_same other (ap (tells other) (sym root) ∙ differs))) s;
         waits = waits_stay old new readers left parts.waits (λ s. (are s).waits) (λ s. waiting_alike old new s (λ k. waits_alike old new s k (cut_entered k))) s;
       }

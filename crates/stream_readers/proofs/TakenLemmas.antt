@@ -1,5 +1,5 @@
 -- Targets of which one leaves, place by place.
-use Rattle.std.proofs.Common.{◌≡◌, ◌∙◌, sym, ap, refl, inl, inr, ℕ, ◌-◌, ◌<◌, ◌≤◌, ◌==◌, ◌⊎◌, ◌&&◌, ◌||◌, nat_lt, not, Bool, true, false, cond, length, get_or, set, List, [], ◌∷◌, ◌++◌, append-nil, arith}
+use Rattle.std.proofs.Common.{◌≡◌, ◌∙◌, sym, ap, refl, inl, inr, ℕ, ◌<◌, ◌≤◌, ◌==◌, ◌⊎◌, ◌&&◌, not, Bool, true, false, cond, length, get_or, set, List, [], ◌∷◌, ◌++◌, append-nil, arith}
 use Rattle.std.specs.Prelude.{Option, Some, None, is_some}
 use Rattle.std.specs.List.{All, filter, flat_map}
 use Rattle.std.proofs.lemmas.Grind.{flat_map-append}
@@ -8,10 +8,8 @@ use Rattle.event_types.proofs.NumberLemmas.{is_other, self_equal}
 use Rattle.static_index.specs.Conditions.{Condition, HasId, ids_of, without}
 use Rattle.stream_readers.specs.Filing.{AreAtPlaces, Slots, filed_by, filed_in, filed_under, has_id, slot_at}
 use Rattle.stream_readers.specs.Leaving.{left_by, moved, moved_in}
-use Rattle.stream_readers.specs.Edges.{StandsAt}
-use Rattle.stream_readers.specs.declared.target.EndPlace.{EndPlace}
+use Rattle.stream_readers.specs.declared.leaving.Gone.{Gone}
 use Rattle.stream_readers.specs.declared.target.Target.{Target}
-use Rattle.stream_readers.specs.declared.target.Target.TheVariants.{Edge, End}
 use Rattle.stream_readers.proofs.KeyTableLemmas.{ChangedBelow, below_or_past, default_past, is_set}
 use Rattle.stream_readers.proofs.SlotLemmas.{filter_has, has_from, has_to}
 
@@ -49,10 +47,10 @@ all_named slots conditions at =
     each (c ∷ cs) all = All-cons (λ (c : Condition). is_taken slots c.id ≡ true) c cs (All-head (λ id. is_taken slots id ≡ true) c.id (ids_of cs) all) (each cs (All-tail (λ id. is_taken slots id ≡ true) c.id (ids_of cs) all))
 
 -- what a place has once a target has left, where it has something
-abbrev pub moves : Target → Option Target → Option Target → Type 0
+abbrev pub moves : Gone → Option Target → Option Target → Type 0
 moves gone old new = new ≡ moved_in gone old
 
-module _ (gone : Target) (old mid : Slots) (conditions : List Condition) (at : AreAtPlaces old conditions) (i : ℕ) (lt : i < length old) (was : ChangedBelow (moves gone) None i old mid) where
+module _ (gone : Gone) (old mid : Slots) (conditions : List Condition) (at : AreAtPlaces old conditions) (i : ℕ) (lt : i < length old) (was : ChangedBelow (moves gone) None i old mid) where
   -- a target that still stands at its place is named
   pub still_has : (now : List Condition) → now ≡ still_named mid conditions → is_taken mid i ≡ true → HasId i now
   still_has now is taken =
@@ -96,7 +94,7 @@ module _ (gone : Target) (old mid : Slots) (conditions : List Condition) (at : A
     named_on now same told =
         same ∙ filter_agree (λ (c : Condition). is_taken mid c.id) (λ (c : Condition). is_taken (set mid i x) c.id) (λ c. sym (now_taken c.id ∙ ap (λ b. is_taken mid c.id && not (b && (c.id == i))) told ∙ and_true (is_taken mid c.id))) conditions
 
-module _ (gone : Target) (old new : Slots) (conditions : List Condition) (at : AreAtPlaces old conditions) (was : ChangedBelow (moves gone) None (length old) old new) where
+module _ (gone : Gone) (old new : Slots) (conditions : List Condition) (at : AreAtPlaces old conditions) (was : ChangedBelow (moves gone) None (length old) old new) where
   -- at the end each place has what is left
   each_moved : (k : ℕ) → slot_at new k ≡ moved_in gone (slot_at old k)
   each_moved k = go (below_or_past k (length old))
@@ -104,29 +102,6 @@ module _ (gone : Target) (old new : Slots) (conditions : List Condition) (at : A
       go : (k < length old) ⊎ (length old ≤ k) → slot_at new k ≡ moved_in gone (slot_at old k)
       go (inl lt) = was.changed k lt
       go (inr le) = default_past None new k (omega (arith, le, was.as_many)) ∙ ap (moved_in gone) (sym (default_past None old k le))
-
-  -- an edge stands where it stood
-  pub edges_stay : (state place : ℕ) → StandsAt new state place → StandsAt old state place
-  edges_stay state place at = go (slot_at old place) refl (sym (each_moved place) ∙ at)
-    where
-      by_edge : (left n : ℕ) (b : Bool) → cond b None (Some (Edge n)) ≡ Some (Edge state) → Some (Edge n) ≡ Some (Edge state)
-      by_edge left n true is = absurd (cc)
-      by_edge left n false is = is
-
-      by_end : (b d : Bool) (here up : EndPlace) → cond b (Some (End here)) (cond d None (Some (End up))) ≡ Some (Edge state) → ⊥
-      by_end true d here up is = absurd (cc)
-      by_end false true here up is = absurd (cc)
-      by_end false false here up is = absurd (cc)
-
-      by_target : (gone target : Target) → moved gone target ≡ Some (Edge state) → Some target ≡ Some (Edge state)
-      by_target (Edge left) (Edge n) is = by_edge left n (n == left) is
-      by_target (Edge left) (End here) is = absurd (cc)
-      by_target (End left) (Edge n) is = is
-      by_target (End left) (End here) is = absurd (by_end (not (here.state == left.state) || nat_lt here.place left.place) (here.place == left.place) here (record { state = here.state; place = here.place - 1; passes = here.passes }) is)
-
-      go : (o : Option Target) → slot_at old place ≡ o → moved_in gone o ≡ Some (Edge state) → slot_at old place ≡ Some (Edge state)
-      go None was is = absurd (cc)
-      go (Some target) was is = was ∙ by_target gone target is
 
   pub left_places : AreAtPlaces new (still_named new conditions)
   left_places place = filter_has (is_taken new) place conditions ∙ ap (λ b. is_taken new place && b) (at place) ∙ go (slot_at old place) (each_moved place)

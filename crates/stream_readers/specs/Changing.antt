@@ -9,7 +9,7 @@ use Rattle.stream_readers.specs.Finding.{plain_waits_on}
 use Rattle.stream_readers.specs.Leaving.{left_by}
 use Rattle.stream_readers.specs.Readers.{reader_at, targets_on}
 use Rattle.stream_readers.specs.declared.reader.Reader.{Reader}
-use Rattle.stream_readers.specs.declared.target.Target.{Target}
+use Rattle.stream_readers.specs.declared.leaving.Gone.{Gone}
 
 -- what reads each other stream stays
 abbrev pub KeepOthers : ℕ → List Reader → List Reader → Type 0
@@ -30,7 +30,7 @@ pub record Files (stream : ℕ) (filed : List Filed) (old new : List Reader) : T
   pub waits : KeepWaits old new
 
 -- a target leaves what reads a stream
-pub record Parts (stream : ℕ) (gone : Target) (old new : List Reader) : Type 0 where
+pub record Parts (stream : ℕ) (gone : Gone) (old new : List Reader) : Type 0 where
   pub here : (reader_at new stream).targets ≡ flat_map (left_by gone) (reader_at old stream).targets
   pub others : (other : ℕ) → other ≢ stream → (reader_at new other).targets ≡ (reader_at old other).targets
   pub waits : KeepWaits old new

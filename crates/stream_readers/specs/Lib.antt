@@ -1,11 +1,12 @@
 pub mod Changing
-pub mod Edges
 pub mod Filing
 pub mod Finding
 pub mod KeyTables
 pub mod Leading
 pub mod Leaving
 pub mod Making
+pub mod Naming
+pub mod Places
 pub mod Readers
 pub mod Targets
 pub mod Ways

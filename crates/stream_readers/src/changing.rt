@@ -1,5 +1,5 @@
 //! Readers that change with their network, by a state or an end.
-ghost use Rattle.std.specs.Prelude.{◌≡◌, ◌==◌, [], IsTrue, OnOk, count_by, false};
+ghost use Rattle.std.specs.Prelude.{◌≡◌, ◌<◌, [], IsTrue, OnOk, false, length};
 ghost use Rattle.automaton.specs.Changes.{AddsEnd, AddsHop, RemovesEnd, RemovesState};
 ghost use Rattle.automaton.specs.States.{Net, edges_at, ends_at, is_used};
 ghost use Rattle.stream_readers.specs.Readers.{AreReadersOf};
@@ -36,14 +36,15 @@ impl Readers {
         file_end(self.alloc, &mut self.streams, network, state, end)
     }
 
-    /// The only end of this number at a state of the network is to leave. Takes no memory.
-    pub fn remove_end(&mut self, network: &Network, state: usize, number: usize)
+    /// The end at a place of a state of the network is to leave, and the last one there to take its place. Takes no
+    /// memory.
+    pub fn remove_end(&mut self, network: &Network, state: usize, place: usize)
         requires readers { AreReadersOf network.now self.old }
         requires used { IsTrue (is_used network.now state) }
-        requires one { count_by (λ end. end.number == number) (ends_at network.now state) ≡ 1 }
-        ensures { (new : Net) → RemovesEnd state number network.now new → AreReadersOf new self.new }
+        requires there { place < length (ends_at network.now state) }
+        ensures { (new : Net) → RemovesEnd state place network.now new → AreReadersOf new self.new }
     {
-        drop_end(&mut self.streams, network, state, number);
+        drop_end(&mut self.streams, network, state, place);
     }
 
     /// A state without edges and ends is to leave the network. Takes no memory.

@@ -1,15 +1,15 @@
 //! What is filed as a state or an end comes to a network or leaves it.
-ghost use Rattle.std.specs.Prelude.{◌≡◌, ◌==◌, ℕ, [], IsTrue, OnOk, count_by, false};
-ghost use Rattle.std.specs.List.{remove};
-ghost use Rattle.automaton.specs.Changes.{AddsEnd, AddsHop, RemovesEnd, RemovesState, without_numbered};
+ghost use Rattle.std.specs.Prelude.{◌≡◌, ◌<◌, ℕ, [], IsTrue, OnOk, false, length};
+ghost use Rattle.automaton.specs.Changes.{AddsEnd, AddsHop, RemovesEnd, RemovesState};
 ghost use Rattle.automaton.specs.States.{Net, edges_at, ends_at, is_used};
 ghost use Rattle.stream_readers.specs.Changing.{HaveTargets, HaveWaits, KeepTargets, KeepWaits};
 ghost use Rattle.stream_readers.specs.Readers.{AreReadersOf};
 
 use crate::leading::lead_key;
+use crate::leaving::{Gone, GoneEnd};
 use crate::streams::{Streams, drop_target, drop_wait, file_target, file_wait};
-use crate::target::{EndPlace, Target, end_by};
-use automaton::{End, Ends, Hop, Network};
+use crate::target::{Target, end_by};
+use automaton::{End, Hop, Network};
 use event_types::Memory;
 use std::alloc::Global;
 
@@ -77,22 +77,18 @@ pub(crate) fn file_end(
     file_target(alloc, readers, stream, target, &end.step)
 }
 
-/// The only end of a number, which is to leave, is filed no more. Takes no memory.
-pub(crate) fn drop_end(readers: &mut Streams, network: &Network, state: usize, number: usize)
+/// An end that is to leave is filed no more, and the last one of its state is filed at its place. Takes no memory.
+pub(crate) fn drop_end(readers: &mut Streams, network: &Network, state: usize, place: usize)
     requires readers { AreReadersOf network.now readers.old }
     requires used { IsTrue (is_used network.now state) }
-    requires one { count_by (λ end. end.number == number) (ends_at network.now state) ≡ 1 }
-    ensures { (new : Net) → RemovesEnd state number network.now new → AreReadersOf new readers.new }
+    requires there { place < length (ends_at network.now state) }
+    ensures { (new : Net) → RemovesEnd state place network.now new → AreReadersOf new readers.new }
 {
     network.places();
     if let Some(stream) = network.root(state) {
-        let place = place_of(network.ends(state), number);
-        let gone = EndPlace {
-            state,
-            place,
-            passes: false,
-        };
-        drop_target(readers, stream, Target::End(gone));
+        let last = network.ends(state).len() - 1;
+        let gone = GoneEnd { state, place, last };
+        drop_target(readers, stream, Gone::End(gone));
     }
 }
 
@@ -111,7 +107,7 @@ pub(crate) fn drop_edge(readers: &mut Streams, network: &Network, number: usize)
         return;
     };
     if let Some(stream) = network.root(before) {
-        drop_target(readers, stream, Target::Edge(number));
+        drop_target(readers, stream, Gone::Edge(number));
     }
 }
 
@@ -129,17 +125,4 @@ pub(crate) fn drop_waiting(readers: &mut Streams, network: &Network, number: usi
         return;
     }
     drop_wait(readers, wait.stream, number);
-}
-
-// The place of the only end of this number.
-fn place_of(ends: &Ends, number: usize) -> usize
-    requires { count_by (λ end. end.number == number) ends.now ≡ 1 }
-    ensures { without_numbered number ends.now ≡ remove ends.now result }
-{
-    for place in 0..ends.len() {
-        if ends.get(place).number == number {
-            return place;
-        }
-    }
-    unreachable!()
 }

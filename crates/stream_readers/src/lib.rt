@@ -8,11 +8,12 @@
 #![tactic(auto)]
 
 mod changing;
-mod edge_places;
 mod filing;
 mod key_readers;
 mod leading;
+mod leaving;
 mod making;
+mod naming;
 mod reader;
 mod readers;
 mod slots;
@@ -20,6 +21,7 @@ mod streams;
 mod sweeping;
 mod target;
 mod target_index;
+mod target_places;
 
 pub use key_readers::KeyReaders;
 pub use leading::lead_key;

@@ -11,6 +11,7 @@ ghost use Rattle.stream_readers.specs.Targets.{end_at, targets_at};
 ghost use Rattle.stream_readers.specs.Ways.{first_parts};
 ghost use Rattle.stream_readers.specs.declared.target.Target.TheVariants.{Edge};
 
+use crate::leaving::Gone;
 use crate::target::{Target, end_by};
 use crate::target_index::TargetIndex;
 use automaton::{Network, Stage, Step};
@@ -73,7 +74,7 @@ impl Reader {
     }
 
     /// A target leaves. Takes no memory.
-    pub(crate) fn leave(&mut self, gone: Target)
+    pub(crate) fn leave(&mut self, gone: Gone)
         ensures { self.new ≡ record self.old { targets = flat_map (left_by gone) self.old.targets } }
     {
         self.targets.leave(gone);

@@ -1,11 +1,11 @@
 //! Places for targets, of which some are free.
 ghost use Rattle.std.specs.Prelude.{◌≡◌, ◌≢◌, ◌<◌, ◌≤◌, ◌&&◌, ℕ, None, OnErr, OnOk, Some, is_some, length, not};
 ghost use Rattle.std.specs.List.{All, flat_map};
-ghost use Rattle.stream_readers.specs.Edges.{StandsAt};
 ghost use Rattle.stream_readers.specs.Filing.{AreAtPlaces, at_places, filed_in, slot_at};
 ghost use Rattle.stream_readers.specs.Leaving.{left_by, moved_in};
 
-use crate::target::{Target, Targets, moved};
+use crate::leaving::{Gone, moved};
+use crate::target::{Target, Targets};
 use event_types::{List, Memory};
 use static_index::StaticIndex;
 
@@ -65,12 +65,22 @@ pub(crate) fn clear_slot(slots: &mut Slots, place: usize)
     }
 }
 
-/// A target leaves, with its condition. Gives a place below which none came to be free.
-pub(crate) fn take_away(slots: &mut Slots, conditions: &mut StaticIndex, gone: Target) -> usize
+/// What stands at a place once a target has left.
+pub(crate) fn move_slot(slots: &mut Slots, place: usize, gone: Gone)
+    ensures here { slot_at slots.new place ≡ moved_in gone (slot_at slots.old place) }
+    ensures others { (other : ℕ) → other ≢ place → slot_at slots.new other ≡ slot_at slots.old other }
+    ensures as_many { length slots.new ≡ length slots.old }
+{
+    if place < slots.len() {
+        leaves(slots.get_mut(place), gone);
+    }
+}
+
+/// A target leaves, with its condition, wherever it stands. Gives a place below which none came to be free.
+pub(crate) fn take_away(slots: &mut Slots, conditions: &mut StaticIndex, gone: Gone) -> usize
     requires { AreAtPlaces slots.old conditions.old }
     ensures places { AreAtPlaces slots.new conditions.new }
     ensures left { filed_in slots.new conditions.new ≡ flat_map (left_by gone) (filed_in slots.old conditions.old) }
-    ensures edges { (state place : ℕ) → StandsAt slots.new state place → StandsAt slots.old state place }
 {
     let mut first = slots.len();
     for place in 0..slots.len() {
@@ -83,7 +93,7 @@ pub(crate) fn take_away(slots: &mut Slots, conditions: &mut StaticIndex, gone: T
 }
 
 // A target leaves, where it stands at a place. Whether it does.
-fn leaves(slot: &mut Option<Target>, gone: Target) -> bool
+fn leaves(slot: &mut Option<Target>, gone: Gone) -> bool
     ensures slot { slot.new ≡ moved_in gone slot.old }
     ensures left { result ≡ (is_some slot.old && not (is_some slot.new)) }
 {

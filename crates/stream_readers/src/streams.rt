@@ -10,6 +10,7 @@ ghost use Rattle.stream_readers.specs.Readers.{reader_at};
 ghost use Rattle.stream_readers.specs.Targets.{targets_at};
 ghost use Rattle.stream_readers.specs.Ways.{first_parts};
 
+use crate::leaving::Gone;
 use crate::reader::Reader;
 use crate::target::Target;
 use automaton::{Network, Step};
@@ -63,7 +64,7 @@ pub(crate) fn file_target(
 }
 
 /// A target on which tuples of a stream got on leaves. Takes no memory.
-pub(crate) fn drop_target(readers: &mut Streams, stream: StreamId, gone: Target)
+pub(crate) fn drop_target(readers: &mut Streams, stream: StreamId, gone: Gone)
     ensures { Parts stream gone readers.old readers.new }
 {
     if stream < readers.len() {

@@ -1,6 +1,5 @@
 //! Where a tuple of a root's stream may go.
 ghost use Rattle.std.specs.Prelude.{◌≡◌};
-ghost use Rattle.stream_readers.specs.Leaving.{moved as moved_of, moved_end as moved_end_of};
 ghost use Rattle.stream_readers.specs.Targets.{end_by as end_by_of, only_fixed as only_fixed_of};
 
 use automaton::{Stage, Step};
@@ -46,35 +45,4 @@ fn only_fixed(step: &Step) -> bool
         [Stage::Keep(condition)] => condition.is_fixed(),
         _ => false,
     }
-}
-
-/// What a target is once another has left, if it is another one: an end behind one of its state that left
-/// moves up by a place.
-pub(crate) fn moved(gone: Target, target: Target) -> Option<Target>
-    ensures { result ≡ moved_of gone target }
-{
-    match (gone, target) {
-        (Target::Edge(left), Target::Edge(state)) => {
-            if state == left { None } else { Some(target) }
-        }
-        (Target::End(left), Target::End(end)) => moved_end(left, end),
-        _ => Some(target),
-    }
-}
-
-// What an end is once another has left, if it is another one.
-fn moved_end(left: EndPlace, end: EndPlace) -> Option<Target>
-    ensures { result ≡ moved_end_of left end }
-{
-    if end.state != left.state || end.place < left.place {
-        return Some(Target::End(end));
-    }
-    if end.place == left.place {
-        return None;
-    }
-    Some(Target::End(EndPlace {
-        state: end.state,
-        place: end.place - 1,
-        passes: end.passes,
-    }))
 }

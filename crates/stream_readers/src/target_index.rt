@@ -5,9 +5,10 @@ ghost use Rattle.static_index.specs.FixedParts.{fixed_parts};
 ghost use Rattle.stream_readers.specs.Filing.{targets_met};
 ghost use Rattle.stream_readers.specs.Leaving.{left_by};
 
-use crate::edge_places::{EdgePlaces, part, with_edge};
+use crate::leaving::Gone;
 use crate::slots::{Slots, clear_slot, free_place, gather, put_slot};
 use crate::target::{Target, Targets};
+use crate::target_places::{TargetPlaces, part, with_target};
 use event_types::{List, Memory, Numbers, Tuple};
 use scalar_expr::Conj;
 use static_index::StaticIndex;
@@ -23,8 +24,8 @@ pub(crate) struct TargetIndex {
     conditions: StaticIndex,
     // Where a free place is looked for first.
     first: usize,
-    // The place of each edge, unless one came twice.
-    edges: Option<EdgePlaces>,
+    // The place of each target, unless one came twice.
+    places: Option<TargetPlaces>,
 }
 
 impl Model for TargetIndex {
@@ -33,12 +34,12 @@ impl Model for TargetIndex {
 
     ghost Value = { List Filed };
 
-    ghost use Rattle.stream_readers.specs.Edges.{MayHaveEdges};
+    ghost use Rattle.stream_readers.specs.Places.{MayHavePlaces};
     ghost use Rattle.stream_readers.specs.Filing.{AreAtPlaces, filed_in};
 
     ghost view = { λ s. filed_in s.slots s.conditions };
 
-    ghost invariant = { λ s. AreAtPlaces s.slots s.conditions × MayHaveEdges s.edges s.slots };
+    ghost invariant = { λ s. AreAtPlaces s.slots s.conditions × MayHavePlaces s.places s.slots };
 }
 
 impl TargetIndex {
@@ -50,7 +51,7 @@ impl TargetIndex {
             slots: List::new(alloc),
             conditions: StaticIndex::new(alloc),
             first: 0,
-            edges: Some(HashMap::new(alloc)),
+            places: Some(HashMap::new(alloc)),
         }
     }
 
@@ -60,7 +61,7 @@ impl TargetIndex {
         ensures kept { OnErr result (self.new ≡ self.old) }
     {
         let place = free_place(&self.slots, self.first);
-        self.edges = with_edge(self.edges.take(), &self.slots, target, place)?;
+        self.places = with_target(self.places.take(), &self.slots, target, place)?;
         put_slot(&mut self.slots, place, target)?;
         self.first = place;
         match self.conditions.add(place, condition) {
@@ -73,10 +74,15 @@ impl TargetIndex {
     }
 
     /// A target leaves. Takes no memory.
-    pub(crate) fn leave(&mut self, gone: Target)
+    pub(crate) fn leave(&mut self, gone: Gone)
         ensures { self.new ≡ flat_map (left_by gone) self.old }
     {
-        let first = part(&mut self.edges, &mut self.slots, &mut self.conditions, gone);
+        let first = part(
+            &mut self.places,
+            &mut self.slots,
+            &mut self.conditions,
+            gone,
+        );
         self.first = self.first.min(first);
     }
 

@@ -1,7 +1,7 @@
 //! Networks that grow and shrink by a state, an edge or an end.
 ghost use Rattle.std.specs.Prelude.{◌≡◌, ◌<◌, ◌≤◌, ◌-◌, ◌==◌, ◌↔◌, [], IfSome, IsTrue, OnErr, OnOk, Some, count_by, false, length, take};
-ghost use Rattle.automaton.specs.Changes.{AddsEnd, AddsHop, AddsRoot, RemovesEnd, RemovesState, without_edge, without_end, without_number, without_numbered};
-ghost use Rattle.automaton.specs.Growing.{edged, placed, unedged, without_last};
+ghost use Rattle.automaton.specs.Changes.{AddsEnd, AddsHop, AddsRoot, RemovesEnd, RemovesState, without_edge, without_number};
+ghost use Rattle.automaton.specs.Growing.{IsTakenOver, LosesEnd, edged, placed, unedged, without_last};
 ghost use Rattle.automaton.specs.States.{Net, before_at, edges_at, edges_in, ends_at, ends_in, entrance_at, entrance_in, is_used};
 ghost use Rattle.automaton.specs.declared.network.Entrance.TheVariants.{Waiting};
 
@@ -87,13 +87,13 @@ impl Network {
         put_end(&mut self.slots[state], end)
     }
 
-    /// The only end of this number leaves a state. Takes no memory.
-    pub fn remove_end(&mut self, state: usize, number: usize)
+    /// The end at a place of a state leaves, and the last one there takes its place. Takes no memory.
+    pub fn remove_end(&mut self, state: usize, place: usize)
         requires used { IsTrue (is_used self.old state) }
-        requires one { count_by (λ end. end.number == number) (ends_at self.old state) ≡ 1 }
-        ensures { RemovesEnd state number self.old self.new }
+        requires there { place < length (ends_at self.old state) }
+        ensures { RemovesEnd state place self.old self.new }
     {
-        drop_end(&mut self.slots[state], number);
+        drop_end(&mut self.slots[state], place);
     }
 
     /// A state from which no edge leads leaves, with the edge that leads to it. Takes no memory.
@@ -198,13 +198,25 @@ fn cut_edges(slot: &mut Option<State>, next: usize)
     }
 }
 
-// Takes the only end of this number away.
-fn drop_end(slot: &mut Option<State>, number: usize)
-    requires { count_by (λ end. end.number == number) (ends_in slot.old) ≡ 1 }
-    ensures { slot.new ≡ without_end number slot.old }
+// Takes the end at a place away; the last one takes its place.
+fn drop_end(slot: &mut Option<State>, place: usize)
+    requires { place < length (ends_in slot.old) }
+    ensures { LosesEnd place slot.old slot.new }
 {
     if let Some(state) = slot {
-        drop_numbered(&mut state.ends, number);
+        take_over(&mut state.ends, place);
+    }
+}
+
+// Takes the end at a place out; the last one takes its place.
+fn take_over(ends: &mut Ends, place: usize)
+    requires { place < length ends.old }
+    ensures { IsTakenOver place ends.old ends.new }
+{
+    if let Some(last) = ends.pop() {
+        if place < ends.len() {
+            *ends.get_mut(place) = last;
+        }
     }
 }
 
@@ -221,19 +233,6 @@ fn drop_number(numbers: &mut Numbers, number: usize)
     }
 }
 
-// Takes the only end of this number out. It is found by halving where the numbers rise.
-fn drop_numbered(ends: &mut Ends, number: usize)
-    requires { count_by (λ end. end.number == number) ends.old ≡ 1 }
-    ensures { ends.new ≡ without_numbered number ends.old }
-{
-    let place = ends.as_slice().partition_point(|end| end.number < number);
-    if place < ends.len() && ends.get(place).number == number {
-        ends.remove(place);
-    } else {
-        scan_numbered(ends, number);
-    }
-}
-
 // Takes a number out, wherever it stands.
 fn scan_number(numbers: &mut Numbers, number: usize)
     ensures { numbers.new ≡ without_number number numbers.old }
@@ -242,20 +241,6 @@ fn scan_number(numbers: &mut Numbers, number: usize)
     while place < numbers.len() {
         if *numbers.get(place) == number {
             numbers.remove(place);
-        } else {
-            place += 1;
-        }
-    }
-}
-
-// Takes the ends of this number out, wherever they stand.
-fn scan_numbered(ends: &mut Ends, number: usize)
-    ensures { ends.new ≡ without_numbered number ends.old }
-{
-    let mut place = 0;
-    while place < ends.len() {
-        if ends.get(place).number == number {
-            ends.remove(place);
         } else {
             place += 1;
         }

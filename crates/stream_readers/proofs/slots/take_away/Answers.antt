@@ -4,7 +4,7 @@ use Rattle.stream_readers.specs.Filing.{AreAtPlaces, filed_in}
 use Rattle.stream_readers.specs.Leaving.{moved_in}
 use Rattle.stream_readers.proofs.KeyTableLemmas.{ChangedBelow, changed_none, changed_more}
 use Rattle.stream_readers.proofs.SlotLemmas.{and_left, at_got}
-use Rattle.stream_readers.proofs.TakenLemmas.{all_named, edges_stay, is_taken, left_filed, left_places, moves, named_left, named_on, still_has}
+use Rattle.stream_readers.proofs.TakenLemmas.{all_named, is_taken, left_filed, left_places, moves, named_left, named_on, still_has}
 use Rattle.stream_readers.proofs.slots.take_away.Goals as goal
 use Rattle.stream_readers.proofs.slots.take_away.Goals.{then-leaves, else-leaves}
 
@@ -57,9 +57,3 @@ returns-clause-left c =
     ap (filed_in slots) c.loop-place.invariant.named
     ∙ left_filed c.args.gone c.args.slots.now slots c.args.conditions.now c.requires
     (subst (λ n. ChangedBelow (moves c.args.gone) None n c.args.slots.now slots) (omega (arith, c.loop-place-test.false, c.loop-place.auto.place-end, c.len-place-end.ensures)) c.loop-place.invariant.changed) c.args.conditions.now
-
-pub returns-clause-edges : goal.returns-clause-edges
-returns-clause-edges c =
-    let slots = c.loop-place.slots in
-    edges_stay c.args.gone c.args.slots.now slots c.args.conditions.now c.requires
-    (subst (λ n. ChangedBelow (moves c.args.gone) None n c.args.slots.now slots) (omega (arith, c.loop-place-test.false, c.loop-place.auto.place-end, c.len-place-end.ensures)) c.loop-place.invariant.changed)

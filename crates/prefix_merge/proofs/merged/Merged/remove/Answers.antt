@@ -10,19 +10,20 @@ use Rattle.prefix_merge.proofs.merged.Merged.remove.Goals as goal
 
 -- it is a network still
 pub prune-self-inside-requires-clause-network : goal.prune-self-inside-requires-clause-network
-prune-self-inside-requires-clause-network c = removes_end_network c.holder-state.result c.args.end c.self.inside.network c.remove_end.new.self c.remove_end.ensures c.self.invariant.network
+prune-self-inside-requires-clause-network c = removes_end_network c.holder-spot.result.state c.holder-spot.result.place c.self.inside.network c.remove_end.new.self c.remove_end.ensures c.self.invariant.network
 
 -- the states that are left are used
 pub invariant_of-self : goal.invariant_of-self
 invariant_of-self c =
     let keeps = c.self.invariant in
-    let holds = c.holder-state.ensures in
+    let holds = c.holder-spot.ensures.there in
     let old = c.self.inside.network in
     let middle = c.remove_end.new.self in
-    let state = c.holder-state.result in
-    let used = state_used old middle state c.args.end keeps.network keeps.merged keeps.numbers holds c.remove_end.ensures in
+    let state = c.holder-spot.result.state in
+    let at = c.holder-spot.result.place in
+    let used = state_used old middle state at c.args.end keeps.network keeps.merged keeps.numbers holds c.remove_end.ensures in
     let place = keeps.network.places state used in
-    let pruning = end_pruning old middle state c.args.end keeps.network keeps.merged keeps.numbers holds c.remove_end.ensures place.0 place.1 in
+    let pruning = end_pruning old middle state at c.args.end keeps.network keeps.merged keeps.numbers holds c.remove_end.ensures place.0 place.1 in
     let pruned = c.prune-self-inside.ensures.pruned middle place.0 pruning in
     let whole = c.prune-self-inside.new.network in
     let short = c.shorten.new.network in
@@ -30,10 +31,10 @@ invariant_of-self c =
     record {
       network = network_short whole short shortened pruned.left.network;
       merged = merged_short whole short shortened pruned.merged;
-      numbers = numbers_short whole short shortened (numbers_kept old middle state c.args.end keeps.network keeps.merged keeps.numbers holds c.remove_end.ensures whole pruned);
-      roots = table_short whole short shortened c.prune-self-inside.new.roots (c.prune-self-inside.ensures.roots (middle_table old middle state c.args.end keeps.network keeps.merged keeps.numbers holds c.remove_end.ensures c.self.inside.roots keeps.roots));
+      numbers = numbers_short whole short shortened (numbers_kept old middle state at c.args.end keeps.network keeps.merged keeps.numbers holds c.remove_end.ensures whole pruned);
+      roots = table_short whole short shortened c.prune-self-inside.new.roots (c.prune-self-inside.ensures.roots (middle_table old middle state at c.args.end keeps.network keeps.merged keeps.numbers holds c.remove_end.ensures c.self.inside.roots keeps.roots));
       below = below_short whole short shortened c.prune-self-inside.result
-          (c.prune-self-inside.ensures.below (middle_below old middle state c.args.end keeps.network keeps.merged keeps.numbers holds c.remove_end.ensures c.self.inside.lowest keeps.below));
+          (c.prune-self-inside.ensures.below (middle_below old middle state at c.args.end keeps.network keeps.merged keeps.numbers holds c.remove_end.ensures c.self.inside.lowest keeps.below));
       last = shortened.last;
     }
 
@@ -41,16 +42,17 @@ invariant_of-self c =
 pub returns-clause-removed : goal.returns-clause-removed
 returns-clause-removed c =
     let keeps = c.self.invariant in
-    let holds = c.holder-state.ensures in
+    let holds = c.holder-spot.ensures.there in
     let old = c.self.inside.network in
     let middle = c.remove_end.new.self in
-    let state = c.holder-state.result in
-    let used = state_used old middle state c.args.end keeps.network keeps.merged keeps.numbers holds c.remove_end.ensures in
+    let state = c.holder-spot.result.state in
+    let at = c.holder-spot.result.place in
+    let used = state_used old middle state at c.args.end keeps.network keeps.merged keeps.numbers holds c.remove_end.ensures in
     let place = keeps.network.places state used in
-    let pruning = end_pruning old middle state c.args.end keeps.network keeps.merged keeps.numbers holds c.remove_end.ensures place.0 place.1 in
+    let pruning = end_pruning old middle state at c.args.end keeps.network keeps.merged keeps.numbers holds c.remove_end.ensures place.0 place.1 in
     let pruned = c.prune-self-inside.ensures.pruned middle place.0 pruning in
     subst (λ (net : Net). Removes c.args.end net c.shorten.new.network) c.self.view_is
-    (removed_short c.prune-self-inside.new.network c.shorten.new.network c.shorten.ensures c.args.end old (line_removed old middle state c.args.end keeps.network keeps.merged keeps.numbers holds c.remove_end.ensures c.prune-self-inside.new.network pruned))
+    (removed_short c.prune-self-inside.new.network c.shorten.new.network c.shorten.ensures c.args.end old (line_removed old middle state at c.args.end keeps.network keeps.merged keeps.numbers holds c.remove_end.ensures c.prune-self-inside.new.network pruned c.holder-spot.ensures.only))
 
 -- the states that left are noted
 pub returns-clause-left : goal.returns-clause-left
@@ -62,5 +64,5 @@ returns-clause-left c =
     let before = c.args.left.now in
     let after = c.prune-self-inside.new.left in
     subst (λ (net : Net). NotesLeft net short before after) c.self.view_is
-    (left_twice old middle short before before after (none_left old middle before (end_left c.holder-state.result c.args.end old middle c.remove_end.ensures))
+    (left_twice old middle short before before after (none_left old middle before (end_left c.holder-spot.result.state c.holder-spot.result.place old middle c.remove_end.ensures))
     (left_twice middle whole short before after after c.prune-self-inside.ensures.left (none_left whole short after (used_short whole short c.shorten.ensures))))

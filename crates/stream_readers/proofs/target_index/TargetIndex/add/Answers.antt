@@ -3,7 +3,7 @@ use Rattle.scalar_expr.proofs.Bags.{permuted_from, permuted_to}
 use Rattle.static_index.specs.Conditions.{Condition}
 use Rattle.static_index.specs.FixedParts.{fixed_parts}
 use Rattle.stream_readers.specs.Filing.{AreAtPlaces, Filed, filed_in}
-use Rattle.stream_readers.proofs.EdgeLemmas.{may_had}
+use Rattle.stream_readers.proofs.PlaceLemmas.{may_had}
 use Rattle.stream_readers.proofs.SlotLemmas.{added_is, added_places, cleared_same, free_absent, has_not, same_filed, same_places}
 use Rattle.stream_readers.proofs.target_index.TargetIndex.add.Goals as goal
 
@@ -24,7 +24,7 @@ pub invariant_of-self-in-Err : goal.invariant_of-self-in-Err
 invariant_of-self-in-Err c =
     let same = cleared_same c.self.inside.slots c.put_slot.new.slots c.clear_slot.new.slots c.free_place-place.result c.free_place-place.ensures.free c.in_ok-put_slot.ensures.others c.clear_slot.ensures.here c.clear_slot.ensures.others in (
       subst (AreAtPlaces c.clear_slot.new.slots) (sym c.in-Err.ensures.kept) (same_places c.self.inside.slots c.clear_slot.new.slots c.self.inside.conditions same c.self.invariant.0),
-      may_had _ c.self.inside.slots c.clear_slot.new.slots (λ n k stands. sym (same k) ∙ stands) c.in_ok-self-inside.ensures.kept,
+      may_had _ c.self.inside.slots c.clear_slot.new.slots (λ k. same k) c.in_ok-self-inside.ensures.kept,
     )
 
 pub returns-in-Ok-clause-added : goal.returns-in-Ok-clause-added
