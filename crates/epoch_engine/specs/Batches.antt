@@ -1,5 +1,5 @@
 -- Batches that are made of the tuples of streams. No public clause cites this module.
-use Rattle.std.specs.Prelude.{◌≡◌, ℕ, ◌<◌, ◌≤◌, ◌⊎◌, IsTrue, List, [], Contains, length, map, slice_index_or}
+use Rattle.std.specs.Prelude.{◌≡◌, ◌≢◌, ℕ, ◌<◌, ◌≤◌, ◌⊎◌, IsTrue, List, [], Contains, length, map, slice_index_or}
 use Rattle.std.specs.List.{All}
 use Rattle.std.specs.List.Sorted.{IsStrictlyIncreasing}
 use Rattle.event_types.specs.Tuple.{TupleView}
@@ -18,6 +18,13 @@ pub record ArePrints (outs : List ℕ) (streams : ℕ) (prints : Prints) : Type 
 -- a place of a stream as far as is told: any place where streams may be printed more than once
 abbrev pub MayBePrinted : Prints → ℕ → ℕ → Type 0
 MayBePrinted prints stream place = IsTrue prints.are_once → slice_index_or prints.places stream 0 ≡ place
+
+-- the stream that is printed at a place isn't told to be printed at an earlier one, or isn't the one that is printed there
+abbrev pub IsPrintedFirst : List ℕ → List ℕ → ℕ → Type 0
+IsPrintedFirst outs places place =
+    let stream = slice_index_or outs place 0 in
+    let had = slice_index_or places stream 0 in
+    had < place → slice_index_or outs had 0 ≢ stream
 
 -- the places are some of so many, and all of the streams that are due are among them
 pub record AreNoted (prints : Prints) (printed : ℕ) (due places : List ℕ) : Type 0 where

@@ -1,8 +1,9 @@
 //! The places at which streams are printed.
-ghost use Rattle.std.specs.Prelude.{◌≡◌, ◌≢◌, ◌+◌, ◌<◌, ◌≤◌, [], IsTrue, OnOk, false, length, slice_index_or};
+ghost use Rattle.std.specs.Prelude.{◌≡◌, ◌+◌, ◌<◌, ◌≤◌, [], IsTrue, OnOk, false, length};
 ghost use Rattle.std.specs.List.{All};
 ghost use Rattle.epoch_draft.specs.Filling.{IsLengthened};
 ghost use Rattle.epoch_draft.specs.Places.{AreArranged, AreArrangedUpTo, HaveLeft};
+ghost use Rattle.epoch_engine.specs.Batches.{IsPrintedFirst};
 
 use epoch_draft::Places;
 use event_types::{Memory, StreamId};
@@ -84,7 +85,7 @@ impl Prints {
     fn is_printed(&self, outs: &[StreamId], place: usize) -> bool
         requires place { place < length outs.now }
         requires below { All (λ stream. stream < length self.now.places) outs.now }
-        ensures { result ≡ false → slice_index_or self.now.places (slice_index_or outs.now place 0) 0 < place → slice_index_or outs.now (slice_index_or self.now.places (slice_index_or outs.now place 0) 0) 0 ≢ slice_index_or outs.now place 0 }
+        ensures { result ≡ false → IsPrintedFirst outs.now self.now.places place }
     {
         let had = self.places.place(outs[place]);
         had < place && outs[had] == outs[place]

@@ -15,6 +15,10 @@ pub record Feeds (new : SessionView) (set : QuerySet) (past : Course) (text piec
   pub stands : SessionStandsFor new set past (text ++ piece)
   pub wrote : Beyond Wrote (report_of set past text false) (report_of set past (text ++ piece) false) before after
 
+-- whatever course and event text a session stood for, it stands for the longer text, and has written the rows that the new bytes closed
+abbrev pub HearsPiece : SessionView → SessionView → List ℕ → Told → Told → Type 0
+HearsPiece old new piece before after = (set : QuerySet) (past : Course) (text : List ℕ) → SessionStandsFor old set past text → Feeds new set past text piece before after
+
 -- why a session stopped at an event text, which has ended or not, and what it wrote of its report beyond that of an earlier front of the text
 abbrev pub StopsAt : QuerySet → Course → List ℕ → List ℕ → Bool → Told → Told → SessionFault → Type 0
 StopsAt set past earlier text ended before after (Refused refusal) =
@@ -41,6 +45,10 @@ abbrev pub Finishes : SessionView → QuerySet → Course → List ℕ → Told 
 Finishes new set past text before after (Ok done) =
     (refused_of set past text true ≡ None) × Beyond Wrote (report_of set past text false) (report_of set past text true) before after × HasFinished new set past text
 Finishes new set past text before after (Err fault) = StopsAt set past text text true before after fault
+
+-- the same, whatever course and event text the session stood for
+abbrev pub HearsEnd : SessionView → SessionView → Told → Told → Result (Unit {0}) SessionFault → Type 0
+HearsEnd old new before after result = (set : QuerySet) (past : Course) (text : List ℕ) → SessionStandsFor old set past text → Finishes new set past text before after result
 
 -- the count of write faults is the same, unless a failed write is the answer
 abbrev pub BlamesWriting : Result (Unit {0}) SessionFault → Told → Told → Type 0

@@ -12,7 +12,7 @@ ghost use Rattle.catalogue.specs.Standing.{IsLayoutOver};
 ghost use Rattle.change_laws.specs.AtOne.{AreAtOne};
 ghost use Rattle.courses.specs.Course.{Course};
 ghost use Rattle.courses.specs.QuerySet.{QuerySet, set_in};
-ghost use Rattle.session.specs.Feeds.{BlamesWriting, BreaksAtPiece, Feeds, Finishes};
+ghost use Rattle.session.specs.Feeds.{BlamesWriting, BreaksAtPiece, HearsEnd, HearsPiece};
 ghost use Rattle.session.specs.RunWork.{FinishesWithin, FeedsWithin};
 ghost use Rattle.session.specs.SessionView.{CountsWaiting, SessionStandsFor, StandsForPast, TrimsEngine, WorksFor, program_in};
 ghost use Rattle.session.specs.Standing.{lines_over};
@@ -150,7 +150,7 @@ impl Session {
         steps: &mut Steps<L>,
     ) -> Result<(), SessionFault>
         requires { self.old.ended ≡ false }
-        ensures fed { OnOk result ((set : QuerySet) (past : Course) (text : List ℕ) → SessionStandsFor self.old set past text → Feeds self.new set past text piece.now (H.told host.old) (H.told host.new)) }
+        ensures fed { OnOk result (HearsPiece self.old self.new piece.now (H.told host.old) (H.told host.new)) }
         ensures broken { IfErr result (BreaksAtPiece self.old piece.now (H.told host.old) (H.told host.new)) }
         ensures going { OnOk result (self.new.ended ≡ false) }
         ensures ended { OnErr result (self.new.ended ≡ true) }
@@ -189,7 +189,7 @@ impl Session {
         steps: &mut Steps<L>,
     ) -> Result<(), SessionFault>
         requires { self.old.ended ≡ false }
-        ensures finished { (set : QuerySet) (past : Course) (text : List ℕ) → SessionStandsFor self.old set past text → Finishes self.new set past text (H.told host.old) (H.told host.new) result }
+        ensures finished { HearsEnd self.old self.new (H.told host.old) (H.told host.new) result }
         ensures ended { self.new.ended ≡ true }
         ensures limit { self.new.limit ≡ self.old.limit }
         ensures quiet { BlamesWriting result (H.told host.old) (H.told host.new) }
