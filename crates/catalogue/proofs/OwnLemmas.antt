@@ -28,6 +28,18 @@ own_more order own owned place up within = elim (cases_lt place (length order)) 
       ap (λ p. get_or (order ++ length order ∷ []) p 0) last ∙ get_or-append_seam order (length order) [] 0 ∙ sym last
 ]
 
+-- a number that is its own place right before them
+pub own_less : (order : List ℕ) (own number : ℕ) → 0 < own → slice_get order (own - 1) ≡ Some number → number ≡ own - 1 → (own ≤ length order) × AreOwnFrom order own → (own - 1 ≤ length order) × AreOwnFrom order (own - 1)
+own_less order own number some there is owned = (omega (arith, owned.0), from)
+  where
+    from : AreOwnFrom order (own - 1)
+    from place up within = elim (cases_lt place own) [
+      | inl before ↦
+          let here : place ≡ own - 1 = omega (arith, up, before) in
+          ap (λ p. get_or order p 0) here ∙ get_or_from_slice_get order (own - 1) number 0 there ∙ is ∙ sym here
+      | inr past ↦ owned.1 place past within
+    ]
+
 -- a list without its last item
 pub front_many : {X : Type 0} (xs front : List X) (last : Option X) → xs ≡ front ++ option_to_list last → 0 < length xs → IsSome last ↔ (0 < length xs) → length front + 1 ≡ length xs
 front_many {X = X} xs front None is some found = let none : IsSome {T = X} None = found.1 some in cc

@@ -11,6 +11,7 @@ ghost use Rattle.catalogue.specs.Standing.{IsLayoutOver, StandsInOrder};
 
 use crate::boxes::Boxes;
 use crate::growing::size_of;
+use crate::leaving::own_from;
 use crate::numbering::{Published, hide_up_to, number_all, numbers_below};
 use crate::placing::{chains_of, places_in};
 use crate::sharing::{Share, share_all};
@@ -102,7 +103,7 @@ impl Catalogue {
         let published = Boxes::of(alloc, published)?;
         let expressions = Boxes::of(alloc, expressions)?;
         let ends = numbers_below(alloc, chains.lines.len())?;
-        let own = order.len();
+        let own = own_from(&order);
         let next_end = ends.len();
         Ok(Catalogue {
             file,

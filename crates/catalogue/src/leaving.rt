@@ -24,6 +24,17 @@ pub fn add_part(
     Ok(())
 }
 
+/// The first place from which on each number is its own place.
+pub fn own_from(order: &Numbers) -> usize
+    ensures { AreOwnFrom order.now result }
+{
+    let mut own = order.len();
+    while 0 < own && *order.get(own - 1) == own - 1 {
+        own -= 1;
+    }
+    own
+}
+
 /// Takes a number out of the order of work, and its place. Of those that are their own places only the last goes, since the
 /// greater ones are one less and stand one place before. Tells from which place on each is its own then.
 pub fn leave(order: &mut Numbers, places: &mut Numbers, own: usize, gone: usize) -> usize

@@ -176,7 +176,7 @@ invariant_of-result c =
       shared = c.in_ok-shares.ensures ∙ shares_unnamed [] (loaded c).streams c.in_ok-published.published c.args.expressions ∙ ap (λ (v : Catalogued). map share_of (queries_of (loaded c).streams v.published v.expressions)) (lists_loaded c);
       tallied = c.in_ok-reads.ensures;
     }) in
-    record { held = held; owned = λ place up within. absurd (omega (arith, up, within, c.len-own.ensures)); sized = c.size_of-size.ensures ∙ ap size c.as_slice-2.ensures }
+    record { held = held; owned = c.own_from-own.ensures; sized = c.size_of-size.ensures ∙ ap size c.as_slice-2.ensures }
 
 -- holds what the text is judged to be
 pub returns-clause-holds : goal.returns-clause-holds
