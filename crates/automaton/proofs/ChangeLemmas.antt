@@ -7,7 +7,7 @@ use Rattle.automaton.specs.declared.line.Hop.{Hop}
 use Rattle.automaton.specs.declared.network.End.{End}
 use Rattle.automaton.specs.declared.network.Entrance.{Entrance}
 use Rattle.automaton.specs.declared.network.State.{State}
-use Rattle.automaton.specs.Changes.{AddsEnd, AddsHop, AddsRoot, RemovesEnd, with_ends}
+use Rattle.automaton.specs.Changes.{AddsEnd, AddsHop, AddsRoot, RemovesEnd, with_edges, with_ends}
 use Rattle.automaton.specs.Networks.{IsAt, IsNetwork}
 use Rattle.automaton.specs.Prefixes.{Prefix, Root, After}
 use Rattle.automaton.specs.States.{Net, before_at, before_by, before_in, edges_at, edges_in, ends_at, entrance_at, entrance_in, is_used, root_by, state_at, tells}
@@ -63,6 +63,11 @@ ends_entry ends (Some state) = refl
 ends_edges : (ends : List End) (slot : Option State) → edges_in (with_ends ends slot) ≡ edges_in slot
 ends_edges ends None = refl
 ends_edges ends (Some state) = refl
+
+-- a state with other edges has the same entry
+pub edges_entry : (edges : List ℕ) (slot : Option State) → entrance_in (with_edges edges slot) ≡ entrance_in slot
+edges_entry edges None = refl
+edges_entry edges (Some state) = refl
 
 -- a network without an end is a network
 pub removes_end_network : (state place : ℕ) (old new : Net) → RemovesEnd state place old new → IsNetwork old → IsNetwork new

@@ -7,12 +7,12 @@ use Rattle.automaton.specs.declared.line.Hop.{Hop}
 use Rattle.automaton.specs.declared.network.End.{End}
 use Rattle.automaton.specs.declared.network.Entrance.TheVariants as entrance
 use Rattle.automaton.specs.declared.network.State.{State}
-use Rattle.automaton.specs.Changes.{AddsEnd, AddsHop, AddsRoot, RemovesEnd, RemovesState, with_edge, with_end, with_ends, without_edge}
-use Rattle.automaton.specs.Growing.{LosesEnd, edged, placed, unedged}
+use Rattle.automaton.specs.Changes.{AddsEnd, AddsHop, AddsRoot, RemovesEnd, RemovesState, LosesEdge, with_edge, with_end, with_ends}
+use Rattle.automaton.specs.Growing.{IsUnedged, LosesEnd, edged, placed}
 use Rattle.automaton.specs.Networks.{IsNetwork}
 use Rattle.automaton.specs.States.{Net, before_at, edges_at, edges_in, ends_in, entrance_in, is_used, state_at, tells}
-use Rattle.automaton.proofs.ChangeLemmas.{adds_end_network, adds_hop_network, adds_root_network, network_alike, removes_end_network}
-use Rattle.automaton.proofs.ClearedLemmas.{before_used, none_entered, removes_state_network, told_not, told_so}
+use Rattle.automaton.proofs.ChangeLemmas.{adds_end_network, adds_hop_network, adds_root_network, entry_there, network_alike, removes_end_network}
+use Rattle.automaton.proofs.ClearedLemmas.{before_used, lost_entry, none_entered, removes_state_network, told_not, told_so}
 use Rattle.automaton.proofs.CountLemmas.{count-set}
 use Rattle.automaton.proofs.GrowingLemmas.{same_read}
 use Rattle.event_types.proofs.NumberLemmas.{other_number}
@@ -143,40 +143,40 @@ module _ (number : ℕ) (slots : Net) (used : is_used slots number ≡ true) (la
   from_one None from = tt
   from_one (Some before) from = is.edges before number ∙ told_so before (before_at slots number) (sym from)
 
-  edge_stays : (slot : Option State) → is_some (without_edge number slot) ≡ is_some slot
-  edge_stays None = refl
-  edge_stays (Some state) = refl
+  lost_stays : (slot left : Option State) → LosesEdge number slot left → is_some left ≡ is_some slot
+  lost_stays slot left loses = sym (entry_there left) ∙ ap is_some (lost_entry number slot left loses) ∙ entry_there slot
 
-  module _ (before : Option ℕ) (from : before ≡ before_at slots number) where
-    abbrev loose : Net
-    loose = unedged before number slots
-
+  module _ (before : Option ℕ) (from : before ≡ before_at slots number) (loose : Net) (cut : IsUnedged before number slots loose) where
     loose_length : length loose ≡ length slots
-    loose_length = go before
+    loose_length = go before cut
       where
-        go : (o : Option ℕ) → length (unedged o number slots) ≡ length slots
-        go None = refl
-        go (Some b) = length-set slots b (without_edge number (state_at slots b))
+        go : (o : Option ℕ) → IsUnedged o number slots loose → length loose ≡ length slots
+        go None same = ap length same
+        go (Some b) lost = ap length lost.2 ∙ length-set slots b lost.0
 
     loose_count : count_by is_some loose ≡ count_by is_some slots
-    loose_count = go before (from_below before from)
+    loose_count = go before (from_below before from) cut
       where
-        go : (o : Option ℕ) → IfSome o (λ b. b < length slots) → count_by is_some (unedged o number slots) ≡ count_by is_some slots
-        go None below = refl
-        go (Some b) below = count-set is_some slots b (without_edge number (state_at slots b)) None below (edge_stays (state_at slots b))
+        go : (o : Option ℕ) → IfSome o (λ b. b < length slots) → IsUnedged o number slots loose → count_by is_some loose ≡ count_by is_some slots
+        go None below same = ap (count_by is_some) same
+        go (Some b) below lost = ap (count_by is_some) lost.2 ∙ count-set is_some slots b lost.0 None below (lost_stays (state_at slots b) lost.0 lost.1)
 
     loose_other : (other : ℕ) → tells other (before_at slots number) ≡ false → state_at loose other ≡ state_at slots other
-    loose_other other no_edge = go before (ap (tells other) from ∙ no_edge)
+    loose_other other no_edge = go before (ap (tells other) from ∙ no_edge) cut
       where
-        go : (o : Option ℕ) → tells other o ≡ false → state_at (unedged o number slots) other ≡ state_at slots other
-        go None told = refl
-        go (Some b) told = changed_other slots b (without_edge number (state_at slots b)) other (λ e. other_number b other told (sym e))
+        go : (o : Option ℕ) → tells other o ≡ false → IsUnedged o number slots loose → state_at loose other ≡ state_at slots other
+        go None told same = ap (λ (net : Net). state_at net other) same
+        go (Some b) told lost = ap (λ (net : Net). state_at net other) lost.2 ∙ changed_other slots b lost.0 other (λ e. other_number b other told (sym e))
 
     not_itself : tells number (before_at slots number) ≡ false
     not_itself = told_not number (before_at slots number) (λ itself. none_entered slots is number number last itself)
 
-    loose_from : (b : ℕ) → before_at slots number ≡ Some b → state_at loose b ≡ without_edge number (state_at slots b)
-    loose_from b there = ap (λ o. state_at (unedged o number slots) b) (from ∙ there) ∙ changed_here slots b (without_edge number (state_at slots b)) (used_below slots b (before_used slots is number b there))
+    loose_from : (b : ℕ) → before_at slots number ≡ Some b → LosesEdge number (state_at slots b) (state_at loose b)
+    loose_from b there = go (subst (λ (o : Option ℕ). IsUnedged o number slots loose) (from ∙ there) cut)
+      where
+        go : IsUnedged (Some b) number slots loose → LosesEdge number (state_at slots b) (state_at loose b)
+        go lost =
+            subst (LosesEdge number (state_at slots b)) (sym (ap (λ (net : Net). state_at net b) lost.2 ∙ changed_here slots b lost.0 (used_below slots b (before_used slots is number b there)))) lost.1
 
     below : number < length loose
     below = let lt = used_below slots number used in omega (arith, loose_length)
@@ -188,7 +188,8 @@ module _ (number : ℕ) (slots : Net) (used : is_used slots number ≡ true) (la
     pub state_removed : RemovesState number slots (set loose number None)
     state_removed = record {
       here = changed_here loose number None below;
-      edge = λ b there. changed_other loose number None b (λ same. none_entered slots is number number last (there ∙ ap (λ n. Some n) same)) ∙ loose_from b there;
+      edge = λ b there.
+          subst (LosesEdge number (state_at slots b)) (sym (changed_other loose number None b (λ same. none_entered slots is number number last (there ∙ ap (λ n. Some n) same)))) (loose_from b there);
       others = λ other ne told. changed_other loose number None other ne ∙ loose_other other told;
       places = length-set loose number None ∙ loose_length;
       fewer = fewer;

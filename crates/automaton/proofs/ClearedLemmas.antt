@@ -1,21 +1,21 @@
 -- Networks that a state leaves, and what forward edges say of the states to which they lead.
-use Rattle.std.proofs.Common.{◌≡◌, ◌⊎◌, ◌∙◌, sym, ap, refl, subst, inl, inr, ℕ, ◌<◌, ◌≤◌, ◌==◌, Bool, true, false, get_or, length, List, [], arith}
-use Rattle.std.specs.Prelude.{Option, Some, None, is_some, count_by, position}
+use Rattle.std.proofs.Common.{◌≡◌, ◌⊎◌, ◌∙◌, sym, ap, refl, subst, inl, inr, ℕ, ◌+◌, ◌<◌, ◌≤◌, ◌==◌, Bool, true, false, get_or, length, List, [], arith}
+use Rattle.std.specs.Prelude.{Option, Some, None, is_some, count_by, position, slice_get}
+use Rattle.std.specs.List.{swap_remove}
 use Rattle.std.specs.Option.{option_and_then}
 use Rattle.std.proofs.lemmas.List.Quantifiers.{position-Some}
 use Rattle.automaton.specs.declared.line.Hop.{Hop}
 use Rattle.automaton.specs.declared.network.Entrance.{Entrance}
 use Rattle.automaton.specs.declared.network.Entrance.TheVariants as entrance
 use Rattle.automaton.specs.declared.network.State.{State}
-use Rattle.automaton.specs.Changes.{RemovesState, without_edge}
+use Rattle.automaton.specs.Changes.{LosesEdge, RemovesState, with_edges}
 use Rattle.automaton.specs.Networks.{IsAt, IsNetwork}
 use Rattle.automaton.specs.Prefixes.{Prefix, Root, After}
 use Rattle.automaton.specs.States.{Net, before_at, before_by, before_in, edges_at, edges_in, entrance_at, entrance_in, is_used, root_by, state_at, tells}
-use Rattle.automaton.proofs.ChangeLemmas.{entry_there, something_there}
-use Rattle.automaton.proofs.CountLemmas.{bit, count-has, none_counted}
+use Rattle.automaton.proofs.ChangeLemmas.{edges_entry, entry_there, something_there}
+use Rattle.automaton.proofs.CountLemmas.{bit, count-has, count-taken, none_counted}
 use Rattle.event_types.proofs.NumberLemmas.{is_other, is_same, same_number}
 use Rattle.automaton.proofs.NumberLemmas.{are_same_or_not}
-use Rattle.automaton.proofs.WithoutLemmas.{count-gone, count-without}
 
 -- what is counted stands somewhere
 pub find_counted : {X : Type 0} (p : X → Bool) (xs : List X) (d : X) → 1 ≤ count_by p xs → (k : ℕ) × (k < length xs) × (p (get_or xs k d) ≡ true)
@@ -78,10 +78,28 @@ module _ (net : Net) (is : IsNetwork net) where
   pub none_entered : (number next : ℕ) → edges_at net number ≡ [] → before_at net next ≡ Some number → ⊥
   none_entered number next none from = let k = edge_to next number from in let empty = ap length none in absurd (omega (arith, k.1))
 
+-- a state that lost an edge
+module _ (next : ℕ) (old new : Option State) (loses : LosesEdge next old new) where
+  -- it has the same entry
+  pub lost_entry : entrance_in new ≡ entrance_in old
+  lost_entry = ap entrance_in loses.rest ∙ edges_entry (swap_remove (edges_in old) loses.place next) old
+
+  -- the last of its edges stands where the lost one stood
+  pub lost_edges : edges_in new ≡ swap_remove (edges_in old) loses.place next
+  lost_edges = ap edges_in loses.rest ∙ go old loses.there
+    where
+      go : (slot : Option State) → slice_get (edges_in slot) loses.place ≡ Some next → edges_in (with_edges (swap_remove (edges_in old) loses.place next) slot) ≡ swap_remove (edges_in old) loses.place next
+      go None there = absurd (let none : None ≡ Some next = there in cc)
+      go (Some state) there = refl
+
+  -- each edge is counted as before, but for the lost one
+  pub lost_counts : (number : ℕ) → count_by (λ edge. edge == number) (edges_in new) + bit (next == number) ≡ count_by (λ edge. edge == number) (edges_in old)
+  lost_counts number = ap (λ edges. count_by (λ edge. edge == number) edges + bit (next == number)) lost_edges ∙ count-taken (λ edge. edge == number) (edges_in old) loses.place next loses.there
+
 -- a state leaves
 module _ (number : ℕ) (old new : Net) (removes : RemovesState number old new) (last : edges_at old number ≡ []) (is : IsNetwork old) where
-  -- what an edge doesn't change is the same at each other place
-  pub left_reads : {X : Type 0} (f : Option State → X) → ((slot : Option State) → f (without_edge number slot) ≡ f slot) → (other : ℕ) → (other ≡ number → ⊥) → f (state_at new other) ≡ f (state_at old other)
+  -- what a lost edge doesn't change is the same at each other place
+  pub left_reads : {X : Type 0} (f : Option State → X) → ((before after : Option State) → LosesEdge number before after → f after ≡ f before) → (other : ℕ) → (other ≡ number → ⊥) → f (state_at new other) ≡ f (state_at old other)
   left_reads f kept other ne = by_before (before_at old number) refl
     where
       by_before : (o : Option ℕ) → before_at old number ≡ o → f (state_at new other) ≡ f (state_at old other)
@@ -89,16 +107,12 @@ module _ (number : ℕ) (old new : Net) (removes : RemovesState number old new) 
       by_before (Some before) from = by_number (are_same_or_not other before)
         where
           by_number : (other ≡ before) ⊎ (other ≡ before → ⊥) → f (state_at new other) ≡ f (state_at old other)
-          by_number (inl same) = ap (λ n. f (state_at new n)) same ∙ ap f (removes.edge before from) ∙ kept (state_at old before) ∙ ap (λ n. f (state_at old n)) (sym same)
+          by_number (inl same) = ap (λ n. f (state_at new n)) same ∙ kept (state_at old before) (state_at new before) (removes.edge before from) ∙ ap (λ n. f (state_at old n)) (sym same)
           by_number (inr nb) = ap f (removes.others other ne (ap (tells other) from ∙ is_other before other (λ e. nb (sym e))))
-
-  edge_entry_kept : (slot : Option State) → entrance_in (without_edge number slot) ≡ entrance_in slot
-  edge_entry_kept None = refl
-  edge_entry_kept (Some state) = refl
 
   -- each other state has the same entry
   pub left_entry : (other : ℕ) → (other ≡ number → ⊥) → entrance_at new other ≡ entrance_at old other
-  left_entry = left_reads entrance_in edge_entry_kept
+  left_entry = left_reads entrance_in (lost_entry number)
 
   -- each other state has the same prefix
   pub left_at : (other : ℕ) (prefix : Prefix) → (other ≡ number → ⊥) → IsAt old other prefix → IsAt new other prefix
@@ -116,18 +130,24 @@ module _ (number : ℕ) (old new : Net) (removes : RemovesState number old new) 
       told : (next ≡ number → ⊥) → before_at new next ≡ before_at old next
       told ne = ap (option_and_then before_by) (left_entry next ne)
 
-      cut : (from ≡ number → ⊥) → (next ≡ number → ⊥) → (slot : Option State) → count_by (λ edge. edge == next) (edges_in (without_edge number slot)) ≡ count_by (λ edge. edge == next) (edges_in slot)
-      cut nf nn None = refl
-      cut nf nn (Some state) = count-without number next state.edges (λ e. nn (sym e))
+      cut : (next ≡ number → ⊥) → (before after : Option State) → LosesEdge number before after → count_by (λ edge. edge == next) (edges_in after) ≡ count_by (λ edge. edge == next) (edges_in before)
+      cut nn before after loses =
+          let counted = lost_counts number before after loses next in
+          let zero' : bit (number == next) ≡ 0 = ap bit (is_other number next (λ e. nn (sym e))) in
+          omega (arith, counted)
 
-      none_left : (slot : Option State) → count_by (λ edge. edge == number) (edges_in (without_edge number slot)) ≡ 0
-      none_left None = refl
-      none_left (Some state) = count-gone number state.edges
+      none_left : (before after : Option State) → LosesEdge number before after → count_by (λ edge. edge == number) (edges_in before) ≡ 1 → count_by (λ edge. edge == number) (edges_in after) ≡ 0
+      none_left before after loses one =
+          let counted = lost_counts number before after loses number in
+          let one' : bit (number == number) ≡ 1 = ap bit (is_same number number refl) in
+          omega (arith, counted, one)
 
       to_gone : (from ≡ number → ⊥) → (o : Option ℕ) → before_at old number ≡ o → count_by (λ edge. edge == number) (edges_at new from) ≡ 0
       to_gone nf None before = ap (λ slot. count_by (λ edge. edge == number) (edges_in slot)) (removes.others from nf (ap (tells from) before)) ∙ is.edges from number ∙ ap (λ o. bit (tells from o)) before
       to_gone nf (Some other) before = elim (are_same_or_not from other) [
-        | inl same ↦ ap (λ n. count_by (λ edge. edge == number) (edges_at new n)) same ∙ ap (λ slot. count_by (λ edge. edge == number) (edges_in slot)) (removes.edge other before) ∙ none_left (state_at old other)
+        | inl same ↦
+            ap (λ n. count_by (λ edge. edge == number) (edges_at new n)) same
+            ∙ none_left (state_at old other) (state_at new other) (removes.edge other before) (is.edges other number ∙ told_so other (before_at old number) before)
         | inr apart ↦
             (let other_told : tells from (before_at old number) ≡ false = ap (tells from) before ∙ is_other other from (λ e. apart (sym e)) in
             ap (λ slot. count_by (λ edge. edge == number) (edges_in slot)) (removes.others from nf other_told) ∙ is.edges from number ∙ ap bit other_told)
@@ -144,7 +164,7 @@ module _ (number : ℕ) (old new : Net) (removes : RemovesState number old new) 
       by_numbers (inr nf) (inl same) =
           ap (λ n. count_by (λ edge. edge == n) (edges_at new from)) same ∙ to_gone nf (before_at old number) refl ∙ sym (ap (λ n. bit (tells from (before_at new n))) same ∙ ap (λ o. bit (tells from o)) gone)
       by_numbers (inr nf) (inr nn) =
-          left_reads (λ slot. count_by (λ edge. edge == next) (edges_in slot)) (cut nf nn) from nf ∙ is.edges from next ∙ ap (λ o. bit (tells from o)) (sym (told nn))
+          left_reads (λ slot. count_by (λ edge. edge == next) (edges_in slot)) (cut nn) from nf ∙ is.edges from next ∙ ap (λ o. bit (tells from o)) (sym (told nn))
 
   -- a network without a state is a network
   pub removes_state_network : IsNetwork new

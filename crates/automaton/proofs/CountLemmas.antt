@@ -1,10 +1,11 @@
 -- Counts over lists that grow, and lists over ranges of numbers.
 use Rattle.std.proofs.Common.{◌≡◌, ◌⊎◌, ◌∙◌, sym, ap, refl, subst, inl, inr, ℕ, zero, suc, ◌+◌, ◌<◌, ◌≤◌, nat_lt, Bool, true, false, not, cond, length, get_or, set, List, [], ◌∷◌, ◌++◌, append_assoc, append-nil, arith, add-zero}
-use Rattle.std.specs.Prelude.{Some, None, count_by, position}
-use Rattle.std.specs.List.{flat_map, position_or_len, prefix_len, range_with_len}
+use Rattle.std.specs.Prelude.{Some, None, count_by, position, slice_get}
+use Rattle.std.specs.List.{flat_map, position_or_len, prefix_len, range_with_len, swap_remove}
 use Rattle.std.specs.List.Sorted.{IsPermutation}
 use Rattle.std.proofs.lemmas.Bool.Decides.{nat_tests}
-use Rattle.std.proofs.lemmas.List.Sums.{sum_by-append, sum_by-cons, sum_by-set, get_or-le-sum_by}
+use Rattle.std.proofs.lemmas.List.Sums.{sum_by-append, sum_by-cons, sum_by-set, sum_by-swap_remove, get_or-le-sum_by}
+use Rattle.std.proofs.lemmas.Option.{get_or_from_slice_get, slice_get_within}
 use Rattle.std.proofs.lemmas.List.Sorted.{IsPermutation-append_comm, IsPermutation-append_right}
 use Rattle.automaton.proofs.NumberLemmas.{are_same_or_not}
 
@@ -26,6 +27,11 @@ module _ {X : Type 0} (p : X → Bool) where
   count-set xs i y d lt same =
       let change = sum_by-set (λ x. bit (p x)) xs i y d lt in
       let one : bit (p y) ≡ bit (p (get_or xs i d)) = ap bit same in omega arith
+
+  -- without an item, in whose place the last one stands, there is one less where it passed
+  pub count-taken : (xs : List X) (place : ℕ) (x : X) → slice_get xs place ≡ Some x → count_by p (swap_remove xs place x) + bit (p x) ≡ count_by p xs
+  count-taken xs place x there =
+      ap (λ y. count_by p (swap_remove xs place x) + bit (p y)) (sym (get_or_from_slice_get xs place x x there)) ∙ sum_by-swap_remove (λ y. bit (p y)) xs place x (slice_get_within xs place x there)
 
   -- an item that passes is counted
   pub count-has : (xs : List X) (i : ℕ) (d : X) → i < length xs → p (get_or xs i d) ≡ true → 1 ≤ count_by p xs

@@ -15,5 +15,4 @@ pub mod RootLemmas
 pub mod SlotLemmas
 pub mod TakingLemmas
 pub mod TypingLemmas
-pub mod WithoutLemmas
 pub mod WorkLemmas

@@ -1,12 +1,12 @@
 -- Networks that a state, an edge or an end comes to or leaves.
-use Rattle.std.specs.Prelude.{◌≡◌, ◌≢◌, ℕ, ◌+◌, ◌==◌, max, false, not, List, [], ◌∷◌, ◌++◌, Option, Some, None, count_by, is_some, length, slice_get}
-use Rattle.std.specs.List.{filter, swap_remove}
+use Rattle.std.specs.Prelude.{◌≡◌, ◌≢◌, ℕ, ◌+◌, max, false, List, [], ◌∷◌, ◌++◌, Option, Some, None, count_by, is_some, length, slice_get}
+use Rattle.std.specs.List.{swap_remove}
 use Rattle.automaton.specs.declared.line.Hop.{Hop}
 use Rattle.automaton.specs.declared.network.End.{End}
 use Rattle.automaton.specs.declared.network.Entrance.{Entrance}
 use Rattle.automaton.specs.declared.network.Entrance.TheVariants as entrance
 use Rattle.automaton.specs.declared.network.State.{State}
-use Rattle.automaton.specs.States.{Net, before_at, ends_at, state_at, tells}
+use Rattle.automaton.specs.States.{Net, before_at, edges_in, ends_at, state_at, tells}
 
 -- a state that is entered so, without edges and ends
 abbrev pub bare : Entrance → Option State
@@ -22,19 +22,21 @@ abbrev pub with_end : End → Option State → Option State
 with_end end None = None
 with_end end (Some state) = Some (record { entrance = state.entrance; edges = state.edges; ends = state.ends ++ end ∷ [] })
 
--- the numbers but this one
-abbrev pub without_number : ℕ → List ℕ → List ℕ
-without_number number numbers = filter (λ other. not (other == number)) numbers
-
 -- the state with these ends
 abbrev pub with_ends : List End → Option State → Option State
 with_ends ends None = None
 with_ends ends (Some state) = Some (record { entrance = state.entrance; edges = state.edges; ends = ends })
 
--- the state without its forward edge to this number
-abbrev pub without_edge : ℕ → Option State → Option State
-without_edge next None = None
-without_edge next (Some state) = Some (record { entrance = state.entrance; edges = without_number next state.edges; ends = state.ends })
+-- the state with these forward edges
+abbrev pub with_edges : List ℕ → Option State → Option State
+with_edges edges None = None
+with_edges edges (Some state) = Some (record { entrance = state.entrance; edges = edges; ends = state.ends })
+
+-- a state lost its forward edge to this number, and the last one there took its place
+pub record LosesEdge (next : ℕ) (old new : Option State) : Type 0 where
+  pub place : ℕ
+  pub there : slice_get (edges_in old) place ≡ Some next
+  pub rest : new ≡ with_edges (swap_remove (edges_in old) place next) old
 
 -- a root state comes, at this number
 pub record AddsRoot (number stream : ℕ) (old new : Net) : Type 0 where
@@ -66,7 +68,7 @@ pub record RemovesEnd (state place : ℕ) (old new : Net) : Type 0 where
 -- the state of this number leaves, and with it the forward edge that leads there, so there is one state less
 pub record RemovesState (number : ℕ) (old new : Net) : Type 0 where
   pub here : state_at new number ≡ None
-  pub edge : (before : ℕ) → before_at old number ≡ Some before → state_at new before ≡ without_edge number (state_at old before)
+  pub edge : (before : ℕ) → before_at old number ≡ Some before → LosesEdge number (state_at old before) (state_at new before)
   pub others : (other : ℕ) → other ≢ number → tells other (before_at old number) ≡ false → state_at new other ≡ state_at old other
   pub places : length new ≡ length old
   pub fewer : count_by is_some new + 1 ≡ count_by is_some old

@@ -8,7 +8,7 @@ use Rattle.automaton.specs.declared.network.End.{End}
 use Rattle.automaton.specs.declared.network.Entrance.TheVariants as entrance
 use Rattle.automaton.specs.declared.network.State.{State}
 pub use Rattle.automaton.specs.Changes.{with_edge, with_end}
-use Rattle.automaton.specs.Changes.{with_ends, without_edge}
+use Rattle.automaton.specs.Changes.{LosesEdge, with_ends}
 use Rattle.automaton.specs.NetworkLines.{ArePlaces, endings_by}
 use Rattle.automaton.specs.Networks.{IsNetwork}
 use Rattle.automaton.specs.Plain.{IsPlain, numbered}
@@ -53,10 +53,10 @@ placed number slot net = if nat_lt number (length net) then slice_set net number
 abbrev pub edged : ℕ → ℕ → Net → Net
 edged before next net = slice_set net before (with_edge next (state_at net before))
 
--- the network without the forward edge from a state to another
-abbrev pub unedged : Option ℕ → ℕ → Net → Net
-unedged None next net = net
-unedged (Some before) next net = slice_set net before (without_edge next (state_at net before))
+-- a network lost the forward edge from a state to another
+abbrev pub IsUnedged : Option ℕ → ℕ → Net → Net → Type 0
+IsUnedged None next old new = new ≡ old
+IsUnedged (Some before) next old new = (slot : Option State) × LosesEdge next (state_at old before) slot × (new ≡ slice_set old before slot)
 
 -- the plain network of these lines, each number of which is used
 pub record IsWhole (lines : List Line) (net : Net) : Type 0 where

@@ -2,7 +2,7 @@
 ghost use Rattle.std.specs.Prelude.{◌≡◌, ◌<◌, ◌≤◌, IfOk, OnErr, OnOk, length};
 ghost use Rattle.automaton.specs.Layouts.{cut_back, growth_behind, grown, shrunk, sizes_of};
 
-use crate::layout::{Layout, copy_kind_lists, copy_numbers};
+use crate::layout::{Layout, copy_kind_lists, copy_numbers, numbers_from};
 use event_types::{KindLists, Memory, Numbers};
 use std::alloc::Global;
 
@@ -62,8 +62,8 @@ impl Layout {
         requires all { sizes.all ≤ length self.now.kinds }
         ensures { IfOk result (λ growth. growth ≡ growth_behind self.now sizes) }
     {
-        let order = copy_numbers(alloc, &self.order.as_slice()[sizes.worked..])?;
-        let outs = copy_numbers(alloc, &self.outs.as_slice()[sizes.printed..])?;
+        let order = numbers_from(alloc, &self.order, sizes.worked)?;
+        let outs = numbers_from(alloc, &self.outs, sizes.printed)?;
         let kinds = copy_kind_lists(alloc, &self.kinds.as_slice()[sizes.all..])?;
         Ok(Growth { order, outs, kinds })
     }

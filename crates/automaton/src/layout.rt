@@ -1,7 +1,8 @@
 //! Layouts: which streams lines publish, in which order, and of which kinds.
-ghost use Rattle.std.specs.Prelude.{◌≡◌, IfOk};
+ghost use Rattle.std.specs.Prelude.{◌≡◌, IfOk, drop};
 
 use event_types::{KindLists, Kinds, List, Memory, Numbers};
+use long_lists::{LongList, LongNumbers};
 use std::alloc::Global;
 
 /// The streams of a network.
@@ -10,8 +11,8 @@ use std::alloc::Global;
 /// are printed, in print order, and `kinds` the kinds of each stream by its number.
 #[derive(Drop)]
 pub struct Layout {
-    pub order: Numbers,
-    pub outs: Numbers,
+    pub order: LongNumbers,
+    pub outs: LongNumbers,
     pub kinds: KindLists,
 }
 
@@ -20,11 +21,26 @@ impl Layout {
     pub fn copy(&self, alloc: Global) -> Result<Layout, Memory>
         ensures { IfOk result (λ copy. copy ≡ self.now) }
     {
-        let order = copy_numbers(alloc, self.order.as_slice())?;
-        let outs = copy_numbers(alloc, self.outs.as_slice())?;
+        let order = LongList::of(alloc, numbers_from(alloc, &self.order, 0)?)?;
+        let outs = LongList::of(alloc, numbers_from(alloc, &self.outs, 0)?)?;
         let kinds = copy_kind_lists(alloc, self.kinds.as_slice())?;
         Ok(Layout { order, outs, kinds })
     }
+}
+
+// The numbers from a place on.
+pub(crate) fn numbers_from(
+    alloc: Global,
+    numbers: &LongNumbers,
+    first: usize,
+) -> Result<Numbers, Memory>
+    ensures { IfOk result (λ copy. copy ≡ drop first numbers.now) }
+{
+    let mut copy = List::new(alloc);
+    for place in first..numbers.len() {
+        copy.add(*numbers.get(place))?;
+    }
+    Ok(copy)
 }
 
 // Equal numbers.

@@ -51,6 +51,8 @@ pub struct State {
 pub struct Network {
     slots: Vec<Option<State>>,
     states: usize,
+    // By the number of a waiting state, where the edge to it stands; looked at again before it is believed.
+    edge_places: Numbers,
     no_step: Step,
 }
 
@@ -83,6 +85,7 @@ impl Network {
         Network {
             states: slots.len(),
             slots,
+            edge_places: List::new(alloc),
             no_step: List::new(alloc),
         }
     }

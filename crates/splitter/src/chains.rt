@@ -15,8 +15,9 @@ use crate::kinds::add_kinds;
 use crate::namer::Namer;
 use crate::splitting::split;
 use automaton::{Layout, Lines};
-use event_types::{KindLists, List, Memory, Numbers, StreamId};
+use event_types::{KindLists, List, Memory, StreamId};
 use expressions::Expr;
+use long_lists::{LongList, LongNumbers};
 use std::alloc::Global;
 
 /// The automaton lines of queries, and the layout of their streams.
@@ -51,7 +52,7 @@ impl Chains {
         let mut namer = Namer::new(kinds.len());
         let mut lines = List::new(alloc);
         let mut layout = Layout {
-            order: List::new(alloc),
+            order: LongList::new(alloc),
             outs: streams_at(alloc, declared, places)?,
             kinds,
         };
@@ -71,11 +72,11 @@ impl Chains {
 }
 
 // The streams of the queries at these places.
-fn streams_at(alloc: Global, declared: usize, places: &[usize]) -> Result<Numbers, Memory>
+fn streams_at(alloc: Global, declared: usize, places: &[usize]) -> Result<LongNumbers, Memory>
     requires { All (λ place. declared + place < 2 ^ 64) places.now }
     ensures { IfOk result (λ streams. streams ≡ map (λ place. declared + place) places.now) }
 {
-    let mut streams: Numbers = List::new(alloc);
+    let mut streams = LongNumbers::new(alloc);
     for place in places {
         streams.add(declared + *place)?;
     }
@@ -121,7 +122,7 @@ pub fn add_query(
 
 // Adds the hidden streams from one number up to another, and the query's own stream.
 fn add_order(
-    order: &mut Numbers,
+    order: &mut LongNumbers,
     first: StreamId,
     next: StreamId,
     stream: StreamId,

@@ -1,11 +1,11 @@
 //! Networks that grow and shrink by a state, an edge or an end.
-ghost use Rattle.std.specs.Prelude.{◌≡◌, ◌<◌, ◌≤◌, ◌-◌, ◌==◌, ◌↔◌, [], IfSome, IsTrue, OnErr, OnOk, Some, count_by, false, length, take};
-ghost use Rattle.automaton.specs.Changes.{AddsEnd, AddsHop, AddsRoot, RemovesEnd, RemovesState, without_edge, without_number};
-ghost use Rattle.automaton.specs.Growing.{IsTakenOver, LosesEnd, edged, placed, unedged, without_last};
+ghost use Rattle.std.specs.Prelude.{◌≡◌, ◌<◌, ◌≤◌, ◌-◌, ◌+◌, ◌==◌, ◌↔◌, [], IfSome, IsTrue, OnErr, OnOk, Some, count_by, false, length, position, slice_get, take};
+ghost use Rattle.automaton.specs.Changes.{AddsEnd, AddsHop, AddsRoot, LosesEdge, RemovesEnd, RemovesState};
+ghost use Rattle.automaton.specs.Growing.{IsTakenOver, IsUnedged, LosesEnd, edged, placed, without_last};
 ghost use Rattle.automaton.specs.States.{Net, before_at, edges_at, edges_in, ends_at, ends_in, entrance_at, entrance_in, is_used};
 ghost use Rattle.automaton.specs.declared.network.Entrance.TheVariants.{Waiting};
 
-use super::{End, Ends, Entrance, Network, State};
+use super::{End, Entrance, Network, State};
 use crate::line::Hop;
 use crate::plain::{entered, put_edge, put_end};
 use event_types::{List, Memory, Numbers, StreamId};
@@ -19,6 +19,7 @@ impl Network {
         Network {
             slots: Vec::new(alloc),
             states: 0,
+            edge_places: List::new(alloc),
             no_step: List::new(alloc),
         }
     }
@@ -71,9 +72,12 @@ impl Network {
         ensures added { OnOk result (AddsHop number before hop.now self.old self.new) }
         ensures kept { OnErr result (self.new ≡ self.old) }
     {
+        make_room(&mut self.edge_places, number)?;
+        let place = self.edges(before).len();
         let hop = hop.copy(alloc)?;
         let state = entered(alloc, Entrance::Waiting { from: before, hop });
         put_hop(&mut self.slots, number, before, state)?;
+        note_place(&mut self.edge_places, number, place);
         self.states += 1;
         Ok(())
     }
@@ -96,14 +100,15 @@ impl Network {
         drop_end(&mut self.slots[state], place);
     }
 
-    /// A state from which no edge leads leaves, with the edge that leads to it. Takes no memory.
+    /// A state from which no edge leads leaves, with the edge that leads to it; the last edge that leads on from the
+    /// state before takes that one's place. Takes no memory.
     pub fn remove_state(&mut self, number: usize)
         requires used { IsTrue (is_used self.old number) }
         requires last { edges_at self.old number ≡ [] }
         ensures { RemovesState number self.old self.new }
     {
         let before = self.before(number);
-        drop_edge(&mut self.slots, before, number);
+        drop_edge(&mut self.slots, &mut self.edge_places, before, number);
         self.slots[number] = None;
         self.states -= 1;
     }
@@ -177,25 +182,103 @@ fn cut_edge(slot: &mut Option<State>)
     }
 }
 
-// Takes the forward edge to a state away, where one leads there.
-fn drop_edge(slots: &mut Vec<Option<State>>, before: Option<usize>, next: usize)
+// Takes the forward edge to a state away, where one leads there; the last one takes its place.
+fn drop_edge(
+    slots: &mut Vec<Option<State>>,
+    places: &mut Numbers,
+    before: Option<usize>,
+    next: usize,
+)
     requires below { IfSome before (λ from. from < length slots.old.items) }
     requires one { IfSome before (λ from. count_by (λ edge. edge == next) (edges_at slots.old.items from) ≡ 1) }
-    ensures { slots.new.items ≡ unedged before next slots.old.items }
+    ensures { IsUnedged before next slots.old.items slots.new.items }
 {
     if let Some(from) = before {
-        cut_edges(&mut slots[from], next);
+        cut_edges(&mut slots[from], places, next);
     }
 }
 
-// Takes the only forward edge to a state away.
-fn cut_edges(slot: &mut Option<State>, next: usize)
+// Takes the only forward edge to a state away; the last one takes its place.
+fn cut_edges(slot: &mut Option<State>, places: &mut Numbers, next: usize)
     requires { count_by (λ edge. edge == next) (edges_in slot.old) ≡ 1 }
-    ensures { slot.new ≡ without_edge next slot.old }
+    ensures { LosesEdge next slot.old slot.new }
 {
     if let Some(state) = slot {
-        drop_number(&mut state.edges, next);
+        let place = place_of(&state.edges, places, next);
+        drop_number(&mut state.edges, places, place);
     }
+}
+
+// The place of the only edge to a state: the noted one, or where it is found.
+fn place_of(edges: &Numbers, places: &Numbers, next: usize) -> usize
+    requires { count_by (λ edge. edge == next) edges.now ≡ 1 }
+    ensures { slice_get edges.now result ≡ Some next }
+{
+    let place = noted(places, next);
+    if place < edges.len() && *edges.get(place) == next {
+        place
+    } else {
+        scan(edges, next)
+    }
+}
+
+// The place of an edge to a state, wherever it stands.
+fn scan(edges: &Numbers, next: usize) -> usize
+    requires { count_by (λ edge. edge == next) edges.now ≡ 1 }
+    ensures { slice_get edges.now result ≡ Some next }
+{
+    match find_edge(edges, next) {
+        Some(place) => place,
+        None => unreachable!(),
+    }
+}
+
+// The place of the first edge to a state.
+fn find_edge(edges: &Numbers, next: usize) -> Option<usize>
+    ensures { result ≡ position (λ edge. edge == next) edges.now }
+{
+    edges.as_slice().iter().position(|edge| *edge == next)
+}
+
+// Takes the edge at a place out; the last one takes its place, which is noted.
+fn drop_number(edges: &mut Numbers, places: &mut Numbers, place: usize)
+    requires { place < length edges.old }
+    ensures { IsTakenOver place edges.old edges.new }
+{
+    take_over(edges, place);
+    if place < edges.len() {
+        note_place(places, *edges.get(place), place);
+    }
+}
+
+// The place that is noted for the edge to a state, or the first.
+fn noted(places: &Numbers, number: usize) -> usize
+    ensures { IfSome (slice_get places.now number) (λ place. result ≡ place) }
+{
+    if number < places.len() {
+        *places.get(number)
+    } else {
+        0
+    }
+}
+
+// Notes the place of the edge to a state, where there is room for it.
+fn note_place(places: &mut Numbers, number: usize, place: usize)
+    ensures { number < length places.old → slice_get places.new number ≡ Some place }
+{
+    if number < places.len() {
+        *places.get_mut(number) = place;
+    }
+}
+
+// Makes room to note the place of the edge to a state.
+fn make_room(places: &mut Numbers, number: usize) -> Result<(), Memory>
+    ensures { OnOk result (number < length places.new) }
+{
+    while places.len() <= number {
+        places.add(0)?;
+    }
+    Ok(())
 }
 
 // Takes the end at a place away; the last one takes its place.
@@ -208,41 +291,14 @@ fn drop_end(slot: &mut Option<State>, place: usize)
     }
 }
 
-// Takes the end at a place out; the last one takes its place.
-fn take_over(ends: &mut Ends, place: usize)
-    requires { place < length ends.old }
-    ensures { IsTakenOver place ends.old ends.new }
+// Takes the item at a place out; the last one takes its place.
+fn take_over<T: Drop>(items: &mut List<T>, place: usize)
+    requires { place < length items.old }
+    ensures { IsTakenOver place items.old items.new }
 {
-    if let Some(last) = ends.pop() {
-        if place < ends.len() {
-            *ends.get_mut(place) = last;
-        }
-    }
-}
-
-// Takes the only one of this number out. It is found by halving where the numbers rise.
-fn drop_number(numbers: &mut Numbers, number: usize)
-    requires { count_by (λ other. other == number) numbers.old ≡ 1 }
-    ensures { numbers.new ≡ without_number number numbers.old }
-{
-    let place = numbers.as_slice().partition_point(|other| *other < number);
-    if place < numbers.len() && *numbers.get(place) == number {
-        numbers.remove(place);
-    } else {
-        scan_number(numbers, number);
-    }
-}
-
-// Takes a number out, wherever it stands.
-fn scan_number(numbers: &mut Numbers, number: usize)
-    ensures { numbers.new ≡ without_number number numbers.old }
-{
-    let mut place = 0;
-    while place < numbers.len() {
-        if *numbers.get(place) == number {
-            numbers.remove(place);
-        } else {
-            place += 1;
+    if let Some(last) = items.pop() {
+        if place < items.len() {
+            *items.get_mut(place) = last;
         }
     }
 }

@@ -7,8 +7,8 @@ use Rattle.automaton.proofs.ChangedLemmas.{hop_added, hop_held}
 use Rattle.automaton.proofs.network.Network.add_hop.Goals as goal
 
 -- the waiting state comes
-pub invariant_of-self-2 : goal.invariant_of-self-2
-invariant_of-self-2 c =
+pub invariant_of-self-3 : goal.invariant_of-self-3
+invariant_of-self-3 c =
     let next = subst (λ (net : Net). c.args.number ≤ length net) (sym c.self.view_is) c.requires.next in
     let free = subst (λ (net : Net). is_used net c.args.number ≡ false) (sym c.self.view_is) c.requires.free in
     let used = subst (λ (net : Net). IsTrue (is_used net c.args.before)) (sym c.self.view_is) c.requires.before in
