@@ -1,25 +1,29 @@
 -- Readers of a network that a state leaves.
 use Rattle.std.proofs.Common.{◌≡◌, ◌∙◌, sym, ap, refl, subst, ℕ, ◌+◌, ◌==◌, ◌&&◌, not, Bool, true, false, cond, length, List, [], ◌∷◌, ◌++◌, map, arith}
-use Rattle.std.specs.Prelude.{Option, Some, None, count_by, is_some}
+use Rattle.std.specs.Prelude.{Option, Some, None, count_by, is_some, slice_get}
 use Rattle.std.specs.Option.{option_and_then, option_map, unwrap_or}
-use Rattle.std.specs.List.{flat_map, range_with_len}
+use Rattle.std.specs.List.{flat_map, range_with_len, swap_remove}
+use Rattle.std.specs.List.Sorted.{IsPermutation}
 use Rattle.std.proofs.lemmas.List.Sums.{sum_by-cons}
-use Rattle.std.proofs.lemmas.List.Sorted.{IsPermutation-refl}
+use Rattle.std.proofs.lemmas.List.Sorted.{IsPermutation-append_left, IsPermutation-map, IsPermutation-refl, IsPermutation-swap_remove}
+use Rattle.std.proofs.lemmas.Option.{get_or_from_slice_get, slice_get_within}
 use Rattle.event_types.proofs.NumberLemmas.{other_number, same_number, self_equal}
-use Rattle.automaton.specs.Changes.{RemovesState, without_edge, without_number}
+use Rattle.automaton.specs.Changes.{LosesEdge, RemovesState, with_edges}
 use Rattle.automaton.specs.Networks.{IsNetwork}
-use Rattle.automaton.specs.States.{Net, before_at, edges_at, edges_in, ends_at, entrance_at, entrance_in, is_used, root_at, root_by, root_in, state_at, step_by, tells, wait_at}
+use Rattle.automaton.specs.States.{Net, before_at, edges_at, edges_in, ends_at, entrance_at, entrance_in, is_used, root_at, root_by, root_in, state_at, step_at, step_by, tells, wait_at}
 use Rattle.automaton.specs.declared.network.End.{End}
 use Rattle.automaton.specs.declared.network.Entrance.{Entrance}
 use Rattle.automaton.specs.declared.network.State.{State}
 use Rattle.automaton.specs.declared.wait.Wait.{Wait}
+use Rattle.automaton.proofs.ClearedLemmas.{lost_entry}
+use Rattle.automaton.proofs.CountLemmas.{bit, count-taken}
 use Rattle.static_index.specs.Conditions.{HasId, without}
 use Rattle.stream_readers.specs.Changing.{HaveTargets, HaveWaits, Parts, PartsWait}
-use Rattle.stream_readers.specs.Filing.{Filed, has_id}
+use Rattle.stream_readers.specs.Filing.{Filed, filed_under, has_id}
 use Rattle.stream_readers.specs.Leading.{lead_key}
 use Rattle.stream_readers.specs.Leaving.{left_by}
 use Rattle.stream_readers.specs.Ways.{first_parts, parts_in}
-use Rattle.scalar_expr.proofs.Bags.{permuted_from}
+use Rattle.scalar_expr.proofs.Bags.{flat_map_permuted, permuted_from, permuted_to}
 use Rattle.stream_readers.specs.declared.leaving.Gone.TheVariants as leaving
 use Rattle.stream_readers.specs.declared.reader.Reader.{Reader}
 use Rattle.stream_readers.specs.declared.target.Target.TheVariants.{Edge}
@@ -29,57 +33,55 @@ use Rattle.stream_readers.proofs.GrownLemmas.{targets_alike, targets_leave, targ
 use Rattle.stream_readers.specs.Readers.{reader_at}
 use Rattle.stream_readers.proofs.SlotLemmas.{has_from, has_not}
 use Rattle.instances.specs.Keys.{Key}
-use Rattle.stream_readers.proofs.PartedLemmas.{edge_left, ends_kept, left_entry, targets_left}
-
--- numbers among which one isn't
-none_without : (n : ℕ) (numbers : List ℕ) → count_by (λ edge. edge == n) numbers ≡ 0 → without_number n numbers ≡ numbers
-none_without n [] none = refl
-none_without n (k ∷ numbers) none = go (k == n) (sym (sum_by-cons (λ edge. cond (edge == n) 1 0) k numbers) ∙ none) (none_without n numbers)
-  where
-    go : (b : Bool) → cond b 1 0 + count_by (λ edge. edge == n) numbers ≡ 0 → (count_by (λ edge. edge == n) numbers ≡ 0 → without_number n numbers ≡ numbers)
-        → cond (not b) (k ∷ without_number n numbers) (without_number n numbers) ≡ k ∷ numbers
-    go true none more = absurd (omega (arith, none))
-    go false none more = ap (λ ks. k ∷ ks) (more (omega (arith, none)))
+use Rattle.stream_readers.proofs.PartedLemmas.{edges_kept, ends_kept, left_entry, targets_left}
 
 told_is : (n : ℕ) (o : Option ℕ) → tells n o ≡ true → o ≡ Some n
 told_is n None is = absurd (cc)
 told_is n (Some m) is = ap Some (same_number m n is)
 
-without_none : (number : ℕ) (o : Option State) → without_number number (edges_in o) ≡ edges_in o → without_edge number o ≡ o
-without_none number None same = refl
-without_none number (Some state) same = ap (λ (edges : List ℕ). Some (record { entrance = state.entrance; edges = edges; ends = state.ends })) same
+module _ (old new : Net) (number : ℕ) (removes : RemovesState number old new) where
+  -- each other state is entered as before
+  pub gone_entered : (k : ℕ) → (k ≡ number → ⊥) → entrance_at new k ≡ entrance_at old k
+  gone_entered k other = go (tells k (before_at old number)) refl
+    where
+      go : (b : Bool) → tells k (before_at old number) ≡ b → entrance_at new k ≡ entrance_at old k
+      go true told = lost_entry number (state_at old k) (state_at new k) (removes.edge k (told_is k (before_at old number) told))
+      go false none = ap entrance_in (removes.others k other none)
+
+  -- edges that lead elsewhere are filed alike
+  pub gone_edges : (edges : List ℕ) → count_by (λ edge. edge == number) edges ≡ 0 → map (edge_filed new) edges ≡ map (edge_filed old) edges
+  gone_edges [] none = refl
+  gone_edges (edge ∷ edges) none = go (edge == number) refl (sym (sum_by-cons (λ edge. cond (edge == number) 1 0) edge edges) ∙ none) (gone_edges edges)
+    where
+      go : (b : Bool) → (edge == number) ≡ b → cond (edge == number) 1 0 + count_by (λ edge. edge == number) edges ≡ 0 → (count_by (λ edge. edge == number) edges ≡ 0 → map (edge_filed new) edges ≡ map (edge_filed old) edges)
+          → map (edge_filed new) (edge ∷ edges) ≡ map (edge_filed old) (edge ∷ edges)
+      go true is counted more = absurd (let one : bit (edge == number) ≡ 1 = ap bit is in omega (arith, counted, one))
+      go false differs counted more =
+          ap (λ (e : Option Entrance). record { target = Edge edge; parts = first_parts (unwrap_or (option_map step_by e) []) } ∷ map (edge_filed new) edges) (gone_entered edge (other_number edge number differs))
+          ∙ ap (λ fs. edge_filed old edge ∷ fs) (more (omega (arith, counted)))
+
+  -- the edge leaves those of a state, and the last of them takes its place
+  pub edges_part : (edges : List ℕ) (place : ℕ) → slice_get edges place ≡ Some number → count_by (λ edge. edge == number) edges ≡ 1 → IsPermutation (flat_map (left_by (leaving.Edge number)) (map (edge_filed old) edges)) (map (edge_filed new) (swap_remove edges place number))
+  edges_part edges place there one =
+      permuted_to (flat_map_permuted (left_by (leaving.Edge number)) _ _ (IsPermutation-map (edge_filed old) edges (number ∷ rest) (IsPermutation-swap_remove edges place number (slice_get_within edges place number there) (sym (get_or_from_slice_get edges place number number there)))))
+      (ap (λ b. filed_under (first_parts (step_at old number)) (cond b None (Some (Edge number))) ++ flat_map (left_by (leaving.Edge number)) (map (edge_filed old) rest)) (self_equal number) ∙ edges_kept old number rest none ∙ sym (gone_edges rest none))
+    where
+      rest : List ℕ
+      rest = swap_remove edges place number
+
+      none : count_by (λ edge. edge == number) rest ≡ 0
+      none =
+          let counted = count-taken (λ edge. edge == number) edges place number there in
+          let one' : bit (number == number) ≡ 1 = ap bit (self_equal number) in
+          omega (arith, counted, one)
 
 module _ (old new : Net) (network : IsNetwork old) (number : ℕ) (removes : RemovesState number old new) (last : edges_at old number ≡ []) (endless : ends_at old number ≡ []) where
   -- no edge leads there but from the state before
-  gone_apart : (k : ℕ) → tells k (before_at old number) ≡ false → without_number number (edges_at old k) ≡ edges_at old k
-  gone_apart k none = none_without number (edges_at old k) (network.edges k number ∙ ap (λ b. cond b 1 0) none)
+  gone_apart : (k : ℕ) → tells k (before_at old number) ≡ false → count_by (λ edge. edge == number) (edges_at old k) ≡ 0
+  gone_apart k none = network.edges k number ∙ ap (λ b. cond b 1 0) none
 
-  gone_slot : (k : ℕ) → (k ≡ number → ⊥) → state_at new k ≡ without_edge number (state_at old k)
-  gone_slot k other = go (tells k (before_at old number)) refl
-    where
-      go : (b : Bool) → tells k (before_at old number) ≡ b → state_at new k ≡ without_edge number (state_at old k)
-      go true told = removes.edge k (told_is k (before_at old number) told)
-      go false none = removes.others k other none ∙ sym (without_none number (state_at old k) (gone_apart k none))
-
-  gone_entered : (m : ℕ) → (m ≡ number → ⊥) → entrance_at new m ≡ entrance_at old m
-  gone_entered m other = ap entrance_in (gone_slot m other) ∙ kept (state_at old m)
-    where
-      kept : (o : Option State) → entrance_in (without_edge number o) ≡ entrance_in o
-      kept None = refl
-      kept (Some state) = refl
-
-  -- the edges that stay are filed alike
-  gone_edges : (edges : List ℕ) → map (edge_filed new) (without_number number edges) ≡ map (edge_filed old) (without_number number edges)
-  gone_edges [] = refl
-  gone_edges (edge ∷ edges) = go (edge == number) refl (gone_edges edges)
-    where
-      rest : List ℕ
-      rest = without_number number edges
-
-      go : (b : Bool) → (edge == number) ≡ b → map (edge_filed new) rest ≡ map (edge_filed old) rest → map (edge_filed new) (cond (not b) (edge ∷ rest) rest) ≡ map (edge_filed old) (cond (not b) (edge ∷ rest) rest)
-      go true is more = more
-      go false differs more =
-          ap (λ (e : Option Entrance). record { target = Edge edge; parts = first_parts (unwrap_or (option_map step_by e) []) } ∷ map (edge_filed new) rest) (gone_entered edge (other_number edge number differs)) ∙ ap (λ fs. edge_filed old edge ∷ fs) more
+  gone_alike : (k : ℕ) → tells k (before_at old number) ≡ false → map (edge_filed new) (edges_at old k) ≡ map (edge_filed old) (edges_at old k)
+  gone_alike k none = gone_edges old new number removes (edges_at old k) (gone_apart k none)
 
   gone_none : (s : ℕ) → entry old s number ≡ []
   gone_none s =
@@ -96,24 +98,45 @@ module _ (old new : Net) (network : IsNetwork old) (number : ℕ) (removes : Rem
   gone_here : (s : ℕ) → entry new s number ≡ []
   gone_here s = unused_entry new s number (ap is_some removes.here)
 
-  gone_other : (s k : ℕ) → (k ≡ number → ⊥) → entry new s k ≡ flat_map (left_by (leaving.Edge number)) (entry old s k)
-  gone_other s k other = ap (entry_of (edge_filed new) s k) (gone_slot k other) ∙ go (state_at old k)
-    where
-      go : (o : Option State) → entry_of (edge_filed new) s k (without_edge number o) ≡ flat_map (left_by (leaving.Edge number)) (entry_of (edge_filed old) s k o)
-      go None = refl
-      go (Some st) =
-          let b = tells s (root_in (Some st)) in
-          ap (λ fs. cond b (fs ++ ends_filed k 0 st.ends) []) (gone_edges st.edges ∙ sym (edge_left old number st.edges))
-          ∙ ap (λ fs. cond b (flat_map (left_by (leaving.Edge number)) (map (edge_filed old) st.edges) ++ fs) []) (sym (ends_kept number k 0 st.ends))
-          ∙ sym (left_entry (leaving.Edge number) b (map (edge_filed old) st.edges) (ends_filed k 0 st.ends))
+  -- what is left of what is filed of a state
+  abbrev left : List Filed → List Filed
+  left filed = flat_map (left_by (leaving.Edge number)) filed
 
-  gone_each : (s k : ℕ) → entry new s k ≡ flat_map (left_by (leaving.Edge number)) (entry old s k)
-  gone_each s k = go (k == number) refl
+  gone_from : (s k : ℕ) → tells k (before_at old number) ≡ true → IsPermutation (left (entry old s k)) (entry new s k)
+  gone_from s k told = permuted_to (go (state_at old k) loses.there (network.edges k number ∙ ap (λ b. cond b 1 0) told)) (ap (entry_of (edge_filed new) s k) (sym loses.rest))
     where
-      go : (b : Bool) → (k == number) ≡ b → entry new s k ≡ flat_map (left_by (leaving.Edge number)) (entry old s k)
-      go true is =
-          subst (λ (n : ℕ). entry new s n ≡ flat_map (left_by (leaving.Edge number)) (entry old s n)) (sym (same_number k number is)) (gone_here s ∙ sym (ap (flat_map (left_by (leaving.Edge number))) (gone_none s)))
-      go false differs = gone_other s k (other_number k number differs)
+      loses : LosesEdge number (state_at old k) (state_at new k)
+      loses = removes.edge k (told_is k (before_at old number) told)
+
+      go : (o : Option State) → slice_get (edges_in o) loses.place ≡ Some number → count_by (λ edge. edge == number) (edges_in o) ≡ 1
+          → IsPermutation (left (entry_of (edge_filed old) s k o)) (entry_of (edge_filed new) s k (with_edges (swap_remove (edges_in o) loses.place number) o))
+      go None there one = IsPermutation-refl []
+      go (Some st) there one = permuted_from (left_entry (leaving.Edge number) (tells s (root_in (Some st))) (map (edge_filed old) st.edges) (ends_filed k 0 st.ends)) (rooted (tells s (root_in (Some st))))
+        where
+          rest : List Filed
+          rest = map (edge_filed new) (swap_remove st.edges loses.place number)
+
+          rooted : (b : Bool) → IsPermutation (cond b (left (map (edge_filed old) st.edges) ++ left (ends_filed k 0 st.ends)) []) (cond b (rest ++ ends_filed k 0 st.ends) [])
+          rooted true =
+              permuted_to (IsPermutation-append_left (left (ends_filed k 0 st.ends)) (left (map (edge_filed old) st.edges)) rest (edges_part old new number removes st.edges loses.place there one)) (ap (λ fs. rest ++ fs) (ends_kept number k 0 st.ends))
+          rooted false = IsPermutation-refl []
+
+  gone_other : (s k : ℕ) → (k ≡ number → ⊥) → tells k (before_at old number) ≡ false → left (entry old s k) ≡ entry new s k
+  gone_other s k other none =
+      let b = tells s (root_at old k) in
+      let edges = map (edge_filed old) (edges_at old k) in
+      let ends = ends_filed k 0 (ends_at old k) in
+      left_entry (leaving.Edge number) b edges ends ∙ ap (λ fs. cond b (fs ++ left ends) []) (edges_kept old number (edges_at old k) (gone_apart k none))
+      ∙ ap (λ fs. cond b (edges ++ fs) []) (ends_kept number k 0 (ends_at old k)) ∙ sym (stays old new s k (gone_alike k none) (removes.others k other none))
+
+  gone_each : (s k : ℕ) → IsPermutation (left (entry old s k)) (entry new s k)
+  gone_each s k = go (k == number) refl (tells k (before_at old number)) refl
+    where
+      go : (b : Bool) → (k == number) ≡ b → (d : Bool) → tells k (before_at old number) ≡ d → IsPermutation (left (entry old s k)) (entry new s k)
+      go true is d told =
+          subst (λ (n : ℕ). IsPermutation (left (entry old s n)) (entry new s n)) (sym (same_number k number is)) (permuted_from (ap left (gone_none s)) (permuted_to (IsPermutation-refl []) (sym (gone_here s))))
+      go false differs true told = gone_from s k told
+      go false differs false none = permuted_from (gone_other s k (other_number k number differs) none) (IsPermutation-refl (entry new s k))
 
   -- where the edge isn't filed all stays
   gone_still : (s : ℕ) → ((k : ℕ) → tells k (before_at old number) ≡ true → tells s (root_at old k) ≡ false) → (k : ℕ) → entry new s k ≡ entry old s k
@@ -123,14 +146,13 @@ module _ (old new : Net) (network : IsNetwork old) (number : ℕ) (removes : Rem
       go true is d told = subst (λ (n : ℕ). entry new s n ≡ entry old s n) (sym (same_number k number is)) (gone_here s ∙ sym (gone_none s))
       go false differs true told =
           let none = out k told in
-          no_root new s k (ap (λ o. tells s (option_and_then root_by o)) (gone_entered k (other_number k number differs)) ∙ none) ∙ sym (no_root old s k none)
-      go false differs false told =
-          stays old new s k (ap (map (edge_filed new)) (sym (gone_apart k told)) ∙ gone_edges (edges_at old k) ∙ ap (map (edge_filed old)) (gone_apart k told)) (removes.others k (other_number k number differs) told)
+          no_root new s k (ap (λ o. tells s (option_and_then root_by o)) (gone_entered old new number removes k (other_number k number differs)) ∙ none) ∙ sym (no_root old s k none)
+      go false differs false told = stays old new s k (gone_alike k told) (removes.others k (other_number k number differs) told)
 
   -- the edge leaves, where the state before is a root
   pub edge_leaves : (before stream : ℕ) (readers left : List Reader) → Some before ≡ before_at old number → Some stream ≡ root_at old before → Parts stream (leaving.Edge number) readers left → HaveTargets old readers → HaveTargets new left
   edge_leaves before stream readers left from root parts have =
-      targets_leave old new readers left stream (leaving.Edge number) parts have (targets_left old new stream (leaving.Edge number) (λ k. permuted_from (sym (gone_each stream k)) (IsPermutation-refl (entry new stream k)))) (λ other differs. targets_alike old new other (gone_still other (out other differs)))
+      targets_leave old new readers left stream (leaving.Edge number) parts have (targets_left old new stream (leaving.Edge number) (gone_each stream)) (λ other differs. targets_alike old new other (gone_still other (out other differs)))
     where
       out : (other : ℕ) → (stream == other) ≡ false → (k : ℕ) → tells k (before_at old number) ≡ true → tells other (root_at old k) ≡ false
       out other differs k told = let e = same_number before k (ap (tells k) from ∙ told) in ap (λ n. tells other (root_at old n)) (sym e) ∙ ap (tells other) (sym root) ∙ differs
@@ -145,15 +167,7 @@ module _ (old new : Net) (network : IsNetwork old) (number : ℕ) (removes : Rem
 
 module _ (old new : Net) (number : ℕ) (removes : RemovesState number old new) where
   gone_waits : (s k : ℕ) → (k ≡ number → ⊥) → asked_at new s k ≡ asked_at old s k
-  gone_waits s k other = waits_alike old new s k (go (tells k (before_at old number)) refl)
-    where
-      kept : (o : Option State) → entrance_in (without_edge number o) ≡ entrance_in o
-      kept None = refl
-      kept (Some state) = refl
-
-      go : (b : Bool) → tells k (before_at old number) ≡ b → entrance_at new k ≡ entrance_at old k
-      go true told = ap entrance_in (removes.edge k (told_is k (before_at old number) told)) ∙ kept (state_at old k)
-      go false none = ap entrance_in (removes.others k other none)
+  gone_waits s k other = waits_alike old new s k (gone_entered old new number removes k other)
 
   gone_asked : (s : ℕ) → asked_at new s number ≡ None
   gone_asked s = unused_asked new s number (ap is_some removes.here)

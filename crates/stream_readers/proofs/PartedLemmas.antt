@@ -1,15 +1,16 @@
 -- Readers of a network that an end comes to, or that an end or a state leaves.
-use Rattle.std.proofs.Common.{◌≡◌, ◌∙◌, sym, ap, refl, subst, ℕ, ◌+◌, ◌-◌, ◌<◌, ◌==◌, not, Bool, true, false, cond, length, List, [], ◌∷◌, ◌++◌, map, append_assoc, arith}
-use Rattle.std.specs.Prelude.{Option, Some, None, is_some}
+use Rattle.std.proofs.Common.{◌≡◌, ◌∙◌, sym, ap, refl, subst, ℕ, ◌+◌, ◌-◌, ◌<◌, ◌==◌, Bool, true, false, cond, length, List, [], ◌∷◌, ◌++◌, map, append_assoc, arith}
+use Rattle.std.specs.Prelude.{Option, Some, None, count_by, is_some}
 use Rattle.std.specs.Option.{option_and_then, option_map, unwrap_or}
 use Rattle.std.specs.List.{flat_map, range_with_len, swap_remove}
 use Rattle.std.specs.List.Sorted.{IsPermutation}
 use Rattle.std.proofs.lemmas.Grind.{flat_map-append}
 use Rattle.std.proofs.lemmas.List.Sorted.{IsPermutation-append_right, IsPermutation-refl, IsPermutation-sym}
+use Rattle.std.proofs.lemmas.List.Sums.{sum_by-cons}
 use Rattle.std.proofs.lemmas.Option.{slice_get_within}
 use Rattle.event_types.proofs.NumberLemmas.{other_number, same_number, self_equal}
 use Rattle.scalar_expr.proofs.Bags.{permuted_from, permuted_to}
-use Rattle.automaton.specs.Changes.{AddsEnd, RemovesEnd, with_end, with_ends, without_number}
+use Rattle.automaton.specs.Changes.{AddsEnd, RemovesEnd, with_end, with_ends}
 use Rattle.automaton.specs.Networks.{IsNetwork}
 use Rattle.automaton.specs.States.{Net, edges_at, edges_in, ends_at, ends_in, entrance_at, entrance_in, is_used, root_at, root_by, root_in, state_at, step_at, step_by, tells}
 use Rattle.automaton.specs.declared.network.End.{End}
@@ -38,18 +39,18 @@ pub ends_kept : (gone number place : ℕ) (ends : List End) → flat_map (left_b
 ends_kept gone number place [] = refl
 ends_kept gone number place (end ∷ ends) = ap (λ fs. end_filed number place end ∷ fs) (ends_kept gone number (place + 1) ends)
 
--- an edge that leaves
-pub edge_left : (net : Net) (gone : ℕ) (edges : List ℕ) → flat_map (left_by (leaving.Edge gone)) (map (edge_filed net) edges) ≡ map (edge_filed net) (without_number gone edges)
-edge_left net gone [] = refl
-edge_left net gone (edge ∷ edges) = go (edge == gone) (edge_left net gone edges)
+-- so do edges that lead elsewhere
+pub edges_kept : (net : Net) (gone : ℕ) (edges : List ℕ) → count_by (λ edge. edge == gone) edges ≡ 0 → flat_map (left_by (leaving.Edge gone)) (map (edge_filed net) edges) ≡ map (edge_filed net) edges
+edges_kept net gone [] none = refl
+edges_kept net gone (edge ∷ edges) none = go (edge == gone) (sym (sum_by-cons (λ edge. cond (edge == gone) 1 0) edge edges) ∙ none) (edges_kept net gone edges)
   where
     rest : List Filed
     rest = flat_map (left_by (leaving.Edge gone)) (map (edge_filed net) edges)
 
-    go : (b : Bool) → rest ≡ map (edge_filed net) (without_number gone edges)
-        → filed_under (first_parts (step_at net edge)) (cond b None (Some (Edge edge))) ++ rest ≡ map (edge_filed net) (cond (not b) (edge ∷ without_number gone edges) (without_number gone edges))
-    go true more = more
-    go false more = ap (λ fs. edge_filed net edge ∷ fs) more
+    go : (b : Bool) → cond b 1 0 + count_by (λ edge. edge == gone) edges ≡ 0 → (count_by (λ edge. edge == gone) edges ≡ 0 → rest ≡ map (edge_filed net) edges)
+        → filed_under (first_parts (step_at net edge)) (cond b None (Some (Edge edge))) ++ rest ≡ map (edge_filed net) (edge ∷ edges)
+    go true counted more = absurd (omega (arith, counted))
+    go false counted more = ap (λ fs. edge_filed net edge ∷ fs) (more (omega (arith, counted)))
 
 -- what is left of what is filed of a state
 pub left_entry : (gone : Gone) (b : Bool) (edges ends : List Filed) → flat_map (left_by gone) (cond b (edges ++ ends) []) ≡ cond b (flat_map (left_by gone) edges ++ flat_map (left_by gone) ends) []

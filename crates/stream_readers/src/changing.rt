@@ -36,8 +36,8 @@ impl Readers {
         file_end(self.alloc, &mut self.streams, network, state, end)
     }
 
-    /// The end at a place of a state of the network is to leave, and the last one there to take its place. Takes no
-    /// memory.
+    /// The end at a place of a state of the network is to leave, and the last one there to take its place. Memory is
+    /// asked for, to note where room came to be, and where it is wanting that room is not used again.
     pub fn remove_end(&mut self, network: &Network, state: usize, place: usize)
         requires readers { AreReadersOf network.now self.old }
         requires used { IsTrue (is_used network.now state) }
@@ -47,7 +47,8 @@ impl Readers {
         drop_end(&mut self.streams, network, state, place);
     }
 
-    /// A state without edges and ends is to leave the network. Takes no memory.
+    /// A state without edges and ends is to leave the network. Memory is asked for, to note where room came to be, and
+    /// where it is wanting that room is not used again.
     pub fn remove_state(&mut self, network: &Network, number: usize)
         requires readers { AreReadersOf network.now self.old }
         requires used { IsTrue (is_used network.now number) }

@@ -77,7 +77,7 @@ pub(crate) fn file_end(
     file_target(alloc, readers, stream, target, &end.step)
 }
 
-/// An end that is to leave is filed no more, and the last one of its state is filed at its place. Takes no memory.
+/// An end that is to leave is filed no more, and the last one of its state is filed at its place.
 pub(crate) fn drop_end(readers: &mut Streams, network: &Network, state: usize, place: usize)
     requires readers { AreReadersOf network.now readers.old }
     requires used { IsTrue (is_used network.now state) }
@@ -92,7 +92,7 @@ pub(crate) fn drop_end(readers: &mut Streams, network: &Network, state: usize, p
     }
 }
 
-/// The edge into a state that is to leave is filed no more. Takes no memory.
+/// The edge into a state that is to leave is filed no more.
 pub(crate) fn drop_edge(readers: &mut Streams, network: &Network, number: usize)
     requires readers { AreReadersOf network.now readers.old }
     requires used { IsTrue (is_used network.now number) }

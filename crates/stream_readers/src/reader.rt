@@ -73,7 +73,7 @@ impl Reader {
         add_target(alloc, &mut self.targets, target, step)
     }
 
-    /// A target leaves. Takes no memory.
+    /// A target leaves.
     pub(crate) fn leave(&mut self, gone: Gone)
         ensures { self.new ≡ record self.old { targets = flat_map (left_by gone) self.old.targets } }
     {

@@ -1,12 +1,12 @@
 //! Places for targets, of which some are free.
-ghost use Rattle.std.specs.Prelude.{◌≡◌, ◌≢◌, ◌<◌, ◌≤◌, ◌&&◌, ℕ, None, OnErr, OnOk, Some, is_some, length, not};
+ghost use Rattle.std.specs.Prelude.{◌≡◌, ◌≢◌, ◌<◌, ◌≤◌, ◌&&◌, ℕ, IsTrue, None, OnErr, OnOk, Some, is_some, length, not};
 ghost use Rattle.std.specs.List.{All, flat_map};
 ghost use Rattle.stream_readers.specs.Filing.{AreAtPlaces, at_places, filed_in, slot_at};
 ghost use Rattle.stream_readers.specs.Leaving.{left_by, moved_in};
 
 use crate::leaving::{Gone, moved};
 use crate::target::{Target, Targets};
-use event_types::{List, Memory};
+use event_types::{List, Memory, Numbers};
 use static_index::StaticIndex;
 
 /// Targets by their places, and nothing where a place is free.
@@ -26,17 +26,28 @@ pub(crate) fn gather(slots: &Slots, places: &[usize], found: &mut Targets) -> Re
     Ok(())
 }
 
-/// A free place: the first from this one on, or the one behind all others.
-pub(crate) fn free_place(slots: &Slots, from: usize) -> usize
+/// A free place: the last of those that came to be free, if it is free still, or the one behind all others.
+pub(crate) fn free_place(slots: &Slots, freed: &Numbers) -> usize
     ensures free { slot_at slots.now result ≡ None }
     ensures within { result ≤ length slots.now }
 {
-    for place in from..slots.len() {
-        if slots.get(place).is_none() {
-            return place;
-        }
+    match freed.as_slice().last() {
+        Some(place) if is_free(slots, *place) => *place,
+        _ => slots.len(),
     }
-    slots.len()
+}
+
+// Whether one of the places is free.
+fn is_free(slots: &Slots, place: usize) -> bool
+    ensures free { IsTrue result → slot_at slots.now place ≡ None }
+    ensures within { IsTrue result → place < length slots.now }
+{
+    place < slots.len() && slots.get(place).is_none()
+}
+
+/// Notes a place that came to be free. Where memory is wanting for that, it is not used again.
+pub(crate) fn note_freed(freed: &mut Numbers, place: usize) {
+    let _ = freed.add(place);
 }
 
 /// Puts a target at a place.
@@ -76,20 +87,23 @@ pub(crate) fn move_slot(slots: &mut Slots, place: usize, gone: Gone)
     }
 }
 
-/// A target leaves, with its condition, wherever it stands. Gives a place below which none came to be free.
-pub(crate) fn take_away(slots: &mut Slots, conditions: &mut StaticIndex, gone: Gone) -> usize
+/// A target leaves, with its condition, wherever it stands, and its places are noted.
+pub(crate) fn take_away(
+    slots: &mut Slots,
+    conditions: &mut StaticIndex,
+    freed: &mut Numbers,
+    gone: Gone,
+)
     requires { AreAtPlaces slots.old conditions.old }
     ensures places { AreAtPlaces slots.new conditions.new }
     ensures left { filed_in slots.new conditions.new ≡ flat_map (left_by gone) (filed_in slots.old conditions.old) }
 {
-    let mut first = slots.len();
     for place in 0..slots.len() {
         if leaves(slots.get_mut(place), gone) {
             conditions.remove(place);
-            first = first.min(place);
+            note_freed(freed, place);
         }
     }
-    first
 }
 
 // A target leaves, where it stands at a place. Whether it does.

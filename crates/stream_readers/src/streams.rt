@@ -63,7 +63,7 @@ pub(crate) fn file_target(
     readers.get_mut(stream).add_target(alloc, target, step)
 }
 
-/// A target on which tuples of a stream got on leaves. Takes no memory.
+/// A target on which tuples of a stream got on leaves.
 pub(crate) fn drop_target(readers: &mut Streams, stream: StreamId, gone: Gone)
     ensures { Parts stream gone readers.old readers.new }
 {

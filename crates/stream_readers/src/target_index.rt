@@ -6,7 +6,7 @@ ghost use Rattle.stream_readers.specs.Filing.{targets_met};
 ghost use Rattle.stream_readers.specs.Leaving.{left_by};
 
 use crate::leaving::Gone;
-use crate::slots::{Slots, clear_slot, free_place, gather, put_slot};
+use crate::slots::{Slots, clear_slot, free_place, gather, note_freed, put_slot};
 use crate::target::{Target, Targets};
 use crate::target_places::{TargetPlaces, part, with_target};
 use event_types::{List, Memory, Numbers, Tuple};
@@ -22,8 +22,8 @@ use std::marker::Model;
 pub(crate) struct TargetIndex {
     slots: Slots,
     conditions: StaticIndex,
-    // Where a free place is looked for first.
-    first: usize,
+    // The places that came to be free.
+    freed: Numbers,
     // The place of each target, unless one came twice.
     places: Option<TargetPlaces>,
 }
@@ -50,7 +50,7 @@ impl TargetIndex {
         TargetIndex {
             slots: List::new(alloc),
             conditions: StaticIndex::new(alloc),
-            first: 0,
+            freed: List::new(alloc),
             places: Some(HashMap::new(alloc)),
         }
     }
@@ -60,30 +60,31 @@ impl TargetIndex {
         ensures added { OnOk result (IsPermutation self.new (self.old ++ record { target = target; parts = fixed_parts condition.now } ∷ [])) }
         ensures kept { OnErr result (self.new ≡ self.old) }
     {
-        let place = free_place(&self.slots, self.first);
+        let place = free_place(&self.slots, &self.freed);
         self.places = with_target(self.places.take(), &self.slots, target, place)?;
         put_slot(&mut self.slots, place, target)?;
-        self.first = place;
+        self.freed.pop();
         match self.conditions.add(place, condition) {
             Ok(()) => Ok(()),
             Err(fault) => {
                 clear_slot(&mut self.slots, place);
+                note_freed(&mut self.freed, place);
                 Err(fault)
             }
         }
     }
 
-    /// A target leaves. Takes no memory.
+    /// A target leaves. Where memory is wanting to note its place, that is not used again.
     pub(crate) fn leave(&mut self, gone: Gone)
         ensures { self.new ≡ flat_map (left_by gone) self.old }
     {
-        let first = part(
+        part(
             &mut self.places,
             &mut self.slots,
             &mut self.conditions,
+            &mut self.freed,
             gone,
         );
-        self.first = self.first.min(first);
     }
 
     /// The targets whose fixed parts all hold for the tuple. Both lists are used anew, the first for places.

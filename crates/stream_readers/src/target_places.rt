@@ -9,9 +9,9 @@ ghost use Rattle.stream_readers.specs.Places.{ComesTo, HavePlaces, MayHavePlaces
 
 use crate::leaving::Gone;
 use crate::naming::{Name, gone_name, last_name, name_of};
-use crate::slots::{Slots, move_slot, take_away};
+use crate::slots::{Slots, move_slot, note_freed, take_away};
 use crate::target::Target;
-use event_types::Memory;
+use event_types::{Memory, Numbers};
 use static_index::StaticIndex;
 use std::collections::HashMap;
 
@@ -56,13 +56,14 @@ fn with_place(
     Ok(Some(table))
 }
 
-/// A target leaves, with its condition. Gives a place below which none came to be free. Takes no memory.
+/// A target leaves, with its condition, and its place is noted.
 pub(crate) fn part(
     places: &mut Option<TargetPlaces>,
     slots: &mut Slots,
     conditions: &mut StaticIndex,
+    freed: &mut Numbers,
     gone: Gone,
-) -> usize
+)
     requires places { AreAtPlaces slots.old conditions.old }
     requires table { MayHavePlaces places.old slots.old }
     ensures places { AreAtPlaces slots.new conditions.new }
@@ -70,19 +71,19 @@ pub(crate) fn part(
     ensures table { MayHavePlaces places.new slots.new }
 {
     let Some(mut table) = places.take() else {
-        return take_away(slots, conditions, gone);
+        return take_away(slots, conditions, freed, gone);
     };
     let Some(place) = standing(&table, slots, gone_name(gone)) else {
-        return take_away(slots, conditions, gone);
+        return take_away(slots, conditions, freed, gone);
     };
     let Some(last) = standing(&table, slots, last_name(gone)) else {
-        return take_away(slots, conditions, gone);
+        return take_away(slots, conditions, freed, gone);
     };
     free(slots, conditions, gone, place, last);
+    note_freed(freed, place);
     renote(&mut table, gone_name(gone), last);
     forget(&mut table, last_name(gone));
     *places = Some(table);
-    place
 }
 
 // Frees the place of a target that leaves, with its condition. The last end of its state stands at the other place.
