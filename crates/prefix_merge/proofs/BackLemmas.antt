@@ -1,9 +1,10 @@
 -- A line that came and is taken away again leaves the network as it was.
-use Rattle.std.proofs.Common.{◌≡◌, ◌⊎◌, ◌∙◌, sym, ap, refl, subst, inl, inr, ℕ, zero, suc, ◌-◌, ◌<◌, ◌≤◌, Bool, true, false, length, arith}
+use Rattle.std.proofs.Common.{◌≡◌, ◌⊎◌, ◌∙◌, sym, ap, refl, subst, inl, inr, ℕ, zero, suc, ◌-◌, ◌<◌, ◌≤◌, Bool, true, false, IsTrue, length, arith}
 use Rattle.std.specs.Prelude.{Contains, Option, Some, None, is_some}
-use Rattle.std.specs.List.{filter, list_any}
+use Rattle.std.specs.List.{list_any}
 use Rattle.std.proofs.lemmas.Bool.{cases_lt}
 use Rattle.std.proofs.lemmas.List.{ext_get_or}
+use Rattle.std.proofs.lemmas.List.Elements.{All-weaker}
 use Rattle.automaton.specs.declared.line.Line.{Line}
 use Rattle.automaton.specs.declared.network.State.{State}
 use Rattle.automaton.specs.Networks.{IsNetwork}
@@ -14,7 +15,8 @@ use Rattle.automaton.proofs.SlotLemmas.{KeepsEntries, at_kept, at_one, at_used, 
 use Rattle.prefix_merge.specs.Insertion.{Inserts}
 use Rattle.prefix_merge.specs.Laws.{TakenBackIsBefore}
 use Rattle.prefix_merge.specs.Merging.{EndsInState, IsMerged, ends_numbered}
-use Rattle.prefix_merge.specs.Removal.{Removes}
+use Rattle.prefix_merge.specs.Removal.{AreLeft, Removes}
+use Rattle.prefix_merge.proofs.EdgeLemmas.{all_stay, old_before}
 use Rattle.prefix_merge.proofs.EndingLemmas.{ends_none}
 use Rattle.prefix_merge.proofs.GrowthLemmas.{any_end}
 use Rattle.prefix_merge.proofs.NumberedLemmas.{any_left, counted_there, end_there, last_left, none_numbered, other_end}
@@ -86,6 +88,15 @@ module _ (line : Line) (end : ℕ) (birth : Option ℕ) (old middle new : Net) (
   same_used : (number : ℕ) → is_used new number ≡ is_used old number
   same_used number = same_bool (is_used new number) (is_used old number) (back number) (forth number)
 
+  -- the edges are those of before
+  edges_back : (number : ℕ) → AreLeft (is_used new) (edges_at middle number) (edges_at new number) → edges_at new number ≡ edges_at old number
+  edges_back number (inl (all, same)) =
+      same ∙ sym (all_stay (is_used old) (edges_at middle number) (All-weaker (λ next. IsTrue (is_used new next)) (λ next. IsTrue (is_used old next)) back (edges_at middle number) all)) ∙ inserts.old_edges number
+  edges_back number (inr lost) =
+      let free = sym (same_used lost.next) ∙ lost.gone in
+      lost.rest ∙ swapped_last (edges_at middle number) lost.place lost.next lost.led (inserts.edge_last number lost.place lost.next lost.led free)
+      ∙ sym (old_before (is_used old) (edges_at middle number) lost.place lost.next lost.led free (inserts.edge_last number)) ∙ inserts.old_edges number
+
   same_slot : (number : ℕ) → state_at new number ≡ state_at old number
   same_slot number = by_use (is_used old number) refl
     where
@@ -94,7 +105,7 @@ module _ (line : Line) (end : ℕ) (birth : Option ℕ) (old middle new : Net) (
       by_use true used =
           let there = forth number used in
           same_state (state_at new number) (state_at old number) there used (removes.stay number there ∙ inserts.stay number used)
-          (removes.edges_left number there ∙ (λ i. filter (λ m. same_used m i) (edges_at middle number)) ∙ inserts.old_edges number)
+          (edges_back number (removes.edges_left number there))
           (ends_back number)
 
   no_longer : (a b : Net) → ((number : ℕ) → is_used a number ≡ is_used b number) → EndsInState a → length a ≤ length b

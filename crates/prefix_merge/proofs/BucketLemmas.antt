@@ -10,10 +10,10 @@ use Rattle.std.proofs.lemmas.List.{get_or_past, get_or-take, length-take}
 use Rattle.automaton.specs.declared.line.Hop.{Hop}
 use Rattle.automaton.specs.declared.network.End.{End}
 use Rattle.automaton.specs.declared.network.Entrance.TheVariants as entrance
-use Rattle.automaton.specs.declared.network.State.{State}
-use Rattle.automaton.specs.Changes.{AddsEnd, AddsHop, AddsRoot, RemovesEnd, RemovesState, without_edge}
+use Rattle.automaton.specs.Changes.{AddsEnd, AddsHop, AddsRoot, RemovesEnd, RemovesState}
 use Rattle.automaton.specs.States.{Net, before_at, ends_at, entrance_at, entrance_in, is_used, state_at, tells}
 use Rattle.automaton.proofs.ChangeLemmas.{ends_entry, nothing_there}
+use Rattle.automaton.proofs.ClearedLemmas.{lost_entry}
 use Rattle.automaton.proofs.CountLemmas.{bit, count-cons}
 use Rattle.automaton.proofs.NumberLemmas.{are_same_or_not}
 use Rattle.automaton.proofs.SlotLemmas.{edge_entry, end_entry}
@@ -85,13 +85,9 @@ one_less_if count b = count - bit b
 pub left_entry : (number : ℕ) (old new : Net) → RemovesState number old new → (other : ℕ) → (other ≡ number → ⊥) → entrance_at new other ≡ entrance_at old other
 left_entry number old new removes other ne = go (before_at old number) refl
   where
-    same_entry : (slot : Option State) → entrance_in (without_edge number slot) ≡ entrance_in slot
-    same_entry None = refl
-    same_entry (Some state) = refl
-
     by_number : (before : ℕ) → before_at old number ≡ Some before → (before ≡ other) ⊎ (before ≡ other → ⊥) → entrance_at new other ≡ entrance_at old other
     by_number before told (inl same) =
-        ap (entrance_at new) (sym same) ∙ ap entrance_in (removes.edge before told) ∙ same_entry (state_at old before) ∙ ap (entrance_at old) same
+        ap (entrance_at new) (sym same) ∙ lost_entry number (state_at old before) (state_at new before) (removes.edge before told) ∙ ap (entrance_at old) same
     by_number before told (inr apart) = ap entrance_in (removes.others other ne (ap (tells other) told ∙ is_other before other apart))
 
     go : (o : Option ℕ) → before_at old number ≡ o → entrance_at new other ≡ entrance_at old other

@@ -3,11 +3,13 @@ use Rattle.std.proofs.Common.{◌≡◌, ◌∙◌, sym, ap, refl, subst, ℕ, �
 use Rattle.std.specs.Prelude.{All, Contains, Option, Some, None, is_some, max}
 use Rattle.std.specs.List.{swap_remove}
 use Rattle.std.proofs.lemmas.List.Elements.{All-append, All-cons, All-nil, All-weaker, Contains-append_left, Contains-push}
-use Rattle.automaton.specs.Changes.{AddsEnd, AddsHop, AddsRoot, RemovesEnd, RemovesState, with_edge, with_end, with_ends, without_edge}
+use Rattle.automaton.specs.Changes.{AddsEnd, AddsHop, AddsRoot, RemovesEnd, RemovesState, with_edge, with_end, with_ends}
 use Rattle.automaton.specs.States.{Net, before_at, ends_at, is_used, state_at, tells}
 use Rattle.automaton.specs.declared.line.Hop.{Hop}
 use Rattle.automaton.specs.declared.network.End.{End}
 use Rattle.automaton.specs.declared.network.State.{State}
+use Rattle.automaton.proofs.ClearedLemmas.{lost_entry}
+use Rattle.automaton.proofs.SlotLemmas.{entry_there}
 use Rattle.event_types.proofs.NumberLemmas.{other_number, same_number}
 use Rattle.prefix_merge.specs.Coming.{ListsCome, Notes, NotesLeft}
 use Rattle.prefix_merge.specs.declared.left.Left.{Left}
@@ -32,16 +34,13 @@ left_twice old mid new before between after one two = record {
 pub one_left : (number : ℕ) (old new : Net) (before after : Left) → RemovesState number old new → Notes after number → ((n : ℕ) → Notes before n → Notes after n) → NotesLeft old new before after
 one_left number old new before after removes noted kept = record { left = λ n used unused. go n used unused (n == number) refl; kept = kept }
   where
-    edged : (o : Option State) → is_some (without_edge number o) ≡ is_some o
-    edged None = refl
-    edged (Some state) = refl
-
     told : (n : ℕ) (o : Option ℕ) → tells n o ≡ true → o ≡ Some n
     told n None is = absurd (cc)
     told n (Some m) is = ap Some (same_number m n is)
 
     still : (n : ℕ) → (n ≡ number → ⊥) → (b : Bool) → tells n (before_at old number) ≡ b → is_used new n ≡ is_used old n
-    still n other true is = ap is_some (removes.edge n (told n (before_at old number) is)) ∙ edged (state_at old n)
+    still n other true is =
+        sym (entry_there (state_at new n)) ∙ ap is_some (lost_entry number (state_at old n) (state_at new n) (removes.edge n (told n (before_at old number) is))) ∙ entry_there (state_at old n)
     still n other false is = ap is_some (removes.others n other is)
 
     go : (n : ℕ) → IsTrue (is_used old n) → is_used new n ≡ false → (b : Bool) → (n == number) ≡ b → Notes after n

@@ -1,23 +1,24 @@
 -- Merged networks that grow by a state, an end, and a line.
-use Rattle.std.proofs.Common.{◌≡◌, ◌⊎◌, ◌∙◌, sym, ap, refl, subst, inl, inr, ℕ, ◌-◌, ◌<◌, ◌≤◌, Bool, true, false, cond, IsTrue, length, [], ◌∷◌, ◌++◌, append-nil, arith}
-use Rattle.std.specs.Prelude.{Contains, Some, is_some}
+use Rattle.std.proofs.Common.{◌≡◌, ◌⊎◌, ◌∙◌, sym, ap, refl, subst, inl, inr, ℕ, ◌+◌, ◌-◌, ◌<◌, ◌≤◌, Bool, true, false, cond, IsTrue, length, [], ◌∷◌, ◌++◌, append-nil, arith}
+use Rattle.std.specs.Prelude.{All, Contains, Some, is_some, slice_get}
 use Rattle.std.specs.List.{filter, list_any}
 use Rattle.std.specs.Option.{option_and_then}
 use Rattle.std.proofs.lemmas.Bool.{cases_lt}
-use Rattle.std.proofs.lemmas.List.Elements.{filter-append}
+use Rattle.std.proofs.lemmas.List.Elements.{All-nil, filter-append}
 use Rattle.automaton.specs.declared.line.Hop.{Hop}
 use Rattle.automaton.specs.declared.network.End.{End}
 use Rattle.automaton.specs.declared.network.Entrance.TheVariants as entrance
 use Rattle.automaton.specs.Changes.{AddsHop}
 use Rattle.automaton.specs.Networks.{IsAt, IsNetwork}
 use Rattle.automaton.specs.Prefixes.{Prefix, Root, After, beginnings}
-use Rattle.automaton.specs.States.{Net, before_at, before_by, edges_at, ends_at, ends_in, entrance_at, entrance_in, is_used, root_at, root_by, root_in, state_at}
+use Rattle.automaton.specs.States.{Net, before_at, before_by, edges_at, edges_in, ends_at, ends_in, entrance_at, entrance_in, is_used, root_at, root_by, root_in, state_at}
 use Rattle.automaton.proofs.ChangeLemmas.{adds_hop_network, edges_before, free_kept, free_reads, hop_apart, hop_edges, hop_entry}
 use Rattle.automaton.proofs.ClearedLemmas.{before_used}
 use Rattle.automaton.proofs.NumberLemmas.{are_same_or_not}
 use Rattle.automaton.proofs.SlotLemmas.{KeepsEntries, at_kept, at_one, at_used, edge_ends, entry_there, used_below}
 use Rattle.prefix_merge.specs.Insertion.{TakesLowest}
 use Rattle.prefix_merge.specs.Merging.{EndsInState, HasPrefix, IsLowestFree, IsUsedBy}
+use Rattle.prefix_merge.proofs.EdgeLemmas.{new_behind}
 use Rattle.prefix_merge.proofs.PrefixLemmas.{begins_before, begins_itself}
 
 -- a state isn't both there and not there
@@ -56,6 +57,9 @@ pub record IsGrowing (old base : Net) (prefix : Prefix) (tip : ℕ) (net : Net) 
   pub stay : (number : ℕ) → IsTrue (is_used old number) → entrance_at net number ≡ entrance_at old number
   pub same_ends : (number : ℕ) → ends_at net number ≡ ends_at old number
   pub old_edges : (number : ℕ) → filter (is_used old) (edges_at net number) ≡ edges_at old number
+  pub edge_last : (number place next : ℕ) → slice_get (edges_at net number) place ≡ Some next → is_used old next ≡ false → place + 1 ≡ length (edges_at net number)
+  -- the edges of the state that the line has come to lead to old states
+  pub tip_edges : All (λ next. IsTrue (is_used old next)) (edges_at net tip)
   pub came : (p : Prefix) → HasPrefix net p → (HasPrefix old p) ⊎ (Contains (beginnings prefix) p)
   pub numbers : TakesLowest old net
   pub roots : (number : ℕ) → root_at net number ≡ root_at base number
@@ -227,6 +231,19 @@ module _ (old base : Net) (prefix : Prefix) (tip number : ℕ) (hop : Hop) (net 
           ∙ growing.old_edges tip ∙ ap (edges_at old) (sym same)
       by_number (inr nt) = ap (filter (is_used old)) (hop_edges number tip hop net grown lowest.free tip_used adds growing.network n nt) ∙ growing.old_edges n
 
+  hop_edge_last : (n place next : ℕ) → slice_get (edges_at grown n) place ≡ Some next → is_used old next ≡ false → place + 1 ≡ length (edges_at grown n)
+  hop_edge_last n = by_number (are_same_or_not n tip)
+    where
+      by_number : (n ≡ tip) ⊎ (n ≡ tip → ⊥) → (place next : ℕ) → slice_get (edges_at grown n) place ≡ Some next → is_used old next ≡ false → place + 1 ≡ length (edges_at grown n)
+      by_number (inl same) =
+          subst (λ edges. (place next : ℕ) → slice_get edges place ≡ Some next → is_used old next ≡ false → place + 1 ≡ length edges) (sym (ap (edges_at grown) same ∙ edges_before number tip hop net grown lowest.free tip_used adds growing.network))
+          (new_behind (is_used old) (edges_at net tip) number growing.tip_edges)
+      by_number (inr nt) =
+          subst (λ edges. (place next : ℕ) → slice_get edges place ≡ Some next → is_used old next ≡ false → place + 1 ≡ length edges) (sym (hop_edges number tip hop net grown lowest.free tip_used adds growing.network n nt)) (growing.edge_last n)
+
+  hop_tip_edges : All (λ next. IsTrue (is_used old next)) (edges_at grown number)
+  hop_tip_edges = subst (All (λ next. IsTrue (is_used old next))) (sym (ap edges_in adds.here)) (All-nil (λ next. IsTrue (is_used old next)))
+
   -- the last place is a state's
   hop_last : EndsInState grown
   hop_last some = by_order (cases_lt number (length net))
@@ -247,6 +264,8 @@ module _ (old base : Net) (prefix : Prefix) (tip number : ℕ) (hop : Hop) (net 
     stay = hop_stay;
     same_ends = λ n. ends_kept n ∙ growing.same_ends n;
     old_edges = hop_old_edges;
+    edge_last = hop_edge_last;
+    tip_edges = hop_tip_edges;
     came = hop_came;
     numbers = record { lowest = hop_lowest; rising = hop_rising };
     roots = hop_roots;

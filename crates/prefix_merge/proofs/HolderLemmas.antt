@@ -4,8 +4,7 @@ use Rattle.std.specs.Prelude.{◌↔◌, Option, Some, None}
 use Rattle.std.specs.HashMap.{HashMap, get}
 use Rattle.automaton.specs.declared.line.Hop.{Hop}
 use Rattle.automaton.specs.declared.network.End.{End}
-use Rattle.automaton.specs.declared.network.State.{State}
-use Rattle.automaton.specs.Changes.{AddsEnd, AddsHop, AddsRoot, RemovesState, without_edge}
+use Rattle.automaton.specs.Changes.{AddsEnd, AddsHop, AddsRoot, RemovesState}
 use Rattle.automaton.specs.States.{Net, before_at, ends_at, ends_in, is_used, state_at, tells}
 use Rattle.automaton.proofs.NumberLemmas.{are_same_or_not}
 use Rattle.automaton.proofs.SlotLemmas.{edge_ends, end_ends}
@@ -14,6 +13,7 @@ use Rattle.prefix_merge.specs.declared.holders.EndSpot.{EndSpot}
 use Rattle.prefix_merge.specs.Holders.{AreHolders, StandsAt, TellsOf}
 use Rattle.prefix_merge.specs.Merging.{HasEnd, number_at}
 use Rattle.prefix_merge.proofs.BucketLemmas.{short_states}
+use Rattle.prefix_merge.proofs.EdgeLemmas.{lost_ends}
 use Rattle.prefix_merge.proofs.EndingLemmas.{ends_none}
 use Rattle.prefix_merge.proofs.NumberedLemmas.{none_behind, number_in, pushed_else, pushed_here, there_has, with_number}
 use Rattle.prefix_merge.proofs.SpotLemmas.{are_one_spot, none_some, other_place, some_is}
@@ -62,16 +62,12 @@ hop_ends number before hop old new free adds state = by_number (are_same_or_not 
 pub left_ends : (number : ℕ) (old new : Net) → ends_at old number ≡ [] → RemovesState number old new → HaveSameEnds old new
 left_ends number old new endless removes state = by_number (are_same_or_not state number)
   where
-    kept : (slot : Option State) → ends_in (without_edge number slot) ≡ ends_in slot
-    kept None = refl
-    kept (Some present) = refl
-
     by_before : (state ≡ number → ⊥) → (o : Option ℕ) → before_at old number ≡ o → ends_at new state ≡ ends_at old state
     by_before other None told = ap ends_in (removes.others state other (ap (tells state) told))
     by_before other (Some before) told = go (are_same_or_not before state)
       where
         go : (before ≡ state) ⊎ (before ≡ state → ⊥) → ends_at new state ≡ ends_at old state
-        go (inl same) = ap (ends_at new) (sym same) ∙ ap ends_in (removes.edge before told) ∙ kept (state_at old before) ∙ ap (ends_at old) same
+        go (inl same) = ap (ends_at new) (sym same) ∙ lost_ends number (state_at old before) (state_at new before) (removes.edge before told) ∙ ap (ends_at old) same
         go (inr apart) = ap ends_in (removes.others state other (ap (tells state) told ∙ is_other before state apart))
 
     by_number : (state ≡ number) ⊎ (state ≡ number → ⊥) → ends_at new state ≡ ends_at old state

@@ -96,6 +96,7 @@ line_inserted old base new line end birth grown fresh = record {
   numbers = grown.numbers;
   endings = endings_are old base new line end birth grown grown.network;
   old_edges = grown.old_edges;
+  edge_last = grown.edge_last;
   old_ends = old_ends old base new line end birth grown fresh;
   end_last = end_last old base new line end birth grown fresh;
   ends = ends_are old base new line end birth grown;

@@ -3,6 +3,7 @@ pub mod BackLemmas
 pub mod BucketLemmas
 pub mod ContainLemmas
 pub mod CountLemmas
+pub mod EdgeLemmas
 pub mod EndingLemmas
 pub mod GrowthLemmas
 pub mod HolderLemmas

@@ -1,26 +1,27 @@
 -- Merged networks that lose the states that no end uses.
-use Rattle.std.proofs.Common.{◌≡◌, ◌⊎◌, ◌∙◌, ◌↔◌, cond, nat_eq, sym, ap, refl, subst, inl, inr, ℕ, suc, ◌<◌, ◌≤◌, ◌==◌, Bool, true, false, not, IsTrue, length, get_or, List, [], ◌∷◌, arith}
-use Rattle.std.specs.Prelude.{Contains, Option, Some, None, is_some}
-use Rattle.std.specs.List.{filter, list_any}
+use Rattle.std.proofs.Common.{◌≡◌, ◌⊎◌, ◌∙◌, ◌↔◌, cond, nat_eq, sym, ap, refl, subst, inl, inr, ℕ, suc, ◌<◌, ◌≤◌, Bool, true, false, IsTrue, length, get_or, List, [], ◌∷◌, arith}
+use Rattle.std.specs.Prelude.{All, Contains, Option, Some, None, is_some, slice_get}
+use Rattle.std.specs.List.{list_any, swap_remove}
 use Rattle.std.specs.HashMap.{HashMap, get}
 use Rattle.std.specs.Option.{option_and_then}
 use Rattle.automaton.specs.declared.line.Hop.{Hop}
 use Rattle.automaton.specs.declared.network.End.{End}
-use Rattle.automaton.specs.declared.network.State.{State}
-use Rattle.automaton.specs.Changes.{RemovesState, without_edge, without_number}
+use Rattle.automaton.specs.Changes.{RemovesState}
 use Rattle.automaton.specs.Networks.{IsAt, IsNetwork}
 use Rattle.automaton.specs.Prefixes.{Prefix, Root, After, beginnings}
 use Rattle.automaton.specs.States.{Net, before_at, before_by, edges_at, edges_in, ends_at, ends_in, entrance_at, is_used, root_at, root_by, root_in, state_at, tells}
-use Rattle.automaton.proofs.ClearedLemmas.{before_used, edge_leads, left_at, left_entry, left_reads, none_entered, removes_state_network, told_not, waiting_before}
+use Rattle.automaton.proofs.ClearedLemmas.{before_used, edge_leads, left_at, left_entry, left_reads, lost_edges, none_entered, removes_state_network, told_not, waiting_before}
 use Rattle.event_types.proofs.NumberLemmas.{is_other, is_same}
 use Rattle.automaton.proofs.NumberLemmas.{are_same_or_not}
 use Rattle.automaton.proofs.SlotLemmas.{at_used, entry_there}
+use Rattle.stream_readers.proofs.TargetLemmas.{edges_used}
 use Rattle.prefix_merge.specs.Growth.{IsTable}
 use Rattle.prefix_merge.specs.Merging.{IsUsedBy}
 use Rattle.prefix_merge.specs.Pruning.{IsWithoutUnused, IsPruned, IsPruning, IsWanted}
+use Rattle.prefix_merge.specs.Removal.{AreLeft, LoseOne}
+use Rattle.prefix_merge.proofs.EdgeLemmas.{lost_ends}
 use Rattle.prefix_merge.proofs.GrowthLemmas.{any_end, not_both}
 use Rattle.prefix_merge.proofs.PrefixLemmas.{begins_before, begins_cases, begins_root, root_or_waiting}
-use Rattle.prefix_merge.proofs.UndoneLemmas.{none_without}
 
 -- how many hops a prefix has
 abbrev depth : Prefix → ℕ
@@ -56,15 +57,6 @@ some_end (end ∷ ends) some = refl
 -- where there are no ends, none counts
 pub no_end : (ends : List End) → ends ≡ [] → IsTrue (list_any any_end ends) → ⊥
 no_end ends none has = let no : false ≡ true = sym (ap (list_any any_end) none) ∙ has in cc
-
--- what passes two tests
-filtered_twice : (p q r : ℕ → Bool) → ((n : ℕ) → cond (p n) (q n) false ≡ r n) → (numbers : List ℕ) → filter q (filter p numbers) ≡ filter r numbers
-filtered_twice p q r is [] = refl
-filtered_twice p q r is (n ∷ numbers) = go (filtered_twice p q r is numbers) (p n) (is n)
-  where
-    go : filter q (filter p numbers) ≡ filter r numbers → (b : Bool) → cond b (q n) false ≡ r n → filter q (cond b (n ∷ filter p numbers) (filter p numbers)) ≡ cond (r n) (n ∷ filter r numbers) (filter r numbers)
-    go rest true same = λ i. cond (same i) (n ∷ rest i) (rest i)
-    go rest false same = λ i. cond (same i) (n ∷ filter r numbers) (rest i)
 
 -- a state that is wanted ends the pruning
 module _ (whole : Net) (prefix : Prefix) (tip : ℕ) (net : Net) (pruning : IsPruning whole prefix tip net) where
@@ -123,67 +115,57 @@ module _ (whole : Net) (prefix : Prefix) (tip : ℕ) (net : Net) (pruning : IsPr
     at_before number (After p hop) here =
         (here.0, sym (entry_left number (not_tip number (at_used left number (After p hop) here))) ∙ here.1, at_before here.0 p here.2)
 
-    ends_cut : (slot : Option State) → ends_in (without_edge tip slot) ≡ ends_in slot
-    ends_cut None = refl
-    ends_cut (Some state) = refl
-
     ends_left : (number : ℕ) → ends_at left number ≡ ends_at net number
     ends_left number = by_number (are_same_or_not number tip)
       where
         by_number : (number ≡ tip) ⊎ (number ≡ tip → ⊥) → ends_at left number ≡ ends_at net number
         by_number (inl same) = ap (ends_at left) same ∙ ap ends_in removes.here ∙ sym no_ends ∙ ap (ends_at net) (sym same)
-        by_number (inr ne) = left_reads tip net left removes no_edges pruning.left.network ends_in ends_cut number ne
+        by_number (inr ne) = left_reads tip net left removes no_edges pruning.left.network ends_in (lost_ends tip) number ne
 
-    edges_of_cut : (slot : Option State) → edges_in (without_edge tip slot) ≡ without_number tip (edges_in slot)
-    edges_of_cut None = refl
-    edges_of_cut (Some state) = refl
+    network_left : IsNetwork left
+    network_left = removes_state_network tip net left removes no_edges pruning.left.network
 
-    -- each state that is left has the same edges but one to the state that leaves
-    edges_cut : (number : ℕ) → (number ≡ tip → ⊥) → edges_at left number ≡ without_number tip (edges_at net number)
-    edges_cut number ne = by_before (before_at net tip) refl
+    used_net : (number : ℕ) → is_used left number ≡ true → is_used net number ≡ true
+    used_net number used = sym (entry_there (state_at net number)) ∙ ap is_some (sym (entry_left number (not_tip number used))) ∙ entry_there (state_at left number) ∙ used
+
+    -- each state that is left but the one before the tip has the edges that it had
+    pub edges_kept : (number : ℕ) → is_used left number ≡ true → tells number (before_at net tip) ≡ false → edges_at left number ≡ edges_at whole number
+    edges_kept number used told = ap edges_in (removes.others number (not_tip number used) told) ∙ pruning.edges number (used_net number used) (not_tip number used)
+
+    -- and that one lost the edge to the tip
+    edges_less : (number : ℕ) → is_used left number ≡ true → before_at net tip ≡ Some number → LoseOne (is_used left) (edges_at whole number) (edges_at left number)
+    edges_less number used from =
+        let loses = removes.edge number from in
+        let had = pruning.edges number (used_net number used) (not_tip number used) in
+        record {
+          place = loses.place;
+          next = tip;
+          led = ap (λ edges. slice_get edges loses.place) (sym had) ∙ loses.there;
+          gone = gone;
+          rest = lost_edges tip (state_at net number) (state_at left number) loses ∙ ap (λ edges. swap_remove edges loses.place tip) had;
+        }
+
+    edges_left : (number : ℕ) → is_used left number ≡ true → AreLeft (is_used left) (edges_at whole number) (edges_at left number)
+    edges_left number used = by_before (before_at net tip) refl
       where
-        untold : tells number (before_at net tip) ≡ false → edges_at left number ≡ without_number tip (edges_at net number)
-        untold told = ap edges_in (removes.others number ne told) ∙ sym (none_without tip (edges_at net number) (pruning.left.network.edges number tip ∙ ap (λ b. cond b 1 0) told))
+        untold : tells number (before_at net tip) ≡ false → AreLeft (is_used left) (edges_at whole number) (edges_at left number)
+        untold told = let same = edges_kept number used told in inl (subst (All (λ next. IsTrue (is_used left next))) same (edges_used left network_left number), same)
 
-        by_before : (o : Option ℕ) → before_at net tip ≡ o → edges_at left number ≡ without_number tip (edges_at net number)
+        by_before : (o : Option ℕ) → before_at net tip ≡ o → AreLeft (is_used left) (edges_at whole number) (edges_at left number)
         by_before None from = untold (ap (tells number) from)
         by_before (Some before) from = by_number (are_same_or_not before number)
           where
-            by_number : (before ≡ number) ⊎ (before ≡ number → ⊥) → edges_at left number ≡ without_number tip (edges_at net number)
-            by_number (inl same) =
-                ap (edges_at left) (sym same) ∙ ap edges_in (removes.edge before from) ∙ edges_of_cut (state_at net before) ∙ ap (λ n. without_number tip (edges_at net n)) same
+            by_number : (before ≡ number) ⊎ (before ≡ number → ⊥) → AreLeft (is_used left) (edges_at whole number) (edges_at left number)
+            by_number (inl same) = inr (edges_less number used (from ∙ ap (λ n. Some n) same))
             by_number (inr apart) = untold (ap (tells number) from ∙ is_other before number apart)
-
-    used_left : (number : ℕ) → cond (is_used net number) (not (number == tip)) false ≡ is_used left number
-    used_left number = by_number (are_same_or_not number tip)
-      where
-        neither : (b : Bool) → cond b false false ≡ false
-        neither true = refl
-        neither false = refl
-
-        itself : (b : Bool) → cond b true false ≡ b
-        itself true = refl
-        itself false = refl
-
-        by_number : (number ≡ tip) ⊎ (number ≡ tip → ⊥) → cond (is_used net number) (not (number == tip)) false ≡ is_used left number
-        by_number (inl same) = ap (λ b. cond (is_used net number) (not b) false) (is_same number tip same) ∙ neither (is_used net number) ∙ sym (ap (is_used left) same ∙ gone)
-        by_number (inr ne) =
-            ap (λ b. cond (is_used net number) (not b) false) (is_other number tip ne) ∙ itself (is_used net number)
-            ∙ sym (entry_there (state_at net number)) ∙ ap is_some (sym (entry_left number ne)) ∙ entry_there (state_at left number)
 
     -- what is left has the prefixes that are wanted
     pub still_left : IsWithoutUnused whole left
     still_left = record {
-      network = removes_state_network tip net left removes no_edges pruning.left.network;
-      stay = λ number used.
-          (let same = entry_left number (not_tip number used) in
-          let was : is_used net number ≡ true = sym (entry_there (state_at net number)) ∙ ap is_some (sym same) ∙ entry_there (state_at left number) ∙ used in same ∙ pruning.left.stay number was);
+      network = network_left;
+      stay = λ number used. entry_left number (not_tip number used) ∙ pruning.left.stay number (used_net number used);
       ends = λ number. ends_left number ∙ pruning.left.ends number;
-      edges = λ number used.
-          (let same = entry_left number (not_tip number used) in
-          let was : is_used net number ≡ true = sym (entry_there (state_at net number)) ∙ ap is_some (sym same) ∙ entry_there (state_at left number) ∙ used in
-          edges_cut number (not_tip number used) ∙ ap (without_number tip) (pruning.left.edges number was)
-          ∙ filtered_twice (is_used net) (λ n. not (n == tip)) (is_used left) used_left (edges_at whole number));
+      edges = edges_left;
       places = removes.places ∙ pruning.left.places;
     }
 
@@ -227,6 +209,7 @@ hop_pruning whole prefix hop tip before net left pruning removes no_edges no_end
   here = subst (λ n. IsAt left n prefix) same here;
   apart = still_apart whole (After prefix hop) tip net pruning left removes no_edges no_ends;
   needed = λ number p at_left. by_need number p at_left (pruning.needed number p (at_before whole (After prefix hop) tip net pruning left removes no_edges no_ends number p at_left));
+  edges = λ number used apart. edges_kept whole (After prefix hop) tip net pruning left removes no_edges no_ends number used (ap (tells number) from ∙ is_other before number (λ e. apart (sym e)));
 }
   where
     told : before_at net tip ≡ Some pruning.here.0

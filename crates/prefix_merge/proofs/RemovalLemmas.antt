@@ -24,13 +24,13 @@ use Rattle.prefix_merge.specs.Holders.{StandsAt}
 use Rattle.prefix_merge.specs.Insertion.{without_numbered}
 use Rattle.prefix_merge.specs.Merging.{HasEnd, HasOwnNumbers, IsMerged, IsUsedBy, ends_numbered, number_at}
 use Rattle.prefix_merge.specs.Pruning.{IsPruned, IsPruning}
-use Rattle.prefix_merge.specs.Removal.{Removes}
+use Rattle.prefix_merge.specs.Removal.{AreLeft, Removes}
+use Rattle.stream_readers.proofs.TargetLemmas.{edges_used}
 use Rattle.prefix_merge.proofs.AnyLemmas.{none_unused}
 use Rattle.prefix_merge.proofs.EndingLemmas.{ends_none}
 use Rattle.prefix_merge.proofs.GrowthLemmas.{any_end}
 use Rattle.prefix_merge.proofs.NumberedLemmas.{any_left, counted_gone, counted_other, ends_put, lines_left, none_numbered, other_end, other_ending, others_left, there_counted, with_number}
 use Rattle.prefix_merge.proofs.PrefixLemmas.{at_beginning}
-use Rattle.prefix_merge.proofs.StartLemmas.{edges_stay}
 
 -- what gives a permutation of each gives one of all
 each_permuted : {X Y : Type 0} (f g : X → List Y) → ((x : X) → IsPermutation (f x) (g x)) → (xs : List X) → IsPermutation (flat_map f xs) (flat_map g xs)
@@ -111,10 +111,11 @@ module _ (old middle : Net) (state place end : ℕ) (network : IsNetwork old) (m
   -- pruning begins at that state
   pub end_pruning : (prefix : Prefix) → IsAt old state prefix → IsPruning middle prefix state middle
   end_pruning prefix here = record {
-    left = record { network = removes_end_network state place old middle removes network; stay = λ number used. refl; ends = λ number. refl; edges = λ number used. sym (edges_stay middle (removes_end_network state place old middle removes network) number); places = refl };
+    left = record { network = removes_end_network state place old middle removes network; stay = λ number used. refl; ends = λ number. refl; edges = λ number used. inl (edges_used middle (removes_end_network state place old middle removes network) number, refl); places = refl };
     here = at_kept old middle on state prefix here;
     apart = λ number other p at_number at_other. merged.apart number other p (at_kept middle old off number p at_number) (at_kept middle old off other p at_other);
     needed = λ number p at_number. by_use p (merged.needed number p (at_kept middle old off number p at_number));
+    edges = λ number used apart. refl;
   }
     where
       by_use : (p : Prefix) → IsUsedBy old any_end p → (IsUsedBy middle any_end p) ⊎ (Contains (beginnings prefix) p)
@@ -241,7 +242,7 @@ module _ (old middle : Net) (state place end : ℕ) (network : IsNetwork old) (m
       stay = new_entry;
       states = states_are;
       endings = endings_are;
-      edges_left = λ number used. pruned.left.edges number used ∙ ap (filter (is_used new)) (middle_edges number);
+      edges_left = λ number used. subst (λ edges. AreLeft (is_used new) edges (edges_at new number)) (middle_edges number) (pruned.left.edges number used);
       other_ends = λ number none. pruned.left.ends number ∙ middle_others number none;
       ends_left = λ number at gone stands its. pruned.left.ends number ∙ middle_left only number at gone stands its;
       ends = ends_are;

@@ -15,7 +15,7 @@ use Rattle.automaton.proofs.SlotLemmas.{KeepsEntries, at_kept}
 use Rattle.prefix_merge.specs.Growth.{AreUsedBelow, IsTable}
 use Rattle.prefix_merge.specs.Merging.{HasEnd, HasOwnNumbers, IsMerged, IsUsedBy, ends_numbered}
 use Rattle.prefix_merge.specs.Pruning.{IsShortened}
-use Rattle.prefix_merge.specs.Removal.{Removes}
+use Rattle.prefix_merge.specs.Removal.{AreLeft, Removes}
 use Rattle.prefix_merge.proofs.GrowthLemmas.{any_end, used_still}
 
 -- beyond a number there is nothing
@@ -100,7 +100,8 @@ module _ (whole short : Net) (is : IsShortened whole short) where
       λ used. used_short number ∙ (removes.states number prefix here).1 used,
     );
     endings = λ endings had. endings_short (filter (λ (ending : Ending). not (ending.number == end)) endings) (removes.endings endings had);
-    edges_left = λ number used. ap edges_in (is.same number) ∙ removes.edges_left number (sym (used_short number) ∙ used) ∙ (λ i. filter (λ m. is_some (sym (is.same m) i)) (edges_at old number));
+    edges_left = λ number used.
+        subst (λ (left : (ℕ → Bool) × List ℕ). AreLeft left.0 (edges_at old number) left.1) (λ i. ((λ m. is_some (sym (is.same m) i)), edges_in (sym (is.same number) i))) (removes.edges_left number (sym (used_short number) ∙ used));
     other_ends = λ number none. ap ends_in (is.same number) ∙ removes.other_ends number none;
     ends_left = λ number place gone there its. ap ends_in (is.same number) ∙ removes.ends_left number place gone there its;
     ends = λ other. (

@@ -1,9 +1,11 @@
 -- A line that begins to grow, and one that has come to its end.
-use Rattle.std.proofs.Common.{◌≡◌, ◌⊎◌, ◌∙◌, ◌↔◌, sym, ap, refl, subst, inl, inr, ℕ, suc, ◌-◌, ◌<◌, ◌≤◌, Bool, true, false, cond, IsTrue, length, get_or, List, [], ◌∷◌, ◌++◌, arith}
-use Rattle.std.specs.Prelude.{Contains, Some, is_some}
+use Rattle.std.proofs.Common.{◌≡◌, ◌⊎◌, ◌∙◌, ◌↔◌, sym, ap, refl, subst, inl, inr, ℕ, ◌+◌, ◌-◌, ◌<◌, ◌≤◌, true, false, IsTrue, length, List, [], ◌∷◌, ◌++◌, arith}
+use Rattle.std.specs.Prelude.{All, Contains, Some, is_some, slice_get}
 use Rattle.std.specs.List.{filter, list_any}
 use Rattle.std.specs.Option.{option_and_then}
 use Rattle.std.proofs.lemmas.Bool.{cases_lt}
+use Rattle.std.proofs.lemmas.List.Elements.{All-get_or}
+use Rattle.std.proofs.lemmas.Option.{get_or_from_slice_get, slice_get_within}
 use Rattle.automaton.specs.declared.line.Hop.{Hop}
 use Rattle.automaton.specs.declared.network.End.{End}
 use Rattle.automaton.specs.declared.network.Entrance.TheVariants as entrance
@@ -12,12 +14,14 @@ use Rattle.automaton.specs.Networks.{IsAt, IsNetwork}
 use Rattle.automaton.specs.Prefixes.{Prefix, Root, After, beginnings, extended}
 use Rattle.automaton.specs.States.{Net, before_at, before_by, before_in, edges_at, edges_in, ends_at, ends_in, entrance_at, entrance_in, is_used, root_at, root_by, state_at}
 use Rattle.automaton.proofs.ChangeLemmas.{adds_end_network, adds_root_network, free_reads, reads_alike}
-use Rattle.automaton.proofs.ClearedLemmas.{before_used, edge_leads, entered_used}
+use Rattle.automaton.proofs.ClearedLemmas.{before_used}
 use Rattle.automaton.proofs.NumberLemmas.{are_same_or_not}
 use Rattle.automaton.proofs.SlotLemmas.{KeepsEntries, at_kept, at_one, at_used, end_edges, end_ends, end_entry, entry_there}
 use Rattle.prefix_merge.specs.Growth.{Grows}
 use Rattle.prefix_merge.specs.Insertion.{TakesLowest}
 use Rattle.prefix_merge.specs.Merging.{EndsInState, HasPrefix, IsLowestFree, IsMerged, IsUsedBy}
+use Rattle.stream_readers.proofs.TargetLemmas.{edges_used}
+use Rattle.prefix_merge.proofs.EdgeLemmas.{all_stay}
 use Rattle.prefix_merge.proofs.GrowthLemmas.{IsGrowing, any_end, back, forth, hop_growing, none_from, not_before, not_both, used_back, used_forth, used_still}
 use Rattle.prefix_merge.proofs.PrefixLemmas.{at_beginning, begins_itself}
 
@@ -25,14 +29,16 @@ use Rattle.prefix_merge.proofs.PrefixLemmas.{at_beginning, begins_itself}
 pub stay_keeps : (old net : Net) → ((number : ℕ) → IsTrue (is_used old number) → entrance_at net number ≡ entrance_at old number) → KeepsEntries old net
 stay_keeps old net stay number e is = stay number (sym (entry_there (state_at old number)) ∙ ap is_some is) ∙ is
 
--- numbers that all pass are kept
-all_pass : (p : ℕ → Bool) (numbers : List ℕ) → ((k : ℕ) → k < length numbers → p (get_or numbers k 0) ≡ true) → filter p numbers ≡ numbers
-all_pass p [] passes = refl
-all_pass p (n ∷ numbers) passes = λ i. cond (passes 0 (omega arith) i) (n ∷ all_pass p numbers (λ k lt. passes (suc k) (omega (arith, lt))) i) (filter p numbers)
-
 -- edges lead to states that are there
-pub edges_stay : (net : Net) → IsNetwork net → (number : ℕ) → filter (is_used net) (edges_at net number) ≡ edges_at net number
-edges_stay net network number = all_pass (is_used net) (edges_at net number) (λ k lt. entered_used net network (get_or (edges_at net number) k 0) number (edge_leads net network number k 0 lt))
+edges_stay : (net : Net) → IsNetwork net → (number : ℕ) → filter (is_used net) (edges_at net number) ≡ edges_at net number
+edges_stay net network number = all_stay (is_used net) (edges_at net number) (edges_used net network number)
+
+-- so none leads to another
+none_new : (net : Net) → IsNetwork net → (number place next : ℕ) → slice_get (edges_at net number) place ≡ Some next → is_used net next ≡ false → ⊥
+none_new net network number place next there =
+    let inside = slice_get_within (edges_at net number) place next there in
+    let used = All-get_or (λ edge. IsTrue (is_used net edge)) (edges_at net number) place next inside (edges_used net network number) in
+    not_both net next (subst (λ edge. is_used net edge ≡ true) (get_or_from_slice_get (edges_at net number) place next next there) used)
 
 -- the line begins where a state is there
 pub found_growing : (old : Net) (prefix : Prefix) (tip : ℕ) → IsNetwork old → IsMerged old → EndsInState old → IsAt old tip prefix → IsGrowing old old prefix tip old
@@ -44,6 +50,8 @@ found_growing old prefix tip network merged last here = record {
   stay = λ number used. refl;
   same_ends = λ number. refl;
   old_edges = edges_stay old network;
+  edge_last = λ number place next there new. absurd (none_new old network number place next there new);
+  tip_edges = edges_used old network tip;
   came = λ p has. inl has;
   numbers = record {
     lowest = λ number below free used lt. absurd (not_both old number used free);
@@ -132,6 +140,8 @@ module _ (old base : Net) (number stream : ℕ) (network : IsNetwork old) (merge
     stay = λ n used. entries n (λ e. not_both old n used (ap (is_used old) e ∙ lowest.free));
     same_ends = root_ends;
     old_edges = λ n. ap (filter (is_used old)) (root_edges n) ∙ edges_stay old network n;
+    edge_last = λ n place next there new. absurd (none_new old network n place next (ap (λ edges. slice_get edges place) (sym (root_edges n)) ∙ there) new);
+    tip_edges = subst (All (λ next. IsTrue (is_used old next))) (sym (root_edges number)) (edges_used old network number);
     came = root_came;
     numbers = record {
       lowest = root_lowest;
@@ -156,6 +166,7 @@ pub record HasGrown (old base : Net) (whole : Prefix) (end : End) (new : Net) : 
   -- each other state has the same ends
   pub others : (number : ℕ) → (number ≡ last → ⊥) → ends_at new number ≡ ends_at old number
   pub old_edges : (number : ℕ) → filter (is_used old) (edges_at new number) ≡ edges_at old number
+  pub edge_last : (number place next : ℕ) → slice_get (edges_at new number) place ≡ Some next → is_used old next ≡ false → place + 1 ≡ length (edges_at new number)
   pub longer : length old ≤ length new
   pub in_state : EndsInState new
 
@@ -237,6 +248,8 @@ module _ (old base : Net) (whole : Prefix) (last : ℕ) (end : End) (net new : N
     more = last_ends ∙ ap (λ ends. ends ++ end ∷ []) (growing.same_ends last);
     others = λ number ne. other_ends number ne ∙ growing.same_ends number;
     old_edges = λ number. ap (filter (is_used old)) (end_edges_same number) ∙ growing.old_edges number;
+    edge_last = λ number.
+        subst (λ edges. (place next : ℕ) → slice_get edges place ≡ Some next → is_used old next ≡ false → place + 1 ≡ length edges) (sym (end_edges_same number)) (growing.edge_last number);
     longer = (let places = adds.places in let was = growing.longer in omega arith);
     in_state = λ some.
         (let places = adds.places in

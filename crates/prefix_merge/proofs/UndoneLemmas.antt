@@ -1,35 +1,22 @@
 -- A state that comes and is taken away again leaves the network as it was.
-use Rattle.std.proofs.Common.{◌≡◌, ◌⊎◌, ◌∙◌, sym, ap, refl, inl, inr, ℕ, ◌+◌, ◌<◌, ◌≤◌, ◌==◌, max, Bool, true, false, not, cond, length, take, List, [], ◌∷◌, ◌++◌, append-nil, arith}
+use Rattle.std.proofs.Common.{◌≡◌, ◌⊎◌, ◌∙◌, sym, ap, subst, inl, inr, ℕ, ◌+◌, ◌<◌, ◌≤◌, ◌==◌, max, true, false, length, take, arith}
 use Rattle.std.specs.Prelude.{Option, Some, None, count_by}
 use Rattle.std.proofs.lemmas.List.{ext_get_or, get_or-take, length-take}
-use Rattle.std.proofs.lemmas.List.Elements.{filter-append}
 use Rattle.automaton.specs.declared.line.Hop.{Hop}
 use Rattle.automaton.specs.declared.network.State.{State}
-use Rattle.automaton.specs.Changes.{AddsHop, AddsRoot, RemovesState, with_edge, without_edge, without_number}
+use Rattle.automaton.specs.Changes.{AddsHop, AddsRoot, LosesEdge, RemovesState, with_edge}
 use Rattle.automaton.specs.Networks.{IsNetwork}
 use Rattle.automaton.specs.States.{Net, before_at, before_in, edges_at, edges_in, is_used, state_at, tells}
 use Rattle.automaton.proofs.ChangeLemmas.{free_reads, nothing_there}
-use Rattle.automaton.proofs.CountLemmas.{bit, count-cons}
-use Rattle.event_types.proofs.NumberLemmas.{is_other, is_same}
+use Rattle.automaton.proofs.CountLemmas.{bit}
+use Rattle.event_types.proofs.NumberLemmas.{is_other}
 use Rattle.automaton.proofs.NumberLemmas.{are_same_or_not}
-
--- a number that doesn't stand there isn't missed
-pub none_without : (number : ℕ) (numbers : List ℕ) → count_by (λ n. n == number) numbers ≡ 0 → without_number number numbers ≡ numbers
-none_without number [] none = refl
-none_without number (n ∷ numbers) none = go (none_without number numbers) (n == number) refl
-  where
-    go : (count_by (λ m. m == number) numbers ≡ 0 → without_number number numbers ≡ numbers) → (b : Bool) → (n == number) ≡ b → cond (not b) (n ∷ without_number number numbers) (without_number number numbers) ≡ n ∷ numbers
-    go rest true is = let counted = count-cons (λ m. m == number) n numbers in let one : bit (n == number) ≡ 1 = ap bit is in absurd (omega (arith, none, counted, one))
-    go rest false is = let counted = count-cons (λ m. m == number) n numbers in ap (λ ns. n ∷ ns) (rest (omega (arith, none, counted)))
+use Rattle.prefix_merge.proofs.EdgeLemmas.{last_undone}
 
 -- an edge that came is taken away
-edge_undone : (number : ℕ) (slot : Option State) → count_by (λ n. n == number) (edges_in slot) ≡ 0 → without_edge number (with_edge number slot) ≡ slot
-edge_undone number None none = refl
-edge_undone number (Some state) none =
-    let kept : without_number number (state.edges ++ number ∷ []) ≡ state.edges ++ [] =
-    filter-append (λ n. not (n == number)) state.edges (number ∷ [])
-    ∙ (λ i. none_without number state.edges none i ++ cond (not (is_same number number refl i)) (number ∷ []) []) in
-    λ i. Some (record { entrance = state.entrance; edges = (kept ∙ append-nil state.edges) i; ends = state.ends })
+edge_undone : (number : ℕ) (slot left : Option State) → count_by (λ edge. edge == number) (edges_in slot) ≡ 0 → LosesEdge number (with_edge number slot) left → left ≡ slot
+edge_undone number None left none loses = loses.rest
+edge_undone number (Some state) left none loses = loses.rest ∙ (λ i. Some (record { entrance = state.entrance; edges = last_undone state.edges loses.place number none loses.there i; ends = state.ends }))
 
 module _ (number places : ℕ) (old new left undone : Net) (free : is_used old number ≡ false) (next : number ≤ length old) (counted : places ≡ length old) (longer : length new ≡ max (length old) (number + 1))
     (removes : RemovesState number new left) (is : undone ≡ take places left) where
@@ -62,7 +49,7 @@ hop_undone number places before hop old new left undone network used free next c
     from : before_at new number ≡ Some before
     from = ap before_in adds.here
 
-    none : count_by (λ n. n == number) (edges_at old before) ≡ 0
+    none : count_by (λ edge. edge == number) (edges_at old before) ≡ 0
     none = network.edges before number ∙ ap (λ o. bit (tells before o)) (free_reads old new number free before_in)
 
     others : (other : ℕ) → (other ≡ number → ⊥) → state_at left other ≡ state_at old other
@@ -70,5 +57,5 @@ hop_undone number places before hop old new left undone network used free next c
       where
         by_number : (other ≡ before) ⊎ (other ≡ before → ⊥) → state_at left other ≡ state_at old other
         by_number (inl same) =
-            ap (state_at left) same ∙ removes.edge before from ∙ ap (without_edge number) adds.edge ∙ edge_undone number (state_at old before) none ∙ ap (state_at old) (sym same)
+            ap (state_at left) same ∙ edge_undone number (state_at old before) (state_at left before) none (subst (λ slot. LosesEdge number slot (state_at left before)) adds.edge (removes.edge before from)) ∙ ap (state_at old) (sym same)
         by_number (inr nb) = removes.others other ne (ap (tells other) from ∙ is_other before other (λ e. nb (sym e))) ∙ adds.others other ne nb

@@ -14,8 +14,9 @@ use crate::growth::{free_number, grow, hops_from, numbered_end, plant, reach};
 use crate::indexed::Indexed;
 use crate::left::Left;
 use crate::pruning::{Roots, prune, shorten};
-use automaton::{End, Line, Lines, Network};
+use automaton::{End, Line, Network};
 use event_types::{List, Memory, Numbers};
+use long_lists::LongList;
 use std::alloc::Global;
 use std::collections::HashMap;
 use std::marker::Model;
@@ -66,7 +67,7 @@ impl Merged {
 
     /// The merged network of lines. The number of a line's end is the line's place, counted from 0, and it has
     /// no birth.
-    pub fn of(alloc: Global, lines: &Lines) -> Result<Merged, Memory>
+    pub fn of(alloc: Global, lines: &LongList<Line>) -> Result<Merged, Memory>
         ensures endings { IfOk result (λ merged. HasEndings merged (numbered 0 lines.now)) }
         ensures ends { IfOk result (λ merged. (end : ℕ) → HasEnd merged end ↔ (end < length lines.now)) }
         ensures lines { IfOk result (λ merged. HasLines merged lines.now) }
