@@ -2,83 +2,107 @@
 use Rattle.std.proofs.Common.{◌≡◌, ◌∙◌, sym, ap, refl, subst, inl, inr, ℕ, Bool, true, false, zero, suc, ◌+◌, ◌-◌, ◌<◌, ◌≤◌, ◌⊎◌, length, get_or, take, drop, List, [], ◌∷◌, ◌++◌, arith}
 use Rattle.std.specs.Prelude.{Contains, Option}
 use Rattle.std.specs.List.{All}
+use Rattle.std.specs.Map.{keys_of}
 use Rattle.std.specs.Ordering.{nat_cmp, match_ordering, MatchOrdering}
 use Rattle.std.specs.declared.cmp.Ordering.{Ordering}
 use Rattle.std.specs.declared.cmp.Ordering.TheVariants.{Less, Equal, Greater}
-use Rattle.std.specs.BTreeSet.{insert_key}
+use Rattle.std.specs.BTreeMap.{insert_entry}
 use Rattle.std.specs.BTreeMap.Range.{IsLtBy}
 use Rattle.std.specs.Cmp.{ranks}
 use Rattle.std.proofs.Math.Seq.{drop-append_seam}
+use Rattle.std.proofs.lemmas.Bool.{cases_lt}
+use Rattle.std.proofs.lemmas.Grind.{get_or_default_zero}
 use Rattle.std.proofs.lemmas.List.{length-drop, take_more}
-use Rattle.std.proofs.lemmas.List.Elements.{All-contains, All-contains_itself, All-head, All-push, All-tail, All-weaker, Contains-append_cases, Contains-append_left, Contains-append_right, Contains-push, Contains-push_cases}
+use Rattle.std.proofs.lemmas.List.Elements.{All-contains, All-contains_itself, All-cons, All-head, All-nil, All-push, All-tail, All-weaker, Contains-append_cases, Contains-append_left, Contains-append_right, Contains-push, Contains-push_cases}
 use Rattle.event_types.specs.Order.{sorted}
 use Rattle.event_types.specs.Tuple.{TupleView}
 use Rattle.binding_index.specs.declared.store.Store.{Store}
 use Rattle.automaton.specs.States.{Net}
 use Rattle.automaton.specs.declared.layout.Layout.{Layout}
-use Rattle.epoch_draft.specs.Agenda.{AreFrom, ArePlaces, IsPlannedIn, IsUnread}
-use Rattle.epoch_draft.specs.declared.stream_places.StreamPlaces.{StreamPlaces}
+use Rattle.epoch_draft.specs.Agenda.{AreBehind, AreTurns, IsPlannedIn, IsUnread}
 use Rattle.epoch_draft.specs.Deriving.{CanDraw, news_of}
 use Rattle.epoch_draft.specs.Drafts.{DraftFits}
 use Rattle.epoch_draft.specs.Marks.{MarksMore}
 use Rattle.epoch_draft.specs.Held.{held}
 use Rattle.epoch_draft.specs.EpochWork.{derived_tests, pairs_work}
+use Rattle.epoch_draft.specs.Turns.{HaveTurns, turn_of}
 use Rattle.epoch_draft.specs.declared.draft.Draft.{Draft}
 use Rattle.epoch_draft.specs.declared.draft.Pair.{Pair}
 use Rattle.epoch_draft.specs.declared.marks.Marks.{Marks}
+use Rattle.epoch_draft.specs.declared.stream_turns.StreamTurns.{StreamTurns}
+use Rattle.epoch_draft.specs.declared.turns.Turns.{Turns}
 use Rattle.epoch_draft.proofs.DeriveLemmas.{AreReadInOrder, MadeUpTo, derived_rest, derived_step, derived_takes, order_stays}
 use Rattle.epoch_draft.proofs.UnreadLemmas.{skipped_meets}
-use Rattle.epoch_draft.proofs.GoingLemmas.{all_right}
-use Rattle.epoch_draft.proofs.MarkLemmas.{all_below}
 use Rattle.epoch_draft.proofs.Lists.{taken_all}
 use Rattle.epoch_draft.specs.Tests.{tuple_work}
 use Rattle.epoch_draft.specs.Takes.{take_work}
 
--- an item of a list is the first or one of the others
-pub first_or_other : (x : ℕ) (xs : List ℕ) (n : ℕ) → Contains (x ∷ xs) n → (n ≡ x) ⊎ Contains xs n
-first_or_other x xs n c = go (Contains-append_cases (x ∷ []) xs n c)
+module _ {X : Type 0} where
+  -- an item of a list is the first or one of the others
+  pub first_or_other : (x : X) (xs : List X) (y : X) → Contains (x ∷ xs) y → (y ≡ x) ⊎ Contains xs y
+  first_or_other x xs y c = go (Contains-append_cases (x ∷ []) xs y c)
+    where
+      one : Contains [] y ⊎ (x ≡ y) → (y ≡ x) ⊎ Contains xs y
+      one (inl c) = absurd (omega (arith, c.1))
+      one (inr same) = inl (sym same)
+
+      go : Contains (x ∷ []) y ⊎ Contains xs y → (y ≡ x) ⊎ Contains xs y
+      go (inl c) = one (Contains-push_cases [] x y c)
+      go (inr c) = inr c
+
+  contains_first : (x : X) (xs : List X) → Contains (x ∷ xs) x
+  contains_first x xs = Contains-append_left (x ∷ []) xs x (Contains-push [] x)
+
+  contains_other : (x : X) (xs : List X) (y : X) → Contains xs y → Contains (x ∷ xs) y
+  contains_other x xs y c = Contains-append_right (x ∷ []) xs y c
+
+  -- a list that has an item isn't empty
+  pub filled_list : (xs : List X) (y : X) → Contains xs y → 0 < length xs
+  filled_list xs y c = omega (arith, c.1)
+
+-- a stream that is put in its turn is there
+pub contains_inserted : (agenda : List (ℕ × ℕ)) (turn stream : ℕ) → Contains (insert_entry nat_cmp agenda turn stream) (turn, stream)
+contains_inserted [] turn stream = contains_first (turn, stream) []
+contains_inserted (e ∷ agenda) turn stream = go (nat_cmp turn e.0) (ranks turn e.0) (contains_inserted agenda turn stream)
   where
-    one : Contains [] n ⊎ (x ≡ n) → (n ≡ x) ⊎ Contains xs n
-    one (inl c) = absurd (omega arith)
-    one (inr same) = inl (sym same)
+    go : (r : Ordering) → MatchOrdering r (turn < e.0) (turn ≡ e.0) (e.0 < turn) → Contains (insert_entry nat_cmp agenda turn stream) (turn, stream)
+        → Contains (match_ordering r ((turn, stream) ∷ e ∷ agenda) ((e.0, stream) ∷ agenda) (e ∷ insert_entry nat_cmp agenda turn stream)) (turn, stream)
+    go Less h rest = contains_first (turn, stream) (e ∷ agenda)
+    go Equal h rest = subst (λ (t : ℕ). Contains ((e.0, stream) ∷ agenda) (t, stream)) (sym h) (contains_first (e.0, stream) agenda)
+    go Greater h rest = contains_other e (insert_entry nat_cmp agenda turn stream) (turn, stream) rest
 
-    go : Contains (x ∷ []) n ⊎ Contains xs n → (n ≡ x) ⊎ Contains xs n
-    go (inl c) = one (Contains-push_cases [] x n c)
-    go (inr c) = inr c
-
-contains_first : (x : ℕ) (xs : List ℕ) → Contains (x ∷ xs) x
-contains_first x xs = Contains-append_left (x ∷ []) xs x (Contains-push [] x)
-
-contains_other : (x : ℕ) (xs : List ℕ) (n : ℕ) → Contains xs n → Contains (x ∷ xs) n
-contains_other x xs n c = Contains-append_right (x ∷ []) xs n c
-
--- a list that has a number isn't empty
-filled_list : (keys : List ℕ) (n : ℕ) → Contains keys n → 0 < length keys
-filled_list keys n c = omega (arith, c.1)
-
--- a number that is put in its place is there
-pub contains_inserted : (keys : List ℕ) (k : ℕ) → Contains (insert_key nat_cmp keys k) k
-contains_inserted [] k = contains_first k []
-contains_inserted (x ∷ keys) k = go (nat_cmp k x) (ranks k x) (contains_inserted keys k)
+-- and the others stay, where no other has this turn
+pub inserted_keeps : (agenda : List (ℕ × ℕ)) (turn stream : ℕ) → All (λ (e : ℕ × ℕ). e.0 ≡ turn → e.1 ≡ stream) agenda → (entry : ℕ × ℕ) → Contains agenda entry → Contains (insert_entry nat_cmp agenda turn stream) entry
+inserted_keeps [] turn stream apart entry c = contains_other (turn, stream) [] entry c
+inserted_keeps (e ∷ agenda) turn stream apart entry c =
+    go (nat_cmp turn e.0) (ranks turn e.0) (inserted_keeps agenda turn stream (All-tail (λ (e : ℕ × ℕ). e.0 ≡ turn → e.1 ≡ stream) e agenda apart) entry)
   where
-    go : (r : Ordering) → MatchOrdering r (k < x) (k ≡ x) (x < k) → Contains (insert_key nat_cmp keys k) k → Contains (match_ordering r (k ∷ x ∷ keys) (x ∷ keys) (x ∷ insert_key nat_cmp keys k)) k
-    go Less h rest = contains_first k (x ∷ keys)
-    go Equal h rest = subst (Contains (x ∷ keys)) (sym h) (contains_first x keys)
-    go Greater h rest = contains_other x (insert_key nat_cmp keys k) k rest
+    this : e.0 ≡ turn → e.1 ≡ stream
+    this = All-head (λ (e : ℕ × ℕ). e.0 ≡ turn → e.1 ≡ stream) e agenda apart
 
--- and the others stay
-pub inserted_keeps : (keys : List ℕ) (k n : ℕ) → Contains keys n → Contains (insert_key nat_cmp keys k) n
-inserted_keeps [] k n c = contains_other k [] n c
-inserted_keeps (x ∷ keys) k n c = go (nat_cmp k x) (inserted_keeps keys k n)
+    later : (entry ≡ e) ⊎ Contains agenda entry → (Contains agenda entry → Contains (insert_entry nat_cmp agenda turn stream) entry) → Contains (e ∷ insert_entry nat_cmp agenda turn stream) entry
+    later (inl same) rest = subst (Contains (e ∷ insert_entry nat_cmp agenda turn stream)) (sym same) (contains_first e (insert_entry nat_cmp agenda turn stream))
+    later (inr c) rest = contains_other e (insert_entry nat_cmp agenda turn stream) entry (rest c)
+
+    go : (r : Ordering) → MatchOrdering r (turn < e.0) (turn ≡ e.0) (e.0 < turn) → (Contains agenda entry → Contains (insert_entry nat_cmp agenda turn stream) entry)
+        → Contains (match_ordering r ((turn, stream) ∷ e ∷ agenda) ((e.0, stream) ∷ agenda) (e ∷ insert_entry nat_cmp agenda turn stream)) entry
+    go Less h rest = contains_other (turn, stream) (e ∷ agenda) entry c
+    go Equal h rest = subst (λ (s : ℕ). Contains ((e.0, s) ∷ agenda) entry) (this (sym h)) c
+    go Greater h rest = later (first_or_other e agenda entry c) rest
+
+-- what holds of all entries and of one that is put among them holds of all
+pub all_inserted : (P : ℕ × ℕ → Type 0) (agenda : List (ℕ × ℕ)) (turn stream : ℕ) → All P agenda → P (turn, stream) → All P (insert_entry nat_cmp agenda turn stream)
+all_inserted P [] turn stream all this = All-cons P (turn, stream) [] this all
+all_inserted P (e ∷ agenda) turn stream all this = go (nat_cmp turn e.0) (ranks turn e.0) (all_inserted P agenda turn stream rest this)
   where
-    later : (n ≡ x) ⊎ Contains keys n → (Contains keys n → Contains (insert_key nat_cmp keys k) n) → Contains (x ∷ insert_key nat_cmp keys k) n
-    later (inl same) rest = subst (Contains (x ∷ insert_key nat_cmp keys k)) (sym same) (contains_first x (insert_key nat_cmp keys k))
-    later (inr c) rest = contains_other x (insert_key nat_cmp keys k) n (rest c)
+    rest : All P agenda
+    rest = All-tail P e agenda all
 
-    go : (r : Ordering) → (Contains keys n → Contains (insert_key nat_cmp keys k) n) → Contains (match_ordering r (k ∷ x ∷ keys) (x ∷ keys) (x ∷ insert_key nat_cmp keys k)) n
-    go Less rest = contains_other k (x ∷ keys) n c
-    go Equal rest = c
-    go Greater rest = later (first_or_other x keys n c) rest
+    go : (r : Ordering) → MatchOrdering r (turn < e.0) (turn ≡ e.0) (e.0 < turn) → All P (insert_entry nat_cmp agenda turn stream)
+        → All P (match_ordering r ((turn, stream) ∷ e ∷ agenda) ((e.0, stream) ∷ agenda) (e ∷ insert_entry nat_cmp agenda turn stream))
+    go Less h more = All-cons P (turn, stream) (e ∷ agenda) this all
+    go Equal h more = All-cons P (e.0, stream) agenda (subst (λ (t : ℕ). P (t, stream)) h this) rest
+    go Greater h more = All-cons P e (insert_entry nat_cmp agenda turn stream) (All-head P e agenda all) more
 
 -- what is less than another is below it
 pub less_is : (m n : ℕ) → IsLtBy nat_cmp m n → m < n
@@ -89,50 +113,108 @@ less_is m n less = go (nat_cmp m n) (ranks m n) less
     go Equal h e = absurd (cc)
     go Greater h e = absurd (cc)
 
--- before the first place that is planned nothing is
-pub planned_later : (keys rest : List ℕ) (p k : ℕ) → keys ≡ p ∷ rest → All (IsLtBy nat_cmp p) rest → Contains keys k → p ≤ k
-planned_later keys rest p k is later c = go (first_or_other p rest k (subst (λ (ks : List ℕ). Contains ks k) is c))
-  where
-    go : (k ≡ p) ⊎ Contains rest k → p ≤ k
-    go (inl same) = omega (arith, same)
-    go (inr c) = let less = less_is p k (All-contains (IsLtBy nat_cmp p) rest k later c) in omega (arith, less)
+-- the other entries have later turns than the first
+pub popped_later : (turn : ℕ) (rest : List (ℕ × ℕ)) → All (IsLtBy nat_cmp turn) (keys_of rest) → All (λ (e : ℕ × ℕ). turn < e.0) rest
+popped_later turn [] later = All-nil (λ (e : ℕ × ℕ). turn < e.0)
+popped_later turn (e ∷ rest) later =
+    All-cons (λ (e : ℕ × ℕ). turn < e.0) e rest (less_is turn e.0 (All-head (IsLtBy nat_cmp turn) e.0 (keys_of rest) later)) (popped_later turn rest (All-tail (IsLtBy nat_cmp turn) e.0 (keys_of rest) later))
 
--- each due stream of the order from a place on has its place on the agenda, or no state reads it
-abbrev pub AllPlanned : Net → List ℕ → List ℕ → ℕ → List ℕ → Type 0
-AllPlanned net order due next keys = (k : ℕ) → next ≤ k → k < length order → Contains due (get_or order k 0) → Contains keys k ⊎ IsUnread net (get_or order k 0)
+module _ (order : List ℕ) (turns : Turns) (have : HaveTurns order turns) where
+  -- the turn of the stream at a place
+  abbrev turn_at : ℕ → ℕ
+  turn_at k = turn_of turns (get_or order k 0)
 
--- the streams that are looked at are planned
-pub planned_first : (net : Net) (order : List ℕ) (streams : ℕ) (places : StreamPlaces) (due keys : List ℕ) (next : ℕ) → ArePlaces net order streams places → ((k : ℕ) → k < length order → get_or order k 0 < streams) → All (IsPlannedIn places next (length order) keys) due → AllPlanned net order due next keys
-planned_first net order streams places due keys next are below planned k from lt c = go (get_or places.read s false) refl
-  where
-    s : ℕ
-    s = get_or order k 0
+  -- turns rise from place to place
+  pub rises : (i k : ℕ) → i < k → k < length order → turn_at i < turn_at k
+  rises i k lt inside = have.rise i k 0 lt inside
 
-    at : get_or places.places s 0 ≡ k
-    at = are.arranged k lt
+  -- streams of the order that have the same turn are the same
+  pub same_turn : (s t : ℕ) → Contains order s → Contains order t → turn_of turns s ≡ turn_of turns t → s ≡ t
+  same_turn s t (i, here, is) (k, there, other) same = go (cases_lt i k) (cases_lt k i)
+    where
+      at : get_or order i 0 ≡ s
+      at = sym (get_or_default_zero order i s here) ∙ is
 
-    go : (b : Bool) → get_or places.read s false ≡ b → Contains keys k ⊎ IsUnread net s
-    go true read = inl
-        (subst (Contains keys) at (All-contains (IsPlannedIn places next (length order) keys) due s planned c read (subst (λ (n : ℕ). next ≤ n) (sym at) from) (subst (λ (n : ℕ). n < length order) (sym at) lt)))
-    go false unread = inr (are.unread s (below k lt) unread)
+      at_other : get_or order k 0 ≡ t
+      at_other = sym (get_or_default_zero order k t there) ∙ other
 
--- and so are those that were planned before, but for the first
-pub planned_next : (net : Net) (order : List ℕ) (streams : ℕ) (places : StreamPlaces) (keys rest now due fresh more : List ℕ) (next p : ℕ) → ArePlaces net order streams places → ((k : ℕ) → k < length order → get_or order k 0 < streams) → AllPlanned net order due next keys → next ≤ p → keys ≡ p ∷ rest → All (Contains now) rest
-    → more ≡ due ++ fresh → All (IsPlannedIn places (p + 1) (length order) now) fresh → AllPlanned net order more (p + 1) now
-planned_next net order streams places keys rest now due fresh more next p are below was from is kept grown planned k after lt c =
-    go (Contains-append_cases due fresh (get_or order k 0) (subst (λ (ns : List ℕ). Contains ns (get_or order k 0)) grown c))
-  where
-    old : (k ≡ p) ⊎ Contains rest k → Contains now k
-    old (inl same) = absurd (omega (arith, same, after))
-    old (inr c) = All-contains (Contains now) rest k kept c
+      tell : turn_at i ≡ turn_at k
+      tell = ap (turn_of turns) at ∙ same ∙ sym (ap (turn_of turns) at_other)
 
-    stays : Contains keys k ⊎ IsUnread net (get_or order k 0) → Contains now k ⊎ IsUnread net (get_or order k 0)
-    stays (inl c) = inl (old (first_or_other p rest k (subst (λ (ks : List ℕ). Contains ks k) is c)))
-    stays (inr unread) = inr unread
+      go : (i < k) ⊎ (k ≤ i) → (k < i) ⊎ (i ≤ k) → s ≡ t
+      go (inl lt) any = absurd (let up = rises i k lt there in omega (arith, up, tell))
+      go (inr ge) (inl lt) = absurd (let up = rises k i lt here in omega (arith, up, tell))
+      go (inr ge) (inr le) = sym at ∙ ap (λ (m : ℕ). get_or order m 0) (let e : i ≡ k = omega (arith, ge, le) in e) ∙ at_other
 
-    go : Contains due (get_or order k 0) ⊎ Contains fresh (get_or order k 0) → Contains now k ⊎ IsUnread net (get_or order k 0)
-    go (inl c) = stays (was k (omega (arith, from, after)) lt c)
-    go (inr c) = planned_first net order streams places fresh now (p + 1) are below planned k after lt c
+  -- so no other entry has the turn of such a stream
+  pub turns_apart : (last stream : ℕ) (agenda : List (ℕ × ℕ)) → AreBehind order turns last agenda → Contains order stream → All (λ (e : ℕ × ℕ). e.0 ≡ turn_of turns stream → e.1 ≡ stream) agenda
+  turns_apart last stream agenda behind here =
+      All-weaker (λ (e : ℕ × ℕ). Contains order e.1 × (turn_of turns e.1 ≡ e.0) × (last < e.0)) (λ (e : ℕ × ℕ). e.0 ≡ turn_of turns stream → e.1 ≡ stream) (λ e h same. same_turn e.1 stream h.0 here (h.1 ∙ same)) agenda behind
+
+  -- the entries behind the first are behind its turn
+  pub rest_behind : (last turn stream : ℕ) (agenda rest : List (ℕ × ℕ)) → agenda ≡ (turn, stream) ∷ rest → All (IsLtBy nat_cmp turn) (keys_of rest) → AreBehind order turns last agenda → AreBehind order turns turn rest
+  rest_behind last turn stream agenda rest is later behind =
+      All-weaker (Contains rest) IsBehind each rest (All-contains_itself rest)
+    where
+      WasBehind : ℕ × ℕ → Type 0
+      WasBehind e = Contains order e.1 × (turn_of turns e.1 ≡ e.0) × (last < e.0)
+
+      IsBehind : ℕ × ℕ → Type 0
+      IsBehind e = Contains order e.1 × (turn_of turns e.1 ≡ e.0) × (turn < e.0)
+
+      each : (e : ℕ × ℕ) → Contains rest e → IsBehind e
+      each e c =
+          let was = All-contains WasBehind rest e (All-tail WasBehind (turn, stream) rest (subst (All WasBehind) is behind)) c in
+          (was.0, was.1, All-contains (λ (e : ℕ × ℕ). turn < e.0) rest e (popped_later turn rest later) c)
+
+  -- the first entry has a stream of the order, its turn, and one behind the last that was
+  pub first_behind : (last turn stream : ℕ) (agenda rest : List (ℕ × ℕ)) → agenda ≡ (turn, stream) ∷ rest → AreBehind order turns last agenda → Contains order stream × (turn_of turns stream ≡ turn) × (last < turn)
+  first_behind last turn stream agenda rest is behind =
+      All-head (λ (e : ℕ × ℕ). Contains order e.1 × (turn_of turns e.1 ≡ e.0) × (last < e.0)) (turn, stream) rest (subst (AreBehind order turns last) is behind)
+
+-- a stream with its turn
+abbrev pub entry_of : Turns → ℕ → ℕ × ℕ
+entry_of turns stream = (turn_of turns stream, stream)
+
+-- each due stream of the order from a place on is on the agenda, or no state reads it
+abbrev pub AllPlanned : Net → List ℕ → Turns → List ℕ → ℕ → List (ℕ × ℕ) → Type 0
+AllPlanned net order turns due next agenda = (k : ℕ) → next ≤ k → k < length order → Contains due (get_or order k 0) → Contains agenda (entry_of turns (get_or order k 0)) ⊎ IsUnread net (get_or order k 0)
+
+module _ (net : Net) (order : List ℕ) (streams : ℕ) (turns : StreamTurns) (are : AreTurns net order streams turns) (below : (k : ℕ) → k < length order → get_or order k 0 < streams) where
+  -- the streams that are looked at are planned, as far as their turns are behind the last that was
+  pub planned_first : (due : List ℕ) (agenda : List (ℕ × ℕ)) (last next : ℕ) → ((k : ℕ) → next ≤ k → k < length order → last < turn_of turns.turns (get_or order k 0)) → All (IsPlannedIn turns last agenda) due → AllPlanned net order turns.turns due next agenda
+  planned_first due agenda last next behind planned k from lt c = go (get_or turns.read s false) refl
+    where
+      s : ℕ
+      s = get_or order k 0
+
+      go : (b : Bool) → get_or turns.read s false ≡ b → Contains agenda (entry_of turns.turns s) ⊎ IsUnread net s
+      go true read = inl (All-contains (IsPlannedIn turns last agenda) due s planned c read (behind k from lt))
+      go false unread = inr (are.unread s (below k lt) unread)
+
+  -- so are those that were planned before, but for the first, which is the stream at a place
+  pub planned_next : (agenda rest now : List (ℕ × ℕ)) (due fresh more : List ℕ) (next p turn : ℕ) → p < length order → turn_of turns.turns (get_or order p 0) ≡ turn → AllPlanned net order turns.turns due next agenda → next ≤ p → agenda ≡ (turn, get_or order p 0) ∷ rest
+      → All (Contains now) rest → more ≡ due ++ fresh → All (IsPlannedIn turns turn now) fresh → AllPlanned net order turns.turns more (p + 1) now
+  planned_next agenda rest now due fresh more next p turn here is was from popped kept grown planned k after lt c =
+      go (Contains-append_cases due fresh (get_or order k 0) (subst (λ (ns : List ℕ). Contains ns (get_or order k 0)) grown c))
+    where
+      s : ℕ
+      s = get_or order k 0
+
+      later : (k : ℕ) → p + 1 ≤ k → k < length order → turn < turn_of turns.turns (get_or order k 0)
+      later k after lt = let up = rises order turns.turns are.in_turn p k (omega (arith, after)) lt in omega (arith, up, is)
+
+      old : (entry_of turns.turns s ≡ (turn, get_or order p 0)) ⊎ Contains rest (entry_of turns.turns s) → Contains now (entry_of turns.turns s)
+      old (inl same) = absurd (let one = ap (λ (e : ℕ × ℕ). e.0) same in let up = later k after lt in omega (arith, one, up))
+      old (inr c) = All-contains (Contains now) rest (entry_of turns.turns s) kept c
+
+      stays : Contains agenda (entry_of turns.turns s) ⊎ IsUnread net s → Contains now (entry_of turns.turns s) ⊎ IsUnread net s
+      stays (inl c) = inl (old (first_or_other (turn, get_or order p 0) rest (entry_of turns.turns s) (subst (λ (es : List (ℕ × ℕ)). Contains es (entry_of turns.turns s)) popped c)))
+      stays (inr unread) = inr unread
+
+      go : Contains due s ⊎ Contains fresh s → Contains now (entry_of turns.turns s) ⊎ IsUnread net s
+      go (inl c) = stays (was k (omega (arith, from, after)) lt c)
+      go (inr c) = planned_first fresh now turn (p + 1) later planned k after lt c
 
 -- what is behind the marked numbers are the newly marked ones
 pub fresh_is : (old new : Marks) → (more : MarksMore old new) → drop (length old.numbers) new.numbers ≡ more.added
@@ -199,60 +281,49 @@ module _ (net : Net) (layout : Layout) (stores : List (Option Store)) (opened : 
       go (inl none) = inl none
       go (inr c) = inr (undue c)
 
-  -- the streams before the first place that is planned are made
-  pub popped_until : (next p : ℕ) (keys rest : List ℕ) → AllPlanned net layout.order draft.due.numbers next keys → keys ≡ p ∷ rest → All (IsLtBy nat_cmp p) rest → next ≤ p → p < length layout.order → IsMade next → IsMade p
-  popped_until next p keys rest planned is later from lt was =
-      idle_many (p - next) next p (omega (arith, from)) (omega (arith, lt)) (λ k after less. unplanned_idle k was.until.fits.due_all (λ c. early k less (planned k after (omega (arith, less, lt)) c))) was
-    where
-      early : (k : ℕ) → k < p → Contains keys k ⊎ IsUnread net (get_or layout.order k 0) → IsUnread net (get_or layout.order k 0)
-      early k less (inl c) = absurd (let after = planned_later keys rest p k is later c in omega (arith, after, less))
-      early k less (inr unread) = unread
+  module _ (turns : Turns) (have : HaveTurns layout.order turns) where
+    -- the streams before the first that is planned are made
+    pub popped_until : (next p turn : ℕ) (agenda rest : List (ℕ × ℕ)) → AllPlanned net layout.order turns draft.due.numbers next agenda → agenda ≡ (turn, get_or layout.order p 0) ∷ rest → All (IsLtBy nat_cmp turn) (keys_of rest) → turn_of turns (get_or layout.order p 0) ≡ turn → next ≤ p
+        → p < length layout.order → IsMade next → IsMade p
+    popped_until next p turn agenda rest planned is later this from lt was =
+        idle_many (p - next) next p (omega (arith, from)) (omega (arith, lt)) (λ k after less. unplanned_idle k was.until.fits.due_all (λ c. early k less (planned k after (omega (arith, less, lt)) c))) was
+      where
+        none : (k : ℕ) → k < p → (entry_of turns (get_or layout.order k 0) ≡ (turn, get_or layout.order p 0)) ⊎ Contains rest (entry_of turns (get_or layout.order k 0)) → ⊥
+        none k less (inl same) = let one = ap (λ (e : ℕ × ℕ). e.0) same in let up = rises layout.order turns have k p less lt in omega (arith, one, up, this)
+        none k less (inr c) =
+            let after = All-contains (λ (e : ℕ × ℕ). turn < e.0) rest (entry_of turns (get_or layout.order k 0)) (popped_later turn rest later) c in
+            let up = rises layout.order turns have k p less lt in omega (arith, after, up, this)
 
-  -- once nothing is planned all streams are made
-  pub ended_until : (next : ℕ) (keys : List ℕ) → AllPlanned net layout.order draft.due.numbers next keys → (0 < length keys → ⊥) → next ≤ length layout.order → IsMade next → IsMade (length layout.order)
-  ended_until next keys planned none from was =
-      idle_many (length layout.order - next) next (length layout.order) (omega (arith, from)) (omega arith)
-      (λ k after less. unplanned_idle k was.until.fits.due_all (λ c. late k (planned k after less c))) was
-    where
-      late : (k : ℕ) → Contains keys k ⊎ IsUnread net (get_or layout.order k 0) → IsUnread net (get_or layout.order k 0)
-      late k (inl c) = absurd (none (filled_list keys k c))
-      late k (inr unread) = unread
+        early : (k : ℕ) → k < p → Contains agenda (entry_of turns (get_or layout.order k 0)) ⊎ IsUnread net (get_or layout.order k 0) → IsUnread net (get_or layout.order k 0)
+        early k less (inl c) =
+            absurd (none k less (first_or_other (turn, get_or layout.order p 0) rest (entry_of turns (get_or layout.order k 0)) (subst (λ (es : List (ℕ × ℕ)). Contains es (entry_of turns (get_or layout.order k 0))) is c)))
+        early k less (inr unread) = unread
 
--- one stream more is looked at: its place is planned, or not from the one place on and below the other, or no state reads it
-pub planned_more : (places : StreamPlaces) (due keys : List ℕ) (i start end : ℕ) → i < length due → IsPlannedIn places start end keys (get_or due i 0) → All (IsPlannedIn places start end keys) (take i due) → All (IsPlannedIn places start end keys) (take (i + 1) due)
-planned_more places due keys i start end lt this was =
-    subst (All (IsPlannedIn places start end keys)) (sym (take_more due i 0 lt)) (All-push (IsPlannedIn places start end keys) (take i due) (get_or due i 0) was this)
+    -- once nothing is planned all streams are made
+    pub ended_until : (next : ℕ) (agenda : List (ℕ × ℕ)) → AllPlanned net layout.order turns draft.due.numbers next agenda → (0 < length agenda → ⊥) → next ≤ length layout.order → IsMade next → IsMade (length layout.order)
+    ended_until next agenda planned none from was =
+        idle_many (length layout.order - next) next (length layout.order) (omega (arith, from)) (omega arith)
+        (λ k after less. unplanned_idle k was.until.fits.due_all (λ c. late k (planned k after less c))) was
+      where
+        late : (k : ℕ) → Contains agenda (entry_of turns (get_or layout.order k 0)) ⊎ IsUnread net (get_or layout.order k 0) → IsUnread net (get_or layout.order k 0)
+        late k (inl c) = absurd (none (filled_list agenda (entry_of turns (get_or layout.order k 0)) c))
+        late k (inr unread) = unread
 
--- what was planned still is where no place is lost
-pub planned_kept : (places : StreamPlaces) (due old new : List ℕ) (start end : ℕ) → ((n : ℕ) → Contains old n → Contains new n) → All (IsPlannedIn places start end old) due → All (IsPlannedIn places start end new) due
-planned_kept places due old new start end kept was =
-    All-weaker (IsPlannedIn places start end old) (IsPlannedIn places start end new) (λ s planned read from below. kept (get_or places.places s 0) (planned read from below)) due was
+-- one stream more is looked at: it is planned, or its turn isn't behind the last that was, or no state reads it
+pub planned_more : (turns : StreamTurns) (due : List ℕ) (agenda : List (ℕ × ℕ)) (i last : ℕ) → i < length due → IsPlannedIn turns last agenda (get_or due i 0) → All (IsPlannedIn turns last agenda) (take i due) → All (IsPlannedIn turns last agenda) (take (i + 1) due)
+planned_more turns due agenda i last lt this was =
+    subst (All (IsPlannedIn turns last agenda)) (sym (take_more due i 0 lt)) (All-push (IsPlannedIn turns last agenda) (take i due) (get_or due i 0) was this)
 
--- the first place that is planned is one to come
-pub first_within : (start end p : ℕ) (keys rest : List ℕ) → keys ≡ p ∷ rest → AreFrom start end keys → (start ≤ p) × (p < end)
-first_within start end p keys rest is within = All-head (λ k. (start ≤ k) × (k < end)) p rest (subst (AreFrom start end) is within)
-
--- and the others are behind it
-pub rest_within : (start end p : ℕ) (keys rest : List ℕ) → keys ≡ p ∷ rest → All (IsLtBy nat_cmp p) rest → AreFrom start end keys → AreFrom (p + 1) end rest
-rest_within start end p keys rest is later within =
-    All-weaker (Contains rest) (λ k. (p + 1 ≤ k) × (k < end)) each rest (All-contains_itself rest)
-  where
-    each : (k : ℕ) → Contains rest k → (p + 1 ≤ k) × (k < end)
-    each k c =
-        let less = less_is p k (All-contains (IsLtBy nat_cmp p) rest k later c) in
-        let old = All-contains (λ k. (start ≤ k) × (k < end)) rest k (All-tail (λ k. (start ≤ k) × (k < end)) p rest (subst (AreFrom start end) is within)) c in
-        (omega (arith, less), old.1)
+-- what was planned still is where no entry is lost
+pub planned_kept : (turns : StreamTurns) (due : List ℕ) (old new : List (ℕ × ℕ)) (last : ℕ) → ((entry : ℕ × ℕ) → Contains old entry → Contains new entry) → All (IsPlannedIn turns last old) due → All (IsPlannedIn turns last new) due
+planned_kept turns due old new last kept was =
+    All-weaker (IsPlannedIn turns last old) (IsPlannedIn turns last new) (λ s planned read behind. kept (entry_of turns.turns s) (planned read behind)) due was
 
 -- the part of a list of marked numbers behind those that were known has the newly marked ones
 pub fresh_part : (old new : Marks) (more : MarksMore old new) (numbers : List ℕ) (known : ℕ) → numbers ≡ new.numbers → known ≡ length old.numbers → take (length numbers - known) (drop known numbers) ≡ more.added
 fresh_part old new more numbers known is at =
     taken_all (drop known numbers) (length numbers - known) (let e = length-drop known numbers in omega (arith, e))
     ∙ ap (drop known) is ∙ ap (λ (m : ℕ). drop m new.numbers) at ∙ fresh_is old new more
-
--- the newly marked numbers are below the bound
-pub fresh_below : (old new : Marks) (more : MarksMore old new) (bound : ℕ) → length new.flags ≡ bound → All (λ n. n < bound) more.added
-fresh_below old new more bound as_many =
-    all_right (λ n. n < bound) old.numbers more.added (subst (All (λ n. n < bound)) more.is (subst (λ (m : ℕ). All (λ n. n < m) new.numbers) as_many (all_below new more.are new.numbers refl)))
 
 -- numbers below a bound are below a greater one
 pub below_more : (bound more : ℕ) (numbers : List ℕ) → bound ≤ more → All (λ n. n < bound) numbers → All (λ n. n < more) numbers

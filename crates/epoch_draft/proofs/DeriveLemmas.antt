@@ -51,6 +51,7 @@ use Rattle.epoch_draft.specs.Typed.{HaveKinds, IsTyped}
 use Rattle.epoch_draft.specs.declared.draft.Draft.{Draft}
 use Rattle.epoch_draft.specs.declared.draft.Pair.{Pair}
 use Rattle.epoch_draft.proofs.DrawnLemmas.{bound_grows, drawn_comes, made_grows, moves_seen, paired_comes, stream_comes, unbound_grows}
+use Rattle.epoch_draft.proofs.DueLemmas.{ends_below}
 use Rattle.epoch_draft.proofs.GoingLemmas.{all_left}
 use Rattle.epoch_draft.proofs.Moves.{is_itself}
 use Rattle.epoch_draft.proofs.SuitLemmas.{published_kinds, tuple_suits}
@@ -94,7 +95,7 @@ other_test m n ne = grind (arith, nat_tests)
 -- a draft that fits the streams of a layout is for its network
 pub drawn_of : (net : Net) (layout : Layout) (stores : List (Option Store)) (opened : List (List TupleView)) (draft : Draft) → CanDraw net layout stores opened → DraftFits (length layout.kinds) (length net) draft → IsDraftOf net draft
 drawn_of net layout stores opened draft can fits = record {
-  below = subst (λ (m : ℕ). EndsBelow net m) (sym fits.made) can.below;
+  below = subst (λ (m : ℕ). EndsBelow net m) (sym fits.made) (ends_below net layout.order (length layout.kinds) can.ends can.order);
   fits = subst (λ (m : ℕ). DraftFits m (length net) draft) (sym fits.made) fits;
 }
 

@@ -1,12 +1,12 @@
 -- Drafts that have something more.
-use Rattle.std.proofs.Common.{◌≡◌, ◌∙◌, sym, ap, refl, subst, inl, inr, ℕ, ◌<◌, ◌⊎◌, ◌==◌, true, false, cond, length, get_or, set, List, [], ◌∷◌, ◌++◌, append_assoc, arith, zero, suc, Bool}
+use Rattle.std.proofs.Common.{◌≡◌, ◌∙◌, sym, ap, refl, subst, inl, inr, ℕ, ◌+◌, ◌<◌, ◌⊎◌, ◌==◌, true, false, cond, length, get_or, set, List, [], ◌∷◌, ◌++◌, append_assoc, arith, zero, suc, Bool}
 use Rattle.std.specs.Prelude.{Contains, Option, Some, option_to_list, None}
 use Rattle.std.specs.Option.{option_map}
 use Rattle.std.specs.List.{cons_option}
 use Rattle.std.specs.List.Sorted.{IsPermutation}
 use Rattle.std.proofs.lemmas.Bool.Decides.{nat_tests}
 use Rattle.std.proofs.lemmas.Grind.{flat_map-append, get_or-set_at}
-use Rattle.std.proofs.lemmas.List.{append-nil, get_or-set_other, length-set}
+use Rattle.std.proofs.lemmas.List.{append-nil, get_or-set_other, length-append, length-set}
 use Rattle.std.proofs.lemmas.List.Sorted.{IsPermutation-append, IsPermutation-append_left, IsPermutation-append_right, IsPermutation-refl, IsPermutation-sym, IsPermutation-to_front, IsPermutation-trans}
 use Rattle.event_types.specs.Order.{sorted}
 use Rattle.event_types.specs.Tuple.{TupleView}
@@ -23,7 +23,7 @@ use Rattle.epoch_laws.specs.Births.{passing_after}
 use Rattle.epoch_laws.specs.Instances.{began, bindings_of, pass_instance}
 use Rattle.epoch_laws.proofs.Bags.{permuted_is}
 use Rattle.epoch_draft.specs.Drafts.{Adds, DraftFits, EndsBelow, Grows, IsDraftOf}
-use Rattle.epoch_draft.specs.Marks.{AreMarks, MarksMore}
+use Rattle.epoch_draft.specs.Marks.{AreMarks, MarksMore, MarksNoOther}
 use Rattle.epoch_draft.specs.Moves.{Move, bound_by, bound_of, made_by, made_of, moves_on}
 use Rattle.epoch_draft.specs.declared.draft.Draft.{Draft}
 use Rattle.epoch_draft.specs.declared.marks.Marks.{Marks}
@@ -148,6 +148,10 @@ module _ {X : Type 0} where
     same = IsPermutation-append one.added a two.added b one.same two.same;
   }
 
+  -- a list to which items are added has some if it had
+  pub adds_keeps : (more old new : List X) → Adds more old new → 0 < length old → 0 < length new
+  adds_keeps more old new adds some = let long : length new ≡ length old + length adds.added = ap length adds.is ∙ length-append old adds.added in omega (arith, long, some)
+
 made_append : (s : ℕ) (a b : List Move) → made_of s (a ++ b) ≡ made_of s a ++ made_of s b
 made_append s a b = flat_map-append (λ (m : Move). made_by s m.instance m.way) a b
 
@@ -159,6 +163,7 @@ pub grows_none : (net : Net) (old : Draft) → DraftFits (length old.made) (leng
 grows_none net old fits = record {
   fits = fits;
   due = marks_same old.due fits.due;
+  newly_due = λ s c. inl c;
   made = λ s. adds_none (get_or old.made s []) (get_or old.made s []) refl;
   bound = λ w. permuted_is (sym (append-nil (get_or old.beads w [])));
 }
@@ -168,6 +173,7 @@ pub grows_same : (net : Net) (a b : List Move) (old new : Draft) → IsPermutati
 grows_same net a b old new h grows = record {
   fits = grows.fits;
   due = grows.due;
+  newly_due = grows.newly_due;
   made = λ s. adds_same (made_of s a) (made_of s b) (get_or old.made s []) (get_or new.made s []) (flat_map_permuted (λ (m : Move). made_by s m.instance m.way) a b h) (grows.made s);
   bound = λ w.
       IsPermutation-trans _ _ _ (grows.bound w)
@@ -179,6 +185,7 @@ pub grows_trans : (net : Net) (a b : List Move) (old mid new : Draft) → Grows 
 grows_trans net a b old mid new one two = record {
   fits = subst (λ (m : ℕ). DraftFits m (length net) new) one.fits.made two.fits;
   due = marks_trans old.due mid.due new.due one.due two.due;
+  newly_due = λ s c. from s (two.newly_due s c);
   made = λ s.
       subst (λ (rows : List TupleView). Adds rows (get_or old.made s []) (get_or new.made s [])) (sym (made_append s a b))
       (adds_trans (made_of s a) (made_of s b) (get_or old.made s []) (get_or mid.made s []) (get_or new.made s []) (one.made s) (two.made s));
@@ -188,6 +195,14 @@ grows_trans net a b old mid new one two = record {
       (IsPermutation-trans _ _ _ (two.bound w) (IsPermutation-append_left (f b) (get_or mid.beads w []) (get_or old.beads w [] ++ f a) (one.bound w)))
       (append_assoc (get_or old.beads w []) (f a) (f b) ∙ ap (λ xs. get_or old.beads w [] ++ xs) (sym (bound_append net w a b)));
 }
+  where
+    kept : (s : ℕ) → Contains old.due.numbers s ⊎ (0 < length (get_or mid.made s [])) → Contains old.due.numbers s ⊎ (0 < length (get_or new.made s []))
+    kept s (inl c) = inl c
+    kept s (inr some) = inr (adds_keeps (made_of s b) (get_or mid.made s []) (get_or new.made s []) (two.made s) some)
+
+    from : (s : ℕ) → Contains mid.due.numbers s ⊎ (0 < length (get_or new.made s [])) → Contains old.due.numbers s ⊎ (0 < length (get_or new.made s []))
+    from s (inl c) = kept s (one.newly_due s c)
+    from s (inr some) = inr some
 
 same_test : (m n : ℕ) → m ≡ n → (m == n) ≡ true
 same_test m n e = grind (arith, nat_tests)
@@ -228,21 +243,39 @@ gives_one e x y late passes =
 
 -- an instance that goes out
 pub out_grows : (net : Net) (old new : Draft) (e : End) (x : Instance) (y : TupleView) → e.out < length old.made → is_after e.birth x.first ≡ true → pass e.step x.tuple ≡ Some y → length old.beads ≡ length net
-    → new.made ≡ set old.made e.out (get_or old.made e.out [] ++ y ∷ []) → new.beads ≡ old.beads → MarksMore old.due new.due → DraftFits (length old.made) (length old.beads) new → Grows net (moves_on (Out e ∷ []) x) old new
-out_grows net old new e x y lt late passes many made beads due fits = record {
+    → new.made ≡ set old.made e.out (get_or old.made e.out [] ++ y ∷ []) → new.beads ≡ old.beads → MarksMore old.due new.due → MarksNoOther e.out old.due new.due → DraftFits (length old.made) (length old.beads) new → Grows net (moves_on (Out e ∷ []) x) old new
+out_grows net old new e x y lt late passes many made beads due alone fits = record {
   fits = subst (λ (m : ℕ). DraftFits (length old.made) m new) many fits;
   due = due;
+  newly_due = λ s c. go s (alone s c);
   made = λ t.
       subst (λ (lists : List (List TupleView)). Adds (made_of t (moves_on (Out e ∷ []) x)) (get_or old.made t []) (get_or lists t [])) (sym made)
       (made_adds e.out (y ∷ []) old.made t lt (made_of t (moves_on (Out e ∷ []) x)) (append-nil (cond (e.out == t) (passing_after e.step e.birth (x ∷ [])) []) ∙ ap (λ rows. cond (e.out == t) rows []) (gives_one e x y late passes)));
   bound = λ w. permuted_is (ap (λ (lists : List (List Instance)). get_or lists w []) beads ∙ sym (append-nil (get_or old.beads w [])));
 }
+  where
+    rows : List TupleView
+    rows = get_or old.made e.out []
+
+    go : (s : ℕ) → Contains old.due.numbers s ⊎ (s ≡ e.out) → Contains old.due.numbers s ⊎ (0 < length (get_or new.made s []))
+    go s (inl c) = inl c
+    go s (inr same) =
+        let is = ap (λ (lists : List (List TupleView)). get_or lists s []) made ∙ get_or-set_at old.made e.out s (rows ++ y ∷ []) [] same lt in
+        let long : length (get_or new.made s []) ≡ length rows + 1 = ap length is ∙ length-append rows (y ∷ []) in inr (omega (arith, long))
+
+-- the same from a draft that is equal
+pub passed_grows : (net : Net) (old mid new : Draft) (e : End) (x : Instance) (y : TupleView) → mid ≡ old → e.out < length old.made → is_after e.birth x.first ≡ true → pass e.step x.tuple ≡ Some y → length old.beads ≡ length net
+    → new.made ≡ set mid.made e.out (get_or mid.made e.out [] ++ y ∷ []) → new.beads ≡ mid.beads → MarksMore mid.due new.due → MarksNoOther e.out mid.due new.due → DraftFits (length mid.made) (length mid.beads) new → Grows net (moves_on (Out e ∷ []) x) old new
+passed_grows net old mid new e x y same lt late passes many made beads due alone fits =
+    out_grows net old new e x y lt late passes many (made ∙ ap (λ (d : Draft). set d.made e.out (get_or d.made e.out [] ++ y ∷ [])) same) (beads ∙ ap (λ (d : Draft). d.beads) same) (subst (λ (d : Draft). MarksMore d.due new.due) same due)
+    (subst (λ (d : Draft). MarksNoOther e.out d.due new.due) same alone) (subst (λ (d : Draft). DraftFits (length d.made) (length d.beads) new) same fits)
 
 -- one that doesn't go out
 pub out_stays : (net : Net) (old : Draft) (e : End) (x : Instance) → IsKept e x → DraftFits (length old.made) (length net) old → Grows net (moves_on (Out e ∷ []) x) old old
 out_stays net old e x kept fits = record {
   fits = fits;
   due = marks_same old.due fits.due;
+  newly_due = λ s c. inl c;
   made = λ t.
       subst (λ (rows : List TupleView). Adds rows (get_or old.made t []) (get_or old.made t []))
       (sym (append-nil (cond (e.out == t) (passing_after e.step e.birth (x ∷ [])) []) ∙ ap (λ rows. cond (e.out == t) rows []) (nothing_given e x kept) ∙ none (e.out == t))) (adds_none (get_or old.made t []) (get_or old.made t []) refl);
@@ -273,6 +306,7 @@ bead_grows : (net : Net) (old new : Draft) (way : Way) (w : ℕ) (x y : Instance
 bead_grows net old new way w x y lt none one many beads made due fits = record {
   fits = subst (λ (m : ℕ). DraftFits (length old.made) m new) many fits;
   due = subst (λ (m : Marks). MarksMore m new.due) due (marks_same new.due fits.due);
+  newly_due = λ s c. inl (subst (λ (m : Marks). Contains m.numbers s) due c);
   made = λ t.
       subst (λ (rows : List TupleView). Adds rows (get_or old.made t []) (get_or new.made t [])) (sym (append-nil (made_by t x way) ∙ none t))
       (adds_none (get_or old.made t []) (get_or new.made t []) (ap (λ (lists : List (List TupleView)). get_or lists t []) made));
@@ -297,6 +331,7 @@ pub into_stays : (net : Net) (old : Draft) (w : ℕ) (x : Instance) → pass (st
 into_stays net old w x passes fits = record {
   fits = fits;
   due = marks_same old.due fits.due;
+  newly_due = λ s c. inl c;
   made = λ t. adds_none (get_or old.made t []) (get_or old.made t []) refl;
   bound = λ v.
       permuted_is (sym (append-nil (get_or old.beads v []))

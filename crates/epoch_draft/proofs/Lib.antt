@@ -6,11 +6,13 @@ pub mod Concats
 pub mod DeriveLemmas
 pub mod DraftLemmas
 pub mod DrawnLemmas
+pub mod DueLemmas
 pub mod EdgeLemmas
 pub mod EpochLemmas
 pub mod Examples
 pub mod FoundLemmas
 pub mod GoingLemmas
+pub mod InTurnLemmas
 pub mod KeyLemmas
 pub mod LeadLemmas
 pub mod LeastLemmas
@@ -22,7 +24,6 @@ pub mod MeetLemmas
 pub mod Moves
 pub mod OrderLemmas
 pub mod PairLemmas
-pub mod PlacesLemmas
 pub mod Pairs
 pub mod PurgeLemmas
 pub mod ReadyLemmas
@@ -34,6 +35,7 @@ pub mod SuitLemmas
 pub mod SumLemmas
 pub mod TakeLemmas
 pub mod ToldLemmas
+pub mod TurnLemmas
 pub mod TypedLemmas
 pub mod TypingLemmas
 pub mod UnreadLemmas

@@ -122,6 +122,11 @@ pub on_ok_four : {T E : Type 0} (r : Result T E) (P Q R S U : Type 0) → (P →
 on_ok_four (Ok x) P Q R S U f p q s u = f p q s u
 on_ok_four (Err e) P Q R S U f p q s u = p
 
+-- what is promised of an Ok by five clauses
+pub on_ok_five : {T E : Type 0} (r : Result T E) (P Q R S U V : Type 0) → (P → Q → R → S → U → V) → OnOk r P → OnOk r Q → OnOk r R → OnOk r S → OnOk r U → OnOk r V
+on_ok_five (Ok x) P Q R S U V f p q s t u = f p q s t u
+on_ok_five (Err e) P Q R S U V f p q s t u = p
+
 -- what holds of all items holds of the one at a place
 pub all_at : {X : Type 0} (P : X → Type 0) (xs : List X) (i : ℕ) (x : X) → All P xs → slice_get xs i ≡ Some x → P x
 all_at P xs i x all e = subst P (get_or_from_slice_get xs i x x e) (All-get_or P xs i x (slice_get_within xs i x e) all)

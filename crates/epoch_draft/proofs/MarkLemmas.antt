@@ -8,7 +8,7 @@ use Rattle.std.proofs.lemmas.List.{append-nil, get_or_append_left, get_or-set_ot
 use Rattle.std.proofs.lemmas.List.Elements.{All-contains_itself, All-weaker, Contains-append_left, Contains-push, Contains-push_cases}
 use Rattle.std.proofs.lemmas.Bool.{true≢false}
 use Rattle.automaton.proofs.NumberLemmas.{are_same_or_not}
-use Rattle.epoch_draft.specs.Marks.{AreLowered, AreMarks, MarksMore}
+use Rattle.epoch_draft.specs.Marks.{AreLowered, AreMarks, MarksMore, MarksNoOther}
 use Rattle.epoch_draft.specs.declared.marks.Marks.{Marks}
 use Rattle.epoch_draft.proofs.Lists.{below_or_last, more_contains, taken_all}
 
@@ -88,6 +88,14 @@ mark_more marks n numbers are lt e put = record {
         fresh
         (subst (λ (ns : List ℕ). Contains ns n) (ap (λ (m : ℕ). take m (marks.numbers ++ n ∷ [])) last ∙ take-append-le (length marks.numbers) marks.numbers (n ∷ []) (omega arith) ∙ taken_all marks.numbers (length marks.numbers) (omega arith))
         (subst (Contains (take i (marks.numbers ++ n ∷ []))) (ap (λ (m : ℕ). get_or (marks.numbers ++ n ∷ []) m 0) last ∙ get_or-append_seam marks.numbers n [] 0) c))
+
+-- and no other
+pub mark_alone : (marks new : Marks) (n : ℕ) → new.numbers ≡ marks.numbers ++ n ∷ [] → MarksNoOther n marks new
+mark_alone marks new n put k c = go (Contains-push_cases marks.numbers n k (subst (λ (ns : List ℕ). Contains ns k) put c))
+  where
+    go : Contains marks.numbers k ⊎ (n ≡ k) → Contains marks.numbers k ⊎ (k ≡ n)
+    go (inl c) = inl c
+    go (inr same) = inr (sym same)
 
 -- no flag was taken down yet
 pub lower_none : (flags : List Bool) → AreLowered [] flags flags

@@ -42,6 +42,7 @@ pub grows_silent : (net : Net) (a b : List Move) (old new : Draft) → ((t : ℕ
 grows_silent net a b old new none unbound grows = record {
   fits = grows.fits;
   due = grows.due;
+  newly_due = grows.newly_due;
   made = λ t.
       subst (λ (rows : List TupleView). Adds rows (get_or old.made t []) (get_or new.made t []))
       (sym (flat_map-append (λ (m : Move). made_by t m.instance m.way) a b ∙ ap (λ rows. made_of t a ++ rows) (none t) ∙ append-nil (made_of t a))) (grows.made t);

@@ -107,7 +107,7 @@ can_draw_same net layout old new opened same can = record {
   typed = typed_same net layout.kinds old new same can.typed;
   kinds = can.kinds;
   as_many = can.as_many;
-  below = can.below;
+  ends = can.ends;
   order = can.order;
   underived = can.underived;
 }

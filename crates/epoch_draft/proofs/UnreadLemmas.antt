@@ -85,6 +85,7 @@ skipped_meets net stores s draft pairs fits skips = (
     beads = refl;
     fits = fits;
     due = marks_same draft.due fits.due;
+    newly_due = λ t c. inl c;
     lists = record {
       added = [];
       are = sym (append-nil pairs);

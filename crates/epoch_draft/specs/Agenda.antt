@@ -1,12 +1,13 @@
--- The places of streams in the order of work, which streams are read, and the places that are to come.
+-- The turns of streams in the order of work, which streams are read, and the turns that are to come.
 use Rattle.std.specs.Prelude.{◌≡◌, ℕ, Bool, false, true, ◌<◌, ◌≤◌, List, Contains, length, Option, Some, slice_index_or}
 use Rattle.std.specs.Option.{option_map}
 use Rattle.std.specs.List.{All}
 use Rattle.automaton.specs.States.{Net, entrance_at}
 use Rattle.automaton.specs.declared.network.Entrance.{Entrance}
 use Rattle.automaton.specs.declared.network.Entrance.TheVariants.{Root, Waiting}
-use Rattle.epoch_draft.specs.Places.{AreArranged}
-use Rattle.epoch_draft.specs.declared.stream_places.StreamPlaces.{StreamPlaces}
+use Rattle.epoch_draft.specs.Turns.{HaveTurns, turn_of}
+use Rattle.epoch_draft.specs.declared.stream_turns.StreamTurns.{StreamTurns}
+use Rattle.epoch_draft.specs.declared.turns.Turns.{Turns}
 
 -- the stream that is read by a state that is entered so: at a root its own, at a waiting state the one on which it waits
 abbrev pub read_by : Entrance → ℕ
@@ -31,21 +32,17 @@ pub record AreTold (net : Net) (states : List ℕ) (old new : List Bool) : Type 
   pub stay : StayTold old new
   pub told : (state stream : ℕ) → Contains states state → read_at net state ≡ Some stream → stream < length new → slice_index_or new stream false ≡ true
 
--- there is room for so many streams at least, those of the order have their places, and of so many streams no state reads those that aren't told as read
-pub record ArePlaces (net : Net) (order : List ℕ) (streams : ℕ) (places : StreamPlaces) : Type 0 where
-  pub many_places : streams ≤ length places.places
-  pub many_read : streams ≤ length places.read
-  pub arranged : AreArranged order places.places
-  pub unread : (stream : ℕ) → stream < streams → slice_index_or places.read stream false ≡ false → IsUnread net stream
+-- there is room for so many streams at least, those of the order have their turns, and of so many streams no state reads those that aren't told as read
+pub record AreTurns (net : Net) (order : List ℕ) (streams : ℕ) (turns : StreamTurns) : Type 0 where
+  pub many_turns : streams ≤ length turns.turns.given
+  pub many_read : streams ≤ length turns.read
+  pub in_turn : HaveTurns order turns.turns
+  pub unread : (stream : ℕ) → stream < streams → slice_index_or turns.read stream false ≡ false → IsUnread net stream
 
--- all of these places are from one place on and below another
-abbrev pub AreFrom : ℕ → ℕ → List ℕ → Type 0
-AreFrom start end = All (λ place. (start ≤ place) × (place < end))
+-- these are turns behind the last that was, each with its stream, which is of the order
+abbrev pub AreBehind : List ℕ → Turns → ℕ → List (ℕ × ℕ) → Type 0
+AreBehind order turns last = All (λ entry. Contains order entry.1 × (turn_of turns entry.1 ≡ entry.0) × (last < entry.0))
 
--- a place from one place on and below another is one of these
-abbrev pub IsPlanned : ℕ → ℕ → List ℕ → ℕ → Type 0
-IsPlanned start end agenda place = start ≤ place → place < end → Contains agenda place
-
--- so is the place of a stream that is told as read
-abbrev pub IsPlannedIn : StreamPlaces → ℕ → ℕ → List ℕ → ℕ → Type 0
-IsPlannedIn places start end agenda stream = slice_index_or places.read stream false ≡ true → IsPlanned start end agenda (slice_index_or places.places stream 0)
+-- a stream's turn is among these, where the stream is told as read and its turn is behind the last that was
+abbrev pub IsPlannedIn : StreamTurns → ℕ → List (ℕ × ℕ) → ℕ → Type 0
+IsPlannedIn turns last agenda stream = slice_index_or turns.read stream false ≡ true → last < turn_of turns.turns stream → Contains agenda (turn_of turns.turns stream, stream)

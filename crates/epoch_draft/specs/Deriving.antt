@@ -13,7 +13,7 @@ use Rattle.automaton.specs.declared.layout.Layout.{Layout}
 use Rattle.epoch_laws.specs.BornLines.{BornLine}
 use Rattle.epoch_laws.specs.Closing.{IsEpoch, Stores}
 use Rattle.epoch_laws.specs.StoresStandFor.{Serves}
-use Rattle.epoch_draft.specs.Drafts.{DraftFits, EndsBelow, Grows, without}
+use Rattle.epoch_draft.specs.Drafts.{DraftFits, EndsIn, Grows, without}
 use Rattle.epoch_draft.specs.Drawn.{Drawn, Paired}
 use Rattle.epoch_draft.specs.Held.{held}
 use Rattle.epoch_draft.specs.Marks.{MarksMore}
@@ -22,7 +22,7 @@ use Rattle.epoch_draft.specs.Typed.{HaveKinds, IsTyped}
 use Rattle.epoch_draft.specs.declared.draft.Draft.{Draft}
 use Rattle.epoch_draft.specs.declared.draft.Pair.{Pair}
 
--- the tuples of a derived stream were met in some order, and are its tuples in this order; the streams that were due still are, in front of those that now are
+-- the tuples of a derived stream were met in some order, and are its tuples in this order; the streams that were due still are, in front of those that now are, which have tuples or are the stream itself
 pub record Meets (net : Net) (stores : Stores) (stream : ℕ) (old new : Draft) (pairs more : List Pair) : Type 0 where
   pub tuples : List TupleView
   pub same : IsPermutation tuples (slice_index_or old.made stream [])
@@ -32,6 +32,7 @@ pub record Meets (net : Net) (stores : Stores) (stream : ℕ) (old new : Draft) 
   pub beads : new.beads ≡ met.beads
   pub fits : DraftFits (length old.made) (length net) new
   pub due : MarksMore old.due new.due
+  pub newly_due : (other : ℕ) → Contains new.due.numbers other → Contains old.due.numbers other ⊎ (other ≡ stream) ⊎ (0 < length (slice_index_or new.made other []))
   pub lists : ListsAll net stores stream tuples pairs more
 
 -- the tuples of a derived stream were put in order and met
@@ -53,7 +54,7 @@ pub record AreOpened (opened : List (List TupleView)) (touched : List ℕ) : Typ
   pub once : (place : ℕ) → place < length touched → Contains (take place touched) (slice_index_or touched place 0) → ⊥
   pub all : (stream : ℕ) → (slice_index_or opened stream [] ≡ []) ⊎ Contains touched stream
 
--- the network and the layout are of some lines, all is typed, and no derived stream has open tuples
+-- the network and the layout are of some lines, the streams of all ends stand in the order of work, all is typed, and no derived stream has open tuples
 pub record CanDraw (net : Net) (layout : Layout) (stores : List (Option Store)) (opened : List (List TupleView)) : Type 0 where
   pub network : IsNetwork net
   pub lines : List BornLine
@@ -61,7 +62,7 @@ pub record CanDraw (net : Net) (layout : Layout) (stores : List (Option Store)) 
   pub typed : IsTyped net layout.kinds stores
   pub kinds : HaveKinds layout.kinds (streams_of opened)
   pub as_many : length opened ≡ length layout.kinds
-  pub below : EndsBelow net (length layout.kinds)
+  pub ends : EndsIn net layout.order
   pub order : All (λ stream. stream < length layout.kinds) layout.order
   pub underived : All (λ stream. slice_index_or opened stream [] ≡ []) layout.order
 

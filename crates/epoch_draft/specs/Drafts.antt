@@ -22,6 +22,10 @@ pub record DraftFits (streams states : ℕ) (draft : Draft) : Type 0 where
 abbrev pub without : Draft → ℕ → Draft
 without draft stream = record draft { made = slice_set draft.made stream [] }
 
+-- the streams of all ends stand in an order
+abbrev pub EndsIn : Net → List ℕ → Type 0
+EndsIn net order = (number : ℕ) → All (λ end. Contains order end.out) (ends_at net number)
+
 -- the streams of all ends are below a number
 abbrev pub EndsBelow : Net → ℕ → Type 0
 EndsBelow net streams = (number : ℕ) → All (λ end. end.out < streams) (ends_at net number)
@@ -37,9 +41,14 @@ pub record Adds {X : Type 0} (more old new : List X) : Type 0 where
   pub is : new ≡ old ++ added
   pub same : IsPermutation added more
 
--- the draft has besides what these moves make: tuples behind those of the streams, and beads; the streams that were due still are, in front of those that now are
+-- each stream that is newly due has tuples
+abbrev pub HaveTuples : Draft → Draft → Type 0
+HaveTuples old new = (stream : ℕ) → Contains new.due.numbers stream → Contains old.due.numbers stream ⊎ (0 < length (slice_index_or new.made stream []))
+
+-- the draft has besides what these moves make: tuples behind those of the streams, and beads; the streams that were due still are, in front of those that now are, which have tuples
 pub record Grows (net : Net) (moves : List Move) (old new : Draft) : Type 0 where
   pub fits : DraftFits (length old.made) (length net) new
   pub due : MarksMore old.due new.due
+  pub newly_due : HaveTuples old new
   pub made : (stream : ℕ) → Adds (made_of stream moves) (slice_index_or old.made stream []) (slice_index_or new.made stream [])
   pub bound : (state : ℕ) → IsPermutation (slice_index_or new.beads state []) (slice_index_or old.beads state [] ++ bound_of net state moves)

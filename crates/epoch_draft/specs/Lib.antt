@@ -19,7 +19,6 @@ pub mod Marks
 pub mod Meeting
 pub mod Moves
 pub mod Pairs
-pub mod Places
 pub mod Purging
 pub mod Readying
 pub mod Settling
@@ -28,6 +27,7 @@ pub mod Stores
 pub mod Suits
 pub mod Takes
 pub mod Tests
+pub mod Turns
 pub mod Typed
 pub mod Watching
 pub mod Work

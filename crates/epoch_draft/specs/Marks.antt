@@ -1,5 +1,5 @@
 -- Numbers that are marked.
-use Rattle.std.specs.Prelude.{◌≡◌, ℕ, Bool, ◌<◌, ◌++◌, false, true, List, Contains, length, slice_index_or, take}
+use Rattle.std.specs.Prelude.{◌≡◌, ℕ, Bool, ◌<◌, ◌++◌, ◌⊎◌, false, true, List, Contains, length, slice_index_or, take}
 use Rattle.epoch_draft.specs.declared.marks.Marks.{Marks}
 
 -- the marked numbers are exactly those that are listed, and each is listed once
@@ -14,6 +14,10 @@ pub record MarksMore (old new : Marks) : Type 0 where
   pub as_many : length new.flags ≡ length old.flags
   pub added : List ℕ
   pub is : new.numbers ≡ old.numbers ++ added
+
+-- no number but this is newly marked
+abbrev pub MarksNoOther : ℕ → Marks → Marks → Type 0
+MarksNoOther number old new = (other : ℕ) → Contains new.numbers other → Contains old.numbers other ⊎ (other ≡ number)
 
 -- the flags of these numbers are down, and no other was put up
 pub record AreLowered (numbers : List ℕ) (old new : List Bool) : Type 0 where

@@ -3,7 +3,7 @@ use Rattle.std.specs.Prelude.{◌≡◌, IsTrue, Some, length}
 use Rattle.automaton.specs.Networks.{IsNetwork}
 use Rattle.automaton.specs.States.{is_used, wait_at}
 use Rattle.stream_readers.specs.Readers.{AreReadersOf}
-use Rattle.epoch_draft.specs.Agenda.{ArePlaces}
+use Rattle.epoch_draft.specs.Agenda.{AreTurns}
 use Rattle.epoch_draft.specs.Led.{AreLed}
 use Rattle.epoch_draft.specs.Stores.{HasStores}
 use Rattle.epoch_draft.specs.declared.stored_network.StoredNetwork.{StoredNetwork}
@@ -16,10 +16,10 @@ pub record IsStoredNetwork (stored : StoredNetwork) : Type 0 where
   pub stores : HasStores stored.network.now stored.stores.now
   pub led : AreLed stored.network.now stored.keys.now stored.stores.now
 
--- the readers are the network's, each stream has its place in the order of work, and keys lead to the states where they are ready
+-- the readers are the network's, the streams have their turns in the order of work, and keys lead to the states where they are ready
 pub record CanRead (stored : StoredNetwork) : Type 0 where
   pub readers : AreReadersOf stored.network.now stored.readers.now
-  pub places : ArePlaces stored.network.now stored.layout.now.order (length stored.layout.now.kinds) stored.places.now
+  pub turns : AreTurns stored.network.now stored.layout.now.order (length stored.layout.now.kinds) stored.turns.now
   pub led : AreLed stored.network.now stored.keys.now stored.stores.now
 
 -- a waiting state of a network

@@ -1,74 +1,77 @@
-//! The places in the order of work that are to come.
+//! The turns that are to come in the order of work.
 ghost use Rattle.std.specs.Prelude.{◌≡◌, ◌<◌, Contains, OnOk, length};
 ghost use Rattle.std.specs.List.{All};
 ghost use Rattle.std.specs.Ordering.{nat_cmp};
-ghost use Rattle.std.specs.BTreeSet.{insert_key};
-ghost use Rattle.epoch_draft.specs.Agenda.{AreFrom, IsPlannedIn};
+ghost use Rattle.std.specs.BTreeMap.{insert_entry};
+ghost use Rattle.epoch_draft.specs.Agenda.{AreBehind, IsPlannedIn};
+ghost use Rattle.epoch_draft.specs.Turns.{HaveTurns};
 
-use crate::stream_places::StreamPlaces;
+use crate::stored_network::StoredNetwork;
 use event_types::{Memory, StreamId};
-use std::collections::BTreeSet;
+use std::collections::BTreeMap;
 
-/// Places in the order of work, each once.
-pub(crate) type Agenda = BTreeSet<usize>;
+/// Turns in the order of work, each with its stream.
+pub(crate) type Agenda = BTreeMap<usize, StreamId>;
 
-/// Puts the places of these streams on the agenda, as far as they are read and are from `start` on and below `end`.
-/// After want of memory the agenda is of no more use.
+/// Puts the turns of these streams on the agenda, as far as the streams are read and their turns are behind the last that
+/// was. After want of memory the agenda is of no more use.
 #[inline(always)]
 pub(crate) fn plan(
     agenda: &mut Agenda,
-    places: &StreamPlaces,
+    stored: &StoredNetwork<'_>,
     due: &[StreamId],
-    start: usize,
-    end: usize,
+    last: usize,
 ) -> Result<(), Memory>
-    requires places { All (λ stream. stream < length places.now.places) due.now }
-    requires read { All (λ stream. stream < length places.now.read) due.now }
-    requires within { AreFrom start end agenda.old.keys }
-    ensures within { OnOk result (AreFrom start end agenda.new.keys) }
-    ensures kept { OnOk result (All (Contains agenda.new.keys) agenda.old.keys) }
-    ensures planned { OnOk result (All (IsPlannedIn places.now start end agenda.new.keys) due.now) }
+    requires in_turn { HaveTurns stored.now.layout.now.order stored.now.turns.now.turns }
+    requires ordered { All (Contains stored.now.layout.now.order) due.now }
+    requires turns { All (λ stream. stream < length stored.now.turns.now.turns.given) due.now }
+    requires read { All (λ stream. stream < length stored.now.turns.now.read) due.now }
+    requires behind { AreBehind stored.now.layout.now.order stored.now.turns.now.turns last agenda.old.entries }
+    ensures behind { OnOk result (AreBehind stored.now.layout.now.order stored.now.turns.now.turns last agenda.new.entries) }
+    ensures kept { OnOk result (All (Contains agenda.new.entries) agenda.old.entries) }
+    ensures planned { OnOk result (All (IsPlannedIn stored.now.turns.now last agenda.new.entries) due.now) }
 {
     if due.is_empty() {
         return Ok(());
     }
-    plan_each(agenda, places, due, start, end)
+    plan_each(agenda, stored, due, last)
 }
 
 // The same, with a walk also where there is no stream.
 fn plan_each(
     agenda: &mut Agenda,
-    places: &StreamPlaces,
+    stored: &StoredNetwork<'_>,
     due: &[StreamId],
-    start: usize,
-    end: usize,
+    last: usize,
 ) -> Result<(), Memory>
-    requires places { All (λ stream. stream < length places.now.places) due.now }
-    requires read { All (λ stream. stream < length places.now.read) due.now }
-    requires within { AreFrom start end agenda.old.keys }
-    ensures within { OnOk result (AreFrom start end agenda.new.keys) }
-    ensures kept { OnOk result (All (Contains agenda.new.keys) agenda.old.keys) }
-    ensures planned { OnOk result (All (IsPlannedIn places.now start end agenda.new.keys) due.now) }
+    requires in_turn { HaveTurns stored.now.layout.now.order stored.now.turns.now.turns }
+    requires ordered { All (Contains stored.now.layout.now.order) due.now }
+    requires turns { All (λ stream. stream < length stored.now.turns.now.turns.given) due.now }
+    requires read { All (λ stream. stream < length stored.now.turns.now.read) due.now }
+    requires behind { AreBehind stored.now.layout.now.order stored.now.turns.now.turns last agenda.old.entries }
+    ensures behind { OnOk result (AreBehind stored.now.layout.now.order stored.now.turns.now.turns last agenda.new.entries) }
+    ensures kept { OnOk result (All (Contains agenda.new.entries) agenda.old.entries) }
+    ensures planned { OnOk result (All (IsPlannedIn stored.now.turns.now last agenda.new.entries) due.now) }
 {
     for stream in due {
-        if !*places.read.get(*stream) {
+        if !*stored.turns.read.get(*stream) {
             continue;
         }
-        let place = places.places.place(*stream);
-        if place < start || place >= end {
+        let turn = stored.turns.turns.turn(*stream);
+        if turn <= last {
             continue;
         }
-        note(agenda, place)?;
+        note(agenda, turn, *stream)?;
     }
     Ok(())
 }
 
-// Puts a place on the agenda.
-fn note(agenda: &mut Agenda, place: usize) -> Result<(), Memory>
-    ensures { OnOk result (agenda.new.keys ≡ insert_key nat_cmp agenda.old.keys place) }
+// Puts a turn on the agenda, with its stream.
+fn note(agenda: &mut Agenda, turn: usize, stream: StreamId) -> Result<(), Memory>
+    ensures { OnOk result (agenda.new.entries ≡ insert_entry nat_cmp agenda.old.entries turn stream) }
 {
-    match agenda.insert(place) {
-        Ok(_added) => Ok(()),
+    match agenda.insert(turn, stream) {
+        Ok(_replaced) => Ok(()),
         Err(_) => Err(Memory),
     }
 }

@@ -4,7 +4,7 @@ ghost use Rattle.std.specs.List.{All};
 ghost use Rattle.event_types.specs.Order.{sorted};
 ghost use Rattle.epoch_draft.specs.Drafts.{DraftFits, without};
 ghost use Rattle.epoch_draft.specs.Made.{IsLastIn};
-ghost use Rattle.epoch_draft.specs.Marks.{MarksMore};
+ghost use Rattle.epoch_draft.specs.Marks.{MarksMore, MarksNoOther};
 
 use crate::made::Made;
 use crate::marks::Marks;
@@ -49,6 +49,7 @@ impl Draft {
     pub fn make(alloc: Global, states: usize, streams: usize) -> Result<Draft, Memory>
         ensures fits { IfOk result (λ draft. DraftFits streams states draft) }
         ensures none_made { IfOk result (λ draft. (stream : ℕ) → slice_index_or draft.made stream [] ≡ []) }
+        ensures none_due { IfOk result (λ draft. draft.due.numbers ≡ []) }
         ensures no_beads { IfOk result (λ draft. (state : ℕ) → slice_index_or draft.beads state [] ≡ []) }
     {
         let made = Made::make(alloc)?;
@@ -70,6 +71,7 @@ impl Draft {
         requires { DraftFits (length self.old.made) (length self.old.beads) self.old }
         ensures fits { OnOk result (DraftFits streams states self.new) }
         ensures none_made { OnOk result ((stream : ℕ) → slice_index_or self.new.made stream [] ≡ []) }
+        ensures none_due { OnOk result (self.new.due.numbers ≡ []) }
         ensures no_beads { OnOk result ((state : ℕ) → slice_index_or self.new.beads state [] ≡ []) }
     {
         self.clear();
@@ -84,6 +86,7 @@ impl Draft {
         requires { DraftFits (length self.old.made) (length self.old.beads) self.old }
         ensures fits { DraftFits (length self.old.made) (length self.old.beads) self.new }
         ensures none_made { (stream : ℕ) → slice_index_or self.new.made stream [] ≡ [] }
+        ensures none_due { self.new.due.numbers ≡ [] }
         ensures no_beads { (state : ℕ) → slice_index_or self.new.beads state [] ≡ [] }
     {
         self.made.clear(self.due.numbers.as_slice());
@@ -100,6 +103,7 @@ impl Draft {
         ensures made { OnOk result (self.new.made ≡ slice_set self.old.made stream (slice_index_or self.old.made stream [] ++ tuple ∷ [])) }
         ensures beads { OnOk result (self.new.beads ≡ self.old.beads) }
         ensures due { OnOk result (MarksMore self.old.due self.new.due) }
+        ensures no_other { OnOk result (MarksNoOther stream self.old.due self.new.due) }
         ensures fits { OnOk result (DraftFits (length self.old.made) (length self.old.beads) self.new) }
     {
         self.due.mark(stream)?;
@@ -121,6 +125,7 @@ impl Draft {
         ensures made { OnOk result (self.new.made ≡ slice_set self.old.made stream (slice_index_or self.old.made stream [] ++ tuple.now ∷ [])) }
         ensures beads { OnOk result (self.new.beads ≡ self.old.beads) }
         ensures due { OnOk result (MarksMore self.old.due self.new.due) }
+        ensures no_other { OnOk result (MarksNoOther stream self.old.due self.new.due) }
         ensures fits { OnOk result (DraftFits (length self.old.made) (length self.old.beads) self.new) }
     {
         self.due.mark(stream)?;
@@ -151,6 +156,7 @@ impl Draft {
         ensures made { OnOk result (self.new.made ≡ slice_set self.old.made stream tuples.items) }
         ensures beads { OnOk result (self.new.beads ≡ self.old.beads) }
         ensures due { OnOk result (MarksMore self.old.due self.new.due) }
+        ensures no_other { OnOk result (MarksNoOther stream self.old.due self.new.due) }
         ensures fits { OnOk result (DraftFits (length self.old.made) (length self.old.beads) self.new) }
     {
         self.due.mark(stream)?;

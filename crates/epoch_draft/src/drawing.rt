@@ -10,7 +10,7 @@ use std::alloc::Global;
 use stream_readers::Found;
 
 /// The draft of an epoch, the pairs of waiting states and tuples that meet there, what a tuple finds, and the
-/// places that are to come in the order of work. Between two closings nothing is drawn, paired or to come. All
+/// turns that are to come in the order of work. Between two closings nothing is drawn, paired or to come. All
 /// keep their room.
 #[derive(Drop)]
 pub struct Drawing {

@@ -6,8 +6,7 @@
 //!
 //! `draw` reads a `StoredNetwork` and changes a `Drawing` alone, and the count of steps; `settle` goes by a `ClosingEpoch`.
 //!
-//! Contracts see a `Made` as the list of the streams' lists of tuples, `Places` as the list of the places by stream, and
-//! each other public type as its fields. A `Drawing` is a `Draft`, its pairs, and lists that are used anew. A `Draft` is
+//! Contracts see a `Made` as the list of the streams' lists of tuples, and each other public type as its fields. A `Drawing` is a `Draft`, its pairs, and lists that are used anew. A `Draft` is
 //! the tuples made for each derived stream, the beads made for each state as a list of instances, and the `Marks` of the
 //! streams and the states that have some. `Marks` are flags by number and the numbers whose flags are up, each once. A
 //! `Pair` is the number of a waiting state and a tuple by its stream and its place there. A `PlacedTuples` shows what a
@@ -29,7 +28,6 @@ mod marks;
 mod matching;
 mod meeting;
 mod passing;
-mod places;
 mod placing;
 mod purging;
 mod readying;
@@ -37,7 +35,8 @@ mod settling;
 mod spare;
 mod stored_network;
 mod stores;
-mod stream_places;
+mod stream_turns;
+mod turns;
 mod waiting_state;
 mod watching;
 
@@ -47,10 +46,10 @@ pub use filling::{lengthen, lengthen_lists};
 pub use made::{Made, PlacedTuples};
 pub use making::draw;
 pub use marks::Marks;
-pub use places::Places;
 pub use purging::purge_all;
 pub use readying::make_room;
 pub use settling::{ClosingEpoch, settle};
 pub use stored_network::StoredNetwork;
 pub use stores::{Stores, empty_stores, stored};
-pub use stream_places::StreamPlaces;
+pub use stream_turns::StreamTurns;
+pub use turns::Turns;

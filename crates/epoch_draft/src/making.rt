@@ -1,9 +1,9 @@
 //! The tuples of an epoch, stream by stream.
-ghost use Rattle.std.specs.Prelude.{◌≡◌, ◌+◌, ◌<◌, ◌≤◌, [], OnOk, length, slice_index_or};
+ghost use Rattle.std.specs.Prelude.{◌≡◌, ◌+◌, ◌<◌, ◌≤◌, [], Contains, OnOk, length, slice_index_or};
 ghost use Rattle.std.specs.List.{All};
 ghost use Rattle.semantics.specs.Denotation.{streams_of};
 ghost use Rattle.epoch_draft.specs.Deriving.{AreOpened, CanDraw, Derives, DrawnUpTo};
-ghost use Rattle.epoch_draft.specs.Agenda.{ArePlaces};
+ghost use Rattle.epoch_draft.specs.Agenda.{AreTurns};
 ghost use Rattle.epoch_draft.specs.Drafts.{Grows, IsDraftOf};
 ghost use Rattle.epoch_draft.specs.Drawings.{IsStill};
 ghost use Rattle.epoch_draft.specs.Held.{held};
@@ -58,7 +58,8 @@ fn meet_opened<L: Ledger>(
     requires still { IsStill (length stored.now.layout.now.kinds) (length stored.now.network.now) drawing.old }
     ensures drawn { OnOk result (DrawnUpTo stored.now.network.now stored.now.layout.now stored.now.stores.now opened.now [] drawing.new.draft drawing.new.pairs) }
     ensures takes { OnOk result (HeardTakesNoMore stored.now.network.now stored.now.layout.now stored.now.stores.now opened.now drawing.new.draft.made drawing.new.pairs) }
-    ensures agenda { drawing.new.agenda.keys ≡ drawing.old.agenda.keys }
+    ensures due { OnOk result (All (Contains stored.now.layout.now.order) drawing.new.draft.due.numbers) }
+    ensures agenda { drawing.new.agenda.entries ≡ drawing.old.agenda.entries }
     ensures ticks { steps.new ≤ steps.old + streams_work stored.now.network.now (held stored.now.stores.now) opened.now touched.now }
 {
     for stream in touched {
@@ -82,16 +83,16 @@ fn meet_read<L: Ledger>(
     steps: &mut Steps<L>,
 ) -> Result<(), Memory>
     requires stored { IsStoredNetwork stored.now }
-    requires places { ArePlaces stored.now.network.now stored.now.layout.now.order (length stored.now.layout.now.kinds) stored.now.places.now }
+    requires turns { AreTurns stored.now.network.now stored.now.layout.now.order (length stored.now.layout.now.kinds) stored.now.turns.now }
     requires stream { stream < length stored.now.layout.now.kinds }
     requires draft { IsDraftOf stored.now.network.now drawing.old.draft }
     requires suits { All (TupleSuits stored.now.network.now (held stored.now.stores.now) stream) tuples.now }
     ensures grows { OnOk result (Grows stored.now.network.now (moves_of_all stored.now.network.now (held stored.now.stores.now) stream tuples.now) drawing.old.draft drawing.new.draft) }
     ensures lists { OnOk result (ListsAll stored.now.network.now (held stored.now.stores.now) stream tuples.now drawing.old.pairs drawing.new.pairs) }
-    ensures agenda { drawing.new.agenda.keys ≡ drawing.old.agenda.keys }
+    ensures agenda { drawing.new.agenda.entries ≡ drawing.old.agenda.entries }
     ensures ticks { steps.new ≤ steps.old + stream_work stored.now.network.now (held stored.now.stores.now) stream tuples.now }
 {
-    if !*stored.places.read.get(stream) {
+    if !*stored.turns.read.get(stream) {
         return Ok(());
     }
     meet_stream(stored, drawing, stream, tuples, steps)
@@ -109,27 +110,21 @@ fn derive<L: Ledger>(
     requires can_read { CanRead stored.now }
     requires drawn { DrawnUpTo stored.now.network.now stored.now.layout.now stored.now.stores.now opened.now [] drawing.old.draft drawing.old.pairs }
     requires takes { HeardTakesNoMore stored.now.network.now stored.now.layout.now stored.now.stores.now opened.now drawing.old.draft.made drawing.old.pairs }
-    requires none_planned { drawing.old.agenda.keys ≡ [] }
+    requires due { All (Contains stored.now.layout.now.order) drawing.old.draft.due.numbers }
+    requires none_planned { drawing.old.agenda.entries ≡ [] }
     ensures drawn { OnOk result (DrawnUpTo stored.now.network.now stored.now.layout.now stored.now.stores.now opened.now stored.now.layout.now.order drawing.new.draft drawing.new.pairs) }
     ensures takes { OnOk result (TakesNoMore stored.now.network.now stored.now.layout.now stored.now.stores.now opened.now drawing.new.draft.made drawing.new.pairs) }
     ensures ticks { steps.new ≤ steps.old + derived_work stored.now.network.now stored.now.layout.now.order (held stored.now.stores.now) (streams_of opened.now) }
 {
-    let end = stored.layout.order.len();
-    let mut next = 0;
-    plan(
-        &mut drawing.agenda,
-        stored.places,
-        drawing.draft.due.numbers.as_slice(),
-        next,
-        end,
-    )?;
-    while let Some(place) = drawing.agenda.pop_first() {
-        let stream = *stored.layout.order.get(place);
+    let mut last = 0;
+    let due = drawing.draft.due.numbers.as_slice();
+    plan(&mut drawing.agenda, stored, due, last)?;
+    while let Some((turn, stream)) = drawing.agenda.pop_first() {
         let known = drawing.draft.due.numbers.len();
         derive_stream(stored, stream, drawing, steps)?;
-        next = place + 1;
+        last = turn;
         let fresh = &drawing.draft.due.numbers.as_slice()[known..];
-        plan(&mut drawing.agenda, stored.places, fresh, next, end)?;
+        plan(&mut drawing.agenda, stored, fresh, last)?;
     }
     drawing.draft.put_in_order()
 }
@@ -146,7 +141,7 @@ fn derive_stream<L: Ledger>(
     requires draft { IsDraftOf stored.now.network.now drawing.old.draft }
     requires suits { All (TupleSuits stored.now.network.now (held stored.now.stores.now) stream) (slice_index_or drawing.old.draft.made stream []) }
     ensures derives { OnOk result (Derives stored.now.network.now (held stored.now.stores.now) stream drawing.old.draft drawing.new.draft drawing.old.pairs drawing.new.pairs) }
-    ensures agenda { drawing.new.agenda.keys ≡ drawing.old.agenda.keys }
+    ensures agenda { drawing.new.agenda.entries ≡ drawing.old.agenda.entries }
     ensures ticks { steps.new ≤ steps.old + stream_work stored.now.network.now (held stored.now.stores.now) stream (slice_index_or drawing.old.draft.made stream []) }
 {
     let mut tuples = drawing.draft.take_made(stream)?;

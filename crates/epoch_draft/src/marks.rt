@@ -1,7 +1,7 @@
 //! Numbers that are marked.
 ghost use Rattle.std.specs.Prelude.{◌≡◌, ◌<◌, [], false, true, Contains, length, OnOk};
 ghost use Rattle.std.specs.List.{All};
-ghost use Rattle.epoch_draft.specs.Marks.{AreLowered, AreMarks, MarksMore};
+ghost use Rattle.epoch_draft.specs.Marks.{AreLowered, AreMarks, MarksMore, MarksNoOther};
 
 use crate::filling::fit;
 use event_types::{List, Memory, Numbers};
@@ -45,6 +45,7 @@ impl Marks {
         requires marks { AreMarks self.old }
         requires number { number < length self.old.flags }
         ensures more { MarksMore self.old self.new }
+        ensures no_other { MarksNoOther number self.old self.new }
         ensures marked { OnOk result (Contains self.new.numbers number) }
     {
         if *self.flags.get(number) {

@@ -45,7 +45,7 @@ fn meet_waits<L: Ledger>(
     requires suits { All (MeetingSuits stored.now.network.now (held stored.now.stores.now) tuple.now) drawing.old.found.waits }
     ensures grows { OnOk result (GrowsByMet stored.now.network.now (held stored.now.stores.now) tuple.now drawing.old.found.waits drawing.old.draft drawing.new.draft) }
     ensures pairs { OnOk result (drawing.new.pairs ≡ drawing.old.pairs ++ map (pair_of stream place) drawing.old.found.waits) }
-    ensures agenda { drawing.new.agenda.keys ≡ drawing.old.agenda.keys }
+    ensures agenda { drawing.new.agenda.entries ≡ drawing.old.agenda.entries }
     ensures ticks { steps.new ≤ steps.old + sum_by (state_work stored.now.network.now (held stored.now.stores.now) tuple.now) drawing.old.found.waits }
 {
     for index in 0..drawing.found.waits.len() {
@@ -177,7 +177,7 @@ fn meet_tuple<L: Ledger>(
     requires suits { TupleSuits stored.now.network.now (held stored.now.stores.now) stream tuple.now }
     ensures grows { OnOk result (Grows stored.now.network.now (moves_of stored.now.network.now (held stored.now.stores.now) stream tuple.now) drawing.old.draft drawing.new.draft) }
     ensures lists { OnOk result (Lists stored.now.network.now (held stored.now.stores.now) stream place tuple.now drawing.old.pairs drawing.new.pairs) }
-    ensures agenda { drawing.new.agenda.keys ≡ drawing.old.agenda.keys }
+    ensures agenda { drawing.new.agenda.entries ≡ drawing.old.agenda.entries }
     ensures ticks { steps.new ≤ steps.old + tuple_work stored.now.network.now (held stored.now.stores.now) stream tuple.now }
 {
     stored
@@ -213,7 +213,7 @@ pub(crate) fn meet_stream<L: Ledger>(
     requires suits { All (TupleSuits stored.now.network.now (held stored.now.stores.now) stream) tuples.now }
     ensures grows { OnOk result (Grows stored.now.network.now (moves_of_all stored.now.network.now (held stored.now.stores.now) stream tuples.now) drawing.old.draft drawing.new.draft) }
     ensures lists { OnOk result (ListsAll stored.now.network.now (held stored.now.stores.now) stream tuples.now drawing.old.pairs drawing.new.pairs) }
-    ensures agenda { drawing.new.agenda.keys ≡ drawing.old.agenda.keys }
+    ensures agenda { drawing.new.agenda.entries ≡ drawing.old.agenda.entries }
     ensures ticks { steps.new ≤ steps.old + stream_work stored.now.network.now (held stored.now.stores.now) stream tuples.now }
 {
     for (place, tuple) in tuples.iter().enumerate() {

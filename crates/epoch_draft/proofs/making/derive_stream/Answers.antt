@@ -8,13 +8,14 @@ use Rattle.scalar_expr.proofs.Bags.{permuted_from}
 use Rattle.epoch_draft.specs.Deriving.{Derives}
 use Rattle.epoch_draft.specs.Drafts.{DraftFits, Grows, without}
 use Rattle.epoch_draft.specs.Held.{held}
-use Rattle.epoch_draft.specs.Marks.{MarksMore}
+use Rattle.epoch_draft.specs.Marks.{MarksMore, MarksNoOther}
 use Rattle.epoch_draft.specs.Meeting.{ListsAll, moves_of_all}
 use Rattle.epoch_draft.specs.Suits.{TupleSuits}
 use Rattle.epoch_draft.specs.declared.draft.Draft.{Draft}
 use Rattle.epoch_draft.proofs.DeriveLemmas.{in_order, ordered_ticks, sort_permutes, sort_twice}
 use Rattle.epoch_draft.proofs.DraftLemmas.{draft_of}
-use Rattle.epoch_draft.proofs.Lists.{on_ok_four}
+use Rattle.epoch_draft.proofs.Lists.{on_ok_five}
+use Rattle.epoch_draft.proofs.DueLemmas.{newly_met}
 use Rattle.epoch_draft.proofs.MarkLemmas.{marks_trans}
 use Rattle.epoch_draft.proofs.making.derive_stream.Goals as goal
 
@@ -45,9 +46,9 @@ returns-clause-derives g c =
     let grows : Grows net (moves_of_all net stores s tuples) (without old s) met =
     subst (λ (d : Draft). Grows net (moves_of_all net stores s tuples) d met) c.in_ok-tuples.ensures.taken
     (subst (λ (ts : List TupleView). Grows net (moves_of_all net stores s ts) c.take_made.new.self met) c.as_slice.ensures.value c.in_ok-meet_stream.ensures.grows) in
-    on_ok_four c.put_made.result (new.made ≡ set met.made s tuples) (new.beads ≡ met.beads) (MarksMore met.due new.due) (DraftFits (length met.made) (length met.beads) new)
+    on_ok_five c.put_made.result (new.made ≡ set met.made s tuples) (new.beads ≡ met.beads) (MarksMore met.due new.due) (MarksNoOther s met.due new.due) (DraftFits (length met.made) (length met.beads) new)
     (Derives net stores s old new c.args.drawing.now.pairs c.meet_stream.new.drawing.pairs)
-    (λ made beads due fits. record {
+    (λ made beads due alone fits. record {
       meets = record {
         tuples = tuples;
         same = permuted_from is (sort_permutes rows);
@@ -57,10 +58,11 @@ returns-clause-derives g c =
         beads = beads;
         fits = subst (λ (m : ℕ). DraftFits m (length net) new) (grows.fits.made ∙ length-set old.made s []) (subst (λ (m : ℕ). DraftFits (length met.made) m new) grows.fits.beads fits);
         due = marks_trans old.due met.due new.due grows.due due;
+        newly_due = newly_met net (moves_of_all net stores s tuples) s tuples old met new grows made alone;
         lists = subst (λ (ts : List TupleView). ListsAll net stores s ts c.args.drawing.now.pairs c.meet_stream.new.drawing.pairs) c.as_slice.ensures.value c.in_ok-meet_stream.ensures.lists;
       };
       ordered = ap sorted is ∙ sort_twice rows ∙ sym is;
-    }) c.put_made.ensures.made c.put_made.ensures.beads c.put_made.ensures.due c.put_made.ensures.fits
+    }) c.put_made.ensures.made c.put_made.ensures.beads c.put_made.ensures.due c.put_made.ensures.no_other c.put_made.ensures.fits
 
 -- the order of the tuples is nothing to their tests
 pub returns-in_err-meet_stream-clause-ticks : goal.returns-in_err-meet_stream-clause-ticks

@@ -1,6 +1,6 @@
-use Rattle.std.proofs.Common.{◌≡◌, ◌∙◌, sym, subst, ℕ, ◌+◌, ◌<◌, ◌≤◌, [], List, length, get_or, arith, ap, refl}
+use Rattle.std.proofs.Common.{◌≡◌, ◌∙◌, sym, subst, ℕ, ◌+◌, ◌<◌, ◌≤◌, [], List, length, get_or, take, arith, ap, refl}
 use Rattle.std.specs.List.{All}
-use Rattle.std.proofs.lemmas.List.Elements.{All-get_or}
+use Rattle.std.proofs.lemmas.List.Elements.{All-get_or, All-nil}
 use Rattle.std.proofs.lemmas.Option.{get_or_from_slice_get}
 use Rattle.event_types.specs.Tuple.{TupleView}
 use Rattle.epoch_draft.specs.Deriving.{opened_of}
@@ -9,12 +9,13 @@ use Rattle.epoch_draft.specs.Drawn.{Drawn, Paired}
 use Rattle.epoch_draft.specs.Held.{held}
 use Rattle.epoch_draft.specs.Meeting.{ListsAll, moves_of_all}
 use Rattle.std.proofs.lemmas.List.Sums.{sum_by_more, sum_by_more_le}
-use Rattle.std.specs.Prelude.{sum_by}
+use Rattle.std.specs.Prelude.{Contains, sum_by}
 use Rattle.semantics.specs.Denotation.{streams_of}
 use Rattle.epoch_draft.specs.Suits.{TupleSuits}
 use Rattle.epoch_draft.specs.Tests.{stream_work}
 use Rattle.epoch_draft.proofs.DeriveLemmas.{drawn_of, opened_drawn, opened_more, paired_none, rows_suit}
 use Rattle.epoch_draft.proofs.DrawnLemmas.{drawn_starts}
+use Rattle.epoch_draft.proofs.DueLemmas.{due_met}
 use Rattle.epoch_draft.proofs.Lists.{taken_all}
 use Rattle.epoch_draft.proofs.StoreLemmas.{typed_has}
 use Rattle.epoch_draft.proofs.making.meet_opened.Goals as goal
@@ -29,6 +30,7 @@ loop-stream-init g c = record {
   drawn = drawn_starts c.args.stored.now.network.now (held c.args.stored.now.stores.now) c.args.drawing.now.draft c.requires.still.none_made c.requires.still.no_beads;
   paired = paired_none c.args.stored.now.network.now (held c.args.stored.now.stores.now) c.args.drawing.now.pairs c.requires.still.no_pairs;
   takes = let none = ap (takes_work c.args.stored.now.network.now (streams_of c.args.opened.now) (held c.args.stored.now.stores.now)) c.requires.still.no_pairs in omega (arith, none);
+  due = subst (All (Contains c.args.stored.now.layout.now.order)) (sym c.requires.still.none_due) (All-nil (Contains c.args.stored.now.layout.now.order));
   agenda = refl;
   ticks = omega arith;
 }
@@ -77,6 +79,7 @@ loop-stream-preserved g c =
       fits = subst (λ (m : ℕ). DraftFits m (length net) new) c.loop-stream.invariant.fits.made grows.fits;
       drawn = both.0;
       paired = both.1;
+      due = due_met net c.args.stored.now.layout.now.order c.requires.can_draw.ends stores (opened_of opened (take (i + 1) touched)) old new both.0 grows.newly_due c.loop-stream.invariant.due;
       agenda = c.meet_read.ensures.agenda ∙ c.loop-stream.invariant.agenda;
       takes =
           let was = c.loop-stream.invariant.takes in

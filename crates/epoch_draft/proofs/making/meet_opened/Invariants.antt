@@ -1,5 +1,6 @@
 use Rattle.std.proofs.Common.{◌≡◌, ◌+◌, ◌≤◌, length, take, get_or, []}
-use Rattle.std.specs.Prelude.{sum_by}
+use Rattle.std.specs.Prelude.{Contains, sum_by}
+use Rattle.std.specs.List.{All}
 use Rattle.semantics.specs.Denotation.{streams_of}
 use Rattle.epoch_draft.specs.Tests.{streams_work}
 use Rattle.epoch_draft.specs.Deriving.{opened_of}
@@ -16,6 +17,7 @@ invariant-loop-stream g l = record {
   drawn : Drawn l.stored.network.now (held l.stored.stores.now) (opened_of l.opened (take l.stream-index l.touched)) l.drawing.draft;
   paired : Paired l.stored.network.now (held l.stored.stores.now) (opened_of l.opened (take l.stream-index l.touched)) l.drawing.pairs;
   takes : takes_work l.stored.network.now (streams_of l.opened) (held l.stored.stores.now) l.drawing.pairs ≤ sum_by (λ s. sum_by (take_work l.stored.network.now (held l.stored.stores.now) s) (get_or l.opened s [])) (take l.stream-index l.touched);
-  agenda : l.drawing.agenda.keys ≡ l.initial.drawing.agenda.keys;
+  due : All (Contains l.stored.layout.now.order) l.drawing.draft.due.numbers;
+  agenda : l.drawing.agenda.entries ≡ l.initial.drawing.agenda.entries;
   ticks : l.steps ≤ l.initial.steps + streams_work l.stored.network.now (held l.stored.stores.now) l.opened (take l.stream-index l.touched);
 }

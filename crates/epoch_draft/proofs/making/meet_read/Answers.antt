@@ -12,7 +12,7 @@ use Rattle.epoch_draft.proofs.making.meet_read.Goals as goal
 
 -- no state reads the stream
 nobody_reads : (g : _) (c : goal.Then-not-get g) → IsUnread c.args.stored.now.network.now c.args.stream
-nobody_reads g c = c.requires.places.unread c.args.stream c.requires.stream (get_or_from_slice_get c.args.stored.now.places.now.read c.args.stream c.get.result.now false c.get.ensures ∙ c.if-not-get.true)
+nobody_reads g c = c.requires.turns.unread c.args.stream c.requires.stream (get_or_from_slice_get c.args.stored.now.turns.now.read c.args.stream c.get.result.now false c.get.ensures ∙ c.if-not-get.true)
 
 -- so nothing comes of its tuples
 pub returns-then-not-get-clause-grows : goal.returns-then-not-get-clause-grows

@@ -12,6 +12,6 @@ invariant-loop-index g l = record {
   grows : Grows l.stored.network.now (moves_met l.stored.network.now (held l.stored.stores.now) l.tuple (take l.index l.initial.drawing.found.waits)) l.initial.drawing.draft l.drawing.draft;
   pairs : l.drawing.pairs ≡ l.initial.drawing.pairs ++ map (pair_of l.stream l.place) (take l.index l.initial.drawing.found.waits);
   waits : l.drawing.found.waits ≡ l.initial.drawing.found.waits;
-  agenda : l.drawing.agenda.keys ≡ l.initial.drawing.agenda.keys;
+  agenda : l.drawing.agenda.entries ≡ l.initial.drawing.agenda.entries;
   ticks : l.steps ≤ l.initial.steps + sum_by (state_work l.stored.network.now (held l.stored.stores.now) l.tuple) (take l.index l.initial.drawing.found.waits);
 }

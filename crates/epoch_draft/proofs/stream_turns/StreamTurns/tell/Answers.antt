@@ -2,7 +2,7 @@ use Rattle.std.proofs.Common.{◌∙◌, ◌≤◌, ℕ, List, length, refl, sub
 use Rattle.epoch_draft.specs.Agenda.{AreTold}
 use Rattle.epoch_draft.proofs.Lists.{taken_all}
 use Rattle.epoch_draft.proofs.ToldLemmas.{told_more, told_none}
-use Rattle.epoch_draft.proofs.stream_places.StreamPlaces.tell.Goals as goal
+use Rattle.epoch_draft.proofs.stream_turns.StreamTurns.tell.Goals as goal
 
 pub loop-state-init : goal.loop-state-init
 loop-state-init c = (told_none c.args.network.now c.args.self.now.read, refl)
@@ -11,7 +11,7 @@ loop-state-init c = (told_none c.args.network.now c.args.self.now.read, refl)
 pub loop-state-preserved : goal.loop-state-preserved
 loop-state-preserved c = (
   told_more c.args.network.now c.args.states.now c.loop-state.state-index c.args.self.now.read c.loop-state.self.read c.tell_of.new.self.read c.loop-state-test.true c.tell_of.ensures.told c.tell_of.ensures.stay c.loop-state.invariant.0,
-  c.tell_of.ensures.places ∙ c.loop-state.invariant.1,
+  c.tell_of.ensures.turns ∙ c.loop-state.invariant.1,
 )
 
 pub returns-clause-told : goal.returns-clause-told

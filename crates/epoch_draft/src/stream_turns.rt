@@ -1,57 +1,59 @@
-//! The places of streams in the order of work.
+//! The turns of streams in the order of work.
 ghost use Rattle.std.specs.Prelude.{◌≡◌, ◌<◌, ◌≤◌, ℕ, false, true, IfOk, OnOk, Some, length, slice_index_or};
 ghost use Rattle.std.specs.List.{All};
-ghost use Rattle.epoch_draft.specs.Agenda.{ArePlaces, AreTold, StayTold, read_at};
+ghost use Rattle.epoch_draft.specs.Agenda.{AreTold, AreTurns, StayTold, read_at};
 ghost use Rattle.epoch_draft.specs.Filling.{IsLengthened};
-ghost use Rattle.epoch_draft.specs.Places.{StandOnce};
+ghost use Rattle.epoch_draft.specs.Turns.{StandOnce};
 
 use crate::filling::lengthen;
-use crate::places::Places;
+use crate::turns::Turns;
 use automaton::Network;
 use event_types::{List, Memory, StreamId};
+use long_lists::LongNumbers;
 use std::alloc::Global;
 
-/// By the stream's number its place in the order of work, counted from 0, and whether a state reads it. A stream that
-/// isn't of the order may have any place, and one that no state reads any more may still be told as read.
+/// By the stream's number its turn in the order of work, and whether a state reads it. A stream that isn't of the order
+/// may have any turn, and one that no state reads any more may still be told as read.
 #[derive(Drop)]
-pub struct StreamPlaces {
-    pub places: Places,
+pub struct StreamTurns {
+    pub turns: Turns,
     pub read: List<bool>,
 }
 
-impl StreamPlaces {
-    /// The places of so many streams, by the order and the states of a network.
+impl StreamTurns {
+    /// The turns of so many streams, by the order and the states of a network.
     pub fn make(
         alloc: Global,
         network: &Network,
-        order: &[StreamId],
+        order: &LongNumbers,
         streams: usize,
-    ) -> Result<StreamPlaces, Memory>
+    ) -> Result<StreamTurns, Memory>
         requires below { All (λ stream. stream < streams) order.now }
         requires once { StandOnce order.now }
-        ensures { IfOk result (ArePlaces network.now order.now streams) }
+        ensures { IfOk result (AreTurns network.now order.now streams) }
     {
-        let mut places = StreamPlaces {
-            places: Places::new(alloc),
+        let mut turns = StreamTurns {
+            turns: Turns::new(alloc),
             read: List::new(alloc),
         };
-        places.grow(streams)?;
-        places.places.arrange(order, 0);
+        turns.grow(streams)?;
+        turns.turns.arrange(order, 0);
         for state in 0..network.places() {
-            places.tell_of(network, state);
+            turns.tell_of(network, state);
         }
-        Ok(places)
+        Ok(turns)
     }
 
     /// Makes room for so many streams, of which those that come are read by no state. After want of memory there may be
     /// room for more than before.
     pub fn grow(&mut self, streams: usize) -> Result<(), Memory>
-        ensures places { IsLengthened 0 self.old.places self.new.places }
+        ensures turns { IsLengthened 0 self.old.turns.given self.new.turns.given }
+        ensures last { self.new.turns.last ≡ self.old.turns.last }
         ensures read { IsLengthened false self.old.read self.new.read }
-        ensures many_places { OnOk result (streams ≤ length self.new.places) }
+        ensures many_turns { OnOk result (streams ≤ length self.new.turns.given) }
         ensures many_read { OnOk result (streams ≤ length self.new.read) }
     {
-        self.places.grow(streams)?;
+        self.turns.grow(streams)?;
         lengthen(&mut self.read, streams, false)
     }
 
@@ -59,7 +61,7 @@ impl StreamPlaces {
     pub fn tell(&mut self, network: &Network, states: &[usize])
         requires { All (λ state. state < length network.now) states.now }
         ensures told { AreTold network.now states.now self.old.read self.new.read }
-        ensures places { self.new.places ≡ self.old.places }
+        ensures turns { self.new.turns ≡ self.old.turns }
     {
         for state in states {
             self.tell_of(network, *state);
@@ -71,7 +73,7 @@ impl StreamPlaces {
         requires { state < length network.now }
         ensures told { (stream : ℕ) → read_at network.now state ≡ Some stream → stream < length self.new.read → slice_index_or self.new.read stream false ≡ true }
         ensures stay { StayTold self.old.read self.new.read }
-        ensures places { self.new.places ≡ self.old.places }
+        ensures turns { self.new.turns ≡ self.old.turns }
     {
         match stream_of(network, state) {
             Some(stream) if stream < self.read.len() => *self.read.get_mut(stream) = true,
