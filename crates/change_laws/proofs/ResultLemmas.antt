@@ -1,9 +1,9 @@
 -- What a closing gives is what the queries denote.
-use Rattle.std.proofs.Common.{◌≡◌, ◌∙◌, ap, refl, subst, ℕ, ◌<◌, ◌==◌, Bool, true, false, cond, nat_lt, List, [], ◌∷◌, map, arith}
+use Rattle.std.proofs.Common.{◌≡◌, ◌∙◌, ap, refl, subst, ℕ, ◌<◌, ◌==◌, Bool, true, false, cond, nat_lt, List, [], ◌∷◌, ◌++◌, map, arith}
 use Rattle.std.specs.Prelude.{Option, Some}
 use Rattle.std.specs.List.{All}
 use Rattle.std.proofs.lemmas.Bool.Decides.{nat_tests}
-use Rattle.std.proofs.lemmas.List.Elements.{All-head, All-tail, All-weaker}
+use Rattle.std.proofs.lemmas.List.Elements.{All-head, All-map, All-tail, All-weaker}
 use Rattle.automaton.specs.declared.layout.Layout.{Layout}
 use Rattle.birth_laws.specs.BornChains.{born_lines}
 use Rattle.birth_laws.proofs.ProgramLemmas.{program_meant}
@@ -11,6 +11,7 @@ use Rattle.catalogue.specs.Catalogued.{program_in}
 use Rattle.cel_types.specs.SourceLaws.{kinds_in}
 use Rattle.epoch_engine.specs.Closes.{Closes}
 use Rattle.epoch_engine.specs.EngineView.{EngineView, stores_in}
+use Rattle.epoch_engine.specs.Results.{result_of, results_of}
 use Rattle.epoch_laws.specs.Batch.{Agree}
 use Rattle.epoch_laws.specs.InstanceFlow.{completed_after}
 use Rattle.epoch_laws.specs.Standing.{PartsStandFor}
@@ -18,12 +19,12 @@ use Rattle.epoch_laws.proofs.Bags.{permuted_is}
 use Rattle.epoch_laws.proofs.Standing.{closing_is_results}
 use Rattle.event_types.specs.Order.{sorted}
 use Rattle.event_types.specs.Tuple.{TupleView}
-use Rattle.semantics.specs.Denotation.{streams_of}
+use Rattle.semantics.specs.Denotation.{Streams, streams_of}
 use Rattle.semantics.specs.Histories.{Event, heard_on}
 use Rattle.semantics.specs.Programs.{Program, Query, declared_streams, env}
 use Rattle.semantics.specs.Results.{results}
 use Rattle.semantics.proofs.ReportLemmas.{filter_none}
-use Rattle.splitter.specs.Chains.{work_order}
+use Rattle.splitter.specs.Chains.{outs_of, work_order}
 use Rattle.change_laws.specs.Courses.{Monitor, StandsForProgram}
 use Rattle.change_laws.specs.Laws.{ClosingsGiveResults}
 
@@ -31,11 +32,13 @@ use Rattle.change_laws.specs.Laws.{ClosingsGiveResults}
 other_stream : (at stream declared : ℕ) → at < declared → nat_lt stream declared ≡ false → (at == stream) ≡ false
 other_stream at stream declared within past = grind (arith, nat_tests)
 
--- what is so of the stream of each query is so in their list
-by_queries : (f : ℕ → List TupleView) (g : Query → List TupleView) (queries : List Query) → All (λ query. f query.stream ≡ g query) queries → map f (map (λ (query : Query). query.stream) queries) ≡ map g queries
-by_queries f g [] all = refl
-by_queries f g (query ∷ queries) all = λ i.
-    All-head (λ (q : Query). f q.stream ≡ g q) query queries all i ∷ by_queries f g queries (All-tail (λ (q : Query). f q.stream ≡ g q) query queries all) i
+-- streams that have the same tuples have the same results, by induction on these
+pub same_results : (outs : List ℕ) (f g : Streams) → All (λ stream. f stream ≡ g stream) outs → results_of outs f ≡ results_of outs g
+same_results [] f g all = refl
+same_results (stream ∷ outs) f g all =
+    let first : f stream ≡ g stream = All-head (λ s. f s ≡ g s) stream outs all in
+    let rest = same_results outs f g (All-tail (λ s. f s ≡ g s) stream outs all) in
+    λ i. result_of stream (first i) ++ rest i
 
 module _ (monitor : Monitor) (stands : StandsForProgram monitor) where
   abbrev program : Program
@@ -69,7 +72,7 @@ module _ (monitor : Monitor) (stands : StandsForProgram monitor) where
       (λ query is. permuted_is ((λ i. completed_after (born_lines program) (same_order i) (heard_declared i) query.stream) ∙ is)) program.queries
       (program_meant (kinds_in monitor.catalogue.streams) program history stands.in_order.wide stands.events.kinds stands.engine.stands.sound).1
 
-  module _ (after : EngineView) (batch : List (List TupleView)) (closes : Closes engine after batch) where
+  module _ (after : EngineView) (batch : List (ℕ × List TupleView)) (closes : Closes engine after batch) where
     open_stands : PartsStandFor engine.network (born_lines program) engine.layout.order (stores_in engine) (Some closes.time) (streams_of engine.opened) engine.closed_time history
     open_stands =
         subst (λ (t : Option ℕ). PartsStandFor engine.network (born_lines program) engine.layout.order (stores_in engine) t (streams_of engine.opened) engine.closed_time history) closes.was_open stands.engine.stands
@@ -80,10 +83,11 @@ module _ (monitor : Monitor) (stands : StandsForProgram monitor) where
         (λ query. closing_is_results engine.network (born_lines program) engine.layout.order (stores_in engine) closes.time (streams_of engine.opened) closes.taken.news engine.closed_time history stands.engine.serves open_stands
         closes.taken.epoch program query.stream) program.queries agree
 
-    gives : batch ≡ map (λ query. results program history query.stream closes.time) program.queries
+    gives : batch ≡ results_of (outs_of program) (λ stream. results program history stream closes.time)
     gives =
-        closes.taken.results ∙ ap (map (λ stream. sorted (closes.taken.news stream))) (ap (λ (layout : Layout). layout.outs) stands.at_one.layout ∙ stands.in_order.laid.outs)
-        ∙ by_queries (λ stream. sorted (closes.taken.news stream)) (λ query. results program history query.stream closes.time) program.queries each
+        closes.taken.results ∙ ap (λ outs. results_of outs (λ stream. sorted (closes.taken.news stream))) (ap (λ (layout : Layout). layout.outs) stands.at_one.layout ∙ stands.in_order.laid.outs)
+        ∙ same_results (outs_of program) (λ stream. sorted (closes.taken.news stream)) (λ stream. results program history stream closes.time)
+        (All-map (λ stream. sorted (closes.taken.news stream) ≡ results program history stream closes.time) (λ (query : Query). query.stream) program.queries each)
 
 -- each closing gives the results of the queries
 pub closings_give_results : ClosingsGiveResults

@@ -42,7 +42,7 @@ pub data Happens : Monitor → Monitor → Type 0 where
   offer : {c : Catalogued} {engine : EngineView} {events : List Event} (stream : ℕ) (tuple : TupleView)
       → stream < c.declared → IsSound tuple → IsHeard engine.layout stream tuple → IsNotAhead engine.time tuple.at → ((seen : ℕ) → IsLate engine.time engine.closed_time tuple.at seen → ⊥)
       → Happens (record { catalogue = c; engine = engine; events = events }) (record { catalogue = c; engine = with_tuple engine stream tuple; events = events ++ record { stream = stream; tuple = tuple } ∷ [] })
-  close : {c : Catalogued} {before after : EngineView} {events : List Event} (batch : List (List TupleView))
+  close : {c : Catalogued} {before after : EngineView} {events : List Event} (batch : List (ℕ × List TupleView))
       → Closes before after batch → KeepsPlan before after → Happens (record { catalogue = c; engine = before; events = events }) (record { catalogue = c; engine = after; events = events })
   trim : {c : Catalogued} {before after : EngineView} {events : List Event} → Trims before after → Happens (record { catalogue = c; engine = before; events = events }) (record { catalogue = c; engine = after; events = events })
   come : {old new : Catalogued} {before after : EngineView} {events : List Event} (added : AddedQuery) (told : Added)

@@ -1,5 +1,5 @@
 -- Laws of queries that come and go beside an engine.
-use Rattle.std.specs.Prelude.{◌≡◌, ◌<◌, ℕ, List, [], Option, length, map}
+use Rattle.std.specs.Prelude.{◌≡◌, ◌<◌, ℕ, List, [], Option, length}
 use Rattle.automaton.specs.NetworkLines.{HasEndings}
 use Rattle.automaton.specs.Plain.{numbered}
 use Rattle.automaton.specs.States.{Net}
@@ -18,11 +18,12 @@ use Rattle.change_laws.specs.Courses.{Course, Monitor, StandsForProgram}
 use Rattle.epoch_engine.specs.Closes.{Closes}
 use Rattle.epoch_engine.specs.EngineStandsFor.{EngineStandsFor}
 use Rattle.epoch_engine.specs.EngineView.{EngineView}
+use Rattle.epoch_engine.specs.Results.{results_of}
 use Rattle.epoch_engine.specs.Starts.{IsNew}
 use Rattle.event_types.specs.Tuple.{TupleView}
 use Rattle.semantics.specs.Histories.{Event}
 use Rattle.semantics.specs.Results.{results}
-use Rattle.splitter.specs.Chains.{lines_of}
+use Rattle.splitter.specs.Chains.{lines_of, outs_of}
 
 -- a new engine over the merged lines of a catalogue as it was loaded, and over its layout, is at one with it and stands for its program and no events
 pub record NewAreAtOne : Type 0 where
@@ -65,8 +66,8 @@ pub record LeavingStands : Type 0 where
 abbrev pub CoursesStand : Type 0
 CoursesStand = (first last : Monitor) → StandsForProgram first → Course first last → StandsForProgram last
 
--- and each closing gives each query what it denotes over the events since its birth
+-- and each closing gives the streams of the queries that denote tuples over the events since their births, in print order, each with these
 abbrev pub ClosingsGiveResults : Type 0
 ClosingsGiveResults =
-    (monitor : Monitor) (after : EngineView) (batch : List (List TupleView)) → StandsForProgram monitor → (closes : Closes monitor.engine after batch)
-    → batch ≡ map (λ query. results (program_in monitor.catalogue) monitor.events query.stream closes.time) (program_in monitor.catalogue).queries
+    (monitor : Monitor) (after : EngineView) (batch : List (ℕ × List TupleView)) → StandsForProgram monitor → (closes : Closes monitor.engine after batch)
+    → batch ≡ results_of (outs_of (program_in monitor.catalogue)) (λ stream. results (program_in monitor.catalogue) monitor.events stream closes.time)

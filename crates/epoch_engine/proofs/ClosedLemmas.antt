@@ -1,8 +1,8 @@
 -- What the two halves of a closing give.
-use Rattle.std.proofs.Common.{◌≡◌, ◌∙◌, sym, ap, refl, ℕ, ◌+◌, true, cond, get_or, List, [], ◌∷◌, map}
+use Rattle.std.proofs.Common.{◌≡◌, ◌∙◌, sym, ap, ℕ, ◌+◌, true, cond, get_or, List, []}
 use Rattle.std.specs.Prelude.{IfSome, IsSome, IsTrue, Option, Some, None}
 use Rattle.std.specs.List.{All}
-use Rattle.std.proofs.lemmas.List.Elements.{All-contains, All-head, All-tail, All-weaker}
+use Rattle.std.proofs.lemmas.List.Elements.{All-contains, All-weaker}
 use Rattle.event_types.specs.Order.{sorted}
 use Rattle.event_types.specs.Tuple.{TupleView}
 use Rattle.binding_index.specs.declared.store.Store.{Store}
@@ -20,23 +20,22 @@ use Rattle.epoch_draft.proofs.DeriveLemmas.{contains_in}
 use Rattle.epoch_draft.proofs.TypedLemmas.{closed_typed}
 use Rattle.epoch_engine.specs.Batches.{IsOfMade}
 use Rattle.epoch_engine.specs.Closes.{IsTaken}
-
--- two functions that agree on the items of a list
-map_same : {X Y : Type 0} (f g : X → Y) (xs : List X) → All (λ x. f x ≡ g x) xs → map f xs ≡ map g xs
-map_same f g [] all = refl
-map_same f g (x ∷ xs) all = (λ i. All-head (λ x. f x ≡ g x) x xs all i ∷ map_same f g xs (All-tail (λ x. f x ≡ g x) x xs all) i)
+use Rattle.epoch_engine.specs.Results.{result_of, results_of}
+use Rattle.semantics.proofs.ReportLemmas.{flat_map_same}
 
 -- the batch of what was made for printed streams has the tuples of the epoch, in their order
-results : (opened made batch : List (List TupleView)) (order outs : List ℕ) → All (λ s. IsTrue (is_in order s)) outs → AreOrdered made order → IsOfMade outs made batch → batch ≡ map (λ s. sorted (news_of opened made order s)) outs
+results : (opened made : List (List TupleView)) (batch : List (ℕ × List TupleView)) (order outs : List ℕ) → All (λ s. IsTrue (is_in order s)) outs → AreOrdered made order → IsOfMade outs made batch → batch ≡ results_of outs (λ s. sorted (news_of opened made order s))
 results opened made batch order outs printed ordered is =
-    is ∙ map_same (λ s. get_or made s []) (λ s. sorted (news_of opened made order s)) outs (All-weaker (λ s. IsTrue (is_in order s)) (λ s. get_or made s [] ≡ sorted (news_of opened made order s)) each outs printed)
+    is
+    ∙ flat_map_same (λ s. result_of s (get_or made s [])) (λ s. result_of s (sorted (news_of opened made order s))) outs
+    (All-weaker (λ s. IsTrue (is_in order s)) (λ s. result_of s (get_or made s []) ≡ result_of s (sorted (news_of opened made order s))) (λ s e. ap (result_of s) (each s e)) outs printed)
   where
     each : (s : ℕ) → is_in order s ≡ true → get_or made s [] ≡ sorted (news_of opened made order s)
     each s e =
         sym (All-contains (λ t. sorted (get_or made t []) ≡ get_or made t []) order s ordered (contains_in order s e)) ∙ ap (λ b. sorted (cond b (get_or made s []) (get_or opened s []))) (sym e)
 
 -- an epoch that was drawn and settled is taken
-pub taken : (net : Net) (layout : Layout) (time : ℕ) (old new : List (Option Store)) (opened batch : List (List TupleView)) (draft : Draft) (pairs : List Pair) → All (λ s. IsTrue (is_in layout.order s)) layout.outs
+pub taken : (net : Net) (layout : Layout) (time : ℕ) (old new : List (Option Store)) (opened : List (List TupleView)) (batch : List (ℕ × List TupleView)) (draft : Draft) (pairs : List Pair) → All (λ s. IsTrue (is_in layout.order s)) layout.outs
     → DrawnUpTo net layout old opened layout.order draft pairs → AreClosed (time + 1) net (news_of opened draft.made layout.order) old new → IsOfMade layout.outs draft.made batch
     → IsTaken net layout time (held old) (streams_of opened) (held new) batch
 taken net layout time old new opened batch draft pairs printed drawn closed is = record {

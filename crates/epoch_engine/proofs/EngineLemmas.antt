@@ -1,12 +1,11 @@
 -- Engines that are made, take a tuple and close an epoch.
 use Rattle.std.proofs.Common.{Box, Global, ◌≡◌, ◌∙◌, sym, ap, refl, subst, inl, inr, ℕ, zero, suc, ◌==◌, ◌<◌, ◌⊎◌, Bool, true, false, ◌||◌, length, get_or, set, take, drop, drop-cons, List, [], ◌∷◌, ◌++◌, map, arith, ◌≤◌, ◌+◌}
 use Rattle.std.specs.Prelude.{Contains, IfSome, IsSome, IsTrue, Option, Some, None, slice_get}
-use Rattle.std.specs.Option.{option_map, unwrap_or}
 use Rattle.std.specs.List.{All, list_any}
 use Rattle.std.proofs.lemmas.Bool.Decides.{nat_tests}
 use Rattle.std.proofs.lemmas.Grind.{get_or-set_at}
 use Rattle.std.proofs.lemmas.List.{get_or-set_other, length-set, set-get_or, take-append-drop}
-use Rattle.std.proofs.lemmas.List.Elements.{All-cons, All-head, All-nil, All-push, All-tail, All-weaker}
+use Rattle.std.proofs.lemmas.List.Elements.{All-cons, All-contains, All-head, All-nil, All-push, All-tail, All-weaker}
 use Rattle.std.proofs.lemmas.Option.{get_or_from_slice_get, slice_get_within}
 use Rattle.std.proofs.lemmas.Bool.{true≢false}
 use Rattle.event_types.specs.declared.kind.Kind.{Kind}
@@ -19,12 +18,10 @@ use Rattle.semantics.specs.Kinds.{HasKinds}
 use Rattle.automaton.specs.LineKinds.{LineFits}
 use Rattle.automaton.specs.NetworkLines.{NetworkFits}
 use Rattle.automaton.specs.Networks.{IsNetwork}
-use Rattle.automaton.specs.States.{Net, ends_at, state_at}
+use Rattle.automaton.specs.States.{Net}
 use Rattle.automaton.specs.Work.{IsInOrder, is_in}
 use Rattle.automaton.specs.declared.layout.Layout.{Layout}
 use Rattle.automaton.specs.declared.line.Line.{Line}
-use Rattle.automaton.specs.declared.network.End.{End}
-use Rattle.automaton.specs.declared.network.State.{State}
 use Rattle.automaton.specs.declared.wait.Wait.{Wait}
 use Rattle.automaton.proofs.NumberLemmas.{are_same_or_not}
 use Rattle.epoch_laws.specs.Closing.{Stores}
@@ -32,10 +29,8 @@ use Rattle.epoch_laws.proofs.Lists.{every}
 use Rattle.epoch_draft.specs.Deriving.{AreOpened, CanDraw}
 use Rattle.epoch_draft.specs.Drawings.{IsStill}
 use Rattle.epoch_draft.specs.Led.{AreLed}
-use Rattle.epoch_draft.specs.Drafts.{EndsBelow}
 use Rattle.epoch_draft.specs.Filling.{IsLengthened}
 use Rattle.epoch_draft.specs.Held.{SameStored, held, instances_in, shape_for, shape_of}
-use Rattle.epoch_draft.specs.Kindings.{EndFits}
 use Rattle.epoch_draft.specs.Stores.{AreNewStores}
 use Rattle.epoch_draft.specs.Typed.{HaveKinds, IsStoreOf, IsTyped}
 use Rattle.epoch_draft.specs.declared.marks.Marks.{Marks}
@@ -53,7 +48,7 @@ use Rattle.epoch_engine.specs.declared.epoch.Epoch.{Epoch}
 use Rattle.epoch_engine.specs.declared.holdings.Holdings.{Holdings}
 use Rattle.epoch_engine.specs.declared.room.Room.{Room}
 use Rattle.epoch_engine.specs.declared.plan.Plan.{Plan}
-use Rattle.epoch_engine.proofs.KindingLemmas.{AreStatesTyped, fitting_typed}
+use Rattle.epoch_engine.proofs.KindingLemmas.{fitting_ends, fitting_typed}
 use Rattle.epoch_engine.specs.Taking.{closing_work}
 
 -- what contracts see of these parts
@@ -125,15 +120,10 @@ pub outs_inside : (plan : Plan) → IsPlan plan → All (λ s. s < length plan.l
 outs_inside plan is below bound same outs e =
     subst (λ (m : ℕ). All (λ s. s < m) outs) (sym same) (subst (All (λ s. s < length plan.layout.kinds)) (sym e) (printed_below (length plan.layout.kinds) plan.layout.order plan.layout.outs below is.printed))
 
--- the streams of the ends of a typed network have kinds
-pub ends_below : (kinds : List (List Kind)) (net : Net) → AreStatesTyped kinds net → EndsBelow net (length kinds)
-ends_below kinds net typed n = go (state_at net n) refl
-  where
-    go : (o : Option State) → state_at net n ≡ o → All (λ (e : End). e.out < length kinds) (ends_at net n)
-    go None found = subst (All (λ (e : End). e.out < length kinds)) (sym (ap (λ (o : Option State). unwrap_or (option_map (λ (s : State). s.ends) o) []) found)) (All-nil (λ (e : End). e.out < length kinds))
-    go (Some state) found =
-        subst (All (λ (e : End). e.out < length kinds)) (sym (ap (λ (o : Option State). unwrap_or (option_map (λ (s : State). s.ends) o) []) found))
-        (All-weaker (EndFits kinds (typed.0.leaving n)) (λ (e : End). e.out < length kinds) (λ e fit. slice_get_within kinds e.out fit.0 fit.2) state.ends (typed.1 n state found).1)
+-- those that are printed have kinds
+pub printed_inside : (plan : Plan) → IsPlan plan → All (λ s. s < length plan.layout.kinds) plan.layout.order → (bound : ℕ) → bound ≡ length plan.layout.kinds → (streams : List ℕ) → All (Contains plan.layout.outs) streams → All (λ s. s < bound) streams
+printed_inside plan is below bound same streams among =
+    All-weaker (Contains plan.layout.outs) (λ s. s < bound) (λ s there. All-contains (λ s. s < bound) plan.layout.outs s (outs_inside plan is below bound same plan.layout.outs refl) there) streams among
 
 -- where no stream has tuples, they have whatever kinds
 pub none_have : (kinds : List (List Kind)) (tuples : List (List TupleView)) → ((s : ℕ) → get_or tuples s [] ≡ []) → HaveKinds kinds (streams_of tuples)
@@ -169,7 +159,7 @@ made_running plan stores epoch fits network is has as_many none touched =
         };
         kinds = none_have plan.layout.kinds epoch.tuples none;
         as_many = as_many;
-        below = ends_below plan.layout.kinds plan.merged typed;
+        ends = fitting_ends plan.merged plan.layout fits;
         order = order_below plan.merged plan.layout fits;
         underived = every (λ s. get_or epoch.tuples s [] ≡ []) none plan.layout.order;
       };
@@ -187,7 +177,7 @@ with_typed plan stores after epoch running typed = record {
     typed = typed;
     kinds = running.can_draw.kinds;
     as_many = running.can_draw.as_many;
-    below = running.can_draw.below;
+    ends = running.can_draw.ends;
     order = running.can_draw.order;
     underived = running.can_draw.underived;
   };
@@ -221,7 +211,7 @@ with_tuples plan stores old new running kinds as_many underived touched = record
     typed = running.can_draw.typed;
     kinds = kinds;
     as_many = as_many ∙ running.can_draw.as_many;
-    below = running.can_draw.below;
+    ends = running.can_draw.ends;
     order = running.can_draw.order;
     underived = underived;
   };
@@ -329,7 +319,7 @@ pub made_empty : (net : Net) (stores : List (Option Store)) → AreNewStores net
 made_empty net stores has n = (λ i. held_in stores i n) ∙ has.empty n
 
 -- what the closing of an epoch makes of a view
-pub closes_view : (plan : Plan) (stores after : List (Option Store)) (old new : Epoch) (closed_time : Option ℕ) (batch : List (List TupleView)) → ((s : ℕ) → get_or new.tuples s [] ≡ []) → length new.tuples ≡ length old.tuples → new.time ≡ None
+pub closes_view : (plan : Plan) (stores after : List (Option Store)) (old new : Epoch) (closed_time : Option ℕ) (batch : List (ℕ × List TupleView)) → ((s : ℕ) → get_or new.tuples s [] ≡ []) → length new.tuples ≡ length old.tuples → new.time ≡ None
     → (was : Option ℕ) → old.time ≡ was → IsSome was → IfSome was (λ time. IsTaken plan.merged plan.layout time (held stores) (streams_of old.tuples) (held after) batch)
     → Closes (view_of plan stores old closed_time) (view_of plan after new old.time) batch
 closes_view plan stores after old new closed_time batch empty as_many none None is opened taken = absurd (cc)

@@ -1,6 +1,6 @@
 -- The kinds of what comes to the states of a network that fits its layout.
 use Rattle.std.proofs.Common.{◌≡◌, ◌∙◌, sym, ap, refl, subst, ℕ, ◌+◌, ◌-◌, ◌<◌, ◌≤◌, true, length, get_or, List, [], ◌∷◌, ◌++◌, map, arith}
-use Rattle.std.specs.Prelude.{Option, Some, None, is_some, slice_get}
+use Rattle.std.specs.Prelude.{Contains, IsTrue, Option, Some, None, is_some, slice_get}
 use Rattle.std.specs.Option.{option_map, unwrap_or}
 use Rattle.std.specs.List.{All, range_with_len}
 use Rattle.std.proofs.lemmas.List.Elements.{All-contains, All-get_or, All-nil, All-push, All-weaker}
@@ -28,6 +28,9 @@ use Rattle.automaton.proofs.SlotLemmas.{at_one, at_used, root_entry, used_below}
 use Rattle.automaton.proofs.TypingLemmas.{kinds_are}
 use Rattle.epoch_laws.proofs.Lists.{All-flat_map, map_all}
 use Rattle.epoch_laws.proofs.Networks.{flat_all, line_at, path_back}
+use Rattle.automaton.specs.Work.{is_in}
+use Rattle.epoch_draft.specs.Drafts.{EndsIn}
+use Rattle.epoch_draft.proofs.DeriveLemmas.{contains_in}
 use Rattle.epoch_draft.specs.Kindings.{EndFits, EntranceFits, Kinding, StatesFit}
 use Rattle.epoch_draft.proofs.Lists.{some_is}
 
@@ -181,3 +184,13 @@ module _ (kinds : List (List Kind)) (net : Net) (lines : List Line) (has : HasLi
 -- a network that fits its layout is typed over the layout's kinds
 pub fitting_typed : (net : Net) (layout : Layout) → NetworkFits net layout → AreStatesTyped layout.kinds net
 fitting_typed net layout fits = states_typed layout.kinds net fits.0 fits.1 fits.2.typed
+
+-- and its ends publish streams of the order of work
+pub fitting_ends : (net : Net) (layout : Layout) → NetworkFits net layout → EndsIn net layout.order
+fitting_ends net layout fits number = go (state_at net number) refl
+  where
+    go : (o : Option State) → state_at net number ≡ o → All (λ (end : End). Contains layout.order end.out) (ends_at net number)
+    go None found = subst (All (λ (end : End). Contains layout.order end.out)) (sym (ap (λ (o : Option State). unwrap_or (option_map (λ (s : State). s.ends) o) []) found)) (All-nil (λ (end : End). Contains layout.order end.out))
+    go (Some state) found =
+        All-weaker (λ (end : End). IsTrue (is_in layout.order end.out)) (λ (end : End). Contains layout.order end.out) (λ end is. contains_in layout.order end.out is) (ends_at net number)
+        (end_lines net fits.0 fits.1 (λ (line : Line). IsTrue (is_in layout.order line.out)) fits.2.all_outs number (used_below net number (ap is_some found)))

@@ -6,6 +6,7 @@ pub mod ClosedLemmas
 pub mod ClosingTests
 pub mod ConsistentLemmas
 pub mod DroppedLemmas
+pub mod DueLemmas
 pub mod EngineLemmas
 pub mod EpochTests
 pub mod FitLemmas
@@ -20,6 +21,7 @@ pub mod PrintedLemmas
 pub mod PurgeLemmas
 pub mod PurgedLemmas
 pub mod ReadLemmas
+pub mod RiseLemmas
 pub mod StandsLemmas
 pub mod StateTests
 pub mod StreamLemmas

@@ -21,8 +21,8 @@ use Rattle.epoch_draft.specs.Typed.{IsTyped}
 use Rattle.epoch_engine.specs.Adding.{FitsWith, FitsWithout}
 use Rattle.epoch_engine.specs.Fitting.{AreGrown, AreLeft, IsGrownSlot}
 use Rattle.epoch_engine.proofs.BornLemmas.{their_births}
-use Rattle.epoch_engine.proofs.EngineLemmas.{ends_below, held_in, none_have, order_below}
-use Rattle.epoch_engine.proofs.KindingLemmas.{fitting_typed}
+use Rattle.epoch_engine.proofs.EngineLemmas.{held_in, none_have, order_below}
+use Rattle.epoch_engine.proofs.KindingLemmas.{fitting_ends}
 
 -- the lines of endings
 their_lines : (birth : Option ℕ) (lines : List Line) (ends : List ℕ) → length ends ≡ length lines → map (λ (ending : Ending). ending.line) (endings_with birth lines ends) ≡ lines
@@ -55,7 +55,7 @@ drawable net layout stores tuples fits network typed as_many none =
       typed = typed;
       kinds = none_have layout.kinds tuples none;
       as_many = as_many;
-      below = ends_below layout.kinds net (fitting_typed net layout fits);
+      ends = fitting_ends net layout fits;
       order = order_below net layout fits;
       underived = every (λ s. get_or tuples s [] ≡ []) none layout.order;
     }

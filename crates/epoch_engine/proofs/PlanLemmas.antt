@@ -1,16 +1,18 @@
 -- Plans that are changed in place.
-use Rattle.std.proofs.Common.{◌≡◌, ◌∙◌, sym, ap, refl, subst, inl, inr, ℕ, zero, suc, Bool, true, false, ◌+◌, ◌-◌, ◌<◌, ◌≤◌, ◌⊎◌, length, get_or, take, drop, List, [], ◌∷◌, ◌++◌, arith}
+use Rattle.std.proofs.Common.{◌≡◌, ◌∙◌, sym, ap, refl, subst, inl, inr, ℕ, zero, suc, Bool, true, false, ◌<◌, ◌⊎◌, length, get_or, take, List, [], ◌∷◌, ◌++◌, arith}
 use Rattle.std.specs.Prelude.{Contains, IsTrue, Option, Some, None}
 use Rattle.std.specs.Option.{option_and_then, option_map}
-use Rattle.std.specs.List.{All, remove}
-use Rattle.std.proofs.lemmas.List.{ext_get_or, get_or-append_right, get_or-drop, get_or-take, get_or_append_left, length-append, length-drop, length-take}
-use Rattle.std.proofs.lemmas.List.Edits.{get_or-remove_above, get_or-remove_below, length-remove}
+use Rattle.std.specs.List.{All}
+use Rattle.std.proofs.lemmas.List.{ext_get_or, get_or-take, length-take}
 use Rattle.automaton.specs.States.{Net, entrance_at, is_used, state_at, wait_at, wait_by}
 use Rattle.automaton.proofs.SlotLemmas.{entry_there}
 use Rattle.std.specs.Prelude.{is_some}
 use Rattle.automaton.specs.declared.network.Entrance.{Entrance}
-use Rattle.epoch_draft.specs.Agenda.{ArePlaces, IsUnread, read_at, read_by}
-use Rattle.epoch_draft.specs.Places.{AreArranged, AreArrangedUpTo, HaveLeft}
+use Rattle.epoch_draft.specs.Agenda.{AreTurns, IsUnread, read_at, read_by}
+use Rattle.epoch_draft.specs.Turns.{HaveTurns}
+use Rattle.epoch_draft.proofs.TurnLemmas.{turns_longer}
+use Rattle.epoch_engine.specs.Prints.{OthersHaveNone}
+use Rattle.epoch_engine.proofs.PrintedLemmas.{others_longer}
 use Rattle.epoch_draft.specs.Filling.{IsLengthened}
 use Rattle.prefix_merge.specs.Coming.{Notes}
 use Rattle.prefix_merge.specs.declared.left.Left.{Left}
@@ -34,53 +36,22 @@ use Rattle.event_types.specs.declared.kind.Kind.{Kind}
 pub plan_longer : (old new : Plan) → new.merged ≡ old.merged → new.layout ≡ old.layout → GrowsRoom old new → IsPlan old → IsPlan new
 plan_longer old new merged layout more is = record {
   printed = subst (λ l. All (λ stream. IsTrue (is_in l.order stream)) l.outs) (sym layout) is.printed;
-  places = record {
-    many_places = (let many = is.places.many_places in let longer = more.places.longer in omega (arith, kinds, many, longer));
-    many_read = (let many = is.places.many_read in let longer = more.read.longer in omega (arith, kinds, many, longer));
-    arranged = subst (λ l. AreArranged l.order new.places.places) (sym layout) (λ k lt. more.places.same (get_or old.layout.order k 0) ∙ is.places.arranged k lt);
-    unread = λ s lt down. subst (λ net. IsUnread net s) (sym merged) (is.places.unread s (omega (arith, lt, kinds)) (sym (more.read.same s) ∙ down));
+  turns = record {
+    many_turns = (let many = is.turns.many_turns in let longer = more.turns.longer in omega (arith, kinds, many, longer));
+    many_read = (let many = is.turns.many_read in let longer = more.read.longer in omega (arith, kinds, many, longer));
+    in_turn = subst (λ l. HaveTurns l.order new.turns.turns) (sym layout) (turns_longer old.layout.order old.turns.turns new.turns.turns more.turns more.last is.turns.in_turn);
+    unread = λ s lt down. subst (λ net. IsUnread net s) (sym merged) (is.turns.unread s (omega (arith, lt, kinds)) (sym (more.read.same s) ∙ down));
   };
   prints = record {
     many = (let many = is.prints.many in let longer = more.prints.longer in omega (arith, kinds, many, longer));
-    arranged = λ once. subst (λ l. AreArranged l.outs new.prints.places) (sym layout)
-        (λ k lt. more.prints.same (get_or old.layout.outs k 0) ∙ is.prints.arranged (subst IsTrue more.once once) k lt);
+    others = subst (λ l. OthersHaveNone l.outs new.prints.turns) (sym layout) (others_longer old.layout.outs old.prints.turns new.prints.turns more.prints is.prints.others);
+    in_turn = λ once. subst (λ l. HaveTurns l.outs new.prints.turns) (sym layout)
+        (turns_longer old.layout.outs old.prints.turns new.prints.turns more.prints more.last_printed (is.prints.in_turn (subst IsTrue more.once once)));
   };
 }
   where
     kinds : length new.layout.kinds ≡ length old.layout.kinds
     kinds = ap (λ l. length l.kinds) layout
-
--- a list that grew is arranged as far as before
-pub arranged_longer : (order more places longer : List ℕ) → AreArranged order places → IsLengthened 0 places longer → AreArrangedUpTo (length order) (order ++ more) longer
-arranged_longer order more places longer are grew k lt inside =
-    subst (λ (s : ℕ). get_or longer s 0 ≡ k) (sym (get_or_append_left order more 0 k lt)) (grew.same (get_or order k 0) ∙ are k lt)
-
--- streams behind a part that left had places that are greater by as many
-pub cut_left : (order places : List ℕ) (first end : ℕ) → first ≤ end → end ≤ length order → AreArranged order places → HaveLeft first (end - first) (take first order ++ drop end order) places
-cut_left order places first end up within are = record { before = before; behind = behind }
-  where
-    short : length (take first order) ≡ first
-    short = (let is = length-take first order in omega (arith, is, up, within))
-
-    before : AreArrangedUpTo first (take first order ++ drop end order) places
-    before k lt inside =
-        subst (λ (s : ℕ). get_or places s 0 ≡ k) (sym (get_or_append_left (take first order) (drop end order) 0 k (omega (arith, short, lt)) ∙ get_or-take first order k 0 lt))
-        (are k (omega (arith, lt, up, within)))
-
-    behind : (k : ℕ) → first ≤ k → k < length (take first order ++ drop end order) → get_or places (get_or (take first order ++ drop end order) k 0) 0 ≡ k + (end - first)
-    behind k from inside =
-        let was = end + (k - first) in
-        let lies : get_or (take first order ++ drop end order) k 0 ≡ get_or order was 0 = get_or-append_right (take first order) (drop end order) first k 0 short from ∙ get_or-drop end order (k - first) 0 in
-        let many = length-append (take first order) (drop end order) in
-        let rest = length-drop end order in
-        ap (λ (s : ℕ). get_or places s 0) lies ∙ are was (omega (arith, short, from, inside, many, rest, within)) ∙ omega (arith, from, up)
-
--- so had those behind one that left
-pub without_left : (outs places : List ℕ) (out : ℕ) → out < length outs → AreArranged outs places → HaveLeft out 1 (remove outs out) places
-without_left outs places out within are = record {
-  before = λ k lt inside. ap (λ (s : ℕ). get_or places s 0) (get_or-remove_below outs out 0 k lt within) ∙ are k (omega (arith, lt, within));
-  behind = λ k from inside. ap (λ (s : ℕ). get_or places s 0) (get_or-remove_above outs out 0 k from within) ∙ are (k + 1) (let shorter = length-remove outs out within in omega (arith, shorter, inside));
-}
 
 -- what was put at the end is taken away again
 pub cut_back : {X : Type 0} (d : X) (old new : List X) → IsLengthened d old new → take (length old) new ≡ old
@@ -110,18 +81,18 @@ read_known kinds net kinding fits n s reads = go (entrance_at net n) refl reads
         subst (λ (t : ℕ). t < length kinds) (some_is hop.wait.stream s e) (slice_get_within kinds hop.wait.stream known.0 known.1)
 
 -- the states that came read what isn't told
-pub came_read : (old plan : Plan) (came : List ℕ) (kinding : Kinding) → StatesFit old.layout.kinds old.merged kinding → ArePlaces old.merged old.layout.order (length old.layout.kinds) old.places → IsLengthened false old.places.read plan.places.read
+pub came_read : (old plan : Plan) (came : List ℕ) (kinding : Kinding) → StatesFit old.layout.kinds old.merged kinding → AreTurns old.merged old.layout.order (length old.layout.kinds) old.turns → IsLengthened false old.turns.read plan.turns.read
     → ((n : ℕ) → is_used old.merged n ≡ true → entrance_at plan.merged n ≡ entrance_at old.merged n) → ((n : ℕ) → is_used plan.merged n ≡ true → is_used old.merged n ≡ false → Contains came n) → AreReadBut plan came
 came_read old plan came kinding fits are longer stay came_all n s reads lt = by_used (is_used old.merged n) refl
   where
-    by_used : (b : Bool) → is_used old.merged n ≡ b → (get_or plan.places.read s false ≡ true) ⊎ Contains came n
+    by_used : (b : Bool) → is_used old.merged n ≡ b → (get_or plan.turns.read s false ≡ true) ⊎ Contains came n
     by_used false new = inr (came_all n (reads_used plan.merged n s reads) new)
-    by_used true there = inl (longer.same s ∙ by_flag (get_or old.places.read s false) refl)
+    by_used true there = inl (longer.same s ∙ by_flag (get_or old.turns.read s false) refl)
       where
         was : read_at old.merged n ≡ Some s
         was = ap (option_map read_by) (sym (stay n there)) ∙ reads
 
-        by_flag : (b : Bool) → get_or old.places.read s false ≡ b → get_or old.places.read s false ≡ true
+        by_flag : (b : Bool) → get_or old.turns.read s false ≡ b → get_or old.turns.read s false ≡ true
         by_flag true up = up
         by_flag false down = absurd (are.unread s (read_known old.layout.kinds old.merged kinding fits n s was) down n was)
 
@@ -149,13 +120,13 @@ left_storeless old new kinds stores left typed stay left_all n none = by_wait (w
         by_used true there = absurd (let no : None ≡ Some wait = sym none ∙ ap (option_and_then wait_by) (stay n there) ∙ was in cc)
 
 -- where states left, the others are told
-pub left_read : (plan : Plan) (net : Net) → ((n : ℕ) → is_used plan.merged n ≡ true → entrance_at plan.merged n ≡ entrance_at net n) → ArePlaces net plan.layout.order (length plan.layout.kinds) plan.places → AreReadBut plan []
-left_read plan net stay are n s reads lt = inl (by_flag (get_or plan.places.read s false) refl)
+pub left_read : (plan : Plan) (net : Net) → ((n : ℕ) → is_used plan.merged n ≡ true → entrance_at plan.merged n ≡ entrance_at net n) → AreTurns net plan.layout.order (length plan.layout.kinds) plan.turns → AreReadBut plan []
+left_read plan net stay are n s reads lt = inl (by_flag (get_or plan.turns.read s false) refl)
   where
     was : read_at net n ≡ Some s
     was = ap (option_map read_by) (sym (stay n (reads_used plan.merged n s reads))) ∙ reads
 
-    by_flag : (b : Bool) → get_or plan.places.read s false ≡ b → get_or plan.places.read s false ≡ true
+    by_flag : (b : Bool) → get_or plan.turns.read s false ≡ b → get_or plan.turns.read s false ≡ true
     by_flag true up = up
     by_flag false down = absurd (are.unread s lt down n was)
 

@@ -31,6 +31,7 @@ use Rattle.epoch_engine.specs.Closes.{Closes, KeepsPlan}
 use Rattle.epoch_engine.specs.Offers.{IsHeard, IsLate, IsNotAhead, with_tuple}
 use Rattle.epoch_engine.specs.EngineStandsFor.{EngineStandsFor}
 use Rattle.epoch_engine.specs.Starts.{IsNew}
+use Rattle.epoch_engine.specs.Results.{results_of}
 use Rattle.epoch_engine.specs.EngineView.{EngineView, stores_in}
 use Rattle.epoch_engine.proofs.PurgeLemmas.{are_purged}
 
@@ -104,7 +105,7 @@ offered_stands engine lines history stream tuple stands heard sound ahead late =
     added : (s : ℕ) → IsPermutation (get_or (set engine.opened stream more) s []) (get_or engine.opened s [] ++ heard_on (event ∷ []) s)
     added s = permuted_is (each s (stream == s) refl)
 
-module _ (old new : EngineView) (lines : List BornLine) (history : List Event) (batch : List (List TupleView)) (stands : EngineStandsFor old lines history) (closes : Closes old new batch) where
+module _ (old new : EngineView) (lines : List BornLine) (history : List Event) (batch : List (ℕ × List TupleView)) (stands : EngineStandsFor old lines history) (closes : Closes old new batch) where
   open_stands : Standing old.network lines old.layout.order (stores_in old) (Some closes.time) (streams_of old.opened) old.closed_time history
   open_stands = subst (λ (t : Option ℕ). Standing old.network lines old.layout.order (stores_in old) t (streams_of old.opened) old.closed_time history) closes.was_open stands.stands
 
@@ -112,8 +113,8 @@ module _ (old new : EngineView) (lines : List BornLine) (history : List Event) (
   purged = are_purged (closes.time + 1) lines old.network (stores_after old.network closes.taken.news (stores_in old)) (stores_in new) closes.taken.purged
 
   -- what the batch has
-  pub batch_is_streams : batch ≡ map (λ s. sorted (during closes.time (streams_over lines old.layout.order history s))) old.layout.outs
-  batch_is_streams = closes.taken.results ∙ (λ i. map (λ s. each s i) old.layout.outs)
+  pub batch_is_streams : batch ≡ results_of old.layout.outs (λ s. sorted (during closes.time (streams_over lines old.layout.order history s)))
+  batch_is_streams = closes.taken.results ∙ (λ i. results_of old.layout.outs (λ s. each s i))
     where
       each : (s : ℕ) → sorted (closes.taken.news s) ≡ sorted (during closes.time (streams_over lines old.layout.order history s))
       each s =

@@ -20,6 +20,7 @@ use Rattle.epoch_laws.specs.StoresStandFor.{Serves}
 use Rattle.epoch_laws.specs.Times.{during}
 use Rattle.epoch_engine.specs.Closes.{Closes, KeepsPlan}
 use Rattle.epoch_engine.specs.Counts.{CountsAlive, CountsAliveAt, alive_over, stored_in}
+use Rattle.epoch_engine.specs.Results.{results_of}
 use Rattle.epoch_engine.specs.Offers.{IsHeard, IsLate, IsNotAhead, with_tuple}
 use Rattle.epoch_engine.specs.EngineStandsFor.{EngineStandsFor}
 use Rattle.epoch_engine.specs.Starts.{IsNew}
@@ -38,13 +39,13 @@ OfferedStands =
 
 -- an engine that closed its epoch stands for the same history
 abbrev pub ClosedStands : Type 0
-ClosedStands = (old new : EngineView) (lines : List BornLine) (history : List Event) (batch : List (List TupleView)) → EngineStandsFor old lines history → Closes old new batch → KeepsPlan old new → EngineStandsFor new lines history
+ClosedStands = (old new : EngineView) (lines : List BornLine) (history : List Event) (batch : List (ℕ × List TupleView)) → EngineStandsFor old lines history → Closes old new batch → KeepsPlan old new → EngineStandsFor new lines history
 
--- the batch has for each printed stream exactly its tuples over the history that have the time of the epoch, in their order
+-- the batch has, for each printed stream that has some, exactly its tuples over the history that have the time of the epoch, in their order
 abbrev pub BatchIsStreams : Type 0
 BatchIsStreams =
-    (old new : EngineView) (lines : List BornLine) (history : List Event) (batch : List (List TupleView)) → EngineStandsFor old lines history → (closes : Closes old new batch)
-    → batch ≡ map (λ stream. sorted (during closes.time (streams_over lines old.layout.order history stream))) old.layout.outs
+    (old new : EngineView) (lines : List BornLine) (history : List Event) (batch : List (ℕ × List TupleView)) → EngineStandsFor old lines history → (closes : Closes old new batch)
+    → batch ≡ results_of old.layout.outs (λ stream. sorted (during closes.time (streams_over lines old.layout.order history stream)))
 
 -- an engine whose stores were purged stands for the same history, and each store has, up to order, exactly the instances that wait, are alive after the closed part of the history, and began after the least birth of the lines that use its state
 pub record TrimmedStands : Type 0 where

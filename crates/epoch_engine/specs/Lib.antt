@@ -5,11 +5,12 @@ pub mod Closes
 pub mod Counts
 pub mod EngineStandsFor
 pub mod EngineView
-pub mod Entries
 pub mod Fitting
 pub mod Laws
 pub mod Offers
 pub mod Planning
+pub mod Prints
+pub mod Results
 pub mod Running
 pub mod Starts
 pub mod Taking

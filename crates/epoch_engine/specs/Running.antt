@@ -6,7 +6,7 @@ use Rattle.event_types.specs.Tuple.{TupleView}
 use Rattle.binding_index.specs.declared.store.Store.{Store}
 use Rattle.automaton.specs.NetworkLines.{NetworkFits}
 use Rattle.automaton.specs.Work.{is_in}
-use Rattle.epoch_draft.specs.Agenda.{ArePlaces}
+use Rattle.epoch_draft.specs.Agenda.{AreTurns}
 use Rattle.epoch_draft.specs.Deriving.{CanDraw}
 use Rattle.epoch_draft.specs.Drafts.{DraftFits}
 use Rattle.epoch_draft.specs.Drawings.{IsStill}
@@ -15,16 +15,16 @@ use Rattle.epoch_draft.specs.Marks.{AreMarks}
 use Rattle.epoch_draft.specs.Watching.{Watches}
 use Rattle.epoch_draft.specs.declared.drawing.Drawing.{Drawing}
 use Rattle.epoch_draft.specs.declared.marks.Marks.{Marks}
-use Rattle.epoch_engine.specs.Batches.{ArePrints}
+use Rattle.epoch_engine.specs.Prints.{ArePrints}
 use Rattle.epoch_engine.specs.declared.epoch.Epoch.{Epoch}
 use Rattle.epoch_engine.specs.declared.holdings.Holdings.{Holdings}
 use Rattle.epoch_engine.specs.declared.plan.Plan.{Plan}
 use Rattle.epoch_engine.specs.declared.room.Room.{Room}
 
--- all printed streams are derived, each stream has its place in the order of work, and each printed one that at which it is printed
+-- all printed streams are derived, the streams of the order of work have their turns in it, and the printed ones those in which they are printed
 pub record IsPlan (plan : Plan) : Type 0 where
   pub printed : All (λ stream. IsTrue (is_in plan.layout.order stream)) plan.layout.outs
-  pub places : ArePlaces plan.merged plan.layout.order (length plan.layout.kinds) plan.places
+  pub turns : AreTurns plan.merged plan.layout.order (length plan.layout.kinds) plan.turns
   pub prints : ArePrints plan.layout.outs (length plan.layout.kinds) plan.prints
 
 -- at least those streams that have tuples are marked, maybe some more

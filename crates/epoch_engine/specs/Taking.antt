@@ -1,5 +1,5 @@
 -- What the two halves of a closing do with the parts of an engine. No public clause cites this module.
-use Rattle.std.specs.Prelude.{ℕ, ◌+◌, List, length, IfSome, Option}
+use Rattle.std.specs.Prelude.{ℕ, ◌+◌, List, IfSome, Option}
 use Rattle.event_types.specs.Tuple.{TupleView}
 use Rattle.binding_index.specs.declared.store.Store.{Store}
 use Rattle.semantics.specs.Denotation.{streams_of}
@@ -8,7 +8,7 @@ use Rattle.epoch_draft.specs.EpochWork.{TakesNoMore, draw_work, epoch_work, pair
 use Rattle.epoch_draft.specs.Held.{held}
 use Rattle.epoch_draft.specs.Settling.{AreClosed}
 use Rattle.epoch_engine.specs.Closes.{IsTaken}
-use Rattle.epoch_engine.specs.Entries.{lists_of}
+use Rattle.epoch_engine.specs.Results.{results_of}
 use Rattle.epoch_draft.specs.declared.drawing.Drawing.{Drawing}
 use Rattle.epoch_engine.specs.declared.epoch.Epoch.{Epoch}
 use Rattle.epoch_engine.specs.declared.plan.Plan.{Plan}
@@ -23,11 +23,11 @@ abbrev pub IsSettled : Plan → Epoch → Drawing → List (Option Store) → Li
 IsSettled plan epoch drawing old new = IfSome epoch.time (λ time. AreClosed (time + 1) plan.merged (news_of epoch.tuples drawing.draft.made plan.layout.order) old new)
 
 -- the results that stand in a room
-abbrev pub results_in : Plan → Room → List (List TupleView)
-results_in plan room = lists_of (length plan.layout.outs) room.drawing.draft.made room.entries
+abbrev pub results_in : Room → List (ℕ × List TupleView)
+results_in room = results_of room.streams (streams_of room.drawing.draft.made)
 
 -- so that the epoch is taken, with this batch
-abbrev pub TakesEpoch : Plan → Epoch → List (Option Store) → List (Option Store) → List (List TupleView) → Type 0
+abbrev pub TakesEpoch : Plan → Epoch → List (Option Store) → List (Option Store) → List (ℕ × List TupleView) → Type 0
 TakesEpoch plan epoch old new batch = IfSome epoch.time (λ time. IsTaken plan.merged plan.layout time (held old) (streams_of epoch.tuples) (held new) batch)
 
 -- the tests by which all that comes of the open tuples is drawn over these stores

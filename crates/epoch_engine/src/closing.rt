@@ -31,8 +31,8 @@ pub(crate) fn take_epoch<L: Ledger>(
     requires watches { Watches holdings.old.deadlines holdings.old.stores }
     requires opened { IsSome epoch.now.time }
     requires still { IsStillFor plan.now room.old.drawing }
-    ensures taken { OnOk result (TakesEpoch plan.now epoch.now holdings.old.stores holdings.new.stores (results_in plan.now room.new)) }
-    ensures batch { OnOk result (IsBatch (length plan.now.layout.outs) room.new) }
+    ensures taken { OnOk result (TakesEpoch plan.now epoch.now holdings.old.stores holdings.new.stores (results_in room.new)) }
+    ensures batch { OnOk result (IsBatch room.new) }
     ensures typed { OnOk result (IsTyped plan.now.merged plan.now.layout.kinds holdings.new.stores) }
     ensures kept { OnErr result (SameStored holdings.old.stores holdings.new.stores) }
     ensures led { AreLed plan.now.merged holdings.new.keys holdings.new.stores }
@@ -44,8 +44,8 @@ pub(crate) fn take_epoch<L: Ledger>(
     Ok(())
 }
 
-// Makes all that comes of the open tuples, lists its entries, and makes room in the stores, of which no instance
-// changes.
+// Makes all that comes of the open tuples, lists the streams of its results, and makes room in the stores, of which no
+// instance changes.
 fn draw_epoch<L: Ledger>(
     plan: &Plan,
     holdings: &mut Holdings,
@@ -62,7 +62,7 @@ fn draw_epoch<L: Ledger>(
     ensures same { SameStored holdings.old.stores holdings.new.stores }
     ensures led { AreLed plan.now.merged holdings.new.keys holdings.new.stores }
     ensures watches { Watches holdings.new.deadlines holdings.new.stores }
-    ensures listed { OnOk result (ArePrinted plan.now.layout.outs room.new.drawing.draft.made room.new.entries) }
+    ensures listed { OnOk result (ArePrinted plan.now.layout.outs room.new.drawing.draft.made room.new.streams) }
     ensures takes { OnOk result (TakesWithin plan.now holdings.new.stores epoch.now room.new.drawing) }
     ensures ticks { steps.new ≤ steps.old + drawing_work plan.now holdings.old.stores epoch.now }
 {
@@ -73,7 +73,7 @@ fn draw_epoch<L: Ledger>(
         network: plan.merged.network(),
         layout: &plan.layout,
         readers,
-        places: &plan.places,
+        turns: &plan.turns,
         keys: &holdings.keys,
         stores: &holdings.stores,
     };

@@ -177,7 +177,7 @@ impl Engine {
         )?;
         self.closed_time = self.epoch.time;
         self.epoch.close();
-        Ok(Batch::make(self.plan.layout.outs.len(), room))
+        Ok(Batch::make(room))
     }
 
     /// Takes a batch back whose results were read, so that the next closing needs no new room. A batch of another

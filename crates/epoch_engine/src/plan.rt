@@ -1,24 +1,25 @@
 //! What an engine closes its epochs by.
-ghost use Rattle.std.specs.Prelude.{◌≡◌, ◌<◌, ◌≤◌, ◌-◌, [], IfOk, IsTrue, OnOk, length};
+ghost use Rattle.std.specs.Prelude.{◌≡◌, ◌<◌, [], IfOk, IsTrue, OnOk, length, take};
 ghost use Rattle.std.specs.List.{All};
 ghost use Rattle.automaton.specs.NetworkLines.{NetworkFits};
-ghost use Rattle.epoch_draft.specs.Places.{AreArrangedUpTo, HaveLeft};
+ghost use Rattle.epoch_draft.specs.Turns.{HaveTurns};
 ghost use Rattle.epoch_engine.specs.Planning.{AreReadBut, GrowsRoom, HasRoom};
+ghost use Rattle.epoch_engine.specs.Prints.{AreInTurn, HasLeft, OthersHaveNone};
 ghost use Rattle.epoch_engine.specs.Running.{IsPlan};
 
 use crate::prints::Prints;
-use automaton::{Layout, Shrinkage};
-use epoch_draft::StreamPlaces;
-use event_types::Memory;
+use automaton::Layout;
+use epoch_draft::StreamTurns;
+use event_types::{Memory, StreamId};
 use prefix_merge::Merged;
 use std::alloc::Global;
 
-/// A merged network and its layout, the places of streams in the order of work, and those at which they are printed.
+/// A merged network and its layout, the turns of streams in the order of work, and those of the streams that are printed.
 #[derive(Drop)]
 pub struct Plan {
     pub merged: Merged,
     pub layout: Layout,
-    pub places: StreamPlaces,
+    pub turns: StreamTurns,
     pub prints: Prints,
 }
 
@@ -32,14 +33,14 @@ impl Plan {
     {
         let streams = layout.kinds.len();
         let network = merged.network();
-        let places = StreamPlaces::make(alloc, network, layout.order.as_slice(), streams)?;
+        let turns = StreamTurns::make(alloc, network, &layout.order, streams)?;
         let mut prints = Prints::new(alloc);
         prints.grow(streams)?;
-        prints.arrange(layout.outs.as_slice(), 0);
+        prints.arrange(&layout.outs, 0);
         Ok(Plan {
             merged,
             layout,
-            places,
+            turns,
             prints,
         })
     }
@@ -51,47 +52,44 @@ impl Plan {
         ensures merged { self.new.merged ≡ self.old.merged }
         ensures layout { self.new.layout ≡ self.old.layout }
     {
-        self.places.grow(streams)?;
+        self.turns.grow(streams)?;
         self.prints.grow(streams)
     }
 
     /// Goes over to its network and its layout, to which the states with these numbers came: tells what these read, and
-    /// gives the streams of the order of work and those that are printed their places, from one place on in each. Takes no
+    /// gives the streams of the order of work and those that are printed their turns, from one place on in each. Takes no
     /// memory.
     pub(crate) fn go_over(&mut self, came: &[usize], worked: usize, printed: usize)
         requires fits { NetworkFits self.old.merged self.old.layout }
         requires room { HasRoom (length self.old.layout.kinds) self.old }
         requires came { All (λ state. state < length self.old.merged) came.now }
         requires read { AreReadBut self.old came.now }
-        requires worked { AreArrangedUpTo worked self.old.layout.order self.old.places.places }
-        requires printed { IsTrue self.old.prints.are_once → AreArrangedUpTo printed self.old.layout.outs self.old.prints.places }
+        requires worked { HaveTurns (take worked self.old.layout.order) self.old.turns.turns }
+        requires others { OthersHaveNone self.old.layout.outs self.old.prints.turns }
+        requires printed { IsTrue self.old.prints.are_once → AreInTurn (take printed self.old.layout.outs) self.old.prints.turns }
         ensures is { IsPlan self.new }
         ensures merged { self.new.merged ≡ self.old.merged }
         ensures layout { self.new.layout ≡ self.old.layout }
     {
-        self.places.tell(self.merged.network(), came);
-        let order = self.layout.order.as_slice();
-        self.places.places.arrange(order, worked);
-        self.prints.arrange(self.layout.outs.as_slice(), printed);
+        self.turns.tell(self.merged.network(), came);
+        self.turns.turns.arrange(&self.layout.order, worked);
+        self.prints.arrange(&self.layout.outs, printed);
     }
 
-    /// Goes over to its network and its layout, which this part has left: gives the streams of the order of work and those
-    /// that are printed their places, at the cost of the nearer side in each. Takes no memory.
-    pub(crate) fn leave(&mut self, part: Shrinkage)
+    /// Goes over to its network and its layout, which a printed stream has left: takes its turn, at the cost of that stream
+    /// alone where each was printed once. Those that stay have theirs. Takes no memory.
+    pub(crate) fn leave(&mut self, stream: StreamId)
         requires fits { NetworkFits self.old.merged self.old.layout }
         requires room { HasRoom (length self.old.layout.kinds) self.old }
         requires read { AreReadBut self.old [] }
-        requires worked { HaveLeft part.first (part.end - part.first) self.old.layout.order self.old.places.places }
-        requires printed { IsTrue self.old.prints.are_once → HaveLeft part.out 1 self.old.layout.outs self.old.prints.places }
-        requires up { part.first ≤ part.end }
+        requires worked { HaveTurns self.old.layout.order self.old.turns.turns }
+        requires stream { stream < length self.old.layout.kinds }
+        requires left { HasLeft stream self.old.layout.outs self.old.prints }
         ensures is { IsPlan self.new }
         ensures merged { self.new.merged ≡ self.old.merged }
         ensures layout { self.new.layout ≡ self.old.layout }
     {
-        let order = self.layout.order.as_slice();
-        let gone = part.end - part.first;
-        self.places.places.leave(order, part.first, gone);
-        self.prints.leave(self.layout.outs.as_slice(), part.out);
+        self.prints.leave(stream, &self.layout.outs);
     }
 
     /// Makes what reads each stream, where want of memory has left it out.

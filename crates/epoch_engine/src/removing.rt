@@ -29,8 +29,9 @@ impl Engine {
             .remove_first(ends, ends.len(), &mut self.holdings.left);
         self.holdings.shrink(self.plan.merged.network());
         self.epoch.close();
+        let stream = *self.plan.layout.outs.get(part.out);
         self.plan.layout.shrink(part);
-        self.plan.leave(part);
+        self.plan.leave(stream);
         fit_room(&mut self.room, &self.plan);
     }
 }

@@ -1,25 +1,23 @@
 //! The room in which an epoch is closed.
-ghost use Rattle.std.specs.Prelude.{◌≡◌, ◌==◌, ◌<◌, ◌&&◌, ℕ, List, [], IfOk, IfSome, IsTrue, OnOk, length};
-ghost use Rattle.std.specs.List.{All};
+ghost use Rattle.std.specs.Prelude.{◌≡◌, ◌==◌, ◌&&◌, IfOk, IfSome, IsTrue, OnOk, length};
 ghost use Rattle.automaton.specs.Networks.{IsNetwork};
 ghost use Rattle.epoch_draft.specs.Drafts.{DraftFits};
-ghost use Rattle.epoch_engine.specs.Batches.{AreListed, AreNoted, ArePlacesOf, ArePrinted};
-ghost use Rattle.epoch_engine.specs.declared.prints.Prints.{Prints};
+ghost use Rattle.epoch_engine.specs.Batches.{ArePrinted};
 ghost use Rattle.epoch_engine.specs.Running.{FitsPlan, IsPlan, IsStillFor};
 
-use crate::entry::{Entries, Entry};
+use crate::listing::{Due, list_all, list_due};
 use crate::plan::Plan;
-use crate::prints::Prints;
 use epoch_draft::Drawing;
 use event_types::{List, Memory, Numbers};
 use std::alloc::Global;
 
-/// What is drawn in a closing, and the entries of its results. It keeps its room from closing to closing.
+/// What is drawn in a closing, and the printed streams that may have results, in print order. It keeps its room from
+/// closing to closing.
 #[derive(Drop)]
 pub struct Room {
     pub drawing: Drawing,
-    pub entries: Entries,
-    places: Vec<usize>,
+    pub streams: Numbers,
+    noted: Vec<Due>,
 }
 
 impl Room {
@@ -32,8 +30,8 @@ impl Room {
         let drawing = Drawing::make(alloc, states, plan.layout.kinds.len())?;
         let room = Room {
             drawing,
-            entries: List::new(alloc),
-            places: Vec::new(alloc),
+            streams: List::new(alloc),
+            noted: Vec::new(alloc),
         };
         match Box::new(alloc, room) {
             Ok(room) => Ok(room),
@@ -72,17 +70,19 @@ impl Room {
         fits
     }
 
-    /// Lists an entry for each place at which a stream is printed that is due. After want of memory the entries are of
-    /// no more use.
+    /// Lists the printed streams that are due, in print order, and where a stream is printed more than once all that are
+    /// printed. After want of memory the list is of no more use.
     pub(crate) fn list(&mut self, plan: &Plan) -> Result<(), Memory>
         requires plan { IsPlan plan.now }
         requires fits { FitsPlan plan.now self.old.drawing }
-        ensures listed { OnOk result (ArePrinted plan.now.layout.outs self.old.drawing.draft.made self.new.entries) }
+        ensures listed { OnOk result (ArePrinted plan.now.layout.outs self.old.drawing.draft.made self.new.streams) }
         ensures same { self.new.drawing ≡ self.old.drawing }
     {
+        if !plan.prints.are_once {
+            return list_all(&mut self.streams, &plan.layout.outs);
+        }
         let due = self.drawing.draft.due.numbers.as_slice();
-        list_places(&mut self.places, &plan.prints, plan.layout.outs.len(), due)?;
-        list_entries(&mut self.entries, &plan.layout.outs, self.places.as_slice())
+        list_due(&mut self.streams, &mut self.noted, &plan.prints.turns, due)
     }
 }
 
@@ -96,87 +96,4 @@ pub(crate) fn fit_room(kept: &mut Option<Box<Room>>, plan: &Plan)
             *kept = Some(room);
         }
     }
-}
-
-// Places at which streams are printed, of so many, in ascending order: at least those of these streams.
-fn list_places(
-    places: &mut Vec<usize>,
-    prints: &Prints,
-    printed: usize,
-    due: &[usize],
-) -> Result<(), Memory>
-    requires { All (λ stream. stream < length prints.now.places) due.now }
-    ensures { OnOk result (ArePlacesOf prints.now printed due.now places.new.items) }
-{
-    note_places(places, prints, printed, due)?;
-    places.sort_unstable();
-    places.dedup();
-    Ok(())
-}
-
-// Notes at least the places of these streams, as far as they are of so many.
-fn note_places(
-    places: &mut Vec<usize>,
-    prints: &Prints,
-    printed: usize,
-    due: &[usize],
-) -> Result<(), Memory>
-    requires { All (λ stream. stream < length prints.now.places) due.now }
-    ensures { OnOk result (AreNoted prints.now printed due.now places.new.items) }
-{
-    places.clear();
-    if prints.are_once {
-        return note_due(places, prints, printed, due);
-    }
-    note_all(places, printed)?;
-    Ok(())
-}
-
-// Notes the places of these streams, as far as they are of so many.
-#[inline(always)]
-fn note_due(
-    places: &mut Vec<usize>,
-    prints: &Prints,
-    printed: usize,
-    due: &[usize],
-) -> Result<(), Memory>
-    requires once { IsTrue prints.now.are_once }
-    requires empty { places.old.items ≡ [] }
-    requires below { All (λ stream. stream < length prints.now.places) due.now }
-    ensures { OnOk result (AreNoted prints.now printed due.now places.new.items) }
-{
-    for stream in due {
-        let place = prints.places.place(*stream);
-        if place >= printed {
-            continue;
-        }
-        places.push(place)?;
-    }
-    Ok(())
-}
-
-// Notes so many places.
-fn note_all(places: &mut Vec<usize>, printed: usize) -> Result<(), Memory>
-    requires { places.old.items ≡ [] }
-    ensures { OnOk result ((prints : Prints) (due : List ℕ) → AreNoted prints printed due places.new.items) }
-{
-    for place in 0..printed {
-        places.push(place)?;
-    }
-    Ok(())
-}
-
-// Entries for these places, at which these streams are printed.
-fn list_entries(entries: &mut Entries, outs: &Numbers, places: &[usize]) -> Result<(), Memory>
-    requires { All (λ place. place < length outs.now) places.now }
-    ensures { OnOk result (AreListed outs.now places.now entries.new) }
-{
-    entries.clear();
-    for place in places {
-        entries.add(Entry {
-            place: *place,
-            stream: *outs.get(*place),
-        })?;
-    }
-    Ok(())
 }

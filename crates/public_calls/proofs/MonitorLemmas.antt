@@ -56,7 +56,7 @@ module _ (c : Catalogued) (before : EngineView) (stands : Stands c before) where
   offered stream tuple declared sound heard ahead late = (_, goes_on _ (course.offer stream tuple declared sound heard ahead late))
 
   -- once an epoch was closed
-  pub closed : (after : EngineView) (batch : List (List TupleView)) → Closes before after batch → KeepsPlan before after → Stands c after
+  pub closed : (after : EngineView) (batch : List (ℕ × List TupleView)) → Closes before after batch → KeepsPlan before after → Stands c after
   closed after batch closes plan = (_, goes_on _ (course.close batch closes plan))
 
   -- once the stores were purged
@@ -64,7 +64,7 @@ module _ (c : Catalogued) (before : EngineView) (stands : Stands c before) where
   trimmed after trims = (_, goes_on _ (course.trim trims))
 
   -- whatever the closing answered
-  pub closing : (after : EngineView) (result : Result (List (List TupleView)) Memory) → IfOk result (λ batch. Closes before after batch) → OnErr result (after ≡ before) → KeepsPlan before after → Stands c after
+  pub closing : (after : EngineView) (result : Result (List (ℕ × List TupleView)) Memory) → IfOk result (λ batch. Closes before after batch) → OnErr result (after ≡ before) → KeepsPlan before after → Stands c after
   closing after (Ok batch) closes kept plan = closed after batch closes plan
   closing after (Err fault) closes kept plan = subst (Stands c) (sym kept) stands
 

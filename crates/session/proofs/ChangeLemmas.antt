@@ -1,8 +1,6 @@
 -- What is left of the work where the queries change.
 use Rattle.std.proofs.Common.{◌≡◌, ◌∙◌, sym, ap, refl, subst, ℕ, zero, suc, ◌+◌, ◌-◌, ◌<◌, ◌≤◌, ◌++◌, ◌∷◌, [], true, false, cond, is_some, List, Ok, Option, Some, None, length, length-append, inl, inr, slice_get, append-nil, arith}
-use Rattle.std.specs.List.{All, remove}
-use Rattle.std.proofs.lemmas.Bool.{cases_lt}
-use Rattle.std.proofs.lemmas.List.Edits.{get_or-remove_above, get_or-remove_below, length-remove}
+use Rattle.std.specs.List.{All}
 use Rattle.automaton.specs.Layouts.{grown, shrunk}
 use Rattle.std.specs.Option.{option_or}
 use Rattle.std.proofs.lemmas.List.Elements.{All-append, All-cons, All-filter, All-nil, All-weaker}
@@ -16,10 +14,8 @@ use Rattle.catalogue.specs.Adding.{AddedQuery}
 use Rattle.catalogue.specs.Catalogued.{Catalogued, query_in, work_in}
 use Rattle.catalogue.specs.Changes.{publishes_another}
 use Rattle.catalogue.specs.Coming.{HasCome, IsLatest, IsTold, coming}
-use Rattle.catalogue.specs.Leaving.{IsLeft, IsUnread, moved_down}
+use Rattle.catalogue.specs.Leaving.{IsLeft, IsUnread}
 use Rattle.catalogue.specs.Standing.{IsUpTo, StandsInOrder}
-use Rattle.catalogue.proofs.LeftProgramLemmas.{query_left}
-use Rattle.catalogue.proofs.MovedLemmas.{left_many, moved_high, moved_low}
 use Rattle.change_laws.specs.Calls.{ComesToBoth, LeavesBoth}
 use Rattle.change_laws.proofs.ComeLemmas.{coming_stands}
 use Rattle.change_laws.proofs.LeaveLemmas.{leaving_stands}
@@ -31,21 +27,21 @@ use Rattle.courses.specs.Heard.{refusal_of}
 use Rattle.courses.specs.QuerySet.{QuerySet, set_in, with_added, without}
 use Rattle.courses.proofs.DeclaredLemmas.{catalogue_first, entry_declared, entry_kinds}
 use Rattle.courses.proofs.SetLemmas.{come_is_added, left_is_without}
-use Rattle.result_text.specs.Front.{front_of}
+use Rattle.stream_schema.specs.Streams.{retired}
 use Rattle.session.specs.Changes.{HasChanged}
 use Rattle.cay_host.specs.Told.{Told}
 use Rattle.session.specs.ForEachHistory.{FailsAtOpen, OwesOpen, StopsAtEntry, TakesEntry}
 use Rattle.session.specs.Owes.{closes, epoch_rows, open_rows, stage_at}
 use Rattle.session.specs.Says.{entry_by}
 use Rattle.session.specs.SessionView.{AreDeclared}
-use Rattle.session.specs.Standing.{AreFronts, HasShut, IsAtWork, StandsFor, moment_at, program_over, seen_by}
+use Rattle.session.specs.Fronts.{AreFronts}
+use Rattle.session.specs.Standing.{HasShut, IsAtWork, StandsFor, moment_at, program_over, seen_by}
 use Rattle.session.specs.declared.control.Change.{Change}
 use Rattle.session.specs.declared.control.Change.TheVariants as change
 use Rattle.session.specs.declared.fault.SessionFault.{SessionFault}
 use Rattle.session.specs.declared.fault.SessionFault.TheVariants as fault
 use Rattle.session.specs.declared.work.Work.{Work}
-use Rattle.session.proofs.BatchLinesLemmas.{query_there}
-use Rattle.session.proofs.FrontLemmas.{remove_past}
+use Rattle.session.proofs.FrontLemmas.{streams_more}
 use Rattle.session.proofs.RunWorkLemmas.{both_hold}
 use Rattle.session.proofs.OwesLemmas.{control_closes, fails, goes_on, no_memory, now_fails, now_owes}
 
@@ -108,31 +104,6 @@ module _ (c d : Catalogued) (standing : StandsInOrder c) (standing_then : Stands
       };
     }
 
-    -- the fronts of the queries that were there are the same
-    fronts_stay : (fronts : List (List ℕ)) → AreFronts c fronts → AreFronts d fronts
-    fronts_stay fronts are = (
-      omega (arith, are.0, many),
-      λ place less. are.1 place less ∙ ap (λ (q : Query). front_of q.name) (same_query place (omega (arith, less, are.0))),
-    )
-      where
-        many : length d.order ≡ length c.order + 1
-        many = ap length come.order ∙ length-append c.order (length c.order ∷ [])
-
-        some_is : {x y : Query} → ◌≡◌ {A = Option Query} (Some x) (Some y) → x ≡ y
-        some_is e = cc
-
-        slice_get-append_left : (xs ys : List Query) (place : ℕ) (x : Query) → slice_get xs place ≡ Some x → slice_get (xs ++ ys) place ≡ Some x
-        slice_get-append_left [] ys place x e = cc
-        slice_get-append_left (y ∷ xs) ys zero x e = e
-        slice_get-append_left (y ∷ xs) ys (suc place) x e = slice_get-append_left xs ys place x e
-
-        same_query : (place : ℕ) → place < length c.order → query_in c place ≡ query_in d place
-        same_query place less =
-            some_is
-            (sym (slice_get-append_left (program_over c).queries (coming c added since ∷ []) place (query_in c place) (query_there c place less))
-            ∙ ap (λ (p : Program). slice_get p.queries place) (sym come.program)
-            ∙ query_there d place (omega (arith, less, many)))
-
     -- the work may go on
     pub come_at_work : IsLatest since c → new.born ≡ since → new.fronts ≡ old.fronts → IsAtWork d new
     come_at_work latest born fronts = record {
@@ -142,7 +113,7 @@ module _ (c d : Catalogued) (standing : StandsInOrder c) (standing_then : Stands
           (subst (All (λ query. IsUpTo query.birth since)) (ap (λ (p : Program). p.order) (sym come.program))
           (All-append (λ (query : Query). IsUpTo query.birth since) (work_in c) (coming c added since ∷ []) latest
           (All-cons (λ (query : Query). IsUpTo query.birth since) (coming c added since) [] (up_to_same since) (All-nil (λ (query : Query). IsUpTo query.birth since)))));
-      fronts = subst (AreFronts d) (sym fronts) (fronts_stay old.fronts at_work.fronts);
+      fronts = rw (come.streams, fronts) (streams_more c.streams old.fronts at_work.fronts _);
     }
 
   -- a query left
@@ -166,49 +137,15 @@ module _ (c d : Catalogued) (standing : StandsInOrder c) (standing_then : Stands
       };
     }
 
-    -- a query before it keeps its number
-    query_before : (place : ℕ) → place < number → query_in d place ≡ query_in c place
-    query_before place before =
-        ap (λ (x : Catalogued). query_in x place) left.catalogue
-        ∙ query_left c standing number within place place (omega (arith, before, within)) (λ same. absurd (omega (arith, same, before))) (moved_low number place (omega (arith, before)))
-
-    -- one behind it has one less
-    query_behind : (place : ℕ) → number ≤ place → place + 1 < length c.order → query_in d place ≡ query_in c (place + 1)
-    query_behind place behind inside =
-        let moved : moved_down number (place + 1) ≡ place = moved_high number (place + 1) (omega (arith, behind)) ∙ (let less : place + 1 - 1 ≡ place = omega arith in less) in
-        ap (λ (x : Catalogued). query_in x place) left.catalogue ∙ query_left c standing number within place (place + 1) inside (λ same. absurd (omega (arith, same, behind))) moved
-
-    -- so the other fronts are those of the queries that stay
-    fronts_left : (fronts : List (List ℕ)) → AreFronts c fronts → AreFronts d (remove fronts number)
-    fronts_left fronts are = elim (cases_lt number (length fronts)) [
-      | inl made ↦
-          let fewer = length-remove fronts number made in (
-            omega (arith, are.0, fewer, fewer_queries),
-            (λ place less. elim (cases_lt place number) [
-              | inl before ↦ get_or-remove_below fronts number [] place before made ∙ are.1 place (omega (arith, before, made)) ∙ ap (λ (q : Query). front_of q.name) (sym (query_before place before))
-              | inr behind ↦
-                  get_or-remove_above fronts number [] place behind made ∙ are.1 (place + 1) (omega (arith, less, fewer))
-                  ∙ ap (λ (q : Query). front_of q.name) (sym (query_behind place behind (omega (arith, less, fewer, are.0))))
-            ]),
-          )
-      | inr unmade ↦ subst (AreFronts d) (sym (remove_past fronts number unmade)) (
-        omega (arith, unmade, within, fewer_queries),
-        (λ place less. are.1 place less ∙ ap (λ (q : Query). front_of q.name) (sym (query_before place (omega (arith, less, unmade))))),
-      )
-    ]
-      where
-        fewer_queries : length d.order + 1 ≡ length c.order
-        fewer_queries = ap (λ (x : Catalogued). length x.order + 1) left.catalogue ∙ left_many c.order standing.numbered number within
-
     -- the work may go on
-    pub left_at_work : new.born ≡ old.born → new.fronts ≡ remove old.fronts number → IsAtWork d new
+    pub left_at_work : new.born ≡ old.born → AreFronts (retired c.streams (query_in c number).stream) new.fronts → IsAtWork d new
     left_at_work born fronts = record {
       in_order = standing_then;
       at_one = leaving_stands.at_one number dropped c d old.engine new.engine standing standing_then at_work.at_one leaves;
       born = subst (λ time. IsLatest time d) (sym born)
           (subst (All (λ query. IsUpTo query.birth old.born)) (ap (λ (p : Program). p.order) (sym left.program))
           (All-filter (publishes_another (query_in c number).stream) (λ (query : Query). IsUpTo query.birth old.born) (work_in c) at_work.born));
-      fronts = subst (AreFronts d) (sym fronts) (fronts_left old.fronts at_work.fronts);
+      fronts = subst (λ streams. AreFronts streams new.fronts) (ap (λ (x : Catalogued). x.streams) (sym left.catalogue)) fronts;
     }
 
 -- the queries after an entry hang on the queries before it and on the time that was seen

@@ -5,9 +5,12 @@ use Rattle.cay_host.specs.Told.{Told}
 use Rattle.event_types.specs.Tuple.{TupleView}
 use Rattle.semantics.specs.Histories.{Event}
 use Rattle.semantics.specs.Programs.{Program}
+use Rattle.semantics.specs.Results.{results}
+use Rattle.splitter.specs.Chains.{outs_of}
 use Rattle.epoch_engine.specs.Closes.{Closes, KeepsPlan}
 use Rattle.epoch_engine.specs.EngineStandsFor as engines
 use Rattle.epoch_engine.specs.EngineView as engine
+use Rattle.epoch_engine.specs.Results.{results_of}
 use Rattle.epoch_engine.proofs.StandsLemmas.{closed_stands}
 use Rattle.catalogue.specs.Catalogued.{Catalogued}
 use Rattle.catalogue.specs.Standing.{StandsInOrder}
@@ -15,20 +18,22 @@ use Rattle.change_laws.specs.AtOne.{AreAtOne}
 use Rattle.session.specs.BatchLines.{batch_lines}
 use Rattle.session.specs.Standing.{StandsFor, lines_over, program_over}
 use Rattle.session.specs.Owes.{Owes, closing, epoch_rows, is_later}
-use Rattle.session.proofs.BatchLinesLemmas.{batch_at, lines_are}
+use Rattle.session.proofs.BatchLinesLemmas.{lines_are, lines_by_streams}
+use Rattle.session.proofs.NamesLemmas.{all_named}
 use Rattle.session.proofs.PlanLemmas.{laid_over}
 use Rattle.session.proofs.ResultLemmas.{closing_gives_results_of_catalogue}
 
-module _ (c : Catalogued) (standing : StandsInOrder c) (old new : engine.EngineView) (batch : List (List TupleView)) (at_one : AreAtOne c old) (closes : Closes old new batch) (history : List Event) (stands : StandsFor c history old) where
+module _ (c : Catalogued) (standing : StandsInOrder c) (old new : engine.EngineView) (batch : List (ℕ × List TupleView)) (at_one : AreAtOne c old) (closes : Closes old new batch) (history : List Event) (stands : StandsFor c history old) where
   -- the batch has the results of the queries over what was heard
-  batch_is : batch ≡ batch_at (program_over c) history closes.time (program_over c).queries
+  batch_is : batch ≡ results_of (outs_of (program_over c)) (λ stream. results (program_over c) history stream closes.time)
   batch_is = closing_gives_results_of_catalogue c old new history batch standing (laid_over c old standing at_one) stands.engine stands.declared closes
 
   -- its lines are the rows of the open epoch
-  pub rows_closed : (rows put : List ℕ) → put ≡ rows ++ batch_lines (program_over c).queries batch → put ≡ rows ++ epoch_rows (program_over c) history old.time
+  pub rows_closed : (rows put : List ℕ) → put ≡ rows ++ batch_lines c.streams batch → put ≡ rows ++ epoch_rows (program_over c) history old.time
   rows_closed rows put e =
       let program = program_over c in
-      e ∙ ap (λ lists. rows ++ batch_lines program.queries lists) batch_is ∙ ap (λ lines. rows ++ lines) (lines_are program history closes.time program.queries)
+      e ∙ ap (λ given. rows ++ batch_lines c.streams given) batch_is
+      ∙ ap (λ lines. rows ++ lines) (lines_by_streams c.streams (outs_of program) (λ stream. results program history stream closes.time) ∙ lines_are c.streams program history closes.time program.queries (all_named c standing))
       ∙ ap (λ o. rows ++ epoch_rows program history o) (sym closes.was_open)
 
   -- the engine stands for the same events

@@ -26,7 +26,7 @@ use Rattle.epoch_engine.specs.Offers.{IsHeard}
 use Rattle.epoch_engine.specs.EngineView as engine
 use Rattle.catalogue.specs.Catalogued.{Catalogued}
 use Rattle.catalogue.specs.Changes.{streams_there}
-use Rattle.catalogue.specs.Standing.{IsLayoutOver, StandsInOrder}
+use Rattle.catalogue.specs.Standing.{IsKnown, IsLayoutOver, StandsInOrder}
 use Rattle.change_laws.specs.AtOne.{AreAtOne, endings_in}
 use Rattle.automaton.specs.NetworkLines.{HasEndings}
 use Rattle.automaton.specs.States.{Net}
@@ -34,7 +34,9 @@ use Rattle.prefix_merge.specs.Merging.{IsMerged}
 use Rattle.event_csv.specs.declared.event.Seen.{Seen}
 use Rattle.courses.specs.Fits.{Fits}
 use Rattle.session.specs.Standing.{program_over}
-use Rattle.session.proofs.BatchLinesLemmas.{as_many}
+use Rattle.session.specs.BatchLines.{AreOfKnown}
+use Rattle.session.proofs.BatchLinesLemmas.{all_given}
+use Rattle.session.proofs.NamesLemmas.{all_known}
 
 -- the derived streams of queries have greater numbers than a stream that is there, by induction on the queries
 order_above : (kinds : ℕ → List Kind) (stream : ℕ) (there : List ℕ) (order : List Query) → Contains there stream → PublishInTurn kinds there order → HideApart order → All (λ number. stream < number) (chain_order order)
@@ -97,11 +99,11 @@ module _ (c : Catalogued) (standing : StandsInOrder c) where
       of_kinds = fits.kinds;
     }
 
--- a batch has a list for each query
-pub batch_count : (c : Catalogued) (standing : StandsInOrder c) (old new : engine.EngineView) (batch : List (List TupleView)) → AreAtOne c old → Closes old new batch → length batch ≡ length c.order
-batch_count c standing old new batch at_one closes =
-    ap length closes.taken.results ∙ length-map old.layout.outs (λ stream. sorted (closes.taken.news stream)) ∙ ap length (laid_over c old standing at_one).outs
-    ∙ length-map (program_over c).queries (λ query. query.stream) ∙ as_many c
+-- the streams of a batch are known
+pub batch_known : (c : Catalogued) (standing : StandsInOrder c) (old new : engine.EngineView) (batch : List (ℕ × List TupleView)) → AreAtOne c old → Closes old new batch → AreOfKnown c.streams batch
+batch_known c standing old new batch at_one closes =
+    subst (AreOfKnown c.streams) (sym closes.taken.results)
+    (all_given (IsKnown c.streams) (λ stream. sorted (closes.taken.news stream)) old.layout.outs (subst (All (IsKnown c.streams)) (sym (laid_over c old standing at_one).outs) (all_known c standing)))
 
 -- a changed engine of the same network and layout
 pub at_one_still : (c : Catalogued) (old new : engine.EngineView) → KeepsPlan old new → AreAtOne c old → AreAtOne c new

@@ -4,7 +4,7 @@ use Rattle.std.specs.Prelude.{Option, Some}
 use Rattle.std.specs.List.{All}
 use Rattle.std.specs.List.Sorted.{IsPermutation}
 use Rattle.std.proofs.lemmas.Bool.Decides.{nat_tests}
-use Rattle.std.proofs.lemmas.List.Elements.{All-head, All-tail, All-weaker}
+use Rattle.std.proofs.lemmas.List.Elements.{All-head, All-map, All-tail, All-weaker}
 use Rattle.event_types.specs.declared.kind.Kind.{Kind}
 use Rattle.event_types.specs.Order.{sorted}
 use Rattle.event_types.specs.Tuple.{TupleView, IsSound}
@@ -22,6 +22,7 @@ use Rattle.epoch_laws.proofs.Standing.{closing_is_results}
 use Rattle.epoch_engine.specs.Closes.{Closes}
 use Rattle.epoch_engine.specs.EngineStandsFor.{EngineStandsFor}
 use Rattle.epoch_engine.specs.EngineView.{EngineView, stores_in}
+use Rattle.epoch_engine.specs.Results.{results_of}
 use Rattle.splitter.specs.Chains.{outs_of, work_order}
 use Rattle.splitter.specs.ProgramLaws.{IsWideProgram}
 use Rattle.birth_laws.specs.BornChains.{born_lines}
@@ -30,6 +31,7 @@ use Rattle.birth_laws.proofs.ProgramLemmas.{program_meant}
 use Rattle.catalogue.specs.Catalogued.{program_in}
 use Rattle.catalogue.specs.Judgement.{program_of}
 use Rattle.cel_types.specs.SourceLaws.{kinds_in}
+use Rattle.change_laws.proofs.ResultLemmas.{same_results}
 use Rattle.catalogue.proofs.ProgramLemmas.{accepted_are_wide_programs}
 use Rattle.session.specs.ClosingGivesResults.{ClosingGivesResults, ClosingGivesResultsOfCatalogue, ClosingGivesResultsOfText}
 use Rattle.session.proofs.UnbornLemmas.{queries_unborn}
@@ -37,14 +39,6 @@ use Rattle.session.proofs.UnbornLemmas.{queries_unborn}
 -- an event of a declared stream is of no other stream
 other_stream : (at stream declared : ℕ) → at < declared → nat_lt stream declared ≡ false → (at == stream) ≡ false
 other_stream at stream declared within past = grind (arith, nat_tests)
-
--- what is given for the stream of each query is given for the query
-by_queries : (f : ℕ → List TupleView) (g : Query → List TupleView) (queries : List Query) → All (λ query. f query.stream ≡ g query) queries → map f (map (λ (query : Query). query.stream) queries) ≡ map g queries
-by_queries f g [] all = refl
-by_queries f g (query ∷ queries) all =
-    let first : f query.stream ≡ g query = All-head (λ (q : Query). f q.stream ≡ g q) query queries all in
-    let rest = by_queries f g queries (All-tail (λ (q : Query). f q.stream ≡ g q) query queries all) in
-    λ i. first i ∷ rest i
 
 -- over events of the declared streams, the lines of a program give its streams up to order
 module _ (kinds : ℕ → List Kind) (program : Program) (wide : IsWideProgram kinds program) (history : List Event) (all : HaveTheirKinds kinds history) (inside : All (λ event. event.stream < program.declared) history) where
@@ -72,7 +66,7 @@ module _ (kinds : ℕ → List Kind) (program : Program) (wide : IsWideProgram k
       made : Streams
       made = completed_after (born_lines program) (work_order program) (declared_streams program.declared history)
 
-  module _ (old new : EngineView) (batch : List (List TupleView)) (in_order : old.layout.order ≡ work_order program) (outs : old.layout.outs ≡ outs_of program) (stands : EngineStandsFor old (born_lines program) history) (closes : Closes old new batch) where
+  module _ (old new : EngineView) (batch : List (ℕ × List TupleView)) (in_order : old.layout.order ≡ work_order program) (outs : old.layout.outs ≡ outs_of program) (stands : EngineStandsFor old (born_lines program) history) (closes : Closes old new batch) where
     open_stands : standing.PartsStandFor old.network (born_lines program) old.layout.order (stores_in old) (Some closes.time) (streams_of old.opened) old.closed_time history
     open_stands =
         subst (λ (t : Option ℕ). standing.PartsStandFor old.network (born_lines program) old.layout.order (stores_in old) t (streams_of old.opened) old.closed_time history) closes.was_open stands.stands
@@ -83,11 +77,12 @@ module _ (kinds : ℕ → List Kind) (program : Program) (wide : IsWideProgram k
         (λ query. closing_is_results old.network (born_lines program) old.layout.order (stores_in old) closes.time (streams_of old.opened) closes.taken.news old.closed_time history stands.serves open_stands closes.taken.epoch program query.stream)
         program.queries (agree stands.stands.sound old.layout.order in_order)
 
-    -- what a closing gives is the results of the queries
-    batch_is_results : batch ≡ map (λ query. results program history query.stream closes.time) program.queries
+    -- what a closing gives is the results of the queries, by their streams
+    batch_is_results : batch ≡ results_of (outs_of program) (λ stream. results program history stream closes.time)
     batch_is_results =
-        closes.taken.results ∙ ap (map (λ stream. sorted (closes.taken.news stream))) outs
-        ∙ by_queries (λ stream. sorted (closes.taken.news stream)) (λ query. results program history query.stream closes.time) program.queries each
+        closes.taken.results ∙ ap (λ streams. results_of streams (λ stream. sorted (closes.taken.news stream))) outs
+        ∙ same_results (outs_of program) (λ stream. sorted (closes.taken.news stream)) (λ stream. results program history stream closes.time)
+        (All-map (λ stream. sorted (closes.taken.news stream) ≡ results program history stream closes.time) (λ (query : Query). query.stream) program.queries each)
 
 -- a closing gives the results of each query of a program
 pub closing_gives_results : ClosingGivesResults

@@ -20,7 +20,8 @@ use Rattle.courses.proofs.MomentLemmas.{behind_closed, not_before}
 use Rattle.session.specs.declared.work.Work.{Work}
 use Rattle.courses.specs.Fits.{Fits}
 use Rattle.session.specs.Says.{event_of}
-use Rattle.session.specs.Standing.{AreFronts, HasClosed, HasShut, IsAtWork, IsReadyForEvent, IsTimely, StandsFor, lines_over}
+use Rattle.session.specs.Fronts.{AreFronts}
+use Rattle.session.specs.Standing.{HasClosed, HasShut, IsAtWork, IsReadyForEvent, IsTimely, StandsFor, lines_over}
 use Rattle.session.proofs.PlanLemmas.{at_one_still, is_declared, may_hear, of_its_kinds}
 
 -- an event in time that closes no epoch may be offered
@@ -66,7 +67,7 @@ module _ (c : Catalogued) (standing : StandsInOrder c) (event : Seen) (fits : Fi
 
   module _ (new : Work) (took : new.engine ≡ with_tuple mid event.stream event.tuple) where
     -- once it took the event, the work may go on
-    pub at_work_more : IsLatest new.born c → AreFronts c new.fronts → IsAtWork c new
+    pub at_work_more : IsLatest new.born c → AreFronts c.streams new.fronts → IsAtWork c new
     at_work_more born fronts =
         let still = at_one_still c old mid ready.plan at_one in
         record {

@@ -1,12 +1,16 @@
--- The result lines of an epoch, from the tuples of each query. No public clause cites this module.
-use Rattle.std.specs.Prelude.{ℕ, List, [], ◌∷◌, ◌++◌}
-use Rattle.std.specs.List.{flat_map}
+-- The result lines of an epoch, from the tuples of each stream. No public clause cites this module.
+use Rattle.std.specs.Prelude.{ℕ, List}
+use Rattle.std.specs.List.{All, flat_map}
 use Rattle.event_types.specs.Tuple.{TupleView}
-use Rattle.semantics.specs.Programs.{Query}
 use Rattle.semantics.specs.Report.{line}
+use Rattle.stream_schema.specs.Streams.{Entry}
+use Rattle.catalogue.specs.Standing.{IsKnown}
+use Rattle.session.specs.Fronts.{name_in}
 
--- the result lines of the tuples, which are given query by query
-abbrev pub batch_lines : List Query → List (List TupleView) → List ℕ
-batch_lines [] lists = []
-batch_lines (query ∷ queries) [] = []
-batch_lines (query ∷ queries) (tuples ∷ lists) = flat_map (line query.name) tuples ++ batch_lines queries lists
+-- each stream that has tuples is known by its name
+abbrev pub AreOfKnown : List Entry → List (ℕ × List TupleView) → Type 0
+AreOfKnown streams batch = All (λ result. IsKnown streams result.0) batch
+
+-- the result lines of the tuples, which are given stream by stream
+abbrev pub batch_lines : List Entry → List (ℕ × List TupleView) → List ℕ
+batch_lines streams batch = flat_map (λ result. flat_map (line (name_in streams result.0)) result.1) batch

@@ -3,6 +3,7 @@ pub mod Changes
 pub mod ClosingGivesResults
 pub mod Standing
 pub mod Feeds
+pub mod Fronts
 pub mod ForEachHistory
 pub mod HandsOutSomeLines
 pub mod Owes

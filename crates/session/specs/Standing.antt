@@ -1,5 +1,5 @@
 -- The events that the work stands for, and what holds of the work whatever was heard. No public clause cites this module.
-use Rattle.std.specs.Prelude.{◌≡◌, ◌<◌, ◌≤◌, ℕ, is_some, List, [], Option, None, length, slice_index_or}
+use Rattle.std.specs.Prelude.{◌≡◌, ◌≤◌, ℕ, is_some, List, [], Option, None}
 use Rattle.std.specs.Option.{option_or}
 use Rattle.semantics.specs.Histories.{Event}
 use Rattle.semantics.specs.Programs.{Program}
@@ -10,14 +10,14 @@ use Rattle.epoch_engine.specs.Offers.{IsLate, IsNotAhead}
 use Rattle.epoch_engine.specs.EngineStandsFor as engines
 use Rattle.epoch_engine.specs.EngineView as engine
 use Rattle.event_csv.specs.Fed.{Fed, IsPart, line_feeds_so_far}
-use Rattle.catalogue.specs.Catalogued.{Catalogued, program_in, query_in}
+use Rattle.catalogue.specs.Catalogued.{Catalogued, program_in}
 use Rattle.catalogue.specs.Coming.{IsLatest}
 use Rattle.catalogue.specs.Standing.{StandsInOrder}
 use Rattle.change_laws.specs.AtOne.{AreAtOne}
 use Rattle.courses.specs.Course.{Moment}
 use Rattle.courses.specs.Heard.{disorder}
 use Rattle.courses.specs.QuerySet.{set_in}
-use Rattle.result_text.specs.Front.{front_of}
+use Rattle.session.specs.Fronts.{AreFronts}
 use Rattle.session.specs.SessionView.{AreDeclared}
 use Rattle.session.specs.declared.work.Work.{Work}
 
@@ -42,16 +42,12 @@ pub record StandsFor (c : Catalogued) (history : List Event) (now : engine.Engin
   pub declared : AreDeclared c history
   pub engine : engines.EngineStandsFor now (lines_over c) history
 
--- the fronts of rows that were made are those of the first queries
-abbrev pub AreFronts : Catalogued → List (List ℕ) → Type 0
-AreFronts c fronts = (length fronts ≤ length c.order) × ((place : ℕ) → place < length fronts → slice_index_or fronts place [] ≡ front_of (query_in c place).name)
-
--- the queries stand in order, the engine and the catalogue are at one, no query was born after the time that is kept, and the fronts are those of the queries
+-- the queries stand in order, the engine and the catalogue are at one, no query was born after the time that is kept, and the fronts that are made are those of the streams
 pub record IsAtWork (c : Catalogued) (work : Work) : Type 0 where
   pub in_order : StandsInOrder c
   pub at_one : AreAtOne c work.engine
   pub born : IsLatest work.born c
-  pub fronts : AreFronts c work.fronts
+  pub fronts : AreFronts c.streams work.fronts
 
 -- the open epoch was closed, and the engine stands for the same events
 pub record HasClosed (c : Catalogued) (old new : engine.EngineView) : Type 0 where

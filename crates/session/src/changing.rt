@@ -1,6 +1,5 @@
 //! The work on control lines that change the queries.
 ghost use Rattle.std.specs.Prelude.{◌≡◌, ℕ, ◌<◌, None, IfErr, OnOk, false, length};
-ghost use Rattle.std.specs.List.{remove};
 ghost use Rattle.cay_host.specs.Output.{SameButOutput};
 ghost use Rattle.catalogue.specs.Catalogued.{query_in};
 ghost use Rattle.catalogue.specs.Leaving.{IsUnread};
@@ -17,11 +16,11 @@ ghost use Rattle.session.specs.TestsLeft.{RisesByOpen};
 use crate::closing::close_open;
 use crate::control::Change;
 use crate::fault::SessionFault;
+use crate::fronts::forget_front;
 use crate::work::Work;
 use catalogue::{Catalogue, Coming};
 use cay_host::{Host, Ledger, Steps};
 use event_types::Memory;
-use result_text::Fronts;
 use std::alloc::Global;
 
 /// Closes the open epoch, whose rows are those of the queries that are there, and then changes the queries. Out of
@@ -108,19 +107,11 @@ fn take_out(
     ensures changed { OnOk result (HasChanged (Drops (query_in catalogue.old query)) catalogue.old catalogue.new work.old work.new) }
     ensures at_work { OnOk result (IsAtWork catalogue.new work.new) }
 {
+    let stream = catalogue.stream_of(query);
     let dropped = catalogue.drop_at(alloc, query)?;
     work.engine.remove(&dropped.ends, dropped.part);
-    take_front(&mut work.fronts, query);
+    forget_front(&mut work.fronts, stream);
     Ok(())
-}
-
-// Takes the front of the query with this number out, if it was made.
-fn take_front(fronts: &mut Fronts, query: usize)
-    ensures { fronts.new ≡ remove fronts.old query }
-{
-    if query < fronts.len() {
-        fronts.remove(query);
-    }
 }
 
 // Whether the first time is before the second, where none is before all times.

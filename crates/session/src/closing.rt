@@ -2,7 +2,8 @@
 ghost use Rattle.std.specs.Prelude.{◌≡◌, ℕ, IsSome, IfErr, OnOk};
 ghost use Rattle.cay_host.specs.Output.{SameButOutput};
 ghost use Rattle.session.specs.Feeds.{BlamesWriting};
-ghost use Rattle.session.specs.Standing.{AreFronts, HasClosed, HasShut, IsAtWork, IsReadyForEvent, IsTimely};
+ghost use Rattle.session.specs.Fronts.{AreFronts};
+ghost use Rattle.session.specs.Standing.{HasClosed, HasShut, IsAtWork, IsReadyForEvent, IsTimely};
 ghost use Rattle.session.specs.ForEachHistory.{FailsAtOpen, FailsInClosing, OwesClosing, OwesOpen, PutsOpenRows, WritesOpen};
 ghost use Rattle.session.specs.TestsLeft.{RisesByClosing, RisesByOpen};
 
@@ -26,7 +27,7 @@ fn close_epoch<L: Ledger>(
     requires at_work { IsAtWork catalogue.now work.old }
     requires opened { IsSome work.old.engine.time }
     ensures rows { OnOk result (PutsOpenRows catalogue.now work.old work.new) }
-    ensures fronts { OnOk result (AreFronts catalogue.now work.new.fronts) }
+    ensures fronts { OnOk result (AreFronts catalogue.now.streams work.new.fronts) }
     ensures closed { OnOk result (HasClosed catalogue.now work.old.engine work.new.engine) }
     ensures born { work.new.born ≡ work.old.born }
     ensures tests { RisesByOpen catalogue.now work.old.engine steps.old steps.new }
@@ -34,7 +35,7 @@ fn close_epoch<L: Ledger>(
     let batch = work.engine.close(alloc, steps)?;
     put_batch(
         alloc,
-        catalogue,
+        catalogue.streams(),
         &batch,
         &mut work.fronts,
         &mut work.rows,
@@ -58,7 +59,7 @@ pub fn close_before<H: Host, L: Ledger>(
     requires timely { IsTimely work.old.engine at }
     ensures owes { OnOk result (OwesClosing catalogue.now at work.old work.new (H.told host.old) (H.told host.new)) }
     ensures ready { OnOk result (IsReadyForEvent catalogue.now at work.old.engine work.new.engine) }
-    ensures fronts { OnOk result (AreFronts catalogue.now work.new.fronts) }
+    ensures fronts { OnOk result (AreFronts catalogue.now.streams work.new.fronts) }
     ensures born { work.new.born ≡ work.old.born }
     ensures fails { IfErr result (FailsInClosing catalogue.now at work.old (H.told host.old) (H.told host.new)) }
     ensures quiet { BlamesWriting result (H.told host.old) (H.told host.new) }

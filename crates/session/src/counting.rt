@@ -2,7 +2,8 @@
 ghost use Rattle.std.specs.Prelude.{◌≡◌, ◌-◌, ◌^◌, count_by, is_some, length, min, sum_by};
 ghost use Rattle.automaton.specs.States.{root_in};
 
-use automaton::{Lines, Network};
+use automaton::{Line, Network};
+use long_lists::LongList;
 
 /// The number of root states. Takes no memory.
 pub fn root_states(network: &Network) -> usize
@@ -18,12 +19,12 @@ pub fn root_states(network: &Network) -> usize
 }
 
 /// The number of the hops of all lines, or 2^64-1 where there are more. Takes no memory.
-pub fn hops_of(lines: &Lines) -> usize
+pub fn hops_of(lines: &LongList<Line>) -> usize
     ensures { result ≡ min (sum_by (λ line. length line.hops) lines.now) (2 ^ 64 - 1) }
 {
     let mut count: usize = 0;
-    for line in lines.as_slice() {
-        count = count.saturating_add(line.hops.len());
+    for place in 0..lines.len() {
+        count = count.saturating_add(lines.get(place).hops.len());
     }
     count
 }

@@ -10,6 +10,7 @@ mod control;
 mod counting;
 mod events;
 mod fault;
+mod fronts;
 mod laws;
 mod lines;
 mod reading;

@@ -19,6 +19,7 @@ ghost use Rattle.session.specs.Standing.{lines_over};
 
 use crate::counting::{hops_of, root_states};
 use crate::fault::SessionFault;
+use crate::fronts::Fronts;
 use crate::lines::{work_on_lines, work_on_rest};
 use crate::work::Work;
 use catalogue::Catalogue;
@@ -27,7 +28,7 @@ use epoch_engine::Engine;
 use event_csv::Feed;
 use event_types::Memory;
 use prefix_merge::Merged;
-use result_text::{Fronts, Rows, Tails};
+use result_text::{Rows, Tails};
 use std::alloc::Global;
 use std::marker::Model;
 

@@ -1,80 +1,56 @@
 //! The rows of closed epochs, on their way to the output.
-ghost use Rattle.std.specs.Prelude.{◌≡◌, ◌<◌, ◌≤◌, ◌++◌, [], ℕ, List, length, OnOk, OnErr};
+ghost use Rattle.std.specs.Prelude.{◌≡◌, ◌<◌, ◌++◌, [], ℕ, List, length, OnOk, OnErr};
 ghost use Rattle.std.specs.List.{All, flat_map};
 ghost use Rattle.cay_host.specs.Faults.{Rose};
 ghost use Rattle.cay_host.specs.Output.{Wrote, WrotePart, SameButOutput};
-ghost use Rattle.catalogue.specs.Standing.{StandsInOrder};
 ghost use Rattle.semantics.specs.Report.{line};
 ghost use Rattle.epoch_draft.specs.Made.{placed};
 ghost use Rattle.result_text.specs.Front.{front_of};
 ghost use Rattle.result_text.specs.Tails.{AreIn};
-ghost use Rattle.session.specs.BatchLines.{batch_lines};
-ghost use Rattle.session.specs.Standing.{AreFronts, program_over};
+ghost use Rattle.session.specs.BatchLines.{AreOfKnown, batch_lines};
+ghost use Rattle.session.specs.Fronts.{AreFronts};
 ghost use Rattle.session.specs.Owes.{Owes};
 
-use catalogue::Catalogue;
+use crate::fronts::{Fronts, keep_front};
 use cay_host::{Failed, Host, write_whole};
 use epoch_engine::Batch;
 use event_types::{Memory, Tuple};
-use result_text::{Front, Fronts, Lately, Rows, Tails};
+use result_text::{Front, Lately, Rows, Tails};
 use std::alloc::Global;
+use stream_schema::Streams;
 
 /// Rows are written once there are so many bytes of them.
 const FULL: usize = 65536;
 
-// Makes the fronts of the first so many queries that have none yet.
-fn make_fronts(
-    alloc: Global,
-    catalogue: &Catalogue,
-    queries: usize,
-    fronts: &mut Fronts,
-) -> Result<(), Memory>
-    requires within { queries ≤ length catalogue.now.order }
-    requires fronts { AreFronts catalogue.now fronts.old }
-    ensures fronts { OnOk result (AreFronts catalogue.now fronts.new) }
-    ensures all { OnOk result (queries ≤ length fronts.new) }
-{
-    let streams = catalogue.streams();
-    'queries: while fronts.len() < queries {
-        let query = fronts.len();
-        let stream = catalogue.stream_of(query);
-        let front = Front::of(alloc, streams.name(stream))?;
-        if fronts.push(front).is_err() {
-            return Err(Memory);
-        }
-    }
-    Ok(())
-}
-
-/// Appends the result lines of each query's tuples, behind fronts that are made where there are none yet. Where the
-/// batch has no entry, nothing is made. Out of line, so that its loop stands alone.
+/// Appends the result lines of each stream's tuples, behind fronts that are made where there are none yet. Where the
+/// batch has no tuples, nothing is made. Out of line, so that its loop stands alone.
 #[inline(never)]
 pub fn put_batch(
     alloc: Global,
-    catalogue: &Catalogue,
+    streams: &Streams,
     batch: &Batch,
     fronts: &mut Fronts,
     rows: &mut Rows,
     tails: &mut Tails,
 ) -> Result<(), Memory>
-    requires count { length batch.now ≡ length catalogue.now.order }
-    requires fronts { AreFronts catalogue.now fronts.old }
-    ensures put { OnOk result (rows.new ≡ rows.old ++ batch_lines (program_over catalogue.now).queries batch.now) }
-    ensures fronts { OnOk result (AreFronts catalogue.now fronts.new) }
-    ensures in_order { StandsInOrder catalogue.now }
+    requires known { AreOfKnown streams.now batch.now }
+    requires fronts { AreFronts streams.now fronts.old }
+    ensures put { OnOk result (rows.new ≡ rows.old ++ batch_lines streams.now batch.now) }
+    ensures fronts { OnOk result (AreFronts streams.now fronts.new) }
 {
-    let queries = catalogue.queries();
     let printed = batch.printed();
-    if printed.entries.is_empty() {
+    if printed.streams.is_empty() {
         return Ok(());
     }
-    make_fronts(alloc, catalogue, queries, fronts)?;
     tails.clear_if_full();
     let mut lately = Lately::none();
-    for entry in printed.entries {
-        let front = fronts.get(entry.place);
-        let places = printed.places[entry.stream].as_slice();
-        put_places(front, printed.tuples, places, rows, tails, &mut lately)?;
+    for stream in printed.streams {
+        let places = printed.places[*stream].as_slice();
+        if !places.is_empty() {
+            keep_front(alloc, streams, *stream, fronts)?;
+            let front = fronts.get(*stream).as_ref().unwrap();
+            put_places(front, printed.tuples, places, rows, tails, &mut lately)?;
+        }
     }
     Ok(())
 }

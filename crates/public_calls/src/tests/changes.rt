@@ -74,8 +74,11 @@ fn closes(
     rows: &[Row<'_>],
 ) -> Result<(), Memory> {
     let wanted = tuples_of(rt, alloc, rows)?;
+    let catalogue = monitor.catalogue();
+    assert!(rt; 0 < catalogue.queries());
+    let first = catalogue.stream_of(0);
     let batch = monitor.close(rt, alloc)?;
-    assert!(rt; has_tuples(&batch, 0, wanted.as_slice()));
+    assert!(rt; has_tuples(&batch, first, wanted.as_slice()));
     monitor.take_back(batch);
     Ok(())
 }

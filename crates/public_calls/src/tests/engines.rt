@@ -10,10 +10,10 @@ use std::sync::ledger::Blank;
 use std::test::Fail;
 use steps::{Ledger, Quiet, Steps};
 
-/// The places of Pair and Near among the streams that are printed.
-const PAIR: usize = 0;
+/// The streams of Pair and Near, which stand behind the declared ones.
+const PAIR: StreamId = 2;
 
-const NEAR: usize = 2;
+const NEAR: StreamId = 4;
 
 // A row: its start, its detection and its numbers.
 type Row<'a> = (u64, u64, &'a [i128]);
@@ -26,7 +26,7 @@ enum Deed<'a> {
     // An event of Stock with a start and a detection comes back, as late for this time.
     Late(u64, u64, u64),
     // The open epoch is closed, and a printed stream has these rows.
-    Close(usize, &'a [Row<'a>]),
+    Close(StreamId, &'a [Row<'a>]),
     // So many bindings are stored once those are taken out that no later event can match.
     Alive(u64),
 }
@@ -67,14 +67,14 @@ fn close<L: Ledger>(
 }
 
 // These are the rows of a printed stream, and no other has some.
-fn is_printed(rt: &impl Abort, batch: &Batch, place: usize, rows: &[Row<'_>]) {
+fn is_printed(rt: &impl Abort, batch: &Batch, stream: StreamId, rows: &[Row<'_>]) {
     let printed = batch.printed();
-    match printed.entries {
+    match printed.streams {
         [] => assert_eq!(rt; rows.len(), 0),
-        [entry] => {
-            assert_eq!(rt; entry.place, place);
-            assert!(rt; entry.stream < printed.places.len());
-            let places = printed.places[entry.stream].as_slice();
+        [only] => {
+            assert_eq!(rt; *only, stream);
+            assert!(rt; *only < printed.places.len());
+            let places = printed.places[*only].as_slice();
             are(rt, printed.tuples, places, rows);
         }
         _ => panic!(rt; "several streams have rows"),
@@ -105,11 +105,11 @@ fn closes_with(
     rt: &impl Abort,
     alloc: Global,
     engine: &mut Engine,
-    place: usize,
+    stream: StreamId,
     rows: &[Row<'_>],
 ) -> Result<(), Memory> {
     let batch = close::<Quiet>(rt, alloc, engine, Blank::new(1))?;
-    is_printed(rt, &batch, place, rows);
+    is_printed(rt, &batch, stream, rows);
     engine.take_back(batch);
     Ok(())
 }
@@ -146,7 +146,7 @@ fn does(rt: &impl Abort, alloc: Global, engine: &mut Engine, deed: Deed<'_>) -> 
             take(rt, alloc, engine, stream, (number, from, at))?;
         }
         Deed::Late(from, at, seen) => comes_back(rt, alloc, engine, from, at, seen)?,
-        Deed::Close(place, rows) => closes_with(rt, alloc, engine, place, rows)?,
+        Deed::Close(stream, rows) => closes_with(rt, alloc, engine, stream, rows)?,
         Deed::Alive(count) => {
             engine.trim();
             assert_eq!(rt; engine.live(), count);

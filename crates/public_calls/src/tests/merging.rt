@@ -1,8 +1,9 @@
 //! Which states a removed line takes away, and which numbers states have.
 ghost use Rattle.std.specs.Prelude.{◌≡◌, IfOk, length};
 
-use automaton::{End, Hop, Hops, Line, Lines, Wait};
+use automaton::{End, Hop, Hops, Line, Wait};
 use event_types::{Cmp, List, Memory, Value};
+use long_lists::LongList;
 use prefix_merge::{Left, Merged};
 use scalar_expr::{Pred, Scalar, normal};
 use std::alloc::Global;
@@ -52,10 +53,10 @@ fn line(alloc: Global, root: usize, hops: Hops) -> Line {
 }
 
 // Two lines.
-fn two(alloc: Global, first: Line, second: Line) -> Result<Lines, Memory>
+fn two(alloc: Global, first: Line, second: Line) -> Result<LongList<Line>, Memory>
     ensures { IfOk result (λ lines. length lines ≡ 2) }
 {
-    let mut lines = List::new(alloc);
+    let mut lines = LongList::new(alloc);
     lines.add(first)?;
     lines.add(second)?;
     Ok(lines)

@@ -8,6 +8,7 @@ ghost use Rattle.epoch_engine.specs.Adding.{Adds, Drops};
 ghost use Rattle.epoch_engine.specs.Closes.{Closes, KeepsPlan};
 ghost use Rattle.epoch_engine.specs.Offers.{IsHeard, IsNotAhead};
 
+use crate::tests::offering::is_worked;
 use catalogue::{AddFault, Added, Catalogue, DropFault, Dropped, load};
 use epoch_engine::{Batch, Engine};
 use event_types::{Kind, Memory, StreamId, Tuple, Value};
@@ -151,7 +152,7 @@ fn check_event(rt: &impl Abort, engine: &Engine, stream: StreamId, event: &Tuple
     assert!(rt; stream < layout.kinds.len());
     let kinds = layout.kinds.get(stream);
     assert!(rt; are_of_kinds(kinds.as_slice(), event.vals().as_slice()));
-    assert!(rt; !layout.order.as_slice().contains(&stream));
+    assert!(rt; !is_worked(&layout.order, stream));
 }
 
 // An event isn't ahead of the open epoch.
@@ -227,20 +228,14 @@ fn is_of_kind(kind: Kind, value: &Value) -> bool
     }
 }
 
-/// Whether the tuples of a query in a batch are these, in their order.
-pub fn has_tuples(batch: &Batch, query: usize, wanted: &[Tuple]) -> bool {
+/// Whether the tuples of a stream in a batch are these, in their order.
+pub fn has_tuples(batch: &Batch, stream: StreamId, wanted: &[Tuple]) -> bool {
     let printed = batch.printed();
-    for entry in printed.entries {
-        if entry.place == query {
-            return entry.stream < printed.places.len()
-                && are(
-                    printed.tuples,
-                    printed.places[entry.stream].as_slice(),
-                    wanted,
-                );
-        }
+    if printed.streams.contains(&stream) && stream < printed.places.len() {
+        are(printed.tuples, printed.places[stream].as_slice(), wanted)
+    } else {
+        wanted.is_empty()
     }
-    wanted.is_empty()
 }
 
 // Whether the tuples at these places are those.

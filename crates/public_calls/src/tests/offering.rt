@@ -2,10 +2,12 @@
 ghost use Rattle.std.specs.Prelude.{◌≡◌, [], ◌∷◌, IfOk, IsTrue, None, OnOk};
 ghost use Rattle.event_types.specs.declared.kind.Kind.TheVariants as kind;
 ghost use Rattle.semantics.specs.Kinds.{HasKinds};
+ghost use Rattle.automaton.specs.Work.{is_in};
 
 use catalogue::{Catalogue, load};
 use epoch_engine::{Engine, OfferFault};
 use event_types::{Kind, Kinds, List, Memory, StreamId, Tuple, Value};
+use long_lists::LongNumbers;
 use prefix_merge::Merged;
 use std::alloc::Global;
 use std::process::Abort;
@@ -57,11 +59,23 @@ pub fn offer(
     let layout = engine.layout();
     assert!(rt; stream < layout.kinds.len());
     assert!(rt; is_int(layout.kinds.get(stream)));
-    assert!(rt; !layout.order.as_slice().contains(&stream));
+    assert!(rt; !is_worked(&layout.order, stream));
     if let Some(time) = engine.open_time() {
         assert!(rt; at <= time);
     }
     Ok(engine.offer(stream, tuple))
+}
+
+/// Whether a stream stands in the order of work.
+pub fn is_worked(order: &LongNumbers, stream: StreamId) -> bool
+    ensures { result ≡ is_in order.now stream }
+{
+    for place in 0..order.len() {
+        if stream == *order.get(place) {
+            return true;
+        }
+    }
+    false
 }
 
 // The event of one number.

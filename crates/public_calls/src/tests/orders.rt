@@ -159,7 +159,7 @@ impl Order {
         for query in 0..catalogue.queries() {
             let stream = catalogue.stream_of(query);
             let wanted = tuples_at(rt, alloc, &streams, stream, self.time)?;
-            let has = has_tuples(batch, query, wanted.as_slice());
+            let has = has_tuples(batch, stream, wanted.as_slice());
             let name = catalogue.streams().name(stream);
             assert!(rt; has, "seed {}: {name}", self.seed);
         }

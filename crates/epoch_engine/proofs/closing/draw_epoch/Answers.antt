@@ -2,7 +2,7 @@ use Rattle.std.proofs.Common.{◌∙◌, ap, sym, subst, ℕ, ◌+◌, ◌≤◌
 use Rattle.semantics.specs.Denotation.{streams_of}
 use Rattle.automaton.specs.States.{Net}
 use Rattle.epoch_laws.specs.Closing.{Stores}
-use Rattle.epoch_draft.specs.Agenda.{ArePlaces}
+use Rattle.epoch_draft.specs.Agenda.{AreTurns}
 use Rattle.stream_readers.specs.Readers.{AreReadersOf}
 use Rattle.epoch_draft.specs.Deriving.{DrawnUpTo, news_of}
 use Rattle.epoch_draft.specs.Drafts.{DraftFits}
@@ -27,7 +27,7 @@ draw-requires-clause-can_read g c =
     let is = c.requires.running.plan_is in
     record {
       readers = subst (λ (net : Net). AreReadersOf net c.in-Some.readers.now) (sym c.network.ensures.value) c.in-Some.ensures;
-      places = subst (λ (net : Net). ArePlaces net plan.layout.order (length plan.layout.kinds) plan.places) (sym c.network.ensures.value) is.places;
+      turns = subst (λ (net : Net). AreTurns net plan.layout.order (length plan.layout.kinds) plan.turns) (sym c.network.ensures.value) is.turns;
       led = subst (λ (net : Net). AreLed net c.args.holdings.now.keys c.args.holdings.now.stores) (sym c.network.ensures.value) c.requires.led;
     }
 
@@ -49,11 +49,11 @@ returns-clause-drawn g c =
     (drawn_same plan.merged plan.layout c.args.holdings.now.stores c.make_room.new.stores opened plan.layout.order draft pairs c.make_room.ensures.same
     (subst (λ (net : Net). DrawnUpTo net plan.layout c.args.holdings.now.stores opened plan.layout.order draft pairs) c.network.ensures.value c.in_ok-draw.ensures.drawn))
 
--- the entries are those of what was drawn
+-- the streams are those of what was drawn
 pub returns-clause-listed : goal.returns-clause-listed
 returns-clause-listed g c =
     let outs = c.args.plan.now.layout.outs in
-    let entries = c.list.new.self.entries in subst (λ (d : Drawing). ArePrinted outs d.draft.made entries) (sym c.list.ensures.same) c.in_ok-list.ensures.listed
+    let streams = c.list.new.self.streams in subst (λ (d : Drawing). ArePrinted outs d.draft.made streams) (sym c.list.ensures.same) c.in_ok-list.ensures.listed
 
 pub returns-in_err-draw-clause-same : goal.returns-in_err-draw-clause-same
 returns-in_err-draw-clause-same g c = stored_same c.args.holdings.now.stores

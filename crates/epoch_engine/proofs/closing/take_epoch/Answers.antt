@@ -1,4 +1,4 @@
-use Rattle.std.proofs.Common.{sym, subst, ap, refl, List, length, arith}
+use Rattle.std.proofs.Common.{sym, subst, ap, List, length, arith}
 use Rattle.std.proofs.lemmas.Option.{IfSome_then}
 use Rattle.semantics.specs.Denotation.{streams_of}
 use Rattle.epoch_laws.specs.Closing.{Stores}
@@ -6,12 +6,12 @@ use Rattle.epoch_draft.specs.Held.{held}
 use Rattle.epoch_draft.proofs.StoreLemmas.{can_draw_same, held_same}
 use Rattle.epoch_draft.specs.EpochWork.{taking_work}
 use Rattle.event_types.specs.Tuple.{TupleView}
-use Rattle.epoch_engine.specs.Batches.{ArePrinted, IsOfMade}
+use Rattle.epoch_engine.specs.Batches.{IsOfMade}
 use Rattle.epoch_engine.specs.Closes.{IsTaken}
-use Rattle.epoch_engine.specs.Entries.{lists_of}
-use Rattle.epoch_engine.proofs.BatchLemmas.{batch_is, entries_within, fits_itself}
+use Rattle.epoch_engine.specs.Results.{results_of}
+use Rattle.epoch_engine.proofs.BatchLemmas.{fits_itself}
 use Rattle.epoch_engine.proofs.ClosedLemmas.{taken, typed_after}
-use Rattle.epoch_engine.proofs.EngineLemmas.{outs_inside, with_same}
+use Rattle.epoch_engine.proofs.EngineLemmas.{printed_inside, with_same}
 use Rattle.epoch_engine.proofs.closing.take_epoch.Goals as goal
 
 -- with room for what comes the engine runs as before
@@ -25,29 +25,25 @@ returns-clause-taken g c =
     let plan = c.args.plan.now in
     let epoch = c.args.epoch.now in
     let drawing = c.draw_epoch.new.room.drawing in
-    let entries = c.draw_epoch.new.room.entries in
+    let streams = c.draw_epoch.new.room.streams in
     let outs = plan.layout.outs in
     let mid = c.draw_epoch.new.holdings.stores in
     let after = c.settle_epoch.new.holdings.stores in
     let made = c.settle_epoch.new.drawing.draft.made in
-    let batch = lists_of (length outs) made entries in
+    let batch = results_of streams (streams_of made) in
     IfSome_then epoch.time c.settle_epoch.ensures.settled
     (λ time closed.
     subst (λ (stores : Stores). IsTaken plan.merged plan.layout time stores (streams_of epoch.tuples) (held after) batch) (sym (held_same c.args.holdings.now.stores mid c.draw_epoch.ensures.same))
     (taken plan.merged plan.layout time mid after epoch.tuples batch drawing.draft drawing.pairs c.requires.running.plan_is.printed c.in_ok-draw_epoch.ensures.drawn closed
-    (subst (λ (lists : List (List TupleView)). IsOfMade outs drawing.draft.made (lists_of (length outs) lists entries)) (sym c.settle_epoch.ensures.made) (batch_is outs drawing.draft.made entries c.in_ok-draw_epoch.ensures.listed))))
+    (subst (λ (lists : List (List TupleView)). IsOfMade outs drawing.draft.made (results_of streams (streams_of lists))) (sym c.settle_epoch.ensures.made) c.in_ok-draw_epoch.ensures.listed.all)))
 
 -- and stands in the room
 pub returns-clause-batch : goal.returns-clause-batch
 returns-clause-batch g c =
     let plan = c.args.plan.now in
-    let entries = c.draw_epoch.new.room.entries in
     let draft = c.settle_epoch.new.drawing.draft in
-    let outs = plan.layout.outs in
-    let listed = subst (λ (made : List (List TupleView)). ArePrinted outs made entries) (sym c.settle_epoch.ensures.made) c.in_ok-draw_epoch.ensures.listed in
     let fits = c.settle_epoch.ensures.fits in record {
-      in_order = listed.in_order;
-      within = entries_within outs draft.made entries (outs_inside plan c.requires.running.plan_is c.requires.running.can_draw.order (length draft.made) fits.made outs refl) listed;
+      within = printed_inside plan c.requires.running.plan_is c.requires.running.can_draw.order (length draft.made) fits.made c.draw_epoch.new.room.streams c.in_ok-draw_epoch.ensures.listed.among;
       fits = fits_itself (length plan.layout.kinds) (length plan.merged) draft fits;
     }
 

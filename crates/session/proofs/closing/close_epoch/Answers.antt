@@ -1,19 +1,22 @@
 use Rattle.std.proofs.Common.{◌∙◌, sym, subst}
+use Rattle.session.specs.BatchLines.{AreOfKnown}
 use Rattle.session.specs.Standing.{HasClosed}
 use Rattle.session.proofs.ClosedLemmas.{rows_closed, still_stands}
-use Rattle.session.proofs.PlanLemmas.{batch_count}
+use Rattle.session.proofs.PlanLemmas.{batch_known}
 use Rattle.session.proofs.TestsLemmas.{open_rises}
 use Rattle.session.proofs.closing.close_epoch.Goals as goal
 
--- the batch has a list for each query
-pub put_batch-requires-clause-count : goal.put_batch-requires-clause-count
-put_batch-requires-clause-count g c = batch_count c.args.catalogue.now c.requires.at_work.in_order c.args.work.now.engine c.close.new.self c.in_ok-batch.batch c.requires.at_work.at_one c.in_ok-batch.ensures.closed
+-- the streams of the batch are known
+pub put_batch-requires-clause-known : goal.put_batch-requires-clause-known
+put_batch-requires-clause-known g c =
+    subst (λ streams. AreOfKnown streams c.in_ok-batch.batch) (sym c.streams.ensures.value)
+    (batch_known c.args.catalogue.now c.requires.at_work.in_order c.args.work.now.engine c.close.new.self c.in_ok-batch.batch c.requires.at_work.at_one c.in_ok-batch.ensures.closed)
 
 -- the rows of the epoch were put
 pub returns-clause-rows : goal.returns-clause-rows
 returns-clause-rows g c = λ history stands.
     rows_closed c.args.catalogue.now c.requires.at_work.in_order c.args.work.now.engine c.close.new.self c.in_ok-batch.batch c.requires.at_work.at_one c.in_ok-batch.ensures.closed history stands
-    c.args.work.now.rows c.put_batch.new.rows c.in_ok-put_batch.ensures.put
+    c.args.work.now.rows c.put_batch.new.rows (rw c.streams.ensures.value at c.in_ok-put_batch.ensures.put)
 
 -- the epoch is closed
 pub returns-clause-closed : goal.returns-clause-closed

@@ -3,5 +3,5 @@ use Rattle.std.specs.Prelude.{sum_by}
 use Rattle.session.proofs.counting.hops_of.Given as goal
 
 -- the hops of the lines so far
-abbrev pub invariant-loop-line : goal.invariant-loop-line
-invariant-loop-line l = l.count ≡ min (sum_by (λ line. length line.hops) (take l.line-index l.lines)) (2 ^ 64 - 1)
+abbrev pub invariant-loop-place : goal.invariant-loop-place
+invariant-loop-place l = l.count ≡ min (sum_by (λ line. length line.hops) (take l.place l.lines)) (2 ^ 64 - 1)

@@ -5,7 +5,7 @@ use Rattle.epoch_engine.specs.EngineView as engine
 use Rattle.courses.specs.Course.{Hears}
 use Rattle.session.specs.Owes.{stage_at}
 use Rattle.session.specs.Says.{event_of}
-use Rattle.session.specs.Standing.{AreFronts}
+use Rattle.session.specs.Fronts.{AreFronts}
 use Rattle.session.proofs.StandsLemmas.{at_work_more, may_offer, stands_more}
 use Rattle.session.proofs.OwesLemmas.{event_closes, fails, goes_on, heard_moment, no_memory, now_fails, now_owes}
 use Rattle.session.proofs.events.close_and_offer.Goals as goal
@@ -58,7 +58,7 @@ returns-clause-more g c = λ history stands.
 pub returns-clause-at_work : goal.returns-clause-at_work
 returns-clause-at_work g c =
     at_work_more c.args.catalogue.now c.requires.at_work.in_order c.args.line.event c.requires.fits c.args.work.now.engine c.close_before.new.work.engine (rw c.at-at.ensures.value at c.in_ok-close_before.ensures.ready) c.requires.at_work.at_one
-    c.offer_event.new.work c.in_ok-offer_event.ensures.heard (subst (λ time. IsLatest time c.args.catalogue.now) (sym (c.in_ok-offer_event.ensures.born ∙ c.close_before.ensures.born)) c.requires.at_work.born) (subst (AreFronts c.args.catalogue.now) (sym c.in_ok-offer_event.ensures.fronts) c.in_ok-close_before.ensures.fronts)
+    c.offer_event.new.work c.in_ok-offer_event.ensures.heard (subst (λ time. IsLatest time c.args.catalogue.now) (sym (c.in_ok-offer_event.ensures.born ∙ c.close_before.ensures.born)) c.requires.at_work.born) (subst (AreFronts c.args.catalogue.now.streams) (sym c.in_ok-offer_event.ensures.fronts) c.in_ok-close_before.ensures.fronts)
 
 -- its closing tests no more than the open epoch asks for
 pub returns-in_err-close_before-clause-tests : goal.returns-in_err-close_before-clause-tests

@@ -1,69 +1,77 @@
-use Rattle.std.proofs.Common.{refl, ◌∙◌, ◌++◌, ◌<◌, ◌≤◌, List, length, ap, append-nil, map, subst, sym, arith, ◌≡◌, slice_index_or, []}
-use Rattle.std.specs.List.{flat_map}
+use Rattle.std.proofs.Common.{rules, ◌≡◌, ◌∙◌, ◌++◌, ◌<◌, ◌≤◌, ℕ, List, [], ap, append-nil, arith, length, map, slice_index_or, subst, sym, take, ◌+◌}
+use Rattle.std.specs.List.{All, flat_map}
 use Rattle.std.proofs.lemmas.Bool.Decides.{nat_tests}
-use Rattle.std.proofs.lemmas.List.{get_or-map, get_or_default, length-map, take_all}
+use Rattle.std.proofs.lemmas.List.{take_all}
+use Rattle.std.proofs.lemmas.Option.{slice_get_within}
 use Rattle.std.proofs.lemmas.List.Elements.{All-get_or}
+use Rattle.semantics.specs.Denotation.{streams_of}
 use Rattle.semantics.specs.Report.{line}
-use Rattle.catalogue.specs.Catalogued.{query_in}
-use Rattle.epoch_engine.specs.declared.entry.Entry.{Entry}
+use Rattle.result_text.specs.Front.{front_of}
 use Rattle.epoch_draft.specs.Made.{placed}
-use Rattle.session.proofs.BatchLinesLemmas.{entry_lines, entry_more, front_at, lines_by_entries, place_below}
+use Rattle.catalogue.specs.Standing.{IsKnown}
+use Rattle.session.specs.BatchLines.{AreOfKnown, batch_lines}
+use Rattle.session.specs.Fronts.{AreFronts, name_in}
+use Rattle.session.proofs.BatchLinesLemmas.{given_at, lines_by_streams, none_placed, placed_of, some_placed, stream_lines, stream_more}
 use Rattle.session.proofs.writing.put_batch.Goals as goal
+use Rattle.session.proofs.writing.put_batch.Goals.{then-not-is_empty+in_ok-keep_front+in_ok-put_places, else-not-is_empty}
 
--- where there is no entry, no line is put
-pub returns-then-is_empty-clause-put : goal.returns-then-is_empty-clause-put
-returns-then-is_empty-clause-put c =
-    let now = c.args.catalogue.now in
+-- a stream that has tuples is known
+pub keep_front-requires-clause-known : goal.keep_front-requires-clause-known
+keep_front-requires-clause-known c =
     let printed = c.printed-printed.result in
-    let entries = printed.entries.now in
-    let made = map (placed printed.tuples.now) printed.places.now in
-    let none : length entries ≤ 0 = grind (arith, nat_tests, c.if-is_empty.ensures) in
-    sym (append-nil c.args.rows.now) ∙ ap (λ (es : List Entry). c.args.rows.now ++ flat_map (entry_lines now made) es) (take_all 0 entries none)
-    ∙ ap (λ rows. c.args.rows.now ++ rows) (sym (lines_by_entries now c.args.batch.now made entries c.requires.count c.printed-printed.ensures.entries))
-
--- each entry has a front
-pub get-front-requires : goal.get-front-requires
-get-front-requires c =
-    let entries = c.printed-printed.result.entries.now in
-    let i = c.loop-entry.entry-index in
-    let none : Entry = record { place = 0; stream = 0 } in
-    let entry : Entry = slice_index_or entries i none in
-    let at : slice_index_or entries i entry ≡ entry = get_or_default entries i entry none (omega arith) in
-    let less = subst (λ n. entry.place < n) c.requires.count (place_below (length c.args.batch.now) entries i entry (omega arith) at c.printed-printed.ensures.entries.in_order.below) in
-    omega (arith, less, c.in_ok-make_fronts.ensures.all)
-
--- the lines of one entry more were put, and its last tuples may be shown again
-pub loop-entry-preserved : goal.loop-entry-preserved
-loop-entry-preserved c =
-    let now = c.args.catalogue.now in
-    let printed = c.printed-printed.result in
-    let entries = printed.entries.now in
     let tuples = printed.tuples.now in
-    let places = printed.places.now in
-    let made = map (placed tuples) places in
-    let i = c.loop-entry.entry-index in
-    let none : Entry = record { place = 0; stream = 0 } in
-    let entry : Entry = slice_index_or entries i none in
-    let at : slice_index_or entries i entry ≡ entry = get_or_default entries i entry none (omega arith) in
-    let name = (query_in now entry.place).name in
-    let front = front_at now c.make_fronts.new.fronts entry.place c.get-front.result.now c.in_ok-make_fronts.ensures.fronts c.get-front.ensures in
-    let lt : i < length entries = omega arith in
-    let there : entry.stream < length made = All-get_or (λ (e : Entry). e.stream < length made) entries i none lt c.printed-printed.ensures.entries.within in
-    let shown : placed tuples c.as_slice-places.result.now ≡ slice_index_or made entry.stream [] =
-    ap (placed tuples) c.as_slice-places.ensures ∙ sym (get_or-map (placed tuples) places entry.stream c.index-printed-entry.result [] (omega (arith, there, length-map places (placed tuples)))) in
-    record {
-      put = entry_more now made entries i entry c.args.rows.now c.loop-entry.rows c.put_places.new.rows name lt at refl
-          (c.in_ok-put_places.ensures.put name front ∙ ap (λ ts. c.loop-entry.rows ++ flat_map (line name) ts) shown) c.loop-entry.invariant.put;
-      lately = c.in_ok-put_places.ensures.lately;
-    }
+    let lists = printed.places.now in
+    let i = c.loop-stream.stream-index in
+    let stream = slice_index_or printed.streams.now i 0 in
+    let less = All-get_or (λ s. s < length lists) printed.streams.now i 0 c.loop-stream-test.true c.printed-printed.ensures.within in
+    let some : 0 < length c.as_slice-places.result.now = grind (arith, nat_tests, c.if-not-is_empty.ensures) in
+    given_at (IsKnown c.args.streams.now) (streams_of (map (placed tuples) lists)) printed.streams.now i c.loop-stream-test.true
+    (some_placed tuples lists stream c.as_slice-places.result.now c.index-printed-stream.result less c.as_slice-places.ensures c.printed-printed.ensures.below some)
+    (subst (AreOfKnown c.args.streams.now) c.printed-printed.ensures.results c.requires.known)
 
--- the lines of all entries were put
+-- its front was made
+pub get-requires : goal.get-requires
+get-requires c = slice_get_within c.keep_front.new.fronts (slice_index_or c.printed-printed.result.streams.now c.loop-stream.stream-index 0) _ c.in_ok-keep_front.ensures.there
+
+-- the lines of one stream more were put, and its last tuples may be shown again
+pub loop-stream-preserved : goal.loop-stream-preserved
+loop-stream-preserved c =
+    let printed = c.printed-printed.result in
+    let tuples = printed.tuples.now in
+    let lists = printed.places.now in
+    let names = c.args.streams.now in
+    let i = c.loop-stream.stream-index in
+    let stream = slice_index_or printed.streams.now i 0 in
+    let places = c.as_slice-places.result.now in
+    let lines = stream_lines names (streams_of (map (placed tuples) lists)) stream in
+    let less = All-get_or (λ s. s < length lists) printed.streams.now i 0 c.loop-stream-test.true c.printed-printed.ensures.within in
+    let more : (new : List ℕ) → new ≡ c.loop-stream.rows ++ lines → new ≡ c.args.rows.now ++ flat_map (stream_lines names (streams_of (map (placed tuples) lists))) (take (i + 1) printed.streams.now) =
+    λ new e. stream_more names (streams_of (map (placed tuples) lists)) printed.streams.now i c.args.rows.now c.loop-stream.rows new c.loop-stream-test.true e c.loop-stream.invariant.put in
+    elim c.if-not-is_empty.branch [
+      | then-not-is_empty+in_ok-keep_front+in_ok-put_places w ↦
+          let front : w.unwrap-front.result.now ≡ front_of (name_in names stream) = search rules in
+          record {
+            put = more c.if-not-is_empty.rows
+                (w.rows-is ∙ w.in_ok-put_places.ensures.put (name_in names stream) front
+                ∙ ap (λ ts. c.loop-stream.rows ++ flat_map (line (name_in names stream)) ts) (placed_of tuples lists stream places c.index-printed-stream.result less c.as_slice-places.ensures));
+            fronts = subst (AreFronts names) (sym w.fronts-is) w.in_ok-keep_front.ensures.fronts;
+            lately = rw (w.tails-is, w.lately-is) w.in_ok-put_places.ensures.lately;
+          }
+      | else-not-is_empty w ↦
+          let none : length places ≤ 0 = grind (arith, nat_tests, w.if-not-is_empty.ensures) in
+          record {
+            put = more c.if-not-is_empty.rows (w.rows-is ∙ sym (append-nil c.loop-stream.rows)
+                ∙ ap (λ ts. c.loop-stream.rows ++ flat_map (line (name_in names stream)) ts) (sym (none_placed tuples lists stream places c.index-printed-stream.result less c.as_slice-places.ensures none)));
+            fronts = subst (AreFronts names) (sym w.fronts-is) c.loop-stream.invariant.fronts;
+            lately = rw (w.tails-is, w.lately-is) c.loop-stream.invariant.lately;
+          }
+    ]
+
+-- the lines of all streams were put
 pub returns-clause-put : goal.returns-clause-put
 returns-clause-put c =
-    let now = c.args.catalogue.now in
     let printed = c.printed-printed.result in
-    let entries = printed.entries.now in
-    let made = map (placed printed.tuples.now) printed.places.now in
-    let past : length entries ≤ c.loop-entry.entry-index = omega arith in
-    c.loop-entry.invariant.put ∙ ap (λ (es : List Entry). c.args.rows.now ++ flat_map (entry_lines now made) es) (take_all c.loop-entry.entry-index entries past)
-    ∙ ap (λ rows. c.args.rows.now ++ rows) (sym (lines_by_entries now c.args.batch.now made entries c.requires.count c.printed-printed.ensures.entries))
+    let tuples_of = streams_of (map (placed printed.tuples.now) printed.places.now) in
+    let past : length printed.streams.now ≤ c.loop-stream.stream-index = omega arith in
+    c.loop-stream.invariant.put ∙ ap (λ (ss : List ℕ). c.args.rows.now ++ flat_map (stream_lines c.args.streams.now tuples_of) ss) (take_all c.loop-stream.stream-index printed.streams.now past)
+    ∙ ap (λ rows. c.args.rows.now ++ rows) (sym (lines_by_streams c.args.streams.now printed.streams.now tuples_of) ∙ ap (batch_lines c.args.streams.now) (sym c.printed-printed.ensures.results))

@@ -1,14 +1,23 @@
-use Rattle.std.proofs.Common.{◌∙◌, ap, sym, subst, List}
+use Rattle.std.proofs.Common.{◌∙◌, ◌<◌, ap, sym, subst, ℕ, List, length}
+use Rattle.std.specs.List.{All}
+use Rattle.std.proofs.lemmas.List.{length-map}
 use Rattle.event_types.specs.Tuple.{TupleView}
-use Rattle.epoch_engine.specs.Entries.{AreEntriesOf}
+use Rattle.semantics.specs.Denotation.{streams_of}
+use Rattle.epoch_draft.specs.Made.{placed}
+use Rattle.epoch_engine.specs.Results.{results_of}
 use Rattle.epoch_engine.specs.declared.room.Room.{Room}
-use Rattle.epoch_engine.proofs.BatchLemmas.{entries_of}
 use Rattle.epoch_engine.proofs.batch.Batch.printed.Goals as goal
 
-pub returns-clause-entries : goal.returns-clause-entries
-returns-clause-entries c =
-    let room = c.self.inside.room.value in
-    let is = c.self.invariant in
-    let entries = c.as_slice.ensures ∙ ap (λ (r : Room). r.entries) c.deref-2.ensures in
-    let all = subst (λ (lists : List (List TupleView)). AreEntriesOf lists room.drawing.draft.made room.entries) c.self.view_is (entries_of c.self.inside.printed room.drawing.draft.made room.entries is.in_order is.within) in
-    subst (λ (made : List (List TupleView)). AreEntriesOf c.args.self.now made c.as_slice.result.now) (ap (λ (r : Room). r.drawing.draft.made) (sym c.deref.ensures) ∙ c.show-made.ensures.value) (subst (AreEntriesOf c.args.self.now room.drawing.draft.made) (sym entries) all)
+-- the streams in the room have the tuples there
+pub returns-clause-results : goal.returns-clause-results
+returns-clause-results c =
+    let streams = c.as_slice.ensures ∙ ap (λ (r : Room). r.streams) c.deref-2.ensures in
+    let made = ap (λ (r : Room). r.drawing.draft.made) (sym c.deref.ensures) ∙ c.show-made.ensures.value in
+    sym c.self.view_is ∙ (λ i. results_of (sym streams i) (streams_of (made i)))
+
+-- and they are below their number
+pub returns-clause-within : goal.returns-clause-within
+returns-clause-within c =
+    let streams = c.as_slice.ensures ∙ ap (λ (r : Room). r.streams) c.deref-2.ensures in
+    let made = ap (λ (r : Room). r.drawing.draft.made) (sym c.deref.ensures) ∙ c.show-made.ensures.value in
+    subst (λ (n : ℕ). All (λ stream. stream < n) c.as_slice.result.now) (ap (λ (lists : List (List TupleView)). length lists) made ∙ length-map c.show-made.result.places.now (placed c.show-made.result.tuples.now)) (subst (All (λ stream. stream < length c.self.inside.room.value.drawing.draft.made)) (sym streams) c.self.invariant.within)

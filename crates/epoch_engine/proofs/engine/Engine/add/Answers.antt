@@ -10,7 +10,10 @@ use Rattle.binding_index.specs.declared.store.Store.{Store}
 use Rattle.prefix_merge.specs.Merging.{HasEnd, IsMerged}
 use Rattle.prefix_merge.specs.Turns.{InsertsAll, InsertsFirst}
 use Rattle.stream_readers.specs.KeyTables.{KeyTable}
-use Rattle.epoch_draft.specs.Places.{AreArrangedUpTo}
+use Rattle.epoch_draft.specs.Turns.{HaveTurns}
+use Rattle.epoch_draft.proofs.TurnLemmas.{turns_before, turns_longer}
+use Rattle.epoch_engine.specs.Prints.{AreInTurn, OthersHaveNone}
+use Rattle.epoch_engine.proofs.PrintedLemmas.{others_grown, others_longer, told_before}
 use Rattle.epoch_draft.specs.Deriving.{CanDraw}
 use Rattle.epoch_draft.specs.Held.{instances_in}
 use Rattle.epoch_draft.specs.Led.{AreLed}
@@ -25,7 +28,7 @@ use Rattle.epoch_engine.proofs.EngineLemmas.{engine_fresh, view_of}
 use Rattle.epoch_engine.proofs.KindingLemmas.{fitting_typed}
 use Rattle.epoch_engine.proofs.LineLemmas.{grown_led, grown_typed, grown_watched, stores_undone}
 use Rattle.epoch_engine.proofs.OverLemmas.{came_there, drawable, fits_added, grown_held}
-use Rattle.epoch_engine.proofs.PlanLemmas.{arranged_longer, came_read, came_storeless, kinds_begin, plan_longer}
+use Rattle.epoch_engine.proofs.PlanLemmas.{came_read, came_storeless, kinds_begin, plan_longer}
 use Rattle.epoch_engine.proofs.engine.Engine.add.Goals as goal
 
 -- the ends aren't there
@@ -58,7 +61,7 @@ go_over-requires-clause-read c =
     let came = c.in_ok-came.ensures.came in
     let merged = c.make_room.ensures.merged in
     subst (AreReadBut c.make_room.new.plan) (sym c.as_slice.ensures)
-    (came_read e.plan c.make_room.new.plan c.in_ok-came.came typed.kinding typed.states c.self.invariant.running.plan_is.places c.make_room.ensures.more.read
+    (came_read e.plan c.make_room.new.plan c.in_ok-came.came typed.kinding typed.states c.self.invariant.running.plan_is.turns c.make_room.ensures.more.read
     (λ n there. ap (λ (net : Net). entrance_at net n) merged ∙ inserted.stay n there) (λ n there new. came n (sym (ap (λ (net : Net). is_used net n) merged) ∙ there) new))
 
 -- the waiting states that came have no store yet
@@ -67,24 +70,40 @@ make_room-requires-clause-came c =
     let e = c.self.inside in
     came_storeless e.plan.merged c.insert_all.new.self e.plan.layout.kinds e.holdings.stores c.in_ok-came.came c.self.invariant.running.can_draw.typed c.in_ok-came.ensures.inserted.stay c.in_ok-came.ensures.came
 
--- the streams that were there have their places
+-- the streams that were there have their turns
 pub go_over-requires-clause-worked : goal.go_over-requires-clause-worked
 go_over-requires-clause-worked c =
     let e = c.self.inside in
     let order = e.plan.layout.order in
-    let places = c.make_room.new.plan.places.places in
-    subst (λ (l : Layout). AreArrangedUpTo c.len-worked.result l.order places) (sym c.in-Ok.ensures.layout)
-    (subst (λ (n : ℕ). AreArrangedUpTo n (order ++ c.args.growth.order) places) (sym c.len-worked.ensures)
-    (arranged_longer order c.args.growth.order e.plan.places.places places c.self.invariant.running.plan_is.places.arranged c.make_room.ensures.more.places))
+    let turns = c.make_room.new.plan.turns.turns in
+    let more = c.make_room.ensures.more in
+    subst (λ (l : Layout). HaveTurns (take c.len-worked.result l.order) turns) (sym c.in-Ok.ensures.layout)
+    (subst (λ (n : ℕ). HaveTurns (take n (order ++ c.args.growth.order)) turns) (sym c.len-worked.ensures)
+    (turns_before order c.args.growth.order turns (turns_longer order e.plan.turns.turns turns more.turns more.last c.self.invariant.running.plan_is.turns.in_turn)))
 
+-- and those that were printed
 pub go_over-requires-clause-printed : goal.go_over-requires-clause-printed
 go_over-requires-clause-printed c = λ once.
     (let e = c.self.inside in
     let outs = e.plan.layout.outs in
-    let places = c.make_room.new.plan.prints.places in
-    subst (λ (l : Layout). AreArrangedUpTo c.len-printed.result l.outs places) (sym c.in-Ok.ensures.layout)
-    (subst (λ (n : ℕ). AreArrangedUpTo n (outs ++ c.args.growth.outs) places) (sym c.len-printed.ensures)
-    (arranged_longer outs c.args.growth.outs e.plan.prints.places places (c.self.invariant.running.plan_is.prints.arranged (subst IsTrue c.make_room.ensures.more.once once)) c.make_room.ensures.more.prints)))
+    let prints = c.self.invariant.running.plan_is.prints in
+    let turns = c.make_room.new.plan.prints.turns in
+    let more = c.make_room.ensures.more in
+    subst (λ (l : Layout). AreInTurn (take c.len-printed.result l.outs) turns) (sym c.in-Ok.ensures.layout)
+    (subst (λ (n : ℕ). AreInTurn (take n (outs ++ c.args.growth.outs)) turns) (sym c.len-printed.ensures)
+    (told_before outs c.args.growth.outs turns (record {
+      in_turn = turns_longer outs e.plan.prints.turns turns more.prints more.last_printed (prints.in_turn (subst IsTrue more.once once));
+      others = others_longer outs e.plan.prints.turns turns more.prints prints.others;
+    }))))
+
+-- no others have a turn
+pub go_over-requires-clause-others : goal.go_over-requires-clause-others
+go_over-requires-clause-others c =
+    let e = c.self.inside in
+    let outs = e.plan.layout.outs in
+    let turns = c.make_room.new.plan.prints.turns in
+    subst (λ (l : Layout). OthersHaveNone l.outs turns) (sym c.in-Ok.ensures.layout)
+    (others_grown outs c.args.growth.outs turns (others_longer outs e.plan.prints.turns turns c.make_room.ensures.more.prints c.self.invariant.running.plan_is.prints.others))
 
 -- over the new network the parts fit
 pub invariant_of-self-in-Ok : goal.invariant_of-self-in-Ok
@@ -174,11 +193,11 @@ invariant_of-self-in-Err c =
     let plan : Plan = record {
       merged = c.remove_first.new.self;
       layout = record { order = c.truncate.new.self; outs = c.truncate-in-Err.new.self; kinds = c.truncate-in-Err-2.new.self };
-      places = made.places;
+      turns = made.turns;
       prints = made.prints;
     } in
     let more = c.make_room.ensures.more in
-    let is = plan_longer e.plan plan (net c) (layout c) (record { places = more.places; read = more.read; prints = more.prints; once = more.once }) c.self.invariant.running.plan_is in
+    let is = plan_longer e.plan plan (net c) (layout c) (record { turns = more.turns; last = more.last; read = more.read; prints = more.prints; last_printed = more.last_printed; once = more.once }) c.self.invariant.running.plan_is in
     let base = engine_fresh e.plan plan (net c) (layout c) e.holdings e.epoch e.room is c.self.invariant in
     let tuples = c.in-Err.ensures.kept_tuples in
     record {

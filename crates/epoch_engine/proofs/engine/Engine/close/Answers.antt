@@ -1,4 +1,4 @@
-use Rattle.std.proofs.Common.{Box, Global, ◌≡◌, ◌∙◌, sym, ap, refl, subst, ℕ, ◌+◌, ◌≤◌}
+use Rattle.std.proofs.Common.{Box, Global, ◌≡◌, ◌∙◌, sym, refl, subst, ◌+◌, ◌≤◌}
 use Rattle.std.specs.Prelude.{IfSome, IsSome, Option}
 use Rattle.semantics.specs.Denotation.{streams_of}
 use Rattle.epoch_engine.specs.Closes.{Closes}
@@ -7,20 +7,14 @@ use Rattle.automaton.specs.States.{Net}
 use Rattle.epoch_draft.specs.Led.{AreLed}
 use Rattle.epoch_draft.proofs.Lists.{on_err}
 use Rattle.epoch_draft.specs.EpochWork.{epoch_work}
-use Rattle.epoch_engine.specs.Batches.{IsBatch}
-use Rattle.epoch_engine.specs.Entries.{lists_of}
 use Rattle.epoch_engine.specs.Running.{IsStillFor}
-use Rattle.epoch_engine.specs.Taking.{TakesEpoch, results_in}
+use Rattle.epoch_engine.specs.Taking.{TakesEpoch}
 use Rattle.epoch_engine.specs.declared.room.Room.{Room}
 use Rattle.epoch_engine.specs.WorkLaws.{IsConsistent}
 use Rattle.epoch_engine.proofs.ConsistentLemmas.{consistent}
-use Rattle.epoch_engine.proofs.EngineLemmas.{closes_ticks, closes_view, engine_fresh, running_fresh, view_fresh, view_of, view_same, with_same}
+use Rattle.epoch_engine.proofs.EngineLemmas.{closed_running, closes_ticks, closes_view, engine_fresh, running_fresh, view_fresh, view_of, view_same, with_same, with_typed}
 use Rattle.epoch_engine.proofs.WorkLemmas.{rises_by_work}
 use Rattle.epoch_engine.proofs.engine.Engine.close.Goals as goal
-
--- the results stand in the room
-pub make-requires-2 : goal.make-requires-2
-make-requires-2 g c = subst (λ (n : ℕ). IsBatch n c.take_epoch.new.room) (sym c.len.ensures) c.in_ok-take_epoch.ensures.batch
 
 -- the open epoch was taken
 pub returns-clause-closed : goal.returns-clause-closed
@@ -29,12 +23,10 @@ returns-clause-closed g c =
     let plan = c.refresh.new.self in
     let after = c.take_epoch.new.holdings.stores in
     let epoch = c.close.new.self in
-    let room = c.take_epoch.new.room in
     let batch = c.make-2.result in
-    let is : batch ≡ results_in plan room = c.make-2.ensures ∙ ap (λ (n : ℕ). lists_of n room.drawing.draft.made room.entries) c.len.ensures in
     subst (λ (v : EngineView). Closes v (view_of plan after epoch e.epoch.time) batch) (view_fresh e.plan plan c.refresh.ensures.merged c.refresh.ensures.layout e.holdings.stores e.epoch e.closed_time ∙ c.self.view_is)
     (closes_view plan e.holdings.stores after e.epoch epoch e.closed_time batch c.close.ensures.empty c.close.ensures.as_many c.close.ensures.time e.epoch.time refl
-    (subst (λ (v : EngineView). IsSome v.time) (sym c.self.view_is) c.requires.opened) (subst (TakesEpoch plan e.epoch e.holdings.stores after) (sym is) c.in_ok-take_epoch.ensures.taken))
+    (subst (λ (v : EngineView). IsSome v.time) (sym c.self.view_is) c.requires.opened) (subst (TakesEpoch plan e.epoch e.holdings.stores after) (sym c.make-2.ensures) c.in_ok-take_epoch.ensures.taken))
 
 -- after want of memory the engine runs on, without room
 pub invariant_of-self-in_err-take_epoch : goal.invariant_of-self-in_err-take_epoch
@@ -44,6 +36,21 @@ invariant_of-self-in_err-take_epoch g c =
     let fresh = engine_fresh e.plan plan c.refresh.ensures.merged c.refresh.ensures.layout e.holdings e.epoch e.room c.refresh.ensures.is c.self.invariant in record {
       fits = fresh.fits;
       running = with_same plan e.holdings.stores c.take_epoch.new.holdings.stores e.epoch c.in_err-take_epoch.ensures.kept fresh.running;
+      led = c.take_epoch.ensures.led;
+      watches = c.take_epoch.ensures.watches;
+      still = subst (λ (kept : Option (Box Room Global)). IfSome kept (λ room. IsStillFor plan room.value.drawing)) (sym c.take.ensures.after) tt;
+    }
+
+-- once the epoch is closed none is open
+pub invariant_of-self-2 : goal.invariant_of-self-2
+invariant_of-self-2 g c =
+    let e = c.self.inside in
+    let plan = c.refresh.new.self in
+    let after = c.take_epoch.new.holdings.stores in
+    let fresh = engine_fresh e.plan plan c.refresh.ensures.merged c.refresh.ensures.layout e.holdings e.epoch e.room c.refresh.ensures.is c.self.invariant in record {
+      fits = fresh.fits;
+      running =
+          closed_running plan after e.epoch c.close.new.self (with_typed plan e.holdings.stores after e.epoch fresh.running c.in_ok-take_epoch.ensures.typed) c.close.ensures.as_many c.close.ensures.empty c.close.ensures.touched;
       led = c.take_epoch.ensures.led;
       watches = c.take_epoch.ensures.watches;
       still = subst (λ (kept : Option (Box Room Global)). IfSome kept (λ room. IsStillFor plan room.value.drawing)) (sym c.take.ensures.after) tt;

@@ -1,5 +1,7 @@
-use Rattle.std.proofs.Common.{◌≡◌, ◌∙◌, ◌-◌, ◌<◌, ◌≤◌, cond, map, refl, subst, sym, ℕ, List, [], get_or, length, take, arith}
+use Rattle.std.proofs.Common.{◌≡◌, ◌∙◌, ◌<◌, ◌⊎◌, cond, map, refl, subst, sym, ℕ, List, [], get_or, length, take, arith}
 use Rattle.std.specs.Prelude.{All, is_some}
+use Rattle.std.specs.List.{remove}
+use Rattle.std.proofs.lemmas.Option.{get_or_from_slice_get}
 use Rattle.std.proofs.lemmas.List.{take_all}
 use Rattle.automaton.specs.Layouts.{shrunk}
 use Rattle.automaton.specs.NetworkLines.{NetworkFits}
@@ -10,16 +12,21 @@ use Rattle.prefix_merge.specs.Turns.{RemovesAll}
 use Rattle.epoch_draft.specs.Deriving.{CanDraw}
 use Rattle.epoch_draft.specs.Held.{instances_in}
 use Rattle.epoch_draft.specs.Led.{AreLed}
-use Rattle.epoch_draft.specs.Places.{HaveLeft}
+use Rattle.epoch_draft.specs.Turns.{HaveTurns}
+use Rattle.epoch_draft.proofs.Lists.{all_at}
+use Rattle.epoch_draft.proofs.TurnLemmas.{turns_cut, turns_removed}
+use Rattle.epoch_engine.specs.Prints.{HasLeft}
 use Rattle.epoch_draft.specs.Watching.{Watches}
 use Rattle.epoch_engine.specs.Adding.{Drops, FitsWithout}
 use Rattle.epoch_engine.specs.EngineView.{EngineView}
-use Rattle.epoch_engine.specs.Fitting.{AreLeft, HaveNoStoresBut}
-use Rattle.epoch_engine.proofs.EngineLemmas.{view_of}
+use Rattle.stream_readers.specs.KeyTables.{AreSwept}
+use Rattle.epoch_engine.specs.Fitting.{AreLeft, HaveNoStoresBut, LeaveNoKeys}
+use Rattle.epoch_engine.proofs.EngineLemmas.{outs_below, view_of}
 use Rattle.epoch_engine.proofs.KindingLemmas.{fitting_typed}
 use Rattle.epoch_engine.proofs.LeaveLemmas.{left_led, left_typed, left_watched}
 use Rattle.epoch_engine.proofs.OverLemmas.{drawable, fits_left, left_held}
-use Rattle.epoch_engine.proofs.PlanLemmas.{cut_left, left_storeless, listed, without_left}
+use Rattle.epoch_engine.proofs.PlanLemmas.{left_storeless, listed}
+use Rattle.epoch_engine.proofs.PrintedLemmas.{gone_from, others_stay}
 use Rattle.epoch_engine.proofs.engine.Engine.remove.Goals as goal
 
 -- the ends are there
@@ -49,22 +56,36 @@ leave-requires-clause-fits c =
     let without = subst (λ (v : EngineView). FitsWithout v.network ends (shrunk v.layout c.args.part)) (sym c.self.view_is) c.requires.fits in
     subst (NetworkFits c.remove_first.new.self) (sym c.shrink-2.ensures) (fits_left e.plan.merged c.remove_first.new.self ends layout c.network.ensures.merged removed without)
 
--- the streams that are left had their places, and those behind the part greater ones
+-- the streams that are left have their turns
 pub leave-requires-clause-worked : goal.leave-requires-clause-worked
 leave-requires-clause-worked c =
     let plan = c.self.inside.plan in
     let part = c.args.part in
-    let within = subst (λ (v : EngineView). part.end ≤ length v.layout.order) (sym c.self.view_is) c.requires.within in
-    subst (λ (l : Layout). HaveLeft part.first (part.end - part.first) l.order plan.places.places) (sym c.shrink-2.ensures)
-    (cut_left plan.layout.order plan.places.places part.first part.end c.requires.up within c.self.invariant.running.plan_is.places.arranged)
+    subst (λ (l : Layout). HaveTurns l.order plan.turns.turns) (sym c.shrink-2.ensures)
+    (turns_cut plan.layout.order plan.turns.turns part.first part.end c.requires.up c.self.invariant.running.plan_is.turns.in_turn)
 
-pub leave-requires-clause-printed : goal.leave-requires-clause-printed
-leave-requires-clause-printed c = λ once.
-    (let plan = c.self.inside.plan in
-    let part = c.args.part in
-    let there = subst (λ (v : EngineView). part.out < length v.layout.outs) (sym c.self.view_is) c.requires.printed in
-    subst (λ (l : Layout). HaveLeft part.out 1 l.outs plan.prints.places) (sym c.shrink-2.ensures)
-    (without_left plan.layout.outs plan.prints.places part.out there (c.self.invariant.running.plan_is.prints.arranged once)))
+-- the stream that was printed has kinds
+pub leave-requires-clause-stream : goal.leave-requires-clause-stream
+leave-requires-clause-stream c =
+    let plan = c.self.inside.plan in
+    subst (λ (l : Layout). c.get-stream.result.now < length l.kinds) (sym c.shrink-2.ensures)
+    (all_at (λ stream. stream < length plan.layout.kinds) plan.layout.outs c.args.part.out c.get-stream.result.now (outs_below plan.merged plan.layout c.self.invariant.fits) c.get-stream.ensures)
+
+-- the others are printed still
+pub leave-requires-clause-left : goal.leave-requires-clause-left
+leave-requires-clause-left c =
+    let plan = c.self.inside.plan in
+    let outs = plan.layout.outs in
+    let out = c.args.part.out in
+    let prints = c.self.invariant.running.plan_is.prints in
+    let there = subst (λ (v : EngineView). out < length v.layout.outs) (sym c.self.view_is) c.requires.printed in
+    let stream = get_or_from_slice_get outs out c.get-stream.result.now 0 c.get-stream.ensures in
+    subst (λ (l : Layout). HasLeft c.get-stream.result.now l.outs plan.prints) (sym c.shrink-2.ensures)
+    (subst (λ (s : ℕ). HasLeft s (remove outs out) plan.prints) stream (record {
+      others = others_stay outs plan.prints.turns out there prints.others;
+      in_turn = λ once. turns_removed outs plan.prints.turns out (prints.in_turn once);
+      gone = λ once. gone_from outs plan.prints.turns out there (prints.in_turn once);
+    }))
 
 -- over the network that is left the parts fit
 pub invariant_of-self : goal.invariant_of-self
@@ -83,6 +104,7 @@ invariant_of-self c =
     let merged : plan.merged ≡ net = c.leave.ensures.merged in
     let same : plan.layout ≡ layout = c.leave.ensures.layout ∙ c.shrink-2.ensures in
     let old = e.holdings.stores in
+    let gone = c.remove_first.new.left.numbers in
     let new = c.shrink.new.self.stores in
     let tuples = c.close.new.self.tuples in
     let typed = c.self.invariant.running.can_draw.typed in
@@ -95,14 +117,15 @@ invariant_of-self c =
       running = record {
         plan_is = c.leave.ensures.is;
         can_draw = subst (λ (x : Net × Layout). CanDraw x.0 x.1 new tuples) (λ i. (sym merged i, sym same i))
-            (drawable net layout new tuples fits settled.network (left_typed e.plan.merged net layout.kinds old new typed removed.stay left typing.0 typing.1 settled.network)
+            (drawable net layout new tuples fits settled.network (left_typed e.plan.merged net layout.kinds gone old new typed removed.stay left typing.0 typing.1 settled.network)
             (c.close.ensures.as_many ∙ c.self.invariant.running.can_draw.as_many) c.close.ensures.empty);
         touched = c.close.ensures.touched;
       };
       led = subst (λ (n : Net). AreLed n c.shrink.new.self.keys new) (sym merged)
-          (left_led e.plan.merged net layout.kinds old new typed removed.stay left e.holdings.keys c.shrink.new.self.keys c.self.invariant.led c.shrink.ensures.keys);
+          (left_led e.plan.merged net layout.kinds gone old new typed removed.stay left e.holdings.keys c.shrink.new.self.keys c.self.invariant.led
+          (subst (λ (n : Net). AreSwept new e.holdings.keys c.shrink.new.self.keys ⊎ LeaveNoKeys n gone old e.holdings.keys c.shrink.new.self.keys) value c.shrink.ensures.keys));
       watches = subst (λ (ds : List ℕ). Watches ds new) (sym deadlines)
-          (left_watched e.plan.merged net layout.kinds old new typed removed.stay left e.holdings.deadlines (omega (arith, shorter, many)) c.self.invariant.watches);
+          (left_watched e.plan.merged net layout.kinds gone old new typed removed.stay left e.holdings.deadlines (omega (arith, shorter, many)) c.self.invariant.watches);
       still = c.fit_room.ensures;
     }
 

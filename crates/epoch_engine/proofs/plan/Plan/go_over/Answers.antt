@@ -1,6 +1,6 @@
-use Rattle.std.proofs.Common.{◌<◌, ap, sym, subst, ℕ, List, get_or, length, take, arith}
-use Rattle.std.specs.Prelude.{Contains}
-use Rattle.std.specs.List.{All}
+use Rattle.std.proofs.Common.{ap, length, subst, sym, take, arith}
+use Rattle.epoch_draft.specs.Turns.{HaveTurns}
+use Rattle.epoch_draft.specs.declared.turns.Turns.{Turns}
 use Rattle.epoch_draft.proofs.AgendaLemmas.{below_more}
 use Rattle.epoch_engine.proofs.EngineLemmas.{order_below, order_once, outs_below}
 use Rattle.epoch_engine.proofs.plan.Plan.go_over.Goals as goal
@@ -9,20 +9,20 @@ use Rattle.epoch_engine.proofs.plan.Plan.go_over.Goals as goal
 pub arrange-requires-clause-below : goal.arrange-requires-clause-below
 arrange-requires-clause-below c =
     let plan = c.args.self.now in
-    let room = c.requires.room.places in
-    let same = ap (λ (ps : List ℕ). length ps) c.tell.ensures.places in
-    subst (λ (order : List ℕ). All (λ s. s < length c.tell.new.self.places) order) (sym c.as_slice-order.ensures)
-    (below_more (length plan.layout.kinds) (length c.tell.new.self.places) plan.layout.order (omega (arith, room, same)) (order_below plan.merged plan.layout c.requires.fits))
+    let room = c.requires.room.turns in
+    let same = ap (λ (turns : Turns). length turns.given) c.tell.ensures.turns in
+    below_more (length plan.layout.kinds) (length c.tell.new.self.turns.given) plan.layout.order (omega (arith, room, same)) (order_below plan.merged plan.layout c.requires.fits)
 
 -- each of them stands once in the order
 pub arrange-requires-clause-once : goal.arrange-requires-clause-once
-arrange-requires-clause-once c =
-    let plan = c.args.self.now in
-    subst (λ (order : List ℕ). (place : ℕ) → place < length order → Contains (take place order) (get_or order place 0) → ⊥) (sym c.as_slice-order.ensures) (order_once plan.merged plan.layout c.requires.fits)
+arrange-requires-clause-once c = let plan = c.args.self.now in order_once plan.merged plan.layout c.requires.fits
+
+-- those that were there have their turns
+pub arrange-requires-clause-before : goal.arrange-requires-clause-before
+arrange-requires-clause-before c = subst (HaveTurns (take c.args.worked c.args.self.now.layout.order)) (sym c.tell.ensures.turns) c.requires.worked
 
 -- there is room for those that are printed
 pub arrange-requires-2-clause-below : goal.arrange-requires-2-clause-below
 arrange-requires-2-clause-below c =
     let plan = c.args.self.now in
-    subst (λ (outs : List ℕ). All (λ s. s < length plan.prints.places) outs) (sym c.as_slice.ensures)
-    (below_more (length plan.layout.kinds) (length plan.prints.places) plan.layout.outs c.requires.room.prints (outs_below plan.merged plan.layout c.requires.fits))
+    below_more (length plan.layout.kinds) (length plan.prints.turns.given) plan.layout.outs c.requires.room.prints (outs_below plan.merged plan.layout c.requires.fits)
