@@ -1,8 +1,7 @@
 -- A catalogue to which a query came stands in order.
-use Rattle.std.proofs.Common.{◌≡◌, ◌∙◌, ℕ, ◌+◌, ◌-◌, ◌<◌, ◌≤◌, ◌^◌, ◌==◌, ◌||◌, List, [], ◌∷◌, ◌++◌, true, false, length, get_or, map, take, refl, sym, ap, subst, inl, inr, arith, append-nil, append_assoc}
+use Rattle.std.proofs.Common.{◌≡◌, ◌∙◌, ℕ, ◌+◌, ◌-◌, ◌<◌, ◌≤◌, ◌^◌, ◌==◌, ◌||◌, List, [], ◌∷◌, ◌++◌, true, false, length, get_or, map, refl, sym, ap, subst, inl, inr, arith, append-nil, append_assoc}
 use Rattle.std.specs.Prelude.{◌↔◌, AllPairs, Contains, IsTrue, Option, Some, None, slice_get}
 use Rattle.std.specs.List.{All, list_any, position_or_len, range_with_len}
-use Rattle.std.proofs.Math.Seq.{get_or-append_seam, take-append_seam}
 use Rattle.std.proofs.lemmas.Bool.{cases_lt}
 use Rattle.std.proofs.lemmas.Grind.{flat_map-append}
 use Rattle.std.proofs.lemmas.List.{get_or_append_left, get_or-append_right, get_or-map, get_or_default, length-append, length-map, length_push, map-append}
@@ -14,13 +13,10 @@ use Rattle.std.proofs.lemmas.Option.{get_or_from_slice_get, slice_get-get_or, sl
 use Rattle.event_types.specs.declared.kind.Kind.{Kind}
 use Rattle.event_types.proofs.NumberLemmas.{self_equal}
 use Rattle.automaton.specs.declared.line.Line.{Line}
-use Rattle.automaton.specs.declared.growth.Growth.{Growth}
-use Rattle.automaton.specs.declared.growth.Sizes.{Sizes}
 use Rattle.automaton.specs.declared.layout.Layout.{Layout}
-use Rattle.automaton.specs.Layouts.{LayoutFits, grown, sizes_of}
-use Rattle.splitter.specs.declared.chains.Chains.{Chains}
-use Rattle.catalogue.specs.declared.growing.Before.{Before}
-use Rattle.catalogue.specs.Sharing.{share_of}
+use Rattle.automaton.specs.Layouts.{LayoutFits, grown}
+use Rattle.catalogue.specs.Leaving.{lines_many}
+use Rattle.catalogue.specs.Sharing.{shares_of, streams_many as worked_many, with_share}
 use Rattle.automaton.specs.LineKinds.{LineFits}
 use Rattle.automaton.specs.Work.{IsInOrder, is_in}
 use Rattle.expressions.specs.declared.expression.Expr.{Expr}
@@ -48,16 +44,16 @@ use Rattle.cel_types.specs.SourceLaws.{kinds_in}
 use Rattle.cel_types.proofs.QueryLaws.{query-typed}
 use Rattle.catalogue.specs.declared.adding.Coming.{Coming}
 use Rattle.catalogue.specs.declared.adding.Added.{Added}
-use Rattle.catalogue.specs.declared.sharing.Share.{Share}
+use Rattle.catalogue.specs.declared.sharing.Shares.{Shares}
 use Rattle.catalogue.specs.declared.numbering.Published.{Published}
 use Rattle.catalogue.specs.Catalogued.{Catalogued, program_in, queries_of, query_in, query_of, work_in}
 use Rattle.catalogue.specs.Changes.{MayCome, streams_there, with_query}
 use Rattle.catalogue.specs.Coming.{HasCome, IsLatest, IsTold, coming}
-use Rattle.catalogue.specs.Fitting.{MayTell, first_of, with_lines}
+use Rattle.catalogue.specs.Fitting.{MayTell}
 use Rattle.catalogue.specs.Taking.{IsFit, added_of}
 use Rattle.catalogue.specs.Standing.{AreEnds, IsKnown, IsLayoutOver, IsUpTo, StandsInOrder}
 use Rattle.catalogue.specs.Tables.{IsHeld}
-use Rattle.catalogue.specs.Tallies.{AddsReads, StayTallied}
+use Rattle.catalogue.specs.Tallies.{AddsReads}
 use Rattle.catalogue.proofs.TallyLemmas.{tallied_more}
 use Rattle.catalogue.specs.Typing.{published_by}
 use Rattle.catalogue.proofs.ChangeLemmas.{one-is, programs_keep_kinds, programs_take_queries}
@@ -459,14 +455,15 @@ module _ (c : Catalogued) (stands : StandsInOrder c) (query : Coming) (fit : IsF
   order_many = omega (arith, ap length order_is, length-append c.layout.order tells.growth.order, length-append c.layout.order (split_order e n (n + 1)))
 
   -- and is held with its places, lines and shares
-  pub come_held : (places : List ℕ) (lines : List Line) (shares : List Share) (reads new_reads : List ℕ) → IsHeld c places lines shares reads → AddsReads (ex_of query.expr) reads new_reads
-      → IsHeld come_of (places ++ m ∷ []) (lines ++ tells.lines) (shares ++ record { lines = length tells.lines; streams = length tells.growth.order } ∷ []) new_reads
+  pub come_held : (places : List ℕ) (lines : List Line) (shares : Shares) (reads new_reads : List ℕ) → IsHeld c places lines shares reads → AddsReads (ex_of query.expr) reads new_reads
+      → IsHeld come_of (places ++ m ∷ []) (lines ++ tells.lines) (with_share shares (record { lines = length tells.lines; streams = length tells.growth.order })) new_reads
   come_held places lines shares reads new_reads held adds = record {
     stands = come_stands;
     placed = places_more c.order stands.numbered places held.placed;
     lines_are = (λ i. held.lines_are i ++ lines_are i) ∙ sym chained ∙ ap lines_of (sym program_is);
     shared =
-        (λ i. held.shared i ++ record { lines = length (lines_are i); streams = order_many i } ∷ []) ∙ sym (map-append share_of (work_in c) (new_query ∷ [])) ∙ ap (map share_of) (sym work_is);
+        (λ i. with_share (held.shared i) (record { lines = length (lines_are i); streams = order_many i }))
+        ∙ (λ i. record { lines = sym (map-append lines_many (work_in c) (new_query ∷ [])) i; streams = sym (map-append worked_many (work_in c) (new_query ∷ [])) i }) ∙ ap shares_of (sym work_is);
     tallied = tallied_more c.expressions reads new_reads query.expr held.tallied adds;
   }
 
@@ -497,35 +494,3 @@ module _ (c : Catalogued) (stands : StandsInOrder c) (query : Coming) (fit : IsF
   -- what is told of it
   pub is_told : IsTold c new_query come_of tells
   is_told = record { number = grows.number; lines = lines_are; ends = grows.ends ∙ ap (λ ls. range_with_len c.next_end (length ls)) lines_are; layout = refl }
-
--- what was put behind others is taken back
-pub taken_back : {X : Type 0} (xs whole more : List X) (many : ℕ) → whole ≡ xs ++ more → many ≡ length xs → take many whole ≡ xs
-taken_back xs whole more many whole_is many_is = (λ i. take (many_is i) (whole_is i)) ∙ take-append_seam xs more
-
--- what was put last stands there
-pub last_is : {X : Type 0} (xs whole : List X) (x there : X) (many : ℕ) → whole ≡ xs ++ x ∷ [] → many ≡ length xs → slice_get whole many ≡ Some there → there ≡ x
-last_is xs whole x there many whole_is many_is is = sym (get_or_from_slice_get whole many there x is) ∙ (λ i. get_or (whole_is i) (many_is i) x) ∙ get_or-append_seam xs x [] x
-
--- the lines and the layout with a query's, without them
-pub lines_back : (chains whole : Chains) (more : List Line) (growth : Growth) (before : Before) → whole ≡ with_lines chains more growth → before.sizes ≡ sizes_of chains.layout → before.lines ≡ length chains.lines
-    → first_of whole before ≡ chains
-lines_back chains whole more growth before whole_is sizes lines =
-    let size : Sizes = sizes_of chains.layout in
-    let worked : take before.sizes.worked whole.layout.order ≡ chains.layout.order = taken_back chains.layout.order whole.layout.order growth.order before.sizes.worked (ap (λ (x : Chains). x.layout.order) whole_is) (ap (λ (x : Sizes). x.worked) sizes) in
-    let printed : take before.sizes.printed whole.layout.outs ≡ chains.layout.outs = taken_back chains.layout.outs whole.layout.outs growth.outs before.sizes.printed (ap (λ (x : Chains). x.layout.outs) whole_is) (ap (λ (x : Sizes). x.printed) sizes) in
-    let typed : take before.sizes.all whole.layout.kinds ≡ chains.layout.kinds = taken_back chains.layout.kinds whole.layout.kinds growth.kinds before.sizes.all (ap (λ (x : Chains). x.layout.kinds) whole_is) (ap (λ (x : Sizes). x.all) sizes) in
-    let first : take before.lines whole.lines ≡ chains.lines = taken_back chains.lines whole.lines more before.lines (ap (λ (x : Chains). x.lines) whole_is) lines in
-    λ i. record { lines = first i; layout = record { order = worked i; outs = printed i; kinds = typed i } }
-
--- a catalogue is held whose parts are what they were
-pub held_back : (c : Catalogued) (places : List ℕ) (lines : List Line) (shares : List Share) (reads : List ℕ) → IsHeld c places lines shares reads → (streams : List Entry) (order : List ℕ) (published : List Published) (expressions : List Expr) (ends now : List ℕ) (chains : Chains) (now_shares : List Share)
-    → (now_reads : List ℕ)
-    → streams ≡ c.streams → order ≡ c.order → published ≡ c.published → expressions ≡ c.expressions → ends ≡ c.ends → now ≡ places → chains ≡ record { lines = lines; layout = c.layout } → now_shares ≡ shares → StayTallied reads now_reads
-    → IsHeld (record { file = c.file; declared = c.declared; streams = streams; order = order; published = published; expressions = expressions; ends = ends; next_end = c.next_end; layout = chains.layout }) now chains.lines now_shares now_reads
-held_back c places lines shares reads held streams order published expressions ends now chains now_shares now_reads streams_is order_is published_is expressions_is ends_is now_is chains_is shares_is stay =
-    subst (λ (s : Catalogued × List ℕ × List Line × List Share). IsHeld s.0 s.1 s.2 s.3 now_reads) (λ i. (
-      record { file = c.file; declared = c.declared; streams = sym streams_is i; order = sym order_is i; published = sym published_is i; expressions = sym expressions_is i; ends = sym ends_is i; next_end = c.next_end; layout = (sym chains_is i).layout },
-      sym now_is i,
-      (sym chains_is i).lines,
-      sym shares_is i,
-    )) (record { stands = held.stands; placed = held.placed; lines_are = held.lines_are; shared = held.shared; tallied = λ stream. stay stream ∙ held.tallied stream })

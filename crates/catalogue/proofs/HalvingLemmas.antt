@@ -1,17 +1,10 @@
--- Items in boxes that are found by halves, since later ones have greater keys.
-use Rattle.std.proofs.Common.{◌≡◌, ◌∙◌, ℕ, zero, suc, ◌<◌, ◌≤◌, List, [], ◌∷◌, Bool, Result, Ok, Err, length, map, get_or, not, refl, sym, ap, true, false, inl, inr, arith}
-use Rattle.std.specs.Prelude.{◌==◌, AllPairs, None, Some, option_map, position}
-use Rattle.std.specs.List.Sorted.{IsBinarySearchResult, IsNonDecreasingBy, IsSearchInRange}
-use Rattle.std.specs.Ordering.{nat_cmp, ordering_index}
-use Rattle.std.specs.Result.{result_ok}
+-- Items that are found by halves, since later ones have greater keys.
+use Rattle.std.proofs.Common.{◌≡◌, ◌≢◌, ◌∙◌, ℕ, zero, suc, ◌+◌, ◌<◌, ◌≤◌, List, [], ◌∷◌, Bool, length, get_or, refl, sym, ap, true, false, inl, inr, arith}
+use Rattle.std.specs.Prelude.{◌==◌, AllPairs, None, Some, option_map, position, slice_get}
 use Rattle.std.proofs.lemmas.Bool.{cases_lt}
-use Rattle.std.proofs.lemmas.Bool.Decides.{nat_tests}
-use Rattle.std.proofs.lemmas.Cmp.{ranked}
-use Rattle.std.proofs.lemmas.List.{length-map}
-use Rattle.std.proofs.Math.ListN.{get_or-map}
+use Rattle.std.proofs.lemmas.Option.{get_or_from_slice_get}
 use Rattle.event_types.proofs.NumberLemmas.{is_other, self_equal}
 use Rattle.stream_schema.proofs.PlaceLemmas.{position-here, position-past}
-use Rattle.stream_schema.proofs.TableLemmas.{prefix_len-map}
 
 -- the place of the first item that passes a test
 position_is : {X : Type 0} (p : X → Bool) (xs : List X) (k : ℕ) (d : X) → k < length xs → p (get_or xs k d) ≡ true → ((j : ℕ) → j < k → p (get_or xs j d) ≡ false) → position p xs ≡ Some k
@@ -25,50 +18,73 @@ position_none : {X : Type 0} (p : X → Bool) (xs : List X) (d : X) → ((j : �
 position_none p [] d none = refl
 position_none p (x ∷ xs) d none = position-past p x xs (none 0 (omega arith)) ∙ ap (option_map suc) (position_none p xs d (λ j less. none (suc j) (omega (arith, less))))
 
-module _ {X : Type 0} (key : X → ℕ) (no_item : X) (items : List X) (rises : AllPairs (λ earlier later. key earlier < key later) items) (wanted : ℕ) where
-  abbrev is_wanted : X → Bool
-  is_wanted item = key item == wanted
+-- the items before a place have less keys than the wanted one, and those from another on have no less ones
+pub record IsBetween {X : Type 0} (key : X → ℕ) (items : List X) (wanted first end : ℕ) : Type 0 where
+  pub up : first ≤ end
+  pub within : end ≤ length items
+  pub less : (place : ℕ) (d : X) → place < first → key (get_or items place d) < wanted
+  pub more : (place : ℕ) (d : X) → end ≤ place → place < length items → wanted ≤ key (get_or items place d)
 
-  abbrev key_at : ℕ → ℕ
-  key_at place = key (get_or items place no_item)
-
+module _ {X : Type 0} (key : X → ℕ) (items : List X) (rises : AllPairs (λ earlier later. key earlier < key later) items) (wanted : ℕ) where
   keys_rise : (i j : ℕ) (d : X) → i ≤ j → j < length items → key (get_or items i d) ≤ key (get_or items j d)
   keys_rise i j d up within = elim (cases_lt i j) [
     | inl less ↦ (let greater = rises i j d less within in omega (arith, greater))
     | inr past ↦ (let same : i ≡ j = omega (arith, up, past) in let equal = ap (λ k. key (get_or items k d)) same in omega (arith, equal))
   ]
 
-  -- the comparisons with the key rise, as a search by halves asks
-  comparisons_rise : IsNonDecreasingBy (λ item. ordering_index (nat_cmp (key item) wanted)) items
-  comparisons_rise i j d up within = let rise : key (get_or items i d) ≤ key (get_or items j d) = keys_rise i j d up within in grind (arith, nat_tests)
+  module _ (first end : ℕ) (between : IsBetween key items wanted first end) (middle : ℕ) (item : X) (low : first ≤ middle) (high : middle < end) (there : slice_get items middle ≡ Some item) where
+    inside : middle < length items
+    inside = omega (arith, high, between.within)
 
-  -- so what it ends at is the item, if one has the key
-  found_by_halves : (found : Result ℕ ℕ) → IsSearchInRange found (length items) → IsBinarySearchResult (λ item. nat_cmp (key item) wanted) items found → result_ok found ≡ position is_wanted items
-  found_by_halves (Ok at) within equal =
-      let here : key_at at ≡ wanted = ranked _ wanted _ (sym (equal no_item)) in
-      sym (position_is is_wanted items at no_item within (ap (λ n. n == wanted) here ∙ self_equal wanted)
-      (λ j before. is_other (key_at j) wanted (λ same. (let less : key_at j < key_at at = rises j at no_item before within in absurd (omega (arith, less, same, here))))))
-  found_by_halves (Err at) within parted =
-      sym (position_none is_wanted items no_item (λ j inside. is_other (key_at j) wanted (λ same. elim (cases_lt j at) [
-        | inl before ↦ (let less : key_at j < wanted = ranked _ wanted _ (sym ((parted comparisons_rise).0 j no_item (omega arith) before)) in absurd (omega (arith, less, same)))
-        | inr past ↦ (let greater : wanted < key_at j = ranked _ wanted _ (sym ((parted comparisons_rise).1 j no_item past inside)) in absurd (omega (arith, greater, same)))
-      ])))
+    here : (d : X) → get_or items middle d ≡ item
+    here d = get_or_from_slice_get items middle item d there
 
-module _ {X Y : Type 0} (value : Y → X) (key : X → ℕ) where
-  -- where the values' keys rise, so do those of the boxes
-  boxes_rise : (boxes : List Y) → AllPairs (λ earlier later. key earlier < key later) (map value boxes) → AllPairs (λ earlier later. key (value earlier) < key (value later)) boxes
-  boxes_rise boxes rises i j d before within =
-      let less = rises i j (value d) before (omega (arith, within, length-map boxes value)) in
-      omega (arith, less, ap key (get_or-map value boxes i d), ap key (get_or-map value boxes j d))
+    -- an item between them has a less key, and so have those before it
+    pub below : key item < wanted → IsBetween key items wanted (middle + 1) end
+    below lesser = record {
+      up = omega (arith, high);
+      within = between.within;
+      less = λ place d before. (let rise = keys_rise place middle d (omega (arith, before)) inside in omega (arith, rise, ap key (here d), lesser));
+      more = between.more;
+    }
 
-  -- the first value that passes a test stands where the first box does whose value passes it
-  position_in_boxes : (p : X → Bool) (boxes : List Y) → position p (map value boxes) ≡ position (λ box. p (value box)) boxes
-  position_in_boxes p boxes = rw (prefix_len-map value (λ x. not (p x)) boxes, length-map boxes value) refl
+    -- or no less one, and so have those behind it
+    pub above : wanted ≤ key item → IsBetween key items wanted first middle
+    above greater = record {
+      up = low;
+      within = omega (arith, inside);
+      less = between.less;
+      more = λ place d up behind. (let rise = keys_rise middle place d up behind in omega (arith, rise, ap key (here d), greater));
+    }
 
-  -- the search finds among boxes the value that has the key
-  pub found_in_boxes : (boxes : List Y) → AllPairs (λ earlier later. key earlier < key later) (map value boxes) → (wanted : ℕ) (found : Result ℕ ℕ) → IsSearchInRange found (length boxes)
-      → IsBinarySearchResult (λ box. nat_cmp (key (value box)) wanted) boxes found → result_ok found ≡ position (λ item. key item == wanted) (map value boxes)
-  found_in_boxes [] rises wanted (Ok at) within equal = absurd (omega (arith, within))
-  found_in_boxes [] rises wanted (Err at) within parted = refl
-  found_in_boxes (box ∷ boxes) rises wanted found within is =
-      found_by_halves (λ b. key (value b)) box (box ∷ boxes) (boxes_rise (box ∷ boxes) rises) wanted found within is ∙ sym (position_in_boxes (λ item. key item == wanted) (box ∷ boxes))
+  module _ (place end : ℕ) (between : IsBetween key items wanted place end) (met : end ≤ place) where
+    -- where both places meet the item there is the wanted one, if it has the key
+    pub found_there : (item : X) → slice_get items place ≡ Some item → key item ≡ wanted → place < length items → position (λ x. key x == wanted) items ≡ Some place
+    found_there item there same within =
+        position_is (λ x. key x == wanted) items place item within (ap (λ x. key x == wanted) (get_or_from_slice_get items place item item there) ∙ ap (λ n. n == wanted) same ∙ self_equal wanted)
+        (λ j before. is_other (key (get_or items j item)) wanted (λ equal. (let lesser = between.less j item before in absurd (omega (arith, lesser, equal)))))
+
+    -- else none has it
+    pub none_there : (item : X) → slice_get items place ≡ Some item → key item ≢ wanted → place < length items → position (λ x. key x == wanted) items ≡ None
+    none_there item there other within =
+        position_none (λ x. key x == wanted) items item (λ j inside. is_other (key (get_or items j item)) wanted (λ equal. elim (cases_lt j place) [
+          | inl before ↦ (let lesser = between.less j item before in absurd (omega (arith, lesser, equal)))
+          | inr past ↦ elim (cases_lt place j) [
+            | inl behind ↦
+                let greater = rises place j item behind inside in
+                let least = between.more place item met within in
+                absurd (omega (arith, greater, least, equal))
+            | inr up ↦
+                let same : j ≡ place = omega (arith, past, up) in
+                absurd (other (sym (ap key (get_or_from_slice_get items place item item there)) ∙ ap (λ k. key (get_or items k item)) (sym same) ∙ equal))
+          ]
+        ]))
+
+    -- and none where there is no item
+    pub none_behind : length items ≤ place → position (λ x. key x == wanted) items ≡ None
+    none_behind past = none_of items refl
+      where
+        none_of : (all : List X) → all ≡ items → position (λ x. key x == wanted) items ≡ None
+        none_of [] is = sym (ap (position (λ x. key x == wanted)) is)
+        none_of (item ∷ rest) is =
+            position_none (λ x. key x == wanted) items item (λ j inside. is_other (key (get_or items j item)) wanted (λ equal. (let lesser = between.less j item (omega (arith, inside, past)) in absurd (omega (arith, lesser, equal)))))

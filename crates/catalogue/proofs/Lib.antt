@@ -57,3 +57,5 @@ pub mod HalvingLemmas
 pub mod LeftPlacesLemmas
 pub mod OwnLemmas
 pub mod SizeLemmas
+pub mod LaidLemmas
+pub mod HeldPartLemmas

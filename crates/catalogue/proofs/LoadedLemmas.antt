@@ -15,7 +15,6 @@ use Rattle.expressions.specs.Views.{ex_of}
 use Rattle.semantics.specs.Expressions.{Read}
 use Rattle.semantics.specs.Programs.{IsUnborn, Program, Query}
 use Rattle.splitter.specs.Chains.{chain_end, end_of, hidden_end, lines_of}
-use Rattle.splitter.specs.declared.chains.Chains.{Chains}
 use Rattle.splitter.specs.Layouts.{IsLayoutOf}
 use Rattle.splitter.specs.ProgramLaws.{IsWideProgram}
 use Rattle.splitter.specs.Splitting as split
@@ -25,20 +24,18 @@ use Rattle.splitter.proofs.NumberingLemmas.{parts_up}
 use Rattle.stream_schema.specs.Schema.{kinds_of}
 use Rattle.stream_schema.specs.Streams.{AreThere, Entry, IsRetired, hidden_entries, hidden_entry, schemas_of, stream_names}
 use Rattle.cel_grammar.specs.Views.{statement_of}
-use Rattle.cel_parser.specs.Filed.{Filed}
 use Rattle.cel_types.specs.SourceLaws.{kinds_in}
-use Rattle.catalogue.specs.declared.numbering.Published.{Published}
 use Rattle.catalogue.specs.Catalogued.{Catalogued, program_in, queries_of, work_in}
 use Rattle.catalogue.specs.Changes.{streams_there}
-use Rattle.catalogue.specs.Chained.{AreChained, kinds_of_each}
+use Rattle.catalogue.specs.Chained.{kinds_of_each}
 use Rattle.catalogue.specs.Judgement.{program_of}
 use Rattle.catalogue.specs.Loaded.{HoldsJudged, IsUnchanged}
-use Rattle.catalogue.specs.Parts.{IsAccepted, Parts, judged_of, parts_of, published_from, queries_by}
+use Rattle.catalogue.specs.Parts.{IsAccepted, Parts, judged_of, published_from, queries_by}
 use Rattle.catalogue.specs.Standing.{AreEnds, IsKnown, IsLayoutOver, IsUpTo, StandsInOrder}
-use Rattle.catalogue.proofs.ChainedLemmas.{all_count, kinds_mapped, many_streams, streams_whole}
+use Rattle.catalogue.proofs.ChainedLemmas.{all_count, kinds_mapped}
 use Rattle.catalogue.proofs.ChangeLemmas.{programs_keep_kinds}
 use Rattle.catalogue.proofs.FewLemmas.{lines_few}
-use Rattle.catalogue.proofs.HeldLemmas.{order_numbers, queries_long, sizes}
+use Rattle.catalogue.proofs.HeldLemmas.{order_numbers, queries_long}
 use Rattle.catalogue.proofs.PartLemmas.{stream_by, streams_reach}
 use Rattle.catalogue.proofs.PermutationLemmas.{from_range, range_apart, to_range}
 use Rattle.catalogue.proofs.ProgramLemmas.{accepted_are_wide_programs, declared_are_told}
@@ -296,50 +293,3 @@ module _ (c : Parts) (accepted : IsAccepted c) (typed : length c.expressions ≡
     ends = ap (λ (p : Program). range_with_len 0 (length (lines_of p))) (sym program_is);
     next = sym (length-range_with_len 0 many_lines);
   }
-
-module _ (file : Filed) (streams : List Entry) (order : List ℕ) (expressions : List Expr) (accepted : IsAccepted (parts_of file streams order expressions)) (typed : length expressions ≡ length order) (chains : Chains)
-    (chained : AreChained (parts_of file streams order expressions) chains) where
-  abbrev made_of : Parts
-  made_of = parts_of file streams order expressions
-
-  parts_whole : made_of.declared ++ made_of.published ≡ streams
-  parts_whole = streams_whole (length file.statements - length order) streams
-
-  kinds_end : length chains.layout.kinds ≡ end_of (program_of (judged_of made_of))
-  kinds_end = chained.layout.all_kinds
-
-  -- the layout has kinds for the streams of all statements
-  pub room_up : (many kinds_many : ℕ) → many ≡ length file.statements → kinds_many ≡ length chains.layout.kinds → many ≤ kinds_many
-  room_up many kinds_many is kinds_are =
-      let kinds = ap length chained.layout.kinds_are ∙ length-append (kinds_of_each (made_of.declared ++ made_of.published)) chained.layout.hidden in
-      let lists = length-map (schemas_of (made_of.declared ++ made_of.published)) kinds_of ∙ length-map (made_of.declared ++ made_of.published) (λ s. s.schema) in
-      omega (arith, is, kinds_are, kinds, lists, many_streams made_of accepted)
-
-  -- what is made of the parts is the loaded catalogue
-  pub made_is : (declared many kinds_many lines_many next_end : ℕ) (now : List Entry) (published : List Published) (ends : List ℕ) → declared ≡ length file.statements - length order → many ≡ length file.statements
-      → kinds_many ≡ length chains.layout.kinds → lines_many ≡ length chains.lines → now ≡ streams ++ hidden_entries many (kinds_many - many) → published ≡ published_from declared (declared + length expressions) (map ex_of expressions)
-      → ends ≡ range_with_len 0 lines_many → next_end ≡ length ends
-      → (record { file = file; declared = declared; streams = now; order = order; published = published; expressions = expressions; ends = ends; next_end = next_end; layout = chains.layout }) ≡ loaded_of made_of accepted typed chains.layout chained.layout
-  made_is declared many kinds_many lines_many next_end now published ends declared_is many_is kinds_is lines_is now_is published_is ends_is next_is =
-      let sum = sizes made_of accepted in
-      let declared_many : declared ≡ length made_of.declared = omega (arith, declared_is, sum) in
-      let whole_many : many ≡ length (made_of.declared ++ made_of.published) = omega (arith, many_is, many_streams made_of accepted) in
-      let kinds_many_is : kinds_many ≡ end_of (program_of (judged_of made_of)) = kinds_is ∙ kinds_end in
-      let lines_many_is : lines_many ≡ length (lines_of (program_of (judged_of made_of))) = lines_is ∙ ap length chained.lines in
-      let streams_are : now ≡ (made_of.declared ++ made_of.published) ++ hidden_entries (length (made_of.declared ++ made_of.published)) (end_of (program_of (judged_of made_of)) - length (made_of.declared ++ made_of.published)) =
-      now_is ∙ (λ i. sym parts_whole i ++ hidden_entries (whole_many i) (kinds_many_is i - whole_many i)) in
-      let behind : declared + length expressions ≡ length file.statements = omega (arith, declared_many, sum, typed) in
-      let published_are : published ≡ published_from (length made_of.declared) (length file.statements) (map ex_of expressions) = published_is ∙ (λ i. published_from (declared_many i) (behind i) (map ex_of expressions)) in
-      let ends_are : ends ≡ range_with_len 0 (length (lines_of (program_of (judged_of made_of)))) = ends_is ∙ ap (range_with_len 0) lines_many_is in
-      let next_end_is : next_end ≡ length (lines_of (program_of (judged_of made_of))) = next_is ∙ ap length ends_is ∙ length-range_with_len 0 lines_many ∙ lines_many_is in
-      λ i. record {
-        file = file;
-        declared = declared_many i;
-        streams = streams_are i;
-        order = order;
-        published = published_are i;
-        expressions = expressions;
-        ends = ends_are i;
-        next_end = next_end_is i;
-        layout = chains.layout;
-      }

@@ -1,20 +1,18 @@
 -- What an added query brings that is taken. No public clause cites this.
-use Rattle.std.specs.Prelude.{◌≡◌, ℕ, ◌+◌, ◌≤◌, ◌<◌, ◌^◌, ◌++◌, ◌∷◌, [], List, length, sum_by, take}
+use Rattle.std.specs.Prelude.{◌≡◌, ℕ, ◌+◌, ◌≤◌, ◌<◌, ◌^◌, ◌++◌, ◌∷◌, [], List, length, sum_by}
 use Rattle.std.specs.List.{range_with_len}
 use Rattle.event_types.specs.declared.kind.Kind.{Kind}
 use Rattle.semantics.specs.Expressions.{Ex}
 use Rattle.automaton.specs.declared.growth.Growth.{Growth}
 use Rattle.automaton.specs.declared.layout.Layout.{Layout}
 use Rattle.automaton.specs.declared.line.Line.{Line}
-use Rattle.automaton.specs.Layouts.{cut_back, grown}
+use Rattle.automaton.specs.Layouts.{grown}
 use Rattle.splitter.specs.Chains.{lines_of}
-use Rattle.splitter.specs.declared.chains.Chains.{Chains}
 use Rattle.splitter.specs.Growing.{GrowInTurn}
 use Rattle.splitter.specs.Laws.{IsApart, split_order}
 use Rattle.splitter.specs.Splitting.{parts_of, split_lines}
 use Rattle.stream_schema.specs.Schema.{Attr, kinds_of}
 use Rattle.catalogue.specs.declared.adding.Added.{Added}
-use Rattle.catalogue.specs.declared.growing.Before.{Before}
 use Rattle.catalogue.specs.declared.fault.AddFault.{AddFault}
 use Rattle.catalogue.specs.declared.fault.AddFault.TheVariants as added
 use Rattle.catalogue.specs.declared.fault.LoadFault.{LoadFault}
@@ -53,11 +51,3 @@ pub record MayTell (c : Catalogued) (added : AddedQuery) (told : Added) : Type 0
   pub ends : told.ends ≡ range_with_len c.next_end (length told.lines)
   pub ends_room : c.next_end + length told.lines < 2 ^ 64
   pub few : sum_by (λ line. 1 + length line.hops) (lines_of (program_in c)) + 1048576 < 2 ^ 64
-
--- the lines and the layout with those of a query
-abbrev pub with_lines : Chains → List Line → Growth → Chains
-with_lines chains lines growth = record { lines = chains.lines ++ lines; layout = grown chains.layout growth }
-
--- the lines and the layout as they were before a query came
-abbrev pub first_of : Chains → Before → Chains
-first_of chains before = record { lines = take before.lines chains.lines; layout = cut_back chains.layout before.sizes }

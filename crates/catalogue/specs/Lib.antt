@@ -11,6 +11,7 @@ pub mod Parts
 pub mod Numbering
 pub mod Catalogued
 pub mod Chained
+pub mod Laid
 pub mod Tables
 pub mod Telling
 pub mod Loading
@@ -19,6 +20,7 @@ pub mod Verdicts
 pub mod Programs
 pub mod Changes
 pub mod Sharing
+pub mod HeldParts
 pub mod Standing
 pub mod Loaded
 pub mod Adding

@@ -1,13 +1,13 @@
 -- Tables of the statements of a file, by name and by the queries' numbers. No public clause cites this.
-use Rattle.std.specs.Prelude.{◌≡◌, ◌<◌, ◌≤◌, ◌+◌, ℕ, List, length, map, Some, slice_get, slice_index_or, sum_by}
+use Rattle.std.specs.Prelude.{◌≡◌, ◌≢◌, ◌<◌, ◌≤◌, ◌+◌, ◌-◌, ℕ, List, length, map, Some, slice_get, slice_index_or, sum_by}
 use Rattle.automaton.specs.declared.line.Line.{Line}
 use Rattle.splitter.specs.Chains.{lines_of}
 use Rattle.cel_grammar.specs.Trees.{Statement}
 use Rattle.stream_schema.specs.Streams.{stream_names}
 use Rattle.catalogue.specs.declared.naming.Named.{Named}
-use Rattle.catalogue.specs.declared.sharing.Share.{Share}
+use Rattle.catalogue.specs.declared.sharing.Shares.{Shares}
 use Rattle.catalogue.specs.Catalogued.{Catalogued, program_in, work_in}
-use Rattle.catalogue.specs.Sharing.{share_of}
+use Rattle.catalogue.specs.Sharing.{shares_of}
 use Rattle.catalogue.specs.Standing.{StandsInOrder}
 use Rattle.catalogue.specs.Statements.{names_in, queries_in, query_names}
 use Rattle.catalogue.specs.Tallies.{AreTallied}
@@ -37,16 +37,21 @@ pub record HasPlaces (numbers : List ℕ) (places : List ℕ) : Type 0 where
 abbrev pub AreOwnFrom : List ℕ → ℕ → Type 0
 AreOwnFrom numbers first = (place : ℕ) → first ≤ place → place < length numbers → slice_index_or numbers place 0 ≡ place
 
+-- it is the first such place: there is such a place, and the number right before it, if there is one, isn't its own place
+pub record IsOwnFirst (numbers : List ℕ) (first : ℕ) : Type 0 where
+  pub within : first ≤ length numbers
+  pub before : 0 < first → slice_index_or numbers (first - 1) 0 ≢ first - 1
+
 -- the catalogue stands in order, these are the places of its queries in the order of work, these are its lines, these are the shares that its queries have, and these are the tallies of what they read
-pub record IsHeld (c : Catalogued) (places : List ℕ) (lines : List Line) (shares : List Share) (reads : List ℕ) : Type 0 where
+pub record IsHeld (c : Catalogued) (places : List ℕ) (lines : List Line) (shares : Shares) (reads : List ℕ) : Type 0 where
   pub stands : StandsInOrder c
   pub placed : HasPlaces c.order places
   pub lines_are : lines ≡ lines_of (program_in c)
-  pub shared : shares ≡ map share_of (work_in c)
+  pub shared : shares ≡ shares_of (work_in c)
   pub tallied : AreTallied c.expressions reads
 
 -- the catalogue is held with these; from this place on each of its queries' numbers is its own place; and so many are its lines and the hops on them
-pub record IsKept (c : Catalogued) (places : List ℕ) (lines : List Line) (shares : List Share) (reads : List ℕ) (own size : ℕ) : Type 0 where
+pub record IsKept (c : Catalogued) (places : List ℕ) (lines : List Line) (shares : Shares) (reads : List ℕ) (own size : ℕ) : Type 0 where
   pub held : IsHeld c places lines shares reads
   pub owned : AreOwnFrom c.order own
   pub sized : size ≡ sum_by (λ line. 1 + length line.hops) lines

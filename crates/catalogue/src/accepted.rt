@@ -9,18 +9,14 @@ ghost use Rattle.catalogue.specs.Loaded.{HoldsJudged, IsUnchanged};
 ghost use Rattle.catalogue.specs.Parts.{IsAccepted, parts_of, judged_of};
 ghost use Rattle.catalogue.specs.Standing.{IsLayoutOver, StandsInOrder};
 
-use crate::boxes::Boxes;
-use crate::growing::size_of;
-use crate::leaving::own_from;
-use crate::numbering::{Published, hide_up_to, number_all, numbers_below};
-use crate::placing::{chains_of, places_in};
-use crate::sharing::{Share, share_all};
-use crate::tallying::tally_all;
-use automaton::{Layout, Lines};
+use crate::held_lines::HeldLines;
+use crate::held_queries::HeldQueries;
+use crate::laying::{Typed, hold, lay_out};
+use automaton::{Layout, Line};
 use cel_parser::File;
-use event_types::{List, Memory, Numbers, StreamId};
+use event_types::{Memory, Numbers, StreamId};
 use expressions::Expr;
-use splitter::Chains;
+use long_lists::LongList;
 use std::alloc::Global;
 use std::marker::Model;
 use stream_schema::Streams;
@@ -34,21 +30,11 @@ pub struct Catalogue {
     declared: usize,
     // By number: those that STREAM declares, those of the queries, and hidden ones.
     pub(crate) streams: Streams,
-    // The numbers of the queries in the order of work.
-    pub(crate) order: Numbers,
-    // In the order of work.
-    pub(crate) published: Boxes<Published>,
-    pub(crate) expressions: Boxes<Expr>,
-    // In the order of work.
-    pub(crate) shares: List<Share>,
-    // For each query by its number its place in the order of work.
-    pub(crate) places: Numbers,
-    // From this place on each query's number is its place.
+    pub(crate) work: HeldQueries,
+    // From this place in the order of work on each query's number is its place.
     pub(crate) own: usize,
-    // For each line the number of its end.
-    pub(crate) ends: Numbers,
+    pub(crate) chains: HeldLines,
     pub(crate) next_end: usize,
-    pub(crate) chains: Chains,
     // How many lines there are, and hops on them.
     pub(crate) size: usize,
     // For each stream by number how many reads of it the expressions have; none behind the last one.
@@ -64,62 +50,32 @@ impl Model for Catalogue {
 
     ghost use Rattle.catalogue.specs.Tables.{IsKept};
 
-    ghost view = { λ c. record { file = c.file; declared = c.declared; streams = c.streams; order = c.order; published = c.published; expressions = c.expressions; ends = c.ends; next_end = c.next_end; layout = c.chains.layout } };
+    ghost view = { λ c. record { file = c.file; declared = c.declared; streams = c.streams; order = c.work.order; published = c.work.published; expressions = c.work.expressions; ends = c.chains.ends; next_end = c.next_end; layout = c.chains.layout } };
 
-    ghost invariant = { λ c. IsKept (record { file = c.file; declared = c.declared; streams = c.streams; order = c.order; published = c.published; expressions = c.expressions; ends = c.ends; next_end = c.next_end; layout = c.chains.layout }) c.places c.chains.lines c.shares c.reads c.own c.size };
+    ghost invariant = { λ c. IsKept (record { file = c.file; declared = c.declared; streams = c.streams; order = c.work.order; published = c.work.published; expressions = c.work.expressions; ends = c.chains.ends; next_end = c.next_end; layout = c.chains.layout }) c.work.places c.chains.lines c.chains.shares c.reads c.own c.size };
 }
 
 impl Catalogue {
-    // The catalogue of these parts. Want of memory drops them.
-    pub(crate) fn make(
-        alloc: Global,
-        file: File,
-        streams: Streams,
-        order: Numbers,
-        expressions: List<Expr>,
-    ) -> Result<Catalogue, Memory>
-        requires accepted { IsAccepted (parts_of file streams order expressions) }
-        requires typed { length expressions ≡ length order }
-        requires there { AreThere streams }
-        ensures holds { IfOk result (HoldsJudged (judged_of (parts_of file streams order expressions))) }
+    // The catalogue of a file and what is typed of it. Want of memory drops both.
+    pub(crate) fn make(alloc: Global, file: File, typed: Typed) -> Result<Catalogue, Memory>
+        requires accepted { IsAccepted (parts_of file typed.streams typed.order typed.expressions) }
+        requires typed { length typed.expressions ≡ length typed.order }
+        requires there { AreThere typed.streams }
+        ensures holds { IfOk result (HoldsJudged (judged_of (parts_of file typed.streams typed.order typed.expressions))) }
         ensures unchanged { IfOk result IsUnchanged }
     {
-        let places = places_in(alloc, &order)?;
-        let chains = chains_of(
-            alloc,
-            &file,
-            &streams,
-            &order,
-            &expressions,
-            places.as_slice(),
-        )?;
-        let size = size_of(chains.lines.as_slice());
-        let declared = file.size() - order.len();
-        let published = number_all(alloc, declared, &expressions)?;
-        let mut streams = streams;
-        hide_up_to(&mut streams, file.size(), chains.layout.kinds.len())?;
-        let shares = share_all(alloc, &published, &expressions)?;
-        let reads = tally_all(alloc, &expressions)?;
-        let published = Boxes::of(alloc, published)?;
-        let expressions = Boxes::of(alloc, expressions)?;
-        let ends = numbers_below(alloc, chains.lines.len())?;
-        let own = own_from(&order);
-        let next_end = ends.len();
+        let laid = lay_out(alloc, &file, &typed)?;
+        let held = hold(alloc, file.size(), typed, laid)?;
         Ok(Catalogue {
             file,
-            declared,
-            streams,
-            order,
-            published,
-            expressions,
-            shares,
-            places,
-            own,
-            ends,
-            next_end,
-            chains,
-            size,
-            reads,
+            declared: held.declared,
+            streams: held.streams,
+            work: held.work,
+            own: held.own,
+            chains: held.chains,
+            next_end: held.next_end,
+            size: held.size,
+            reads: held.reads,
         })
     }
 
@@ -153,7 +109,7 @@ impl Catalogue {
         ensures value { result ≡ length self.now.order }
         ensures stands { StandsInOrder self.now }
     {
-        self.order.len()
+        self.work.order.len()
     }
 
     /// The stream that the query with this number publishes.
@@ -163,7 +119,7 @@ impl Catalogue {
         ensures within { result < length self.now.streams }
         ensures named { ¬ IsRetired self.now.streams result }
     {
-        self.published.get(self.place(query)).stream
+        self.work.published.get(self.place(query)).stream
     }
 
     /// The expression of the query with this number.
@@ -171,7 +127,7 @@ impl Catalogue {
         requires { query < length self.now.order }
         ensures { ex_of result.now ≡ (query_in self.now query).expr }
     {
-        self.expressions.get(self.place(query))
+        self.work.expressions.get(self.place(query))
     }
 
     /// The numbers of the queries in the order of work.
@@ -179,11 +135,11 @@ impl Catalogue {
         ensures value { result.now ≡ self.now.order }
         ensures stands { StandsInOrder self.now }
     {
-        &self.order
+        &self.work.order
     }
 
     /// The automaton lines of the queries, those of a stream before those that read it.
-    pub fn lines(&self) -> &Lines
+    pub fn lines(&self) -> &LongList<Line>
         ensures value { result.now ≡ lines_of (program_in self.now) }
         ensures few { sum_by (λ line. 1 + length line.hops) result.now < 2 ^ 64 }
     {
@@ -204,6 +160,6 @@ impl Catalogue {
         ensures value { result ≡ position_or_len (λ other. query == other) self.now.order }
         ensures within { result < length self.now.order }
     {
-        *self.places.get(query)
+        *self.work.places.get(query)
     }
 }

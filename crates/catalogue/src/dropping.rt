@@ -7,16 +7,16 @@ ghost use Rattle.catalogue.specs.Leaving.{HasName, IsFirstNamed, HasNoQuery, IsF
 ghost use Rattle.catalogue.specs.Part.{IsPart};
 
 use crate::accepted::Catalogue;
-use crate::boxes::Boxes;
 use crate::counting::does_read;
 use crate::fault::DropFault;
-use crate::growing::size_of;
+use crate::growing::size_between;
 use crate::leaving::{add_part, leave};
 use crate::numbering::Published;
-use crate::sharing::{Share, share_before};
+use crate::sharing::span_at;
 use crate::tallying::{tally_at, untally};
 use automaton::Shrinkage;
 use event_types::{List, Memory, Numbers, StreamId, Text};
+use long_lists::LongList;
 use std::alloc::Global;
 
 /// What is given out as a query leaves: the numbers of the ends of its lines, and what the layout of all lines loses.
@@ -40,7 +40,7 @@ impl Catalogue {
         requires { query < length self.now.order }
         ensures { result ≡ (query_in self.now query).birth }
     {
-        self.published.get(self.place(query)).birth
+        self.work.published.get(self.place(query)).birth
     }
 
     /// Takes the query of this name out: the later queries have one number less, the name of its stream is retired, and its
@@ -77,6 +77,9 @@ impl Catalogue {
     }
 
     /// Takes the query with this number out, which none reads, as `drop_query` does. Want of memory changes nothing.
+    ///
+    /// It costs the query's own lines, and in each list steps as a logarithm of how much stands there, whichever query it is. Only
+    /// where it, or one behind it in the order of work, isn't its own place there are the numbers behind its own written anew.
     pub fn drop_at(&mut self, alloc: Global, query: usize) -> Result<Dropped, Memory>
         requires within { query < length self.old.order }
         requires unread { IsUnread self.old query }
@@ -86,7 +89,7 @@ impl Catalogue {
     {
         let part = self.part_of(query);
         let mut ends: Numbers = List::new(alloc);
-        add_part(&mut ends, &self.ends, part.first, part.end)?;
+        add_part(&mut ends, &self.chains.ends, part.first, part.end)?;
         self.take_out(query, part);
         Ok(Dropped {
             ends,
@@ -102,9 +105,9 @@ impl Catalogue {
     {
         match self.streams.find(name) {
             None => None,
-            Some(stream) => match publisher(&self.published, stream) {
+            Some(stream) => match publisher(&self.work.published, stream) {
                 None => None,
-                Some(place) => Some(*self.order.get(place)),
+                Some(place) => Some(*self.work.order.get(place)),
             },
         }
     }
@@ -117,7 +120,7 @@ impl Catalogue {
         if tally_at(&self.reads, stream) == 0 {
             return None;
         }
-        for query in 0..self.order.len() {
+        for query in 0..self.work.order.len() {
             if does_read(self.expr(query), stream) {
                 return Some(query);
             }
@@ -133,15 +136,15 @@ impl Catalogue {
         ensures { self.new ≡ catalogue_without self.old query }
     {
         let place = self.place(query);
-        self.streams.retire(self.published.get(place).stream);
-        self.own = leave(&mut self.order, &mut self.places, self.own, query);
-        self.published.remove(place);
-        untally(&mut self.reads, self.expressions.get(place));
-        self.expressions.remove(place);
-        self.shares.remove(place);
-        self.ends.cut(part.first, part.end);
-        self.size -= size_of(&self.chains.lines.as_slice()[part.first..part.end]);
+        self.streams.retire(self.work.published.get(place).stream);
+        self.own = leave(&mut self.work.order, &mut self.work.places, self.own, query);
+        self.work.published.remove(place);
+        untally(&mut self.reads, self.work.expressions.get(place));
+        self.work.expressions.remove(place);
+        self.size -= size_between(&self.chains.lines, part.first, part.end);
         self.chains.lines.cut(part.first, part.end);
+        self.chains.ends.cut(part.first, part.end);
+        self.chains.shares.remove(place);
         self.chains.layout.shrink(part.lost);
     }
 
@@ -151,32 +154,39 @@ impl Catalogue {
         ensures { IsPart self.now query result }
     {
         let place = self.place(query);
-        let own = self.shares.get(place);
-        let all = Share {
-            lines: self.chains.lines.len(),
-            streams: self.chains.layout.order.len(),
-        };
-        let before = share_before(&self.shares, place, all);
+        let lines = span_at(&self.chains.shares.lines, place);
+        let streams = span_at(&self.chains.shares.streams, place);
         let lost = Shrinkage {
-            first: before.streams,
-            end: before.streams + own.streams,
+            first: streams.first,
+            end: streams.end,
             out: query,
         };
         Part {
-            first: before.lines,
-            end: before.lines + own.lines,
+            first: lines.first,
+            end: lines.end,
             lost,
         }
     }
 }
 
 // The place of the query that publishes the stream, by halves: later queries publish greater ones.
-fn publisher(published: &Boxes<Published>, stream: StreamId) -> Option<usize>
+fn publisher(published: &LongList<Published>, stream: StreamId) -> Option<usize>
     requires { AllPairs (λ earlier later. earlier.stream < later.stream) published.now }
     ensures { result ≡ position (λ query. query.stream == stream) published.now }
 {
-    published
-        .as_slice()
-        .binary_search_by_key(&stream, |query| query.stream)
-        .ok()
+    let mut first = 0;
+    let mut end = published.len();
+    while first < end {
+        let middle = first + (end - first) / 2;
+        if published.get(middle).stream < stream {
+            first = middle + 1;
+        } else {
+            end = middle;
+        }
+    }
+    if first < published.len() && published.get(first).stream == stream {
+        Some(first)
+    } else {
+        None
+    }
 }

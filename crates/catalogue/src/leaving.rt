@@ -3,14 +3,15 @@ ghost use Rattle.std.specs.Prelude.{◌≡◌, ◌<◌, ◌≤◌, ◌-◌, ◌+
 ghost use Rattle.std.specs.List.{position_or_len, remove};
 ghost use Rattle.catalogue.specs.Leaving.{moved_down};
 ghost use Rattle.catalogue.specs.Standing.{AreNumbers};
-ghost use Rattle.catalogue.specs.Tables.{AreOwnFrom, HasFirstPlaces, HasPlaces};
+ghost use Rattle.catalogue.specs.Tables.{AreOwnFrom, HasFirstPlaces, HasPlaces, IsOwnFirst};
 
 use event_types::{Memory, Numbers};
+use long_lists::LongNumbers;
 
 /// Adds the numbers from one place up to another.
 pub fn add_part(
     part: &mut Numbers,
-    numbers: &Numbers,
+    numbers: &LongNumbers,
     first: usize,
     end: usize,
 ) -> Result<(), Memory>
@@ -26,7 +27,8 @@ pub fn add_part(
 
 /// The first place from which on each number is its own place.
 pub fn own_from(order: &Numbers) -> usize
-    ensures { AreOwnFrom order.now result }
+    ensures own { AreOwnFrom order.now result }
+    ensures first { IsOwnFirst order.now result }
 {
     let mut own = order.len();
     while 0 < own && *order.get(own - 1) == own - 1 {

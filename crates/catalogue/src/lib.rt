@@ -8,14 +8,16 @@
 mod accepted;
 mod adding;
 mod arranging;
-mod boxes;
 mod counting;
 mod declaring;
 mod dropping;
 mod fault;
 mod filing;
 mod growing;
+mod held_lines;
+mod held_queries;
 mod laws;
+mod laying;
 mod leaving;
 mod loading;
 mod naming;

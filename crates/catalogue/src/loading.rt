@@ -12,12 +12,10 @@ use crate::arranging::arrange;
 use crate::declaring::declare_all;
 use crate::fault::LoadFault;
 use crate::filing::file_of;
+use crate::laying::Typed;
 use crate::publishing::publish_all;
 use cel_parser::File;
-use event_types::{List, Numbers};
-use expressions::Expr;
 use std::alloc::Global;
-use stream_schema::Streams;
 
 /// The catalogue of a query text, or its first fault: of its length, its tokens, its statements, their
 /// names, the names that they read, a cycle, the types of its declarations, or those of its queries.
@@ -27,15 +25,7 @@ pub fn load(alloc: Global, text: &[u8]) -> Result<Catalogue, LoadFault>
 {
     let file = file_of(alloc, text)?;
     let typed = type_file(alloc, &file)?;
-    Ok(Catalogue::make(alloc, file, typed.streams, typed.order, typed.expressions)?)
-}
-
-// What a catalogue has beside its file.
-#[derive(Drop)]
-struct Typed {
-    streams: Streams,
-    order: Numbers,
-    expressions: List<Expr>,
+    Ok(Catalogue::make(alloc, file, typed)?)
 }
 
 // The streams of a file, and its queries in the order of work; or the first fault of names or types.

@@ -9,9 +9,7 @@ ghost use Rattle.catalogue.specs.Taking.{IsFit, added_of};
 use crate::accepted::Catalogue;
 use crate::adding::{Added, Coming, as_added, judge};
 use crate::fault::AddFault;
-use crate::growing::{
-    Before, lines_of_one, numbers_from, publish, put_lines, put_query, size_of, take_lines_back,
-};
+use crate::growing::{lines_of_one, numbers_from, publish, size_of};
 use crate::numbering::Published;
 use crate::statements::name;
 use event_types::Memory;
@@ -65,11 +63,8 @@ impl Catalogue {
         let told = self.told(alloc, &query)?;
         let statement = query.statement;
         let schema = query.schema;
-        let before = Before {
-            sizes: self.chains.layout.sizes(),
-            lines: self.chains.lines.len(),
-            queries: self.order.len(),
-        };
+        let before = self.chains.sizes();
+        let queries = self.work.order.len();
         let stream = before.sizes.all;
         let hidden = told.growth.kinds.len() - 1;
         let publication = Published {
@@ -77,39 +72,22 @@ impl Catalogue {
             hidden: stream + 1,
             birth: since,
         };
-        put_lines(
-            alloc,
-            &mut self.chains,
-            &mut self.ends,
-            &mut self.shares,
-            &told,
-        )?;
-        let put = put_query(
-            &mut self.order,
-            &mut self.places,
-            &mut self.published,
-            &mut self.expressions,
-            publication,
-            query.expr,
-        );
-        if let Err(_) = put {
-            take_lines_back(&mut self.chains, &mut self.ends, &mut self.shares, before);
+        self.chains.put(alloc, &told)?;
+        if let Err(_) = self.work.put(publication, query.expr) {
+            self.chains.take_back(before);
             return Err(Memory);
         }
         let published = publish(
             &mut self.streams,
             &mut self.reads,
-            self.expressions.get(before.queries),
+            self.work.expressions.get(queries),
             name(&statement),
             schema,
             hidden,
         );
         if let Err(_) = published {
-            take_lines_back(&mut self.chains, &mut self.ends, &mut self.shares, before);
-            self.order.truncate(before.queries);
-            self.places.truncate(before.queries);
-            self.published.truncate(before.queries);
-            self.expressions.truncate(before.queries);
+            self.chains.take_back(before);
+            self.work.take_back(queries);
             return Err(Memory);
         }
         self.next_end += told.lines.len();
@@ -133,7 +111,7 @@ impl Catalogue {
         }
         let ends = numbers_from(alloc, self.next_end, many)?;
         Ok(Added {
-            query: self.order.len(),
+            query: self.work.order.len(),
             lines: lined.lines,
             ends,
             growth: lined.growth,

@@ -1,7 +1,8 @@
-use Rattle.std.proofs.Common.{◌≡◌, ◌∙◌, ◌<◌, ◌++◌, ◌∷◌, [], get_or, subst, arith}
+use Rattle.std.proofs.Common.{◌≡◌, ◌∙◌, ◌<◌, get_or, subst, arith}
 use Rattle.std.proofs.lemmas.List.Elements.{All-get_or}
 use Rattle.std.proofs.lemmas.Option.{get_or_from_slice_get}
 use Rattle.catalogue.specs.declared.numbering.Published.{Published}
+use Rattle.catalogue.specs.Sharing.{with_share}
 use Rattle.catalogue.proofs.CountedLemmas.{lines_within}
 use Rattle.catalogue.proofs.LeftStreamsLemmas.{numbered_here}
 use Rattle.catalogue.proofs.ShareLemmas.{shares_all, shares_more}
@@ -29,8 +30,8 @@ share_one-share-requires-clause-few c =
 -- the share of one query more
 pub loop-place-preserved : goal.loop-place-preserved
 loop-place-preserved c =
-    c.in_ok-add.ensures.ok ∙ (λ t. c.loop-place.invariant t ++ c.share_one-share.ensures t ∷ [])
-    ∙ shares_more c.args.published.now c.args.expressions.now c.loop-place.place c.get.result.now c.get-in-loop-place.result.now c.requires.typed (omega (arith, c.loop-place-test.true, c.len-place-end.ensures)) c.get.ensures c.get-in-loop-place.ensures
+    c.in_ok-add.ensures.ok ∙ (λ t. with_share (c.loop-place.invariant t) (c.share_one-share.ensures t))
+    ∙ shares_more c.args.published.now c.args.expressions.now c.loop-place.place c.requires.typed c.get.result.now c.get-in-loop-place.result.now (omega (arith, c.loop-place-test.true, c.len-place-end.ensures)) c.get.ensures c.get-in-loop-place.ensures
 
 pub returns : goal.returns
 returns c = c.loop-place.invariant ∙ shares_all c.args.published.now c.args.expressions.now c.loop-place.place c.requires.typed (omega (arith, c.loop-place-test.false, c.len-place-end.ensures))

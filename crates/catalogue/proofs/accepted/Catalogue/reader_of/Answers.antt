@@ -18,8 +18,8 @@ use Rattle.catalogue.proofs.accepted.Catalogue.reader_of.Goals as goal
 pub returns-then-tally_at-eq0-clause-none : goal.returns-then-tally_at-eq0-clause-none
 returns-then-tally_at-eq0-clause-none c = λ number less.
     let now = c.args.self.now in
-    let held : IsHeld now c.self.inside.places c.self.inside.chains.lines c.self.inside.shares c.self.inside.reads =
-    subst (λ (v : Catalogued). IsHeld v c.self.inside.places c.self.inside.chains.lines c.self.inside.shares c.self.inside.reads) c.self.view_is c.self.invariant.held in
+    let held : IsHeld now c.self.inside.work.places c.self.inside.chains.lines c.self.inside.chains.shares c.self.inside.reads =
+    subst (λ (v : Catalogued). IsHeld v c.self.inside.work.places c.self.inside.chains.lines c.self.inside.chains.shares c.self.inside.reads) c.self.view_is c.self.invariant.held in
     let none : reads_all c.args.stream now.expressions ≡ 0 = sym (held.tallied c.args.stream) ∙ sym c.tally_at.ensures ∙ c.if-tally_at-eq0.true in
     All-get_or (λ (query : Query). ReadsOnly (λ read. read ≢ c.args.stream) query.expr) (work_in now) (place_of now number) (none_such now held.stands) (at_work now held.stands number less)
     (all_unread c.args.stream now.streams now.published now.expressions none)

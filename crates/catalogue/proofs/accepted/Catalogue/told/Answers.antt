@@ -11,10 +11,10 @@ lines_of_one-requires c =
       file = c.self.inside.file;
       declared = c.self.inside.declared;
       streams = c.self.inside.streams;
-      order = c.self.inside.order;
-      published = c.self.inside.published;
-      expressions = c.self.inside.expressions;
-      ends = c.self.inside.ends;
+      order = c.self.inside.work.order;
+      published = c.self.inside.work.published;
+      expressions = c.self.inside.work.expressions;
+      ends = c.self.inside.chains.ends;
       next_end = c.self.inside.next_end;
       layout = c.self.inside.chains.layout;
     } in

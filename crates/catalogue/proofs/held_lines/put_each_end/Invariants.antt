@@ -1,5 +1,5 @@
 use Rattle.std.proofs.Common.{◌≡◌, ◌++◌, take}
-use Rattle.catalogue.proofs.growing.put_each_end.Given as goal
+use Rattle.catalogue.proofs.held_lines.put_each_end.Given as goal
 
 -- the numbers so far were put
 abbrev pub invariant-loop-end : goal.invariant-loop-end
