@@ -16,7 +16,7 @@ const BLOCK: usize = 64;
 /// Items in blocks, one behind another.
 ///
 /// Items are put into the last block until it is full. It is then closed, and another is opened behind it. Items leave
-/// any block, and a closed one that is empty stays where it is.
+/// any block, and a closed one that is empty stays where it is, without room for items.
 #[derive(Drop)]
 pub(crate) struct Blocks<T> {
     closed: List<List<T>>,
@@ -125,6 +125,8 @@ impl<T> Blocks<T> {
 
     /// Takes an item out of its block. No more items are moved than a block has. Takes no memory.
     pub(crate) fn take_out(&mut self, spot: Spot) -> T
+    where
+        T: Drop,
         requires block { spot.block < length self.old }
         requires offset { spot.offset < length (slice_index_or self.old spot.block []) }
         ensures value { slice_get (slice_index_or self.old spot.block []) spot.offset ≡ Some result }
@@ -134,7 +136,7 @@ impl<T> Blocks<T> {
             return self.last.remove(spot.offset);
         }
         let block = self.closed.get_mut(spot.block);
-        let item = block.remove(spot.offset);
+        let item = take_item(self.alloc, block, spot.offset);
         let left = block.len();
         self.lengths.set(spot.block, left);
         self.full = self.full.min(spot.block);
@@ -217,6 +219,19 @@ impl<T> Blocks<T> {
     {
         self.last.truncate(len);
     }
+}
+
+// Takes an item out of a block, and gives back the room of a block that has no more.
+fn take_item<T: Drop>(alloc: Global, block: &mut List<T>, offset: usize) -> T
+    requires { offset < length block.old }
+    ensures value { slice_get block.old offset ≡ Some result }
+    ensures others { block.new ≡ remove block.old offset }
+{
+    let item = block.remove(offset);
+    if block.len() == 0 {
+        *block = List::new(alloc);
+    }
+    item
 }
 
 // How many blocks, the first ones, are known to be full, where so many were, and the last of some has a length.

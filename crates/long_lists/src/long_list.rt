@@ -99,6 +99,8 @@ impl<T> LongList<T> {
 
     /// Takes the item at a place out, counted from 0; those behind it move up. Takes no memory.
     pub fn remove(&mut self, place: usize) -> T
+    where
+        T: Drop,
         requires { place < length self.old }
         ensures value { slice_get self.old place ≡ Some result }
         ensures others { self.new ≡ remove self.old place }
