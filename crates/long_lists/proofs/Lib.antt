@@ -1,3 +1,4 @@
 pub mod BlocksLemmas
+pub mod FreeLemmas
 pub mod SumTreeLemmas
 pub mod SumsLemmas
