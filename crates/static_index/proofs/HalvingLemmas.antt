@@ -72,14 +72,7 @@ ascend_inserted id (n ∷ ids) (suc place) lacks up =
     let lt = lacks.smaller_before 0 n (omega arith) refl in
     let less : nat_cmp n id ≡ Less = grind (arith, nat_tests) in (below_inserted n id ids place less up.0, ascend_inserted id ids place (lacks_behind id n ids place lacks) up.1)
 
--- what is put at a place is there
-pub contains_inserted : (id : ℕ) (ids : List ℕ) (place : ℕ) → Contains (insert ids place id) id
-contains_inserted id [] zero = (0, omega arith, refl)
-contains_inserted id [] (suc place) = (0, omega arith, refl)
-contains_inserted id (n ∷ ids) zero = (0, omega arith, refl)
-contains_inserted id (n ∷ ids) (suc place) = Contains-append_right (n ∷ []) (insert ids place id) id (contains_inserted id ids place)
-
--- and so are the others
+-- the others stay where one is put
 pub kept_inserted : (id : ℕ) (ids : List ℕ) (place : ℕ) (m : ℕ) → Contains ids m → Contains (insert ids place id) m
 kept_inserted id ids zero m has = Contains-append_right (id ∷ []) ids m has
 kept_inserted id [] (suc place) m has = Contains-append_right (id ∷ []) [] m has

@@ -1,3 +1,4 @@
+pub mod ApartLemmas
 pub mod BucketLemmas
 pub mod ColumnLemmas
 pub mod EntryLemmas

@@ -1,7 +1,7 @@
-use Rattle.std.proofs.Common.{sym, subst}
-use Rattle.static_index.specs.Conditions.{Ascends}
-use Rattle.static_index.proofs.HalvingLemmas.{none_ascend}
+use Rattle.std.proofs.Common.{[], sym, subst}
+use Rattle.static_index.specs.Ids.{AreApart}
+use Rattle.static_index.proofs.ApartLemmas.{none_apart}
 use Rattle.static_index.proofs.ids.Ids.new.Goals as goal
 
 pub invariant_of-result : goal.invariant_of-result
-invariant_of-result c = subst Ascends (sym c.new.ensures.items) none_ascend
+invariant_of-result c = subst (λ ids. AreApart ids []) (sym c.new.ensures.items) none_apart
