@@ -1,109 +1,64 @@
--- Ids in order, some with entries, and what is found of these.
+-- Entries at the places of their ids and behind these, and what is found of them.
 use denote.Bor.{Bor}
-use Rattle.std.proofs.Common.{◌≡◌, ◌∙◌, ap, refl, sym, subst, ℕ, zero, suc, ◌<◌, ◌≤◌, ◌⊎◌, inl, inr, nat_lt, Bool, true, false, cond, filter, List, [], ◌∷◌, length, get_or, set, Some, None, Option, slice_get, Contains, Result, Ok, Err, IfOk, IfErr, arith}
+use Rattle.std.proofs.Common.{◌≡◌, ◌∙◌, ◌+◌, ◌-◌, ◌++◌, ap, refl, sym, subst, ℕ, zero, suc, ◌<◌, ◌≤◌, Bool, true, false, cond, List, [], ◌∷◌, length, get_or, set, Some, None, Option, slice_get, Contains, arith}
 use Rattle.std.specs.declared.cmp.Ordering.{Ordering}
-use Rattle.std.specs.declared.cmp.Ordering.TheVariants.{Less, Greater}
+use Rattle.std.specs.declared.cmp.Ordering.TheVariants.{Less, Equal, Greater}
 use Rattle.std.specs.BTreeMap.{insert_entry, is_at}
-use Rattle.std.specs.List.{AllByRecursion, insert}
-use Rattle.std.specs.List.Sorted.{IsBinarySearchResult, IsNonDecreasingBy, IsSearchInRange, IsStrictlySortedBy}
+use Rattle.std.specs.List.{AllByRecursion}
+use Rattle.std.specs.List.Sorted.{IsStrictlySortedBy}
 use Rattle.std.specs.Option.{is_some, option_copied}
 use Rattle.std.specs.Map.{keys_of, remove_entry}
-use Rattle.std.specs.Ordering.{match_ordering, nat_cmp, ordering_index}
-use Rattle.std.proofs.lemmas.Bool.{cases_Bool}
+use Rattle.std.specs.Ordering.{match_ordering, nat_cmp}
 use Rattle.std.proofs.lemmas.Bool.Decides.{nat_tests}
-use Rattle.std.proofs.lemmas.Cmp.{ranked}
-use Rattle.std.proofs.lemmas.List.{get_or-map}
-use Rattle.std.proofs.lemmas.Map.Entries.{length-keys_of}
-use Rattle.std.proofs.lemmas.Map.Keys.{Less-from_sorted}
-use Rattle.std.proofs.lemmas.Option.{get_or_from_slice_get, slice_get-get_or, slice_get_within}
+use Rattle.std.proofs.lemmas.List.{length-append, length-set}
+use Rattle.std.proofs.lemmas.Option.{slice_get-get_or}
 use Rattle.std.proofs.lemmas.Map.Views.{Contains-keys_from_lookup}
 use Rattle.static_index.specs.Conditions.{ids_of}
 use Rattle.static_index.specs.Entries.{AreOrdered, entry_of}
-use Rattle.static_index.specs.Slots.{AreInOrder, IsAt, IsGapFor, Slot, live, with_slot}
+use Rattle.static_index.specs.Places.{AreBehind, AreFrom, count_filled, entries_from, with_place}
 use Rattle.static_index.specs.Table.{conditions_of}
 use Rattle.static_index.specs.declared.entry.Entry.{Entry}
 use Rattle.static_index.proofs.BucketLemmas.{nat_exact}
-use Rattle.static_index.proofs.HalvingLemmas.{above_lesser}
 use Rattle.static_index.proofs.TableLemmas.{keys_are_ids}
 
 -- all of these ids are greater than one
 abbrev AreAbove : ℕ → List ℕ → Type 0
 AreAbove id ids = AllByRecursion (λ n. nat_cmp id n ≡ Less) ids
 
--- ids compare as they stand
-less_id : (m n : ℕ) → m < n → nat_cmp m n ≡ Less
-less_id m n lt = grind (arith, nat_tests)
+-- a query finds its own id, and no other
+found_here : (id n : ℕ) → id ≡ n → is_at (nat_cmp id) n ≡ true
+found_here id n same = grind (arith, nat_tests)
 
-greater_id : (m n : ℕ) → n < m → nat_cmp m n ≡ Greater
-greater_id m n lt = grind (arith, nat_tests)
+not_found : (id n : ℕ) → n < id → is_at (nat_cmp id) n ≡ false
+not_found id n less = grind (arith, nat_tests)
 
-turned : (m n : ℕ) → nat_cmp m n ≡ Less → nat_cmp n m ≡ Greater
-turned m n less = grind (arith, nat_tests)
+-- ids that are at least one are at least a smaller one
+pub from_lower : (m n : ℕ) (es : List (ℕ × Entry)) → m ≤ n → AreFrom n es → AreFrom m es
+from_lower m n [] le all = tt
+from_lower m n (e ∷ es) le all = (let least = all.0 in omega (arith, least, le), from_lower m n es le all.1)
 
--- where there is an item within a list
-at_place : (slots : List Slot) (place : ℕ) → place < length slots → (s : Slot) × (slice_get slots place ≡ Some s)
-at_place [] place lt = absurd (omega arith)
-at_place (s ∷ slots) zero lt = (s, refl)
-at_place (s ∷ slots) (suc place) lt = at_place slots place (omega arith)
+-- ids that are at least the next one are above one
+from_above : (id n : ℕ) (es : List (ℕ × Entry)) → id < n → AreFrom n es → AreAbove id (keys_of es)
+from_above id n [] lt all = tt
+from_above id n (e ∷ es) lt all = (let least = all.0 in let key = e.0 in grind (arith, nat_tests, least, lt), from_above id n es lt all.1)
 
-module _ (slots : List Slot) (up : AreInOrder slots) (id : ℕ) where
-  -- the comparisons with an id rise along the ids, as a binary search asks
-  comparisons_rise : IsNonDecreasingBy (λ s. ordering_index (nat_cmp s.0 id)) slots
-  comparisons_rise i j d le lt =
-      let below : i < j → nat_cmp (get_or (keys_of slots) i d.0) (get_or (keys_of slots) j d.0) ≡ Less = λ apart. Less-from_sorted nat_cmp (keys_of slots) i j d.0 up apart (omega (arith, length-keys_of slots)) in
-      let one : get_or (keys_of slots) i d.0 ≡ (get_or slots i d).0 = get_or-map (λ (s : Slot). s.0) slots i d d.0 (omega arith) in
-      let other : get_or (keys_of slots) j d.0 ≡ (get_or slots j d).0 = get_or-map (λ (s : Slot). s.0) slots j d d.0 lt in
-      let same : i ≡ j → (get_or slots i d).0 ≡ (get_or slots j d).0 = λ (e : i ≡ j). ap (λ (k : ℕ). (get_or slots k d).0) e in
-      grind (arith, nat_tests, below, one, other, same)
+-- an entry before others whose ids are at least its own
+from_with : (id : ℕ) (o : Option Entry) (es : List (ℕ × Entry)) → AreFrom id es → AreFrom id (with_place id o es)
+from_with id None es all = all
+from_with id (Some entry) es all = (omega arith, all)
 
-  -- a binary search by id ends at its place, or where it is missing
-  pub searched : (r : Result ℕ ℕ) → IsSearchInRange r (length slots) → IsBinarySearchResult (λ s. nat_cmp s.0 id) slots r → record { found : IfOk r (IsAt id slots); missing : IfErr r (IsGapFor id slots) }
-  searched (Ok place) within equal = record { found = here (at_place slots place within); missing = tt }
-    where
-      here : (s : Slot) × (slice_get slots place ≡ Some s) → IsAt id slots place
-      here (s, at) =
-          let same : s.0 ≡ id = ap (λ (x : Slot). x.0) (sym (get_or_from_slice_get slots place s s at)) ∙ ranked _ id _ (sym (equal s)) in
-          (s.1, at ∙ ap (λ (k : ℕ). Some (k, s.1)) same)
-  searched (Err place) within parted = record {
-    found = tt;
-    missing = record {
-      within = within;
-      smaller_before = λ k s lt at. subst (λ (x : Slot). x.0 < id) (get_or_from_slice_get slots k s s at) (ranked _ id _ (sym ((parted comparisons_rise).0 k s (omega arith) lt)));
-      greater_after = λ k s le at.
-          subst (λ (x : Slot). id < x.0) (get_or_from_slice_get slots k s s at) (ranked _ id _ (sym ((parted comparisons_rise).1 k s le (slice_get_within slots k s at))));
-    };
-  }
+-- the ids of places are at least the first, and so are those behind, by induction on the places
+places_from : (id : ℕ) (places : List (Option Entry)) (others : List (ℕ × Entry)) → AreFrom (id + length places) others → AreFrom id (entries_from id places others)
+places_from id [] others all = from_lower id (id + 0) others (omega arith) all
+places_from id (p ∷ places) others all =
+    from_with id p (entries_from (suc id) places others)
+    (from_lower id (suc id) (entries_from (suc id) places others) (omega arith) (places_from (suc id) places others (from_lower (suc id + length places) (id + suc (length places)) others (omega arith) all)))
 
--- what is read at a place, where it has the id
-pub read_at : (id : ℕ) (slots : List Slot) (place : ℕ) (s : Slot) → place < length slots → s ≡ get_or slots place s → s.0 ≡ id → IsAt id slots place
-read_at id slots place s within read same = (s.1, slice_get-get_or slots place s within ∙ ap (λ (x : Slot). Some x) (sym read) ∙ ap (λ (k : ℕ). Some (k, s.1)) same)
-
--- behind the first slot, an id is missing one place lower
-gap_behind : (id : ℕ) (s : Slot) (slots : List Slot) (place : ℕ) → IsGapFor id (s ∷ slots) (suc place) → IsGapFor id slots place
-gap_behind id s slots place gap = record {
-  within = let le = gap.within in omega (arith, le);
-  smaller_before = λ k f lt at. gap.smaller_before (suc k) f (omega arith) at;
-  greater_after = λ k f le at. gap.greater_after (suc k) f (omega arith) at;
-}
-
--- what holds of each id holds of that at a place
-id_at : (P : ℕ → Type 0) (slots : List Slot) (place : ℕ) (s : Slot) → AllByRecursion P (keys_of slots) → slice_get slots place ≡ Some s → P s.0
-id_at P [] place s all at = absurd (cc)
-id_at P (f ∷ slots) zero s all at = let same : f ≡ s = cc in subst (λ (x : Slot). P x.0) same all.0
-id_at P (f ∷ slots) (suc place) s all at = id_at P slots place s all.1 at
-
--- what holds of each id holds of those with entries
-all_live : (P : ℕ → Type 0) (slots : List Slot) → AllByRecursion P (keys_of slots) → AllByRecursion P (keys_of (live slots))
-all_live P [] all = tt
-all_live P ((n, None) ∷ slots) all = all_live P slots all.1
-all_live P ((n, Some entry) ∷ slots) all = (all.0, all_live P slots all.1)
-
--- the ids with entries ascend, by induction on the slots
-pub live_ordered : (slots : List Slot) → AreInOrder slots → AreOrdered (live slots)
-unfolding IsStrictlySortedBy
-live_ordered [] up = tt
-live_ordered ((n, None) ∷ slots) up = live_ordered slots up.1
-live_ordered ((n, Some entry) ∷ slots) up = (all_live (λ m. nat_cmp n m ≡ Less) slots up.0, live_ordered slots up.1)
+-- behind the first place all ids are greater
+above_first : (id base : ℕ) (p : Option Entry) (places : List (Option Entry)) (others : List (ℕ × Entry)) → id ≡ base → AreFrom (base + length (p ∷ places)) others → AreAbove id (keys_of (entries_from (suc base) places others))
+above_first id base p places others same all =
+    from_above id (suc base) (entries_from (suc base) places others) (omega (arith, same))
+    (places_from (suc base) places others (from_lower (suc base + length places) (base + suc (length places)) others (omega arith) all))
 
 -- where all ids are greater than one, that has no entry
 none_above : (id : ℕ) (es : List (ℕ × Entry)) → AreAbove id (keys_of es) → entry_of id es ≡ None
@@ -113,190 +68,282 @@ none_above id (e ∷ es) all =
     let other : is_at (nat_cmp id) e.0 ≡ false = grind (arith, nat_tests) in
     ap (λ (b : Bool). cond b (Some e.1) (entry_of id es)) other ∙ none_above id es all.1
 
--- a slot of another id changes nothing of what is found
-other_slot : (id n : ℕ) (o : Option Entry) (es : List (ℕ × Entry)) → is_at (nat_cmp id) n ≡ false → entry_of id (with_slot n o es) ≡ entry_of id es
-other_slot id n None es other = refl
-other_slot id n (Some entry) es other = ap (λ (b : Bool). cond b (Some entry) (entry_of id es)) other
+-- the entry of the first place
+first_found : (id n : ℕ) (o : Option Entry) (es : List (ℕ × Entry)) → id ≡ n → AreAbove id (keys_of es) → entry_of id (with_place n o es) ≡ o
+first_found id n None es same above = none_above id es above
+first_found id n (Some entry) es same above = ap (λ (b : Bool). cond b (Some entry) (entry_of id es)) (found_here id n same)
 
--- the entry of an id is that at its place, by induction on the slots
-pub live_at : (id : ℕ) (slots : List Slot) (place : ℕ) (o : Option Entry) → AreInOrder slots → slice_get slots place ≡ Some (id, o) → entry_of id (live slots) ≡ o
-unfolding IsStrictlySortedBy
-live_at id [] place o up at = absurd (cc)
-live_at id (s ∷ slots) zero o up at =
-    let same : s ≡ (id, o) = cc in
-    let above : AreAbove id (keys_of slots) = subst (λ (x : Slot). AreAbove x.0 (keys_of slots)) same up.0 in
-    ap (λ (x : Slot). entry_of id (with_slot x.0 x.1 (live slots))) same ∙ go o (all_live (λ m. nat_cmp id m ≡ Less) slots above)
-  where
-    go : (p : Option Entry) → AreAbove id (keys_of (live slots)) → entry_of id (with_slot id p (live slots)) ≡ p
-    go None above = none_above id (live slots) above
-    go (Some entry) above = let here : is_at (nat_cmp id) id ≡ true = grind (arith, nat_tests) in ap (λ (b : Bool). cond b (Some entry) (entry_of id (live slots))) here
-live_at id (s ∷ slots) (suc place) o up at =
-    let above : nat_cmp s.0 id ≡ Less = id_at (λ k. nat_cmp s.0 k ≡ Less) slots place (id, o) up.0 at in
-    let other : is_at (nat_cmp id) s.0 ≡ false = grind (arith, nat_tests) in
-    other_slot id s.0 s.1 (live slots) other ∙ live_at id slots place o up.1 at
+-- a smaller id changes nothing of what is found
+smaller_before : (id n : ℕ) (o : Option Entry) (es : List (ℕ × Entry)) → n < id → entry_of id (with_place n o es) ≡ entry_of id es
+smaller_before id n None es less = refl
+smaller_before id n (Some entry) es less = ap (λ (b : Bool). cond b (Some entry) (entry_of id es)) (not_found id n less)
 
--- an id that is missing has no entry, by induction on the slots
-pub live_missing : (id : ℕ) (slots : List Slot) (place : ℕ) → IsGapFor id slots place → entry_of id (live slots) ≡ None
-live_missing id slots place gap = go slots each
-  where
-    each : (k : ℕ) (s : Slot) → slice_get slots k ≡ Some s → is_at (nat_cmp id) s.0 ≡ false
-    each k s at = beside (by_place k)
-      where
-        by_place : (k : ℕ) → (k < place) ⊎ (place ≤ k)
-        by_place k = elim (cases_Bool (nat_lt k place)) [ inl lt ↦ inl (grind (arith, nat_tests)) | inr ge ↦ inr (grind (arith, nat_tests)) ]
+-- the entry of an id that names a place stands there, by induction on the places
+pub dense_found : (id base : ℕ) (places : List (Option Entry)) (others : List (ℕ × Entry)) (place : ℕ) (o : Option Entry) → id ≡ base + place → slice_get places place ≡ Some o → AreFrom (base + length places) others → entry_of id (entries_from base places others) ≡ o
+dense_found id base [] others place o is at all = absurd (cc)
+dense_found id base (p ∷ places) others zero o is at all =
+    let same : p ≡ o = cc in
+    first_found id base p (entries_from (suc base) places others) (omega (arith, is)) (above_first id base p places others (omega (arith, is)) all) ∙ same
+dense_found id base (p ∷ places) others (suc place) o is at all =
+    smaller_before id base p (entries_from (suc base) places others) (omega (arith, is))
+    ∙ dense_found id (suc base) places others place o (omega (arith, is)) at (from_lower (suc base + length places) (base + suc (length places)) others (omega arith) all)
 
-        beside : (k < place) ⊎ (place ≤ k) → is_at (nat_cmp id) s.0 ≡ false
-        beside (inl before) = let lt = gap.smaller_before k s before at in grind (arith, nat_tests)
-        beside (inr from) = let lt = gap.greater_after k s from at in grind (arith, nat_tests)
-
-    go : (ss : List Slot) → ((k : ℕ) (s : Slot) → slice_get ss k ≡ Some s → is_at (nat_cmp id) s.0 ≡ false) → entry_of id (live ss) ≡ None
-    go [] others = refl
-    go (s ∷ ss) others = other_slot id s.0 s.1 (live ss) (others 0 s refl) ∙ go ss (λ k f at. others (suc k) f at)
-
--- where an id has no entry, none is taken out, by induction on the entries
-pub none_taken_out : (id : ℕ) (es : List (ℕ × Entry)) → entry_of id es ≡ None → remove_entry (is_at (nat_cmp id)) es ≡ es
-none_taken_out id [] none = refl
-none_taken_out id (e ∷ es) none = go (is_at (nat_cmp id) e.0) refl none (none_taken_out id es)
-  where
-    go : (b : Bool) → is_at (nat_cmp id) e.0 ≡ b → cond b (Some e.1) (entry_of id es) ≡ None → (entry_of id es ≡ None → remove_entry (is_at (nat_cmp id)) es ≡ es)
-        → cond b es (e ∷ remove_entry (is_at (nat_cmp id)) es) ≡ e ∷ es
-    go true is none rest = absurd (cc)
-    go false is none rest = ap (λ (fs : List (ℕ × Entry)). e ∷ fs) (rest none)
-
--- an entry is taken out where it stands, by induction on the slots
-pub live_taken : (id : ℕ) (slots : List Slot) (place : ℕ) (o : Option Entry) → AreInOrder slots → slice_get slots place ≡ Some (id, o) → live (set slots place (id, None)) ≡ remove_entry (is_at (nat_cmp id)) (live slots)
-unfolding IsStrictlySortedBy
-live_taken id [] place o up at = absurd (cc)
-live_taken id (s ∷ slots) zero o up at =
-    let same : s ≡ (id, o) = cc in
-    let above : AreAbove id (keys_of slots) = subst (λ (x : Slot). AreAbove x.0 (keys_of slots)) same up.0 in
-    go o (all_live (λ m. nat_cmp id m ≡ Less) slots above) ∙ ap (λ (x : Slot). remove_entry (is_at (nat_cmp id)) (with_slot x.0 x.1 (live slots))) (sym same)
-  where
-    go : (p : Option Entry) → AreAbove id (keys_of (live slots)) → live slots ≡ remove_entry (is_at (nat_cmp id)) (with_slot id p (live slots))
-    go None above = sym (none_taken_out id (live slots) (none_above id (live slots) above))
-    go (Some entry) above =
-        let here : is_at (nat_cmp id) id ≡ true = grind (arith, nat_tests) in
-        ap (λ (b : Bool). cond b (live slots) ((id, entry) ∷ remove_entry (is_at (nat_cmp id)) (live slots))) (sym here)
-live_taken id ((n, o2) ∷ slots) (suc place) o up at =
-    let above : nat_cmp n id ≡ Less = id_at (λ k. nat_cmp n k ≡ Less) slots place (id, o) up.0 at in
-    let other : is_at (nat_cmp id) n ≡ false = grind (arith, nat_tests) in
-    ap (with_slot n o2) (live_taken id slots place o up.1 at) ∙ go o2 other
-  where
-    go : (p : Option Entry) → is_at (nat_cmp id) n ≡ false → with_slot n p (remove_entry (is_at (nat_cmp id)) (live slots)) ≡ remove_entry (is_at (nat_cmp id)) (with_slot n p (live slots))
-    go None other = refl
-    go (Some entry) other = ap (λ (b : Bool). cond b (live slots) ((n, entry) ∷ remove_entry (is_at (nat_cmp id)) (live slots))) (sym other)
+-- that of any other id from the places on stands behind them, by induction on the places
+pub sparse_found : (id base : ℕ) (places : List (Option Entry)) (others : List (ℕ × Entry)) → base + length places ≤ id → entry_of id (entries_from base places others) ≡ entry_of id others
+sparse_found id base [] others le = refl
+sparse_found id base (p ∷ places) others le = smaller_before id base p (entries_from (suc base) places others) (omega (arith, le)) ∙ sparse_found id (suc base) places others (omega (arith, le))
 
 -- an entry that is put before greater ids stands first
-put_first : (id : ℕ) (entry : Entry) (es : List (ℕ × Entry)) → AreAbove id (keys_of es) → (id, entry) ∷ es ≡ insert_entry nat_cmp es id entry
-put_first id entry [] above = refl
-put_first id entry (e ∷ es) above = ap (λ (o : Ordering). match_ordering o ((id, entry) ∷ e ∷ es) ((e.0, entry) ∷ es) (e ∷ insert_entry nat_cmp es id entry)) (sym above.0)
+put_first : (id n : ℕ) (entry : Entry) (es : List (ℕ × Entry)) → id ≡ n → AreAbove id (keys_of es) → (n, entry) ∷ es ≡ insert_entry nat_cmp es id entry
+put_first id n entry [] same above = ap (λ (k : ℕ). (k, entry) ∷ []) (sym same)
+put_first id n entry (e ∷ es) same above =
+    ap (λ (k : ℕ). (k, entry) ∷ e ∷ es) (sym same) ∙ ap (λ (o : Ordering). match_ordering o ((id, entry) ∷ e ∷ es) ((e.0, entry) ∷ es) (e ∷ insert_entry nat_cmp es id entry)) (sym above.0)
 
--- an entry is put where its id stands without one, by induction on the slots
-pub live_put : (id : ℕ) (entry : Entry) (slots : List Slot) (place : ℕ) → AreInOrder slots → slice_get slots place ≡ Some (id, None) → live (set slots place (id, Some entry)) ≡ insert_entry nat_cmp (live slots) id entry
-unfolding IsStrictlySortedBy
-live_put id entry [] place up at = absurd (cc)
-live_put id entry (s ∷ slots) zero up at =
-    let same : s ≡ (id, None) = cc in
-    let above : AreAbove id (keys_of slots) = subst (λ (x : Slot). AreAbove x.0 (keys_of slots)) same up.0 in
-    put_first id entry (live slots) (all_live (λ m. nat_cmp id m ≡ Less) slots above) ∙ ap (λ (x : Slot). insert_entry nat_cmp (with_slot x.0 x.1 (live slots)) id entry) (sym same)
-live_put id entry ((n, o2) ∷ slots) (suc place) up at =
-    let above : nat_cmp n id ≡ Less = id_at (λ k. nat_cmp n k ≡ Less) slots place (id, None) up.0 at in
-    ap (with_slot n o2) (live_put id entry slots place up.1 at) ∙ go o2 (turned n id above)
+-- and behind a smaller id it is put among the rest
+put_behind : (id n : ℕ) (o : Option Entry) (entry : Entry) (es : List (ℕ × Entry)) → n < id → with_place n o (insert_entry nat_cmp es id entry) ≡ insert_entry nat_cmp (with_place n o es) id entry
+put_behind id n None entry es less = refl
+put_behind id n (Some first) entry es less =
+    let greater : nat_cmp id n ≡ Greater = grind (arith, nat_tests) in
+    ap (λ (o : Ordering). match_ordering o ((id, entry) ∷ (n, first) ∷ es) ((n, entry) ∷ es) ((n, first) ∷ insert_entry nat_cmp es id entry)) (sym greater)
+
+-- an entry is put at the place of its id, which has none, by induction on the places
+pub dense_put : (id base : ℕ) (places : List (Option Entry)) (others : List (ℕ × Entry)) (place : ℕ) (entry : Entry)
+    → id ≡ base + place → place < length places → AreFrom (base + length places) others → entry_of id (entries_from base places others) ≡ None
+    → entries_from base (set places place (Some entry)) others ≡ insert_entry nat_cmp (entries_from base places others) id entry
+dense_put id base [] others place entry is lt all none = absurd (omega arith)
+dense_put id base (p ∷ places) others zero entry is lt all none = go p (sym (first_found id base p (entries_from (suc base) places others) (omega (arith, is)) above) ∙ none)
   where
-    go : (p : Option Entry) → nat_cmp id n ≡ Greater → with_slot n p (insert_entry nat_cmp (live slots) id entry) ≡ insert_entry nat_cmp (with_slot n p (live slots)) id entry
-    go None greater = refl
-    go (Some other) greater = ap (λ (o : Ordering). match_ordering o ((id, entry) ∷ (n, other) ∷ live slots) ((n, entry) ∷ live slots) ((n, other) ∷ insert_entry nat_cmp (live slots) id entry)) (sym greater)
+    above : AreAbove id (keys_of (entries_from (suc base) places others))
+    above = above_first id base p places others (omega (arith, is)) all
 
--- an id without an entry changes no entries
-pub live_gap : (id : ℕ) (slots : List Slot) (place : ℕ) → live (insert slots place (id, None)) ≡ live slots
-live_gap id [] zero = refl
-live_gap id [] (suc place) = refl
-live_gap id (s ∷ slots) zero = refl
-live_gap id (s ∷ slots) (suc place) = ap (with_slot s.0 s.1) (live_gap id slots place)
+    go : (o : Option Entry) → o ≡ None → (base, entry) ∷ entries_from (suc base) places others ≡ insert_entry nat_cmp (with_place base o (entries_from (suc base) places others)) id entry
+    go None bare = put_first id base entry (entries_from (suc base) places others) (omega (arith, is)) above
+    go (Some old) bare = absurd (cc)
+dense_put id base (p ∷ places) others (suc place) entry is lt all none =
+    let rest = sym (smaller_before id base p (entries_from (suc base) places others) (omega (arith, is))) ∙ none in
+    ap (with_place base p) (dense_put id (suc base) places others place entry (omega (arith, is)) (omega arith) (from_lower (suc base + length places) (base + suc (length places)) others (omega arith) all) rest)
+    ∙ put_behind id base p entry (entries_from (suc base) places others) (omega (arith, is))
 
--- the ids are the same where the slot of one changes
-pub in_order_set : (id : ℕ) (slots : List Slot) (place : ℕ) (o new : Option Entry) → slice_get slots place ≡ Some (id, o) → AreInOrder slots → AreInOrder (set slots place (id, new))
-in_order_set id slots place o new at up = subst (IsStrictlySortedBy nat_cmp) (sym (go slots place at)) up
+-- or at one more place, by induction on the places
+pub dense_pushed : (id base : ℕ) (places : List (Option Entry)) (others : List (ℕ × Entry)) (entry : Entry) → id ≡ base + length places → AreFrom (suc id) others
+    → entries_from base (places ++ Some entry ∷ []) others ≡ insert_entry nat_cmp (entries_from base places others) id entry
+dense_pushed id base [] others entry is all = put_first id base entry others (omega (arith, is)) (from_above id (suc id) others (omega arith) all)
+dense_pushed id base (p ∷ places) others entry is all =
+    ap (with_place base p) (dense_pushed id (suc base) places others entry (omega (arith, is)) all) ∙ put_behind id base p entry (entries_from (suc base) places others) (omega (arith, is))
+
+-- or behind the places, by induction on these
+pub sparse_put : (id base : ℕ) (places : List (Option Entry)) (others : List (ℕ × Entry)) (entry : Entry) → base + length places ≤ id
+    → entries_from base places (insert_entry nat_cmp others id entry) ≡ insert_entry nat_cmp (entries_from base places others) id entry
+sparse_put id base [] others entry le = refl
+sparse_put id base (p ∷ places) others entry le =
+    ap (with_place base p) (sparse_put id (suc base) places others entry (omega (arith, le))) ∙ put_behind id base p entry (entries_from (suc base) places others) (omega (arith, le))
+
+-- where all ids are greater, none is taken out
+none_taken_out : (id : ℕ) (es : List (ℕ × Entry)) → AreAbove id (keys_of es) → remove_entry (is_at (nat_cmp id)) es ≡ es
+none_taken_out id [] all = refl
+none_taken_out id (e ∷ es) all =
+    let less = all.0 in
+    let other : is_at (nat_cmp id) e.0 ≡ false = grind (arith, nat_tests) in
+    ap (λ (b : Bool). cond b es (e ∷ remove_entry (is_at (nat_cmp id)) es)) other ∙ ap (λ (fs : List (ℕ × Entry)). e ∷ fs) (none_taken_out id es all.1)
+
+-- and behind a smaller id it is taken out of the rest
+taken_behind : (id n : ℕ) (o : Option Entry) (es : List (ℕ × Entry)) → n < id → with_place n o (remove_entry (is_at (nat_cmp id)) es) ≡ remove_entry (is_at (nat_cmp id)) (with_place n o es)
+taken_behind id n None es less = refl
+taken_behind id n (Some entry) es less = ap (λ (b : Bool). cond b es ((n, entry) ∷ remove_entry (is_at (nat_cmp id)) es)) (sym (not_found id n less))
+
+-- an entry is taken out of the place of its id, by induction on the places
+pub dense_taken : (id base : ℕ) (places : List (Option Entry)) (others : List (ℕ × Entry)) (place : ℕ) → id ≡ base + place → place < length places → AreFrom (base + length places) others
+    → entries_from base (set places place None) others ≡ remove_entry (is_at (nat_cmp id)) (entries_from base places others)
+dense_taken id base [] others place is lt all = absurd (omega arith)
+dense_taken id base (p ∷ places) others zero is lt all = go p
   where
-    go : (ss : List Slot) (k : ℕ) → slice_get ss k ≡ Some (id, o) → keys_of (set ss k (id, new)) ≡ keys_of ss
-    go [] k at = absurd (cc)
-    go (s ∷ ss) zero at = let same : s ≡ (id, o) = cc in ap (λ (x : Slot). x.0 ∷ keys_of ss) (sym same)
-    go (s ∷ ss) (suc k) at = ap (λ (ns : List ℕ). s.0 ∷ ns) (go ss k at)
+    go : (o : Option Entry) → entries_from (suc base) places others ≡ remove_entry (is_at (nat_cmp id)) (with_place base o (entries_from (suc base) places others))
+    go None = sym (none_taken_out id (entries_from (suc base) places others) (above_first id base p places others (omega (arith, is)) all))
+    go (Some entry) =
+        ap (λ (b : Bool). cond b (entries_from (suc base) places others) ((base, entry) ∷ remove_entry (is_at (nat_cmp id)) (entries_from (suc base) places others))) (sym (found_here id base (omega (arith, is))))
+dense_taken id base (p ∷ places) others (suc place) is lt all =
+    ap (with_place base p) (dense_taken id (suc base) places others place (omega (arith, is)) (omega arith) (from_lower (suc base + length places) (base + suc (length places)) others (omega arith) all))
+    ∙ taken_behind id base p (entries_from (suc base) places others) (omega (arith, is))
 
--- a number that is below another is below the ids behind it, where it is put between
-below_inserted : (x id : ℕ) (o : Option Entry) (slots : List Slot) (place : ℕ) → nat_cmp x id ≡ Less → AreAbove x (keys_of slots) → AreAbove x (keys_of (insert slots place (id, o)))
-below_inserted x id o [] zero less all = (less, tt)
-below_inserted x id o [] (suc place) less all = (less, tt)
-below_inserted x id o (s ∷ slots) zero less all = (less, all)
-below_inserted x id o (s ∷ slots) (suc place) less all = (all.0, below_inserted x id o slots place less all.1)
+-- or of the others, by induction on the places
+pub sparse_taken : (id base : ℕ) (places : List (Option Entry)) (others : List (ℕ × Entry)) → base + length places ≤ id
+    → entries_from base places (remove_entry (is_at (nat_cmp id)) others) ≡ remove_entry (is_at (nat_cmp id)) (entries_from base places others)
+sparse_taken id base [] others le = refl
+sparse_taken id base (p ∷ places) others le =
+    ap (with_place base p) (sparse_taken id (suc base) places others (omega (arith, le))) ∙ taken_behind id base p (entries_from (suc base) places others) (omega (arith, le))
 
--- the ids ascend with one more where it is missing, by induction on the slots
-pub in_order_inserted : (id : ℕ) (o : Option Entry) (slots : List Slot) (place : ℕ) → IsGapFor id slots place → AreInOrder slots → AreInOrder (insert slots place (id, o))
+-- an entry that is taken out of a place counts one less
+pub one_less : (places : List (Option Entry)) (place : ℕ) (o : Option Entry) → slice_get places place ≡ Some o → count_filled (set places place None) + cond (is_some o) 1 0 ≡ count_filled places
+one_less [] place o at = absurd (cc)
+one_less (p ∷ places) zero o at = go p (cc)
+  where
+    go : (q : Option Entry) → q ≡ o → count_filled places + cond (is_some o) 1 0 ≡ count_filled (q ∷ places)
+    go None same = let none : is_some o ≡ false = ap is_some (sym same) in ap (λ (b : Bool). count_filled places + cond b 1 0) none ∙ omega arith
+    go (Some entry) same = let some : is_some o ≡ true = ap is_some (sym same) in ap (λ (b : Bool). count_filled places + cond b 1 0) some
+one_less (None ∷ places) (suc place) o at = one_less places place o at
+one_less (Some entry ∷ places) (suc place) o at = let rest = one_less places place o at in omega (arith, rest)
+
+-- one that is put at a place without an entry counts one more
+pub one_more : (places : List (Option Entry)) (place : ℕ) (entry : Entry) → slice_get places place ≡ Some None → count_filled (set places place (Some entry)) ≡ count_filled places + 1
+one_more [] place entry at = absurd (cc)
+one_more (None ∷ places) zero entry at = refl
+one_more (Some old ∷ places) zero entry at = absurd (cc)
+one_more (None ∷ places) (suc place) entry at = one_more places place entry at
+one_more (Some old ∷ places) (suc place) entry at = let rest = one_more places place entry at in omega (arith, rest)
+
+-- and so does one at one more place
+pub one_pushed : (places : List (Option Entry)) (entry : Entry) → count_filled (places ++ Some entry ∷ []) ≡ count_filled places + 1
+one_pushed [] entry = refl
+one_pushed (None ∷ places) entry = one_pushed places entry
+one_pushed (Some old ∷ places) entry = let rest = one_pushed places entry in omega (arith, rest)
+
+-- no more places have entries than there are
+pub filled_at_most : (places : List (Option Entry)) → count_filled places ≤ length places
+filled_at_most [] = omega arith
+filled_at_most (None ∷ places) = let rest = filled_at_most places in omega (arith, rest)
+filled_at_most (Some entry ∷ places) = let rest = filled_at_most places in omega (arith, rest)
+
+-- there are no entries exactly where no place has one, and none is behind
+pub nothing : (base : ℕ) (places : List (Option Entry)) (others : List (ℕ × Entry)) → entries_from base places others ≡ [] → (count_filled places ≡ 0) × (others ≡ [])
+nothing base [] others none = (refl, none)
+nothing base (None ∷ places) others none = nothing (suc base) places others none
+nothing base (Some entry ∷ places) others none = absurd (cc)
+
+pub only_others : (base : ℕ) (places : List (Option Entry)) (others : List (ℕ × Entry)) → count_filled places ≡ 0 → entries_from base places others ≡ others
+only_others base [] others none = refl
+only_others base (None ∷ places) others none = only_others (suc base) places others none
+only_others base (Some entry ∷ places) others none = absurd (omega arith)
+
+-- the ids of all ascend, by induction on the places
+pub all_ordered : (base : ℕ) (places : List (Option Entry)) (others : List (ℕ × Entry)) → AreFrom (base + length places) others → AreOrdered others → AreOrdered (entries_from base places others)
 unfolding IsStrictlySortedBy
-in_order_inserted id o [] zero gap up = (tt, tt)
-in_order_inserted id o [] (suc place) gap up = absurd (let le = gap.within in omega (arith, le))
-in_order_inserted id o (s ∷ slots) zero gap up =
-    let less = less_id id s.0 (gap.greater_after 0 s (omega arith) refl) in ((less, above_lesser id s.0 (keys_of slots) less up.0), up)
-in_order_inserted id o (s ∷ slots) (suc place) gap up =
-    let less = less_id s.0 id (gap.smaller_before 0 s (omega arith) refl) in
-    (below_inserted s.0 id o slots place less up.0, in_order_inserted id o slots place (gap_behind id s slots place gap) up.1)
+all_ordered base [] others all up = up
+all_ordered base (p ∷ places) others all up = go p (all_ordered (suc base) places others (from_lower (suc base + length places) (base + suc (length places)) others (omega arith) all) up)
+  where
+    go : (o : Option Entry) → AreOrdered (entries_from (suc base) places others) → AreOrdered (with_place base o (entries_from (suc base) places others))
+    go None rest = rest
+    go (Some entry) rest = (above_first base base p places others refl all, rest)
 
--- no ids are in order
-pub none_in_order : AreInOrder []
-unfolding IsStrictlySortedBy
-none_in_order = tt
+-- the first place names 0
+pub from_first : (places : List (Option Entry)) (filled : ℕ) (others : List (ℕ × Entry)) → AreBehind places filled others → AreFrom (0 + length places) others
+from_first places filled others behind = from_lower (0 + length places) (length places) others (omega arith) behind.from
 
--- an id may have been put where it is missing
-pub maybe_in_order : (b : Bool) (id : ℕ) (slots new : List Slot) (place : ℕ) → new ≡ cond b (insert slots place (id, None)) slots → IsGapFor id slots place → AreInOrder slots → AreInOrder new
-maybe_in_order true id slots new place is gap up = subst AreInOrder (sym is) (in_order_inserted id None slots place gap up)
-maybe_in_order false id slots new place is gap up = subst AreInOrder (sym is) up
+pub behind_ordered : (places : List (Option Entry)) (filled : ℕ) (others : List (ℕ × Entry)) → AreBehind places filled others → AreOrdered (entries_from 0 places others)
+behind_ordered places filled others behind = all_ordered 0 places others (from_first places filled others behind) behind.ordered
 
-pub maybe_live : (b : Bool) (id : ℕ) (slots new : List Slot) (place : ℕ) → new ≡ cond b (insert slots place (id, None)) slots → live new ≡ live slots
-maybe_live true id slots new place is = ap live is ∙ live_gap id slots place
-maybe_live false id slots new place is = ap live is
+-- ids that are at least one which has no entry are greater
+apart_from : (id : ℕ) (es : List (ℕ × Entry)) → AreFrom id es → entry_of id es ≡ None → AreFrom (suc id) es
+apart_from id [] all none = tt
+apart_from id (e ∷ es) all none = go (is_at (nat_cmp id) e.0) refl none (λ rest. apart_from id es all.1 rest)
+  where
+    go : (b : Bool) → is_at (nat_cmp id) e.0 ≡ b → cond b (Some e.1) (entry_of id es) ≡ None → (entry_of id es ≡ None → AreFrom (suc id) es) → AreFrom (suc id) (e ∷ es)
+    go true is none rest = absurd (cc)
+    go false is none rest = (let least = all.0 in let key = e.0 in grind (arith, nat_tests, least, is), rest none)
 
-module _ (id : ℕ) (slots : List Slot) (place : ℕ) (s : Slot) (up : AreInOrder slots) (here : IsAt id slots place) (read : s ≡ get_or slots place s) where
-  -- what is read where an id stands is its slot
-  same_slot : s ≡ (id, here.0)
-  same_slot = read ∙ get_or_from_slice_get slots place (id, here.0) s here.1
+-- others are greater than the id of one more place, which has no entry yet
+pub next_apart : (id : ℕ) (places : List (Option Entry)) (filled : ℕ) (others : List (ℕ × Entry)) → id ≡ length places → entry_of id (entries_from 0 places others) ≡ None → AreBehind places filled others → AreFrom (suc id) others
+next_apart id places filled others is none behind =
+    apart_from id others (from_lower id (length places) others (omega (arith, is)) behind.from) (sym (sparse_found id 0 places others (omega (arith, is))) ∙ none)
 
-  same_id : s.0 ≡ id
-  same_id = ap (λ (x : Slot). x.0) same_slot
+-- the place of an id without an entry is empty
+pub bare_place : (id : ℕ) (places : List (Option Entry)) (filled : ℕ) (others : List (ℕ × Entry)) (o : Option Entry) → slice_get places id ≡ Some o → entry_of id (entries_from 0 places others) ≡ None → AreBehind places filled others → slice_get places id ≡ Some None
+bare_place id places filled others o at none behind =
+    at ∙ ap (λ (x : Option Entry). Some x) (sym (dense_found id 0 places others id o (omega arith) at (from_first places filled others behind)) ∙ none)
 
-  pub read_live : s.1 ≡ entry_of id (live slots)
-  read_live = ap (λ (x : Slot). x.1) same_slot ∙ sym (live_at id slots place here.0 up here.1)
+-- an entry at a place keeps the others behind
+pub set_behind : (id : ℕ) (places : List (Option Entry)) (filled : ℕ) (entry : Entry) (others : List (ℕ × Entry)) → slice_get places id ≡ Some None → AreBehind places filled others → AreBehind (set places id (Some entry)) (filled + 1) others
+set_behind id places filled entry others at behind =
+    let same = length-set places id (Some entry) in
+    let more = one_more places id entry at in
+    let all = behind.counted in
+    record { counted = omega (arith, all, more); from = from_lower (length (set places id (Some entry))) (length places) others (omega (arith, same)) behind.from; ordered = behind.ordered }
 
-  pub set_in_order : (new : Option Entry) → AreInOrder (set slots place (s.0, new))
-  set_in_order new = subst (λ (n : ℕ). AreInOrder (set slots place (n, new))) (sym same_id) (in_order_set id slots place here.0 new here.1 up)
+-- one more fits among the places
+pub room_for_one : (id : ℕ) (places : List (Option Entry)) (filled : ℕ) (others : List (ℕ × Entry)) (entry : Entry) → slice_get places id ≡ Some None → AreBehind places filled others → filled + 1 ≤ length places
+room_for_one id places filled others entry at behind =
+    let most = filled_at_most (set places id (Some entry)) in
+    let same = length-set places id (Some entry) in
+    let more = one_more places id entry at in
+    let all = behind.counted in
+    omega (arith, most, same, more, all)
 
-  pub set_live : (entry : Entry) → entry_of id (live slots) ≡ None → live (set slots place (s.0, Some entry)) ≡ insert_entry nat_cmp (live slots) id entry
-  set_live entry none =
-      let bare : here.0 ≡ None = sym (live_at id slots place here.0 up here.1) ∙ none in
-      ap (λ (n : ℕ). live (set slots place (n, Some entry))) same_id ∙ live_put id entry slots place up (here.1 ∙ ap (λ (o : Option Entry). Some (id, o)) bare)
+-- where a place has an entry, one at least does
+pub one_at_least : (id : ℕ) (places : List (Option Entry)) (filled : ℕ) (others : List (ℕ × Entry)) (o : Option Entry) → slice_get places id ≡ Some o → is_some o ≡ true → AreBehind places filled others → 1 ≤ filled
+one_at_least id places filled others o at some behind =
+    let fewer : count_filled (set places id None) + 1 ≡ count_filled places = sym (ap (λ (b : Bool). count_filled (set places id None) + cond b 1 0) some) ∙ one_less places id o at in
+    let all = behind.counted in
+    omega (arith, fewer, all)
 
-  pub unset_live : live (set slots place (s.0, None)) ≡ remove_entry (is_at (nat_cmp id)) (live slots)
-  unset_live = ap (λ (n : ℕ). live (set slots place (n, None))) same_id ∙ live_taken id slots place here.0 up here.1
+-- a place without an entry keeps the others behind
+unset_behind : (id : ℕ) (places : List (Option Entry)) (filled new : ℕ) (others : List (ℕ × Entry)) → new ≡ count_filled (set places id None) → AreBehind places filled others → AreBehind (set places id None) new others
+unset_behind id places filled new others counts behind =
+    let same = length-set places id None in
+    record { counted = counts; from = from_lower (length (set places id None)) (length places) others (omega (arith, same)) behind.from; ordered = behind.ordered }
 
--- whether a slot has an entry
-abbrev pub has_entry : Slot → Bool
-has_entry s = is_some s.1
+-- so does one that had an entry
+pub unset_some : (id : ℕ) (places : List (Option Entry)) (filled : ℕ) (others : List (ℕ × Entry)) (o p : Option Entry) → slice_get places id ≡ Some o → is_some o ≡ true → p ≡ None → AreBehind places filled others → AreBehind (set places id p) (filled - 1) others
+unset_some id places filled others o p at some bare behind =
+    let fewer : count_filled (set places id None) + 1 ≡ count_filled places = sym (ap (λ (b : Bool). count_filled (set places id None) + cond b 1 0) some) ∙ one_less places id o at in
+    let all = behind.counted in
+    subst (λ (x : Option Entry). AreBehind (set places id x) (filled - 1) others) (sym bare) (unset_behind id places filled (filled - 1) others (omega (arith, fewer, all)) behind)
 
--- ids without entries are let go, and no entry is
-pub live_swept : (slots : List Slot) → live (filter has_entry slots) ≡ live slots
-live_swept [] = refl
-live_swept ((n, None) ∷ slots) = live_swept slots
-live_swept ((n, Some entry) ∷ slots) = ap (with_slot n (Some entry)) (live_swept slots)
+-- or had none
+pub unset_none : (id : ℕ) (places : List (Option Entry)) (filled : ℕ) (others : List (ℕ × Entry)) (o p : Option Entry) → slice_get places id ≡ Some o → is_some o ≡ false → p ≡ None → AreBehind places filled others → AreBehind (set places id p) filled others
+unset_none id places filled others o p at none bare behind =
+    let as_many : count_filled (set places id None) + 0 ≡ count_filled places = sym (ap (λ (b : Bool). count_filled (set places id None) + cond b 1 0) none) ∙ one_less places id o at in
+    let all = behind.counted in
+    subst (λ (x : Option Entry). AreBehind (set places id x) filled others) (sym bare) (unset_behind id places filled filled others (omega (arith, as_many, all)) behind)
 
-above_swept : (x : ℕ) (slots : List Slot) → AreAbove x (keys_of slots) → AreAbove x (keys_of (filter has_entry slots))
-above_swept x [] all = tt
-above_swept x ((n, None) ∷ slots) all = above_swept x slots all.1
-above_swept x ((n, Some entry) ∷ slots) all = (all.0, above_swept x slots all.1)
+-- the entry of a place is taken out, and no other
+pub dense_out : (id : ℕ) (places : List (Option Entry)) (filled : ℕ) (others now : List (ℕ × Entry)) (o p : Option Entry) → slice_get places id ≡ Some o → p ≡ None → id < length places → AreBehind places filled others → entries_from 0 places others ≡ now
+    → (o ≡ entry_of id now) × (entries_from 0 (set places id p) others ≡ remove_entry (is_at (nat_cmp id)) now)
+dense_out id places filled others now o p at bare within behind view = (
+  sym (dense_found id 0 places others id o (omega arith) at (from_first places filled others behind)) ∙ ap (entry_of id) view,
+  ap (λ (x : Option Entry). entries_from 0 (set places id x) others) bare ∙ dense_taken id 0 places others id (omega arith) within (from_first places filled others behind) ∙ ap (remove_entry (is_at (nat_cmp id))) view,
+)
 
-pub in_order_swept : (slots : List Slot) → AreInOrder slots → AreInOrder (filter has_entry slots)
-unfolding IsStrictlySortedBy
-in_order_swept [] up = tt
-in_order_swept ((n, None) ∷ slots) up = in_order_swept slots up.1
-in_order_swept ((n, Some entry) ∷ slots) up = (above_swept n slots up.0, in_order_swept slots up.1)
+-- where there is no length, there are no others
+pub no_others : (others : List (ℕ × Entry)) → length others ≡ 0 → others ≡ []
+no_others [] none = refl
+no_others (e ∷ es) none = absurd (omega arith)
+
+-- and one more place
+pub pushed_behind : (id : ℕ) (places new : List (Option Entry)) (filled : ℕ) (entry : Entry) (others : List (ℕ × Entry)) → new ≡ places ++ Some entry ∷ [] → id ≡ length places → AreFrom (suc id) others → AreBehind places filled others → AreBehind new (filled + 1) others
+pushed_behind id places new filled entry others put is apart behind =
+    let longer : length new ≡ length places + 1 = ap (λ (ps : List (Option Entry)). length ps) put ∙ length-append places (Some entry ∷ []) in
+    let more : count_filled new ≡ count_filled places + 1 = ap count_filled put ∙ one_pushed places entry in
+    let all = behind.counted in
+    record { counted = omega (arith, all, more); from = from_lower (length new) (suc id) others (omega (arith, is, longer)) apart; ordered = behind.ordered }
+
+-- an entry with no smaller an id may come to the others
+pub from_put : (base id : ℕ) (entry : Entry) (es : List (ℕ × Entry)) → base ≤ id → AreFrom base es → AreFrom base (insert_entry nat_cmp es id entry)
+from_put base id entry [] le all = (le, tt)
+from_put base id entry (e ∷ es) le all = go (nat_cmp id e.0) (from_put base id entry es le all.1)
+  where
+    go : (o : Ordering) → AreFrom base (insert_entry nat_cmp es id entry) → AreFrom base (match_ordering o ((id, entry) ∷ e ∷ es) ((e.0, entry) ∷ es) (e ∷ insert_entry nat_cmp es id entry))
+    go Less rest = (le, all)
+    go Equal rest = (all.0, all.1)
+    go Greater rest = (all.0, rest)
+
+-- and any may leave them
+pub from_taken : (base id : ℕ) (es : List (ℕ × Entry)) → AreFrom base es → AreFrom base (remove_entry (is_at (nat_cmp id)) es)
+from_taken base id [] all = tt
+from_taken base id (e ∷ es) all = go (is_at (nat_cmp id) e.0) (from_taken base id es all.1)
+  where
+    go : (b : Bool) → AreFrom base (remove_entry (is_at (nat_cmp id)) es) → AreFrom base (cond b es (e ∷ remove_entry (is_at (nat_cmp id)) es))
+    go true rest = all.1
+    go false rest = (all.0, rest)
+
+-- the others stay behind the places
+pub put_behind_all : (id : ℕ) (entry : Entry) (places : List (Option Entry)) (filled : ℕ) (others new : List (ℕ × Entry)) → new ≡ insert_entry nat_cmp others id entry → length places ≤ id → AreOrdered new → AreBehind places filled others → AreBehind places filled new
+put_behind_all id entry places filled others new put le up behind = record { counted = behind.counted; from = subst (AreFrom (length places)) (sym put) (from_put (length places) id entry others le behind.from); ordered = up }
+
+pub taken_behind_all : (id : ℕ) (places : List (Option Entry)) (filled : ℕ) (others new : List (ℕ × Entry)) → new ≡ remove_entry (is_at (nat_cmp id)) others → AreOrdered new → AreBehind places filled others → AreBehind places filled new
+taken_behind_all id places filled others new out up behind = record { counted = behind.counted; from = subst (AreFrom (length places)) (sym out) (from_taken (length places) id others behind.from); ordered = up }
+
+-- what is read at a place stands there
+pub read_place : (places : List (Option Entry)) (place : ℕ) (o : Option Entry) → place < length places → o ≡ get_or places place o → slice_get places place ≡ Some o
+read_place places place o within read = slice_get-get_or places place o within ∙ ap (λ (x : Option Entry). Some x) (sym read)
 
 -- what is looked at in place is there where its copy is
 pub copied_some : (o : Option (Bor Entry)) → is_some (option_copied o) ≡ is_some o

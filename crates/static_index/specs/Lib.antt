@@ -10,8 +10,8 @@ pub mod Ids
 pub mod Laws
 pub mod Limits
 pub mod Narrowing
+pub mod Places
 pub mod Ranges
-pub mod Slots
 pub mod Spans
 pub mod Table
 pub mod Tables

@@ -1,29 +1,30 @@
 //! What an index keeps of its conditions, by id.
-ghost use Rattle.std.specs.Prelude.{◌≡◌, [], None, IsTrue, IfErr, IfOk, IfSome, OnErr, OnOk, is_some};
+ghost use Rattle.std.specs.Prelude.{◌≡◌, ◌↔◌, ◌++◌, [], ◌∷◌, None, Some, IsTrue, IfErr, OnErr, OnOk};
 ghost use Rattle.std.specs.BTreeMap.{insert_entry, is_at};
 ghost use Rattle.std.specs.Map.{remove_entry};
 ghost use Rattle.std.specs.Option.{option_copied};
 ghost use Rattle.std.specs.Ordering.{nat_cmp};
 ghost use Rattle.static_index.specs.Entries.{AreOrdered, entry_of};
-ghost use Rattle.static_index.specs.Slots.{AreInOrder, IsAt, IsGapFor, live};
 
 use crate::entry::Entry;
 use std::alloc::Global;
+use std::collections::BTreeMap;
 use std::marker::Model;
 
-// The entries by ascending ids. An id whose entry left may keep its place. Where the ids are those from 0 on, each stands
-// at the place that it names.
+// The entries by ascending ids. An id below the number of places has its entry at the place that it names, and every
+// other in the map. A place stays as its entry leaves, since the id comes again.
 #[derive(Drop)]
 pub(crate) struct Entries {
-    held: Vec<Slot>,
-    // How many ids have no entry, or more.
-    gone: usize,
+    dense: Vec<Place>,
+    // How many places have an entry.
+    filled: usize,
+    sparse: BTreeMap<usize, Entry>,
 }
 
-// An id, and its entry if it has one.
-type Slot = (usize, Option<Entry>);
+// The entry of the id that names the place, if it has one.
+type Place = Option<Entry>;
 
-const _: () = prove!(size_of::<Slot>() == 80);
+const _: () = prove!(size_of::<Place>() == 72);
 
 impl Model for Entries {
     ghost use Rattle.std.specs.Prelude.{ℕ, List};
@@ -31,11 +32,11 @@ impl Model for Entries {
 
     ghost Value = { List (ℕ × Entry) };
 
-    ghost use Rattle.static_index.specs.Slots.{AreInOrder, live};
+    ghost use Rattle.static_index.specs.Places.{AreBehind, entries_from};
 
-    ghost view = { λ s. live s.held.items };
+    ghost view = { λ s. entries_from 0 s.dense.items s.sparse.entries };
 
-    ghost invariant = { λ s. AreInOrder s.held.items };
+    ghost invariant = { λ s. AreBehind s.dense.items s.filled s.sparse.entries };
 }
 
 impl Entries {
@@ -45,25 +46,27 @@ impl Entries {
         ensures ordered { AreOrdered result }
     {
         Entries {
-            held: Vec::new(alloc),
-            gone: 0,
+            dense: Vec::new(alloc),
+            filled: 0,
+            sparse: BTreeMap::new(alloc),
         }
     }
 
-    // Whether there is no id, not even one whose entry left.
+    // Whether there is no entry.
     pub(crate) fn is_empty(&self) -> bool
-        ensures { IsTrue result → self.now ≡ [] }
+        ensures { IsTrue result ↔ (self.now ≡ []) }
     {
-        self.held.is_empty()
+        self.filled == 0 && self.sparse.is_empty()
     }
 
     // The entry of an id, if there is one.
     pub(crate) fn get(&self, id: usize) -> Option<&Entry>
         ensures { option_copied result ≡ entry_of id self.now }
     {
-        match place_of(&self.held, id) {
-            Ok(place) => self.held[place].1.as_ref(),
-            Err(_) => None,
+        if id < self.dense.len() {
+            self.dense[id].as_ref()
+        } else {
+            self.sparse.get(&id)
         }
     }
 
@@ -75,12 +78,23 @@ impl Entries {
         ensures kept { OnErr result (self.new ≡ self.old) }
         ensures handed_back { IfErr result (λ back. back ≡ entry) }
     {
-        match make_place(&mut self.held, id) {
-            Some(place) => {
-                self.held[place].1 = Some(entry);
-                Ok(())
-            }
-            None => Err(entry),
+        if id < self.dense.len() {
+            self.dense[id] = Some(entry);
+            self.filled += 1;
+            return Ok(());
+        }
+        if id == self.dense.len() {
+            return match push_place(&mut self.dense, entry) {
+                Ok(()) => {
+                    self.filled += 1;
+                    Ok(())
+                }
+                Err(back) => Err(back),
+            };
+        }
+        match self.sparse.insert(id, entry) {
+            Ok(_) => Ok(()),
+            Err(refused) => Err(refused.value.1),
         }
     }
 
@@ -90,65 +104,27 @@ impl Entries {
         ensures ordered { AreOrdered self.new }
         ensures others { self.new ≡ remove_entry (is_at (nat_cmp id)) self.old }
     {
-        match place_of(&self.held, id) {
-            Ok(place) => {
-                let entry = self.held[place].1.take();
-                self.count_gone();
-                entry
+        if id < self.dense.len() {
+            let entry = self.dense[id].take();
+            if entry.is_some() {
+                self.filled -= 1;
             }
-            Err(_) => None,
-        }
-    }
-
-    // Counts one id more that has no entry, and lets go of all of these once they are more than half.
-    fn count_gone(&mut self)
-        ensures { self.new ≡ self.old }
-    {
-        self.gone = self.gone.saturating_add(1);
-        if self.held.len() / 2 < self.gone {
-            sweep(&mut self.held);
-            self.gone = 0;
+            entry
+        } else {
+            self.sparse.remove(&id)
         }
     }
 }
 
-// The place of an id, or the one where it is missing.
-fn place_of(held: &Vec<Slot>, id: usize) -> Result<usize, usize>
-    requires { AreInOrder held.now.items }
-    ensures found { IfOk result (IsAt id held.now.items) }
-    ensures missing { IfErr result (IsGapFor id held.now.items) }
+// Puts an entry at one more place. Want of memory hands it back.
+fn push_place(dense: &mut Vec<Place>, entry: Entry) -> Result<(), Entry>
+    ensures ok { OnOk result (dense.new.items ≡ dense.old.items ++ Some entry ∷ []) }
+    ensures kept { OnErr result (dense.new.items ≡ dense.old.items) }
+    ensures handed_back { IfErr result (λ back. back ≡ entry) }
 {
-    if id < held.len() && held[id].0 == id {
-        return Ok(id);
+    if dense.reserve(1).is_err() {
+        return Err(entry);
     }
-    held.binary_search_by_key(&id, |slot| slot.0)
-}
-
-// The place of an id, which is put there without an entry where it is missing; none after want of memory.
-fn make_place(held: &mut Vec<Slot>, id: usize) -> Option<usize>
-    requires { AreInOrder held.old.items }
-    ensures at { IfSome result (IsAt id held.new.items) }
-    ensures ordered { AreInOrder held.new.items }
-    ensures same { live held.new.items ≡ live held.old.items }
-{
-    match place_of(held, id) {
-        Ok(place) => Some(place),
-        Err(place) => match held.insert(place, (id, None)) {
-            Ok(()) => Some(place),
-            Err(_) => None,
-        },
-    }
-}
-
-// Lets go of the ids that have no entry. Takes no memory.
-fn sweep(held: &mut Vec<Slot>)
-    requires { AreInOrder held.old.items }
-    ensures ordered { AreInOrder held.new.items }
-    ensures same { live held.new.items ≡ live held.old.items }
-{
-    held.retain(
-        |slot: &Slot| -> bool
-            ensures { result ≡ is_some slot.now.1 }
-        { slot.1.is_some() },
-    );
+    dense.push_reserved(Some(entry));
+    Ok(())
 }
