@@ -7,7 +7,8 @@ use Rattle.event_types.proofs.NumberLemmas.{other_number, same_number}
 use Rattle.event_types.specs.declared.value.Value.{Value}
 use Rattle.binding_index.specs.Leads.{Entries, Leads}
 use Rattle.binding_index.specs.declared.store.Store.{Store}
-use Rattle.stream_readers.specs.KeyTables.{AreTidied, IsNoted, IsSwept, KeyTable, LeadSame, entries_at}
+use Rattle.stream_readers.specs.KeyTables.{AreTidied, IsNoted, KeyTable, LeadSame, entries_at}
+use Rattle.stream_readers.specs.Sweeping.{IsSwept}
 use Rattle.stream_readers.proofs.OnceLemmas.{none_in}
 
 -- a number is below another or not

@@ -13,7 +13,7 @@ use Rattle.automaton.specs.declared.wait.Wait.{Wait}
 use Rattle.binding_index.specs.Leads.{Entries, Leads, states_at}
 use Rattle.static_index.specs.FixedParts.{all_hold}
 use Rattle.stream_readers.specs.KeyTables.{KeyTable, entries_at}
-use Rattle.stream_readers.specs.Leading.{is_keyed, lead_key_at}
+use Rattle.stream_readers.specs.Leading.{is_at, is_keyed, lead_key_at}
 use Rattle.stream_readers.specs.Targets.{IsTarget, way_of}
 use Rattle.stream_readers.specs.Ways.{Back, Into, MeetsParts, Out, Way, is_state_looked_up, parts_at, ways_at}
 use Rattle.stream_readers.specs.declared.target.Target.{Target}
@@ -75,13 +75,17 @@ pub record FindsPlain (net : Net) (stream : ℕ) (tuple : TupleView) (found : Li
   pub deaf : All (IsDeaf net tuple) others
   pub looked_up : All (λ number. is_state_looked_up net tuple number ≡ true) found
 
--- the states to which the value of a tuple at an attribute leads, and whose fixed parts all hold for the tuple
-abbrev pub led_at : Net → List Entries → TupleView → ℕ → List ℕ
-led_at net columns tuple attribute = filter (λ number. all_hold tuple (parts_at net number)) (states_at (slice_index_or columns attribute []) (value_at tuple attribute))
+-- whether a state waits on a stream, its fixed parts all hold for a tuple, and it is found by its key at an attribute
+abbrev pub is_found_by : Net → ℕ → TupleView → ℕ → ℕ → Bool
+is_found_by net stream tuple attribute number = is_wait_on net stream number && all_hold tuple (parts_at net number) && is_at attribute (lead_key_at net number)
+
+-- the states to which the value of a tuple of a stream at an attribute leads, and which are found so
+abbrev pub led_at : Net → ℕ → List Entries → TupleView → ℕ → List ℕ
+led_at net stream columns tuple attribute = filter (is_found_by net stream tuple attribute) (states_at (slice_index_or columns attribute []) (value_at tuple attribute))
 
 -- the same of the first so many attributes
-abbrev pub led_by : Net → List Entries → TupleView → ℕ → List ℕ
-led_by net columns tuple attributes = flat_map (led_at net columns tuple) (range_with_len 0 attributes)
+abbrev pub led_by : Net → ℕ → List Entries → TupleView → ℕ → List ℕ
+led_by net stream columns tuple attributes = flat_map (led_at net stream columns tuple) (range_with_len 0 attributes)
 
 -- the value of a tuple at each of the first so many attributes leads to no state twice
 abbrev pub LeadOnce : List Entries → TupleView → ℕ → Type 0

@@ -1,5 +1,5 @@
 -- By which key a waiting state is found.
-use Rattle.std.specs.Prelude.{ℕ, Bool, false, true, if◌then◌else◌, List, Option, Some, None, is_some}
+use Rattle.std.specs.Prelude.{ℕ, ◌==◌, Bool, false, true, if◌then◌else◌, List, Option, Some, None, is_some}
 use Rattle.std.specs.List.{list_any}
 use Rattle.event_types.specs.declared.comparison.Cmp.TheVariants as cmp
 use Rattle.semantics.specs.Scalars.{Pr}
@@ -27,6 +27,11 @@ lead_key_in (Some wait) = lead_key wait.choose
 -- the same of the state with a number
 abbrev pub lead_key_at : Net → ℕ → Option Key
 lead_key_at net number = lead_key_in (wait_at net number)
+
+-- whether there is a key, and it stands at this attribute of the event
+abbrev pub is_at : ℕ → Option Key → Bool
+is_at attribute None = false
+is_at attribute (Some key) = key.event == attribute
 
 -- whether a state is found by a key
 abbrev pub is_keyed : Net → ℕ → Bool

@@ -8,5 +8,6 @@ pub mod Making
 pub mod Naming
 pub mod Places
 pub mod Readers
+pub mod Sweeping
 pub mod Targets
 pub mod Ways

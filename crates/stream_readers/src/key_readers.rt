@@ -1,18 +1,16 @@
 //! The waiting states that a tuple finds by a key.
-ghost use Rattle.std.specs.Prelude.{◌≡◌, ◌<◌, ◌++◌, ◌∷◌, [], ℕ, All, IsTrue, OnErr, OnOk, filter, length, min, slice_index_or};
-ghost use Rattle.event_types.specs.declared.value.Value.{Value};
-ghost use Rattle.binding_index.specs.Leads.{Leads};
-ghost use Rattle.automaton.specs.States.{is_used};
-ghost use Rattle.static_index.specs.FixedParts.{all_hold};
-ghost use Rattle.stream_readers.specs.Finding.{FindsKeyed, LeadOnce, led_by};
-ghost use Rattle.stream_readers.specs.KeyTables.{AreSwept, AreTidied, IsNoted, LeadSame, LeadsFit};
-ghost use Rattle.stream_readers.specs.Ways.{parts_at};
+ghost use Rattle.std.specs.Prelude.{◌≡◌, ◌<◌, ◌++◌, ◌∷◌, [], ℕ, OnErr, OnOk, filter, length, min, slice_index_or};
+ghost use Rattle.stream_readers.specs.Finding.{FindsKeyed, LeadOnce, is_found_by, led_by};
+ghost use Rattle.stream_readers.specs.KeyTables.{AreTidied, IsNoted, LeadSame};
+ghost use Rattle.stream_readers.specs.Leading.{is_at, lead_key as lead_key_of};
 
+use crate::leading::lead_key;
 use crate::readers::Found;
 use crate::sweeping::sweep_all;
 use automaton::Network;
 use binding_index::{Directory, Store};
 use event_types::{List, Memory, Numbers, StreamId, Tuple, Value};
+use scalar_expr::Conj;
 use static_index::fixed_hold;
 use std::alloc::Global;
 use std::marker::Model;
@@ -25,7 +23,8 @@ pub(crate) type Directories = List<Directory>;
 
 /// For each stream and each attribute of its tuples, the states that wait on the stream and whose stores may
 /// have a binding with a key that a tuple has there. `tidy` forgets a key once no store to which it leads is
-/// ready for it, though not at once.
+/// ready for it, though not at once: until then it may lead to the number of a state that left, even where
+/// another state has that number since.
 #[derive(Drop)]
 pub struct KeyReaders {
     alloc: Global,
@@ -56,7 +55,8 @@ impl KeyReaders {
         }
     }
 
-    /// Puts the states to which the tuple leads, and which may match it, behind those that were found.
+    /// Puts the states to which the tuple leads, and which may match it, behind those that were found. A number that
+    /// no state has is passed over, and so is a state that isn't found by its key at this attribute of this stream.
     pub fn find(
         &self,
         network: &Network,
@@ -64,13 +64,12 @@ impl KeyReaders {
         tuple: &Tuple,
         found: &mut Found,
     ) -> Result<(), Memory>
-        requires { LeadsFit network.now self.now }
         ensures waits { OnOk result (FindsKeyed network.now self.now stream tuple.now found.old.waits found.new.waits) }
         ensures targets { found.new.targets ≡ found.old.targets }
     {
         if stream < self.streams.len() {
             let directories = self.streams.get(stream);
-            add_led(network, directories, tuple, &mut found.waits)?;
+            add_led(network, stream, directories, tuple, &mut found.waits)?;
         }
         Ok(())
     }
@@ -103,80 +102,98 @@ impl KeyReaders {
         ensures { AreTidied stores.now self.old self.new }
     {
         if self.came > self.most {
-            self.sweep(stores);
+            let left = sweep_all(&mut self.streams, stores);
+            self.came = 0;
+            self.most = left.saturating_mul(MOST_CAME);
         }
-    }
-
-    /// Lets no key lead to a state whose store isn't ready for it. Takes no memory.
-    pub fn sweep(&mut self, stores: &[Option<Store>])
-        ensures { AreSwept stores.now self.old self.new }
-    {
-        let left = sweep_all(&mut self.streams, stores);
-        self.came = 0;
-        self.most = left.saturating_mul(MOST_CAME);
     }
 }
 
-// Puts the states to which the values of the tuple lead, and whose fixed parts all hold for it, behind others.
+// Puts the states to which the values of the tuple lead, and which may match it, behind others.
 fn add_led(
     network: &Network,
+    stream: StreamId,
     directories: &Directories,
     tuple: &Tuple,
     waits: &mut Numbers,
 ) -> Result<(), Memory>
-    requires { (attribute : ℕ) (key : Value) (number : ℕ) → Leads (slice_index_or directories.now attribute []) key number → IsTrue (is_used network.now number) }
-    ensures led { OnOk result (waits.new ≡ waits.old ++ led_by network.now directories.now tuple.now (min (length directories.now) (length tuple.now.vals))) }
+    ensures led { OnOk result (waits.new ≡ waits.old ++ led_by network.now stream directories.now tuple.now (min (length directories.now) (length tuple.now.vals))) }
     ensures once { OnOk result (LeadOnce directories.now tuple.now (min (length directories.now) (length tuple.now.vals))) }
 {
     let attributes = directories.len().min(tuple.vals().len());
     for attribute in 0..attributes {
         let states = directories.get(attribute).find(tuple.vals().get(attribute));
-        add_met(network, states, tuple, waits)?;
+        add_met(network, stream, attribute, states, tuple, waits)?;
     }
     Ok(())
 }
 
-// Puts those of these states whose fixed parts all hold for the tuple behind others.
+// Puts those of these states that are found at an attribute, and may match the tuple, behind others.
 fn add_met(
     network: &Network,
+    stream: StreamId,
+    attribute: usize,
     states: &[usize],
     tuple: &Tuple,
     waits: &mut Numbers,
 ) -> Result<(), Memory>
-    requires { All (λ state. IsTrue (is_used network.now state)) states.now }
-    ensures { OnOk result (waits.new ≡ waits.old ++ filter (λ state. all_hold tuple.now (parts_at network.now state)) states.now) }
+    ensures { OnOk result (waits.new ≡ waits.old ++ filter (is_found_by network.now stream tuple.now attribute) states.now) }
 {
     for state in states {
-        add_if_met(network, *state, tuple, waits)?;
+        add_if_met(network, stream, attribute, *state, tuple, waits)?;
     }
     Ok(())
 }
 
-// Puts a state behind others, if its fixed parts all hold for the tuple.
+// Puts a state behind others, if it is found at an attribute, and may match the tuple.
 fn add_if_met(
     network: &Network,
+    stream: StreamId,
+    attribute: usize,
     state: usize,
     tuple: &Tuple,
     waits: &mut Numbers,
 ) -> Result<(), Memory>
-    requires { IsTrue (is_used network.now state) }
-    ensures { OnOk result (waits.new ≡ waits.old ++ filter (λ state. all_hold tuple.now (parts_at network.now state)) (state ∷ [])) }
+    ensures { OnOk result (waits.new ≡ waits.old ++ filter (is_found_by network.now stream tuple.now attribute) (state ∷ [])) }
 {
-    if is_met(network, state, tuple) {
+    if is_met(network, stream, attribute, state, tuple) {
         waits.add(state)
     } else {
         Ok(())
     }
 }
 
-// Whether the fixed parts of a state's condition all hold for the tuple.
-fn is_met(network: &Network, state: usize, tuple: &Tuple) -> bool
-    requires { IsTrue (is_used network.now state) }
-    ensures { result ≡ all_hold tuple.now (parts_at network.now state) }
+// Whether a state has this number, waits on the stream and is found by its key at the attribute, and the fixed parts of
+// its condition all hold for the tuple. The key is asked last, since that goes over the parts again.
+fn is_met(
+    network: &Network,
+    stream: StreamId,
+    attribute: usize,
+    state: usize,
+    tuple: &Tuple,
+) -> bool
+    ensures { result ≡ is_found_by network.now stream tuple.now attribute state }
 {
+    if state >= network.places() || !network.used(state) {
+        return false;
+    }
     match network.wait(state) {
-        Some(wait) => fixed_hold(&wait.choose, tuple),
-        None => true,
+        Some(wait) => {
+            wait.stream == stream
+                && fixed_hold(&wait.choose, tuple)
+                && is_found_at(&wait.choose, attribute)
+        }
+        None => false,
+    }
+}
+
+// Whether the key by which a state that waits by a condition is found stands at this attribute.
+fn is_found_at(choose: &Conj, attribute: usize) -> bool
+    ensures { result ≡ is_at attribute (lead_key_of choose.now) }
+{
+    match lead_key(choose) {
+        Some(key) => key.event == attribute,
+        None => false,
     }
 }
 

@@ -1,6 +1,7 @@
 //! Directories are swept.
 ghost use Rattle.std.specs.Prelude.{ℕ, [], slice_index_or};
-ghost use Rattle.stream_readers.specs.KeyTables.{IsSwept, entries_at};
+ghost use Rattle.stream_readers.specs.KeyTables.{entries_at};
+ghost use Rattle.stream_readers.specs.Sweeping.{IsSwept};
 
 use crate::key_readers::Directories;
 use binding_index::Store;

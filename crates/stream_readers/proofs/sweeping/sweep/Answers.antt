@@ -1,7 +1,7 @@
 use Rattle.std.proofs.Common.{sym, subst, [], arith}
 use Rattle.std.proofs.lemmas.Option.{get_or_from_slice_get}
 use Rattle.binding_index.specs.Leads.{Entries}
-use Rattle.stream_readers.specs.KeyTables.{IsSwept}
+use Rattle.stream_readers.specs.Sweeping.{IsSwept}
 use Rattle.stream_readers.proofs.KeyTableLemmas.{changed_all, changed_more, changed_none, swept_none}
 use Rattle.stream_readers.proofs.sweeping.sweep.Goals as goal
 

@@ -1,5 +1,5 @@
 use Rattle.std.proofs.Common.{[]}
-use Rattle.stream_readers.specs.KeyTables.{IsSwept}
+use Rattle.stream_readers.specs.Sweeping.{IsSwept}
 use Rattle.stream_readers.proofs.KeyTableLemmas.{ChangedBelow}
 use Rattle.stream_readers.proofs.sweeping.sweep.Given as goal
 

@@ -3,7 +3,7 @@ use Rattle.std.specs.Prelude.{Option}
 use Rattle.std.proofs.lemmas.Option.{get_or_from_slice_get}
 use Rattle.binding_index.specs.Leads.{Entries}
 use Rattle.binding_index.specs.declared.store.Store.{Store}
-use Rattle.stream_readers.specs.KeyTables.{IsSwept}
+use Rattle.stream_readers.specs.Sweeping.{IsSwept}
 use Rattle.stream_readers.proofs.KeyTableLemmas.{changed_all, changed_more, changed_none, swept_none}
 use Rattle.stream_readers.proofs.sweeping.sweep_all.Goals as goal
 

@@ -1,6 +1,6 @@
 use Rattle.std.proofs.Common.{ℕ, [], get_or, List}
 use Rattle.binding_index.specs.Leads.{Entries}
-use Rattle.stream_readers.specs.KeyTables.{IsSwept}
+use Rattle.stream_readers.specs.Sweeping.{IsSwept}
 use Rattle.stream_readers.proofs.KeyTableLemmas.{ChangedBelow}
 use Rattle.stream_readers.proofs.sweeping.sweep_all.Given as goal
 
