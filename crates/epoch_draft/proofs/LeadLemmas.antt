@@ -22,10 +22,10 @@ use Rattle.binding_index.specs.Leads.{Entries, Leads, ready_in}
 use Rattle.binding_index.specs.declared.key.KeyPart.{KeyPart}
 use Rattle.binding_index.specs.declared.store.Store.{Store}
 use Rattle.binding_index.proofs.EqualityLemmas.{key_decides}
-use Rattle.stream_readers.specs.KeyTables.{IsFoundAt, IsNoted, KeyTable, LeadOn, LeadSame, LeadsFit, entries_at}
+use Rattle.stream_readers.specs.KeyTables.{IsNoted, KeyTable, LeadOn, LeadSame, entries_at}
 use Rattle.stream_readers.specs.Leading.{lead_key, lead_key_in}
 use Rattle.epoch_draft.specs.Held.{instances_in, key_in, shape_of}
-use Rattle.epoch_draft.specs.Led.{AreLed, AreReadyIn, HasKeyOf, LeadBy, LeadMore, LeadTo}
+use Rattle.epoch_draft.specs.Led.{AreLed, AreReadyIn, HasKeyOf, LeadBy, LeadTo}
 use Rattle.epoch_draft.specs.Readying.{HasReadyAt, HasRoom}
 use Rattle.epoch_draft.specs.Stores.{HasStores}
 use Rattle.epoch_draft.proofs.KeyLemmas.{key_at}
@@ -34,22 +34,21 @@ use Rattle.epoch_draft.proofs.Lists.{some_is}
 use Rattle.epoch_draft.proofs.StoreLemmas.{key_shape}
 
 -- no key comes to lead anywhere
-pub more_none : (net : Net) (keys : KeyTable) → LeadMore net keys keys
-more_none net keys = record { kept = λ stream attribute key number leads. leads; fit = λ fit. fit }
+pub on_none : (keys : KeyTable) → LeadOn keys keys
+on_none keys stream attribute key number leads = leads
 
 -- where keys lead just where they led, none comes to lead anywhere
-pub more_same : (net : Net) (old new : KeyTable) → LeadSame old new → LeadMore net old new
-more_same net old new same = record {
-  kept = λ stream attribute key number leads. subst (λ (es : Entries). Leads es key number) (sym (same stream attribute)) leads;
-  fit = λ fit stream attribute key state leads. fit stream attribute key state (subst (λ (es : Entries). Leads es key state) (same stream attribute) leads);
-}
+on_same : (old new : KeyTable) → LeadSame old new → LeadOn old new
+on_same old new same stream attribute key number leads = subst (λ (es : Entries). Leads es key number) (sym (same stream attribute)) leads
 
 -- keys that came to lead one after another
-pub leads_trans : (net : Net) (old mid new : KeyTable) → LeadMore net old mid → LeadMore net mid new → LeadMore net old new
-leads_trans net old mid new one two = record {
-  kept = λ stream attribute key number leads. two.kept stream attribute key number (one.kept stream attribute key number leads);
-  fit = λ fit. two.fit (one.fit fit);
-}
+pub on_trans : (old mid new : KeyTable) → LeadOn old mid → LeadOn mid new → LeadOn old new
+on_trans old mid new one two stream attribute key number leads = two stream attribute key number (one stream attribute key number leads)
+
+-- keys lead on, whether there was memory for one more or not
+pub noted_on : {T E : Type 0} (stream attribute : ℕ) (key : Value) (state : ℕ) (old new : KeyTable) (r : Result T E) → OnOk r (IsNoted stream attribute key state old new) → OnErr r (LeadSame old new) → LeadOn old new
+noted_on stream attribute key state old new (Ok x) noted same = noted.kept
+noted_on stream attribute key state old new (Err e) noted same = on_same old new same
 
 -- what led to the state still does
 pub by_kept : (net : Net) (n : ℕ) (old new : KeyTable) (ready : List Value) → LeadOn old new → LeadBy net old n ready → LeadBy net new n ready
@@ -78,20 +77,6 @@ module _ (net : Net) (n : ℕ) (w : Wait) (part : KeyPart) (value : Value) (at :
       subst (λ (k : Key). Leads (entries_at new other.stream k.event) value n) (some_is (key_of_part part) key (sym by ∙ ap (λ (x : Wait). lead_key x.choose) same ∙ found)) one in
       All-cons (λ (v : Value). Leads (entries_at new other.stream key.event) v n) value [] all (All-nil (λ (v : Value). Leads (entries_at new other.stream key.event) v n))
 
-  -- it alone comes to lead anywhere
-  more_noted : IsNoted w.stream part.event value n old new → LeadMore net old new
-  more_noted noted = record { kept = noted.kept; fit = λ fit stream attribute other state leads. go fit stream attribute other state (noted.only stream attribute other state leads) }
-    where
-      go : LeadsFit net old → (stream attribute : ℕ) (other : Value) (state : ℕ) → Leads (entries_at old stream attribute) other state ⊎ ((w.stream ≡ stream) × (part.event ≡ attribute) × (value ≡ other) × (n ≡ state))
-          → IsFoundAt net stream attribute state
-      go fit stream attribute other state (inl leads) = fit stream attribute other state leads
-      go fit stream attribute other state (inr this) = record { wait = w; waits = subst (λ (m : ℕ). wait_at net m ≡ Some w) this.3 at; on = this.0; key = key_of_part part; by = by; at = this.1 }
-
-  -- whether there was memory for it or not
-  pub noted_more : {T E : Type 0} (r : Result T E) → OnOk r (IsNoted w.stream part.event value n old new) → OnErr r (LeadSame old new) → LeadMore net old new
-  noted_more (Ok x) noted same = more_noted noted
-  noted_more (Err e) noted same = more_same net old new same
-
 -- where the key of a binding is ready, there is room for it
 pub room_by_ready : (found : Key) (key : Option Key) (ready : List Value) (binding : TupleView) (value : Value) → key ≡ Some found → value_at binding found.binding ≡ value → is_among value ready ≡ true → IsKeyReady key ready binding
 room_by_ready found key ready binding value of is among =
@@ -115,10 +100,9 @@ lead_has net n stores has key is = go (wait_at net n) refl
     go (Some w) at = key_at net stores n w has at ∙ lead_is_first w.choose key (ap lead_key_in (sym at) ∙ is)
 
 -- more keys are ready in one store, and lead to its state
-pub led_more : (net : Net) (old new : KeyTable) (stores : List (Option Store)) (n : ℕ) (slot : Option Store) → n < length stores → LeadMore net old new → LeadBy net new n (ready_in slot) → All (Contains (ready_in slot)) (ready_in (get_or stores n None)) → shape_of slot ≡ shape_of (get_or stores n None) → instances_in slot ≡ instances_in (get_or stores n None) → AreLed net old stores
+pub led_more : (net : Net) (old new : KeyTable) (stores : List (Option Store)) (n : ℕ) (slot : Option Store) → n < length stores → LeadOn old new → LeadBy net new n (ready_in slot) → All (Contains (ready_in slot)) (ready_in (get_or stores n None)) → shape_of slot ≡ shape_of (get_or stores n None) → instances_in slot ≡ instances_in (get_or stores n None) → AreLed net old stores
     → AreLed net new (set stores n slot)
 led_more net old new stores n slot below more by ready shape instances led = record {
-  fit = more.fit led.fit;
   led = λ m. leads m (are_same_or_not m n);
   ready = λ m. readies m (are_same_or_not m n);
 }
@@ -131,7 +115,7 @@ led_more net old new stores n slot below more by ready shape instances led = rec
 
     leads : (m : ℕ) → (m ≡ n) ⊎ (m ≡ n → ⊥) → LeadTo net new m (get_or (set stores n slot) m None)
     leads m (inl same) = subst (LeadTo net new m) (sym (here m same)) (subst (λ (k : ℕ). LeadTo net new k slot) (sym same) by)
-    leads m (inr other) = subst (LeadTo net new m) (sym (there m other)) (by_kept net m old new (ready_in (get_or stores m None)) more.kept (led.led m))
+    leads m (inr other) = subst (LeadTo net new m) (sym (there m other)) (by_kept net m old new (ready_in (get_or stores m None)) more (led.led m))
 
     one : AreReadyIn slot
     one =

@@ -33,7 +33,7 @@ use Rattle.epoch_draft.specs.Readying.{HasRoom, HaveRoom}
 use Rattle.epoch_draft.specs.Settling.{AreLinked, AreTaken, listed_tuples}
 use Rattle.epoch_draft.specs.Stores.{AreNewStores}
 use Rattle.epoch_draft.specs.declared.draft.Pair.{Pair}
-use Rattle.epoch_draft.proofs.Lists.{contains_or_not, none_in}
+use Rattle.epoch_draft.proofs.Lists.{contains_or_not}
 
 -- a store as it was
 pub stays_same : (slot : Option Store) → StaysReady slot slot
@@ -139,7 +139,6 @@ linked_stay numbers beads old new linked room = same_stay old new linked.same li
 -- keys lead as before where no more are ready
 pub led_stay : (net : Net) (old new : KeyTable) (before after : List (Option Store)) → AreLed net old before → StayReady before after → AreTidied after old new → AreLed net new after
 led_stay net old new before after led stay tidied = record {
-  fit = λ stream attribute key number leads. led.fit stream attribute key number (tidied.only stream attribute key number leads);
   led = λ n w key at by.
       All-weaker (Contains (ready_in (get_or after n None))) (λ (v : Value). Leads (entries_at new w.stream key.event) v n)
       (λ v c. tidied.kept w.stream key.event v n (list_any-from_Any (is_key v) (ready_in (get_or after n None)) (c.0, v, c.1, c.2, key_itself v))
@@ -151,7 +150,6 @@ led_stay net old new before after led stay tidied = record {
 -- where no key leads anywhere and none is ready, all do
 pub led_new : (net : Net) (stores : List (Option Store)) → AreNewStores net stores → AreLed net [] stores
 led_new net stores new = record {
-  fit = λ stream attribute key number leads. absurd (none_in number leads);
   led = λ n w key at by. subst (All (λ (v : Value). Leads (entries_at [] w.stream key.event) v n)) (sym (new.none_ready n)) (All-nil (λ (v : Value). Leads (entries_at [] w.stream key.event) v n));
   ready = λ n.
       subst (All (λ (i : Instance). IsKeyReady (key_in (get_or stores n None)) (ready_in (get_or stores n None)) i.tuple)) (sym (new.empty n)) (All-nil (λ (i : Instance). IsKeyReady (key_in (get_or stores n None)) (ready_in (get_or stores n None)) i.tuple));

@@ -7,7 +7,7 @@ use Rattle.automaton.specs.States.{Net, wait_at}
 use Rattle.automaton.specs.declared.wait.Wait.{Wait}
 use Rattle.binding_index.specs.Leads.{Leads, ready_in}
 use Rattle.binding_index.specs.declared.store.Store.{Store}
-use Rattle.stream_readers.specs.KeyTables.{KeyTable, LeadOn, LeadsFit, entries_at}
+use Rattle.stream_readers.specs.KeyTables.{KeyTable, entries_at}
 use Rattle.stream_readers.specs.Leading.{lead_key, lead_key_at}
 use Rattle.epoch_draft.specs.Held.{instances_in, key_in}
 
@@ -33,17 +33,11 @@ LeadBy net keys number ready =
 abbrev pub LeadTo : Net → KeyTable → ℕ → Option Store → Type 0
 LeadTo net keys number slot = LeadBy net keys number (ready_in slot)
 
--- keys lead to states alone that are found by them; a key that is ready in the store of such a state leads there; and the key of each instance is ready
+-- a key that is ready in the store of a state leads there, if the state is found by a key; and the key of each instance is ready
 pub record AreLed (net : Net) (keys : KeyTable) (stores : List (Option Store)) : Type 0 where
-  pub fit : LeadsFit net keys
   pub led : (number : ℕ) → LeadTo net keys number (slice_index_or stores number None)
   pub ready : (number : ℕ) → AreReadyIn (slice_index_or stores number None)
 
 -- the key of a store is that by which a state is found, if it is found by one
 abbrev pub HasKeyOf : Net → ℕ → Option Key → Type 0
 HasKeyOf net number found = (key : Key) → lead_key_at net number ≡ Some key → found ≡ Some key
-
--- keys lead where they led; and they lead to states alone that are found by them, if they did
-pub record LeadMore (net : Net) (old new : KeyTable) : Type 0 where
-  pub kept : LeadOn old new
-  pub fit : LeadsFit net old → LeadsFit net new

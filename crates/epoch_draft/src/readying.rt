@@ -6,9 +6,10 @@ ghost use Rattle.instances.specs.Keys.{BindingFits, IsKeyReady};
 ghost use Rattle.binding_index.specs.Among.{is_among};
 ghost use Rattle.binding_index.specs.Leads.{ready_in};
 ghost use Rattle.binding_index.specs.Stores.{condition_of, instances_of, key_of, ready_of};
+ghost use Rattle.stream_readers.specs.KeyTables.{LeadOn};
 ghost use Rattle.epoch_draft.specs.Drafts.{DraftFits};
 ghost use Rattle.epoch_draft.specs.Held.{SameStored, instances_in, key_in, shape_of};
-ghost use Rattle.epoch_draft.specs.Led.{AreLed, HasKeyOf, LeadBy, LeadMore};
+ghost use Rattle.epoch_draft.specs.Led.{AreLed, HasKeyOf, LeadBy};
 ghost use Rattle.epoch_draft.specs.Readying.{HasReadyAt, HasRoom, HaveKeyIn, HaveKeys, HaveRoom, HaveRoomIn};
 ghost use Rattle.epoch_draft.specs.Stores.{HasStores};
 
@@ -89,7 +90,7 @@ fn make_room_in(
     requires led { LeadBy network.now keys.old number (ready_in slot.old) }
     ensures room { OnOk result (HaveRoomIn slot.new beads.now) }
     ensures led { LeadBy network.now keys.new number (ready_in slot.new) }
-    ensures leads { LeadMore network.now keys.old keys.new }
+    ensures leads { LeadOn keys.old keys.new }
     ensures more { All (Contains (ready_in slot.new)) (ready_in slot.old) }
     ensures shape { shape_of slot.new ≡ shape_of slot.old }
     ensures instances { instances_in slot.new ≡ instances_in slot.old }
@@ -114,7 +115,7 @@ fn make_room_for(
     requires led { LeadBy network.now keys.old number (ready_of store.old) }
     ensures room { OnOk result (All (HasRoom (key_of store.new) (ready_of store.new)) instances.entry) }
     ensures led { LeadBy network.now keys.new number (ready_of store.new) }
-    ensures leads { LeadMore network.now keys.old keys.new }
+    ensures leads { LeadOn keys.old keys.new }
     ensures more { All (Contains (ready_of store.new)) (ready_of store.old) }
     ensures condition { condition_of store.new ≡ condition_of store.old }
     ensures key { key_of store.new ≡ key_of store.old }
@@ -145,7 +146,7 @@ fn make_room_of(
     requires led { LeadBy network.now keys.old number (ready_of store.old) }
     ensures room { OnOk result (IsKeyReady (key_of store.old) (ready_of store.new) instance.now.tuple) }
     ensures led { LeadBy network.now keys.new number (ready_of store.new) }
-    ensures leads { LeadMore network.now keys.old keys.new }
+    ensures leads { LeadOn keys.old keys.new }
     ensures more { All (Contains (ready_of store.new)) (ready_of store.old) }
     ensures condition { condition_of store.new ≡ condition_of store.old }
     ensures key { key_of store.new ≡ key_of store.old }
@@ -172,7 +173,7 @@ fn note_key(
 ) -> Result<(), Memory>
     requires { number < length network.now }
     ensures led { OnOk result (LeadBy network.now keys.new number (key.now ∷ [])) }
-    ensures leads { LeadMore network.now keys.old keys.new }
+    ensures leads { LeadOn keys.old keys.new }
 {
     if !network.used(number) {
         return Ok(());

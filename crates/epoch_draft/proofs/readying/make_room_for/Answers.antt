@@ -7,7 +7,7 @@ use Rattle.instances.specs.declared.instance.Instance.{Instance}
 use Rattle.binding_index.specs.Stores.{key_of, ready_of}
 use Rattle.epoch_draft.specs.Readying.{HasRoom}
 use Rattle.epoch_draft.specs.Led.{HasKeyOf}
-use Rattle.epoch_draft.proofs.LeadLemmas.{leads_trans, more_none}
+use Rattle.epoch_draft.proofs.LeadLemmas.{on_none, on_trans}
 use Rattle.epoch_draft.proofs.MeetLemmas.{head_none}
 use Rattle.epoch_draft.proofs.ReadyLemmas.{more_trans, room_more}
 use Rattle.epoch_draft.proofs.readying.make_room_for.Goals as goal
@@ -23,7 +23,7 @@ loop-instance-init c = record {
   same = refl;
   found = c.requires.key;
   led = c.requires.led;
-  leads = more_none c.args.network.now c.args.keys.now;
+  leads = on_none c.args.keys.now;
 }
 
 pub make_room_of-requires : goal.make_room_of-requires
@@ -63,12 +63,12 @@ loop-instance-preserved c =
       same = c.make_room_of.ensures.same ∙ was.same;
       found = subst (λ (k : Option Key). HasKeyOf c.args.network.now c.args.number k) (sym same) was.found;
       led = c.make_room_of.ensures.led;
-      leads = leads_trans c.args.network.now c.args.keys.now c.loop-instance.keys c.make_room_of.new.keys was.leads c.make_room_of.ensures.leads;
+      leads = on_trans c.args.keys.now c.loop-instance.keys c.make_room_of.new.keys was.leads c.make_room_of.ensures.leads;
     }
 
 -- want of memory leaves what leads to the state
 pub returns-in_err-make_room_of-clause-leads : goal.returns-in_err-make_room_of-clause-leads
-returns-in_err-make_room_of-clause-leads c = leads_trans c.args.network.now c.args.keys.now c.loop-instance.keys c.make_room_of.new.keys c.loop-instance.invariant.leads c.make_room_of.ensures.leads
+returns-in_err-make_room_of-clause-leads c = on_trans c.args.keys.now c.loop-instance.keys c.make_room_of.new.keys c.loop-instance.invariant.leads c.make_room_of.ensures.leads
 
 pub returns-in_err-make_room_of-clause-more : goal.returns-in_err-make_room_of-clause-more
 returns-in_err-make_room_of-clause-more c = more_trans (ready_of c.args.store.now) (ready_of c.loop-instance.store) (ready_of c.make_room_of.new.store) c.loop-instance.invariant.more c.make_room_of.ensures.more

@@ -6,7 +6,8 @@ use Rattle.event_types.specs.declared.value.Value.{Value}
 use Rattle.instances.specs.Keys.{BindingFits}
 use Rattle.instances.specs.declared.instance.Instance.{Instance}
 use Rattle.binding_index.specs.Stores.{condition_of, instances_of, key_of, ready_of}
-use Rattle.epoch_draft.specs.Led.{HasKeyOf, LeadBy, LeadMore}
+use Rattle.stream_readers.specs.KeyTables.{LeadOn}
+use Rattle.epoch_draft.specs.Led.{HasKeyOf, LeadBy}
 use Rattle.epoch_draft.specs.Readying.{HasRoom}
 use Rattle.epoch_draft.proofs.readying.make_room_for.Given as goal
 
@@ -22,7 +23,7 @@ invariant-loop-instance l = record {
   same : instances_of l.store ≡ instances_of l.initial.store;
   found : HasKeyOf l.network l.number (key_of l.store);
   led : LeadBy l.network l.keys l.number (ready_of l.store);
-  leads : LeadMore l.network l.initial.keys l.keys;
+  leads : LeadOn l.initial.keys l.keys;
 }
 
 abbrev pub decreases-loop-instance : goal.decreases-loop-instance

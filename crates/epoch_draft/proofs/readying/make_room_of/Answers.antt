@@ -29,7 +29,7 @@ returns-then-is_ready-clause-room c =
 
 -- want of memory leaves what leads to the state
 pub returns-in_err-note_key-clause-led : goal.returns-in_err-note_key-clause-led
-returns-in_err-note_key-clause-led c = by_kept c.args.network.now c.args.number c.args.keys.now c.note_key.new.keys (ready_of c.args.store.now) c.note_key.ensures.leads.kept c.requires.led
+returns-in_err-note_key-clause-led c = by_kept c.args.network.now c.args.number c.args.keys.now c.note_key.new.keys (ready_of c.args.store.now) c.note_key.ensures.leads c.requires.led
 
 -- the key of the instance leads there, and so does each that is ready
 pub returns-clause-led : goal.returns-clause-led
@@ -44,5 +44,5 @@ returns-clause-led c =
     let found : Key = record { event = places.event; binding = places.binding } in
     let of = sym c.key_places.ensures ∙ ap key_of_places c.in-Some.is in
     let value : value_at t places.binding ≡ key = ap (λ (vs : List Value). get_or vs places.binding Over) (sym c.vals.ensures) ∙ get_or_from_slice_get c.vals.result.now places.binding key Over c.get-key.ensures in
-    let kept = by_kept net n c.args.keys.now keys (ready_of store) c.note_key.ensures.leads.kept c.requires.led in
+    let kept = by_kept net n c.args.keys.now keys (ready_of store) c.note_key.ensures.leads c.requires.led in
     by_ready net n keys found (key_of store) key (ready_of store) (ready_of c.ready-2.new.self) t of value kept c.in_ok-note_key.ensures.led c.ready-2.ensures.only
