@@ -1,5 +1,6 @@
 -- Entries at the places of their ids and behind these, and what is found of them.
 use denote.Bor.{Bor}
+use mir.Val.{bool_byte}
 use Rattle.std.proofs.Common.{◌≡◌, ◌∙◌, ◌+◌, ◌-◌, ◌++◌, ap, refl, sym, subst, ℕ, zero, suc, ◌<◌, ◌≤◌, Bool, true, false, cond, List, [], ◌∷◌, length, get_or, set, Some, None, Option, slice_get, Contains, arith}
 use Rattle.std.specs.declared.cmp.Ordering.{Ordering}
 use Rattle.std.specs.declared.cmp.Ordering.TheVariants.{Less, Equal, Greater}
@@ -124,13 +125,6 @@ dense_put id base (p ∷ places) others (suc place) entry is lt all none =
     ap (with_place base p) (dense_put id (suc base) places others place entry (omega (arith, is)) (omega arith) (from_lower (suc base + length places) (base + suc (length places)) others (omega arith) all) rest)
     ∙ put_behind id base p entry (entries_from (suc base) places others) (omega (arith, is))
 
--- or at one more place, by induction on the places
-pub dense_pushed : (id base : ℕ) (places : List (Option Entry)) (others : List (ℕ × Entry)) (entry : Entry) → id ≡ base + length places → AreFrom (suc id) others
-    → entries_from base (places ++ Some entry ∷ []) others ≡ insert_entry nat_cmp (entries_from base places others) id entry
-dense_pushed id base [] others entry is all = put_first id base entry others (omega (arith, is)) (from_above id (suc id) others (omega arith) all)
-dense_pushed id base (p ∷ places) others entry is all =
-    ap (with_place base p) (dense_pushed id (suc base) places others entry (omega (arith, is)) all) ∙ put_behind id base p entry (entries_from (suc base) places others) (omega (arith, is))
-
 -- or behind the places, by induction on these
 pub sparse_put : (id base : ℕ) (places : List (Option Entry)) (others : List (ℕ × Entry)) (entry : Entry) → base + length places ≤ id
     → entries_from base places (insert_entry nat_cmp others id entry) ≡ insert_entry nat_cmp (entries_from base places others) id entry
@@ -191,12 +185,6 @@ one_more (Some old ∷ places) zero entry at = absurd (cc)
 one_more (None ∷ places) (suc place) entry at = one_more places place entry at
 one_more (Some old ∷ places) (suc place) entry at = let rest = one_more places place entry at in omega (arith, rest)
 
--- and so does one at one more place
-pub one_pushed : (places : List (Option Entry)) (entry : Entry) → count_filled (places ++ Some entry ∷ []) ≡ count_filled places + 1
-one_pushed [] entry = refl
-one_pushed (None ∷ places) entry = one_pushed places entry
-one_pushed (Some old ∷ places) entry = let rest = one_pushed places entry in omega (arith, rest)
-
 -- no more places have entries than there are
 pub filled_at_most : (places : List (Option Entry)) → count_filled places ≤ length places
 filled_at_most [] = omega arith
@@ -230,20 +218,6 @@ from_first places filled others behind = from_lower (0 + length places) (length 
 
 pub behind_ordered : (places : List (Option Entry)) (filled : ℕ) (others : List (ℕ × Entry)) → AreBehind places filled others → AreOrdered (entries_from 0 places others)
 behind_ordered places filled others behind = all_ordered 0 places others (from_first places filled others behind) behind.ordered
-
--- ids that are at least one which has no entry are greater
-apart_from : (id : ℕ) (es : List (ℕ × Entry)) → AreFrom id es → entry_of id es ≡ None → AreFrom (suc id) es
-apart_from id [] all none = tt
-apart_from id (e ∷ es) all none = go (is_at (nat_cmp id) e.0) refl none (λ rest. apart_from id es all.1 rest)
-  where
-    go : (b : Bool) → is_at (nat_cmp id) e.0 ≡ b → cond b (Some e.1) (entry_of id es) ≡ None → (entry_of id es ≡ None → AreFrom (suc id) es) → AreFrom (suc id) (e ∷ es)
-    go true is none rest = absurd (cc)
-    go false is none rest = (let least = all.0 in let key = e.0 in grind (arith, nat_tests, least, is), rest none)
-
--- others are greater than the id of one more place, which has no entry yet
-pub next_apart : (id : ℕ) (places : List (Option Entry)) (filled : ℕ) (others : List (ℕ × Entry)) → id ≡ length places → entry_of id (entries_from 0 places others) ≡ None → AreBehind places filled others → AreFrom (suc id) others
-next_apart id places filled others is none behind =
-    apart_from id others (from_lower id (length places) others (omega (arith, is)) behind.from) (sym (sparse_found id 0 places others (omega (arith, is))) ∙ none)
 
 -- the place of an id without an entry is empty
 pub bare_place : (id : ℕ) (places : List (Option Entry)) (filled : ℕ) (others : List (ℕ × Entry)) (o : Option Entry) → slice_get places id ≡ Some o → entry_of id (entries_from 0 places others) ≡ None → AreBehind places filled others → slice_get places id ≡ Some None
@@ -307,14 +281,6 @@ pub no_others : (others : List (ℕ × Entry)) → length others ≡ 0 → other
 no_others [] none = refl
 no_others (e ∷ es) none = absurd (omega arith)
 
--- and one more place
-pub pushed_behind : (id : ℕ) (places new : List (Option Entry)) (filled : ℕ) (entry : Entry) (others : List (ℕ × Entry)) → new ≡ places ++ Some entry ∷ [] → id ≡ length places → AreFrom (suc id) others → AreBehind places filled others → AreBehind new (filled + 1) others
-pushed_behind id places new filled entry others put is apart behind =
-    let longer : length new ≡ length places + 1 = ap (λ (ps : List (Option Entry)). length ps) put ∙ length-append places (Some entry ∷ []) in
-    let more : count_filled new ≡ count_filled places + 1 = ap count_filled put ∙ one_pushed places entry in
-    let all = behind.counted in
-    record { counted = omega (arith, all, more); from = from_lower (length new) (suc id) others (omega (arith, is, longer)) apart; ordered = behind.ordered }
-
 -- an entry with no smaller an id may come to the others
 pub from_put : (base id : ℕ) (entry : Entry) (es : List (ℕ × Entry)) → base ≤ id → AreFrom base es → AreFrom base (insert_entry nat_cmp es id entry)
 from_put base id entry [] le all = (le, tt)
@@ -340,6 +306,66 @@ put_behind_all id entry places filled others new put le up behind = record { cou
 
 pub taken_behind_all : (id : ℕ) (places : List (Option Entry)) (filled : ℕ) (others new : List (ℕ × Entry)) → new ≡ remove_entry (is_at (nat_cmp id)) others → AreOrdered new → AreBehind places filled others → AreBehind places filled new
 taken_behind_all id places filled others new out up behind = record { counted = behind.counted; from = subst (AreFrom (length places)) (sym out) (from_taken (length places) id others behind.from); ordered = up }
+
+-- ids above one that is at least another are at least the next after that
+above_from : (id k : ℕ) (es : List (ℕ × Entry)) → id ≤ k → AreAbove k (keys_of es) → AreFrom (suc id) es
+above_from id k [] le all = tt
+above_from id k (e ∷ es) le all = (let less = all.0 in let key = e.0 in grind (arith, nat_tests, less, le), above_from id k es le all.1)
+
+-- others that are in order are greater than an id once that one is taken out of them
+left_apart : (id : ℕ) (es : List (ℕ × Entry)) → AreFrom id es → AreOrdered es → AreFrom (suc id) (remove_entry (is_at (nat_cmp id)) es)
+unfolding IsStrictlySortedBy
+left_apart id [] all up = tt
+left_apart id (e ∷ es) all up = go (is_at (nat_cmp id) e.0) refl (left_apart id es all.1 up.1)
+  where
+    go : (b : Bool) → is_at (nat_cmp id) e.0 ≡ b → AreFrom (suc id) (remove_entry (is_at (nat_cmp id)) es) → AreFrom (suc id) (cond b es (e ∷ remove_entry (is_at (nat_cmp id)) es))
+    go true is rest = above_from id e.0 es all.0 up.0
+    go false is rest = (let least = all.0 in let key = e.0 in grind (arith, nat_tests, least, is), rest)
+
+-- what one of the others that are in order moves to is its place
+first_moved : (id base : ℕ) (others : List (ℕ × Entry)) (o : Option Entry) → id ≡ base → o ≡ entry_of id others → AreFrom id others → AreOrdered others
+    → with_place base o (remove_entry (is_at (nat_cmp id)) others) ≡ others
+unfolding IsStrictlySortedBy
+first_moved id base [] o same read all up = ap (λ (x : Option Entry). with_place base x []) read
+first_moved id base (e ∷ es) o same read all up = go (is_at (nat_cmp id) e.0) refl
+  where
+    rest : List (ℕ × Entry)
+    rest = remove_entry (is_at (nat_cmp id)) es
+
+    go : (b : Bool) → is_at (nat_cmp id) e.0 ≡ b → with_place base o (remove_entry (is_at (nat_cmp id)) (e ∷ es)) ≡ e ∷ es
+    go true is =
+        let here : base ≡ e.0 = let key = e.0 in grind (arith, nat_tests, is, same) in
+        ap (λ (x : Option Entry). with_place base x (remove_entry (is_at (nat_cmp id)) (e ∷ es))) (read ∙ ap (λ (b : Bool). cond b (Some e.1) (entry_of id es)) is)
+        ∙ ap (λ (b : Bool). (base, e.1) ∷ cond b es (e ∷ rest)) is
+        ∙ ap (λ (k : ℕ). (k, e.1) ∷ es) here
+    go false is =
+        let above = from_above id (suc id) es (omega arith) (above_from id e.0 es all.0 up.0) in
+        ap (λ (x : Option Entry). with_place base x (remove_entry (is_at (nat_cmp id)) (e ∷ es))) (read ∙ ap (λ (b : Bool). cond b (Some e.1) (entry_of id es)) is ∙ none_above id es above)
+        ∙ ap (λ (b : Bool). cond b es (e ∷ rest)) is
+        ∙ ap (λ (fs : List (ℕ × Entry)). e ∷ fs) (none_taken_out id es above)
+
+-- one place more takes the entry of its id from the others, and all entries are the same, by induction on the places
+pub all_moved : (id base : ℕ) (places : List (Option Entry)) (others : List (ℕ × Entry)) (o : Option Entry) → id ≡ base + length places → o ≡ entry_of id others → AreFrom id others → AreOrdered others
+    → entries_from base (places ++ o ∷ []) (remove_entry (is_at (nat_cmp id)) others) ≡ entries_from base places others
+all_moved id base [] others o is read all up = first_moved id base others o (omega (arith, is)) read all up
+all_moved id base (p ∷ places) others o is read all up = ap (with_place base p) (all_moved id (suc base) places others o (omega (arith, is)) read all up)
+
+-- it counts one more where there is one
+count_moved : (places : List (Option Entry)) (o : Option Entry) → count_filled (places ++ o ∷ []) ≡ count_filled places + bool_byte (is_some o)
+count_moved [] None = refl
+count_moved [] (Some entry) = refl
+count_moved (None ∷ places) o = count_moved places o
+count_moved (Some old ∷ places) o = let rest = count_moved places o in let one = bool_byte (is_some o) in omega (arith, rest)
+
+-- and the others stay behind the places
+pub moved_behind : (id : ℕ) (places new : List (Option Entry)) (filled : ℕ) (others left : List (ℕ × Entry)) (o : Option Entry) → new ≡ places ++ o ∷ [] → id ≡ length places → left ≡ remove_entry (is_at (nat_cmp id)) others → AreOrdered left → AreBehind places filled others
+    → AreBehind new (filled + bool_byte (is_some o)) left
+moved_behind id places new filled others left o put is out up behind =
+    let longer : length new ≡ length places + 1 = ap (λ (ps : List (Option Entry)). length ps) put ∙ length-append places (o ∷ []) in
+    let more : count_filled new ≡ count_filled places + bool_byte (is_some o) = ap count_filled put ∙ count_moved places o in
+    let all = behind.counted in
+    let apart = subst (AreFrom (suc id)) (sym out) (left_apart id others (from_lower id (length places) others (omega (arith, is)) behind.from) behind.ordered) in
+    record { counted = omega (arith, all, more); from = from_lower (length new) (suc id) left (omega (arith, is, longer)) apart; ordered = up }
 
 -- what is read at a place stands there
 pub read_place : (places : List (Option Entry)) (place : ℕ) (o : Option Entry) → place < length places → o ≡ get_or places place o → slice_get places place ≡ Some o

@@ -7,6 +7,7 @@ ghost use Rattle.std.specs.Ordering.{nat_cmp};
 ghost use Rattle.static_index.specs.Entries.{AreOrdered, entry_of};
 
 use crate::entry::Entry;
+use event_types::Memory;
 use std::alloc::Global;
 use std::collections::BTreeMap;
 use std::marker::Model;
@@ -23,6 +24,11 @@ pub(crate) struct Entries {
 
 // The entry of the id that names the place, if it has one.
 type Place = Option<Entry>;
+
+// So many places there may be for each entry, and so many more.
+const SPREAD: usize = 4;
+
+const FIRST: usize = 16;
 
 const _: () = prove!(size_of::<Place>() == 72);
 
@@ -78,24 +84,42 @@ impl Entries {
         ensures kept { OnErr result (self.new ≡ self.old) }
         ensures handed_back { IfErr result (λ back. back ≡ entry) }
     {
+        self.reach(id);
         if id < self.dense.len() {
             self.dense[id] = Some(entry);
             self.filled += 1;
             return Ok(());
         }
-        if id == self.dense.len() {
-            return match push_place(&mut self.dense, entry) {
-                Ok(()) => {
-                    self.filled += 1;
-                    Ok(())
-                }
-                Err(back) => Err(back),
-            };
-        }
         match self.sparse.insert(id, entry) {
             Ok(_) => Ok(()),
             Err(refused) => Err(refused.value.1),
         }
+    }
+
+    // Makes places up to that of an id, unless too few of them would have an entry. Where memory is wanting there are fewer.
+    fn reach(&mut self, id: usize)
+        ensures { self.new ≡ self.old }
+    {
+        let most = self.filled.saturating_mul(SPREAD).saturating_add(FIRST);
+        if id > most.max(self.dense.len()) {
+            return;
+        }
+        for _ in self.dense.len()..id.saturating_add(1) {
+            if self.widen().is_err() {
+                return;
+            }
+        }
+    }
+
+    // Makes one place more, with the entry of the id that it names, if that has one. Want of memory changes nothing.
+    fn widen(&mut self) -> Result<(), Memory>
+        ensures { self.new ≡ self.old }
+    {
+        self.dense.reserve(1)?;
+        let entry = self.sparse.remove(&self.dense.len());
+        self.filled += entry.is_some() as usize;
+        self.dense.push_reserved(entry);
+        Ok(())
     }
 
     // Takes an entry out, if it is there.
@@ -114,17 +138,4 @@ impl Entries {
             self.sparse.remove(&id)
         }
     }
-}
-
-// Puts an entry at one more place. Want of memory hands it back.
-fn push_place(dense: &mut Vec<Place>, entry: Entry) -> Result<(), Entry>
-    ensures ok { OnOk result (dense.new.items ≡ dense.old.items ++ Some entry ∷ []) }
-    ensures kept { OnErr result (dense.new.items ≡ dense.old.items) }
-    ensures handed_back { IfErr result (λ back. back ≡ entry) }
-{
-    if dense.reserve(1).is_err() {
-        return Err(entry);
-    }
-    dense.push_reserved(Some(entry));
-    Ok(())
 }
