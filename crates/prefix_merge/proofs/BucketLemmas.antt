@@ -113,7 +113,7 @@ buckets_less buckets less number old new are taken removes hash n = by_number (a
         omega (arith, was, less_one, none, kept)
 
 -- where a waiting state comes, each other one is entered as before
-came_entry : (number before : ℕ) (hop : Hop) (old new : Net) → AddsHop number before hop old new → (other : ℕ) → (other ≡ number → ⊥) → entrance_at new other ≡ entrance_at old other
+pub came_entry : (number before : ℕ) (hop : Hop) (old new : Net) → AddsHop number before hop old new → (other : ℕ) → (other ≡ number → ⊥) → entrance_at new other ≡ entrance_at old other
 came_entry number before hop old new adds other ne = by_number (are_same_or_not other before)
   where
     by_number : (other ≡ before) ⊎ (other ≡ before → ⊥) → entrance_at new other ≡ entrance_at old other

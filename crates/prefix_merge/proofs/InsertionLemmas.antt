@@ -20,9 +20,9 @@ use Rattle.event_types.proofs.NumberLemmas.{is_other, is_same}
 use Rattle.automaton.proofs.NumberLemmas.{are_same_or_not}
 use Rattle.automaton.proofs.RootLemmas.{whole_none}
 use Rattle.automaton.proofs.SlotLemmas.{at_used}
-use Rattle.prefix_merge.specs.Growth.{AreUsedBelow, Grows, IsTable, Keeps, Reaches, end_of}
+use Rattle.prefix_merge.specs.Growth.{Grows, IsTable, Keeps, Reaches, end_of}
 use Rattle.prefix_merge.specs.Insertion.{Inserts, without_numbered}
-use Rattle.prefix_merge.specs.Merging.{EndsInState, HasEnd, IsLowestFree, IsMerged, ends_numbered, number_at}
+use Rattle.prefix_merge.specs.Merging.{EndsInState, HasEnd, HasOwnNumbers, IsLowestFree, IsMerged, ends_numbered, number_at}
 use Rattle.prefix_merge.proofs.EndingLemmas.{endings_are, ends_are, own_numbers}
 use Rattle.prefix_merge.proofs.NumberedLemmas.{none_numbered, number_in, pushed_else, there_has}
 use Rattle.prefix_merge.proofs.StartLemmas.{HasGrown, found_growing, line_grown, none_from_root, root_growing}
@@ -103,17 +103,15 @@ line_inserted old base new line end birth grown fresh = record {
 }
 
 -- and what a merged network keeps is kept
-pub line_kept : {S : Type 0} (table : HashMap ℕ ℕ S) (bound : ℕ) (old base new : Net) (line : Line) (end : ℕ) (birth : Option ℕ) → HasGrown old base (path line) (end_of line end birth) new → (HasEnd old end → ⊥) → IsTable table base → AreUsedBelow new bound
-    → {T : Type 0} (before : HashMap ℕ ℕ T) (first : ℕ) → Keeps before first old → Keeps table bound new
-line_kept table bound old base new line end birth grown fresh roots below before first keeps = record {
+pub line_kept : {S : Type 0} (table : HashMap ℕ ℕ S) (old base new : Net) (line : Line) (end : ℕ) (birth : Option ℕ) → HasGrown old base (path line) (end_of line end birth) new → (HasEnd old end → ⊥) → IsTable table base → HasOwnNumbers old → Keeps table new
+line_kept table old base new line end birth grown fresh roots numbers = record {
   network = grown.network;
   merged = grown.merged;
-  numbers = own_numbers old base new line end birth grown fresh keeps.numbers;
+  numbers = own_numbers old base new line end birth grown fresh numbers;
   roots = λ stream number. (
     (λ has. grown.roots number ∙ (roots stream number).0 has),
     λ has. (roots stream number).1 (sym (grown.roots number) ∙ has),
   );
-  below = below;
   last = grown.in_state;
 }
 
@@ -168,7 +166,7 @@ none_merged = record {
     none number prefix here = let no : false ≡ true = at_used [] number prefix here in cc
 
 -- at first there are no states
-pub nothing_kept : {S : Type 0} (table : HashMap ℕ ℕ S) → ((q : ℕ) → get nat_eq table q ≡ None) → Keeps table 0 []
+pub nothing_kept : {S : Type 0} (table : HashMap ℕ ℕ S) → ((q : ℕ) → get nat_eq table q ≡ None) → Keeps table []
 nothing_kept table empty = record {
   network = whole_none.network;
   merged = none_merged;
@@ -177,6 +175,5 @@ nothing_kept table empty = record {
     (λ has. let no : None ≡ Some number = sym (empty stream) ∙ has in cc),
     λ has. let no : None ≡ Some stream = has in cc,
   );
-  below = λ number lt. absurd (omega (arith, lt));
   last = λ some. absurd (omega (arith, some));
 }

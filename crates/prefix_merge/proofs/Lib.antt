@@ -5,6 +5,7 @@ pub mod ContainLemmas
 pub mod CountLemmas
 pub mod EdgeLemmas
 pub mod EndingLemmas
+pub mod FreeLemmas
 pub mod GrowthLemmas
 pub mod HolderLemmas
 pub mod InsertionLemmas

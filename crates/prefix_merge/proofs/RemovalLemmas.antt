@@ -19,7 +19,7 @@ use Rattle.automaton.proofs.CountLemmas.{bit}
 use Rattle.automaton.proofs.NumberLemmas.{are_same_or_not}
 use Rattle.automaton.proofs.SlotLemmas.{KeepsEntries, at_kept, at_one, at_used, entry_there}
 use Rattle.prefix_merge.specs.declared.holders.EndSpot.{EndSpot}
-use Rattle.prefix_merge.specs.Growth.{AreUsedBelow, IsTable}
+use Rattle.prefix_merge.specs.Growth.{IsTable}
 use Rattle.prefix_merge.specs.Holders.{StandsAt}
 use Rattle.prefix_merge.specs.Insertion.{without_numbered}
 use Rattle.prefix_merge.specs.Merging.{HasEnd, HasOwnNumbers, IsMerged, IsUsedBy, ends_numbered, number_at}
@@ -248,12 +248,8 @@ module _ (old middle : Net) (state place end : ℕ) (network : IsNetwork old) (m
       ends = ends_are;
     }
 
-  -- the table and the numbers that are used stay while the end leaves
+  -- the table stays while the end leaves
   pub middle_table : {S : Type 0} (table : HashMap ℕ ℕ S) → IsTable table old → IsTable table middle
   middle_table table is stream number =
       let same : root_at middle number ≡ root_at old number = ap (option_and_then root_by) (middle_entry number) in
       ((λ found. same ∙ (is stream number).0 found), λ root. (is stream number).1 (sym same ∙ root))
-
-  -- the states stay below a bound
-  pub middle_below : (bound : ℕ) → AreUsedBelow old bound → AreUsedBelow middle bound
-  middle_below bound below number lt = middle_used number ∙ below number lt

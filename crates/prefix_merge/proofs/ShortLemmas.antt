@@ -12,7 +12,7 @@ use Rattle.automaton.specs.Prefixes.{Prefix}
 use Rattle.automaton.specs.States.{Net, before_in, edges_at, edges_in, ends_at, ends_in, entrance_in, is_used, root_in, tells}
 use Rattle.automaton.proofs.CountLemmas.{bit, range-push}
 use Rattle.automaton.proofs.SlotLemmas.{KeepsEntries, at_kept}
-use Rattle.prefix_merge.specs.Growth.{AreUsedBelow, IsTable}
+use Rattle.prefix_merge.specs.Growth.{IsTable}
 use Rattle.prefix_merge.specs.Merging.{HasEnd, HasOwnNumbers, IsMerged, IsUsedBy, ends_numbered}
 use Rattle.prefix_merge.specs.Pruning.{IsShortened}
 use Rattle.prefix_merge.specs.Removal.{AreLeft, Removes}
@@ -70,10 +70,6 @@ module _ (whole short : Net) (is : IsShortened whole short) where
     (λ found. ap root_in (is.same number) ∙ (tells' stream number).0 found),
     λ root. (tells' stream number).1 (ap root_in (sym (is.same number)) ∙ root),
   )
-
-  -- the numbers below a bound are used
-  pub below_short : (bound : ℕ) → AreUsedBelow whole bound → AreUsedBelow short bound
-  below_short bound below number lt = used_short number ∙ below number lt
 
   endings_same : (places : ℕ → Prefix) → endings_by places short ≡ endings_by places whole
   endings_same places =

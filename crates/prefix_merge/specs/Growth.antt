@@ -1,5 +1,5 @@
 -- Merged networks that grow by a line, state by state. No public clause cites this.
-use Rattle.std.specs.Prelude.{◌≡◌, ◌≢◌, ◌<◌, ◌↔◌, ℕ, IsTrue, List, [], ◌∷◌, Option, Some, nat_eq, slice_get, take}
+use Rattle.std.specs.Prelude.{◌≡◌, ◌≢◌, ◌↔◌, ℕ, List, [], ◌∷◌, Option, Some, nat_eq, slice_get, take}
 use Rattle.std.specs.HashMap.{HashMap, get}
 use Rattle.automaton.specs.declared.line.Hop.{Hop}
 use Rattle.automaton.specs.declared.line.Line.{Line}
@@ -8,24 +8,19 @@ use Rattle.automaton.specs.declared.network.Entrance.TheVariants as entrance
 use Rattle.automaton.specs.Changes.{AddsEnd, AddsHop, AddsRoot}
 use Rattle.automaton.specs.Networks.{IsAt, IsNetwork}
 use Rattle.automaton.specs.Prefixes.{Root, extended}
-use Rattle.automaton.specs.States.{Net, entrance_at, is_used, root_at}
+use Rattle.automaton.specs.States.{Net, entrance_at, root_at}
 use Rattle.prefix_merge.specs.Merging.{EndsInState, HasOwnNumbers, IsLowestFree, IsMerged}
 
 -- the table tells the root state of each stream that has one, and of no other stream
 abbrev pub IsTable : {S : Type 0} → HashMap ℕ ℕ S → Net → Type 0
 IsTable table net = (stream number : ℕ) → (get nat_eq table stream ≡ Some number) ↔ (root_at net number ≡ Some stream)
 
--- each number below this one is that of a state
-abbrev pub AreUsedBelow : Net → ℕ → Type 0
-AreUsedBelow net bound = (number : ℕ) → number < bound → IsTrue (is_used net number)
-
--- what a merged network keeps, with its table and a number below which each is used
-pub record Keeps {S : Type 0} (table : HashMap ℕ ℕ S) (bound : ℕ) (net : Net) : Type 0 where
+-- what a merged network keeps, with its table
+pub record Keeps {S : Type 0} (table : HashMap ℕ ℕ S) (net : Net) : Type 0 where
   pub network : IsNetwork net
   pub merged : IsMerged net
   pub numbers : HasOwnNumbers net
   pub roots : IsTable table net
-  pub below : AreUsedBelow net bound
   pub last : EndsInState net
 
 -- a line's end with this number and this birth

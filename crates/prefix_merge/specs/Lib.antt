@@ -6,6 +6,7 @@ pub mod Holders
 pub mod Insertion
 pub mod Laws
 pub mod Merging
+pub mod Places
 pub mod Pruning
 pub mod Removal
 pub mod Turns

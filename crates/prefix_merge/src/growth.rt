@@ -1,9 +1,9 @@
 //! Networks that grow by a line.
-ghost use Rattle.std.specs.Prelude.{◌≡◌, ◌≤◌, ℕ, IfOk, IsTrue, OnErr, OnOk, Some, [], drop, false, length, max, ◌+◌, take};
+ghost use Rattle.std.specs.Prelude.{◌≡◌, ◌≤◌, IfOk, IsTrue, OnErr, OnOk, Some, [], drop, length, max, ◌+◌, take};
 ghost use Rattle.automaton.specs.Changes.{RemovesState};
 ghost use Rattle.automaton.specs.States.{Net, edges_at, ends_at, is_used, root_at};
 ghost use Rattle.prefix_merge.specs.Coming.{ListsCome};
-ghost use Rattle.prefix_merge.specs.Growth.{AreUsedBelow, Grows, Plants, Reaches, end_of};
+ghost use Rattle.prefix_merge.specs.Growth.{Grows, Plants, Reaches, end_of};
 ghost use Rattle.prefix_merge.specs.Merging.{HasEnd, IsLowestFree};
 
 use crate::indexed::Indexed;
@@ -38,47 +38,31 @@ pub(crate) fn reach(network: &Indexed, root: usize, line: &Line) -> Reached
     Reached { state, place }
 }
 
-// The lowest number that no state has, which isn't below this one.
-pub(crate) fn free_number(network: &Indexed, from: usize) -> usize
-    requires { AreUsedBelow network.now from }
-    ensures { IsLowestFree network.now result }
-{
-    let network = network.network();
-    let mut number = from;
-    while number < network.places() && network.used(number) {
-        number += 1;
-    }
-    number
-}
-
 // Adds the states of hops one after another, from a state on, and at the last one an end, and lists the numbers of
-// these states. Gives a number below which each is used.
+// these states.
 pub(crate) fn grow(
     network: &mut Indexed,
-    from: usize,
     tip: usize,
     hops: &[Hop],
     end: End,
     came: &mut Numbers,
-) -> Result<usize, Memory>
+) -> Result<(), Memory>
     requires tip { IsTrue (is_used network.old tip) }
-    requires from { AreUsedBelow network.old from }
     requires end { ¬ HasEnd network.old end.number }
-    ensures grown { IfOk result (λ bound. Grows tip hops.now end network.old network.new) }
+    ensures grown { OnOk result (Grows tip hops.now end network.old network.new) }
     ensures came { OnOk result (ListsCome network.old network.new came.old came.new) }
-    ensures bound { IfOk result (λ bound. AreUsedBelow network.new bound) }
     ensures kept { OnErr result (network.new ≡ network.old) }
 {
     let Some((hop, rest)) = hops.split_first() else {
         network.add_end(tip, end)?;
-        return Ok(from);
+        return Ok(());
     };
-    let number = free_number(network, from);
+    let number = network.lowest_free();
     let places = network.places();
     came.add(number)?;
     network.add_hop(number, tip, hop)?;
-    match grow(network, number, number, rest, end, came) {
-        Ok(bound) => Ok(bound),
+    match grow(network, number, rest, end, came) {
+        Ok(()) => Ok(()),
         Err(fault) => {
             take_back(network, number, places);
             Err(fault)
@@ -93,19 +77,18 @@ pub(crate) fn plant(
     line: &Line,
     end: End,
     came: &mut Numbers,
-) -> Result<usize, Memory>
+) -> Result<(), Memory>
     requires number { IsLowestFree network.old number }
     requires end { ¬ HasEnd network.old end.number }
-    ensures planted { IfOk result (λ bound. Plants number line.now end network.old network.new) }
+    ensures planted { OnOk result (Plants number line.now end network.old network.new) }
     ensures came { OnOk result (ListsCome network.old network.new came.old came.new) }
-    ensures bound { IfOk result (λ bound. AreUsedBelow network.new bound) }
     ensures kept { OnErr result (network.new ≡ network.old) }
 {
     let places = network.places();
     came.add(number)?;
     network.add_root(number, line.root)?;
-    match grow(network, number, number, line.hops.as_slice(), end, came) {
-        Ok(bound) => Ok(bound),
+    match grow(network, number, line.hops.as_slice(), end, came) {
+        Ok(()) => Ok(()),
         Err(fault) => {
             take_back(network, number, places);
             Err(fault)

@@ -1,31 +1,34 @@
 //! Networks whose waiting states are found by how they are entered.
-ghost use Rattle.std.specs.Prelude.{◌≡◌, ◌≢◌, ◌<◌, ◌≤◌, ◌-◌, ◌==◌, ℕ, [], Contains, IfNone, IfSome, IsTrue, OnErr, OnOk, Some, count_by, false, if◌then◌else◌, length, take};
+ghost use Rattle.std.specs.Prelude.{◌≡◌, ◌≢◌, ◌<◌, ◌-◌, ◌==◌, ℕ, [], Contains, IfNone, IfSome, IsTrue, OnErr, OnOk, Some, count_by, false, if◌then◌else◌, length, take};
 ghost use Rattle.automaton.specs.Changes.{AddsEnd, AddsHop, AddsRoot, RemovesEnd, RemovesState};
 ghost use Rattle.automaton.specs.Networks.{IsNetwork};
 ghost use Rattle.automaton.specs.States.{edges_at, ends_at, entrance_at, is_used};
 ghost use Rattle.automaton.specs.declared.network.Entrance.TheVariants.{Waiting};
 ghost use Rattle.prefix_merge.specs.Buckets.{HaveSame, IsPut, IsTakenFrom, IsTakenOut};
 ghost use Rattle.prefix_merge.specs.Holders.{StandsAt};
-ghost use Rattle.prefix_merge.specs.Merging.{HasEnd};
+ghost use Rattle.prefix_merge.specs.Merging.{HasEnd, IsLowestFree};
 ghost use Rattle.prefix_merge.specs.declared.holders.EndSpot.{EndSpot};
 ghost use Rattle.stream_readers.specs.Readers.{AreReadersOf};
 
 use crate::hashing::entrance_hash;
 use crate::holders::{EndSpot, Holders, forget, note, note_moved, number_there};
+use crate::places::make_place;
 use crate::reading::{with_end, with_hop, without_end, without_state};
 use automaton::{End, Hop, Network};
 use event_types::{List, Memory, Numbers, StreamId};
+use long_lists::FreeNumbers;
 use std::alloc::Global;
 use std::collections::HashMap;
 use std::marker::Model;
 use stream_readers::Readers;
 
-// A network, its waiting states in buckets by a hash of how each is entered, where each end stands, and what reads
-// each stream, unless memory was wanting. A contract sees the network.
+// A network, which numbers are free, its waiting states in buckets by a hash of how each is entered, where each end
+// stands, and what reads each stream, unless memory was wanting. A contract sees the network.
 #[derive(Drop)]
 pub(crate) struct Indexed {
     alloc: Global,
     network: Network,
+    free: FreeNumbers,
     buckets: Buckets,
     holders: Holders,
     readers: Option<Readers>,
@@ -48,11 +51,12 @@ impl Model for Indexed {
     ghost use Rattle.std.specs.Prelude.{IfSome};
     ghost use Rattle.prefix_merge.specs.Buckets.{AreInBuckets};
     ghost use Rattle.prefix_merge.specs.Holders.{AreHolders};
+    ghost use Rattle.prefix_merge.specs.Places.{AreFree};
     ghost use Rattle.stream_readers.specs.Readers.{AreReadersOf};
 
     ghost view = { λ m. m.network };
 
-    ghost invariant = { λ m. AreInBuckets m.buckets m.network × AreHolders m.holders m.network × IfSome m.readers (AreReadersOf m.network) };
+    ghost invariant = { λ m. AreInBuckets m.buckets m.network × AreHolders m.holders m.network × IfSome m.readers (AreReadersOf m.network) × AreFree m.free m.network };
 }
 
 impl Indexed {
@@ -62,6 +66,7 @@ impl Indexed {
         Indexed {
             alloc,
             network: Network::new(alloc),
+            free: FreeNumbers::new(alloc),
             buckets: HashMap::new(alloc),
             holders: HashMap::new(alloc),
             readers: Some(Readers::new(alloc)),
@@ -100,6 +105,16 @@ impl Indexed {
         self.network.places()
     }
 
+    // The lowest number that no state has.
+    pub(crate) fn lowest_free(&self) -> usize
+        ensures { IsLowestFree self.now result }
+    {
+        match self.free.lowest() {
+            Some(number) => number,
+            None => self.free.len(),
+        }
+    }
+
     // The number of a state that is entered from this one through the hop.
     pub(crate) fn next(&self, before: usize, hop: &Hop) -> Option<usize>
         ensures found { IfSome result (λ next. entrance_at self.now next ≡ Some (Waiting before hop.now)) }
@@ -112,22 +127,24 @@ impl Indexed {
 
     // A root state comes, without edges and ends.
     pub(crate) fn add_root(&mut self, number: usize, stream: StreamId) -> Result<(), Memory>
-        requires next { number ≤ length self.old }
-        requires free { is_used self.old number ≡ false }
+        requires { IsLowestFree self.old number }
         ensures added { OnOk result (AddsRoot number stream self.old self.new) }
         ensures kept { OnErr result (self.new ≡ self.old) }
     {
-        self.network.add_root(self.alloc, number, stream)
+        make_place(&mut self.free, number)?;
+        self.network.add_root(self.alloc, number, stream)?;
+        self.free.take(number);
+        Ok(())
     }
 
     // The waiting state of a hop comes, to which a forward edge leads from the state before it.
     pub(crate) fn add_hop(&mut self, number: usize, before: usize, hop: &Hop) -> Result<(), Memory>
-        requires next { number ≤ length self.old }
-        requires free { is_used self.old number ≡ false }
+        requires number { IsLowestFree self.old number }
         requires before { IsTrue (is_used self.old before) }
         ensures added { OnOk result (AddsHop number before hop.now self.old self.new) }
         ensures kept { OnErr result (self.new ≡ self.old) }
     {
+        make_place(&mut self.free, number)?;
         let hash = entrance_hash(before, &hop.step, &hop.wait);
         put(self.alloc, &mut self.buckets, hash, number)?;
         let readers = with_hop(self.readers.take(), &self.network, number, before, hop);
@@ -136,6 +153,7 @@ impl Indexed {
             take_out(&mut self.buckets, hash, number);
         } else {
             self.readers = readers;
+            self.free.take(number);
         }
         added
     }
@@ -195,6 +213,7 @@ impl Indexed {
         self.readers = without_state(self.readers.take(), &self.network, number);
         take_waiting(&mut self.buckets, &self.network, number);
         self.network.remove_state(number);
+        self.free.free(number);
     }
 
     // Forgets the last place, which no state has.

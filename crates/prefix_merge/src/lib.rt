@@ -11,6 +11,7 @@ mod indexed;
 mod laws;
 mod left;
 mod merged;
+mod places;
 mod pruning;
 mod reading;
 mod turns;

@@ -10,7 +10,7 @@ ghost use Rattle.prefix_merge.specs.Merging.{HasEnd, IsMerged, IsSettled};
 ghost use Rattle.prefix_merge.specs.Removal.{Removes};
 ghost use Rattle.stream_readers.specs.Readers.{AreReadersOf};
 
-use crate::growth::{free_number, grow, hops_from, numbered_end, plant, reach};
+use crate::growth::{grow, hops_from, numbered_end, plant, reach};
 use crate::indexed::Indexed;
 use crate::left::Left;
 use crate::pruning::{Roots, prune, shorten};
@@ -30,8 +30,6 @@ pub struct Merged {
     pub(crate) alloc: Global,
     network: Indexed,
     roots: Roots,
-    // No number below it is free.
-    lowest: usize,
 }
 
 impl Model for Merged {
@@ -49,7 +47,7 @@ impl Model for Merged {
 
     ghost view = { λ m. m.network };
 
-    ghost invariant = { λ m. Keeps m.roots m.lowest m.network };
+    ghost invariant = { λ m. Keeps m.roots m.network };
 }
 
 impl Merged {
@@ -61,7 +59,6 @@ impl Merged {
             alloc,
             network: Indexed::new(alloc),
             roots: HashMap::new(alloc),
-            lowest: 0,
         }
     }
 
@@ -141,13 +138,7 @@ impl Merged {
     {
         let spot = self.network.holder(end);
         self.network.remove_end(end, spot);
-        self.lowest = prune(
-            &mut self.network,
-            &mut self.roots,
-            self.lowest,
-            spot.state,
-            left,
-        );
+        prune(&mut self.network, &mut self.roots, spot.state, left);
         shorten(&mut self.network);
     }
 
@@ -168,14 +159,7 @@ impl Merged {
     {
         let reached = reach(&self.network, root, line);
         let hops = hops_from(line, reached.place);
-        self.lowest = grow(
-            &mut self.network,
-            self.lowest,
-            reached.state,
-            hops,
-            end,
-            came,
-        )?;
+        grow(&mut self.network, reached.state, hops, end, came)?;
         Ok(())
     }
 
@@ -188,13 +172,10 @@ impl Merged {
         ensures came { OnOk result (ListsCome self.old self.new came.old came.new) }
         ensures kept { OnErr result (self.new ≡ self.old) }
     {
-        let number = free_number(&self.network, self.lowest);
+        let number = self.network.lowest_free();
         self.roots.insert(line.root, number)?;
         match plant(&mut self.network, number, line, end, came) {
-            Ok(bound) => {
-                self.lowest = bound;
-                Ok(())
-            }
+            Ok(()) => Ok(()),
             Err(fault) => {
                 self.roots.remove(&line.root);
                 Err(fault)

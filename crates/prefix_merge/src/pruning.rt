@@ -5,7 +5,7 @@ ghost use Rattle.automaton.specs.Networks.{IsNetwork};
 ghost use Rattle.automaton.specs.Prefixes.{Prefix};
 ghost use Rattle.automaton.specs.States.{Net, edges_at, ends_at, is_used, tells};
 ghost use Rattle.prefix_merge.specs.Coming.{NotesLeft};
-ghost use Rattle.prefix_merge.specs.Growth.{AreUsedBelow, IsTable};
+ghost use Rattle.prefix_merge.specs.Growth.{IsTable};
 ghost use Rattle.prefix_merge.specs.Pruning.{IsPruned, IsPruning, IsShortened, IsWanted};
 
 use crate::indexed::Indexed;
@@ -47,32 +47,24 @@ pub(crate) fn shorten(network: &mut Indexed)
 }
 
 // Takes a state away that leads nowhere, then the one before it, as long as no edge leads on from there and
-// no end stands there, and notes these. Gives a number below which each is used, where this was one.
-pub(crate) fn prune(
-    network: &mut Indexed,
-    roots: &mut Roots,
-    bound: usize,
-    tip: usize,
-    left: &mut Left,
-) -> usize
+// no end stands there, and notes these.
+pub(crate) fn prune(network: &mut Indexed, roots: &mut Roots, tip: usize, left: &mut Left)
     requires used { IsTrue (is_used network.old tip) }
     requires network { IsNetwork network.old }
     ensures pruned { (whole : Net) (prefix : Prefix) → IsPruning whole prefix tip network.old → IsPruned whole network.new }
     ensures roots { IsTable roots.old network.old → IsTable roots.new network.new }
-    ensures below { AreUsedBelow network.old bound → AreUsedBelow network.new result }
     ensures left { NotesLeft network.old network.new left.old left.new }
 {
     let states = network.network();
     if is_wanted(states, tip) {
-        return bound;
+        return;
     }
     forget(roots, states.root(tip));
     let before = states.before(tip);
     network.remove_state(tip);
     left.note(tip);
-    let bound = bound.min(tip);
     match before {
-        Some(before) => prune(network, roots, bound, before, left),
-        None => bound,
+        Some(before) => prune(network, roots, before, left),
+        None => {}
     }
 }

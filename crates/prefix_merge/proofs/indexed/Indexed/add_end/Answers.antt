@@ -5,7 +5,9 @@ use Rattle.automaton.specs.States.{Net, ends_at, is_used}
 use Rattle.prefix_merge.specs.Buckets.{AreInBuckets}
 use Rattle.prefix_merge.specs.Holders.{AreHolders, TellsOf}
 use Rattle.prefix_merge.specs.Merging.{HasEnd}
+use Rattle.prefix_merge.specs.Places.{AreFree}
 use Rattle.prefix_merge.proofs.BucketLemmas.{buckets_end, failed, succeeded}
+use Rattle.prefix_merge.proofs.FreeLemmas.{end_stays}
 use Rattle.prefix_merge.proofs.HolderLemmas.{holders_back, holders_more}
 use Rattle.prefix_merge.proofs.ReadingLemmas.{no_readers, readers_changed}
 use Rattle.prefix_merge.proofs.indexed.Indexed.add_end.Goals as goal
@@ -20,6 +22,7 @@ invariant_of-self-then-is_err c =
       subst (AreHolders c.forget.new.holders) (sym same)
           (holders_back c.self.inside.holders c.note.new.holders c.forget.new.holders c.args.end.number (record { state = c.args.state; place = c.len-place.result }) net c.self.invariant.1 fresh (c.in_ok-note.ensures {u = tt}).ok c.forget.ensures),
       no_readers c.take.new.self c.add_end-added.new.self c.take.ensures.after,
+      subst (AreFree c.self.inside.free) (sym same) c.self.invariant.3,
     )
 
 -- it was added
@@ -34,4 +37,5 @@ invariant_of-self-else-is_err c =
       buckets_end c.self.inside.buckets c.args.state c.args.end net c.add_end-added.new.self c.self.invariant.0 added,
       holders_more c.args.state c.args.end net c.add_end-added.new.self used added c.self.inside.holders c.note.new.holders c.self.invariant.1 fresh told,
       readers_changed c.with_end-readers.result (AddsEnd c.args.state c.args.end net) c.add_end-added.new.self added c.with_end-readers.ensures,
+      end_stays c.self.inside.free net c.self.invariant.3 c.args.state c.args.end c.add_end-added.new.self added,
     )

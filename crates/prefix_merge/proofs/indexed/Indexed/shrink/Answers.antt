@@ -1,9 +1,11 @@
-use Rattle.std.proofs.Common.{◌≡◌, ◌-◌, ◌<◌, false, length, take, subst, sym}
-use Rattle.std.specs.Prelude.{IfSome}
+use Rattle.std.proofs.Common.{◌≡◌, ◌-◌, ◌<◌, false, ap, length, take, subst, sym}
+use Rattle.std.specs.Prelude.{IfSome, is_some}
 use Rattle.automaton.specs.States.{Net, is_used}
 use Rattle.prefix_merge.specs.Buckets.{AreInBuckets}
 use Rattle.prefix_merge.specs.Holders.{AreHolders}
-use Rattle.prefix_merge.proofs.BucketLemmas.{buckets_shrunk}
+use Rattle.prefix_merge.specs.Places.{AreFree}
+use Rattle.prefix_merge.proofs.BucketLemmas.{buckets_shrunk, short_states}
+use Rattle.prefix_merge.proofs.FreeLemmas.{free_kept}
 use Rattle.prefix_merge.proofs.HolderLemmas.{holders_same, short_ends}
 use Rattle.prefix_merge.proofs.ReadingLemmas.{readers_short}
 use Rattle.stream_readers.specs.Readers.{AreReadersOf}
@@ -17,4 +19,5 @@ invariant_of-self c =
       subst (AreInBuckets c.self.inside.buckets) (sym c.shrink.ensures) (buckets_shrunk c.self.inside.buckets old c.self.invariant.0 some free),
       subst (AreHolders c.self.inside.holders) (sym c.shrink.ensures) (holders_same c.self.inside.holders old (take (length old - 1) old) (short_ends old some free) c.self.invariant.1),
       subst (λ (net : Net). IfSome c.self.inside.readers (AreReadersOf net)) (sym c.shrink.ensures) (readers_short c.self.inside.readers old some free c.self.invariant.2),
+      subst (AreFree c.self.inside.free) (sym c.shrink.ensures) (free_kept c.self.inside.free old c.self.invariant.3 (take (length old - 1) old) (λ n. ap is_some (short_states old some free n))),
     )

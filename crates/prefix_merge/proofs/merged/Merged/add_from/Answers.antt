@@ -28,9 +28,9 @@ invariant_of-self-2 c =
     let birth = c.args.end.birth in
     let fresh = subst (λ (net : Net). HasEnd net number → ⊥) (sym c.self.view_is) c.requires.end in
     let grows = subst (λ (end : End). Grows c.reach-reached.result.state (drop c.reach-reached.result.place line.hops) end old c.grow.new.network) c.requires.is
-    (subst (λ (hops : List Hop). Grows c.reach-reached.result.state hops c.args.end old c.grow.new.network) c.hops_from-hops.ensures c.in_ok-self-inside.ensures.grown) in
+    (subst (λ (hops : List Hop). Grows c.reach-reached.result.state hops c.args.end old c.grow.new.network) c.hops_from-hops.ensures c.in_ok-grow.ensures.grown) in
     let grown = grown_from old c.grow.new.network line c.reach-reached.result.state c.reach-reached.result.place number birth keeps.network keeps.merged keeps.last c.reach-reached.ensures.reached grows in
-    line_kept c.self.inside.roots c.in_ok-self-inside.field-0 old old c.grow.new.network line number birth grown fresh keeps.roots c.in_ok-self-inside.ensures.bound c.self.inside.roots c.self.inside.lowest keeps
+    line_kept c.self.inside.roots old old c.grow.new.network line number birth grown fresh keeps.roots keeps.numbers
 
 pub returns-clause-inserted : goal.returns-clause-inserted
 returns-clause-inserted c =
@@ -41,10 +41,10 @@ returns-clause-inserted c =
     let birth = c.args.end.birth in
     let fresh = subst (λ (net : Net). HasEnd net number → ⊥) (sym c.self.view_is) c.requires.end in
     let grows = subst (λ (end : End). Grows c.reach-reached.result.state (drop c.reach-reached.result.place line.hops) end old c.grow.new.network) c.requires.is
-    (subst (λ (hops : List Hop). Grows c.reach-reached.result.state hops c.args.end old c.grow.new.network) c.hops_from-hops.ensures c.in_ok-self-inside.ensures.grown) in
+    (subst (λ (hops : List Hop). Grows c.reach-reached.result.state hops c.args.end old c.grow.new.network) c.hops_from-hops.ensures c.in_ok-grow.ensures.grown) in
     let grown = grown_from old c.grow.new.network line c.reach-reached.result.state c.reach-reached.result.place number birth keeps.network keeps.merged keeps.last c.reach-reached.ensures.reached grows in
     subst (λ (net : Net). Inserts line number birth net c.grow.new.network) c.self.view_is (line_inserted old old c.grow.new.network line number birth grown fresh)
 
 -- its states are listed
 pub returns-clause-came : goal.returns-clause-came
-returns-clause-came c = subst (λ (net : Net). ListsCome net c.grow.new.network c.args.came.now c.grow.new.came) c.self.view_is c.in_ok-self-inside.ensures.came
+returns-clause-came c = subst (λ (net : Net). ListsCome net c.grow.new.network c.args.came.now c.grow.new.came) c.self.view_is c.in_ok-grow.ensures.came

@@ -16,10 +16,10 @@ invariant_of-self-in-Ok c =
     let keeps = c.self.invariant in
     let fresh = subst (λ (net : Net). HasEnd net c.args.end.number → ⊥) (sym c.self.view_is) c.requires.end in
     let no_root = subst (λ (net : Net). (n : ℕ) → root_at net n ≡ Some c.args.line.now.root → ⊥) (sym c.self.view_is) c.requires.root in
-    let planted = subst (λ (end : End). Plants c.free_number-number.result c.args.line.now end old c.plant.new.network) c.requires.is c.in-Ok.ensures.planted in
-    let grown = grown_whole old c.plant.new.network planted.0 c.args.line.now c.free_number-number.result c.args.end.number c.args.end.birth keeps.network keeps.merged keeps.last no_root c.free_number-number.ensures planted.1 planted.2 in
-    let roots = table_more c.self.inside.roots c.insert.new.self old planted.0 c.args.line.now.root c.free_number-number.result keeps.roots no_root c.free_number-number.ensures.free planted.1 c.in_ok-insert.ensures.updates.0 in
-    line_kept c.insert.new.self c.in-Ok.bound old planted.0 c.plant.new.network c.args.line.now c.args.end.number c.args.end.birth grown fresh roots c.in-Ok.ensures.bound c.self.inside.roots c.self.inside.lowest keeps
+    let planted = subst (λ (end : End). Plants c.lowest_free-number.result c.args.line.now end old c.plant.new.network) c.requires.is c.in-Ok.ensures.planted in
+    let grown = grown_whole old c.plant.new.network planted.0 c.args.line.now c.lowest_free-number.result c.args.end.number c.args.end.birth keeps.network keeps.merged keeps.last no_root c.lowest_free-number.ensures planted.1 planted.2 in
+    let roots = table_more c.self.inside.roots c.insert.new.self old planted.0 c.args.line.now.root c.lowest_free-number.result keeps.roots no_root c.lowest_free-number.ensures.free planted.1 c.in_ok-insert.ensures.updates.0 in
+    line_kept c.insert.new.self old planted.0 c.plant.new.network c.args.line.now c.args.end.number c.args.end.birth grown fresh roots keeps.numbers
 
 pub returns-in-Ok-clause-inserted : goal.returns-in-Ok-clause-inserted
 returns-in-Ok-clause-inserted c =
@@ -27,8 +27,8 @@ returns-in-Ok-clause-inserted c =
     let keeps = c.self.invariant in
     let fresh = subst (λ (net : Net). HasEnd net c.args.end.number → ⊥) (sym c.self.view_is) c.requires.end in
     let no_root = subst (λ (net : Net). (n : ℕ) → root_at net n ≡ Some c.args.line.now.root → ⊥) (sym c.self.view_is) c.requires.root in
-    let planted = subst (λ (end : End). Plants c.free_number-number.result c.args.line.now end old c.plant.new.network) c.requires.is c.in-Ok.ensures.planted in
-    let grown = grown_whole old c.plant.new.network planted.0 c.args.line.now c.free_number-number.result c.args.end.number c.args.end.birth keeps.network keeps.merged keeps.last no_root c.free_number-number.ensures planted.1 planted.2 in
+    let planted = subst (λ (end : End). Plants c.lowest_free-number.result c.args.line.now end old c.plant.new.network) c.requires.is c.in-Ok.ensures.planted in
+    let grown = grown_whole old c.plant.new.network planted.0 c.args.line.now c.lowest_free-number.result c.args.end.number c.args.end.birth keeps.network keeps.merged keeps.last no_root c.lowest_free-number.ensures planted.1 planted.2 in
     subst (λ (net : Net). Inserts c.args.line.now c.args.end.number c.args.end.birth net c.plant.new.network) c.self.view_is (line_inserted old planted.0 c.plant.new.network c.args.line.now c.args.end.number c.args.end.birth grown fresh)
 
 -- its states are listed

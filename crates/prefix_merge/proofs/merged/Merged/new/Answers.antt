@@ -7,4 +7,4 @@ use Rattle.prefix_merge.proofs.merged.Merged.new.Goals as goal
 
 -- there is nothing
 pub invariant_of-result : goal.invariant_of-result
-invariant_of-result c = subst (λ (net : Net). Keeps c.new-2.result 0 net) (sym c.new.ensures) (nothing_kept c.new-2.result (λ stream. ap (lookup (nat_eq stream)) c.new-2.ensures.empty))
+invariant_of-result c = subst (λ (net : Net). Keeps c.new-2.result net) (sym c.new.ensures) (nothing_kept c.new-2.result (λ stream. ap (lookup (nat_eq stream)) c.new-2.ensures.empty))
